@@ -35,12 +35,9 @@ map_unasked_dump a words file _ k = absurd k
 pub unmapped_before : (a b : Answers) (words : ArrayWords) (told : LabFault) → AnswersNoMore a b → IsUnmapped b words told → IsUnmapped a words told
 unmapped_before a b words told more h = over words.map h
   where
-    over : (m : Option (Bor (List ℕ))) → IsSomeAnd m (λ file. IsMapUnplaced b file.now words.force told ⊎ (told ≡ fault.OutOfMemory)) → IsSomeAnd m (λ file. IsMapUnplaced a file.now words.force told ⊎ (told ≡ fault.OutOfMemory))
+    over : (m : Option (Bor (List ℕ))) → IsSomeAnd m (λ file. IsMapUnplaced b file.now words.force told) → IsSomeAnd m (λ file. IsMapUnplaced a file.now words.force told)
     over None k = absurd k
-    over (Some file) k = elim k [
-      | inl unwritten ↦ inl (map_unplaced_before a b file.now words.force told more unwritten)
-      | inr memory ↦ inr memory
-    ]
+    over (Some file) k = map_unplaced_before a b file.now words.force told more k
 
 -- what stands at FILE is not replaced
 pub map_kept_there : (a : Answers) (words : ArrayWords) (file : List ℕ) (what : Standing) (told : LabFault) → a.says file what → what ≢ standing.Nothing → a.says_same words.dump.now file false → IsKeptThere what words.force told
@@ -51,12 +48,12 @@ map_kept_there a words file what _ said some other k = absurd k
 
 -- ---- the command
 
-pub no_geometry : (a : Answers) (words : ArrayWords) (k : Option Store) (broke : Bool) (out : Option (List ℕ)) (told : LabFault) → IsNoGeometry words.geometry.now told → IsArrayFault a words k k broke out out told
-no_geometry a words k broke out told h = inl (left_all k k out refl, inl h)
+pub no_geometry : (a : Answers) (words : ArrayWords) (k : Option Store) (opens opened : Option ℕ) (broke : Bool) (out : Option (List ℕ)) (told : LabFault) → IsNoGeometry words.geometry.now told → IsArrayFault a words k k opens opened broke out out told
+no_geometry a words k opens opened broke out told h = inl (left_all k k out refl, inl h)
 
-pub not_allowed : (a : Answers) (words : ArrayWords) (g : Geometry) (k after : Option Store) (broke : Bool) (out : Option (List ℕ)) (told : LabFault) → IsGeometryAt words.geometry.now g → after ≡ k → AreNotAllowed a words told → IsArrayFault a words k after broke out out told
-not_allowed a words g k after broke out told is same h = inl (left_all k after out same, inr (g, is, inl h))
+pub not_allowed : (a : Answers) (words : ArrayWords) (g : Geometry) (k after : Option Store) (opens opened : Option ℕ) (broke : Bool) (out : Option (List ℕ)) (told : LabFault) → IsGeometryAt words.geometry.now g → after ≡ k → AreNotAllowed a words told → IsArrayFault a words k after opens opened broke out out told
+not_allowed a words g k after opens opened broke out told is same h = inl (left_all k after out same, inr (g, is, inl h))
 
-pub not_put : (a : Answers) (words : ArrayWords) (g : Geometry) (k after : Option Store) (broke : Bool) (out : Option (List ℕ)) (told : LabFault) → IsGeometryAt words.geometry.now g → AreAllowed a words → after ≡ k → IsUnput a g words told
-    → IsArrayFault a words k after broke out out told
-not_put a words g k after broke out told is allowed same h = inl (left_all k after out same, inr (g, is, inr (allowed, h)))
+pub not_put : (a : Answers) (words : ArrayWords) (g : Geometry) (k after : Option Store) (opens opened : Option ℕ) (broke : Bool) (out : Option (List ℕ)) (told : LabFault) → IsGeometryAt words.geometry.now g → AreAllowed a words → after ≡ k → IsUnput a g words opens opened told
+    → IsArrayFault a words k after opens opened broke out out told
+not_put a words g k after opens opened broke out told is allowed same h = inl (left_all k after out same, inr (g, is, inr (allowed, h)))

@@ -1,5 +1,5 @@
 -- What the command `compare` comes to where it isn't done.
-use Rattle.std.proofs.Common.{◌≡◌, ◌≢◌, inl, inr, ℕ, Bool, ◌^◌, List, [], ◌++◌, take, Option, Some, None, IfSome, option_map, refl, ap, sym, subst, ◌∙◌}
+use Rattle.std.proofs.Common.{◌≡◌, ◌≢◌, ◌⊎◌, inl, inr, ℕ, suc, Bool, ◌^◌, List, [], ◌++◌, take, Option, Some, None, IfSome, option_map, refl, ap, sym, subst, ◌∙◌}
 use Rattle.std.proofs.lemmas.Bool.{cases_eq}
 use Rattle.page_layout.specs.declared.geometry.Geometry.{Geometry}
 use Rattle.certificate.specs.declared.fault.CertFault.{CertFault}
@@ -10,7 +10,7 @@ use Rattle.lab_commands.specs.declared.words.CompareWords.{CompareWords}
 use Rattle.lab_commands.specs.declared.text.LabFault.{LabFault}
 use Rattle.lab_commands.specs.declared.text.LabFault.TheVariants as fault
 use Rattle.lab_commands.specs.Files.{Answers, AnswersNoMore, Store}
-use Rattle.lab_commands.specs.Undone.{IsGeometryAt, IsNoGeometry, IsUnread}
+use Rattle.lab_commands.specs.Undone.{IsGeometryAt, IsNoGeometry, IsUnread, IsUnroomed}
 use Rattle.lab_commands.specs.Compare.{HasNone, IsBroken, IsCertificateAt, IsCompareFault, IsUnheld, looked_at}
 use Rattle.lab_dump.specs.declared.compare.Compared.{Compared}
 use Rattle.lab_commands.specs.Compare.{IsCompared}
@@ -51,15 +51,16 @@ pub broken_by : (known : Option (List ℕ)) (f : CertFault) (items : List ℕ) �
 broken_by None f items read is = tt
 broken_by (Some bytes) f items read is = subst (λ xs. IsFirstFault xs f) read is
 
-pub no_geometry : (a : Answers) (words : CompareWords) (k : Option Store) (broke : Bool) (out : Option (List ℕ)) (told : LabFault) → IsNoGeometry words.geometry.now told → IsCompareFault a words k k broke out out told
-no_geometry a words k broke out told h = inl (left_all k k out refl, inl h)
+pub no_geometry : (a : Answers) (words : CompareWords) (k : Option Store) (opens opened : Option ℕ) (broke : Bool) (out : Option (List ℕ)) (told : LabFault) → IsNoGeometry words.geometry.now told → IsCompareFault a words k k opens opened broke out out told
+no_geometry a words k opens opened broke out told h = inl (left_all k k out refl, inl h)
 
-pub no_certificate : (a : Answers) (words : CompareWords) (g : Geometry) (k after : Option Store) (broke : Bool) (out : Option (List ℕ)) (told : LabFault) → IsGeometryAt words.geometry.now g → after ≡ k → HasNone a words.certificate.now told → IsCompareFault a words k after broke out out told
-no_certificate a words g k after broke out told is same h = inl (left_all k after out same, inr (g, is, inl h))
+pub no_certificate : (a : Answers) (words : CompareWords) (g : Geometry) (k after : Option Store) (opens opened : Option ℕ) (broke : Bool) (out : Option (List ℕ)) (told : LabFault) → IsGeometryAt words.geometry.now g → after ≡ k → IsUnroomed opens opened told ⊎ (HasNone a words.certificate.now told × (opened ≡ option_map suc opens)) → IsCompareFault a words k after opens opened broke out out told
+no_certificate a words g k after opens opened broke out told is same (inl unroomed) = inl (left_all k after out same, inr (g, is, inl unroomed))
+no_certificate a words g k after opens opened broke out told is same (inr none) = inl (left_all k after out same, inr (g, is, inr (inl none)))
 
-pub not_held : (a : Answers) (words : CompareWords) (g : Geometry) (c : Claim) (k after : Option Store) (broke : Bool) (out : Option (List ℕ)) (told : LabFault) → IsGeometryAt words.geometry.now g → IsCertificateAt a words.certificate.now c → after ≡ k → IsUnheld a g c words.dump.now told
-    → IsCompareFault a words k after broke out out told
-not_held a words g c k after broke out told is has same h = inl (left_all k after out same, inr (g, is, inr (c, has, h)))
+pub not_held : (a : Answers) (words : CompareWords) (g : Geometry) (c : Claim) (k after : Option Store) (opens opened : Option ℕ) (broke : Bool) (out : Option (List ℕ)) (told : LabFault) → IsGeometryAt words.geometry.now g → IsCertificateAt a words.certificate.now c → after ≡ k → IsUnheld a g c words.dump.now told
+    → IsCompareFault a words k after opens opened broke out out told
+not_held a words g c k after opens opened broke out told is has same h = inl (left_all k after out same, inr (g, is, inr (inr (c, has, h))))
 
 -- ---- the files between
 

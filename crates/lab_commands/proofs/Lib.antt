@@ -1,6 +1,7 @@
 pub mod GrammarLemmas
 pub mod PrintLemmas
-pub mod ValueLemmas
+pub mod PieceLemmas
+pub mod JsonLemmas
 pub mod TextLemmas
 pub mod UndoneLemmas
 pub mod ArrayLemmas

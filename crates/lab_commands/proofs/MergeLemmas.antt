@@ -15,8 +15,8 @@ use Rattle.lab_commands.specs.declared.files.Standing.TheVariants as standing
 use Rattle.lab_commands.specs.declared.text.LabFault.{LabFault}
 use Rattle.lab_commands.specs.declared.text.LabFault.TheVariants as fault
 use Rattle.lab_commands.specs.Files.{Answers, AnswersNoMore, IsOpened, Stands, Store}
-use Rattle.lab_commands.specs.Undone.{IsGeometryAt, IsKeptThere, IsNoGeometry, IsUnplaced, IsUnread, IsUnwritten}
-use Rattle.lab_commands.specs.Merge.{AreOpened, AreOpenedBelow, AreOthersBelow, HasSame, IsMergeFault, IsSomeUnread, IsUnjoined, IsUnmergedTo, IsUnopened, MayMerge, MayNotMerge, TellsFault, dumps_of}
+use Rattle.lab_commands.specs.Undone.{IsGeometryAt, IsKeptThere, IsNoGeometry, IsUnplaced, IsUnread, IsUnroomed, IsUnwritten}
+use Rattle.lab_commands.specs.Merge.{AreOpened, AreOpenedBelow, AreOthersBelow, HasSame, IsMergeFault, IsSomeUnread, IsUnjoined, IsUnmergedTo, MayMerge, MayNotMerge, TellsFault, dumps_of}
 use Rattle.lab_commands.proofs.UndoneLemmas.{left_all, opened_before, unread_before}
 
 -- ---- the paths
@@ -47,15 +47,10 @@ opened_more f a b ds rs more r n d l no_more h opened are =
     let pushed : map f more ≡ map f rs ++ f r ∷ [] = ap (map f) are ∙ map-append f rs (r ∷ []) in
     subst (λ (known : List (Option (List ℕ))). AreOpenedBelow a (texts ds) known (n + 1)) (sym pushed) (added a (texts ds) (map f rs) n (f r) h before)
 
-unopened : (a : Answers) (paths : List (List ℕ)) (n : ℕ) (told : LabFault) → n < length paths → IsUnread a (get_or paths n []) told → IsUnopened a paths told
-unopened a paths n fault.OutOfMemory l k = tt
-unopened a paths n (fault.Read word) l k = (n, l, k)
-unopened a paths n _ l k = absurd k
-
-pub unopened_at : (a b : Answers) (ds : List (Bor (List ℕ))) (n : ℕ) (d : Bor (List ℕ)) (told : LabFault) → n < length ds → AnswersNoMore a b → IsUnread b (get_or ds n d).now told → IsUnopened a (texts ds) told
+pub unopened_at : (a b : Answers) (ds : List (Bor (List ℕ))) (n : ℕ) (d : Bor (List ℕ)) (told : LabFault) → n < length ds → AnswersNoMore a b → IsUnread b (get_or ds n d).now told → IsSomeUnread a (texts ds) told
 unopened_at a b ds n d told l more k =
     let before : IsUnread a (get_or (texts ds) n []) told = subst (λ (path : List ℕ). IsUnread a path told) (sym (path_at ds n d l)) (unread_before a b (get_or ds n d).now told more k) in
-    unopened a (texts ds) n told (let count = paths_count ds in omega arith) before
+    (n, (let count = paths_count ds in omega arith), before)
 
 -- each reader that has failed says that a read did
 abbrev pub TellsFailing : {R : Type 0} → (R → Bool) → Type 0 → Type 0
@@ -100,17 +95,16 @@ pub unmerged_as : (a : Answers) (paths : List (List ℕ)) (g : Geometry) (out : 
 unmerged_as a paths g out known (merge.WrongLength i) (fault.DumpLength word) opened of h reads writes is = record { known = known; opened = opened; place = i; within = of; named = sym is; odd = λ files tell. (h files tell).1 }
 unmerged_as a paths g out known (merge.Source i) (fault.Read word) opened of h reads writes is = ((i, of, sym is), (known, opened), reads i refl)
 unmerged_as a paths g out known merge.Target (fault.Write word) opened of h reads writes is = (is, (known, opened), writes refl)
-unmerged_as a paths g out known merge.OutOfMemory fault.OutOfMemory opened of h reads writes is = (known, opened)
 unmerged_as a paths g out known _ _ opened of h reads writes is = absurd is
 
 -- ---- the command
 
-pub no_geometry : (a : Answers) (words : MergeWords) (k : Option Store) (broke : Bool) (out : Option (List ℕ)) (told : LabFault) → IsNoGeometry words.geometry.now told → IsMergeFault a words k k broke out out told
-no_geometry a words k broke out told h = inl (left_all k k out refl, inl h)
+pub no_geometry : (a : Answers) (words : MergeWords) (k : Option Store) (opens opened : Option ℕ) (broke : Bool) (out : Option (List ℕ)) (told : LabFault) → IsNoGeometry words.geometry.now told → IsMergeFault a words k k opens opened broke out out told
+no_geometry a words k opens opened broke out told h = inl (left_all k k out refl, inl h)
 
-pub not_allowed : (a : Answers) (words : MergeWords) (g : Geometry) (k after : Option Store) (broke : Bool) (out : Option (List ℕ)) (told : LabFault) → IsGeometryAt words.geometry.now g → after ≡ k → MayNotMerge a words told → IsMergeFault a words k after broke out out told
-not_allowed a words g k after broke out told is same h = inl (left_all k after out same, inr (g, is, inl h))
+pub not_allowed : (a : Answers) (words : MergeWords) (g : Geometry) (k after : Option Store) (opens opened : Option ℕ) (broke : Bool) (out : Option (List ℕ)) (told : LabFault) → IsGeometryAt words.geometry.now g → after ≡ k → MayNotMerge a words told → IsMergeFault a words k after opens opened broke out out told
+not_allowed a words g k after opens opened broke out told is same h = inl (left_all k after out same, inr (g, is, inl h))
 
-pub not_put : (a : Answers) (words : MergeWords) (g : Geometry) (k after : Option Store) (broke : Bool) (out : Option (List ℕ)) (told : LabFault) → IsGeometryAt words.geometry.now g → MayMerge a words → after ≡ k
-    → IsUnjoined a (dumps_of words) g words.out.now told ⊎ IsUnplaced a words.out.now words.force told → IsMergeFault a words k after broke out out told
-not_put a words g k after broke out told is allowed same h = inl (left_all k after out same, inr (g, is, inr (allowed, h)))
+pub not_put : (a : Answers) (words : MergeWords) (g : Geometry) (k after : Option Store) (opens opened : Option ℕ) (broke : Bool) (out : Option (List ℕ)) (told : LabFault) → IsGeometryAt words.geometry.now g → MayMerge a words → after ≡ k
+    → IsUnroomed opens opened told ⊎ IsUnjoined a (dumps_of words) g words.out.now told ⊎ IsUnplaced a words.out.now words.force told → IsMergeFault a words k after opens opened broke out out told
+not_put a words g k after opens opened broke out told is allowed same h = inl (left_all k after out same, inr (g, is, inr (allowed, h)))

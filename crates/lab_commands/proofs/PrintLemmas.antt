@@ -4,50 +4,33 @@ use Rattle.std.proofs.Math.Nat.{eq-or-lt_of_le}
 use Rattle.std.specs.Result.{IsErrAnd}
 use Rattle.std.specs.Io.KnownBytes.{Appends}
 use Rattle.std.proofs.KnownBytes.{Appends-nil, Appends-trans}
-use Rattle.request_stream.specs.Frames.{AppendsFront, AppendsPart}
-use Rattle.request_stream.proofs.Writing.{part_front, part_more, part_stop}
+use Rattle.request_stream.proofs.Writing.{part_more, part_stop}
 use Rattle.std.specs.Prelude.{Bool}
 use Rattle.lab_commands.specs.declared.text.LabFault.{LabFault}
 use Rattle.lab_commands.specs.declared.text.LabFault.TheVariants as fault
 use Rattle.lab_commands.specs.Undone.{IsHalfPrinted, TellsPrint}
 use Rattle.lab_commands.specs.declared.lines.Line.{Line}
 use Rattle.lab_commands.specs.declared.document.Form.{Form}
-use Rattle.lab_commands.specs.declared.document.PrintFault.{PrintFault}
-use Rattle.lab_commands.specs.declared.document.PrintFault.TheVariants as print
+use Rattle.lab_commands.specs.declared.output.OutputFault.{OutputFault}
 use Rattle.lab_commands.specs.Document.{Prints, Stops, if_text, text_below}
 
--- a beginning of what was due is one of what was due with more behind it
-pub front_more : (a b : Option (List ℕ)) (xs ys : List ℕ) → AppendsFront a b xs → AppendsFront a b (xs ++ ys)
-front_more a b xs ys (sent, more, split, done) = (sent, more ++ ys, sym (append_assoc sent more ys) ∙ ap (λ l. l ++ ys) split, done)
-
--- and so with more before it
-pub front_after : (a b d : Option (List ℕ)) (xs ys : List ℕ) → Appends a b xs → AppendsFront b d ys → AppendsFront a d (xs ++ ys)
-front_after a b d xs ys first (sent, more, split, done) = (xs ++ sent, more, append_assoc xs sent more ∙ ap (λ l. xs ++ l) split, Appends-trans a b d xs sent first done)
-
 -- where it stopped in a part of what was due, it stopped in that with more behind it
-pub stops_more : (e : PrintFault) (broke : Bool) (a b : Option (List ℕ)) (xs ys : List ℕ) → Stops e broke a b xs → Stops e broke a b (xs ++ ys)
-stops_more print.Failed broke a b xs ys (is, part) = (is, part_stop a b xs ys (xs ++ ys) refl part)
-stops_more print.OutOfMemory broke a b xs ys front = front_more a b xs ys front
+pub stops_more : (e : OutputFault) (broke : Bool) (a b : Option (List ℕ)) (xs ys : List ℕ) → Stops e broke a b xs → Stops e broke a b (xs ++ ys)
+stops_more e broke a b xs ys (is, part) = (is, part_stop a b xs ys (xs ++ ys) refl part)
 
 -- and with more before it
-pub stops_after : (e : PrintFault) (broke : Bool) (a b d : Option (List ℕ)) (xs ys : List ℕ) → Appends a b xs → Stops e broke b d ys → Stops e broke a d (xs ++ ys)
-stops_after print.Failed broke a b d xs ys first (is, part) = (is, part_more a b d xs ys (xs ++ ys) refl first part)
-stops_after print.OutOfMemory broke a b d xs ys first front = front_after a b d xs ys first front
+pub stops_after : (e : OutputFault) (broke : Bool) (a b d : Option (List ℕ)) (xs ys : List ℕ) → Appends a b xs → Stops e broke b d ys → Stops e broke a d (xs ++ ys)
+stops_after e broke a b d xs ys first (is, part) = (is, part_more a b d xs ys (xs ++ ys) refl first part)
 
 -- what was printed after something else
-pub prints_after : {T : Type 0} (broke : Bool) (a b d : Option (List ℕ)) (xs ys : List ℕ) (r : Result T PrintFault) → Appends a b xs → Prints broke b d ys r → Prints broke a d (xs ++ ys) r
+pub prints_after : {T : Type 0} (broke : Bool) (a b d : Option (List ℕ)) (xs ys : List ℕ) (r : Result T OutputFault) → Appends a b xs → Prints broke b d ys r → Prints broke a d (xs ++ ys) r
 prints_after broke a b d xs ys (Ok x) first last = Appends-trans a b d xs ys first last
 prints_after broke a b d xs ys (Err e) first last = stops_after e broke a b d xs ys first last
 
 -- how it is told that not all was printed
-pub half_printed : (e : PrintFault) (told : LabFault) (broke : Bool) (a b : Option (List ℕ)) (due : List ℕ) → TellsPrint e told → Stops e broke a b due → IsHalfPrinted broke a b due told
-half_printed print.Failed (fault.Write word) broke a b due tells (is, part) = (tells, is, part)
-half_printed print.OutOfMemory fault.OutOfMemory broke a b due tells front = front
-half_printed _ _ broke a b due tells stops = absurd tells
-
--- nothing is a beginning of everything
-pub front_none : (a : Option (List ℕ)) (xs : List ℕ) → AppendsFront a a xs
-front_none a xs = ([], xs, refl, Appends-nil a)
+pub half_printed : (e : OutputFault) (told : LabFault) (broke : Bool) (a b : Option (List ℕ)) (due : List ℕ) → TellsPrint e told → Stops e broke a b due → IsHalfPrinted broke a b due told
+half_printed e (fault.Write word) broke a b due tells (is, part) = (tells, is, part)
+half_printed e _ broke a b due tells stops = absurd tells
 
 -- ---- the lines of a list
 
@@ -66,7 +49,7 @@ below_split form f n zero l = absurd (omega arith)
 below_split form f n (suc k) l = below_last form f n k (λ below. below_split form f n k below) (eq-or-lt_of_le (omega arith))
 
 -- where it stopped in the line of one of them, behind those before it
-pub stops_below : (e : PrintFault) (broke : Bool) (form : Form) (f : ℕ → Option Line) (n k : ℕ) (a b d : Option (List ℕ)) → n < k → Appends a b (text_below form f n) → Stops e broke b d (if_text form (f n)) → Stops e broke a d (text_below form f k)
+pub stops_below : (e : OutputFault) (broke : Bool) (form : Form) (f : ℕ → Option Line) (n k : ℕ) (a b d : Option (List ℕ)) → n < k → Appends a b (text_below form f n) → Stops e broke b d (if_text form (f n)) → Stops e broke a d (text_below form f k)
 stops_below e broke form f n k a b d l first last =
     let split = below_split form f n k l in
     subst (λ t. Stops e broke a d t) split.1 (stops_after e broke a b d (text_below form f n) (if_text form (f n) ++ split.0) first (stops_more e broke b d (if_text form (f n)) split.0 last))
@@ -84,6 +67,6 @@ one_more form f n a b d first last =
 
 -- ---- where printing failed
 
-pub failed : {T : Type 0} (e : PrintFault) (r : Result T PrintFault) (broke : Bool) (a b : Option (List ℕ)) (due : List ℕ) → IsErrAnd r (λ x. x ≡ e) → Stops e broke a b due → Prints broke a b due r
+pub failed : {T : Type 0} (e : OutputFault) (r : Result T OutputFault) (broke : Bool) (a b : Option (List ℕ)) (due : List ℕ) → IsErrAnd r (λ x. x ≡ e) → Stops e broke a b due → Prints broke a b due r
 failed e (Ok x) broke a b due h stops = absurd h
 failed e (Err x) broke a b due h stops = subst (λ y. Stops y broke a b due) (sym h) stops

@@ -6,23 +6,23 @@ use Rattle.lab_commands.specs.declared.words.RepairWords.{RepairWords}
 use Rattle.lab_commands.specs.declared.text.LabFault.{LabFault}
 use Rattle.lab_commands.specs.Files.{Answers, IsOpened, Store}
 use Rattle.lab_commands.specs.Rows.{AreNoRows, AreRowsAt}
-use Rattle.lab_commands.specs.Undone.{IsGeometryAt, IsNoGeometry, IsUnmade, IsUnplaced, MayNotWrite, MayWrite}
+use Rattle.lab_commands.specs.Undone.{IsGeometryAt, IsNoGeometry, IsUnmade, IsUnplaced, IsUnroomed, MayNotWrite, MayWrite}
 use Rattle.lab_commands.specs.Repair.{IsRepairFault}
 use Rattle.lab_commands.proofs.UndoneLemmas.{left_all}
 
-pub no_geometry : (a : Answers) (words : RepairWords) (k : Option Store) (broke : Bool) (out : Option (List ℕ)) (told : LabFault) → IsNoGeometry words.geometry.now told → IsRepairFault a words k k broke out out told
-no_geometry a words k broke out told h = inl (left_all k k out refl, inl h)
+pub no_geometry : (a : Answers) (words : RepairWords) (k : Option Store) (opens opened : Option ℕ) (broke : Bool) (out : Option (List ℕ)) (told : LabFault) → IsNoGeometry words.geometry.now told → IsRepairFault a words k k opens opened broke out out told
+no_geometry a words k opens opened broke out told h = inl (left_all k k out refl, inl h)
 
-pub no_rows : (a : Answers) (words : RepairWords) (g : Geometry) (k : Option Store) (broke : Bool) (out : Option (List ℕ)) (told : LabFault) → IsGeometryAt words.geometry.now g → AreNoRows words.rows g told
-    → IsRepairFault a words k k broke out out told
-no_rows a words g k broke out told is h = inl (left_all k k out refl, inr (g, is, inl h))
+pub no_rows : (a : Answers) (words : RepairWords) (g : Geometry) (k : Option Store) (opens opened : Option ℕ) (broke : Bool) (out : Option (List ℕ)) (told : LabFault) → IsGeometryAt words.geometry.now g → AreNoRows words.rows g told
+    → IsRepairFault a words k k opens opened broke out out told
+no_rows a words g k opens opened broke out told is h = inl (left_all k k out refl, inr (g, is, inl h))
 
-pub not_allowed : (a : Answers) (words : RepairWords) (g : Geometry) (rows : Option Rows) (k after : Option Store) (broke : Bool) (out : Option (List ℕ)) (told : LabFault) → IsGeometryAt words.geometry.now g
+pub not_allowed : (a : Answers) (words : RepairWords) (g : Geometry) (rows : Option Rows) (k after : Option Store) (opens opened : Option ℕ) (broke : Bool) (out : Option (List ℕ)) (told : LabFault) → IsGeometryAt words.geometry.now g
     → AreRowsAt words.rows g rows → after ≡ k → MayNotWrite a words.dump.now words.out.now words.force told
-    → IsRepairFault a words k after broke out out told
-not_allowed a words g rows k after broke out told is are same h = inl (left_all k after out same, inr (g, is, inr (rows, are, inl h)))
+    → IsRepairFault a words k after opens opened broke out out told
+not_allowed a words g rows k after opens opened broke out told is are same h = inl (left_all k after out same, inr (g, is, inr (rows, are, inl h)))
 
-pub not_put : (a : Answers) (words : RepairWords) (g : Geometry) (rows : Option Rows) (k after : Option Store) (broke : Bool) (out : Option (List ℕ)) (told : LabFault) → IsGeometryAt words.geometry.now g
+pub not_put : (a : Answers) (words : RepairWords) (g : Geometry) (rows : Option Rows) (k after : Option Store) (opens opened : Option ℕ) (broke : Bool) (out : Option (List ℕ)) (told : LabFault) → IsGeometryAt words.geometry.now g
     → AreRowsAt words.rows g rows → MayWrite a words.dump.now words.out.now words.force → after ≡ k
-    → IsUnmade a g words.dump.now words.out.now told ⊎ IsUnplaced a words.out.now words.force told → IsRepairFault a words k after broke out out told
-not_put a words g rows k after broke out told is are allowed same h = inl (left_all k after out same, inr (g, is, inr (rows, are, inr (allowed, h))))
+    → IsUnroomed opens opened told ⊎ IsUnmade a g words.dump.now words.out.now told ⊎ IsUnplaced a words.out.now words.force told → IsRepairFault a words k after opens opened broke out out told
+not_put a words g rows k after opens opened broke out told is are allowed same h = inl (left_all k after out same, inr (g, is, inr (rows, are, inr (allowed, h))))

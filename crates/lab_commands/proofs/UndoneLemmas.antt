@@ -76,7 +76,6 @@ opens_before a b path h k = record { known = k.known; opened = opened_before a b
 
 pub untaken_before : (a b : Answers) (g : Geometry) (path : List ℕ) (told : LabFault) → AnswersNoMore a b → IsUntaken b g path told → IsUntaken a g path told
 untaken_before a b g path fault.WrongLength h k = record { known = k.known; opened = opened_before a b path k.known h k.opened; other = k.other }
-untaken_before a b g path fault.OutOfMemory h k = opens_before a b path h k
 untaken_before a b g path (fault.Read word) h k = (k.0, opens_before a b path h k.1, h.reads_same k.2)
 untaken_before a b g path _ h k = absurd k
 
@@ -87,7 +86,6 @@ pub unmade : (a : Answers) (dump out : Bor (List ℕ)) (g : Geometry) (known : O
 unmade a dump out g known make.WrongLength opened h reads writes = inr (inl (record { known = known; opened = opened; other = h }))
 unmade a dump out g known make.Source opened h reads writes = inr (inl (refl, record { known = known; opened = opened }, reads refl))
 unmade a dump out g known make.Target opened h reads writes = inr (inr (inr (refl, record { known = known; opened = opened }, writes refl)))
-unmade a dump out g known make.OutOfMemory opened h reads writes = inr (inl (record { known = known; opened = opened }))
 
 -- ---- whether a file may be written
 

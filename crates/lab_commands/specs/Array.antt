@@ -13,7 +13,7 @@ use Rattle.lab_commands.specs.declared.words.ArrayWords.{ArrayWords}
 use Rattle.lab_commands.specs.declared.text.LabFault.{LabFault}
 use Rattle.lab_commands.specs.declared.text.LabFault.TheVariants as fault
 use Rattle.lab_commands.specs.Files.{Answers, IsOpened, Store, with_kept}
-use Rattle.lab_commands.specs.Undone.{IsGeometryAt, IsHalfPrinted, IsNoGeometry, IsMapUnplaced, IsUnmade, IsUnplaced, IsUnread, IsUnwritten, LeavesAll, MayNotWrite, MayWrite, form_of}
+use Rattle.lab_commands.specs.Undone.{IsGeometryAt, IsHalfPrinted, IsNoGeometry, IsMapUnplaced, IsUnmade, IsUnplaced, IsUnread, IsUnroomed, IsUnwritten, LeavesAll, MayNotWrite, MayWrite, form_of}
 
 -- ---- done
 
@@ -87,19 +87,19 @@ HasMapFault a words told = IsSomeAnd words.map (λ file. IsMapNotAllowed a words
 abbrev pub AreNotAllowed : Answers → ArrayWords → LabFault → Type 0
 AreNotAllowed a words told = IsNotAllowed a words told ⊎ (IsAllowed a words × HasMapFault a words told)
 
--- a map is wanted, and memory for it was refused, or FILE was not written or not put in its place, or another file has its name meanwhile
+-- a map is wanted, and FILE was not written or not put in its place, or another file has its name meanwhile
 abbrev pub IsUnmapped : Answers → ArrayWords → LabFault → Type 0
-IsUnmapped a words told = IsSomeAnd words.map (λ file. IsMapUnplaced a file.now words.force told ⊎ (told ≡ fault.OutOfMemory))
+IsUnmapped a words told = IsSomeAnd words.map (λ file. IsMapUnplaced a file.now words.force told)
 
--- no array was made, or it did not get its name
-abbrev pub IsUnput : Answers → Geometry → ArrayWords → LabFault → Type 0
-IsUnput a g words told = IsUnmade a g words.dump.now words.out.now told ⊎ IsUnplaced a words.out.now words.force told
+-- memory was refused, or no array was made, or it did not get its name
+abbrev pub IsUnput : Answers → Geometry → ArrayWords → (opens opened : Option ℕ) → LabFault → Type 0
+IsUnput a g words opens opened told = IsUnroomed opens opened told ⊎ IsUnmade a g words.dump.now words.out.now told ⊎ IsUnplaced a words.out.now words.force told
 
--- The first of this order: the geometry; whether OUT may be written, and FILE; the dump and OUT.
-abbrev pub IsUndone : Answers → ArrayWords → LabFault → Type 0
-IsUndone a words told =
+-- The first of this order: the geometry; whether OUT may be written, and FILE; memory; the dump and OUT.
+abbrev pub IsUndone : Answers → ArrayWords → (opens opened : Option ℕ) → LabFault → Type 0
+IsUndone a words opens opened told =
     IsNoGeometry words.geometry.now told
-    ⊎ ((g : Geometry) × IsGeometryAt words.geometry.now g × (AreNotAllowed a words told ⊎ (AreAllowed a words × IsUnput a g words told)))
+    ⊎ ((g : Geometry) × IsGeometryAt words.geometry.now g × (AreNotAllowed a words told ⊎ (AreAllowed a words × IsUnput a g words opens opened told)))
 
 -- The array was put in place and nothing printed, but its map was not put in its.
 pub record PutUnmapped (a : Answers) (words : ArrayWords) (before after : Option Store) (out printed : Option (List ℕ)) (told : LabFault) : Type 0 where
@@ -114,9 +114,9 @@ pub record PutUnmapped (a : Answers) (words : ArrayWords) (before after : Option
 
 -- No array was put in place and nothing printed, for one of these reasons; or it was, and no map; or both were, and a
 -- beginning of the report printed.
-abbrev pub IsArrayFault : Answers → ArrayWords → Option Store → Option Store → (broke : Bool) → Option (List ℕ) → Option (List ℕ) → LabFault → Type 0
-IsArrayFault a words before after broke out printed told =
-    (LeavesAll before after out printed × IsUndone a words told)
+abbrev pub IsArrayFault : Answers → ArrayWords → Option Store → Option Store → (opens opened : Option ℕ) → (broke : Bool) → Option (List ℕ) → Option (List ℕ) → LabFault → Type 0
+IsArrayFault a words before after opens opened broke out printed told =
+    (LeavesAll before after out printed × IsUndone a words opens opened told)
     ⊎ PutUnmapped a words before after out printed told
     ⊎ ((g : Geometry) × (held : List Held) × (doubts : Doubts) × PutArray a words before after g held doubts
     × IsHalfPrinted broke out printed (array_text (form_of words.showing) g (map state_in held) doubts) told)

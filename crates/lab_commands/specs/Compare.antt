@@ -1,5 +1,5 @@
 -- What the command `compare` comes to.
-use Rattle.std.specs.Prelude.{◌≡◌, ◌≢◌, ◌⊎◌, ℕ, ◌^◌, List, take, Option, IfSome, Bool}
+use Rattle.std.specs.Prelude.{◌≡◌, ◌≢◌, ◌⊎◌, ℕ, suc, ◌^◌, List, take, Option, option_map, IfSome, Bool}
 use Rattle.std.specs.Io.KnownBytes.{Appends}
 use Rattle.page_layout.specs.declared.geometry.Geometry.{Geometry}
 use Rattle.certificate.specs.Claim.{Claim, sizes_of}
@@ -12,7 +12,7 @@ use Rattle.lab_commands.specs.declared.words.CompareWords.{CompareWords}
 use Rattle.lab_commands.specs.declared.text.LabFault.{LabFault}
 use Rattle.lab_commands.specs.declared.text.LabFault.TheVariants as fault
 use Rattle.lab_commands.specs.Files.{Answers, IsOpened, Store}
-use Rattle.lab_commands.specs.Undone.{IsGeometryAt, IsHalfPrinted, IsNoGeometry, IsUnread, IsUntaken, LeavesAll, Opens, form_of}
+use Rattle.lab_commands.specs.Undone.{IsGeometryAt, IsHalfPrinted, IsNoGeometry, IsUnread, IsUnroomed, IsUntaken, LeavesAll, Opens, form_of}
 
 -- ---- the certificate
 
@@ -80,15 +80,15 @@ IsOther c g _ = ⊥
 abbrev pub IsUnheld : Answers → Geometry → Claim → List ℕ → LabFault → Type 0
 IsUnheld a g c path told = IsUnread a path told ⊎ IsUntaken a g path told ⊎ (Opens a path × IsOther c g told)
 
--- The first of this order: the geometry; the certificate; the dump.
-abbrev pub IsUncompared : Answers → CompareWords → LabFault → Type 0
-IsUncompared a words told =
+-- The first of this order: the geometry; memory; the certificate, before another file is opened; the dump.
+abbrev pub IsUncompared : Answers → CompareWords → (opens opened : Option ℕ) → LabFault → Type 0
+IsUncompared a words opens opened told =
     IsNoGeometry words.geometry.now told
-    ⊎ ((g : Geometry) × IsGeometryAt words.geometry.now g × (HasNone a words.certificate.now told
+    ⊎ ((g : Geometry) × IsGeometryAt words.geometry.now g × (IsUnroomed opens opened told ⊎ (HasNone a words.certificate.now told × (opened ≡ option_map suc opens))
     ⊎ ((c : Claim) × IsCertificateAt a words.certificate.now c × IsUnheld a g c words.dump.now told)))
 
 -- nothing was printed, for one of these reasons, or a beginning of what the dump comes to was
-abbrev pub IsCompareFault : Answers → CompareWords → Option Store → Option Store → (broke : Bool) → Option (List ℕ) → Option (List ℕ) → LabFault → Type 0
-IsCompareFault a words before after broke out printed told =
-    (LeavesAll before after out printed × IsUncompared a words told)
+abbrev pub IsCompareFault : Answers → CompareWords → Option Store → Option Store → (opens opened : Option ℕ) → (broke : Bool) → Option (List ℕ) → Option (List ℕ) → LabFault → Type 0
+IsCompareFault a words before after opens opened broke out printed told =
+    (LeavesAll before after out printed × IsUncompared a words opens opened told)
     ⊎ ((after ≡ before) × ((g : Geometry) × (compared : Compared) × HasCompared a words g compared × IsHalfPrinted broke out printed (compare_text (form_of words.showing) g compared) told))

@@ -63,12 +63,12 @@ pub record WroteCorrected (a : Answers) (words : ArrayWords) (before after : Opt
 abbrev pub IsNoChip : Geometry → LabFault → Type 0
 IsNoChip g told = (told ≡ fault.Geometry SpareSize) × (256 < outer_bytes g)
 
--- The first of this order: the geometry, and its chip's; whether OUT may be written, and FILE; the dump and OUT.
-abbrev pub IsUncorrectedBy : Answers → ArrayWords → LabFault → Type 0
-IsUncorrectedBy a words told =
+-- The first of this order: the geometry, and its chip's; whether OUT may be written, and FILE; memory; the dump and OUT.
+abbrev pub IsUncorrectedBy : Answers → ArrayWords → (opens opened : Option ℕ) → LabFault → Type 0
+IsUncorrectedBy a words opens opened told =
     IsNoGeometry words.geometry.now told
     ⊎ ((g : Geometry) × IsGeometryAt words.geometry.now g × (IsNoChip g told
-    ⊎ ((chip : Geometry) × IsChipOf g chip × (AreNotAllowed a words told ⊎ (AreAllowed a words × IsUnput a chip words told)))))
+    ⊎ ((chip : Geometry) × IsChipOf g chip × (AreNotAllowed a words told ⊎ (AreAllowed a words × IsUnput a chip words opens opened told)))))
 
 -- The dump was put in place and nothing printed, but its map was not put in its.
 pub record PutNoMap (a : Answers) (words : ArrayWords) (before after : Option Store) (out printed : Option (List ℕ)) (told : LabFault) : Type 0 where
@@ -81,8 +81,8 @@ pub record PutNoMap (a : Answers) (words : ArrayWords) (before after : Option St
   pub unmapped : IsUnmapped a words told
 
 -- No dump was put in place and nothing printed, for one of these reasons; or it was, and no map; or both were, and a beginning of the report printed.
-abbrev pub IsCorrectFault : Answers → ArrayWords → Option Store → Option Store → (broke : Bool) → Option (List ℕ) → Option (List ℕ) → LabFault → Type 0
-IsCorrectFault a words before after broke out printed told =
-    (LeavesAll before after out printed × IsUncorrectedBy a words told)
+abbrev pub IsCorrectFault : Answers → ArrayWords → Option Store → Option Store → (opens opened : Option ℕ) → (broke : Bool) → Option (List ℕ) → Option (List ℕ) → LabFault → Type 0
+IsCorrectFault a words before after opens opened broke out printed told =
+    (LeavesAll before after out printed × IsUncorrectedBy a words opens opened told)
     ⊎ PutNoMap a words before after out printed told
     ⊎ ((c : Counts) × PutCorrected a words before after c × IsHalfPrinted broke out printed (text_of words c) told)

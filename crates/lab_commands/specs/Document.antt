@@ -3,12 +3,13 @@
 use Rattle.std.specs.Prelude.{◌≡◌, ℕ, zero, suc, Bool, true, List, [], ◌∷◌, ◌++◌, codes, Option, Some, None, Result, Ok, Err}
 use Rattle.std.specs.Io.KnownBytes.{Appends}
 use Rattle.serde_json.specs.Written.{compact_text}
-use Rattle.request_stream.specs.Frames.{AppendsFront, AppendsPart}
+use Rattle.request_stream.specs.Frames.{AppendsPart}
 use Rattle.lab_commands.specs.declared.lines.Line.{Line}
 use Rattle.lab_commands.specs.declared.document.Form.{Form}
 use Rattle.lab_commands.specs.declared.document.Form.TheVariants.{Text, Json}
-use Rattle.lab_commands.specs.declared.document.PrintFault.{PrintFault}
-use Rattle.lab_commands.specs.declared.document.PrintFault.TheVariants.{Failed, OutOfMemory}
+use Rattle.lab_commands.specs.declared.document.Report.{Report}
+use Rattle.lab_commands.specs.declared.document.Report.TheVariants as report
+use Rattle.lab_commands.specs.declared.output.OutputFault.{OutputFault}
 use Rattle.lab_commands.specs.Lines.{line_words}
 use Rattle.lab_commands.specs.Values.{head_data, line_data}
 
@@ -16,6 +17,16 @@ use Rattle.lab_commands.specs.Values.{head_data, line_data}
 unfoldable pub line_text : Form → Line → List ℕ
 line_text Text line = line_words line ++ (10 ∷ [])
 line_text Json line = codes ",\n" ++ compact_text (line_data line)
+
+-- the name of the command that a document is of
+abbrev pub report_words : Report → List ℕ
+report_words report.Geometry = codes "geometry"
+report_words report.Survey = codes "survey"
+report_words report.Array = codes "array"
+report_words report.Compare = codes "compare"
+report_words report.Merge = codes "merge"
+report_words report.Repair = codes "repair"
+report_words report.Correct = codes "correct"
 
 -- what a document of this command begins with
 unfoldable pub head_text : Form → List ℕ → List ℕ
@@ -37,12 +48,11 @@ unfoldable pub text_below : Form → (ℕ → Option Line) → ℕ → List ℕ
 text_below form f zero = []
 text_below form f (suc n) = text_below form f n ++ if_text form (f n)
 
--- Why it was not: a write failed, and a part of it was printed and never all; or memory was refused, and a beginning of it was.
-abbrev pub Stops : PrintFault → (broke : Bool) → Option (List ℕ) → Option (List ℕ) → List ℕ → Type 0
-Stops Failed broke before after due = (broke ≡ true) × AppendsPart before after due
-Stops OutOfMemory broke before after due = AppendsFront before after due
+-- Why it was not: a write failed, and a part of it was printed and never all.
+abbrev pub Stops : OutputFault → (broke : Bool) → Option (List ℕ) → Option (List ℕ) → List ℕ → Type 0
+Stops fault broke before after due = (broke ≡ true) × AppendsPart before after due
 
--- What was due was printed; or it was not, for one of these reasons.
-abbrev pub Prints : {T : Type 0} → (broke : Bool) → Option (List ℕ) → Option (List ℕ) → List ℕ → Result T PrintFault → Type 0
+-- What was due was printed; or it was not, for that reason. It takes no memory.
+abbrev pub Prints : {T : Type 0} → (broke : Bool) → Option (List ℕ) → Option (List ℕ) → List ℕ → Result T OutputFault → Type 0
 Prints broke before after due (Ok done) = Appends before after due
 Prints broke before after due (Err fault) = Stops fault broke before after due

@@ -9,7 +9,7 @@ use Rattle.lab_commands.specs.declared.words.GeometryWords.{GeometryWords}
 use Rattle.lab_commands.specs.declared.text.LabFault.{LabFault}
 use Rattle.lab_commands.specs.declared.text.LabFault.TheVariants as fault
 use Rattle.lab_commands.specs.Files.{Answers, IsOpened, Store}
-use Rattle.lab_commands.specs.Undone.{IsHalfPrinted, IsUnread, LeavesAll, Opens, form_of}
+use Rattle.lab_commands.specs.Undone.{IsHalfPrinted, IsUnread, IsUnroomed, LeavesAll, Opens, form_of}
 
 -- ---- done
 
@@ -36,19 +36,18 @@ pub record FitsNone (a : Answers) (path : List ℕ) : Type 0 where
   pub opened : IsOpened a path known
   pub none : IfSome known (λ bytes. fits_of bytes ≡ [])
 
--- Why no geometries of a dump that was opened were found: a read failed, or memory was refused, or none fits it.
+-- Why no geometries of a dump that was opened were found: a read failed, or none fits it.
 abbrev pub IsUnfitted : Answers → List ℕ → LabFault → Type 0
 IsUnfitted a path fault.NoneFits = FitsNone a path
 IsUnfitted a path (fault.Read told) = (told.now ≡ path) × Opens a path × a.reads_fail
-IsUnfitted a path fault.OutOfMemory = Opens a path
 IsUnfitted a path _ = ⊥
 
 -- The first of this order: the dump was not opened; it has no geometries.
 abbrev pub IsUnfound : Answers → List ℕ → LabFault → Type 0
 IsUnfound a path told = IsUnread a path told ⊎ IsUnfitted a path told
 
--- nothing was printed, for one of these reasons, or a beginning of the list was
-abbrev pub IsGeometryFault : Answers → GeometryWords → Option Store → Option Store → (broke : Bool) → Option (List ℕ) → Option (List ℕ) → LabFault → Type 0
-IsGeometryFault a words before after broke out printed told =
-    (LeavesAll before after out printed × IsUnfound a words.dump.now told)
+-- Nothing was printed: memory was refused, or for one of these reasons; or a beginning of the list was.
+abbrev pub IsGeometryFault : Answers → GeometryWords → Option Store → Option Store → (opens opened : Option ℕ) → (broke : Bool) → Option (List ℕ) → Option (List ℕ) → LabFault → Type 0
+IsGeometryFault a words before after opens opened broke out printed told =
+    (LeavesAll before after out printed × (IsUnroomed opens opened told ⊎ IsUnfound a words.dump.now told))
     ⊎ ((after ≡ before) × ((fits : List Fit) × AreFound a words.dump.now fits × IsHalfPrinted broke out printed (fits_text (form_of words.showing) fits) told))

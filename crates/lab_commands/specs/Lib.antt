@@ -27,3 +27,5 @@ pub mod Repair
 pub mod Merge
 pub mod Correct
 pub mod Program
+-- a text that is printed piece by piece
+pub mod Pieces

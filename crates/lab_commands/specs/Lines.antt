@@ -91,11 +91,15 @@ abbrev pub corrected_words : ℕ → ℕ → ℕ → List ℕ
 corrected_words bits rows lost = codes "turned " ++ (decimal bits ++ (codes " rows " ++ (decimal rows ++ (codes " lost " ++ decimal lost))))
 
 -- how far the array may be from the last write: it is that of every page, or lacks sectors, or so many may be older
+abbrev pub whole_words : ℕ → List ℕ
+whole_words outside =
+    if outside == 0 then codes ": the array is that of every page that was programmed"
+    else codes ": of these sectors the array is that of every page that was programmed"
+
 abbrev pub claim_words : Doubts → List ℕ
 claim_words d =
     if most_older d == 0
-    then (if d.outside == 0 then codes ": the array is that of every page that was programmed"
-    else codes ": of these sectors the array is that of every page that was programmed")
+    then whole_words d.outside
     else (codes ": at most " ++ (decimal (most_older d) ++ codes " sectors may be older than the last write"))
 
 -- what it rests on besides, where there are pages of blocks that were written again

@@ -15,7 +15,7 @@ use Rattle.program_words.specs.Met.{texts}
 use Rattle.lab_commands.specs.declared.text.LabFault.{LabFault}
 use Rattle.lab_commands.specs.declared.text.LabFault.TheVariants as fault
 use Rattle.lab_commands.specs.Files.{Answers, IsOpened, Stands, Store, with_kept}
-use Rattle.lab_commands.specs.Undone.{IsGeometryAt, IsHalfPrinted, IsNoGeometry, IsUnplaced, IsUnread, IsUnwritten, LeavesAll, form_of}
+use Rattle.lab_commands.specs.Undone.{IsGeometryAt, IsHalfPrinted, IsNoGeometry, IsUnplaced, IsUnread, IsUnroomed, IsUnwritten, LeavesAll, form_of}
 
 -- ---- the dumps
 
@@ -105,17 +105,11 @@ pub record HasOddLength (a : Answers) (paths : List (List ℕ)) (g : Geometry) (
   pub named : get_or paths place [] ≡ path
   pub odd : (files : List (List ℕ)) → Tell known files → ¬ (length (get_or files place []) ≡ image_bytes g)
 
--- a dump was not opened, or memory for its reader was refused
-abbrev pub IsUnopened : Answers → List (List ℕ) → LabFault → Type 0
-IsUnopened a paths fault.OutOfMemory = Unit {0}
-IsUnopened a paths told = IsSomeUnread a paths told
-
--- Why dumps that were opened were not merged: a read or a write failed, or memory was refused.
+-- why dumps that were opened were not merged: a read or a write failed
 abbrev pub IsUnmergedTo : Answers → List (List ℕ) → Geometry → List ℕ → LabFault → Type 0
 IsUnmergedTo a paths g out (fault.DumpLength told) = HasOddLength a paths g told.now
 IsUnmergedTo a paths g out (fault.Read told) = IsOneOf paths told.now × OpensEach a paths × a.reads_fail
 IsUnmergedTo a paths g out (fault.Write told) = (told.now ≡ out) × OpensEach a paths × a.writes_fail
-IsUnmergedTo a paths g out fault.OutOfMemory = OpensEach a paths
 IsUnmergedTo a paths g out _ = ⊥
 
 -- the fault of the merge is told so: that of a reading with its path
@@ -123,23 +117,22 @@ abbrev pub TellsFault : MergeFault → List (List ℕ) → List ℕ → LabFault
 TellsFault (merge.WrongLength i) paths out (fault.DumpLength told) = told.now ≡ get_or paths i []
 TellsFault (merge.Source i) paths out (fault.Read told) = told.now ≡ get_or paths i []
 TellsFault merge.Target paths out (fault.Write told) = told.now ≡ out
-TellsFault merge.OutOfMemory paths out fault.OutOfMemory = Unit {0}
 TellsFault _ paths out _ = ⊥
 
 -- the dumps were not opened or not merged, or the file beside OUT was not made or not put in its place
 abbrev pub IsUnjoined : Answers → List (List ℕ) → Geometry → List ℕ → LabFault → Type 0
-IsUnjoined a paths g out told = IsUnopened a paths told ⊎ IsUnwritten a out told ⊎ IsUnmergedTo a paths g out told
+IsUnjoined a paths g out told = IsSomeUnread a paths told ⊎ IsUnwritten a out told ⊎ IsUnmergedTo a paths g out told
 
--- The first of this order: the geometry; whether OUT may be written; the dumps and OUT.
-abbrev pub IsUnmergedBy : Answers → MergeWords → LabFault → Type 0
-IsUnmergedBy a words told =
+-- The first of this order: the geometry; whether OUT may be written; memory; the dumps and OUT.
+abbrev pub IsUnmergedBy : Answers → MergeWords → (opens opened : Option ℕ) → LabFault → Type 0
+IsUnmergedBy a words opens opened told =
     IsNoGeometry words.geometry.now told
     ⊎ ((g : Geometry) × IsGeometryAt words.geometry.now g × (MayNotMerge a words told
-    ⊎ (MayMerge a words × (IsUnjoined a (dumps_of words) g words.out.now told ⊎ IsUnplaced a words.out.now words.force told))))
+    ⊎ (MayMerge a words × (IsUnroomed opens opened told ⊎ IsUnjoined a (dumps_of words) g words.out.now told ⊎ IsUnplaced a words.out.now words.force told))))
 
 -- No dump was put in place and nothing printed, for one of these reasons; or it was put in place, and a beginning of the list printed.
-abbrev pub IsMergeFault : Answers → MergeWords → Option Store → Option Store → (broke : Bool) → Option (List ℕ) → Option (List ℕ) → LabFault → Type 0
-IsMergeFault a words before after broke out printed told =
-    (LeavesAll before after out printed × IsUnmergedBy a words told)
+abbrev pub IsMergeFault : Answers → MergeWords → Option Store → Option Store → (opens opened : Option ℕ) → (broke : Bool) → Option (List ℕ) → Option (List ℕ) → LabFault → Type 0
+IsMergeFault a words before after opens opened broke out printed told =
+    (LeavesAll before after out printed × IsUnmergedBy a words opens opened told)
     ⊎ ((conflicts : List ℕ) × (unsound : List ℕ) × (tally : Tally) × PutMerge a words before after conflicts unsound tally
     × IsHalfPrinted broke out printed (merge_text (form_of words.showing) conflicts unsound tally) told)

@@ -36,27 +36,27 @@ Obeyed a words before after out printed = (found : Asked) × IsAsked words found
 -- ---- not done
 
 -- why what was asked for was not done
-abbrev pub IsFaultOf : Answers → Asked → Option Store → Option Store → (broke : Bool) → Option (List ℕ) → Option (List ℕ) → LabFault → Type 0
-IsFaultOf a (asked.Geometry read) before after broke out printed told = IsGeometryFault a read before after broke out printed told
-IsFaultOf a (asked.Array read) before after broke out printed told = IsArrayFault a read before after broke out printed told
-IsFaultOf a (asked.Survey read) before after broke out printed told = IsSurveyFault a read before after broke out printed told
-IsFaultOf a (asked.Compare read) before after broke out printed told = IsCompareFault a read before after broke out printed told
-IsFaultOf a (asked.Merge read) before after broke out printed told = IsMergeFault a read before after broke out printed told
-IsFaultOf a (asked.Repair read) before after broke out printed told = IsRepairFault a read before after broke out printed told
-IsFaultOf a (asked.Correct read) before after broke out printed told = IsCorrectFault a read before after broke out printed told
-IsFaultOf a (asked.Text text) before after broke out printed told = (after ≡ before) × IsHalfPrinted broke out printed (string_bytes text) told
+abbrev pub IsFaultOf : Answers → Asked → Option Store → Option Store → (opens opened : Option ℕ) → (broke : Bool) → Option (List ℕ) → Option (List ℕ) → LabFault → Type 0
+IsFaultOf a (asked.Geometry read) before after opens opened broke out printed told = IsGeometryFault a read before after opens opened broke out printed told
+IsFaultOf a (asked.Array read) before after opens opened broke out printed told = IsArrayFault a read before after opens opened broke out printed told
+IsFaultOf a (asked.Survey read) before after opens opened broke out printed told = IsSurveyFault a read before after opens opened broke out printed told
+IsFaultOf a (asked.Compare read) before after opens opened broke out printed told = IsCompareFault a read before after opens opened broke out printed told
+IsFaultOf a (asked.Merge read) before after opens opened broke out printed told = IsMergeFault a read before after opens opened broke out printed told
+IsFaultOf a (asked.Repair read) before after opens opened broke out printed told = IsRepairFault a read before after opens opened broke out printed told
+IsFaultOf a (asked.Correct read) before after opens opened broke out printed told = IsCorrectFault a read before after opens opened broke out printed told
+IsFaultOf a (asked.Text text) before after opens opened broke out printed told = (after ≡ before) × IsHalfPrinted broke out printed (string_bytes text) told
 
--- the words are no command, or memory for them was refused
-abbrev pub IsUnasked : List (List ℕ) → LabFault → Type 0
-IsUnasked words NoSuchCommand = IsNoCommand words
-IsUnasked words OutOfMemory = Unit {0}
-IsUnasked words _ = ⊥
+-- the words are no command, or memory for them was refused, before any file was opened
+abbrev pub IsUnasked : List (List ℕ) → (opens opened : Option ℕ) → LabFault → Type 0
+IsUnasked words opens opened NoSuchCommand = IsNoCommand words
+IsUnasked words opens opened OutOfMemory = opened ≡ opens
+IsUnasked words opens opened _ = ⊥
 
 -- Why the words were not obeyed, and what was left then.
-abbrev pub IsRefused : Answers → List (List ℕ) → Option Store → Option Store → (broke : Bool) → Option (List ℕ) → Option (List ℕ) → LabFault → Type 0
-IsRefused a words before after broke out printed told =
-    (LeavesAll before after out printed × IsUnasked words told)
-    ⊎ ((found : Asked) × IsAsked words found × IsFaultOf a found before after broke out printed told)
+abbrev pub IsRefused : Answers → List (List ℕ) → Option Store → Option Store → (opens opened : Option ℕ) → (broke : Bool) → Option (List ℕ) → Option (List ℕ) → LabFault → Type 0
+IsRefused a words before after opens opened broke out printed told =
+    (LeavesAll before after out printed × IsUnasked words opens opened told)
+    ⊎ ((found : Asked) × IsAsked words found × IsFaultOf a found before after opens opened broke out printed told)
 
 -- ---- both
 
@@ -67,7 +67,7 @@ pub record Written : Type 0 where
   pub broke : Bool
 
 -- status 0 where all was done, with nothing on standard error; else the fault's line there, and its status
-abbrev pub Runs : Answers → List (List ℕ) → Option Store → Option Store → (out err : Written) → ℕ → Type 0
-Runs a words before after out err status =
+abbrev pub Runs : Answers → List (List ℕ) → Option Store → Option Store → (opens opened : Option ℕ) → (out err : Written) → ℕ → Type 0
+Runs a words before after opens opened out err status =
     (Obeyed a words before after out.before out.after × (status ≡ 0) × Keeps err.before err.after)
-    ⊎ ((fault : LabFault) × IsRefused a words before after out.broke out.before out.after fault × IsTold fault err.broke err.before err.after status)
+    ⊎ ((fault : LabFault) × IsRefused a words before after opens opened out.broke out.before out.after fault × IsTold fault err.broke err.before err.after status)

@@ -11,7 +11,7 @@ use Rattle.lab_commands.specs.declared.text.LabFault.{LabFault}
 use Rattle.lab_commands.specs.declared.text.LabFault.TheVariants as fault
 use Rattle.lab_commands.specs.Files.{Answers, IsOpened, Store, with_kept}
 use Rattle.lab_commands.specs.Rows.{AreNoRows, AreRowsAt}
-use Rattle.lab_commands.specs.Undone.{IsGeometryAt, IsNoGeometry, IsHalfPrinted, IsUnmade, IsUnplaced, LeavesAll, MayNotWrite, MayWrite, form_of}
+use Rattle.lab_commands.specs.Undone.{IsGeometryAt, IsNoGeometry, IsHalfPrinted, IsUnmade, IsUnplaced, IsUnroomed, LeavesAll, MayNotWrite, MayWrite, form_of}
 
 -- ---- done
 
@@ -42,16 +42,16 @@ pub record WroteRepair (a : Answers) (words : RepairWords) (before after : Optio
 
 -- ---- not done
 
--- The first of this order: the geometry; the rows; whether OUT may be written; the dump and OUT.
-abbrev pub IsUnrepairedBy : Answers → RepairWords → LabFault → Type 0
-IsUnrepairedBy a words told =
+-- The first of this order: the geometry; the rows; whether OUT may be written; memory; the dump and OUT.
+abbrev pub IsUnrepairedBy : Answers → RepairWords → (opens opened : Option ℕ) → LabFault → Type 0
+IsUnrepairedBy a words opens opened told =
     IsNoGeometry words.geometry.now told
     ⊎ ((g : Geometry) × IsGeometryAt words.geometry.now g × (AreNoRows words.rows g told
     ⊎ ((rows : Option Rows) × AreRowsAt words.rows g rows × (MayNotWrite a words.dump.now words.out.now words.force told
-    ⊎ (MayWrite a words.dump.now words.out.now words.force × (IsUnmade a g words.dump.now words.out.now told ⊎ IsUnplaced a words.out.now words.force told))))))
+    ⊎ (MayWrite a words.dump.now words.out.now words.force × (IsUnroomed opens opened told ⊎ IsUnmade a g words.dump.now words.out.now told ⊎ IsUnplaced a words.out.now words.force told))))))
 
 -- No dump was put in place and nothing printed, for one of these reasons; or it was put in place, and a beginning of the list printed.
-abbrev pub IsRepairFault : Answers → RepairWords → Option Store → Option Store → (broke : Bool) → Option (List ℕ) → Option (List ℕ) → LabFault → Type 0
-IsRepairFault a words before after broke out printed told =
-    (LeavesAll before after out printed × IsUnrepairedBy a words told)
+abbrev pub IsRepairFault : Answers → RepairWords → Option Store → Option Store → (opens opened : Option ℕ) → (broke : Bool) → Option (List ℕ) → Option (List ℕ) → LabFault → Type 0
+IsRepairFault a words before after opens opened broke out printed told =
+    (LeavesAll before after out printed × IsUnrepairedBy a words opens opened told)
     ⊎ ((mends : List Mend) × PutRepair a words before after mends × IsHalfPrinted broke out printed (repair_text (form_of words.showing) mends) told)

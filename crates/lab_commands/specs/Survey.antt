@@ -10,7 +10,7 @@ use Rattle.lab_commands.specs.declared.words.SurveyWords.{SurveyWords}
 use Rattle.lab_commands.specs.declared.text.LabFault.{LabFault}
 use Rattle.lab_commands.specs.Files.{Answers, IsOpened, Store}
 use Rattle.lab_commands.specs.Rows.{AreNoRows, AreRowsAt}
-use Rattle.lab_commands.specs.Undone.{IsGeometryAt, IsHalfPrinted, IsNoGeometry, IsUnread, IsUntaken, LeavesAll, form_of}
+use Rattle.lab_commands.specs.Undone.{IsGeometryAt, IsHalfPrinted, IsNoGeometry, IsUnread, IsUnroomed, IsUntaken, LeavesAll, form_of}
 
 -- a survey of these rows of a dump that reads so: where its bytes are known it is of the image that they are
 pub record IsSeen (a : Answers) (path : List ℕ) (g : Geometry) (rows : Option Rows) (survey : DieSurvey) : Type 0 where
@@ -36,15 +36,15 @@ pub record ToldSurvey (a : Answers) (words : SurveyWords) (out printed : Option 
 abbrev pub IsUnsurveyed : Answers → Geometry → List ℕ → LabFault → Type 0
 IsUnsurveyed a g path told = IsUnread a path told ⊎ IsUntaken a g path told
 
--- The first of this order: the geometry; the rows; the dump.
-abbrev pub IsUnseen : Answers → SurveyWords → LabFault → Type 0
-IsUnseen a words told =
+-- The first of this order: the geometry; the rows; memory; the dump.
+abbrev pub IsUnseen : Answers → SurveyWords → (opens opened : Option ℕ) → LabFault → Type 0
+IsUnseen a words opens opened told =
     IsNoGeometry words.geometry.now told
     ⊎ ((g : Geometry) × IsGeometryAt words.geometry.now g × (AreNoRows words.rows g told
-    ⊎ ((rows : Option Rows) × AreRowsAt words.rows g rows × IsUnsurveyed a g words.dump.now told)))
+    ⊎ ((rows : Option Rows) × AreRowsAt words.rows g rows × (IsUnroomed opens opened told ⊎ IsUnsurveyed a g words.dump.now told))))
 
 -- nothing was printed, for one of these reasons, or a beginning of the survey was
-abbrev pub IsSurveyFault : Answers → SurveyWords → Option Store → Option Store → (broke : Bool) → Option (List ℕ) → Option (List ℕ) → LabFault → Type 0
-IsSurveyFault a words before after broke out printed told =
-    (LeavesAll before after out printed × IsUnseen a words told)
+abbrev pub IsSurveyFault : Answers → SurveyWords → Option Store → Option Store → (opens opened : Option ℕ) → (broke : Bool) → Option (List ℕ) → Option (List ℕ) → LabFault → Type 0
+IsSurveyFault a words before after opens opened broke out printed told =
+    (LeavesAll before after out printed × IsUnseen a words opens opened told)
     ⊎ ((after ≡ before) × ((g : Geometry) × (rows : Option Rows) × (survey : DieSurvey) × HasSurvey a words g rows survey × IsHalfPrinted broke out printed (survey_text (form_of words.showing) g rows survey) told))

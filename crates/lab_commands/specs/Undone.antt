@@ -4,7 +4,7 @@ use Rattle.std.specs.Borrow.{Bor}
 use Rattle.std.specs.Io.KnownBytes.{Keeps}
 use Rattle.page_layout.specs.declared.geometry.Geometry.{Geometry}
 use Rattle.page_layout.specs.Faults.{HasNumbers, IsFirstFault}
-use Rattle.request_stream.specs.Frames.{AppendsFront, AppendsPart}
+use Rattle.request_stream.specs.Frames.{AppendsPart}
 use Rattle.command_words.specs.declared.numbers.GeometryNumbers.{GeometryNumbers}
 use Rattle.command_words.specs.Numbers.{SpellsGeometry}
 use Rattle.lab_dump.specs.declared.make_fault.MakeFault.{MakeFault}
@@ -16,8 +16,7 @@ use Rattle.lab_commands.specs.declared.words.Showing.{Showing}
 use Rattle.lab_commands.specs.declared.files.FileFault.TheVariants as file
 use Rattle.lab_commands.specs.declared.files.Standing.{Standing}
 use Rattle.lab_commands.specs.declared.files.Standing.TheVariants as standing
-use Rattle.lab_commands.specs.declared.document.PrintFault.{PrintFault}
-use Rattle.lab_commands.specs.declared.document.PrintFault.TheVariants as print
+use Rattle.lab_commands.specs.declared.output.OutputFault.{OutputFault}
 use Rattle.lab_commands.specs.declared.text.LabFault.{LabFault}
 use Rattle.lab_commands.specs.declared.text.LabFault.TheVariants as fault
 use Rattle.lab_commands.specs.Files.{Answers, IsOpened, Stands, Store}
@@ -93,11 +92,14 @@ pub record OpensOther (a : Answers) (g : Geometry) (path : List ℕ) : Type 0 wh
   pub opened : IsOpened a path known
   pub other : IfSome known (λ bytes. ¬ (length bytes ≡ image_bytes g))
 
--- Why a dump that was opened was not taken as a whole: a read failed, or memory was refused, or it has another length.
+-- MEMORY WAS REFUSED BEFORE ANY FILE WAS OPENED to be read: how many were before, and how many in the end
+abbrev pub IsUnroomed : (opens opened : Option ℕ) → LabFault → Type 0
+IsUnroomed opens opened told = (told ≡ fault.OutOfMemory) × (opened ≡ opens)
+
+-- Why a dump that was opened was not taken as a whole: a read failed, or it has another length. No want of memory is one.
 abbrev pub IsUntaken : Answers → Geometry → List ℕ → LabFault → Type 0
 IsUntaken a g path fault.WrongLength = OpensOther a g path
 IsUntaken a g path (fault.Read told) = (told.now ≡ path) × Opens a path × a.reads_fail
-IsUntaken a g path fault.OutOfMemory = Opens a path
 IsUntaken a g path _ = ⊥
 
 -- a file beside that of a path was not made or not written whole, of a dump that was opened
@@ -114,7 +116,6 @@ abbrev pub unmade_as : MakeFault → Bor (List ℕ) → Bor (List ℕ) → LabFa
 unmade_as make.WrongLength dump out = fault.WrongLength
 unmade_as make.Source dump out = fault.Read dump
 unmade_as make.Target dump out = fault.Write out
-unmade_as make.OutOfMemory dump out = fault.OutOfMemory
 
 -- ---- what it leaves
 
@@ -124,15 +125,13 @@ pub record LeavesAll (before after : Option Store) (out printed : Option (List �
   pub silent : Keeps out printed
 
 -- how it is told that a document was not printed whole
-abbrev pub TellsPrint : PrintFault → LabFault → Type 0
-TellsPrint print.Failed (fault.Write told) = told.now ≡ codes "-"
-TellsPrint print.OutOfMemory fault.OutOfMemory = Unit {0}
+abbrev pub TellsPrint : OutputFault → LabFault → Type 0
+TellsPrint unwritten (fault.Write told) = told.now ≡ codes "-"
 TellsPrint _ _ = ⊥
 
--- Standard output failed, so that of what was due a part stands there and never all; or memory for a line was refused, and a beginning does.
+-- standard output failed, so that of what was due a part stands there and never all
 abbrev pub IsHalfPrinted : (broke : Bool) → Option (List ℕ) → Option (List ℕ) → List ℕ → LabFault → Type 0
 IsHalfPrinted broke before after due (fault.Write told) = (told.now ≡ codes "-") × (broke ≡ true) × AppendsPart before after due
-IsHalfPrinted broke before after due fault.OutOfMemory = AppendsFront before after due
 IsHalfPrinted broke before after due _ = ⊥
 
 -- the form that was asked for

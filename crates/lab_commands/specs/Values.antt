@@ -1,7 +1,6 @@
 -- The lines of the reports, as JSON values: objects, each with its members by rising name. `line` says which line it is.
-use Rattle.std.specs.Prelude.{ℕ, List, [], ◌∷◌, map, codes}
-use Rattle.serde_json.specs.Data.{Data, Members, number, unsigned, string, array, object, item, no_items, member, no_members, put}
-use Rattle.serde_json.specs.View.{items_of}
+use Rattle.std.specs.Prelude.{ℕ, List, codes}
+use Rattle.serde_json.specs.Data.{Data, number, unsigned, string, array, object, item, no_items, member, no_members}
 use Rattle.certificate.specs.declared.block_state.BlockState.{BlockState}
 use Rattle.lab_dump.specs.declared.fit.Fit.{Fit}
 use Rattle.lab_dump.specs.declared.doubts.Doubts.{Doubts}
@@ -16,8 +15,6 @@ use Rattle.lab_commands.specs.declared.lines.Line.TheVariants.{Pages, NumberRang
 use Rattle.lab_commands.specs.declared.lines.Line.TheVariants.{OfRows, Factory, Rewritten, Holes, Outside, Mended, MendedCount, Differ, Unsound, Merged, Age, AgeOfRows}
 use Rattle.lab_commands.specs.declared.lines.Line.TheVariants.{LostRow, Corrected}
 use Rattle.lab_commands.specs.declared.lines.Line.TheVariants as line
-use Rattle.lab_commands.specs.declared.values.Member.{Member}
-use Rattle.lab_commands.specs.declared.values.Member.TheVariants.{Count, Text, Counts}
 use Rattle.lab_commands.specs.Lines.{class_words, label_words, made_words, says_words, sort_words}
 
 abbrev pub count : ℕ → Data
@@ -25,23 +22,6 @@ count n = number (unsigned n)
 
 abbrev pub text : List ℕ → Data
 text t = string t
-
--- ---- members
-
-abbrev pub member_name : Member → List ℕ
-member_name (Count name n) = name.now
-member_name (Text name t) = name.now
-member_name (Counts name ns) = name.now
-
-abbrev pub member_data : Member → Data
-member_data (Count name n) = count n
-member_data (Text name t) = text t.now
-member_data (Counts name ns) = array (items_of (map count ns.now))
-
--- with these members more, each at its place
-abbrev pub with_all : Members → List Member → Members
-with_all ms [] = ms
-with_all ms (m ∷ rest) = with_all (put (member_name m) (member_data m) ms) rest
 
 -- ---- objects
 

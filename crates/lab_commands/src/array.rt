@@ -2,11 +2,13 @@
 ghost use Rattle.std.specs.Prelude.{◌≡◌, OnOk, OnErr, IfOk, IfErr, false, length, map};
 ghost use Rattle.lab_dump.specs.Held.{state_in};
 ghost use Rattle.lab_dump.specs.Map.{map_text};
+ghost use Rattle.lab_dump.specs.Rooms.{IsArrayRoom};
 ghost use Rattle.lab_commands.specs.Files.{AnswersNoMore, without_part};
 ghost use Rattle.lab_commands.specs.Undone.{IsUnmade, MayWrite};
 ghost use Rattle.lab_commands.specs.Array.{AreAllowed, AreNotAllowed, IsArrayFault, IsMade, IsMapNotAllowed, IsUnmapped, WroteArray, as_map, with_map};
 
 use crate::files::{LabFiles, Standing};
+use crate::maps::ArrayMap;
 use crate::opening::{
     allow, create_beside, geometry_at, is_dump, is_out, keep, may_replace, open_file, progress_of,
     standing, store_map, unmade_as,
@@ -16,9 +18,9 @@ use crate::printing::{printer, unprinted};
 use crate::reports::print_array;
 use crate::text::LabFault;
 use crate::words::ArrayWords;
-use lab_dump::{Held, Written, print_map, write_array};
+use lab_dump::{ArrayRoom, Held, Written, write_array};
 use page_layout::geometry::Geometry;
-use std::alloc::{AllocError, Global};
+use std::alloc::Global;
 
 // How it is told that what stands at FILE is not replaced.
 fn as_map<'a>(fault: LabFault<'a>) -> LabFault<'a>
@@ -71,21 +73,8 @@ pub(crate) fn allow_both<'a, F: LabFiles>(
     }
 }
 
-// The text of the map.
-fn map_of(alloc: Global, geometry: &Geometry, held: &[Held]) -> Result<Vec<u8>, AllocError>
-    requires { length held.now ≡ geometry.now.sectors }
-    ensures { IfOk result (λ text. text.items ≡ map_text geometry.now (map state_in held.now)) }
-{
-    let mut text = Vec::new(alloc);
-    match print_map(&mut text, geometry, held) {
-        Ok(()) => Ok(text),
-        Err(_) => Err(AllocError),
-    }
-}
-
 // Puts the map in its place, where one is wanted.
 fn put_map<'a, F: LabFiles>(
-    alloc: Global,
     words: &ArrayWords<'a>,
     geometry: &Geometry,
     held: &[Held],
@@ -99,19 +88,17 @@ fn put_map<'a, F: LabFiles>(
     let Some(file) = words.map else {
         return Ok(());
     };
-    match map_of(alloc, geometry, held) {
-        Ok(text) => store_map(files, file, &text, words.force),
-        Err(_) => Err(LabFault::OutOfMemory),
-    }
+    store_map(files, file, &ArrayMap { geometry, held }, words.force)
 }
 
 // Makes the array beside its place.
 fn make<'a, F: LabFiles>(
-    alloc: Global,
+    room: ArrayRoom,
     words: &ArrayWords<'a>,
     geometry: &Geometry,
     files: &mut F,
 ) -> Result<Written<F::Target>, LabFault<'a>>
+    requires { IsArrayRoom geometry.now room }
     ensures made { IfOk result (λ written. IsMade (F.answers files.old) words.now.dump.now geometry.now (F.Target.pieces written.target) written.held.items written.doubts) }
     ensures sized { IfOk result (λ written. length written.held.items ≡ geometry.now.sectors) }
     ensures fault { IfErr result (IsUnmade (F.answers files.old) geometry.now words.now.dump.now words.now.out.now) }
@@ -121,7 +108,7 @@ fn make<'a, F: LabFiles>(
 {
     let mut dump = open_file(files, words.dump, progress_of(words.showing))?;
     let target = create_beside(files, words.out, geometry.sectors(), geometry.data_bytes())?;
-    match write_array(alloc, &mut dump, geometry, target) {
+    match write_array(room, &mut dump, geometry, target) {
         Ok(written) => Ok(written),
         Err(unwritten) => {
             files.discard(unwritten.target);
@@ -137,11 +124,11 @@ fn make<'a, F: LabFiles>(
 ///
 /// The first of this order: `BadNumber` where GEOM writes no numbers, `Geometry` where they are no geometry, `IsDump` where OUT is the dump,
 /// `Exists` where something stands at OUT and is not to be replaced, `NoFile` where that is neither a file nor a link to one, `MapIsOut`,
-/// `MapIsDump`, `MapExists` or `MapNoFile` where FILE is OUT or the dump, or so, `Read` where DUMP cannot be opened, `Write` where no file can be made beside OUT, `OutOfMemory` where a
-/// growth was refused; then each when it happens: `Read` where a read of DUMP fails, `WrongLength` where it has not as many bytes as the
+/// `MapIsDump`, `MapExists` or `MapNoFile` where FILE is OUT or the dump, or so, `OutOfMemory` where a growth was refused, `Read` where DUMP cannot be
+/// opened, `Write` where no file can be made beside OUT; then each when it happens: `Read` where a read of DUMP fails, `WrongLength` where it has not as many bytes as the
 /// geometry says, `Write` where OUT cannot be written or put in its place, `Exists` where another program gave its name to a file meanwhile and it is
 /// not to be replaced. After each of these OUT and FILE are as they were, nothing stands beside them, and nothing was
-/// printed. `Write` of FILE, `MapExists` or `OutOfMemory` where FILE cannot be made: then OUT was written, and nothing was printed. `Write` of `-` where
+/// printed. `Write` of FILE, `MapExists`, or `OutOfMemory` of the files, where FILE cannot be made: then OUT was written, and nothing was printed. `Write` of `-` where
 /// `out` failed: then both were written.
 ///
 /// (This project's.)
@@ -152,13 +139,14 @@ pub(crate) fn array_command<'a, F: LabFiles, W: Output>(
     out: &mut W,
 ) -> Result<(), LabFault<'a>>
     ensures ok { OnOk result (WroteArray (F.answers files.old) words.entry (F.kept files.old) (F.kept files.new) (W.contents out.old) (W.contents out.new)) }
-    ensures fault { IfErr result (IsArrayFault (F.answers files.old) words.entry (F.kept files.old) (F.kept files.new) (W.failed out.new) (W.contents out.old) (W.contents out.new)) }
+    ensures fault { IfErr result (IsArrayFault (F.answers files.old) words.entry (F.kept files.old) (F.kept files.new) (F.opened files.old) (F.opened files.new) (W.failed out.new) (W.contents out.old) (W.contents out.new)) }
 {
     let geometry = geometry_at(words.geometry)?;
     allow_both(files, &words)?;
-    let written = make(alloc, &words, &geometry, files)?;
+    let room = ArrayRoom::new(alloc, &geometry)?;
+    let written = make(room, &words, &geometry, files)?;
     keep(files, words.out, written.target, words.force)?;
-    put_map(alloc, &words, &geometry, &written.held, files)?;
+    put_map(&words, &geometry, &written.held, files)?;
     let printer = printer(alloc, words.showing);
     match print_array(printer, out, &geometry, &written.held, written.doubts) {
         Ok(()) => Ok(()),

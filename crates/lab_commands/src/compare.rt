@@ -1,6 +1,7 @@
 //! The command `compare GEOM CERT DUMP`.
-ghost use Rattle.std.specs.Prelude.{◌≡◌, OnOk, IfOk, IfErr};
+ghost use Rattle.std.specs.Prelude.{◌≡◌, suc, option_map, OnOk, IfOk, IfErr};
 ghost use Rattle.certificate.specs.Claim.{sizes_of};
+ghost use Rattle.lab_dump.specs.Rooms.{IsCompareRoom};
 ghost use Rattle.lab_commands.specs.Files.{AnswersNoMore};
 ghost use Rattle.lab_commands.specs.Compare.{HasNone, IsCertificateAt, IsCompareFault, IsCompared, IsUnheld, ToldCompared};
 
@@ -12,7 +13,7 @@ use crate::reports::print_compared;
 use crate::text::LabFault;
 use crate::words::{CompareWords, Showing};
 use certificate::{Certificate, read_certificate};
-use lab_dump::{CompareFault, Compared, compare_dump};
+use lab_dump::{CompareFault, CompareRoom, Compared, compare_dump};
 use page_layout::geometry::Geometry;
 use std::alloc::Global;
 
@@ -27,6 +28,7 @@ fn load_certificate<'a, F: LabFiles>(
 ) -> Result<Certificate, LabFault<'a>>
     ensures ok { IfOk result (IsCertificateAt (F.answers files.old) path.now) }
     ensures fault { IfErr result (HasNone (F.answers files.old) path.now) }
+    ensures opened { F.opened files.new ≡ option_map suc (F.opened files.old) }
     ensures no_more { AnswersNoMore (F.answers files.old) (F.answers files.new) }
     ensures kept { F.kept files.new ≡ F.kept files.old }
 {
@@ -43,25 +45,25 @@ fn load_certificate<'a, F: LabFiles>(
 
 // What a dump comes to beside a certificate.
 fn compare_with<'a, F: LabFiles>(
-    alloc: Global,
+    room: CompareRoom,
     dump: &'a str,
     geometry: &Geometry,
     certificate: &Certificate,
     showing: Showing,
     files: &mut F,
 ) -> Result<Compared, LabFault<'a>>
+    requires { IsCompareRoom geometry.now room }
     ensures ok { IfOk result (IsCompared (F.answers files.old) dump.now geometry.now certificate.now) }
     ensures sizes { OnOk result (certificate.now.sizes ≡ sizes_of geometry.now) }
     ensures fault { IfErr result (IsUnheld (F.answers files.old) geometry.now certificate.now dump.now) }
     ensures kept { F.kept files.new ≡ F.kept files.old }
 {
     let mut reader = open_file(files, dump, progress_of(showing))?;
-    match compare_dump(alloc, &mut reader, geometry, certificate) {
+    match compare_dump(room, &mut reader, geometry, certificate) {
         Ok(told) => Ok(told),
         Err(CompareFault::GeometryDiffers) => Err(LabFault::GeometryDiffers),
         Err(CompareFault::WrongLength) => Err(LabFault::WrongLength),
         Err(CompareFault::Source) => Err(LabFault::Read(dump)),
-        Err(CompareFault::OutOfMemory) => Err(LabFault::OutOfMemory),
     }
 }
 
@@ -70,10 +72,10 @@ fn compare_with<'a, F: LabFiles>(
 ///
 /// # Errors
 ///
-/// The first of this order: `BadNumber` where GEOM writes no numbers, `Geometry` where they are no geometry, `Read` where CERT cannot be
-/// read, or `OutOfMemory` where it was refused memory, `Certificate` where CERT's bytes are no certificate, `Read` where DUMP cannot be opened,
-/// `GeometryDiffers` where CERT is of another geometry; then each when it happens: `OutOfMemory` where a growth was refused, `Read` where a
-/// read of DUMP fails, `WrongLength` where it has not as many bytes as the geometry says. After each of these nothing was printed. `Write` of
+/// The first of this order: `BadNumber` where GEOM writes no numbers, `Geometry` where they are no geometry, `OutOfMemory` where
+/// a growth was refused, `Read` where CERT cannot be read, `Certificate` where CERT's bytes are no certificate, or memory for it was refused, `Read`
+/// where DUMP cannot be opened, `GeometryDiffers` where CERT is of another geometry; then each when it happens: `Read` where a read of DUMP fails,
+/// `WrongLength` where it has not as many bytes as the geometry says. After each of these nothing was printed. `Write` of
 /// `-` where `out` failed.
 ///
 /// (This project's.)
@@ -85,12 +87,13 @@ pub(crate) fn compare_command<'a, F: LabFiles, W: Output>(
 ) -> Result<(), LabFault<'a>>
     ensures ok { OnOk result (ToldCompared (F.answers files.old) words.entry (W.contents out.old) (W.contents out.new)) }
     ensures kept { F.kept files.new ≡ F.kept files.old }
-    ensures fault { IfErr result (IsCompareFault (F.answers files.old) words.entry (F.kept files.old) (F.kept files.new) (W.failed out.new) (W.contents out.old) (W.contents out.new)) }
+    ensures fault { IfErr result (IsCompareFault (F.answers files.old) words.entry (F.kept files.old) (F.kept files.new) (F.opened files.old) (F.opened files.new) (W.failed out.new) (W.contents out.old) (W.contents out.new)) }
 {
     let geometry = geometry_at(words.geometry)?;
+    let room = CompareRoom::new(alloc, &geometry)?;
     let certificate = load_certificate(alloc, words.certificate, files)?;
     let told = compare_with(
-        alloc,
+        room,
         words.dump,
         &geometry,
         &certificate,

@@ -2,6 +2,7 @@
 ghost use Rattle.std.specs.Prelude.{◌≡◌, OnOk, OnErr, IfOk, IfErr};
 ghost use Rattle.page_code.specs.Chip.{IsChipOf};
 ghost use Rattle.lab_correct.specs.Map.{map_text};
+ghost use Rattle.lab_correct.specs.Rooms.{IsCorrectRoom};
 ghost use Rattle.lab_commands.specs.Files.{AnswersNoMore, without_part};
 ghost use Rattle.lab_commands.specs.Undone.{IsUnmade};
 ghost use Rattle.lab_commands.specs.Array.{IsUnmapped, with_map};
@@ -9,6 +10,7 @@ ghost use Rattle.lab_commands.specs.Correct.{IsCorrectFault, IsNoChip, IsPutRigh
 
 use crate::array::allow_both;
 use crate::files::LabFiles;
+use crate::maps::LossMap;
 use crate::opening::{
     create_beside, geometry_at, keep, open_file, progress_of, store_map, unmade_as,
 };
@@ -17,10 +19,10 @@ use crate::printing::{printer, unprinted};
 use crate::reports::print_corrected;
 use crate::text::LabFault;
 use crate::words::ArrayWords;
-use lab_correct::{Corrected, Loss, correct_dump, print_losses};
+use lab_correct::{CorrectRoom, Corrected, Loss, correct_dump};
 use page_code::chip::ChipGeometry;
 use page_layout::geometry::{Geometry, GeometryFault};
-use std::alloc::{AllocError, Global};
+use std::alloc::Global;
 
 // The geometry of the chip whose pages without their codes have this one.
 fn chip_of<'a>(geometry: &Geometry) -> Result<ChipGeometry, LabFault<'a>>
@@ -33,20 +35,8 @@ fn chip_of<'a>(geometry: &Geometry) -> Result<ChipGeometry, LabFault<'a>>
     }
 }
 
-// The text of the map.
-fn map_of(alloc: Global, geometry: &Geometry, losses: &[Loss]) -> Result<Vec<u8>, AllocError>
-    ensures { IfOk result (λ text. text.items ≡ map_text geometry.now losses.now) }
-{
-    let mut text = Vec::new(alloc);
-    match print_losses(&mut text, geometry, losses) {
-        Ok(()) => Ok(text),
-        Err(_) => Err(AllocError),
-    }
-}
-
 // Puts the map in its place, where one is wanted.
 fn put_map<'a, F: LabFiles>(
-    alloc: Global,
     words: &ArrayWords<'a>,
     geometry: &Geometry,
     losses: &[Loss],
@@ -59,21 +49,19 @@ fn put_map<'a, F: LabFiles>(
     let Some(file) = words.map else {
         return Ok(());
     };
-    match map_of(alloc, geometry, losses) {
-        Ok(text) => store_map(files, file, &text, words.force),
-        Err(_) => Err(LabFault::OutOfMemory),
-    }
+    store_map(files, file, &LossMap { geometry, losses }, words.force)
 }
 
 // Makes the dump without codes beside its place.
 fn put_right<'a, F: LabFiles>(
-    alloc: Global,
+    room: CorrectRoom,
     words: &ArrayWords<'a>,
     geometry: &Geometry,
     chip: &ChipGeometry,
     files: &mut F,
 ) -> Result<Corrected<F::Target>, LabFault<'a>>
-    requires { IsChipOf geometry.now chip.now.raw }
+    requires chip { IsChipOf geometry.now chip.now.raw }
+    requires room { IsCorrectRoom geometry.now chip.now.raw room }
     ensures made { IfOk result (λ told. IsPutRight (F.answers files.old) words.now.dump.now geometry.now chip.now.raw (F.Target.pieces told.target) (record { turned = told.turned; touched = told.touched; losses = told.losses.items })) }
     ensures fault { IfErr result (IsUnmade (F.answers files.old) chip.now.raw words.now.dump.now words.now.out.now) }
     ensures no_more { AnswersNoMore (F.answers files.old) (F.answers files.new) }
@@ -83,7 +71,7 @@ fn put_right<'a, F: LabFiles>(
     let mut dump = open_file(files, words.dump, progress_of(words.showing))?;
     let size = geometry.data_bytes() + geometry.spare_bytes();
     let target = create_beside(files, words.out, geometry.rows(), size)?;
-    match correct_dump(alloc, &mut dump, geometry, chip, target) {
+    match correct_dump(room, &mut dump, geometry, chip, target) {
         Ok(told) => Ok(told),
         Err(unwritten) => {
             files.discard(unwritten.target);
@@ -100,11 +88,11 @@ fn put_right<'a, F: LabFiles>(
 /// The first of this order: `BadNumber` where GEOM writes no numbers, `Geometry` where they are no geometry, or `SpareSize` where the chip's spare area
 /// with the codes would have more than 256 bytes, `IsDump` where OUT is the dump, `Exists` where something stands at OUT and is not to be replaced,
 /// `NoFile` where that is neither a file nor a link to one, `MapIsOut`, `MapIsDump`, `MapExists` or `MapNoFile` where FILE is OUT or the dump, or so,
-/// `Read` where DUMP cannot be opened, `Write` where no file can be made beside OUT, `OutOfMemory` where a growth was refused; then each when it
+/// `OutOfMemory` where a growth was refused, `Read` where DUMP cannot be opened, `Write` where no file can be made beside OUT; then each when it
 /// happens: `Read` where a read of DUMP fails, `WrongLength` where it has not as many bytes as the chip's geometry says, `Write` where OUT cannot be
 /// written or put in its place, `Exists` where another program gave its name to a file meanwhile and it is not to be replaced. After each of these OUT
-/// and FILE are as they were, nothing stands beside them, and nothing was printed. `Write` of FILE, `MapExists` or `OutOfMemory` where FILE cannot be
-/// made: then OUT was written, and nothing was printed. `Write` of `-` where `out` failed: then both were written.
+/// and FILE are as they were, nothing stands beside them, and nothing was printed. `Write` of FILE, `MapExists`, or `OutOfMemory` of the files, where FILE
+/// cannot be made: then OUT was written, and nothing was printed. `Write` of `-` where `out` failed: then both were written.
 ///
 /// (This project's.)
 pub(crate) fn correct_command<'a, F: LabFiles, W: Output>(
@@ -114,14 +102,15 @@ pub(crate) fn correct_command<'a, F: LabFiles, W: Output>(
     out: &mut W,
 ) -> Result<(), LabFault<'a>>
     ensures ok { OnOk result (WroteCorrected (F.answers files.old) words.entry (F.kept files.old) (F.kept files.new) (W.contents out.old) (W.contents out.new)) }
-    ensures fault { IfErr result (IsCorrectFault (F.answers files.old) words.entry (F.kept files.old) (F.kept files.new) (W.failed out.new) (W.contents out.old) (W.contents out.new)) }
+    ensures fault { IfErr result (IsCorrectFault (F.answers files.old) words.entry (F.kept files.old) (F.kept files.new) (F.opened files.old) (F.opened files.new) (W.failed out.new) (W.contents out.old) (W.contents out.new)) }
 {
     let geometry = geometry_at(words.geometry)?;
     let chip = chip_of(&geometry)?;
     allow_both(files, &words)?;
-    let told = put_right(alloc, &words, &geometry, &chip, files)?;
+    let room = CorrectRoom::new(alloc, &geometry, &chip)?;
+    let told = put_right(room, &words, &geometry, &chip, files)?;
     keep(files, words.out, told.target, words.force)?;
-    put_map(alloc, &words, &geometry, &told.losses, files)?;
+    put_map(&words, &geometry, &told.losses, files)?;
     let printer = printer(alloc, words.showing);
     match print_corrected(printer, out, told.turned, told.touched, &told.losses) {
         Ok(()) => Ok(()),

@@ -1,19 +1,17 @@
-//! A document of lines.
-ghost use Rattle.std.specs.Prelude.{◌≡◌, ◌∷◌, [], ◌++◌, codes, false, IfOk};
-ghost use Rattle.serde_json.specs.View.{view};
-ghost use Rattle.serde_json.specs.Written.{compact_text, has_float};
+//! A document of lines. It is printed without memory: where some is found, each line is written at once, and else piece by piece.
+ghost use Rattle.std.specs.Prelude.{◌≡◌, ◌∷◌, [], ◌++◌, codes};
+ghost use Rattle.serde_json.specs.Written.{compact_text};
 ghost use Rattle.lab_commands.specs.Lines.{line_words};
-ghost use Rattle.lab_commands.specs.Document.{Prints, head_text, if_text, line_text, tail_text, text_below};
+ghost use Rattle.lab_commands.specs.Document.{Prints, head_text, line_text, report_words};
 ghost use Rattle.lab_commands.specs.Values.{head_data, line_data};
 
-use crate::lines::Line;
+use crate::lines::{Line, put_words};
 use crate::lists::Lines;
-use crate::output::Output;
-use crate::values::{head_value, line_value};
-use serde_json::Value;
-use std::alloc::{AllocError, Global};
-use std::io::Write;
-use thiserror::Error;
+use crate::output::{Output, OutputFault};
+use crate::pieces::Piece::Words;
+use crate::pieces::{put, put_pieces};
+use crate::values::put_object;
+use std::alloc::Global;
 
 /// The form of a document.
 #[derive(Clone, Copy, Debug, PartialEq, Eq)]
@@ -24,25 +22,35 @@ pub enum Form {
     Json,
 }
 
-/// Why a document was not printed whole. A beginning of it stands there, or nothing.
-#[derive(Clone, Copy, Debug, PartialEq, Eq, Error)]
-pub enum PrintFault {
-    /// A write failed.
-    #[error("a line could not be written")]
-    Failed,
-    /// A growth was refused.
-    #[error("out of memory")]
-    OutOfMemory,
+/// What a document is of.
+#[derive(Clone, Copy)]
+pub(crate) enum Report {
+    Geometry,
+    Survey,
+    Array,
+    Compare,
+    Merge,
+    Repair,
+    Correct,
 }
 
-impl From<AllocError> for PrintFault {
+impl Report {
     ghost use Rattle.std.specs.Prelude.{◌≡◌};
-    ghost use Rattle.lab_commands.specs.declared.document.PrintFault.{PrintFault};
+    ghost use Rattle.lab_commands.specs.Document.{report_words};
 
-    ghost from_gives = { λ _ fault. fault ≡ PrintFault.OutOfMemory };
-
-    fn from(_error: AllocError) -> PrintFault {
-        PrintFault::OutOfMemory
+    // The command's name.
+    fn text(self) -> &'static str
+        ensures { result.now ≡ report_words self }
+    {
+        match self {
+            Report::Geometry => "geometry",
+            Report::Survey => "survey",
+            Report::Array => "array",
+            Report::Compare => "compare",
+            Report::Merge => "merge",
+            Report::Repair => "repair",
+            Report::Correct => "correct",
+        }
     }
 }
 
@@ -53,55 +61,51 @@ pub struct Printer {
     form: Form,
 }
 
-// A line as plain text, with its line feed.
-fn plain(alloc: Global, line: Line) -> Result<Vec<u8>, AllocError>
-    ensures { IfOk result (λ text. text.items ≡ line_words line ++ (10 ∷ [])) }
+// Prints a line as plain text, with its line feed.
+fn put_plain<W: Output>(out: &mut W, line: Line) -> Result<(), OutputFault>
+    ensures { Prints (W.failed out.new) (W.contents out.old) (W.contents out.new) (line_words line ++ (10 ∷ [])) result }
 {
-    let mut text = Vec::new(alloc);
-    match writeln!(text, "{line}") {
-        Ok(()) => Ok(text),
-        Err(_) => Err(AllocError),
+    put_words(out, line)?;
+    put(out, b"\n")
+}
+
+// Prints a line as an object, behind another one.
+fn put_next<W: Output>(out: &mut W, line: Line) -> Result<(), OutputFault>
+    ensures { Prints (W.failed out.new) (W.contents out.old) (W.contents out.new) (codes ",\n" ++ compact_text (line_data line)) result }
+{
+    put(out, b",\n")?;
+    put_object(out, line)
+}
+
+// Prints a line in a form.
+#[tactic(auto, unfolding(crate::specs::Document::line_text))]
+fn put_line<W: Output>(out: &mut W, form: Form, line: Line) -> Result<(), OutputFault>
+    ensures { Prints (W.failed out.new) (W.contents out.old) (W.contents out.new) (line_text form line) result }
+{
+    match form {
+        Form::Text => put_plain(out, line),
+        Form::Json => put_next(out, line),
     }
 }
 
-// A value as JSON, behind these bytes.
-fn json(alloc: Global, lead: &[u8], value: &Value) -> Result<Vec<u8>, AllocError>
-    requires { has_float (view value.now) ≡ false }
-    ensures { IfOk result (λ text. text.items ≡ lead.now ++ compact_text (view value.now)) }
+// Prints what a JSON document of a command begins with.
+#[tactic(auto, unfolding(json::specs::Print::escape_byte))]
+fn put_head<W: Output>(out: &mut W, report: Report) -> Result<(), OutputFault>
+    ensures { Prints (W.failed out.new) (W.contents out.old) (W.contents out.new) (codes "[" ++ compact_text (head_data (report_words report))) result }
 {
-    let written = value.to_string(alloc)?;
-    let mut text = Vec::from_slice(alloc, lead)?;
-    text.extend_from_slice(written.as_bytes())?;
-    Ok(text)
-}
-
-// A line as an object, behind another one.
-fn object(alloc: Global, line: Line) -> Result<Vec<u8>, AllocError>
-    ensures { IfOk result (λ text. text.items ≡ codes ",\n" ++ compact_text (line_data line)) }
-{
-    json(alloc, b",\n", &line_value(alloc, line)?)
-}
-
-// What a JSON document of a command begins with.
-fn head(alloc: Global, command: &str) -> Result<Vec<u8>, AllocError>
-    ensures { IfOk result (λ text. text.items ≡ codes "[" ++ compact_text (head_data command.now)) }
-{
-    json(alloc, b"[", &head_value(alloc, command)?)
-}
-
-// Writes bytes, all of them.
-fn put<W: Output>(out: &mut W, bytes: &[u8]) -> Result<(), PrintFault>
-    ensures { Prints (W.failed out.new) (W.contents out.old) (W.contents out.new) bytes.now result }
-{
-    match out.put(bytes) {
-        Ok(()) => Ok(()),
-        Err(_) => Err(PrintFault::Failed),
-    }
+    put_pieces(
+        out,
+        &[
+            Words("[{\"command\":\""),
+            Words(report.text()),
+            Words("\",\"line\":\"command\",\"program\":\"nandlab\"}"),
+        ],
+    )
 }
 
 impl Printer {
-    ghost use Rattle.std.specs.Prelude.{◌≡◌, IfOk};
-    ghost use Rattle.lab_commands.specs.Document.{Prints, head_text, if_text, line_text, tail_text, text_below};
+    ghost use Rattle.std.specs.Prelude.{◌≡◌};
+    ghost use Rattle.lab_commands.specs.Document.{Prints, head_text, if_text, line_text, report_words, tail_text, text_below};
     ghost use Rattle.lab_commands.specs.Reports.{line_at, size_of};
 
     /// One that prints in this form.
@@ -111,32 +115,29 @@ impl Printer {
         Printer { alloc, form }
     }
 
-    // A line in the form.
-    #[tactic(auto, unfolding(crate::specs::Document::line_text))]
-    fn text(self, line: Line) -> Result<Vec<u8>, AllocError>
-        ensures { IfOk result (λ text. text.items ≡ line_text self.form line) }
+    // Prints a line: at once, where memory for it is found.
+    fn send<W: Output>(self, out: &mut W, line: Line) -> Result<(), OutputFault>
+        ensures { Prints (W.failed out.new) (W.contents out.old) (W.contents out.new) (line_text self.form line) result }
     {
-        match self.form {
-            Form::Text => plain(self.alloc, line),
-            Form::Json => object(self.alloc, line),
+        let mut made = Vec::new(self.alloc);
+        match put_line(&mut made, self.form, line) {
+            Ok(()) => put(out, &made),
+            Err(_) => put_line(out, self.form, line),
         }
     }
 
     /// Prints a line, if there is one.
-    pub(crate) fn line<W: Output>(self, out: &mut W, line: Option<Line>) -> Result<(), PrintFault>
+    pub(crate) fn line<W: Output>(self, out: &mut W, line: Option<Line>) -> Result<(), OutputFault>
         ensures { Prints (W.failed out.new) (W.contents out.old) (W.contents out.new) (if_text self.form line) result }
     {
         match line {
-            Some(line) => {
-                let text = self.text(line)?;
-                put(out, &text)
-            }
+            Some(line) => self.send(out, line),
             None => Ok(()),
         }
     }
 
     /// Prints the lines of a list, in their order.
-    pub(crate) fn list<W: Output>(self, out: &mut W, list: &Lines<'_>) -> Result<(), PrintFault>
+    pub(crate) fn list<W: Output>(self, out: &mut W, list: &Lines<'_>) -> Result<(), OutputFault>
         ensures { Prints (W.failed out.new) (W.contents out.old) (W.contents out.new) (text_below self.form (line_at list.now) (size_of list.now)) result }
     {
         for number in 0..list.count() {
@@ -145,27 +146,19 @@ impl Printer {
         Ok(())
     }
 
-    // What a document of a command begins with.
+    /// Begins a document of a command.
     #[tactic(auto, unfolding(crate::specs::Document::head_text))]
-    fn head(self, command: &str) -> Result<Vec<u8>, AllocError>
-        ensures { IfOk result (λ text. text.items ≡ head_text self.form command.now) }
+    pub(crate) fn begin<W: Output>(self, out: &mut W, report: Report) -> Result<(), OutputFault>
+        ensures { Prints (W.failed out.new) (W.contents out.old) (W.contents out.new) (head_text self.form (report_words report)) result }
     {
         match self.form {
-            Form::Text => Ok(Vec::new(self.alloc)),
-            Form::Json => head(self.alloc, command),
+            Form::Text => Ok(()),
+            Form::Json => put_head(out, report),
         }
     }
 
-    /// Begins a document of a command.
-    pub(crate) fn begin<W: Output>(self, out: &mut W, command: &str) -> Result<(), PrintFault>
-        ensures { Prints (W.failed out.new) (W.contents out.old) (W.contents out.new) (head_text self.form command.now) result }
-    {
-        let text = self.head(command)?;
-        put(out, &text)
-    }
-
     /// Ends a document.
-    pub(crate) fn end<W: Output>(self, out: &mut W) -> Result<(), PrintFault>
+    pub(crate) fn end<W: Output>(self, out: &mut W) -> Result<(), OutputFault>
         ensures { Prints (W.failed out.new) (W.contents out.old) (W.contents out.new) (tail_text self.form) result }
     {
         match self.form {

@@ -1,5 +1,5 @@
 //! Where a dump comes from, and where a file of sectors or pages is put.
-use lab_dump::{Dump, DumpReader, PageTarget, Pieces, Target};
+use lab_dump::{Dump, DumpReader, LineFault, MapWriter, PageTarget, Pieces, Target};
 use thiserror::Error;
 
 /// A file was not read, asked about, written or put in its place.
@@ -46,9 +46,31 @@ pub enum Progress {
     Shown,
 }
 
+/// A map that is to be stored: it is printed line by line, and never held. (This project's.)
+pub trait MapText {
+    ghost use Rattle.std.specs.Prelude.{◌≡◌, ℕ, List, true, OnOk, OnErr};
+    ghost use Rattle.std.specs.Io.KnownBytes.{Appends};
+
+    /// Its bytes.
+    ghost text: { Self → List ℕ };
+
+    /// What it takes to print it.
+    ghost whole: { Self → Type 0 };
+
+    /// Prints it.
+    ///
+    /// # Errors
+    ///
+    /// `LineFault` where a line could not be printed: a beginning of the map may stand there. (This project's.)
+    fn print<W: MapWriter>(&self, out: &mut W) -> Result<(), LineFault>
+        requires { whole self.now }
+        ensures printed { OnOk result (Appends (W.contents out.old) (W.contents out.new) (text self.now)) }
+        ensures failed { OnErr result (W.failed out.new ≡ true) };
+}
+
 /// The files that the words name, by their paths as written: those of the system, or some in memory.
 pub trait LabFiles {
-    ghost use Rattle.std.specs.Prelude.{◌≡◌, List, [], ◌∷◌, ℕ, Option, Some, true, Result, IfOk, IfErr, IfSome, replicate};
+    ghost use Rattle.std.specs.Prelude.{◌≡◌, List, [], ◌∷◌, ℕ, suc, Option, Some, true, Result, IfOk, IfErr, IfSome, option_map, replicate};
     ghost use Rattle.lab_commands.specs.Files.{Answers, AnswersNoMore, IsLoaded, IsOpened, IsUnkept, Store, kept_after, made_after, without_part};
 
     /// What reads a file piece by piece.
@@ -66,6 +88,9 @@ pub trait LabFiles {
     /// The files that were put in their places so far, in order, and how many more that were made stand beside theirs. Of the system's files it
     /// isn't known.
     ghost kept: { Self → Option Store };
+
+    /// How many times it was asked to open a file to be read so far. Of the system's files it isn't known.
+    ghost opened: { Self → Option ℕ };
 
     /// What stands at this path.
     fn standing(&mut self, path: &str) -> Result<Standing, FileFault>
@@ -85,14 +110,16 @@ pub trait LabFiles {
         ensures fails { (reader : Self.Reader) → Self.Reader.failed reader ≡ true → (answers self.old).reads_fail }
         ensures failed { IfErr result ((answers self.old).fails path.now) }
         ensures no_more { AnswersNoMore (answers self.old) (answers self.new) }
-        ensures kept { kept self.new ≡ kept self.old };
+        ensures kept { kept self.new ≡ kept self.old }
+        ensures opened { opened self.new ≡ option_map suc (opened self.old) };
 
     /// The first bytes of a file, at most so many. No file is changed.
     fn load(&mut self, path: &str, most: u64) -> Result<Vec<u8>, FileFault>
         ensures bytes { IfOk result (λ bytes. IsLoaded (answers self.old) path.now most bytes.items) }
         ensures failed { IfErr result ((answers self.old).fails path.now) }
         ensures no_more { AnswersNoMore (answers self.old) (answers self.new) }
-        ensures kept { kept self.new ≡ kept self.old };
+        ensures kept { kept self.new ≡ kept self.old }
+        ensures opened { opened self.new ≡ option_map suc (opened self.old) };
 
     /// A dump of a file, to be read at whatever place. No file is changed.
     fn open_dump(&mut self, path: &str, progress: Progress) -> Result<Self::Dump, FileFault>
@@ -100,7 +127,8 @@ pub trait LabFiles {
         ensures fails { (dump : Self.Dump) → Self.Dump.failed dump ≡ true → (answers self.old).reads_fail }
         ensures failed { IfErr result ((answers self.old).fails path.now) }
         ensures no_more { AnswersNoMore (answers self.old) (answers self.new) }
-        ensures kept { kept self.new ≡ kept self.old };
+        ensures kept { kept self.new ≡ kept self.old }
+        ensures opened { opened self.new ≡ option_map suc (opened self.old) };
 
     /// A new file beside that of this path, of so many pieces of so many zeros. Where that fails none stands there.
     fn create(&mut self, path: &str, count: u32, size: usize) -> Result<Self::Target, FileFault>
@@ -117,10 +145,11 @@ pub trait LabFiles {
         ensures failed { IfErr result (IsUnkept (answers self.old) path.now over) }
         ensures no_more { AnswersNoMore (answers self.old) (answers self.new) };
 
-    /// Puts a file of these bytes in the place of this path, once all of it is stored. Where that fails what stood there still does. Only where it
-    /// may stand over another one does it replace what has the name.
-    fn store(&mut self, path: &str, bytes: &[u8], over: bool) -> Result<(), KeepFault>
-        ensures done { kept self.new ≡ kept_after (kept self.old) path.now (Some (bytes.now ∷ [])) over result }
+    /// Puts a file of this map's bytes in the place of this path, once all of it is stored. Where that fails what stood there still does. Only where
+    /// it may stand over another one does it replace what has the name.
+    fn store<M: MapText>(&mut self, path: &str, map: &M, over: bool) -> Result<(), KeepFault>
+        requires { M.whole map.now }
+        ensures done { kept self.new ≡ kept_after (kept self.old) path.now (Some (M.text map.now ∷ [])) over result }
         ensures failed { IfErr result (IsUnkept (answers self.old) path.now over) };
 
     /// Removes a file that was made.

@@ -1,5 +1,6 @@
 //! The command `geometry DUMP`.
 ghost use Rattle.std.specs.Prelude.{◌≡◌, OnOk, IfOk, IfErr};
+ghost use Rattle.lab_dump.specs.Rooms.{IsFitRoom};
 ghost use Rattle.lab_commands.specs.Geometry.{AreFound, IsGeometryFault, IsUnfound, ToldFits};
 
 use crate::files::LabFiles;
@@ -9,22 +10,23 @@ use crate::printing::{printer, unprinted};
 use crate::reports::print_fits;
 use crate::text::LabFault;
 use crate::words::{GeometryWords, Showing};
-use lab_dump::{FindFault, Fit, find_geometries};
+use lab_dump::{Fit, FitRoom, find_geometries};
 use std::alloc::Global;
 
 // The geometries that fit a dump.
 fn find_fits<'a, F: LabFiles>(
-    alloc: Global,
+    room: FitRoom,
     path: &'a str,
     showing: Showing,
     files: &mut F,
 ) -> Result<Vec<Fit>, LabFault<'a>>
+    requires { IsFitRoom room }
     ensures found { IfOk result (λ fits. AreFound (F.answers files.old) path.now fits.items) }
     ensures fault { IfErr result (IsUnfound (F.answers files.old) path.now) }
     ensures kept { F.kept files.new ≡ F.kept files.old }
 {
     let mut dump = open_dump(files, path, progress_of(showing))?;
-    match find_geometries(alloc, &mut dump) {
+    match find_geometries(room, &mut dump) {
         Ok(fits) => {
             if fits.is_empty() {
                 Err(LabFault::NoneFits)
@@ -32,8 +34,7 @@ fn find_fits<'a, F: LabFiles>(
                 Ok(fits)
             }
         }
-        Err(FindFault::Source) => Err(LabFault::Read(path)),
-        Err(FindFault::OutOfMemory) => Err(LabFault::OutOfMemory),
+        Err(_) => Err(LabFault::Read(path)),
     }
 }
 
@@ -41,8 +42,8 @@ fn find_fits<'a, F: LabFiles>(
 ///
 /// # Errors
 ///
-/// The first of this order: `Read` where DUMP cannot be opened; then each when it happens: `OutOfMemory` where a growth was refused, `Read`
-/// where its size cannot be known or a read of it fails, `NoneFits` where no geometry fits it. After each of these nothing was printed.
+/// The first of this order: `OutOfMemory` where a growth was refused, `Read` where DUMP cannot be opened, or its size cannot be known or a read of it
+/// fails, `NoneFits` where no geometry fits it. After each of these nothing was printed.
 /// `Write` of `-` where `out` failed.
 ///
 /// (This project's.)
@@ -54,9 +55,10 @@ pub(crate) fn geometry_command<'a, F: LabFiles, W: Output>(
 ) -> Result<(), LabFault<'a>>
     ensures ok { OnOk result (ToldFits (F.answers files.old) words.entry (W.contents out.old) (W.contents out.new)) }
     ensures kept { F.kept files.new ≡ F.kept files.old }
-    ensures fault { IfErr result (IsGeometryFault (F.answers files.old) words.entry (F.kept files.old) (F.kept files.new) (W.failed out.new) (W.contents out.old) (W.contents out.new)) }
+    ensures fault { IfErr result (IsGeometryFault (F.answers files.old) words.entry (F.kept files.old) (F.kept files.new) (F.opened files.old) (F.opened files.new) (W.failed out.new) (W.contents out.old) (W.contents out.new)) }
 {
-    let fits = find_fits(alloc, words.dump, words.showing, files)?;
+    let room = FitRoom::new(alloc)?;
+    let fits = find_fits(room, words.dump, words.showing, files)?;
     match print_fits(printer(alloc, words.showing), out, &fits) {
         Ok(()) => Ok(()),
         Err(fault) => Err(unprinted(fault)),

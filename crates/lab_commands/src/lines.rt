@@ -1,13 +1,17 @@
 //! The lines of the reports.
 ghost use Rattle.std.specs.Prelude.{◌≡◌, ◌++◌, codes};
-ghost use Rattle.std.specs.Fmt.{WritesOnOk, decimal};
+ghost use Rattle.std.specs.Fmt.{decimal};
+ghost use Rattle.lab_commands.specs.Document.{Prints};
 ghost use Rattle.lab_commands.specs.Lines.{block_line, class_words, factory_line, hole_line, key_line, label_words, last_line, lost_line, made_words, outside_line, past_line, repeated_line, rewritten_line};
 ghost use Rattle.lab_commands.specs.Lines.{rows_line, says_words, sort_words, table_line, tie_line};
+ghost use Rattle.lab_commands.specs.Lines.{age_words, block_words, corrected_words, fit_words, line_words, moved_words, tally_words, whole_words};
 
+use crate::output::{Output, OutputFault};
+use crate::pieces::Piece::{Number, Words};
+use crate::pieces::put_pieces;
 use certificate::BlockState;
 use lab_dump::{Doubts, Fit, Rows, State, TableSays};
 use lab_mend::{Made, Tally};
-use std::fmt;
 
 /// What a page is of.
 #[derive(Clone, Copy)]
@@ -156,303 +160,274 @@ pub(crate) fn made_text(made: Made) -> &'static str
     }
 }
 
-// The five numbers of a geometry.
-#[derive(Clone, Copy)]
-struct Shape(Fit);
-
-impl fmt::Display for Shape {
-    ghost use Rattle.std.specs.Prelude.{Some};
-    ghost use Rattle.lab_commands.specs.Lines.{shape_words};
-
-    ghost output = { λ shape. Some (shape_words shape.0) };
-
-    fn fmt<W: fmt::Write>(&self, f: &mut fmt::Formatter<W>) -> fmt::Result {
-        let (data, spare, pages) = (self.0.data_bytes, self.0.spare_bytes, self.0.pages);
-        let (blocks, sectors) = (self.0.blocks, self.0.sectors);
-        write!(f, "{data},{spare},{pages},{blocks},{sectors}")
-    }
+// A line of words and a number.
+fn put_one<W: Output>(out: &mut W, words: &str, number: u64) -> Result<(), OutputFault>
+    ensures { Prints (W.failed out.new) (W.contents out.old) (W.contents out.new) (words.now ++ decimal number) result }
+{
+    put_pieces(out, &[Words(words), Number(number)])
 }
 
-// What the pages are that were looked at.
-#[derive(Clone, Copy)]
-struct Looked(Fit);
-
-impl fmt::Display for Looked {
-    ghost use Rattle.std.specs.Prelude.{Some};
-    ghost use Rattle.lab_commands.specs.Lines.{looked_words};
-
-    ghost output = { λ looked. Some (looked_words looked.0) };
-
-    fn fmt<W: fmt::Write>(&self, f: &mut fmt::Formatter<W>) -> fmt::Result {
-        let (looked, sound, unsound) = (self.0.looked, self.0.sound.0, self.0.unsound);
-        write!(f, " looked {looked} sound {sound} unsound {unsound}")
-    }
+// One of words and a number, twice.
+fn put_two<'x, W: Output>(
+    out: &mut W,
+    words: &'x str,
+    first: u32,
+    others: &'x str,
+    second: u32,
+) -> Result<(), OutputFault>
+    ensures { Prints (W.failed out.new) (W.contents out.old) (W.contents out.new) (words.now ++ (decimal first ++ (others.now ++ decimal second))) result }
+{
+    put_pieces(
+        out,
+        &[
+            Words(words),
+            Number(u64::from(first)),
+            Words(others),
+            Number(u64::from(second)),
+        ],
+    )
 }
 
-// What the table of blocks and all pages tell.
-#[derive(Clone, Copy)]
-struct Told(Fit);
-
-impl fmt::Display for Told {
-    ghost use Rattle.std.specs.Prelude.{Some};
-    ghost use Rattle.lab_commands.specs.Lines.{told_words};
-
-    ghost output = { λ told. Some (told_words told.0) };
-
-    fn fmt<W: fmt::Write>(&self, f: &mut fmt::Formatter<W>) -> fmt::Result {
-        let table = says_text(self.0.table);
-        let (blocks, sectors) = (self.0.blocks_told, self.0.sectors_told);
-        write!(f, " table {table} blocks {blocks} sectors {sectors}")
-    }
+// One of words, a name and its number.
+fn put_named<'x, W: Output>(
+    out: &mut W,
+    words: &'x str,
+    name: &'x str,
+    number: u32,
+) -> Result<(), OutputFault>
+    ensures { Prints (W.failed out.new) (W.contents out.old) (W.contents out.new) (words.now ++ (name.now ++ (codes " " ++ decimal number))) result }
+{
+    put_pieces(
+        out,
+        &[
+            Words(words),
+            Words(name),
+            Words(" "),
+            Number(u64::from(number)),
+        ],
+    )
 }
 
 // A geometry that fits, with all that is told of it.
-#[derive(Clone, Copy)]
-struct FitText(Fit);
-
-impl fmt::Display for FitText {
-    ghost use Rattle.std.specs.Prelude.{Some};
-    ghost use Rattle.lab_commands.specs.Lines.{fit_words};
-
-    ghost output = { λ text. Some (fit_words text.0) };
-
-    fn fmt<W: fmt::Write>(&self, f: &mut fmt::Formatter<W>) -> fmt::Result {
-        let (shape, looked, told) = (Shape(self.0), Looked(self.0), Told(self.0));
-        write!(f, "geometry {shape}{looked}{told}")
-    }
+fn put_fit<W: Output>(out: &mut W, fit: Fit) -> Result<(), OutputFault>
+    ensures { Prints (W.failed out.new) (W.contents out.old) (W.contents out.new) (fit_words fit) result }
+{
+    put_pieces(
+        out,
+        &[
+            Words("geometry "),
+            Number(u64::from(fit.data_bytes)),
+            Words(","),
+            Number(u64::from(fit.spare_bytes)),
+            Words(","),
+            Number(u64::from(fit.pages)),
+            Words(","),
+            Number(u64::from(fit.blocks)),
+            Words(","),
+            Number(u64::from(fit.sectors)),
+            Words(" looked "),
+            Number(u64::from(fit.looked)),
+            Words(" sound "),
+            Number(u64::from(fit.sound.0)),
+            Words(" unsound "),
+            Number(u64::from(fit.unsound)),
+            Words(" table "),
+            Words(says_text(fit.table)),
+            Words(" blocks "),
+            Number(fit.blocks_told),
+            Words(" sectors "),
+            Number(fit.sectors_told),
+        ],
+    )
 }
 
 // A block with its state and its unsound pages.
-#[derive(Clone, Copy)]
-struct BlockText(u32, BlockState, u32);
-
-impl fmt::Display for BlockText {
-    ghost use Rattle.std.specs.Prelude.{Some};
-    ghost use Rattle.lab_commands.specs.Lines.{block_words};
-
-    ghost output = { λ text. Some (block_words text.0 text.1 text.2) };
-
-    fn fmt<W: fmt::Write>(&self, f: &mut fmt::Formatter<W>) -> fmt::Result {
-        let (block, state, unsound) = (self.0, self.1, self.2);
-        let class = class_text(state.class);
-        let (pointer, live, wear) = (state.pointer, state.live, state.wear);
-        write!(
-            f,
-            "block {block} class {class} pointer {pointer} live {live} wear {wear} unsound {unsound}"
-        )
-    }
+fn put_block<W: Output>(
+    out: &mut W,
+    block: u32,
+    state: BlockState,
+    unsound: u32,
+) -> Result<(), OutputFault>
+    ensures { Prints (W.failed out.new) (W.contents out.old) (W.contents out.new) (block_words block state unsound) result }
+{
+    put_pieces(
+        out,
+        &[
+            Words("block "),
+            Number(u64::from(block)),
+            Words(" class "),
+            Words(class_text(state.class)),
+            Words(" pointer "),
+            Number(u64::from(state.pointer)),
+            Words(" live "),
+            Number(u64::from(state.live)),
+            Words(" wear "),
+            Number(u64::from(state.wear)),
+            Words(" unsound "),
+            Number(u64::from(unsound)),
+        ],
+    )
 }
 
 // How many rows of a merge are of each kind.
-#[derive(Clone, Copy)]
-struct TallyText(u64, Tally);
+fn put_tally<W: Output>(out: &mut W, differ: u64, tally: Tally) -> Result<(), OutputFault>
+    ensures { Prints (W.failed out.new) (W.contents out.old) (W.contents out.new) (tally_words differ tally) result }
+{
+    put_pieces(
+        out,
+        &[
+            Words("sound "),
+            Number(u64::from(tally.sound)),
+            Words(" differ "),
+            Number(differ),
+            Words(" majority "),
+            Number(u64::from(tally.majority)),
+            Words(" erased "),
+            Number(u64::from(tally.erased)),
+            Words(" unsound "),
+            Number(u64::from(tally.unsound)),
+        ],
+    )
+}
 
-impl fmt::Display for TallyText {
-    ghost use Rattle.std.specs.Prelude.{Some};
-    ghost use Rattle.lab_commands.specs.Lines.{tally_words};
-
-    ghost output = { λ text. Some (tally_words text.0 text.1) };
-
-    fn fmt<W: fmt::Write>(&self, f: &mut fmt::Formatter<W>) -> fmt::Result {
-        let (differ, sound, majority) = (self.0, self.1.sound, self.1.majority);
-        let (erased, unsound) = (self.1.erased, self.1.unsound);
-        write!(
-            f,
-            "sound {sound} differ {differ} majority {majority} erased {erased} unsound {unsound}"
-        )
+// What a claim rests on besides, where there are blocks that were written again.
+fn moved_text(rewritten: u32) -> &'static str
+    ensures { result.now ≡ moved_words rewritten }
+{
+    if rewritten == 0 {
+        ""
+    } else {
+        ", nor a newest one in a rewritten block"
     }
 }
 
-// What is claimed of an array by what its dump leaves open.
-#[derive(Clone, Copy)]
-struct ClaimText(Doubts);
-
-impl fmt::Display for ClaimText {
-    ghost use Rattle.std.specs.Prelude.{Some};
-    ghost use Rattle.lab_commands.specs.Lines.{claim_words};
-
-    ghost output = { λ text. Some (claim_words text.0) };
-
-    fn fmt<W: fmt::Write>(&self, f: &mut fmt::Formatter<W>) -> fmt::Result {
-        match (self.0.most_older(), self.0.outside) {
-            (0, 0) => f.write_str(": the array is that of every page that was programmed"),
-            (0, _) => {
-                f.write_str(
-                    ": of these sectors the array is that of every page that was programmed",
-                )
-            }
-            (older, _) => write!(
-                f,
-                ": at most {older} sectors may be older than the last write"
-            ),
-        }
-    }
-}
-
-// What a claim rests on where there are blocks that were written again.
-#[derive(Clone, Copy)]
-struct RewrittenText(u32);
-
-impl fmt::Display for RewrittenText {
-    ghost use Rattle.std.specs.Prelude.{Some};
-    ghost use Rattle.lab_commands.specs.Lines.{moved_words};
-
-    ghost output = { λ text. Some (moved_words text.0) };
-
-    fn fmt<W: fmt::Write>(&self, f: &mut fmt::Formatter<W>) -> fmt::Result {
-        match self.0 {
-            0 => f.write_str(""),
-            _ => f.write_str(", nor a newest one in a rewritten block"),
-        }
+// How an array that no sector may be older of than the last write is claimed, by the sound pages of a sector past the last one.
+fn whole_text(outside: u32) -> &'static str
+    ensures { result.now ≡ whole_words outside }
+{
+    if outside == 0 {
+        ": the array is that of every page that was programmed"
+    } else {
+        ": of these sectors the array is that of every page that was programmed"
     }
 }
 
 // How far an array may be from the last write.
-#[derive(Clone, Copy)]
-struct AgeText(Doubts);
-
-impl fmt::Display for AgeText {
-    ghost use Rattle.std.specs.Prelude.{Some};
-    ghost use Rattle.lab_commands.specs.Lines.{age_words};
-
-    ghost output = { λ text. Some (age_words text.0) };
-
-    fn fmt<W: fmt::Write>(&self, f: &mut fmt::Formatter<W>) -> fmt::Result {
-        let (unsound, claim, rewritten) = (
-            self.0.unsound,
-            ClaimText(self.0),
-            RewrittenText(self.0.rewritten),
+fn put_age<W: Output>(out: &mut W, doubts: Doubts) -> Result<(), OutputFault>
+    ensures { Prints (W.failed out.new) (W.contents out.old) (W.contents out.new) (age_words doubts) result }
+{
+    let unsound = u64::from(doubts.unsound);
+    let older = doubts.most_older();
+    let premise = ", if no page was lost behind the last one of its block";
+    let moved = moved_text(doubts.rewritten);
+    if older == 0 {
+        let whole = whole_text(doubts.outside);
+        return put_pieces(
+            out,
+            &[
+                Words("unsound "),
+                Number(unsound),
+                Words(whole),
+                Words(premise),
+                Words(moved),
+            ],
         );
-        write!(
-            f,
-            "unsound {unsound}{claim}, if no page was lost behind the last one of its block{rewritten}"
-        )
     }
+    put_pieces(
+        out,
+        &[
+            Words("unsound "),
+            Number(unsound),
+            Words(": at most "),
+            Number(older),
+            Words(" sectors may be older than the last write"),
+            Words(premise),
+            Words(moved),
+        ],
+    )
 }
 
 // How many pages of some rows are neither erased nor sound.
-#[derive(Clone, Copy)]
-struct AgeOfRowsText(u32);
-
-impl fmt::Display for AgeOfRowsText {
-    ghost use Rattle.std.specs.Prelude.{◌++◌, codes, Some};
-    ghost use Rattle.std.specs.Fmt.{decimal};
-
-    ghost output = { λ text. Some (codes "unsound " ++ (decimal text.0 ++ codes ": of these rows alone, of others nothing is told")) };
-
-    fn fmt<W: fmt::Write>(&self, f: &mut fmt::Formatter<W>) -> fmt::Result {
-        let unsound = self.0;
-        write!(
-            f,
-            "unsound {unsound}: of these rows alone, of others nothing is told"
-        )
-    }
+fn put_age_of_rows<W: Output>(out: &mut W, unsound: u32) -> Result<(), OutputFault>
+    ensures { Prints (W.failed out.new) (W.contents out.old) (W.contents out.new) (codes "unsound " ++ (decimal unsound ++ codes ": of these rows alone, of others nothing is told")) result }
+{
+    put_pieces(
+        out,
+        &[
+            Words("unsound "),
+            Number(u64::from(unsound)),
+            Words(": of these rows alone, of others nothing is told"),
+        ],
+    )
 }
 
 // A page that was mended, what it is now, and the bit that was turned.
-#[derive(Clone, Copy)]
-struct MendText(Made, u32, u32);
-
-impl fmt::Display for MendText {
-    ghost use Rattle.std.specs.Prelude.{◌++◌, codes, Some};
-    ghost use Rattle.std.specs.Fmt.{decimal};
-    ghost use Rattle.lab_commands.specs.Lines.{made_words};
-
-    ghost output = { λ text. Some (made_words text.0 ++ (codes " row " ++ (decimal text.1 ++ (codes " bit " ++ decimal text.2)))) };
-
-    fn fmt<W: fmt::Write>(&self, f: &mut fmt::Formatter<W>) -> fmt::Result {
-        let (made, row, bit) = (made_text(self.0), self.1, self.2);
-        write!(f, "{made} row {row} bit {bit}")
-    }
+fn put_mended<W: Output>(out: &mut W, made: Made, row: u32, bit: u32) -> Result<(), OutputFault>
+    ensures { Prints (W.failed out.new) (W.contents out.old) (W.contents out.new) (made_words made ++ (codes " row " ++ (decimal row ++ (codes " bit " ++ decimal bit)))) result }
+{
+    put_pieces(
+        out,
+        &[
+            Words(made_text(made)),
+            Words(" row "),
+            Number(u64::from(row)),
+            Words(" bit "),
+            Number(u64::from(bit)),
+        ],
+    )
 }
 
 // How many bits were turned back, in how many rows, and how many rows have lost chunks.
-#[derive(Clone, Copy)]
-struct CorrectedText(u64, u32, u64);
-
-impl fmt::Display for CorrectedText {
-    ghost use Rattle.std.specs.Prelude.{Some};
-    ghost use Rattle.lab_commands.specs.Lines.{corrected_words};
-
-    ghost output = { λ text. Some (corrected_words text.0 text.1 text.2) };
-
-    fn fmt<W: fmt::Write>(&self, f: &mut fmt::Formatter<W>) -> fmt::Result {
-        let (bits, rows, lost) = (self.0, self.1, self.2);
-        write!(f, "turned {bits} rows {rows} lost {lost}")
-    }
-}
-
-// A line of words and a number.
-fn one<W: fmt::Write>(f: &mut fmt::Formatter<W>, words: &str, number: u64) -> fmt::Result
-    ensures { WritesOnOk W.write_str_gives f.old result (words.now ++ decimal number) f.new }
+fn put_corrected<W: Output>(out: &mut W, bits: u64, rows: u32, lost: u64) -> Result<(), OutputFault>
+    ensures { Prints (W.failed out.new) (W.contents out.old) (W.contents out.new) (corrected_words bits rows lost) result }
 {
-    write!(f, "{words}{number}")
+    put_pieces(
+        out,
+        &[
+            Words("turned "),
+            Number(bits),
+            Words(" rows "),
+            Number(u64::from(rows)),
+            Words(" lost "),
+            Number(lost),
+        ],
+    )
 }
 
-// One of words and a number, twice.
-fn two<W: fmt::Write>(
-    f: &mut fmt::Formatter<W>,
-    words: &str,
-    first: u32,
-    others: &str,
-    second: u32,
-) -> fmt::Result
-    ensures { WritesOnOk W.write_str_gives f.old result (words.now ++ (decimal first ++ (others.now ++ decimal second))) f.new }
+/// Prints a line as plain text, without its line feed.
+#[tactic(auto, unfolding(crate::specs::Lines::line_words))]
+pub(crate) fn put_words<W: Output>(out: &mut W, line: Line) -> Result<(), OutputFault>
+    ensures { Prints (W.failed out.new) (W.contents out.old) (W.contents out.new) (line_words line) result }
 {
-    write!(f, "{words}{first}{others}{second}")
-}
-
-// One of words, a name and its number.
-fn named<W: fmt::Write>(
-    f: &mut fmt::Formatter<W>,
-    words: &str,
-    name: &str,
-    number: u32,
-) -> fmt::Result
-    ensures { WritesOnOk W.write_str_gives f.old result (words.now ++ (name.now ++ (codes " " ++ decimal number))) f.new }
-{
-    write!(f, "{words}{name} {number}")
-}
-
-/// The line, without its line feed.
-impl fmt::Display for Line {
-    ghost use Rattle.std.specs.Prelude.{Some};
-    ghost use Rattle.lab_commands.specs.Lines.{line_words};
-
-    ghost output = { λ line. Some (line_words line) };
-
-    #[tactic(auto, unfolding(crate::specs::Lines::line_words))]
-    fn fmt<W: fmt::Write>(&self, f: &mut fmt::Formatter<W>) -> fmt::Result {
-        match *self {
-            Line::Pages(sort, count) => named(f, "pages ", sort.text(), count),
-            Line::NumberRange(pages) => one(f, "reason NumberRange pages ", u64::from(pages)),
-            Line::Repeated(first, second) => {
-                two(f, "reason SequenceRepeated row ", first, " row ", second)
-            }
-            Line::NotFormatted(page) => one(f, "reason NotFormatted table ", u64::from(page)),
-            Line::TableDamaged(page) => one(f, "reason TableDamaged table ", u64::from(page)),
-            Line::LastSequence(pages) => one(f, "reason NextSequence pages ", u64::from(pages)),
-            Line::Tied(of, number) => named(f, "tied ", of.text(), number),
-            Line::Missing(of, number) => named(f, "missing ", of.text(), number),
-            Line::Block(block, state, unsound) => BlockText(block, state, unsound).fmt(f),
-            Line::PlainBlock(block, unsound) => two(f, "block ", block, " unsound ", unsound),
-            Line::Lost(sector) => one(f, "lost sector ", u64::from(sector)),
-            Line::Fit(fit) => FitText(fit).fmt(f),
-            Line::Mended(made, row, bit) => MendText(made, row, bit).fmt(f),
-            Line::MendedCount(count) => one(f, "mended ", count),
-            Line::LostRow(row, chunks) => two(f, "lost row ", row, " chunks ", chunks),
-            Line::Corrected(bits, rows, lost) => CorrectedText(bits, rows, lost).fmt(f),
-            Line::Differ(row) => one(f, "differ row ", u64::from(row)),
-            Line::Unsound(row) => one(f, "unsound row ", u64::from(row)),
-            Line::Merged(differ, tally) => TallyText(differ, tally).fmt(f),
-            Line::Age(doubts) => AgeText(doubts).fmt(f),
-            Line::AgeOfRows(unsound) => AgeOfRowsText(unsound).fmt(f),
-            Line::OfRows(rows) => two(f, "rows ", rows.first, "..", rows.end),
-            Line::Factory(pages) => one(f, "factory ", u64::from(pages)),
-            Line::Rewritten(pages) => one(f, "rewritten ", u64::from(pages)),
-            Line::Holes(pages) => one(f, "holes ", u64::from(pages)),
-            Line::Outside(pages) => one(f, "outside ", u64::from(pages)),
+    match line {
+        Line::Pages(sort, count) => put_named(out, "pages ", sort.text(), count),
+        Line::NumberRange(pages) => put_one(out, "reason NumberRange pages ", u64::from(pages)),
+        Line::Repeated(first, second) => {
+            put_two(out, "reason SequenceRepeated row ", first, " row ", second)
         }
+        Line::NotFormatted(page) => put_one(out, "reason NotFormatted table ", u64::from(page)),
+        Line::TableDamaged(page) => put_one(out, "reason TableDamaged table ", u64::from(page)),
+        Line::LastSequence(pages) => put_one(out, "reason NextSequence pages ", u64::from(pages)),
+        Line::Tied(of, number) => put_named(out, "tied ", of.text(), number),
+        Line::Missing(of, number) => put_named(out, "missing ", of.text(), number),
+        Line::Block(block, state, unsound) => put_block(out, block, state, unsound),
+        Line::PlainBlock(block, unsound) => put_two(out, "block ", block, " unsound ", unsound),
+        Line::Lost(sector) => put_one(out, "lost sector ", u64::from(sector)),
+        Line::Fit(fit) => put_fit(out, fit),
+        Line::Mended(made, row, bit) => put_mended(out, made, row, bit),
+        Line::MendedCount(count) => put_one(out, "mended ", count),
+        Line::LostRow(row, chunks) => put_two(out, "lost row ", row, " chunks ", chunks),
+        Line::Corrected(bits, rows, lost) => put_corrected(out, bits, rows, lost),
+        Line::Differ(row) => put_one(out, "differ row ", u64::from(row)),
+        Line::Unsound(row) => put_one(out, "unsound row ", u64::from(row)),
+        Line::Merged(differ, tally) => put_tally(out, differ, tally),
+        Line::Age(doubts) => put_age(out, doubts),
+        Line::AgeOfRows(unsound) => put_age_of_rows(out, unsound),
+        Line::OfRows(rows) => put_two(out, "rows ", rows.first, "..", rows.end),
+        Line::Factory(pages) => put_one(out, "factory ", u64::from(pages)),
+        Line::Rewritten(pages) => put_one(out, "rewritten ", u64::from(pages)),
+        Line::Holes(pages) => put_one(out, "holes ", u64::from(pages)),
+        Line::Outside(pages) => put_one(out, "outside ", u64::from(pages)),
     }
 }
 

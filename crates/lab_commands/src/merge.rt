@@ -1,9 +1,10 @@
 //! The command `merge GEOM OUT DUMP DUMP..`.
-ghost use Rattle.std.specs.Prelude.{◌≡◌, ◌<◌, ℕ, List, [], get_or, length, map, true, OnOk, OnErr, IfOk, IfErr};
+ghost use Rattle.std.specs.Prelude.{◌≡◌, ◌<◌, ◌≤◌, [], length, map, vec_capacity, true, OnOk, OnErr, IfOk, IfErr};
 ghost use Rattle.lab_mend.specs.Merged.{IsOfReading};
+ghost use Rattle.lab_mend.specs.Rooms.{IsMergeRoom};
 ghost use Rattle.program_words.specs.Met.{texts};
 ghost use Rattle.lab_commands.specs.Files.{AnswersNoMore, without_part};
-ghost use Rattle.lab_commands.specs.Merge.{AreOpened, HasSame, IsJoined, IsMergeFault, IsSomeUnread, IsUnjoined, IsUnopened, MayMerge, MayNotMerge, TellsFault, WroteMerge};
+ghost use Rattle.lab_commands.specs.Merge.{AreOpened, HasSame, IsJoined, IsMergeFault, IsSomeUnread, IsUnjoined, MayMerge, MayNotMerge, TellsFault, WroteMerge};
 ghost use Rattle.lab_commands.specs.Merge.{dumps_of};
 
 use crate::files::{LabFiles, Progress, Standing};
@@ -15,9 +16,10 @@ use crate::printing::{printer, unprinted};
 use crate::reports::print_merged;
 use crate::text::LabFault;
 use crate::words::MergeWords;
-use lab_mend::{MergeFault, Merged, merge_dumps};
+use lab_dump::DumpReader;
+use lab_mend::{MergeFault, MergeRoom, Merged, merge_dumps};
 use page_layout::geometry::Geometry;
-use std::alloc::Global;
+use std::alloc::{AllocError, Global};
 
 // Whether a path is that of one of the dumps.
 fn is_some_dump<'a, F: LabFiles>(
@@ -60,10 +62,11 @@ fn open_all<'a, F: LabFiles>(
     files: &mut F,
     readers: &mut Vec<F::Reader>,
 ) -> Result<(), LabFault<'a>>
-    requires { readers.old.items ≡ [] }
+    requires none { readers.old.items ≡ [] }
+    requires room { length dumps.now ≤ vec_capacity readers.old }
     ensures opened { OnOk result (AreOpened (F.answers files.old) (texts dumps.now) (map F.Reader.remaining readers.new.items)) }
     ensures fails { OnOk result (0 < length dumps.now → (reader : F.Reader) → F.Reader.failed reader ≡ true → (F.answers files.old).reads_fail) }
-    ensures fault { IfErr result (IsUnopened (F.answers files.old) (texts dumps.now)) }
+    ensures fault { IfErr result (IsSomeUnread (F.answers files.old) (texts dumps.now)) }
     ensures no_more { AnswersNoMore (F.answers files.old) (F.answers files.new) }
     ensures kept { F.kept files.new ≡ F.kept files.old }
 {
@@ -74,10 +77,7 @@ fn open_all<'a, F: LabFiles>(
             Progress::Hidden
         };
         let reader = open_file(files, dumps[place], shown)?;
-        match readers.push(reader) {
-            Ok(_) => (),
-            Err(_) => return Err(LabFault::OutOfMemory),
-        }
+        readers.push_reserved(reader);
     }
     Ok(())
 }
@@ -91,20 +91,44 @@ fn merge_told<'a>(fault: MergeFault, dumps: &[&'a str], out: &'a str) -> LabFaul
         MergeFault::WrongLength(place) => LabFault::DumpLength(dumps[place]),
         MergeFault::Source(place) => LabFault::Read(dumps[place]),
         MergeFault::Target => LabFault::Write(out),
-        MergeFault::OutOfMemory => LabFault::OutOfMemory,
     }
+}
+
+// The memory of a merge: that of the merge itself, and a place for the reader of each dump.
+#[derive(Drop)]
+struct Room<R> {
+    merge: MergeRoom,
+    readers: Vec<R>,
+}
+
+// Takes it for so many dumps.
+fn take_room<R: DumpReader>(
+    alloc: Global,
+    geometry: &Geometry,
+    count: usize,
+) -> Result<Room<R>, AllocError>
+    ensures merge { IfOk result (λ room. IsMergeRoom geometry.now count room.merge) }
+    ensures none { IfOk result (λ room. room.readers.items ≡ []) }
+    ensures places { IfOk result (λ room. count ≤ vec_capacity room.readers) }
+{
+    Ok(Room {
+        merge: MergeRoom::new(alloc, geometry, count)?,
+        readers: Vec::with_capacity(alloc, count)?,
+    })
 }
 
 // Makes the one dump beside its place, by readers that are to be opened.
 fn join_by<'a, F: LabFiles>(
-    alloc: Global,
+    room: MergeRoom,
     words: &MergeWords<'a>,
     geometry: &Geometry,
     files: &mut F,
     readers: &mut Vec<F::Reader>,
 ) -> Result<Merged<F::Target>, LabFault<'a>>
     requires some { 0 < length words.now.dumps.items }
+    requires room { IsMergeRoom geometry.now (length words.now.dumps.items) room }
     requires none { readers.old.items ≡ [] }
+    requires places { length words.now.dumps.items ≤ vec_capacity readers.old }
     ensures made { IfOk result (λ told. IsJoined (F.answers files.old) (dumps_of words.now) geometry.now (F.Target.pieces told.target) told.conflicts.items told.unsound.items told.tally) }
     ensures fault { IfErr result (IsUnjoined (F.answers files.old) (dumps_of words.now) geometry.now words.now.out.now) }
     ensures no_more { AnswersNoMore (F.answers files.old) (F.answers files.new) }
@@ -114,7 +138,7 @@ fn join_by<'a, F: LabFiles>(
     open_all(&words.dumps, progress_of(words.showing), files, readers)?;
     let size = geometry.data_bytes() + geometry.spare_bytes();
     let target = create_beside(files, words.out, geometry.rows(), size)?;
-    match merge_dumps(alloc, readers, geometry, target) {
+    match merge_dumps(room, readers, geometry, target) {
         Ok(merged) => Ok(merged),
         Err(unmerged) => {
             files.discard(unmerged.target);
@@ -125,20 +149,23 @@ fn join_by<'a, F: LabFiles>(
 
 // Makes the one dump beside its place.
 fn join<'a, F: LabFiles>(
-    alloc: Global,
+    room: Room<F::Reader>,
     words: &MergeWords<'a>,
     geometry: &Geometry,
     files: &mut F,
 ) -> Result<Merged<F::Target>, LabFault<'a>>
-    requires { 0 < length words.now.dumps.items }
+    requires some { 0 < length words.now.dumps.items }
+    requires merge { IsMergeRoom geometry.now (length words.now.dumps.items) room.merge }
+    requires none { room.readers.items ≡ [] }
+    requires places { length words.now.dumps.items ≤ vec_capacity room.readers }
     ensures made { IfOk result (λ told. IsJoined (F.answers files.old) (dumps_of words.now) geometry.now (F.Target.pieces told.target) told.conflicts.items told.unsound.items told.tally) }
     ensures fault { IfErr result (IsUnjoined (F.answers files.old) (dumps_of words.now) geometry.now words.now.out.now) }
     ensures no_more { AnswersNoMore (F.answers files.old) (F.answers files.new) }
     ensures beside { OnOk result (without_part (F.kept files.new) ≡ F.kept files.old) }
     ensures kept { OnErr result (F.kept files.new ≡ F.kept files.old) }
 {
-    let mut readers = Vec::new(alloc);
-    join_by(alloc, words, geometry, files, &mut readers)
+    let mut readers = room.readers;
+    join_by(room.merge, words, geometry, files, &mut readers)
 }
 
 /// The command `merge`: writes one dump of the dumps DUMP, each a reading of one die of the geometry GEOM, to the file OUT, row by row, and prints
@@ -147,8 +174,8 @@ fn join<'a, F: LabFiles>(
 /// # Errors
 ///
 /// The first of this order: `BadNumber` where GEOM writes no numbers, `Geometry` where they are no geometry, `IsDump` where OUT is one of the
-/// dumps, `Exists` where something stands at OUT and is not to be replaced, `NoFile` where that is neither a file nor a link to one, `Read` where one of the dumps cannot be opened, `Write` where no file
-/// can be made beside OUT, `OutOfMemory` where a growth was refused; then each when it happens: `Read` where a read of a dump fails,
+/// dumps, `Exists` where something stands at OUT and is not to be replaced, `NoFile` where that is neither a file nor a link to one, `OutOfMemory` where a growth was refused, `Read` where one of the
+/// dumps cannot be opened, `Write` where no file can be made beside OUT; then each when it happens: `Read` where a read of a dump fails,
 /// `DumpLength` where a dump has not as many bytes as the geometry says, `Write` where OUT cannot be written or put in its place, `Exists` where
 /// another program gave its name to a file meanwhile and it is not to be replaced. After each of these OUT is as it was, nothing stands beside it, and
 /// nothing was printed. `Write` of `-` where `out` failed: then OUT was written.
@@ -162,11 +189,12 @@ pub(crate) fn merge_command<'a, F: LabFiles, W: Output>(
 ) -> Result<(), LabFault<'a>>
     requires { 0 < length words.dumps.items }
     ensures ok { OnOk result (WroteMerge (F.answers files.old) words.entry (F.kept files.old) (F.kept files.new) (W.contents out.old) (W.contents out.new)) }
-    ensures fault { IfErr result (IsMergeFault (F.answers files.old) words.entry (F.kept files.old) (F.kept files.new) (W.failed out.new) (W.contents out.old) (W.contents out.new)) }
+    ensures fault { IfErr result (IsMergeFault (F.answers files.old) words.entry (F.kept files.old) (F.kept files.new) (F.opened files.old) (F.opened files.new) (W.failed out.new) (W.contents out.old) (W.contents out.new)) }
 {
     let geometry = geometry_at(words.geometry)?;
     allow_merge(files, &words)?;
-    let merged = join(alloc, &words, &geometry, files)?;
+    let room = take_room(alloc, &geometry, words.dumps.len())?;
+    let merged = join(room, &words, &geometry, files)?;
     keep(files, words.out, merged.target, words.force)?;
     let printer = printer(alloc, words.showing);
     match print_merged(

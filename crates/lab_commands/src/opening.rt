@@ -4,7 +4,7 @@ ghost use Rattle.lab_commands.specs.declared.files.Standing.TheVariants.{Nothing
 ghost use Rattle.lab_commands.specs.Files.{AnswersNoMore, IsOpened, with_kept, without_part};
 ghost use Rattle.lab_commands.specs.Undone.{IsGeometryAt, IsKeptThere, IsMapUnplaced, IsNoGeometry, IsReplaceable, IsUnplaced, IsUnread, IsUnwritten, MayNotWrite, MayWrite, unmade_as};
 
-use crate::files::{FileFault, KeepFault, LabFiles, Progress, Standing};
+use crate::files::{FileFault, KeepFault, LabFiles, MapText, Progress, Standing};
 use crate::text::LabFault;
 use crate::words::Showing;
 use command_words::geometry_numbers;
@@ -85,7 +85,6 @@ pub(crate) fn unmade_as<'a>(fault: MakeFault, dump: &'a str, out: &'a str) -> La
         MakeFault::WrongLength => LabFault::WrongLength,
         MakeFault::Source => LabFault::Read(dump),
         MakeFault::Target => LabFault::Write(out),
-        MakeFault::OutOfMemory => LabFault::OutOfMemory,
     }
 }
 
@@ -216,18 +215,19 @@ pub(crate) fn keep<'a, F: LabFiles>(
     }
 }
 
-/// Puts a map of these bytes in the place of a path.
-pub(crate) fn store_map<'a, F: LabFiles>(
+/// Puts a map in the place of a path.
+pub(crate) fn store_map<'a, F: LabFiles, M: MapText>(
     files: &mut F,
     path: &'a str,
-    bytes: &[u8],
+    map: &M,
     force: bool,
 ) -> Result<(), LabFault<'a>>
-    ensures ok { OnOk result (F.kept files.new ≡ with_kept (F.kept files.old) path.now (Some (bytes.now ∷ [])) force) }
+    requires { M.whole map.now }
+    ensures ok { OnOk result (F.kept files.new ≡ with_kept (F.kept files.old) path.now (Some (M.text map.now ∷ [])) force) }
     ensures fault { IfErr result (IsMapUnplaced (F.answers files.old) path.now force) }
     ensures kept { OnErr result (F.kept files.new ≡ F.kept files.old) }
 {
-    match files.store(path, bytes, force) {
+    match files.store(path, map, force) {
         Ok(()) => Ok(()),
         Err(KeepFault::Taken) => Err(LabFault::MapExists),
         Err(KeepFault::Fails(FileFault::Failed)) => Err(LabFault::Write(path)),

@@ -2,7 +2,8 @@
 ghost use Rattle.std.specs.Prelude.{◌≡◌};
 ghost use Rattle.lab_commands.specs.Undone.{TellsPrint, form_of};
 
-use crate::document::{Form, PrintFault, Printer};
+use crate::document::{Form, Printer};
+use crate::output::OutputFault;
 use crate::text::LabFault;
 use crate::words::Showing;
 use std::alloc::Global;
@@ -15,11 +16,9 @@ pub(crate) fn printer(alloc: Global, showing: Showing) -> Printer
 }
 
 /// How it is told that standard output did not take all.
-pub(crate) fn unprinted<'a>(fault: PrintFault) -> LabFault<'a>
+pub(crate) fn unprinted<'a>(fault: OutputFault) -> LabFault<'a>
     ensures { TellsPrint fault result }
 {
-    match fault {
-        PrintFault::Failed => LabFault::Write("-"),
-        PrintFault::OutOfMemory => LabFault::OutOfMemory,
-    }
+    let OutputFault = fault;
+    LabFault::Write("-")
 }

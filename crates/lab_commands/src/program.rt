@@ -25,7 +25,7 @@ fn obey<'a, F: LabFiles, W: Output>(
     out: &mut W,
 ) -> Result<(), LabFault<'a>>
     ensures ok { OnOk result (Obeyed (F.answers files.old) (texts words.now) (F.kept files.old) (F.kept files.new) (W.contents out.old) (W.contents out.new)) }
-    ensures err { IfErr result (IsRefused (F.answers files.old) (texts words.now) (F.kept files.old) (F.kept files.new) (W.failed out.new) (W.contents out.old) (W.contents out.new)) }
+    ensures err { IfErr result (IsRefused (F.answers files.old) (texts words.now) (F.kept files.old) (F.kept files.new) (F.opened files.old) (F.opened files.new) (W.failed out.new) (W.contents out.old) (W.contents out.new)) }
 {
     match parse(alloc, words) {
         Ok(Asked::Geometry(read)) => geometry_command(alloc, read, files, out),
@@ -45,7 +45,8 @@ fn obey<'a, F: LabFiles, W: Output>(
 }
 
 /// Does what the words say, and answers the exit status: 0 done, 1 refused, 2 usage, 3 input or output. `words` begins with the
-/// program's name. Of a command that was not done one line goes to `err`, and nothing to `out` unless it is `out` that failed.
+/// program's name. Of a command that was not done one line goes to `err`, and nothing to `out` unless it is `out` that failed. All memory is taken
+/// before a file is opened, but for a certificate's: so no refusal for memory depends on what a dump holds.
 ///
 /// (The words, the lines and the statuses are this project's.)
 pub fn run<F: LabFiles, W: Output, E: Output>(
@@ -55,7 +56,7 @@ pub fn run<F: LabFiles, W: Output, E: Output>(
     out: &mut W,
     err: &mut E,
 ) -> u8
-    ensures { Runs (F.answers files.old) (texts words.now) (F.kept files.old) (F.kept files.new)
+    ensures { Runs (F.answers files.old) (texts words.now) (F.kept files.old) (F.kept files.new) (F.opened files.old) (F.opened files.new)
         (record { before = W.contents out.old; after = W.contents out.new; broke = W.failed out.new })
         (record { before = E.contents err.old; after = E.contents err.new; broke = E.failed err.new }) result }
 {

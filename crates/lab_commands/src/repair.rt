@@ -1,5 +1,6 @@
 //! The command `repair GEOM DUMP OUT`.
 ghost use Rattle.std.specs.Prelude.{◌≡◌, OnOk, OnErr, IfOk, IfErr};
+ghost use Rattle.lab_mend.specs.Rooms.{IsRepairRoom};
 ghost use Rattle.lab_commands.specs.Files.{AnswersNoMore, without_part};
 ghost use Rattle.lab_commands.specs.Undone.{IsUnmade};
 ghost use Rattle.lab_commands.specs.Repair.{IsMended, IsRepairFault, WroteRepair};
@@ -13,18 +14,19 @@ use crate::rows::rows_at;
 use crate::text::LabFault;
 use crate::words::RepairWords;
 use lab_dump::Rows;
-use lab_mend::{Repaired, repair_dump};
+use lab_mend::{RepairRoom, Repaired, repair_dump};
 use page_layout::geometry::Geometry;
 use std::alloc::Global;
 
 // Makes the mended dump beside its place.
 fn mend<'a, F: LabFiles>(
-    alloc: Global,
+    room: RepairRoom,
     words: &RepairWords<'a>,
     geometry: &Geometry,
     rows: Option<Rows>,
     files: &mut F,
 ) -> Result<Repaired<F::Target>, LabFault<'a>>
+    requires { IsRepairRoom geometry.now room }
     ensures made { IfOk result (λ told. IsMended (F.answers files.old) words.now.dump.now geometry.now rows (F.Target.pieces told.target) told.mends.items) }
     ensures fault { IfErr result (IsUnmade (F.answers files.old) geometry.now words.now.dump.now words.now.out.now) }
     ensures no_more { AnswersNoMore (F.answers files.old) (F.answers files.new) }
@@ -34,7 +36,7 @@ fn mend<'a, F: LabFiles>(
     let mut dump = open_file(files, words.dump, progress_of(words.showing))?;
     let size = geometry.data_bytes() + geometry.spare_bytes();
     let target = create_beside(files, words.out, geometry.rows(), size)?;
-    match repair_dump(alloc, &mut dump, geometry, rows, target) {
+    match repair_dump(room, &mut dump, geometry, rows, target) {
         Ok(repaired) => Ok(repaired),
         Err(unwritten) => {
             files.discard(unwritten.target);
@@ -51,8 +53,8 @@ fn mend<'a, F: LabFiles>(
 ///
 /// The first of this order: `BadNumber` where GEOM writes no numbers, `Geometry` where they are no geometry, `BadNumber` where A..B is no two
 /// numbers, `RowRange` where B is less than A or more than the die has rows, `IsDump` where OUT is the dump,
-/// `Exists` where something stands at OUT and is not to be replaced, `NoFile` where that is neither a file nor a link to one, `Read` where DUMP cannot be opened, `Write` where no file can be made
-/// beside OUT, `OutOfMemory` where a growth was refused; then each when it happens: `Read` where a read of DUMP fails, `WrongLength` where
+/// `Exists` where something stands at OUT and is not to be replaced, `NoFile` where that is neither a file nor a link to one, `OutOfMemory` where a growth was
+/// refused, `Read` where DUMP cannot be opened, `Write` where no file can be made beside OUT; then each when it happens: `Read` where a read of DUMP fails, `WrongLength` where
 /// it has not as many bytes as the geometry says, `Write` where OUT cannot be written or put in its place, `Exists` where another program gave its name to a
 /// file meanwhile and it is not to be replaced. After each of these OUT is as it was, nothing stands beside it, and nothing was printed. `Write` of `-` where `out` failed: then OUT was written.
 ///
@@ -64,12 +66,13 @@ pub(crate) fn repair_command<'a, F: LabFiles, W: Output>(
     out: &mut W,
 ) -> Result<(), LabFault<'a>>
     ensures ok { OnOk result (WroteRepair (F.answers files.old) words.entry (F.kept files.old) (F.kept files.new) (W.contents out.old) (W.contents out.new)) }
-    ensures fault { IfErr result (IsRepairFault (F.answers files.old) words.entry (F.kept files.old) (F.kept files.new) (W.failed out.new) (W.contents out.old) (W.contents out.new)) }
+    ensures fault { IfErr result (IsRepairFault (F.answers files.old) words.entry (F.kept files.old) (F.kept files.new) (F.opened files.old) (F.opened files.new) (W.failed out.new) (W.contents out.old) (W.contents out.new)) }
 {
     let geometry = geometry_at(words.geometry)?;
     let rows = rows_at(words.rows, &geometry)?;
     allow(files, words.dump, words.out, words.force)?;
-    let repaired = mend(alloc, &words, &geometry, rows, files)?;
+    let room = RepairRoom::new(alloc, &geometry)?;
+    let repaired = mend(room, &words, &geometry, rows, files)?;
     keep(files, words.out, repaired.target, words.force)?;
     match print_repaired(printer(alloc, words.showing), out, &repaired.mends) {
         Ok(()) => Ok(()),

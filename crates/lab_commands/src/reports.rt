@@ -4,13 +4,13 @@ ghost use Rattle.lab_dump.specs.Held.{state_in};
 ghost use Rattle.lab_commands.specs.Document.{Prints, text_below};
 ghost use Rattle.lab_commands.specs.Reports.{array_text, blocks_text, compare_text, correct_text, count_lines, doubts_text, ending_text, fits_text, key_at, keys_text, losses_text, merge_text, repair_text, some_text, survey_lines, survey_text, table_at, ties_text};
 
-use crate::document::{PrintFault, Printer};
+use crate::document::{Printer, Report};
 use crate::lines::{
     Label, Line, Sort, factory_line, hole_line, last_line, outside_line, past_line, repeated_line,
     rewritten_line, rows_line,
 };
 use crate::lists::Lines;
-use crate::output::Output;
+use crate::output::{Output, OutputFault};
 use lab_correct::Loss;
 use lab_dump::{Compared, DieSurvey, Doubts, Fit, Held, Rows, State};
 use lab_mend::{Mend, Tally};
@@ -21,7 +21,7 @@ fn print_counts<W: Output>(
     printer: Printer,
     out: &mut W,
     survey: &DieSurvey,
-) -> Result<(), PrintFault>
+) -> Result<(), OutputFault>
     ensures { Prints (W.failed out.new) (W.contents out.old) (W.contents out.new) (some_text printer.form (count_lines survey.now)) result }
 {
     let counts = survey.counts;
@@ -49,7 +49,7 @@ fn print_tables<W: Output>(
     formed: &[bool],
     from: u32,
     count: u32,
-) -> Result<(), PrintFault>
+) -> Result<(), OutputFault>
     ensures { Prints (W.failed out.new) (W.contents out.old) (W.contents out.new) (text_below printer.form (table_at states.now from formed.now) count) result }
 {
     printer.list(out, &Lines::Tables(states, from, formed, count))
@@ -62,7 +62,7 @@ fn print_keys<W: Output>(
     geometry: &Geometry,
     states: &[State],
     formed: &[bool],
-) -> Result<(), PrintFault>
+) -> Result<(), OutputFault>
     ensures { Prints (W.failed out.new) (W.contents out.old) (W.contents out.new) (keys_text printer.form geometry.now states.now formed.now) result }
 {
     let (sectors, translations) = (geometry.sectors(), geometry.translation_pages());
@@ -88,7 +88,7 @@ fn print_kind<W: Output>(
     of: Label,
     from: u32,
     count: u32,
-) -> Result<(), PrintFault>
+) -> Result<(), OutputFault>
     ensures { Prints (W.failed out.new) (W.contents out.old) (W.contents out.new) (text_below printer.form (key_at of states.now from) count) result }
 {
     printer.list(out, &Lines::Keys(of, states, from, count))
@@ -100,7 +100,7 @@ fn print_blocks<W: Output>(
     out: &mut W,
     geometry: &Geometry,
     survey: &DieSurvey,
-) -> Result<(), PrintFault>
+) -> Result<(), OutputFault>
     ensures { Prints (W.failed out.new) (W.contents out.old) (W.contents out.new) (blocks_text printer.form geometry.now survey.now) result }
 {
     let count = geometry.blocks();
@@ -108,7 +108,7 @@ fn print_blocks<W: Output>(
 }
 
 // What a dump leaves open, and how far the array may be from the last write.
-fn print_doubts<W: Output>(printer: Printer, out: &mut W, doubts: Doubts) -> Result<(), PrintFault>
+fn print_doubts<W: Output>(printer: Printer, out: &mut W, doubts: Doubts) -> Result<(), OutputFault>
     ensures { Prints (W.failed out.new) (W.contents out.old) (W.contents out.new) (doubts_text printer.form doubts) result }
 {
     printer.list(
@@ -129,7 +129,7 @@ fn print_ending<W: Output>(
     out: &mut W,
     rows: Option<Rows>,
     survey: &DieSurvey,
-) -> Result<(), PrintFault>
+) -> Result<(), OutputFault>
     ensures { Prints (W.failed out.new) (W.contents out.old) (W.contents out.new) (ending_text printer.form rows survey.now) result }
 {
     match rows {
@@ -145,7 +145,7 @@ fn print_lines<W: Output>(
     geometry: &Geometry,
     rows: Option<Rows>,
     survey: &DieSurvey,
-) -> Result<(), PrintFault>
+) -> Result<(), OutputFault>
     ensures { Prints (W.failed out.new) (W.contents out.old) (W.contents out.new) (survey_lines printer.form geometry.now rows survey.now) result }
 {
     printer.line(out, rows_line(rows))?;
@@ -160,18 +160,17 @@ fn print_lines<W: Output>(
 ///
 /// # Errors
 ///
-/// `Failed` where a write failed, `OutOfMemory` where a growth was refused: a beginning of the document stands there, or nothing. (This
-/// project's.)
+/// Where a write failed: a part of the document stands there, and never all of it. (This project's.)
 pub fn print_survey<W: Output>(
     printer: Printer,
     out: &mut W,
     geometry: &Geometry,
     rows: Option<Rows>,
     survey: &DieSurvey,
-) -> Result<(), PrintFault>
+) -> Result<(), OutputFault>
     ensures { Prints (W.failed out.new) (W.contents out.old) (W.contents out.new) (survey_text printer.form geometry.now rows survey.now) result }
 {
-    printer.begin(out, "survey")?;
+    printer.begin(out, Report::Survey)?;
     print_lines(printer, out, geometry, rows, survey)?;
     printer.end(out)
 }
@@ -182,7 +181,7 @@ fn print_losses<W: Output>(
     out: &mut W,
     geometry: &Geometry,
     lost: &[bool],
-) -> Result<(), PrintFault>
+) -> Result<(), OutputFault>
     ensures { Prints (W.failed out.new) (W.contents out.old) (W.contents out.new) (losses_text printer.form geometry.now lost.now) result }
 {
     let count = geometry.sectors();
@@ -199,10 +198,10 @@ pub fn print_compared<W: Output>(
     out: &mut W,
     geometry: &Geometry,
     told: &Compared,
-) -> Result<(), PrintFault>
+) -> Result<(), OutputFault>
     ensures { Prints (W.failed out.new) (W.contents out.old) (W.contents out.new) (compare_text printer.form geometry.now told.now) result }
 {
-    printer.begin(out, "compare")?;
+    printer.begin(out, Report::Compare)?;
     print_losses(printer, out, geometry, &told.lost)?;
     print_doubts(printer, out, told.doubts)?;
     printer.end(out)
@@ -214,7 +213,7 @@ fn print_ties<W: Output>(
     out: &mut W,
     geometry: &Geometry,
     held: &[Held],
-) -> Result<(), PrintFault>
+) -> Result<(), OutputFault>
     ensures { Prints (W.failed out.new) (W.contents out.old) (W.contents out.new) (ties_text printer.form geometry.now (map state_in held.now)) result }
 {
     let count = geometry.sectors();
@@ -232,10 +231,10 @@ pub fn print_array<W: Output>(
     geometry: &Geometry,
     held: &[Held],
     doubts: Doubts,
-) -> Result<(), PrintFault>
+) -> Result<(), OutputFault>
     ensures { Prints (W.failed out.new) (W.contents out.old) (W.contents out.new) (array_text printer.form geometry.now (map state_in held.now) doubts) result }
 {
-    printer.begin(out, "array")?;
+    printer.begin(out, Report::Array)?;
     print_ties(printer, out, geometry, held)?;
     print_doubts(printer, out, doubts)?;
     printer.end(out)
@@ -246,10 +245,10 @@ pub fn print_array<W: Output>(
 /// # Errors
 ///
 /// As of `print_survey`. (This project's.)
-pub fn print_fits<W: Output>(printer: Printer, out: &mut W, fits: &[Fit]) -> Result<(), PrintFault>
+pub fn print_fits<W: Output>(printer: Printer, out: &mut W, fits: &[Fit]) -> Result<(), OutputFault>
     ensures { Prints (W.failed out.new) (W.contents out.old) (W.contents out.new) (fits_text printer.form fits.now) result }
 {
-    printer.begin(out, "geometry")?;
+    printer.begin(out, Report::Geometry)?;
     printer.list(out, &Lines::Fits(fits))?;
     printer.end(out)
 }
@@ -263,10 +262,10 @@ pub fn print_repaired<W: Output>(
     printer: Printer,
     out: &mut W,
     mends: &[Mend],
-) -> Result<(), PrintFault>
+) -> Result<(), OutputFault>
     ensures { Prints (W.failed out.new) (W.contents out.old) (W.contents out.new) (repair_text printer.form mends.now) result }
 {
-    printer.begin(out, "repair")?;
+    printer.begin(out, Report::Repair)?;
     printer.list(out, &Lines::Mends(mends))?;
     printer.line(out, Some(Line::MendedCount(mends.len() as u64)))?;
     printer.end(out)
@@ -283,10 +282,10 @@ pub fn print_corrected<W: Output>(
     turned: u64,
     touched: u32,
     losses: &[Loss],
-) -> Result<(), PrintFault>
+) -> Result<(), OutputFault>
     ensures { Prints (W.failed out.new) (W.contents out.old) (W.contents out.new) (correct_text printer.form turned touched losses.now) result }
 {
-    printer.begin(out, "correct")?;
+    printer.begin(out, Report::Correct)?;
     printer.list(out, &Lines::LostRows(losses))?;
     printer.line(
         out,
@@ -307,10 +306,10 @@ pub fn print_merged<W: Output>(
     conflicts: &[u32],
     unsound: &[u32],
     tally: Tally,
-) -> Result<(), PrintFault>
+) -> Result<(), OutputFault>
     ensures { Prints (W.failed out.new) (W.contents out.old) (W.contents out.new) (merge_text printer.form conflicts.now unsound.now tally) result }
 {
-    printer.begin(out, "merge")?;
+    printer.begin(out, Report::Merge)?;
     printer.list(out, &Lines::Conflicts(conflicts))?;
     printer.list(out, &Lines::Unsound(unsound))?;
     printer.line(out, Some(Line::Merged(conflicts.len() as u64, tally)))?;

@@ -1,5 +1,6 @@
 //! The command `survey GEOM DUMP`.
 ghost use Rattle.std.specs.Prelude.{◌≡◌, OnOk, IfOk, IfErr};
+ghost use Rattle.lab_dump.specs.Rooms.{IsSurveyRoom};
 ghost use Rattle.lab_commands.specs.Survey.{IsSeen, IsSurveyFault, IsUnsurveyed, ToldSurvey};
 
 use crate::files::LabFiles;
@@ -10,29 +11,29 @@ use crate::reports::print_survey;
 use crate::rows::rows_at;
 use crate::text::LabFault;
 use crate::words::{Showing, SurveyWords};
-use lab_dump::{DieSurvey, Rows, SurveyFault, survey_dump};
+use lab_dump::{DieSurvey, Rows, SurveyFault, SurveyRoom, survey_dump};
 use page_layout::geometry::Geometry;
 use std::alloc::Global;
 
 // The survey of a dump.
 fn survey_of<'a, F: LabFiles>(
-    alloc: Global,
+    room: SurveyRoom,
     dump: &'a str,
     geometry: &Geometry,
     rows: Option<Rows>,
     showing: Showing,
     files: &mut F,
 ) -> Result<DieSurvey, LabFault<'a>>
+    requires { IsSurveyRoom geometry.now room }
     ensures seen { IfOk result (IsSeen (F.answers files.old) dump.now geometry.now rows) }
     ensures fault { IfErr result (IsUnsurveyed (F.answers files.old) geometry.now dump.now) }
     ensures kept { F.kept files.new ≡ F.kept files.old }
 {
     let mut reader = open_file(files, dump, progress_of(showing))?;
-    match survey_dump(alloc, &mut reader, geometry, rows) {
+    match survey_dump(room, &mut reader, geometry, rows) {
         Ok(survey) => Ok(survey),
         Err(SurveyFault::WrongLength) => Err(LabFault::WrongLength),
         Err(SurveyFault::Source) => Err(LabFault::Read(dump)),
-        Err(SurveyFault::OutOfMemory) => Err(LabFault::OutOfMemory),
     }
 }
 
@@ -42,8 +43,8 @@ fn survey_of<'a, F: LabFiles>(
 /// # Errors
 ///
 /// The first of this order: `BadNumber` where GEOM writes no numbers, `Geometry` where they are no geometry, `BadNumber` where A..B is no two
-/// numbers, `RowRange` where B is less than A or more than the die has rows, `Read` where DUMP cannot be opened; then each when it happens: `OutOfMemory` where a growth was refused, `Read` where a read of DUMP fails, `WrongLength` where it
-/// has not as many bytes as the geometry says. After each of these nothing was printed. `Write` of `-` where `out` failed.
+/// numbers, `RowRange` where B is less than A or more than the die has rows, `OutOfMemory` where a growth was refused, `Read` where DUMP cannot be
+/// opened; then each when it happens: `Read` where a read of DUMP fails, `WrongLength` where it has not as many bytes as the geometry says. After each of these nothing was printed. `Write` of `-` where `out` failed.
 ///
 /// (This project's.)
 pub(crate) fn survey_command<'a, F: LabFiles, W: Output>(
@@ -54,11 +55,12 @@ pub(crate) fn survey_command<'a, F: LabFiles, W: Output>(
 ) -> Result<(), LabFault<'a>>
     ensures ok { OnOk result (ToldSurvey (F.answers files.old) words.entry (W.contents out.old) (W.contents out.new)) }
     ensures kept { F.kept files.new ≡ F.kept files.old }
-    ensures fault { IfErr result (IsSurveyFault (F.answers files.old) words.entry (F.kept files.old) (F.kept files.new) (W.failed out.new) (W.contents out.old) (W.contents out.new)) }
+    ensures fault { IfErr result (IsSurveyFault (F.answers files.old) words.entry (F.kept files.old) (F.kept files.new) (F.opened files.old) (F.opened files.new) (W.failed out.new) (W.contents out.old) (W.contents out.new)) }
 {
     let geometry = geometry_at(words.geometry)?;
     let rows = rows_at(words.rows, &geometry)?;
-    let survey = survey_of(alloc, words.dump, &geometry, rows, words.showing, files)?;
+    let room = SurveyRoom::new(alloc, &geometry)?;
+    let survey = survey_of(room, words.dump, &geometry, rows, words.showing, files)?;
     match print_survey(printer(alloc, words.showing), out, &geometry, rows, &survey) {
         Ok(()) => Ok(()),
         Err(fault) => Err(unprinted(fault)),

@@ -7,7 +7,7 @@ use crate::names::put_name;
 use crate::output::{Output, OutputFault};
 use certificate::CertFault;
 use page_layout::geometry::GeometryFault;
-use std::alloc::Global;
+use std::alloc::{AllocError, Global};
 
 /// The exit status of a command that was done.
 pub(crate) const DONE: u8 = 0;
@@ -49,7 +49,7 @@ pub enum LabFault<'a> {
     WrongLength,
     /// The dump of this path, one of several, has not as many bytes as the geometry says.
     DumpLength(&'a str),
-    /// A growth was refused.
+    /// A growth was refused: before a dump was opened, or of the files themselves.
     OutOfMemory,
     /// The bytes of the certificate's file are no certificate.
     Certificate(CertFault),
@@ -59,6 +59,17 @@ pub enum LabFault<'a> {
     Read(&'a str),
     /// The file of this path, or standard output where it is `-`, could not be written.
     Write(&'a str),
+}
+
+impl From<AllocError> for LabFault<'_> {
+    ghost use Rattle.std.specs.Prelude.{◌≡◌};
+    ghost use Rattle.lab_commands.specs.declared.text.LabFault.{LabFault};
+
+    ghost from_gives = { λ _ fault. fault ≡ LabFault.OutOfMemory };
+
+    fn from(_error: AllocError) -> Self {
+        LabFault::OutOfMemory
+    }
 }
 
 impl LabFault<'_> {

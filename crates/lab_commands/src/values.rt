@@ -1,356 +1,507 @@
-//! The lines of the reports, as JSON values.
-ghost use Rattle.std.specs.Prelude.{◌≡◌, codes, map, IfOk};
-ghost use Rattle.serde_json.specs.Data.{array, no_members, object, put as with_member};
-ghost use Rattle.serde_json.specs.View.{items_of, view};
-ghost use Rattle.lab_commands.specs.Values.{age_data, block_data, corrected_data, lost_row_data, count, doubt_data, fit_data, head_data, key_data, line_data, mended_data, merged_data, pages_data, plain_block_data};
-ghost use Rattle.lab_commands.specs.Values.{reason_pages_data, reason_table_data, repeated_data, rows_data, text, with_all};
+//! The lines of the reports, as JSON objects.
+ghost use Rattle.std.specs.Prelude.{codes};
+ghost use Rattle.serde_json.specs.Written.{compact_text};
+ghost use Rattle.lab_commands.specs.Document.{Prints};
+ghost use Rattle.lab_commands.specs.Lines.{label_words};
+ghost use Rattle.lab_commands.specs.Values.{age_data, block_data, corrected_data, doubt_data, fit_data, head_data, key_data, line_data, lost_data, lost_row_data, mended_count_data, mended_data, merged_data, pages_data};
+ghost use Rattle.lab_commands.specs.Values.{plain_block_data, reason_pages_data, reason_table_data, repeated_data, row_data, rows_age_data, rows_data};
 
 use crate::lines::{Label, Line, Sort, class_text, made_text, says_text};
+use crate::output::{Output, OutputFault};
+use crate::pieces::Piece::{Number, Words};
+use crate::pieces::put_pieces;
 use certificate::BlockState;
 use lab_dump::{Doubts, Fit, Rows};
 use lab_mend::{Made, Tally};
-use serde_json::{Map, Value, push, put};
-use std::alloc::{AllocError, Global};
 
-// What an object is to have under a name.
-#[derive(Clone, Copy)]
-enum Member<'a, 'b> {
-    Count(&'static str, u64),
-    Text(&'static str, &'a str),
-    Counts(&'static str, &'b [u64]),
-}
-
-use Member::{Count, Counts, Text};
-
-// A list of numbers.
-fn numbers(alloc: Global, counts: &[u64]) -> Result<Value, AllocError>
-    ensures { IfOk result (λ v. view v ≡ array (items_of (map count counts.now))) }
+// So many pages are of a sort.
+#[tactic(auto, unfolding(json::specs::Print::escape_byte))]
+fn put_pages<W: Output>(out: &mut W, sort: Sort, pages: u32) -> Result<(), OutputFault>
+    ensures { Prints (W.failed out.new) (W.contents out.old) (W.contents out.new) (compact_text (pages_data sort pages)) result }
 {
-    let mut list = Vec::new(alloc);
-    for place in 0..counts.len() {
-        push(&mut list, Value::from(counts[place]))?;
-    }
-    Ok(Value::Array(list))
-}
-
-impl Member<'_, '_> {
-    ghost use Rattle.std.specs.Prelude.{◌≡◌, IfOk};
-    ghost use Rattle.serde_json.specs.View.{view};
-    ghost use Rattle.lab_commands.specs.Values.{member_data, member_name};
-
-    // Its name.
-    fn name(self) -> &'static str
-        ensures { result.now ≡ member_name self.entry }
-    {
-        match self {
-            Member::Count(name, _) | Member::Text(name, _) | Member::Counts(name, _) => name,
-        }
-    }
-
-    // What it is.
-    fn value(self, alloc: Global) -> Result<Value, AllocError>
-        ensures { IfOk result (λ v. view v ≡ member_data self.entry) }
-    {
-        match self {
-            Member::Count(_, count) => Ok(Value::from(count)),
-            Member::Text(_, text) => Value::try_from_str(alloc, text),
-            Member::Counts(_, counts) => numbers(alloc, counts),
-        }
-    }
-}
-
-// An object of these members.
-fn object_of(alloc: Global, members: &[Member<'_, '_>]) -> Result<Value, AllocError>
-    ensures { IfOk result (λ v. view v ≡ object (with_all no_members members.now)) }
-{
-    let mut made = Map::new(alloc);
-    for place in 0..members.len() {
-        let member = members[place];
-        put(&mut made, alloc, member.name(), member.value(alloc)?)?;
-    }
-    Ok(Value::Object(made))
-}
-
-fn pages_value(alloc: Global, sort: Sort, pages: u32) -> Result<Value, AllocError>
-    ensures { IfOk result (λ v. view v ≡ pages_data sort pages) }
-{
-    object_of(
-        alloc,
+    put_pieces(
+        out,
         &[
-            Count("count", u64::from(pages)),
-            Text("line", "pages"),
-            Text("sort", sort.text()),
+            Words("{\"count\":"),
+            Number(u64::from(pages)),
+            Words(",\"line\":\"pages\",\"sort\":\""),
+            Words(sort.text()),
+            Words("\"}"),
         ],
     )
 }
 
-// A reason that tells of so many pages.
-fn reason_pages_value(alloc: Global, reason: &str, pages: u32) -> Result<Value, AllocError>
-    ensures { IfOk result (λ v. view v ≡ reason_pages_data reason.now pages) }
+// So many pages have a number out of range.
+#[tactic(auto, unfolding(json::specs::Print::escape_byte))]
+fn put_number_range<W: Output>(out: &mut W, pages: u32) -> Result<(), OutputFault>
+    ensures { Prints (W.failed out.new) (W.contents out.old) (W.contents out.new) (compact_text (reason_pages_data (codes "NumberRange") pages)) result }
 {
-    object_of(
-        alloc,
+    put_pieces(
+        out,
         &[
-            Text("line", "reason"),
-            Count("pages", u64::from(pages)),
-            Text("reason", reason),
+            Words("{\"line\":\"reason\",\"pages\":"),
+            Number(u64::from(pages)),
+            Words(",\"reason\":\"NumberRange\"}"),
         ],
     )
 }
 
-fn repeated_value(alloc: Global, first: u32, second: u32) -> Result<Value, AllocError>
-    ensures { IfOk result (λ v. view v ≡ repeated_data first second) }
+// So many pages have the last sequence.
+#[tactic(auto, unfolding(json::specs::Print::escape_byte))]
+fn put_last_sequence<W: Output>(out: &mut W, pages: u32) -> Result<(), OutputFault>
+    ensures { Prints (W.failed out.new) (W.contents out.old) (W.contents out.new) (compact_text (reason_pages_data (codes "NextSequence") pages)) result }
 {
-    object_of(
-        alloc,
+    put_pieces(
+        out,
         &[
-            Text("line", "reason"),
-            Text("reason", "SequenceRepeated"),
-            Counts("rows", &[u64::from(first), u64::from(second)]),
+            Words("{\"line\":\"reason\",\"pages\":"),
+            Number(u64::from(pages)),
+            Words(",\"reason\":\"NextSequence\"}"),
         ],
     )
 }
 
-// A reason that tells of a table page.
-fn reason_table_value(alloc: Global, reason: &str, page: u32) -> Result<Value, AllocError>
-    ensures { IfOk result (λ v. view v ≡ reason_table_data reason.now page) }
+// Two pages share a sequence.
+#[tactic(auto, unfolding(json::specs::Print::escape_byte))]
+fn put_repeated<W: Output>(out: &mut W, first: u32, second: u32) -> Result<(), OutputFault>
+    ensures { Prints (W.failed out.new) (W.contents out.old) (W.contents out.new) (compact_text (repeated_data first second)) result }
 {
-    object_of(
-        alloc,
+    put_pieces(
+        out,
         &[
-            Text("line", "reason"),
-            Text("reason", reason),
-            Count("table", u64::from(page)),
+            Words("{\"line\":\"reason\",\"reason\":\"SequenceRepeated\",\"rows\":["),
+            Number(u64::from(first)),
+            Words(","),
+            Number(u64::from(second)),
+            Words("]}"),
         ],
     )
 }
 
-// A key that is tied or missing.
-fn key_value(alloc: Global, line: &str, of: Label, number: u32) -> Result<Value, AllocError>
-    ensures { IfOk result (λ v. view v ≡ key_data line.now of number) }
+// A table page has no newest page.
+#[tactic(auto, unfolding(json::specs::Print::escape_byte))]
+fn put_not_formatted<W: Output>(out: &mut W, page: u32) -> Result<(), OutputFault>
+    ensures { Prints (W.failed out.new) (W.contents out.old) (W.contents out.new) (compact_text (reason_table_data (codes "NotFormatted") page)) result }
 {
-    object_of(
-        alloc,
+    put_pieces(
+        out,
         &[
-            Text("key", of.text()),
-            Text("line", line),
-            Count("number", u64::from(number)),
+            Words("{\"line\":\"reason\",\"reason\":\"NotFormatted\",\"table\":"),
+            Number(u64::from(page)),
+            Words("}"),
         ],
     )
 }
 
-fn block_value(
-    alloc: Global,
+// A table page is not well formed.
+#[tactic(auto, unfolding(json::specs::Print::escape_byte))]
+fn put_table_damaged<W: Output>(out: &mut W, page: u32) -> Result<(), OutputFault>
+    ensures { Prints (W.failed out.new) (W.contents out.old) (W.contents out.new) (compact_text (reason_table_data (codes "TableDamaged") page)) result }
+{
+    put_pieces(
+        out,
+        &[
+            Words("{\"line\":\"reason\",\"reason\":\"TableDamaged\",\"table\":"),
+            Number(u64::from(page)),
+            Words("}"),
+        ],
+    )
+}
+
+// A key that is tied.
+#[tactic(auto, unfolding(json::specs::Print::escape_byte))]
+fn put_tied<W: Output>(out: &mut W, of: Label, number: u32) -> Result<(), OutputFault>
+    ensures { Prints (W.failed out.new) (W.contents out.old) (W.contents out.new) (compact_text (key_data (codes "tied") of number)) result }
+{
+    put_pieces(
+        out,
+        &[
+            Words("{\"key\":\""),
+            Words(of.text()),
+            Words("\",\"line\":\"tied\",\"number\":"),
+            Number(u64::from(number)),
+            Words("}"),
+        ],
+    )
+}
+
+// A key that is missing.
+#[tactic(auto, unfolding(json::specs::Print::escape_byte))]
+fn put_missing<W: Output>(out: &mut W, of: Label, number: u32) -> Result<(), OutputFault>
+    ensures { Prints (W.failed out.new) (W.contents out.old) (W.contents out.new) (compact_text (key_data (codes "missing") of number)) result }
+{
+    put_pieces(
+        out,
+        &[
+            Words("{\"key\":\""),
+            Words(of.text()),
+            Words("\",\"line\":\"missing\",\"number\":"),
+            Number(u64::from(number)),
+            Words("}"),
+        ],
+    )
+}
+
+// A block with its state.
+#[tactic(auto, unfolding(json::specs::Print::escape_byte))]
+fn put_block<W: Output>(
+    out: &mut W,
     block: u32,
     state: BlockState,
     unsound: u32,
-) -> Result<Value, AllocError>
-    ensures { IfOk result (λ v. view v ≡ block_data block state unsound) }
+) -> Result<(), OutputFault>
+    ensures { Prints (W.failed out.new) (W.contents out.old) (W.contents out.new) (compact_text (block_data block state unsound)) result }
 {
-    object_of(
-        alloc,
+    put_pieces(
+        out,
         &[
-            Count("block", u64::from(block)),
-            Text("class", class_text(state.class)),
-            Text("line", "block"),
-            Count("live", u64::from(state.live)),
-            Count("pointer", u64::from(state.pointer)),
-            Count("unsound", u64::from(unsound)),
-            Count("wear", u64::from(state.wear)),
+            Words("{\"block\":"),
+            Number(u64::from(block)),
+            Words(",\"class\":\""),
+            Words(class_text(state.class)),
+            Words("\",\"line\":\"block\",\"live\":"),
+            Number(u64::from(state.live)),
+            Words(",\"pointer\":"),
+            Number(u64::from(state.pointer)),
+            Words(",\"unsound\":"),
+            Number(u64::from(unsound)),
+            Words(",\"wear\":"),
+            Number(u64::from(state.wear)),
+            Words("}"),
         ],
     )
 }
 
-fn plain_block_value(alloc: Global, block: u32, unsound: u32) -> Result<Value, AllocError>
-    ensures { IfOk result (λ v. view v ≡ plain_block_data block unsound) }
+// A block whose state is not known.
+#[tactic(auto, unfolding(json::specs::Print::escape_byte))]
+fn put_plain_block<W: Output>(out: &mut W, block: u32, unsound: u32) -> Result<(), OutputFault>
+    ensures { Prints (W.failed out.new) (W.contents out.old) (W.contents out.new) (compact_text (plain_block_data block unsound)) result }
 {
-    object_of(
-        alloc,
+    put_pieces(
+        out,
         &[
-            Count("block", u64::from(block)),
-            Text("line", "block"),
-            Count("unsound", u64::from(unsound)),
+            Words("{\"block\":"),
+            Number(u64::from(block)),
+            Words(",\"line\":\"block\",\"unsound\":"),
+            Number(u64::from(unsound)),
+            Words("}"),
         ],
     )
 }
 
-fn fit_value(alloc: Global, fit: Fit) -> Result<Value, AllocError>
-    ensures { IfOk result (λ v. view v ≡ fit_data fit) }
+// A sector that has lost a page.
+#[tactic(auto, unfolding(json::specs::Print::escape_byte))]
+fn put_lost<W: Output>(out: &mut W, sector: u32) -> Result<(), OutputFault>
+    ensures { Prints (W.failed out.new) (W.contents out.old) (W.contents out.new) (compact_text (lost_data sector)) result }
 {
-    object_of(
-        alloc,
+    put_pieces(
+        out,
         &[
-            Count("blocks_told", fit.blocks_told),
-            Counts(
-                "geometry",
-                &[
-                    u64::from(fit.data_bytes),
-                    u64::from(fit.spare_bytes),
-                    u64::from(fit.pages),
-                    u64::from(fit.blocks),
-                    u64::from(fit.sectors),
-                ],
-            ),
-            Text("line", "geometry"),
-            Count("looked", u64::from(fit.looked)),
-            Count("sectors_told", fit.sectors_told),
-            Count("sound", u64::from(fit.sound.0)),
-            Text("table", says_text(fit.table)),
-            Count("unsound", u64::from(fit.unsound)),
+            Words("{\"line\":\"lost\",\"sector\":"),
+            Number(u64::from(sector)),
+            Words("}"),
         ],
     )
 }
 
-fn mended_value(alloc: Global, made: Made, row: u32, bit: u32) -> Result<Value, AllocError>
-    ensures { IfOk result (λ v. view v ≡ mended_data made row bit) }
+// A geometry that fits.
+#[tactic(auto, unfolding(json::specs::Print::escape_byte))]
+fn put_fit<W: Output>(out: &mut W, fit: Fit) -> Result<(), OutputFault>
+    ensures { Prints (W.failed out.new) (W.contents out.old) (W.contents out.new) (compact_text (fit_data fit)) result }
 {
-    object_of(
-        alloc,
+    put_pieces(
+        out,
         &[
-            Count("bit", u64::from(bit)),
-            Text("line", made_text(made)),
-            Count("row", u64::from(row)),
+            Words("{\"blocks_told\":"),
+            Number(fit.blocks_told),
+            Words(",\"geometry\":["),
+            Number(u64::from(fit.data_bytes)),
+            Words(","),
+            Number(u64::from(fit.spare_bytes)),
+            Words(","),
+            Number(u64::from(fit.pages)),
+            Words(","),
+            Number(u64::from(fit.blocks)),
+            Words(","),
+            Number(u64::from(fit.sectors)),
+            Words("],\"line\":\"geometry\",\"looked\":"),
+            Number(u64::from(fit.looked)),
+            Words(",\"sectors_told\":"),
+            Number(fit.sectors_told),
+            Words(",\"sound\":"),
+            Number(u64::from(fit.sound.0)),
+            Words(",\"table\":\""),
+            Words(says_text(fit.table)),
+            Words("\",\"unsound\":"),
+            Number(u64::from(fit.unsound)),
+            Words("}"),
         ],
     )
 }
 
-fn lost_row_value(alloc: Global, row: u32, chunks: u32) -> Result<Value, AllocError>
-    ensures { IfOk result (λ v. view v ≡ lost_row_data row chunks) }
+// A page that was mended.
+#[tactic(auto, unfolding(json::specs::Print::escape_byte))]
+fn put_mended<W: Output>(out: &mut W, made: Made, row: u32, bit: u32) -> Result<(), OutputFault>
+    ensures { Prints (W.failed out.new) (W.contents out.old) (W.contents out.new) (compact_text (mended_data made row bit)) result }
 {
-    object_of(
-        alloc,
+    put_pieces(
+        out,
         &[
-            Count("chunks", u64::from(chunks)),
-            Text("line", "lost_row"),
-            Count("row", u64::from(row)),
+            Words("{\"bit\":"),
+            Number(u64::from(bit)),
+            Words(",\"line\":\""),
+            Words(made_text(made)),
+            Words("\",\"row\":"),
+            Number(u64::from(row)),
+            Words("}"),
         ],
     )
 }
 
-fn corrected_value(alloc: Global, bits: u64, rows: u32, lost: u64) -> Result<Value, AllocError>
-    ensures { IfOk result (λ v. view v ≡ corrected_data bits rows lost) }
+// How many were.
+#[tactic(auto, unfolding(json::specs::Print::escape_byte))]
+fn put_mended_count<W: Output>(out: &mut W, count: u64) -> Result<(), OutputFault>
+    ensures { Prints (W.failed out.new) (W.contents out.old) (W.contents out.new) (compact_text (mended_count_data count)) result }
 {
-    object_of(
-        alloc,
+    put_pieces(
+        out,
         &[
-            Text("line", "corrected"),
-            Count("lost", lost),
-            Count("rows", u64::from(rows)),
-            Count("turned", bits),
+            Words("{\"line\":\"repaired\",\"mended\":"),
+            Number(count),
+            Words("}"),
+        ],
+    )
+}
+
+// A row with lost chunks.
+#[tactic(auto, unfolding(json::specs::Print::escape_byte))]
+fn put_lost_row<W: Output>(out: &mut W, row: u32, chunks: u32) -> Result<(), OutputFault>
+    ensures { Prints (W.failed out.new) (W.contents out.old) (W.contents out.new) (compact_text (lost_row_data row chunks)) result }
+{
+    put_pieces(
+        out,
+        &[
+            Words("{\"chunks\":"),
+            Number(u64::from(chunks)),
+            Words(",\"line\":\"lost_row\",\"row\":"),
+            Number(u64::from(row)),
+            Words("}"),
+        ],
+    )
+}
+
+// What was turned back, and what is lost.
+#[tactic(auto, unfolding(json::specs::Print::escape_byte))]
+fn put_corrected<W: Output>(out: &mut W, bits: u64, rows: u32, lost: u64) -> Result<(), OutputFault>
+    ensures { Prints (W.failed out.new) (W.contents out.old) (W.contents out.new) (compact_text (corrected_data bits rows lost)) result }
+{
+    put_pieces(
+        out,
+        &[
+            Words("{\"line\":\"corrected\",\"lost\":"),
+            Number(lost),
+            Words(",\"rows\":"),
+            Number(u64::from(rows)),
+            Words(",\"turned\":"),
+            Number(bits),
+            Words("}"),
+        ],
+    )
+}
+
+// A row of which two sound pages differ.
+#[tactic(auto, unfolding(json::specs::Print::escape_byte))]
+fn put_differ<W: Output>(out: &mut W, row: u32) -> Result<(), OutputFault>
+    ensures { Prints (W.failed out.new) (W.contents out.old) (W.contents out.new) (compact_text (row_data (codes "differ") row)) result }
+{
+    put_pieces(
+        out,
+        &[
+            Words("{\"line\":\"differ\",\"row\":"),
+            Number(u64::from(row)),
+            Words("}"),
+        ],
+    )
+}
+
+// A row of which no page is sound.
+#[tactic(auto, unfolding(json::specs::Print::escape_byte))]
+fn put_unsound<W: Output>(out: &mut W, row: u32) -> Result<(), OutputFault>
+    ensures { Prints (W.failed out.new) (W.contents out.old) (W.contents out.new) (compact_text (row_data (codes "unsound") row)) result }
+{
+    put_pieces(
+        out,
+        &[
+            Words("{\"line\":\"unsound\",\"row\":"),
+            Number(u64::from(row)),
+            Words("}"),
+        ],
+    )
+}
+
+// How many rows of a merge are of each kind.
+#[tactic(auto, unfolding(json::specs::Print::escape_byte))]
+fn put_merged<W: Output>(out: &mut W, differ: u64, tally: Tally) -> Result<(), OutputFault>
+    ensures { Prints (W.failed out.new) (W.contents out.old) (W.contents out.new) (compact_text (merged_data differ tally)) result }
+{
+    put_pieces(
+        out,
+        &[
+            Words("{\"differ\":"),
+            Number(differ),
+            Words(",\"erased\":"),
+            Number(u64::from(tally.erased)),
+            Words(",\"line\":\"merged\",\"majority\":"),
+            Number(u64::from(tally.majority)),
+            Words(",\"sound\":"),
+            Number(u64::from(tally.sound)),
+            Words(",\"unsound\":"),
+            Number(u64::from(tally.unsound)),
+            Words("}"),
+        ],
+    )
+}
+
+// How far an array may be from the last write.
+#[tactic(auto, unfolding(json::specs::Print::escape_byte))]
+fn put_age<W: Output>(out: &mut W, doubts: Doubts) -> Result<(), OutputFault>
+    ensures { Prints (W.failed out.new) (W.contents out.old) (W.contents out.new) (compact_text (age_data doubts)) result }
+{
+    put_pieces(
+        out,
+        &[
+            Words("{\"line\":\"age\",\"older\":"),
+            Number(doubts.most_older()),
+            Words(",\"unsound\":"),
+            Number(u64::from(doubts.unsound)),
+            Words("}"),
+        ],
+    )
+}
+
+// The same of some rows alone.
+#[tactic(auto, unfolding(json::specs::Print::escape_byte))]
+fn put_age_of_rows<W: Output>(out: &mut W, unsound: u32) -> Result<(), OutputFault>
+    ensures { Prints (W.failed out.new) (W.contents out.old) (W.contents out.new) (compact_text (rows_age_data unsound)) result }
+{
+    put_pieces(
+        out,
+        &[
+            Words("{\"line\":\"rows_age\",\"unsound\":"),
+            Number(u64::from(unsound)),
+            Words("}"),
         ],
     )
 }
 
 // The rows that were asked for.
-fn rows_value(alloc: Global, rows: Rows) -> Result<Value, AllocError>
-    ensures { IfOk result (λ v. view v ≡ rows_data rows) }
+#[tactic(auto, unfolding(json::specs::Print::escape_byte))]
+fn put_rows<W: Output>(out: &mut W, rows: Rows) -> Result<(), OutputFault>
+    ensures { Prints (W.failed out.new) (W.contents out.old) (W.contents out.new) (compact_text (rows_data rows)) result }
 {
-    object_of(
-        alloc,
+    put_pieces(
+        out,
         &[
-            Count("end", u64::from(rows.end)),
-            Count("first", u64::from(rows.first)),
-            Text("line", "rows"),
+            Words("{\"end\":"),
+            Number(u64::from(rows.end)),
+            Words(",\"first\":"),
+            Number(u64::from(rows.first)),
+            Words(",\"line\":\"rows\"}"),
         ],
     )
 }
 
-// So many pages, under the name of their line.
-fn doubt_value(alloc: Global, line: &str, pages: u32) -> Result<Value, AllocError>
-    ensures { IfOk result (λ v. view v ≡ doubt_data line.now pages) }
+// Pages of blocks that the table names factory bad.
+#[tactic(auto, unfolding(json::specs::Print::escape_byte))]
+fn put_factory<W: Output>(out: &mut W, pages: u32) -> Result<(), OutputFault>
+    ensures { Prints (W.failed out.new) (W.contents out.old) (W.contents out.new) (compact_text (doubt_data (codes "factory") pages)) result }
 {
-    object_of(
-        alloc,
-        &[Text("line", line), Count("pages", u64::from(pages))],
-    )
-}
-
-fn age_value(alloc: Global, doubts: Doubts) -> Result<Value, AllocError>
-    ensures { IfOk result (λ v. view v ≡ age_data doubts) }
-{
-    object_of(
-        alloc,
+    put_pieces(
+        out,
         &[
-            Text("line", "age"),
-            Count("older", doubts.most_older()),
-            Count("unsound", u64::from(doubts.unsound)),
+            Words("{\"line\":\"factory\",\"pages\":"),
+            Number(u64::from(pages)),
+            Words("}"),
         ],
     )
 }
 
-fn merged_value(alloc: Global, differ: u64, tally: Tally) -> Result<Value, AllocError>
-    ensures { IfOk result (λ v. view v ≡ merged_data differ tally) }
+// Pages of blocks that were written again.
+#[tactic(auto, unfolding(json::specs::Print::escape_byte))]
+fn put_rewritten<W: Output>(out: &mut W, pages: u32) -> Result<(), OutputFault>
+    ensures { Prints (W.failed out.new) (W.contents out.old) (W.contents out.new) (compact_text (doubt_data (codes "rewritten") pages)) result }
 {
-    object_of(
-        alloc,
+    put_pieces(
+        out,
         &[
-            Count("differ", differ),
-            Count("erased", u64::from(tally.erased)),
-            Text("line", "merged"),
-            Count("majority", u64::from(tally.majority)),
-            Count("sound", u64::from(tally.sound)),
-            Count("unsound", u64::from(tally.unsound)),
+            Words("{\"line\":\"rewritten\",\"pages\":"),
+            Number(u64::from(pages)),
+            Words("}"),
         ],
     )
 }
 
-// A line that tells of one number.
-fn single_value(
-    alloc: Global,
-    line: &str,
-    name: &'static str,
-    number: u64,
-) -> Result<Value, AllocError>
-    ensures { IfOk result (λ v. view v ≡ object (with_member name.now (count number) (with_member (codes "line") (text line.now) no_members))) }
+// Pages that were lost.
+#[tactic(auto, unfolding(json::specs::Print::escape_byte))]
+fn put_holes<W: Output>(out: &mut W, pages: u32) -> Result<(), OutputFault>
+    ensures { Prints (W.failed out.new) (W.contents out.old) (W.contents out.new) (compact_text (doubt_data (codes "holes") pages)) result }
 {
-    object_of(alloc, &[Text("line", line), Count(name, number)])
-}
-
-/// What a document of a command begins with.
-pub(crate) fn head_value(alloc: Global, command: &str) -> Result<Value, AllocError>
-    ensures { IfOk result (λ v. view v ≡ head_data command.now) }
-{
-    object_of(
-        alloc,
+    put_pieces(
+        out,
         &[
-            Text("command", command),
-            Text("line", "command"),
-            Text("program", "nandlab"),
+            Words("{\"line\":\"holes\",\"pages\":"),
+            Number(u64::from(pages)),
+            Words("}"),
         ],
     )
 }
 
-/// The line as an object.
+// Pages of a sector past the last one.
+#[tactic(auto, unfolding(json::specs::Print::escape_byte))]
+fn put_outside<W: Output>(out: &mut W, pages: u32) -> Result<(), OutputFault>
+    ensures { Prints (W.failed out.new) (W.contents out.old) (W.contents out.new) (compact_text (doubt_data (codes "outside") pages)) result }
+{
+    put_pieces(
+        out,
+        &[
+            Words("{\"line\":\"outside\",\"pages\":"),
+            Number(u64::from(pages)),
+            Words("}"),
+        ],
+    )
+}
+
+/// Prints a line as an object.
 #[tactic(auto, unfolding(crate::specs::Values::line_data))]
-pub(crate) fn line_value(alloc: Global, line: Line) -> Result<Value, AllocError>
-    ensures { IfOk result (λ v. view v ≡ line_data line) }
+pub(crate) fn put_object<W: Output>(out: &mut W, line: Line) -> Result<(), OutputFault>
+    ensures { Prints (W.failed out.new) (W.contents out.old) (W.contents out.new) (compact_text (line_data line)) result }
 {
     match line {
-        Line::Pages(sort, count) => pages_value(alloc, sort, count),
-        Line::NumberRange(pages) => reason_pages_value(alloc, "NumberRange", pages),
-        Line::Repeated(first, second) => repeated_value(alloc, first, second),
-        Line::NotFormatted(page) => reason_table_value(alloc, "NotFormatted", page),
-        Line::TableDamaged(page) => reason_table_value(alloc, "TableDamaged", page),
-        Line::LastSequence(pages) => reason_pages_value(alloc, "NextSequence", pages),
-        Line::Tied(of, number) => key_value(alloc, "tied", of, number),
-        Line::Missing(of, number) => key_value(alloc, "missing", of, number),
-        Line::Block(block, state, unsound) => block_value(alloc, block, state, unsound),
-        Line::PlainBlock(block, unsound) => plain_block_value(alloc, block, unsound),
-        Line::Lost(sector) => single_value(alloc, "lost", "sector", u64::from(sector)),
-        Line::Fit(fit) => fit_value(alloc, fit),
-        Line::Mended(made, row, bit) => mended_value(alloc, made, row, bit),
-        Line::MendedCount(count) => single_value(alloc, "repaired", "mended", count),
-        Line::LostRow(row, chunks) => lost_row_value(alloc, row, chunks),
-        Line::Corrected(bits, rows, lost) => corrected_value(alloc, bits, rows, lost),
-        Line::Differ(row) => single_value(alloc, "differ", "row", u64::from(row)),
-        Line::Unsound(row) => single_value(alloc, "unsound", "row", u64::from(row)),
-        Line::Merged(differ, tally) => merged_value(alloc, differ, tally),
-        Line::Age(doubts) => age_value(alloc, doubts),
-        Line::AgeOfRows(unsound) => single_value(alloc, "rows_age", "unsound", u64::from(unsound)),
-        Line::OfRows(rows) => rows_value(alloc, rows),
-        Line::Factory(pages) => doubt_value(alloc, "factory", pages),
-        Line::Rewritten(pages) => doubt_value(alloc, "rewritten", pages),
-        Line::Holes(pages) => doubt_value(alloc, "holes", pages),
-        Line::Outside(pages) => doubt_value(alloc, "outside", pages),
+        Line::Pages(sort, count) => put_pages(out, sort, count),
+        Line::NumberRange(pages) => put_number_range(out, pages),
+        Line::Repeated(first, second) => put_repeated(out, first, second),
+        Line::NotFormatted(page) => put_not_formatted(out, page),
+        Line::TableDamaged(page) => put_table_damaged(out, page),
+        Line::LastSequence(pages) => put_last_sequence(out, pages),
+        Line::Tied(of, number) => put_tied(out, of, number),
+        Line::Missing(of, number) => put_missing(out, of, number),
+        Line::Block(block, state, unsound) => put_block(out, block, state, unsound),
+        Line::PlainBlock(block, unsound) => put_plain_block(out, block, unsound),
+        Line::Lost(sector) => put_lost(out, sector),
+        Line::Fit(fit) => put_fit(out, fit),
+        Line::Mended(made, row, bit) => put_mended(out, made, row, bit),
+        Line::MendedCount(count) => put_mended_count(out, count),
+        Line::LostRow(row, chunks) => put_lost_row(out, row, chunks),
+        Line::Corrected(bits, rows, lost) => put_corrected(out, bits, rows, lost),
+        Line::Differ(row) => put_differ(out, row),
+        Line::Unsound(row) => put_unsound(out, row),
+        Line::Merged(differ, tally) => put_merged(out, differ, tally),
+        Line::Age(doubts) => put_age(out, doubts),
+        Line::AgeOfRows(unsound) => put_age_of_rows(out, unsound),
+        Line::OfRows(rows) => put_rows(out, rows),
+        Line::Factory(pages) => put_factory(out, pages),
+        Line::Rewritten(pages) => put_rewritten(out, pages),
+        Line::Holes(pages) => put_holes(out, pages),
+        Line::Outside(pages) => put_outside(out, pages),
     }
 }

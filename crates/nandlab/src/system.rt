@@ -3,11 +3,13 @@ ghost use Rattle.std.specs.Prelude.{ℕ, List, false, IfErr};
 ghost use Rattle.lab_commands.specs.Files.{IsUnkept, unknown};
 
 use crate::progress::{Meter, Metered, size_of};
-use lab_commands::{FileFault, KeepFault, LabFiles, Progress, Standing};
-use lab_dump::{Dump, DumpFault, PageTarget, Pieces, Target, TargetFault};
+use lab_commands::{FileFault, KeepFault, LabFiles, MapText, Progress, Standing};
+use lab_dump::{Dump, DumpFault, LineFault, MapWriter, PageTarget, Pieces, Target, TargetFault};
 use part_files::{PartFault, SystemNames, discard, new_part, part_name, publish_new, publish_over};
+use std::alloc::Global;
+use std::fmt::Display;
 use std::fs::{self, File, Metadata};
-use std::io::{self, BufReader, Error, ErrorKind, Read, Seek, SeekFrom, Write};
+use std::io::{self, BufReader, BufWriter, Error, ErrorKind, Read, Seek, SeekFrom, Write};
 use std::os::unix::fs::FileExt;
 use std::path::PathBuf;
 use std::rt::Files;
@@ -17,6 +19,9 @@ const PROGRAM: &str = "nandlab";
 
 // The bytes that a dump's reader asks the system for at once.
 const READ_AHEAD: usize = 262_144;
+
+// The bytes of a map that are written at once.
+const MAP_BUFFER: usize = 65_536;
 
 /// The system's files, by their paths.
 #[derive(Drop)]
@@ -173,6 +178,39 @@ fn put_in_place<R: Files<File = File>>(
     }
 }
 
+/// A file that a map is printed to, through a buffer.
+#[derive(Drop)]
+pub struct LineFile<W: Write + Drop> {
+    writer: BufWriter<W>,
+}
+
+impl<W: Write + Drop> MapWriter for LineFile<W> {
+    ghost use Rattle.std.specs.Prelude.{None, true};
+
+    ghost contents = { λ _. None };
+
+    ghost failed = { λ _. true };
+
+    fn line<D: Display + Drop>(&mut self, line: D) -> Result<(), LineFault> {
+        match writeln!(self.writer, "{line}") {
+            Ok(()) => Ok(()),
+            Err(_) => Err(LineFault),
+        }
+    }
+}
+
+// Prints a map to a file, whole.
+fn print_map<M: MapText>(alloc: Global, file: &File, map: &M) -> Result<(), FileFault>
+    requires { M.whole map.now }
+{
+    let writer = BufWriter::with_capacity(alloc, MAP_BUFFER, file).map_err(fault_of)?;
+    let mut lines = LineFile { writer };
+    match map.print(&mut lines) {
+        Ok(()) => lines.writer.flush().map_err(fault_of),
+        Err(_) => Err(FileFault::Failed),
+    }
+}
+
 // What stands at a path that is no link, or where a link leads.
 fn standing_of(found: &Metadata) -> Standing {
     if found.is_file() {
@@ -285,6 +323,8 @@ impl<R: Files<File = File> + AllocGlobal, E: Write + Drop> LabFiles for SystemFi
 
     ghost kept = { λ _. None };
 
+    ghost opened = { λ _. None };
+
     fn standing(&mut self, path: &str) -> Result<Standing, FileFault> {
         match fs::symlink_metadata(self.rt, path) {
             Ok(found) if found.is_symlink() => behind_link(self.rt, path),
@@ -347,16 +387,16 @@ impl<R: Files<File = File> + AllocGlobal, E: Write + Drop> LabFiles for SystemFi
         put_in_place(self.rt, &target.file, target.name.as_str(), path, over)
     }
 
-    fn store(&mut self, path: &str, bytes: &[u8], over: bool) -> Result<(), KeepFault> {
-        let (mut file, name) = match new_beside(self.rt, path) {
+    fn store<M: MapText>(&mut self, path: &str, map: &M, over: bool) -> Result<(), KeepFault> {
+        let (file, name) = match new_beside(self.rt, path) {
             Ok(made) => made,
             Err(fault) => return Err(KeepFault::Fails(fault)),
         };
-        match file.write_all(bytes) {
+        match print_map(self.rt.alloc(), &file, map) {
             Ok(()) => put_in_place(self.rt, &file, name.as_str(), path, over),
-            Err(error) => {
+            Err(fault) => {
                 discard(&mut SystemNames::new(self.rt), name.as_str());
-                Err(KeepFault::Fails(fault_of(error)))
+                Err(KeepFault::Fails(fault))
             }
         }
     }

@@ -2,7 +2,7 @@
 ghost use Rattle.std.specs.Prelude.{IfErr};
 ghost use Rattle.lab_commands.specs.Files.{IsUnkept, unknown};
 
-use lab_commands::{FileFault, KeepFault, LabFiles, Progress, Standing};
+use lab_commands::{FileFault, KeepFault, LabFiles, MapText, Progress, Standing};
 use lab_dump::{Dump, DumpFault, DumpReader, PageTarget, Pieces, Target, TargetFault};
 use std::alloc::{AllocError, Global};
 use std::io::{self, ErrorKind, Write};
@@ -295,6 +295,8 @@ impl LabFiles for MemoryFiles {
 
     ghost kept = { λ _. None };
 
+    ghost opened = { λ _. None };
+
     fn standing(&mut self, path: &str) -> Result<Standing, FileFault> {
         let trouble = self.trouble;
         match trouble {
@@ -378,14 +380,16 @@ impl LabFiles for MemoryFiles {
         }
     }
 
-    fn store(&mut self, path: &str, bytes: &[u8], over: bool) -> Result<(), KeepFault> {
+    fn store<M: MapText>(&mut self, path: &str, map: &M, over: bool) -> Result<(), KeepFault> {
         if matches!(self.trouble, Trouble::Unstored) {
             return Err(KeepFault::Fails(FileFault::Failed));
         }
-        let Ok(copy) = Vec::from_slice(self.alloc, bytes) else {
-            return Err(KeepFault::Fails(FileFault::OutOfMemory));
-        };
-        match self.keep_bytes(path, copy, over) {
+        let mut bytes: Vec<u8> = Vec::new(self.alloc);
+        match map.print(&mut bytes) {
+            Ok(()) => (),
+            Err(_) => return Err(KeepFault::Fails(FileFault::OutOfMemory)),
+        }
+        match self.keep_bytes(path, bytes, over) {
             Ok(()) => Ok(()),
             Err(fault) => Err(fault),
         }

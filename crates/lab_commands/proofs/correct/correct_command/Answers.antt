@@ -1,4 +1,4 @@
-use Rattle.std.proofs.Common.{inl, inr, List, ap, subst, ◌∙◌}
+use Rattle.std.proofs.Common.{refl, inl, inr, List, ap, subst, ◌∙◌}
 use Rattle.std.specs.Io.KnownBytes.{Appends}
 use Rattle.std.proofs.KnownBytes.{Keeps-refl}
 use Rattle.lab_correct.specs.declared.correcting.Loss.{Loss}
@@ -12,6 +12,7 @@ use Rattle.lab_commands.proofs.PrintLemmas.{half_printed}
 use Rattle.lab_commands.specs.Reports.{correct_text}
 use Rattle.lab_commands.proofs.ArrayLemmas.{unmapped_before}
 use Rattle.lab_commands.proofs.CorrectLemmas.{no_chip, no_geometry, not_allowed, not_put}
+use Rattle.lab_commands.specs.declared.text.LabFault.TheVariants as fault
 use Rattle.lab_commands.proofs.UndoneLemmas.{handed_on, no_more_then, unplaced_before}
 use Rattle.lab_commands.proofs.correct.correct_command.Goals as goal
 
@@ -21,7 +22,7 @@ returns-in_err-geometry-clause-fault g c =
     let k = g.F.LabFiles.kept c.args.files.now in
     let o = g.W.Output.contents c.args.out.now in
     let broke = g.W.Output.failed c.args.out.now in
-    handed_on (IsCorrectFault a c.args.words k k broke o o) _ _ c.from_residual.ensures.1 (no_geometry a c.args.words k broke o _ c.in_err-geometry.ensures.fault)
+    handed_on (IsCorrectFault a c.args.words k k (g.F.LabFiles.opened c.args.files.now) (g.F.LabFiles.opened c.args.files.now) broke o o) _ _ c.from_residual.ensures.1 (no_geometry a c.args.words k _ _ broke o _ c.in_err-geometry.ensures.fault)
 
 pub returns-in_err-chip-clause-fault : goal.returns-in_err-chip-clause-fault
 returns-in_err-chip-clause-fault g c =
@@ -29,7 +30,7 @@ returns-in_err-chip-clause-fault g c =
     let k = g.F.LabFiles.kept c.args.files.now in
     let o = g.W.Output.contents c.args.out.now in
     let broke = g.W.Output.failed c.args.out.now in
-    handed_on (IsCorrectFault a c.args.words k k broke o o) _ _ c.from_residual-in_err-chip.ensures.1 (no_chip a c.args.words c.in_ok-geometry.geometry k broke o _ c.in_ok-geometry.ensures.ok c.in_err-chip.ensures.fault)
+    handed_on (IsCorrectFault a c.args.words k k (g.F.LabFiles.opened c.args.files.now) (g.F.LabFiles.opened c.args.files.now) broke o o) _ _ c.from_residual-in_err-chip.ensures.1 (no_chip a c.args.words c.in_ok-geometry.geometry k _ _ broke o _ c.in_ok-geometry.ensures.ok c.in_err-chip.ensures.fault)
 
 pub returns-in_err-allow_both-clause-fault : goal.returns-in_err-allow_both-clause-fault
 returns-in_err-allow_both-clause-fault g c =
@@ -37,8 +38,8 @@ returns-in_err-allow_both-clause-fault g c =
     let k = g.F.LabFiles.kept c.args.files.now in
     let o = g.W.Output.contents c.args.out.now in
     let broke = g.W.Output.failed c.args.out.now in
-    handed_on (IsCorrectFault a c.args.words k (g.F.LabFiles.kept c.allow_both.new.files) broke o o) _ _ c.from_residual-in_err-allow_both.ensures.1
-    (not_allowed a c.args.words c.in_ok-geometry.geometry c.in_ok-chip.chip.raw k _ broke o _ c.in_ok-geometry.ensures.ok c.in_ok-chip.ensures.ok (ap g.F.LabFiles.kept c.in_err-allow_both.ensures.same) c.in_err-allow_both.ensures.fault)
+    handed_on (IsCorrectFault a c.args.words k (g.F.LabFiles.kept c.allow_both.new.files) (g.F.LabFiles.opened c.args.files.now) (g.F.LabFiles.opened c.allow_both.new.files) broke o o) _ _ c.from_residual-in_err-allow_both.ensures.1
+    (not_allowed a c.args.words c.in_ok-geometry.geometry c.in_ok-chip.chip.raw k _ _ _ broke o _ c.in_ok-geometry.ensures.ok c.in_ok-chip.ensures.ok (ap g.F.LabFiles.kept c.in_err-allow_both.ensures.same) c.in_err-allow_both.ensures.fault)
 
 pub returns-in_err-told-clause-fault : goal.returns-in_err-told-clause-fault
 returns-in_err-told-clause-fault g c =
@@ -47,9 +48,9 @@ returns-in_err-told-clause-fault g c =
     let o = g.W.Output.contents c.args.out.now in
     let broke = g.W.Output.failed c.args.out.now in
     let same = c.in_ok-allow_both.ensures.same in
-    handed_on (IsCorrectFault a c.args.words k (g.F.LabFiles.kept c.put_right.new.files) broke o o) _ _ c.from_residual-in_err-told.ensures.1
-    (not_put a c.args.words c.in_ok-geometry.geometry c.in_ok-chip.chip.raw k _ broke o _ c.in_ok-geometry.ensures.ok c.in_ok-chip.ensures.ok c.in_ok-allow_both.ensures.ok (c.in_err-told.ensures.kept ∙ ap g.F.LabFiles.kept same)
-    (inl (subst (λ f. IsUnmade (g.F.LabFiles.answers f) c.in_ok-chip.chip.raw c.args.words.dump.now c.args.words.out.now c.in_err-told.field-0.0) same c.in_err-told.ensures.fault)))
+    handed_on (IsCorrectFault a c.args.words k (g.F.LabFiles.kept c.put_right.new.files) (g.F.LabFiles.opened c.args.files.now) (g.F.LabFiles.opened c.put_right.new.files) broke o o) _ _ c.from_residual-in_err-told.ensures.1
+    (not_put a c.args.words c.in_ok-geometry.geometry c.in_ok-chip.chip.raw k _ _ _ broke o _ c.in_ok-geometry.ensures.ok c.in_ok-chip.ensures.ok c.in_ok-allow_both.ensures.ok (c.in_err-told.ensures.kept ∙ ap g.F.LabFiles.kept same)
+    (inr (inl (subst (λ f. IsUnmade (g.F.LabFiles.answers f) c.in_ok-chip.chip.raw c.args.words.dump.now c.args.words.out.now c.in_err-told.field-0.0) same c.in_err-told.ensures.fault))))
 
 pub returns-in_err-keep-clause-fault : goal.returns-in_err-keep-clause-fault
 returns-in_err-keep-clause-fault g c =
@@ -60,9 +61,9 @@ returns-in_err-keep-clause-fault g c =
     let broke = g.W.Output.failed c.args.out.now in
     let same = c.in_ok-allow_both.ensures.same in
     let more : AnswersNoMore a b = subst (λ f. AnswersNoMore (g.F.LabFiles.answers f) b) same c.in_ok-told.ensures.no_more in
-    handed_on (IsCorrectFault a c.args.words k (g.F.LabFiles.kept c.keep.new.files) broke o o) _ _ c.from_residual-in_err-keep.ensures.1
-    (not_put a c.args.words c.in_ok-geometry.geometry c.in_ok-chip.chip.raw k _ broke o _ c.in_ok-geometry.ensures.ok c.in_ok-chip.ensures.ok c.in_ok-allow_both.ensures.ok (c.in_err-keep.ensures.kept ∙ (c.in_ok-told.ensures.beside ∙ ap g.F.LabFiles.kept same))
-    (inr (unplaced_before a b c.args.words.out.now c.args.words.force _ more c.in_err-keep.ensures.fault)))
+    handed_on (IsCorrectFault a c.args.words k (g.F.LabFiles.kept c.keep.new.files) (g.F.LabFiles.opened c.args.files.now) (g.F.LabFiles.opened c.keep.new.files) broke o o) _ _ c.from_residual-in_err-keep.ensures.1
+    (not_put a c.args.words c.in_ok-geometry.geometry c.in_ok-chip.chip.raw k _ _ _ broke o _ c.in_ok-geometry.ensures.ok c.in_ok-chip.ensures.ok c.in_ok-allow_both.ensures.ok (c.in_err-keep.ensures.kept ∙ (c.in_ok-told.ensures.beside ∙ ap g.F.LabFiles.kept same))
+    (inr (inr (unplaced_before a b c.args.words.out.now c.args.words.force _ more c.in_err-keep.ensures.fault))))
 
 pub returns-in_err-put_map-clause-fault : goal.returns-in_err-put_map-clause-fault
 returns-in_err-put_map-clause-fault g c =
@@ -86,7 +87,7 @@ returns-in_err-put_map-clause-fault g c =
       allowed = c.in_ok-allow_both.ensures.ok;
       made = subst (λ f. IsPutRight (g.F.LabFiles.answers f) words.dump.now geometry c.in_ok-chip.chip.raw pieces counts) same c.in_ok-told.ensures.made;
     } in
-    handed_on (IsCorrectFault a words k (g.F.LabFiles.kept c.put_map.new.files) broke o o) _ _ c.from_residual-in_err-put_map.ensures.1
+    handed_on (IsCorrectFault a words k (g.F.LabFiles.kept c.put_map.new.files) (g.F.LabFiles.opened c.args.files.now) (g.F.LabFiles.opened c.put_map.new.files) broke o o) _ _ c.from_residual-in_err-put_map.ensures.1
     (inr (inl (record {
       g = geometry;
       pieces = pieces;
@@ -96,6 +97,16 @@ returns-in_err-put_map-clause-fault g c =
       silent = Keeps-refl o;
       unmapped = unmapped_before a d words _ (no_more_then a b d first c.in_ok-keep.ensures.no_more) c.in_err-put_map.ensures.fault;
     })))
+
+pub returns-in_err-room-clause-fault : goal.returns-in_err-room-clause-fault
+returns-in_err-room-clause-fault g c =
+    let a = g.F.LabFiles.answers c.args.files.now in
+    let k = g.F.LabFiles.kept c.args.files.now in
+    let n = g.F.LabFiles.opened c.args.files.now in
+    let o = g.W.Output.contents c.args.out.now in
+    let broke = g.W.Output.failed c.args.out.now in
+    handed_on (IsCorrectFault a c.args.words k (g.F.LabFiles.kept c.allow_both.new.files) n (g.F.LabFiles.opened c.allow_both.new.files) broke o o) _ fault.OutOfMemory c.from_residual-in_err-room.ensures.1
+    (not_put a c.args.words c.in_ok-geometry.geometry c.in_ok-chip.chip.raw k _ n _ broke o _ c.in_ok-geometry.ensures.ok c.in_ok-chip.ensures.ok c.in_ok-allow_both.ensures.ok (ap g.F.LabFiles.kept c.in_ok-allow_both.ensures.same) (inl (refl, ap g.F.LabFiles.opened c.in_ok-allow_both.ensures.same)))
 
 pub returns-in-Ok-clause-ok : goal.returns-in-Ok-clause-ok
 returns-in-Ok-clause-ok g c =

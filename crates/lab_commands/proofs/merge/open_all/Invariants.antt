@@ -1,4 +1,5 @@
 use Rattle.std.proofs.Common.{◌≡◌, ◌<◌, map}
+use Rattle.std.specs.Prelude.{vec_capacity}
 use Rattle.program_words.specs.Met.{texts}
 use Rattle.lab_commands.specs.Files.{AnswersNoMore}
 use Rattle.lab_commands.specs.Merge.{AreOpenedBelow}
@@ -10,5 +11,6 @@ invariant-loop-place g l = record {
   no_more : AnswersNoMore (g.F.LabFiles.answers l.fn.files) (g.F.LabFiles.answers l.files);
   kept : g.F.LabFiles.kept l.files ≡ g.F.LabFiles.kept l.fn.files;
   opened : AreOpenedBelow (g.F.LabFiles.answers l.fn.files) (texts l.dumps) (map g.F.Reader.DumpReader.remaining l.readers.items) l.place;
+  places : vec_capacity l.readers ≡ vec_capacity l.fn.readers;
   fails : 0 < l.place → TellsFailing g.F.Reader.DumpReader.failed (g.F.LabFiles.answers l.fn.files).reads_fail;
 }

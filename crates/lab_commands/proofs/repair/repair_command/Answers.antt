@@ -1,4 +1,4 @@
-use Rattle.std.proofs.Common.{inl, inr, List, ap, subst, ◌∙◌}
+use Rattle.std.proofs.Common.{refl, inl, inr, List, ap, subst, ◌∙◌}
 use Rattle.std.specs.Io.KnownBytes.{Appends}
 use Rattle.lab_mend.specs.declared.repairing.Mend.{Mend}
 use Rattle.lab_commands.specs.Undone.{IsUnmade}
@@ -8,6 +8,7 @@ use Rattle.lab_commands.specs.Reports.{repair_text}
 use Rattle.lab_commands.specs.Repair.{IsMended, IsRepairFault, PutRepair}
 use Rattle.lab_commands.specs.Files.{AnswersNoMore, with_kept}
 use Rattle.lab_commands.proofs.RepairLemmas.{no_geometry, no_rows, not_allowed, not_put}
+use Rattle.lab_commands.specs.declared.text.LabFault.TheVariants as fault
 use Rattle.lab_commands.proofs.UndoneLemmas.{handed_on, unplaced_before}
 use Rattle.lab_commands.proofs.repair.repair_command.Goals as goal
 
@@ -17,7 +18,7 @@ returns-in_err-geometry-clause-fault g c =
     let k = g.F.LabFiles.kept c.args.files.now in
     let o = g.W.Output.contents c.args.out.now in
     let broke = g.W.Output.failed c.args.out.now in
-    handed_on (IsRepairFault a c.args.words k k broke o o) _ _ c.from_residual.ensures.1 (no_geometry a c.args.words k broke o _ c.in_err-geometry.ensures.fault)
+    handed_on (IsRepairFault a c.args.words k k (g.F.LabFiles.opened c.args.files.now) (g.F.LabFiles.opened c.args.files.now) broke o o) _ _ c.from_residual.ensures.1 (no_geometry a c.args.words k _ _ broke o _ c.in_err-geometry.ensures.fault)
 
 pub returns-in_err-rows-clause-fault : goal.returns-in_err-rows-clause-fault
 returns-in_err-rows-clause-fault g c =
@@ -25,7 +26,7 @@ returns-in_err-rows-clause-fault g c =
     let k = g.F.LabFiles.kept c.args.files.now in
     let o = g.W.Output.contents c.args.out.now in
     let broke = g.W.Output.failed c.args.out.now in
-    handed_on (IsRepairFault a c.args.words k k broke o o) _ _ c.from_residual-in_err-rows.ensures.1 (no_rows a c.args.words c.in_ok-geometry.geometry k broke o _ c.in_ok-geometry.ensures.ok c.in_err-rows.ensures.fault)
+    handed_on (IsRepairFault a c.args.words k k (g.F.LabFiles.opened c.args.files.now) (g.F.LabFiles.opened c.args.files.now) broke o o) _ _ c.from_residual-in_err-rows.ensures.1 (no_rows a c.args.words c.in_ok-geometry.geometry k _ _ broke o _ c.in_ok-geometry.ensures.ok c.in_err-rows.ensures.fault)
 
 pub returns-in_err-allow-clause-fault : goal.returns-in_err-allow-clause-fault
 returns-in_err-allow-clause-fault g c =
@@ -33,8 +34,8 @@ returns-in_err-allow-clause-fault g c =
     let k = g.F.LabFiles.kept c.args.files.now in
     let o = g.W.Output.contents c.args.out.now in
     let broke = g.W.Output.failed c.args.out.now in
-    handed_on (IsRepairFault a c.args.words k (g.F.LabFiles.kept c.allow.new.files) broke o o) _ _ c.from_residual-in_err-allow.ensures.1
-    (not_allowed a c.args.words c.in_ok-geometry.geometry c.in_ok-rows.rows k _ broke o _ c.in_ok-geometry.ensures.ok c.in_ok-rows.ensures.ok (ap g.F.LabFiles.kept c.in_err-allow.ensures.same) c.in_err-allow.ensures.fault)
+    handed_on (IsRepairFault a c.args.words k (g.F.LabFiles.kept c.allow.new.files) (g.F.LabFiles.opened c.args.files.now) (g.F.LabFiles.opened c.allow.new.files) broke o o) _ _ c.from_residual-in_err-allow.ensures.1
+    (not_allowed a c.args.words c.in_ok-geometry.geometry c.in_ok-rows.rows k _ _ _ broke o _ c.in_ok-geometry.ensures.ok c.in_ok-rows.ensures.ok (ap g.F.LabFiles.kept c.in_err-allow.ensures.same) c.in_err-allow.ensures.fault)
 
 pub returns-in_err-repaired-clause-fault : goal.returns-in_err-repaired-clause-fault
 returns-in_err-repaired-clause-fault g c =
@@ -43,9 +44,9 @@ returns-in_err-repaired-clause-fault g c =
     let o = g.W.Output.contents c.args.out.now in
     let broke = g.W.Output.failed c.args.out.now in
     let same = c.in_ok-allow.ensures.same in
-    handed_on (IsRepairFault a c.args.words k (g.F.LabFiles.kept c.mend.new.files) broke o o) _ _ c.from_residual-in_err-repaired.ensures.1
-    (not_put a c.args.words c.in_ok-geometry.geometry c.in_ok-rows.rows k _ broke o _ c.in_ok-geometry.ensures.ok c.in_ok-rows.ensures.ok c.in_ok-allow.ensures.ok (c.in_err-repaired.ensures.kept ∙ ap g.F.LabFiles.kept same)
-    (inl (subst (λ f. IsUnmade (g.F.LabFiles.answers f) c.in_ok-geometry.geometry c.args.words.dump.now c.args.words.out.now c.in_err-repaired.field-0.0) same c.in_err-repaired.ensures.fault)))
+    handed_on (IsRepairFault a c.args.words k (g.F.LabFiles.kept c.mend.new.files) (g.F.LabFiles.opened c.args.files.now) (g.F.LabFiles.opened c.mend.new.files) broke o o) _ _ c.from_residual-in_err-repaired.ensures.1
+    (not_put a c.args.words c.in_ok-geometry.geometry c.in_ok-rows.rows k _ _ _ broke o _ c.in_ok-geometry.ensures.ok c.in_ok-rows.ensures.ok c.in_ok-allow.ensures.ok (c.in_err-repaired.ensures.kept ∙ ap g.F.LabFiles.kept same)
+    (inr (inl (subst (λ f. IsUnmade (g.F.LabFiles.answers f) c.in_ok-geometry.geometry c.args.words.dump.now c.args.words.out.now c.in_err-repaired.field-0.0) same c.in_err-repaired.ensures.fault))))
 
 pub returns-in_err-keep-clause-fault : goal.returns-in_err-keep-clause-fault
 returns-in_err-keep-clause-fault g c =
@@ -56,9 +57,19 @@ returns-in_err-keep-clause-fault g c =
     let broke = g.W.Output.failed c.args.out.now in
     let same = c.in_ok-allow.ensures.same in
     let more : AnswersNoMore a b = subst (λ f. AnswersNoMore (g.F.LabFiles.answers f) b) same c.in_ok-repaired.ensures.no_more in
-    handed_on (IsRepairFault a c.args.words k (g.F.LabFiles.kept c.keep.new.files) broke o o) _ _ c.from_residual-in_err-keep.ensures.1
-    (not_put a c.args.words c.in_ok-geometry.geometry c.in_ok-rows.rows k _ broke o _ c.in_ok-geometry.ensures.ok c.in_ok-rows.ensures.ok c.in_ok-allow.ensures.ok (c.in_err-keep.ensures.kept ∙ (c.in_ok-repaired.ensures.beside ∙ ap g.F.LabFiles.kept same))
-    (inr (unplaced_before a b c.args.words.out.now c.args.words.force _ more c.in_err-keep.ensures.fault)))
+    handed_on (IsRepairFault a c.args.words k (g.F.LabFiles.kept c.keep.new.files) (g.F.LabFiles.opened c.args.files.now) (g.F.LabFiles.opened c.keep.new.files) broke o o) _ _ c.from_residual-in_err-keep.ensures.1
+    (not_put a c.args.words c.in_ok-geometry.geometry c.in_ok-rows.rows k _ _ _ broke o _ c.in_ok-geometry.ensures.ok c.in_ok-rows.ensures.ok c.in_ok-allow.ensures.ok (c.in_err-keep.ensures.kept ∙ (c.in_ok-repaired.ensures.beside ∙ ap g.F.LabFiles.kept same))
+    (inr (inr (unplaced_before a b c.args.words.out.now c.args.words.force _ more c.in_err-keep.ensures.fault))))
+
+pub returns-in_err-room-clause-fault : goal.returns-in_err-room-clause-fault
+returns-in_err-room-clause-fault g c =
+    let a = g.F.LabFiles.answers c.args.files.now in
+    let k = g.F.LabFiles.kept c.args.files.now in
+    let n = g.F.LabFiles.opened c.args.files.now in
+    let o = g.W.Output.contents c.args.out.now in
+    let broke = g.W.Output.failed c.args.out.now in
+    handed_on (IsRepairFault a c.args.words k (g.F.LabFiles.kept c.allow.new.files) n (g.F.LabFiles.opened c.allow.new.files) broke o o) _ fault.OutOfMemory c.from_residual-in_err-room.ensures.1
+    (not_put a c.args.words c.in_ok-geometry.geometry c.in_ok-rows.rows k _ n _ broke o _ c.in_ok-geometry.ensures.ok c.in_ok-rows.ensures.ok c.in_ok-allow.ensures.ok (ap g.F.LabFiles.kept c.in_ok-allow.ensures.same) (inl (refl, ap g.F.LabFiles.opened c.in_ok-allow.ensures.same)))
 
 pub returns-in-Ok-clause-ok : goal.returns-in-Ok-clause-ok
 returns-in-Ok-clause-ok g c =

@@ -2,7 +2,7 @@
 use super::{PAGE, PAGES};
 use crate::tests::dumps::{changed, set};
 use crate::tests::files::{Beside, MemoryReader};
-use lab_mend::{MergeFault, Tally, merge_dumps};
+use lab_mend::{MergeFault, MergeRoom, Tally, merge_dumps};
 use page_layout::geometry::Geometry;
 use std::alloc::Global;
 use std::test::Fail;
@@ -55,7 +55,8 @@ fn are_merged(
         MemoryReader::new(alloc, dumps[1])?,
         MemoryReader::new(alloc, dumps[2])?,
     ];
-    let Ok(told) = merge_dumps(alloc, &mut readers, geometry, target) else {
+    let room = MergeRoom::new(alloc, geometry, 3)?;
+    let Ok(told) = merge_dumps(room, &mut readers, geometry, target) else {
         return Ok(false);
     };
     Ok(
@@ -86,7 +87,8 @@ fn is_second_named(alloc: Global, geometry: &Geometry, dump: &[u8]) -> Result<bo
         MemoryReader::new(alloc, dump)?,
         MemoryReader::new(alloc, &[])?,
     ];
-    match merge_dumps(alloc, &mut readers, geometry, target) {
+    let room = MergeRoom::new(alloc, geometry, 2)?;
+    match merge_dumps(room, &mut readers, geometry, target) {
         Ok(_) => Ok(false),
         Err(unmerged) => Ok(unmerged.fault == MergeFault::WrongLength(1)),
     }

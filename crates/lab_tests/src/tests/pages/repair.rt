@@ -2,7 +2,7 @@
 use super::{PAGE, PAGES};
 use crate::tests::files::{Beside, MemoryReader};
 use lab_dump::Rows;
-use lab_mend::{Made, Mend, repair_dump};
+use lab_mend::{Made, Mend, RepairRoom, repair_dump};
 use page_layout::geometry::Geometry;
 use std::alloc::Global;
 use std::test::Fail;
@@ -116,7 +116,8 @@ fn holds(alloc: Global, geometry: &Geometry, dump: &[u8], case: &Case) -> Result
     turn_back(&mut want, case.mends);
     let target = Beside::new(vec![in alloc; 0u8; dump.len()]?, PAGE);
     let mut reader = MemoryReader::new(alloc, dump)?;
-    let Ok(told) = repair_dump(alloc, &mut reader, geometry, case.rows, target) else {
+    let room = RepairRoom::new(alloc, geometry)?;
+    let Ok(told) = repair_dump(room, &mut reader, geometry, case.rows, target) else {
         return Ok(false);
     };
     Ok(told.mends.as_slice() == case.mends && told.target.bytes == want)

@@ -1,0 +1,209 @@
+-- Words that stand in JSON as they are.
+use Rattle.std.proofs.Common.{◌≡◌, ℕ, List, [], ◌∷◌, ◌++◌, Bool, true, false, refl, sym, ap, ◌∙◌, append_assoc}
+use Rattle.std.specs.Fmt.{decimal}
+use Rattle.certificate.specs.declared.block_state.BlockState.{BlockState}
+use Rattle.serde_json.specs.Written.{compact_text}
+use Rattle.lab_dump.specs.declared.fit.Fit.{Fit}
+use Rattle.lab_dump.specs.declared.doubts.Doubts.{Doubts}
+use Rattle.lab_dump.specs.declared.rows.Rows.{Rows}
+use Rattle.lab_dump.specs.Doubts.{most_older}
+use Rattle.lab_mend.specs.declared.merging.Tally.{Tally}
+use Rattle.lab_commands.specs.Values.{age_data, block_data, corrected_data, doubt_data, fit_data, head_data, key_data, lost_data, lost_row_data, mended_count_data, mended_data, merged_data, pages_data}
+use Rattle.lab_commands.specs.Values.{plain_block_data, reason_pages_data, reason_table_data, repeated_data, row_data, rows_age_data, rows_data}
+use Rattle.std.specs.Prelude.{codes, ◌==◌, if◌then◌else◌}
+use Rattle.json.specs.Print.{escape, escape_byte, quoted}
+use Rattle.lab_dump.specs.declared.fit.TableSays.{TableSays}
+use Rattle.lab_dump.specs.declared.fit.TableSays.TheVariants.{Agrees, Short, Silent, Differs}
+use Rattle.lab_mend.specs.declared.mending.Made.{Made}
+use Rattle.lab_mend.specs.declared.mending.Made.TheVariants as made
+use Rattle.lab_commands.specs.declared.lines.Label.{Label}
+use Rattle.lab_commands.specs.declared.lines.Label.TheVariants as label
+use Rattle.lab_commands.specs.declared.lines.Sort.{Sort}
+use Rattle.lab_commands.specs.declared.lines.Sort.TheVariants as sort
+use Rattle.lab_commands.specs.declared.document.Report.{Report}
+use Rattle.lab_commands.specs.declared.document.Report.TheVariants as report
+use Rattle.lab_commands.specs.Document.{report_words}
+use Rattle.lab_commands.specs.Lines.{class_words, label_words, made_words, says_words, sort_words}
+
+-- what stands between the quotes, and what follows
+pub quoted_in : (w rest : List ℕ) → escape w ≡ w → quoted w ++ rest ≡ 34 ∷ (w ++ 34 ∷ rest)
+quoted_in w rest plain = ap (λ t. 34 ∷ t) (append_assoc (escape w) (34 ∷ []) rest ∙ ap (λ t. t ++ 34 ∷ rest) plain)
+
+pub plain_sort : (s : Sort) → escape (sort_words s) ≡ sort_words s
+unfolding escape_byte
+plain_sort sort.Data = refl
+plain_sort sort.Trim = refl
+plain_sort sort.Translation = refl
+plain_sort sort.Table = refl
+plain_sort sort.Erased = refl
+plain_sort sort.Unsound = refl
+
+pub plain_label : (l : Label) → escape (label_words l) ≡ label_words l
+unfolding escape_byte
+plain_label label.Sector = refl
+plain_label label.Translation = refl
+plain_label label.Table = refl
+
+-- by which class it is
+by : (a b d e f : Bool) → List ℕ
+by a b d e f =
+    if a then codes "free" else (if b then codes "data" else (if d then codes "mapping" else (
+    if e then codes "closed" else (if f then codes "factory" else codes "grown"))))
+
+plain_by : (a b d e f : Bool) → escape (by a b d e f) ≡ by a b d e f
+unfolding escape_byte by
+plain_by true b d e f = refl
+plain_by false true d e f = refl
+plain_by false false true e f = refl
+plain_by false false false true f = refl
+plain_by false false false false true = refl
+plain_by false false false false false = refl
+
+pub plain_class : (c : ℕ) → escape (class_words c) ≡ class_words c
+unfolding by
+plain_class c = plain_by (c == 0) (c == 1) (c == 2) (c == 3) (c == 4)
+
+pub plain_says : (t : TableSays) → escape (says_words t) ≡ says_words t
+unfolding escape_byte
+plain_says Agrees = refl
+plain_says Short = refl
+plain_says Silent = refl
+plain_says Differs = refl
+
+pub plain_made : (m : Made) → escape (made_words m) ≡ made_words m
+unfolding escape_byte
+plain_made made.Sound = refl
+plain_made made.Erased = refl
+
+pub plain_report : (r : Report) → escape (report_words r) ≡ report_words r
+unfolding escape_byte
+plain_report report.Geometry = refl
+plain_report report.Survey = refl
+plain_report report.Array = refl
+plain_report report.Compare = refl
+plain_report report.Merge = refl
+plain_report report.Repair = refl
+plain_report report.Correct = refl
+
+-- the numbers of a list, and what follows it
+pub list_of_two : (a b rest : List ℕ) → (a ++ 44 ∷ (b ++ 93 ∷ [])) ++ rest ≡ a ++ 44 ∷ (b ++ 93 ∷ rest)
+list_of_two a b rest = append_assoc a (44 ∷ (b ++ 93 ∷ [])) rest ∙ ap (λ t. a ++ 44 ∷ t) (append_assoc b (93 ∷ []) rest)
+
+pub list_of_five : (a b d e f rest : List ℕ) → (a ++ 44 ∷ (b ++ 44 ∷ (d ++ 44 ∷ (e ++ 44 ∷ (f ++ 93 ∷ []))))) ++ rest ≡ a ++ 44 ∷ (b ++ 44 ∷ (d ++ 44 ∷ (e ++ 44 ∷ (f ++ 93 ∷ rest))))
+list_of_five a b d e f rest =
+    append_assoc a (44 ∷ (b ++ 44 ∷ (d ++ 44 ∷ (e ++ 44 ∷ (f ++ 93 ∷ []))))) rest
+    ∙ ap (λ t. a ++ 44 ∷ t) (append_assoc b (44 ∷ (d ++ 44 ∷ (e ++ 44 ∷ (f ++ 93 ∷ [])))) rest
+    ∙ ap (λ t. b ++ 44 ∷ t) (append_assoc d (44 ∷ (e ++ 44 ∷ (f ++ 93 ∷ []))) rest ∙ ap (λ t. d ++ 44 ∷ t) (list_of_two e f rest)))
+
+-- ---- each line, piece by piece, is the text of its object
+
+pub pages_json : (sort : Sort) (pages : ℕ) (r1 : ℕ) (w : List ℕ) → r1 ≡ pages → w ≡ sort_words sort → codes "{\"count\":" ++ (decimal r1 ++ (codes ",\"line\":\"pages\",\"sort\":\"" ++ (w ++ codes "\"}"))) ≡ compact_text (pages_data sort pages)
+unfolding escape_byte
+pages_json sort pages r1 w e1 ew = rw (e1, ew) (ap (λ t. codes "{\"count\":" ++ (decimal pages ++ (codes ",\"line\":\"pages\",\"sort\":" ++ t))) (sym (quoted_in (sort_words sort) (codes "}") (plain_sort sort))))
+
+pub number_range_json : (pages : ℕ) (r1 : ℕ) → r1 ≡ pages → codes "{\"line\":\"reason\",\"pages\":" ++ (decimal r1 ++ codes ",\"reason\":\"NumberRange\"}") ≡ compact_text (reason_pages_data (codes "NumberRange") pages)
+unfolding escape_byte
+number_range_json pages r1 e1 = rw (e1) (refl)
+
+pub last_sequence_json : (pages : ℕ) (r1 : ℕ) → r1 ≡ pages → codes "{\"line\":\"reason\",\"pages\":" ++ (decimal r1 ++ codes ",\"reason\":\"NextSequence\"}") ≡ compact_text (reason_pages_data (codes "NextSequence") pages)
+unfolding escape_byte
+last_sequence_json pages r1 e1 = rw (e1) (refl)
+
+pub repeated_json : (first : ℕ) (second : ℕ) (r1 : ℕ) (r2 : ℕ) → r1 ≡ first → r2 ≡ second → codes "{\"line\":\"reason\",\"reason\":\"SequenceRepeated\",\"rows\":[" ++ (decimal r1 ++ (codes "," ++ (decimal r2 ++ codes "]}"))) ≡ compact_text (repeated_data first second)
+unfolding escape_byte
+repeated_json first second r1 r2 e1 e2 = rw (e1, e2) (ap (λ t. codes "{\"line\":\"reason\",\"reason\":\"SequenceRepeated\",\"rows\":[" ++ t) (sym (list_of_two (decimal first) (decimal second) (codes "}"))))
+
+pub not_formatted_json : (page : ℕ) (r1 : ℕ) → r1 ≡ page → codes "{\"line\":\"reason\",\"reason\":\"NotFormatted\",\"table\":" ++ (decimal r1 ++ codes "}") ≡ compact_text (reason_table_data (codes "NotFormatted") page)
+unfolding escape_byte
+not_formatted_json page r1 e1 = rw (e1) (refl)
+
+pub table_damaged_json : (page : ℕ) (r1 : ℕ) → r1 ≡ page → codes "{\"line\":\"reason\",\"reason\":\"TableDamaged\",\"table\":" ++ (decimal r1 ++ codes "}") ≡ compact_text (reason_table_data (codes "TableDamaged") page)
+unfolding escape_byte
+table_damaged_json page r1 e1 = rw (e1) (refl)
+
+pub tied_json : (of : Label) (number : ℕ) (w : List ℕ) (r1 : ℕ) → w ≡ label_words of → r1 ≡ number → codes "{\"key\":\"" ++ (w ++ (codes "\",\"line\":\"tied\",\"number\":" ++ (decimal r1 ++ codes "}"))) ≡ compact_text (key_data (codes "tied") of number)
+unfolding escape_byte
+tied_json of number w r1 ew e1 = rw (ew, e1) (ap (λ t. codes "{\"key\":" ++ t) (sym (quoted_in (label_words of) (codes ",\"line\":\"tied\",\"number\":" ++ (decimal number ++ codes "}")) (plain_label of))))
+
+pub missing_json : (of : Label) (number : ℕ) (w : List ℕ) (r1 : ℕ) → w ≡ label_words of → r1 ≡ number → codes "{\"key\":\"" ++ (w ++ (codes "\",\"line\":\"missing\",\"number\":" ++ (decimal r1 ++ codes "}"))) ≡ compact_text (key_data (codes "missing") of number)
+unfolding escape_byte
+missing_json of number w r1 ew e1 = rw (ew, e1) (ap (λ t. codes "{\"key\":" ++ t) (sym (quoted_in (label_words of) (codes ",\"line\":\"missing\",\"number\":" ++ (decimal number ++ codes "}")) (plain_label of))))
+
+pub block_json : (block : ℕ) (state : BlockState) (unsound : ℕ) (r1 : ℕ) (w : List ℕ) (r2 : ℕ) (r3 : ℕ) (r4 : ℕ) (r5 : ℕ) → r1 ≡ block → w ≡ class_words state.class → r2 ≡ state.live → r3 ≡ state.pointer → r4 ≡ unsound → r5 ≡ state.wear → codes "{\"block\":" ++ (decimal r1 ++ (codes ",\"class\":\"" ++ (w ++ (codes "\",\"line\":\"block\",\"live\":" ++ (decimal r2 ++ (codes ",\"pointer\":" ++ (decimal r3 ++ (codes ",\"unsound\":" ++ (decimal r4 ++ (codes ",\"wear\":" ++ (decimal r5 ++ codes "}"))))))))))) ≡ compact_text (block_data block state unsound)
+unfolding escape_byte
+block_json block state unsound r1 w r2 r3 r4 r5 e1 ew e2 e3 e4 e5 = rw (e1, ew, e2, e3, e4, e5) (ap (λ t. codes "{\"block\":" ++ (decimal block ++ (codes ",\"class\":" ++ t))) (sym (quoted_in (class_words state.class) (codes ",\"line\":\"block\",\"live\":" ++ (decimal state.live ++ (codes ",\"pointer\":" ++ (decimal state.pointer ++ (codes ",\"unsound\":" ++ (decimal unsound ++ (codes ",\"wear\":" ++ (decimal state.wear ++ codes "}")))))))) (plain_class state.class))))
+
+pub plain_block_json : (block : ℕ) (unsound : ℕ) (r1 : ℕ) (r2 : ℕ) → r1 ≡ block → r2 ≡ unsound → codes "{\"block\":" ++ (decimal r1 ++ (codes ",\"line\":\"block\",\"unsound\":" ++ (decimal r2 ++ codes "}"))) ≡ compact_text (plain_block_data block unsound)
+unfolding escape_byte
+plain_block_json block unsound r1 r2 e1 e2 = rw (e1, e2) (refl)
+
+pub lost_json : (sector : ℕ) (r1 : ℕ) → r1 ≡ sector → codes "{\"line\":\"lost\",\"sector\":" ++ (decimal r1 ++ codes "}") ≡ compact_text (lost_data sector)
+unfolding escape_byte
+lost_json sector r1 e1 = rw (e1) (refl)
+
+pub fit_json : (fit : Fit) (r1 : ℕ) (r2 : ℕ) (r3 : ℕ) (r4 : ℕ) (r5 : ℕ) (r6 : ℕ) (r7 : ℕ) (w : List ℕ) (r8 : ℕ) → r1 ≡ fit.data_bytes → r2 ≡ fit.spare_bytes → r3 ≡ fit.pages → r4 ≡ fit.blocks → r5 ≡ fit.sectors → r6 ≡ fit.looked → r7 ≡ fit.sound.0 → w ≡ says_words fit.table → r8 ≡ fit.unsound → codes "{\"blocks_told\":" ++ (decimal fit.blocks_told ++ (codes ",\"geometry\":[" ++ (decimal r1 ++ (codes "," ++ (decimal r2 ++ (codes "," ++ (decimal r3 ++ (codes "," ++ (decimal r4 ++ (codes "," ++ (decimal r5 ++ (codes "],\"line\":\"geometry\",\"looked\":" ++ (decimal r6 ++ (codes ",\"sectors_told\":" ++ (decimal fit.sectors_told ++ (codes ",\"sound\":" ++ (decimal r7 ++ (codes ",\"table\":\"" ++ (w ++ (codes "\",\"unsound\":" ++ (decimal r8 ++ codes "}"))))))))))))))))))))) ≡ compact_text (fit_data fit)
+unfolding escape_byte
+fit_json fit r1 r2 r3 r4 r5 r6 r7 w r8 e1 e2 e3 e4 e5 e6 e7 ew e8 = rw (e1, e2, e3, e4, e5, e6, e7, ew, e8) (ap (λ t. codes "{\"blocks_told\":" ++ (decimal fit.blocks_told ++ (codes ",\"geometry\":[" ++ (decimal fit.data_bytes ++ (codes "," ++ (decimal fit.spare_bytes ++ (codes "," ++ (decimal fit.pages ++ (codes "," ++ (decimal fit.blocks ++ (codes "," ++ (decimal fit.sectors ++ (codes "],\"line\":\"geometry\",\"looked\":" ++ (decimal fit.looked ++ (codes ",\"sectors_told\":" ++ (decimal fit.sectors_told ++ (codes ",\"sound\":" ++ (decimal fit.sound.0 ++ (codes ",\"table\":" ++ t))))))))))))))))))) (sym (quoted_in (says_words fit.table) (codes ",\"unsound\":" ++ (decimal fit.unsound ++ codes "}")) (plain_says fit.table)))
+    ∙ ap (λ t. codes "{\"blocks_told\":" ++ (decimal fit.blocks_told ++ (codes ",\"geometry\":[" ++ t)))
+    (sym (list_of_five (decimal fit.data_bytes) (decimal fit.spare_bytes) (decimal fit.pages) (decimal fit.blocks) (decimal fit.sectors)
+    (codes ",\"line\":\"geometry\",\"looked\":" ++ (decimal fit.looked ++ (codes ",\"sectors_told\":" ++ (decimal fit.sectors_told ++ (codes ",\"sound\":" ++ (decimal fit.sound.0 ++ (codes ",\"table\":" ++ (quoted (says_words fit.table) ++ (codes ",\"unsound\":" ++ (decimal fit.unsound ++ codes "}")))))))))))))
+
+pub mended_json : (made : Made) (row : ℕ) (bit : ℕ) (r1 : ℕ) (w : List ℕ) (r2 : ℕ) → r1 ≡ bit → w ≡ made_words made → r2 ≡ row → codes "{\"bit\":" ++ (decimal r1 ++ (codes ",\"line\":\"" ++ (w ++ (codes "\",\"row\":" ++ (decimal r2 ++ codes "}"))))) ≡ compact_text (mended_data made row bit)
+unfolding escape_byte
+mended_json made row bit r1 w r2 e1 ew e2 = rw (e1, ew, e2) (ap (λ t. codes "{\"bit\":" ++ (decimal bit ++ (codes ",\"line\":" ++ t))) (sym (quoted_in (made_words made) (codes ",\"row\":" ++ (decimal row ++ codes "}")) (plain_made made))))
+
+pub mended_count_json : (count : ℕ) → codes "{\"line\":\"repaired\",\"mended\":" ++ (decimal count ++ codes "}") ≡ compact_text (mended_count_data count)
+unfolding escape_byte
+mended_count_json count = refl
+
+pub lost_row_json : (row : ℕ) (chunks : ℕ) (r1 : ℕ) (r2 : ℕ) → r1 ≡ chunks → r2 ≡ row → codes "{\"chunks\":" ++ (decimal r1 ++ (codes ",\"line\":\"lost_row\",\"row\":" ++ (decimal r2 ++ codes "}"))) ≡ compact_text (lost_row_data row chunks)
+unfolding escape_byte
+lost_row_json row chunks r1 r2 e1 e2 = rw (e1, e2) (refl)
+
+pub corrected_json : (bits : ℕ) (rows : ℕ) (lost : ℕ) (r1 : ℕ) → r1 ≡ rows → codes "{\"line\":\"corrected\",\"lost\":" ++ (decimal lost ++ (codes ",\"rows\":" ++ (decimal r1 ++ (codes ",\"turned\":" ++ (decimal bits ++ codes "}"))))) ≡ compact_text (corrected_data bits rows lost)
+unfolding escape_byte
+corrected_json bits rows lost r1 e1 = rw (e1) (refl)
+
+pub differ_json : (row : ℕ) (r1 : ℕ) → r1 ≡ row → codes "{\"line\":\"differ\",\"row\":" ++ (decimal r1 ++ codes "}") ≡ compact_text (row_data (codes "differ") row)
+unfolding escape_byte
+differ_json row r1 e1 = rw (e1) (refl)
+
+pub unsound_json : (row : ℕ) (r1 : ℕ) → r1 ≡ row → codes "{\"line\":\"unsound\",\"row\":" ++ (decimal r1 ++ codes "}") ≡ compact_text (row_data (codes "unsound") row)
+unfolding escape_byte
+unsound_json row r1 e1 = rw (e1) (refl)
+
+pub merged_json : (differ : ℕ) (tally : Tally) (r1 : ℕ) (r2 : ℕ) (r3 : ℕ) (r4 : ℕ) → r1 ≡ tally.erased → r2 ≡ tally.majority → r3 ≡ tally.sound → r4 ≡ tally.unsound → codes "{\"differ\":" ++ (decimal differ ++ (codes ",\"erased\":" ++ (decimal r1 ++ (codes ",\"line\":\"merged\",\"majority\":" ++ (decimal r2 ++ (codes ",\"sound\":" ++ (decimal r3 ++ (codes ",\"unsound\":" ++ (decimal r4 ++ codes "}"))))))))) ≡ compact_text (merged_data differ tally)
+unfolding escape_byte
+merged_json differ tally r1 r2 r3 r4 e1 e2 e3 e4 = rw (e1, e2, e3, e4) (refl)
+
+pub age_json : (doubts : Doubts) (m : ℕ) (r1 : ℕ) → m ≡ most_older doubts → r1 ≡ doubts.unsound → codes "{\"line\":\"age\",\"older\":" ++ (decimal m ++ (codes ",\"unsound\":" ++ (decimal r1 ++ codes "}"))) ≡ compact_text (age_data doubts)
+unfolding escape_byte
+age_json doubts m r1 em e1 = rw (em, e1) (refl)
+
+pub age_of_rows_json : (unsound : ℕ) (r1 : ℕ) → r1 ≡ unsound → codes "{\"line\":\"rows_age\",\"unsound\":" ++ (decimal r1 ++ codes "}") ≡ compact_text (rows_age_data unsound)
+unfolding escape_byte
+age_of_rows_json unsound r1 e1 = rw (e1) (refl)
+
+pub rows_json : (rows : Rows) (r1 : ℕ) (r2 : ℕ) → r1 ≡ rows.end → r2 ≡ rows.first → codes "{\"end\":" ++ (decimal r1 ++ (codes ",\"first\":" ++ (decimal r2 ++ codes ",\"line\":\"rows\"}"))) ≡ compact_text (rows_data rows)
+unfolding escape_byte
+rows_json rows r1 r2 e1 e2 = rw (e1, e2) (refl)
+
+pub factory_json : (pages : ℕ) (r1 : ℕ) → r1 ≡ pages → codes "{\"line\":\"factory\",\"pages\":" ++ (decimal r1 ++ codes "}") ≡ compact_text (doubt_data (codes "factory") pages)
+unfolding escape_byte
+factory_json pages r1 e1 = rw (e1) (refl)
+
+pub rewritten_json : (pages : ℕ) (r1 : ℕ) → r1 ≡ pages → codes "{\"line\":\"rewritten\",\"pages\":" ++ (decimal r1 ++ codes "}") ≡ compact_text (doubt_data (codes "rewritten") pages)
+unfolding escape_byte
+rewritten_json pages r1 e1 = rw (e1) (refl)
+
+pub holes_json : (pages : ℕ) (r1 : ℕ) → r1 ≡ pages → codes "{\"line\":\"holes\",\"pages\":" ++ (decimal r1 ++ codes "}") ≡ compact_text (doubt_data (codes "holes") pages)
+unfolding escape_byte
+holes_json pages r1 e1 = rw (e1) (refl)
+
+pub outside_json : (pages : ℕ) (r1 : ℕ) → r1 ≡ pages → codes "{\"line\":\"outside\",\"pages\":" ++ (decimal r1 ++ codes "}") ≡ compact_text (doubt_data (codes "outside") pages)
+unfolding escape_byte
+outside_json pages r1 e1 = rw (e1) (refl)
+
+pub head_json : (r : Report) (w : List ℕ) → w ≡ report_words r → codes "[{\"command\":\"" ++ (w ++ codes "\",\"line\":\"command\",\"program\":\"nandlab\"}") ≡ codes "[" ++ compact_text (head_data (report_words r))
+unfolding escape_byte
+head_json r w ew = rw (ew) (ap (λ t. codes "[{\"command\":" ++ t) (sym (quoted_in (report_words r) (codes ",\"line\":\"command\",\"program\":\"nandlab\"}") (plain_report r))))

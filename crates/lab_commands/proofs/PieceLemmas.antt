@@ -1,0 +1,87 @@
+-- Pieces of a text, one after another.
+use Rattle.std.proofs.Common.{◌≡◌, ◌+◌, ◌<◌, ℕ, zero, suc, List, [], ◌∷◌, ◌++◌, length, take, drop, get_or, Option, refl, sym, ap, subst, ◌∙◌, append_assoc, append-nil, arith}
+use Rattle.std.proofs.Math.Seq.{take-suc}
+use Rattle.std.specs.Io.KnownBytes.{Appends}
+use Rattle.std.proofs.KnownBytes.{Appends-nil, Appends-trans}
+use Rattle.std.specs.Prelude.{Bool, true, false, ◌==◌, if◌then◌else◌, codes}
+use Rattle.std.specs.Fmt.{decimal}
+use Rattle.lab_dump.specs.declared.fit.Fit.{Fit}
+use Rattle.lab_dump.specs.declared.doubts.Doubts.{Doubts}
+use Rattle.lab_dump.specs.Doubts.{most_older}
+use Rattle.lab_commands.specs.Lines.{age_words, fit_words, moved_words, says_words, whole_words}
+use Rattle.lab_commands.specs.declared.output.OutputFault.{OutputFault}
+use Rattle.lab_commands.specs.declared.pieces.Piece.{Piece}
+use Rattle.lab_commands.specs.Document.{Stops}
+use Rattle.lab_commands.specs.Pieces.{piece_text, pieces_text}
+use Rattle.lab_commands.proofs.PrintLemmas.{stops_after, stops_more}
+
+pieces_cons : (p : Piece) (rest : List Piece) → pieces_text (p ∷ rest) ≡ piece_text p ++ pieces_text rest
+pieces_cons p [] = sym (append-nil (piece_text p))
+pieces_cons p (q ∷ rest) = refl
+
+pieces_both : (xs ys : List Piece) → pieces_text (xs ++ ys) ≡ pieces_text xs ++ pieces_text ys
+pieces_both [] ys = refl
+pieces_both (p ∷ rest) ys =
+    pieces_cons p (rest ++ ys) ∙ (ap (λ t. piece_text p ++ t) (pieces_both rest ys) ∙ (sym (append_assoc (piece_text p) (pieces_text rest) (pieces_text ys)) ∙ ap (λ t. t ++ pieces_text ys) (sym (pieces_cons p rest))))
+
+-- one more
+next_piece : (ps : List Piece) (n : ℕ) (d : Piece) → n < length ps → pieces_text (take (n + 1) ps) ≡ pieces_text (take n ps) ++ piece_text (get_or ps n d)
+next_piece ps n d l =
+    let next : n + 1 ≡ suc n = omega arith in
+    ap (λ m. pieces_text (take m ps)) next ∙ (ap pieces_text (take-suc ps n d l) ∙ pieces_both (take n ps) (get_or ps n d ∷ []))
+
+pub none_put : (ps : List Piece) (a : Option (List ℕ)) → Appends a a (pieces_text (take 0 ps))
+none_put ps a = Appends-nil a
+
+pub one_put : (ps : List Piece) (n : ℕ) (d : Piece) (a b e : Option (List ℕ)) → n < length ps → Appends a b (pieces_text (take n ps)) → Appends b e (piece_text (get_or ps n d)) → Appends a e (pieces_text (take (n + 1) ps))
+one_put ps n d a b e l first last = subst (λ t. Appends a e t) (sym (next_piece ps n d l)) (Appends-trans a b e (pieces_text (take n ps)) (piece_text (get_or ps n d)) first last)
+
+whole : (ps : List Piece) (n : ℕ) → pieces_text ps ≡ pieces_text (take n ps) ++ pieces_text (drop n ps)
+whole ps n = ap pieces_text (sym (Rattle.std.proofs.Common.take-append-drop n ps)) ∙ pieces_both (take n ps) (drop n ps)
+
+-- where it stopped in one of them, behind those before it
+pub stopped_put : (f : OutputFault) (broke : Bool) (ps : List Piece) (n : ℕ) (d : Piece) (a b e : Option (List ℕ)) → n < length ps → Appends a b (pieces_text (take n ps)) → Stops f broke b e (piece_text (get_or ps n d)) → Stops f broke a e (pieces_text ps)
+stopped_put f broke ps n d a b e l first last =
+    let front = stops_after f broke a b e (pieces_text (take n ps)) (piece_text (get_or ps n d)) first last in
+    subst (λ t. Stops f broke a e t) (sym (whole ps (n + 1)))
+    (stops_more f broke a e (pieces_text (take (n + 1) ps)) (pieces_text (drop (n + 1) ps)) (subst (λ t. Stops f broke a e t) (sym (next_piece ps n d l)) front))
+
+-- ---- lines that are told of in parts
+
+-- a geometry that fits, piece by piece
+pub fit_flat : (f : Fit) → codes "geometry " ++ (decimal f.data_bytes ++ (codes "," ++ (decimal f.spare_bytes ++ (codes "," ++ (decimal f.pages ++ (codes "," ++ (decimal f.blocks ++ (codes "," ++ (decimal f.sectors
+    ++ (codes " looked " ++ (decimal f.looked ++ (codes " sound " ++ (decimal f.sound.0 ++ (codes " unsound " ++ (decimal f.unsound
+    ++ (codes " table " ++ (says_words f.table ++ (codes " blocks " ++ (decimal f.blocks_told ++ (codes " sectors " ++ decimal f.sectors_told)))))))))))))))))))) ≡ fit_words f
+fit_flat f = simp append_assoc
+
+pub fit_pieces : (f : Fit) (r1 r2 r3 r4 r5 r6 r7 r8 : ℕ) (w : List ℕ) → r1 ≡ f.data_bytes → r2 ≡ f.spare_bytes → r3 ≡ f.pages → r4 ≡ f.blocks → r5 ≡ f.sectors → r6 ≡ f.looked → r7 ≡ f.sound.0 → r8 ≡ f.unsound → w ≡ says_words f.table
+    → codes "geometry " ++ (decimal r1 ++ (codes "," ++ (decimal r2 ++ (codes "," ++ (decimal r3 ++ (codes "," ++ (decimal r4 ++ (codes "," ++ (decimal r5 ++ (codes " looked " ++ (decimal r6 ++ (codes " sound " ++ (decimal r7 ++ (codes " unsound " ++ (decimal r8
+    ++ (codes " table " ++ (w ++ (codes " blocks " ++ (decimal f.blocks_told ++ (codes " sectors " ++ decimal f.sectors_told)))))))))))))))))))) ≡ fit_words f
+fit_pieces f r1 r2 r3 r4 r5 r6 r7 r8 w e1 e2 e3 e4 e5 e6 e7 e8 ew = rw (e1, e2, e3, e4, e5, e6, e7, e8, ew) (fit_flat f)
+
+nonzero : (m : ℕ) → ¬ (m ≡ 0) → (m == 0) ≡ false
+nonzero zero h = absurd (h refl)
+nonzero (suc n) h = grind arith
+
+-- what is claimed of an array, where no sector may be older
+age_whole_by : (d : Doubts) (b : Bool) → b ≡ true → codes "unsound " ++ (decimal d.unsound ++ (whole_words d.outside ++ (codes ", if no page was lost behind the last one of its block" ++ moved_words d.rewritten)))
+    ≡ codes "unsound " ++ (decimal d.unsound ++ ((if b then whole_words d.outside else (codes ": at most " ++ (decimal (most_older d) ++ codes " sectors may be older than the last write"))) ++ (codes ", if no page was lost behind the last one of its block" ++ moved_words d.rewritten)))
+age_whole_by d true is = refl
+age_whole_by d false is = absurd cc
+
+pub age_whole : (d : Doubts) (u m : ℕ) (w v : List ℕ) → u ≡ d.unsound → m ≡ most_older d → m ≡ 0 → w ≡ whole_words d.outside → v ≡ moved_words d.rewritten
+    → codes "unsound " ++ (decimal u ++ (w ++ (codes ", if no page was lost behind the last one of its block" ++ v))) ≡ age_words d
+age_whole d u m w v eu em is ew ev = rw (eu, ew, ev) (age_whole_by d (most_older d == 0) (ap (λ k. k == 0) (sym em ∙ is)))
+
+-- and where some may
+age_older_by : (d : Doubts) (b : Bool) → b ≡ false
+    → codes "unsound " ++ (decimal d.unsound ++ (codes ": at most " ++ (decimal (most_older d) ++ (codes " sectors may be older than the last write" ++ (codes ", if no page was lost behind the last one of its block" ++ moved_words d.rewritten)))))
+    ≡ codes "unsound " ++ (decimal d.unsound ++ ((if b then whole_words d.outside else (codes ": at most " ++ (decimal (most_older d) ++ codes " sectors may be older than the last write"))) ++ (codes ", if no page was lost behind the last one of its block" ++ moved_words d.rewritten)))
+age_older_by d true is = absurd cc
+age_older_by d false is =
+    ap (λ t. codes "unsound " ++ (decimal d.unsound ++ (codes ": at most " ++ t)))
+    (sym (append_assoc (decimal (most_older d)) (codes " sectors may be older than the last write") (codes ", if no page was lost behind the last one of its block" ++ moved_words d.rewritten)))
+
+pub age_older : (d : Doubts) (u m : ℕ) (v : List ℕ) → u ≡ d.unsound → m ≡ most_older d → ¬ (m ≡ 0) → v ≡ moved_words d.rewritten
+    → codes "unsound " ++ (decimal u ++ (codes ": at most " ++ (decimal m ++ (codes " sectors may be older than the last write" ++ (codes ", if no page was lost behind the last one of its block" ++ v))))) ≡ age_words d
+age_older d u m v eu em is ev = rw (eu, em, ev) (age_older_by d (most_older d == 0) (ap (λ k. k == 0) (sym em) ∙ nonzero m is))
