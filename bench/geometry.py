@@ -1,11 +1,11 @@
 #!/usr/bin/env python3
-"""Holds the geometries that fit a dump, as `lab_dump` finds them, against the independent reference, on dumps of pseudorandom making;
+"""Holds the geometries that fit a dump, as `lab_correct` finds them with and without codes, against the independent reference, on dumps of pseudorandom making;
 with `--time`, times them on a dump of 264 MiB beside `sha256sum`.
 
     [FIND=..] bench/geometry.py [CASES] [SEED]
     [FIND=..] bench/geometry.py --time
 
-FIND is a program built of bench/geometry_program.txt over `lab_dump` (a crate of its own, with `rt run`). It prints a line for each
+FIND is a program built of bench/geometry_program.txt over `lab_dump` and `lab_correct` (a crate of its own, with `rt run`). It prints a line for each
 geometry, best first. It is counted in how many dumps the dump's own geometry comes first."""
 
 import os
@@ -16,6 +16,7 @@ import tempfile
 from pathlib import Path
 
 import compare
+import lab
 import measure
 import reference as ref
 
@@ -26,8 +27,8 @@ MORE = [(64, 128, 8, 48, 40), (64, 64, 16, 64, 300), (128, 32, 16, 20, 100), (25
 
 def lines_of(raw):
     lines = []
-    for numbers, looked, sound, unsound, table, blocks, sectors in ref.geometries(raw):
-        shape = ",".join(map(str, numbers))
+    for coded, numbers, looked, sound, unsound, table, blocks, sectors in ref.geometries(raw):
+        shape = ",".join(map(str, numbers)) + (" codes hamming" if coded else "")
         lines.append(f"{shape} looked {looked} sound {sound} unsound {unsound} table {table} blocks {blocks} sectors {sectors}\n")
     return lines
 
@@ -57,14 +58,18 @@ def has_table(image):
 def case(rng, folder):
     """Whether the dump's own geometry comes first, and whether it has a whole table of blocks; none where no page is sound."""
     g, image = dump_for(rng)
-    raw = image.raw()
+    raw, page = image.raw(), g.page
+    if coded := rng.random() < 0.5:
+        # as on a chip, with codes and wrong bits
+        raw = lab.spoiled(rng, g, raw)
+        page = len(raw) // g.rows
     if rng.random() < 0.1:
         raw = raw[: rng.randrange(len(raw))]
     (folder / "dump.bin").write_bytes(raw)
     done = subprocess.run([FIND, "dump.bin"], cwd=folder, capture_output=True, check=True)
     want = lines_of(raw)
     assert done.stdout.decode() == "".join(want), (g.words(), done.stdout.decode(), want)
-    if len(raw) != g.rows * g.page or all(record is None for record in image.records):
+    if not want or len(raw) != g.rows * page or all(record is None for record in image.records):
         return None
     first = want[0].split(" ")[0].split(",")[:4]
     return first == [str(g.data), str(g.spare), str(g.pages), str(g.blocks)], has_table(image)

@@ -6,6 +6,7 @@ import hashlib
 import struct
 
 import device_model as model
+from hamming import put_right, turn
 
 NONE = 0xFFFFFFFF
 MOST_WEAR = 16777215
@@ -540,27 +541,51 @@ def least_of(record, body, entries):
     return 0, record.number * entries + 1 if record.kind == 3 else record.number + 1
 
 
+def outer_of(data, spare):
+    """How many bytes a spare area of so many has with its codes: three for each 256 bytes of the data area, and three for itself."""
+    return spare + 3 * (-(-data // 256) + 1)
+
+
+def decoded(data, spare, page):
+    """A page of a chip without its codes, put right; where a chunk is lost 00h bytes."""
+    if turn(page[data : data + spare], page[data + spare :][:3]) is None:
+        return bytes(data + spare)
+    found, _, lost = put_right(data, spare, page)
+    return bytes(data + spare) if lost else found
+
+
+def fits(rows, data, spare, page_of):
+    """Those of the geometries with such areas that fit so many pages, each with what is said for it."""
+    page, shapes = data + spare, shapes_of(rows * (data + spare), data, spare)
+    if not shapes:
+        return []
+    pages = [page_of(row) for row in looked_rows(rows)]
+    sound = sum(record_of(p[:data], p[data:]) is not None for p in pages)
+    if sound == 0:
+        return []
+    unsound = sum(p != b"\xff" * page for p in pages) - sound
+    records = [(record_of(p[:data], p[data:]), p[:data]) for p in map(page_of, range(rows))]
+    least = [least_of(record, body, data // 4) for record, body in records if record]
+    blocks, sectors, found = max((b for b, _ in least), default=0), max((s for _, s in least), default=0), []
+    for g in shapes:
+        table = "silent" if blocks == 0 else "agrees" if blocks == g.blocks else "short" if blocks > g.blocks else "differs"
+        missing = max(0, min(blocks, 4096) - g.blocks) * g.pages
+        numbers = data, spare, g.pages, g.blocks, min(max(sectors, 1), 1048576)
+        order = (-sound, ["agrees", "short", "silent", "differs"].index(table), missing, unsound * page, *numbers, len(pages), unsound, blocks, sectors)
+        found.append((order, numbers, len(pages), sound, unsound, table, blocks, sectors))
+    return found
+
+
 def geometries(raw):
-    """The geometries that fit a dump, best first: data, spare, pages, blocks, sectors, and what is said for each."""
+    """The geometries that fit a dump, best first: whether its pages stand with their codes; data, spare, pages, blocks, sectors, and what is said
+    for each. With codes they are those that fit the pages put right."""
     found = []
     for data, spare in ((2**k, spare) for k in range(6, 13) for spare in range(32, 257)):
-        page, shapes = data + spare, shapes_of(len(raw), data, spare)
-        if not shapes:
-            continue
-        rows, entries = len(raw) // page, data // 4
-        pages = {row: raw[row * page : (row + 1) * page] for row in looked_rows(rows)}
-        sound = sum(record_of(p[:data], p[data:]) is not None for p in pages.values())
-        if sound == 0:
-            continue
-        unsound = sum(p != b"\xff" * page for p in pages.values()) - sound
-        bodies = [raw[row * page : row * page + data] for row in range(rows)]
-        records = [record_of(body, raw[row * page + data : (row + 1) * page]) for row, body in enumerate(bodies)]
-        least = [least_of(record, body, entries) for record, body in zip(records, bodies) if record]
-        blocks, sectors = max(b for b, _ in least), max(s for _, s in least)
-        for g in shapes:
-            table = "silent" if blocks == 0 else "agrees" if blocks == g.blocks else "short" if blocks > g.blocks else "differs"
-            missing = max(0, min(blocks, 4096) - g.blocks) * g.pages
-            order = (-sound, ["agrees", "short", "silent", "differs"].index(table), missing, unsound * page, data, spare, g.pages)
-            numbers = data, spare, g.pages, g.blocks, min(max(sectors, 1), 1048576)
-            found.append((order, numbers, len(pages), sound, unsound, table, blocks, sectors))
+        page, whole = data + spare, data + outer_of(data, spare)
+        if len(raw) % page == 0:
+            plain = fits(len(raw) // page, data, spare, lambda row: raw[row * page : (row + 1) * page])
+            found += [(order, False, *rest) for order, *rest in plain]
+        if outer_of(data, spare) <= 256 and len(raw) % whole == 0:
+            coded = fits(len(raw) // whole, data, spare, lambda row: decoded(data, spare, raw[row * whole : (row + 1) * whole]))
+            found += [(order, True, *rest) for order, *rest in coded]
     return [fit[1:] for fit in sorted(found)]

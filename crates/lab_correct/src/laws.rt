@@ -1,7 +1,17 @@
 //! What a corrected dump comes to.
 ghost use Rattle.lab_correct.specs.Corrected.{CorrectedLaw};
+ghost use Rattle.lab_correct.specs.CodedLaws.{DecodedRowLaw, DecodedSizeLaw, LostPageLaw, NearPageLaw};
 
 /// A dump of pages with their codes, of which at most one bit is wrong in each chunk, gives the pages as they were, and no row is named.
 pub fn corrected_law()
     ensures { CorrectedLaw }
+{}
+
+/// How a dump with codes is looked at: page by page as the dump without them, a page with at most one wrong bit in each chunk as it was written, and
+/// one with a lost chunk as neither sound nor erased.
+pub fn decoded_laws()
+    ensures near { NearPageLaw }
+    ensures lost { LostPageLaw }
+    ensures size { DecodedSizeLaw }
+    ensures row { DecodedRowLaw }
 {}

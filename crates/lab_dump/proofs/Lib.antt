@@ -19,6 +19,7 @@ pub mod SampleLemmas
 pub mod ToldLemmas
 pub mod ShapeLemmas
 pub mod FitLemmas
+pub mod RankLemmas
 pub mod FitLawLemmas
 pub mod MemberLemmas
 pub mod OnceLemmas

@@ -73,8 +73,9 @@ fn add_shape(
     fits.push_reserved(fit_of(&geometry, sample, told));
 }
 
-// Those with each number of pages in a block. The list has room for them.
-fn add_shapes(
+/// Adds to a list the geometries with such areas and each number of pages in a block that so many bytes are whole blocks of. The list has room
+/// for them.
+pub fn add_shapes(
     fits: &mut Vec<Fit>,
     size: u64,
     data_bytes: u32,

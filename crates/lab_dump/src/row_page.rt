@@ -18,8 +18,8 @@ pub(crate) fn read_row<D: Dump>(dump: &mut D, row: u32, page: &mut [u8]) -> Resu
     dump.read_at(u64::from(row) * page.len() as u64, page)
 }
 
-// What a page is.
-fn look_in(geometry: &Geometry, page: &[u8]) -> Look
+/// What a page is, by its bytes.
+pub fn look_in(geometry: &Geometry, page: &[u8]) -> Look
     requires { length page.now ≡ page_bytes geometry.now }
     ensures { result ≡ look_of (page_in geometry.now.data_bytes page.now) }
 {

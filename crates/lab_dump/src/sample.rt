@@ -26,8 +26,8 @@ pub struct Sample {
 }
 
 impl Sample {
-    // The sample with one page more.
-    fn noted(self, look: Look) -> Sample
+    /// The sample with one page more.
+    pub fn noted(self, look: Look) -> Sample
         requires { self.sound + self.unsound < 4096 }
         ensures { result ≡ noted self look }
     {
@@ -45,16 +45,16 @@ impl Sample {
     }
 }
 
-// How many of so many rows are looked at.
-fn looked_count(rows: u32) -> u32
+/// How many of so many rows are looked at.
+pub fn looked_count(rows: u32) -> u32
     ensures is { result ≡ looked_count rows }
     ensures few { result ≤ 4096 }
 {
     rows.min(MOST_LOOKED)
 }
 
-// The row that is looked at in this place.
-fn looked_row(rows: u32, place: u32) -> u32
+/// The row that is looked at in this place.
+pub fn looked_row(rows: u32, place: u32) -> u32
     requires most { rows ≤ 1048576 }
     requires few { place < 4096 }
     ensures { result ≡ looked_row rows place }

@@ -6,8 +6,8 @@ ghost use Rattle.lab_dump.specs.Shape.{data_sizes, page_counts, has_shape, rows_
 
 use page_layout::geometry::Geometry;
 
-// The bytes that a data area may have, a power of two from 64 to 4096.
-pub(crate) fn data_sizes() -> [u32; 7]
+/// The bytes that a data area may have, a power of two from 64 to 4096.
+pub fn data_sizes() -> [u32; 7]
     ensures is { result ≡ data_sizes }
     ensures sizes { All IsDataSize result }
 {
@@ -38,8 +38,8 @@ pub(crate) fn shape(size: u64, data_bytes: u32, spare_bytes: u32, pages: u32) ->
     Geometry::new(data_bytes, spare_bytes, pages, blocks, 1).ok()
 }
 
-// A geometry of such areas, if the bytes are of some: its pages are as many as those of each other shape of these areas.
-pub(crate) fn first_shape(size: u64, data_bytes: u32, spare_bytes: u32) -> Option<Geometry>
+/// A geometry of such areas, if the bytes are of some: its pages are as many as those of each other shape of these areas.
+pub fn first_shape(size: u64, data_bytes: u32, spare_bytes: u32) -> Option<Geometry>
     requires data_size { IsDataSize data_bytes }
     requires spare_size { IsSpareSize spare_bytes }
     ensures none { IfNone result (has_shape size data_bytes spare_bytes ≡ false) }

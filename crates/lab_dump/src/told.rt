@@ -102,8 +102,8 @@ impl Told {
         }
     }
 
-    // The same by the bytes of the page. A page is not hashed that could not tell more if it were sound.
-    fn noted(self, geometry: &Geometry, page: &[u8]) -> Told
+    /// What is told with one page more, by its bytes. A page is not hashed that could not tell more if it were sound.
+    pub fn noted(self, geometry: &Geometry, page: &[u8]) -> Told
         requires { length page.now ≡ page_bytes geometry.now }
         ensures { result ≡ raised self (look_of (page_in geometry.now.data_bytes page.now)) (take geometry.now.data_bytes page.now) }
     {

@@ -1,15 +1,14 @@
 -- Chunks that are put right, one after another.
 use Rattle.std.proofs.Common.{◌≡◌, ℕ, ◌+◌, ◌*◌, ◌-◌, ◌≤◌, zero, suc, min, List, ◌++◌, length, take, drop, Option, Some, None, refl, ap, ◌∙◌, arith}
 use Rattle.std.specs.Option.{unwrap_or}
+use Rattle.std.specs.Int.{div_ceil}
 use Rattle.error_correction.specs.Bits.{AreBytes}
 use Rattle.error_correction.specs.Correct.{IsChunk, wrong_bits}
-use Rattle.page_code.specs.Corrected.{stored, wrong_if, lost_if, corrected, wrong_in, lost_in, corrected_chunks, sum_chunks, plain_of, plain_code, body_codes, corrected_page, turned_bits, lost_chunks}
+use Rattle.page_code.specs.Corrected.{stored, wrong_if, lost_if, corrected, wrong_in, lost_in, corrected_chunks, sum_chunks, plain_of, plain_code, body_codes, corrected_areas, sum_areas, turned_areas, lost_areas}
 use Rattle.std.proofs.lemmas.List.{nil_from_length, take_rest, take_at, drop_at}
 use borrow.Rule.Slice.PartMut.{put_mid}
-use Rattle.page_layout.specs.declared.geometry.Geometry.{Geometry}
 use Rattle.page_layout.specs.Page.{Page}
 use Rattle.page_layout.specs.Raw.{bytes_of_page}
-use Rattle.page_code.specs.Layout.{chunk_count}
 use Rattle.page_code.proofs.Parts.{first_256, after_256, rest_is, tail_put}
 use Rattle.page_code.proofs.Rights.{stored_law, stored_none}
 
@@ -88,17 +87,21 @@ sum_more count n s body codes new here rest all h e size a f g = a ∙ sum_step 
 -- ---- a page
 
 -- what was written of the two areas, one behind the other
-pub page_put : (g : Geometry) (r : Page) (bytes body spare : List ℕ) → body ≡ corrected_chunks (chunk_count g) r.body (body_codes g r) → spare ≡ corrected (plain_of g r) (plain_code g r) → bytes ≡ body ++ spare → bytes ≡ bytes_of_page (corrected_page g r)
-unfolding corrected_page
-page_put g r bytes body spare e f h = h ∙ (ap (λ z. z ++ spare) e ∙ ap (λ z. corrected_chunks (chunk_count g) r.body (body_codes g r) ++ z) f)
+pub page_put : (d s : ℕ) (r : Page) (bytes body spare : List ℕ) → body ≡ corrected_chunks (div_ceil d 256) r.body (body_codes s r) → spare ≡ corrected (plain_of s r) (plain_code s r) → bytes ≡ body ++ spare → bytes ≡ bytes_of_page (corrected_areas d s r)
+unfolding corrected_areas
+page_put d s r bytes body spare e f h = h ∙ (ap (λ z. z ++ spare) e ∙ ap (λ z. corrected_chunks (div_ceil d 256) r.body (body_codes s r) ++ z) f)
 
-pub turned_put : (g : Geometry) (r : Page) (here rest all : ℕ) → all ≡ here + rest → here ≡ sum_chunks wrong_in (chunk_count g) r.body (body_codes g r) → rest ≡ wrong_in (plain_of g r) (plain_code g r) → all ≡ turned_bits g r
-unfolding turned_bits
-turned_put g r here rest all e f h = e ∙ (ap (λ z. z + rest) f ∙ ap (λ z. sum_chunks wrong_in (chunk_count g) r.body (body_codes g r) + z) h)
+-- what was counted of both
+sum_put : (count : List ℕ → List ℕ → ℕ) (d s : ℕ) (r : Page) (here rest all : ℕ) → all ≡ here + rest → here ≡ sum_chunks count (div_ceil d 256) r.body (body_codes s r) → rest ≡ count (plain_of s r) (plain_code s r) → all ≡ sum_areas count d s r
+sum_put count d s r here rest all e f h = e ∙ (ap (λ z. z + rest) f ∙ ap (λ z. sum_chunks count (div_ceil d 256) r.body (body_codes s r) + z) h)
 
-pub lost_put : (g : Geometry) (r : Page) (here rest all : ℕ) → all ≡ here + rest → here ≡ sum_chunks lost_in (chunk_count g) r.body (body_codes g r) → rest ≡ lost_in (plain_of g r) (plain_code g r) → all ≡ lost_chunks g r
-unfolding lost_chunks
-lost_put g r here rest all e f h = e ∙ (ap (λ z. z + rest) f ∙ ap (λ z. sum_chunks lost_in (chunk_count g) r.body (body_codes g r) + z) h)
+pub turned_put : (d s : ℕ) (r : Page) (here rest all : ℕ) → all ≡ here + rest → here ≡ sum_chunks wrong_in (div_ceil d 256) r.body (body_codes s r) → rest ≡ wrong_in (plain_of s r) (plain_code s r) → all ≡ turned_areas d s r
+unfolding turned_areas
+turned_put d s r here rest all e f h = sum_put wrong_in d s r here rest all e f h
+
+pub lost_put : (d s : ℕ) (r : Page) (here rest all : ℕ) → all ≡ here + rest → here ≡ sum_chunks lost_in (div_ceil d 256) r.body (body_codes s r) → rest ≡ lost_in (plain_of s r) (plain_code s r) → all ≡ lost_areas d s r
+unfolding lost_areas
+lost_put d s r here rest all e f h = sum_put lost_in d s r here rest all e f h
 
 -- the front of two areas is lent, and then the rest
 pub front_of : (n : ℕ) (both a b : List ℕ) → both ≡ a ++ b → length a ≡ n → take n both ≡ a

@@ -6,7 +6,7 @@ use Rattle.error_correction.specs.Bits.{AreBytes}
 use Rattle.error_correction.specs.Correct.{wrong_bits}
 use Rattle.page_code.specs.Layout.{chunk_count}
 use Rattle.page_code.specs.Near.{AreNear}
-use Rattle.page_code.specs.Corrected.{corrected, lost_in, corrected_chunks, sum_chunks, corrected_page, lost_chunks, plain_of, plain_code, body_codes, PutRightLaw}
+use Rattle.page_code.specs.Corrected.{corrected, lost_in, corrected_chunks, sum_chunks, corrected_areas, lost_areas, plain_of, plain_code, body_codes, PutRightLaw}
 use Rattle.page_code.proofs.Parts.{take_bytes, drop_bytes}
 use Rattle.page_code.proofs.Pages.{enough}
 use Rattle.page_code.proofs.Rights.{stored_law}
@@ -34,15 +34,15 @@ chunks_right (suc n) right body codes e s k p q near =
     }
 
 pub put_right_law : PutRightLaw
-unfolding corrected_page lost_chunks
+unfolding corrected_areas lost_areas
 put_right_law g p r is sizes bytes near =
     let small : g.spare_bytes ≤ 256 = g.limits.spare_size.most in
     let outer = sizes.spare_size in
-    let body = chunks_right (chunk_count g) p.body r.body (body_codes g r) (is.body_size ∙ sym sizes.body_size) (omega (arith, sizes.body_size, enough g))
+    let body = chunks_right (chunk_count g) p.body r.body (body_codes g.spare_bytes r) (is.body_size ∙ sym sizes.body_size) (omega (arith, sizes.body_size, enough g))
     (omega (arith, length-drop (g.spare_bytes + 3) r.spare, outer)) is.body_fits bytes.body near.chunks in
-    let spare = near_right p.spare (plain_of g r) (plain_code g r) (omega (arith, length-take g.spare_bytes r.spare)) (take_bytes g.spare_bytes r.spare bytes.spare) is.spare_fits
+    let spare = near_right p.spare (plain_of g.spare_bytes r) (plain_code g.spare_bytes r) (omega (arith, length-take g.spare_bytes r.spare)) (take_bytes g.spare_bytes r.spare bytes.spare) is.spare_fits
     (omega (arith, length-take g.spare_bytes r.spare, outer, is.spare_size)) (omega (arith, length-take 3 (drop g.spare_bytes r.spare), length-drop g.spare_bytes r.spare, outer)) near.spare in
     record {
-      page_is = ap (λ z. page z (corrected (plain_of g r) (plain_code g r))) body.is ∙ ap (λ z. page p.body z) spare.chunk_is;
+      page_is = ap (λ z. page z (corrected (plain_of g.spare_bytes r) (plain_code g.spare_bytes r))) body.is ∙ ap (λ z. page p.body z) spare.chunk_is;
       none_lost = let one = spare.lost_is in let more = body.none in omega arith;
     }

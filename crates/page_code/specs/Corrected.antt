@@ -2,12 +2,12 @@
 use Rattle.std.specs.Prelude.{◌≡◌, ◌↔◌, ℕ, zero, suc, ◌+◌, ◌*◌, ◌/◌, ◌%◌, ◌≤◌, nat_le, List, [], ◌∷◌, ◌++◌, length, take, drop, map, Option, Some, None}
 use Rattle.std.specs.List.{find, range_with_len}
 use Rattle.std.specs.Option.{unwrap_or}
+use Rattle.std.specs.Int.{div_ceil}
 use Rattle.page_layout.specs.declared.geometry.Geometry.{Geometry}
 use Rattle.page_layout.specs.Page.{Page, page, IsPage}
 use Rattle.error_correction.specs.Bits.{AreBytes}
 use Rattle.error_correction.specs.Correct.{IsChunk, wrong_bits}
 use Rattle.error_correction.specs.Flip.{turned}
-use Rattle.page_code.specs.Layout.{chunk_count}
 use Rattle.page_code.specs.Near.{IsNear, HasChipSizes}
 
 -- ---- a chunk
@@ -51,29 +51,43 @@ abbrev pub sum_chunks : (List ℕ → List ℕ → ℕ) → ℕ → List ℕ →
 sum_chunks count zero body codes = 0
 sum_chunks count (suc n) body codes = count (take 256 body) (take 3 codes) + sum_chunks count n (drop 256 body) (drop 3 codes)
 
--- ---- a page
+-- ---- a page, by the bytes of its data area and of its spare area without the codes
 
 -- the spare area without the codes, its code, and the codes of the data area
-abbrev pub plain_of : Geometry → Page → List ℕ
-plain_of g r = take g.spare_bytes r.spare
+abbrev pub plain_of : ℕ → Page → List ℕ
+plain_of spare_bytes r = take spare_bytes r.spare
 
-abbrev pub plain_code : Geometry → Page → List ℕ
-plain_code g r = take 3 (drop g.spare_bytes r.spare)
+abbrev pub plain_code : ℕ → Page → List ℕ
+plain_code spare_bytes r = take 3 (drop spare_bytes r.spare)
 
-abbrev pub body_codes : Geometry → Page → List ℕ
-body_codes g r = drop (g.spare_bytes + 3) r.spare
+abbrev pub body_codes : ℕ → Page → List ℕ
+body_codes spare_bytes r = drop (spare_bytes + 3) r.spare
 
 -- THE PAGE WITHOUT ITS CODES, put right
-unfoldable pub corrected_page : Geometry → Page → Page
-corrected_page g r = page (corrected_chunks (chunk_count g) r.body (body_codes g r)) (corrected (plain_of g r) (plain_code g r))
+unfoldable pub corrected_areas : ℕ → ℕ → Page → Page
+corrected_areas data_bytes spare_bytes r = page (corrected_chunks (div_ceil data_bytes 256) r.body (body_codes spare_bytes r)) (corrected (plain_of spare_bytes r) (plain_code spare_bytes r))
 
--- how many of its bits are turned back
-unfoldable pub turned_bits : Geometry → Page → ℕ
-turned_bits g r = sum_chunks wrong_in (chunk_count g) r.body (body_codes g r) + wrong_in (plain_of g r) (plain_code g r)
+-- what is counted of each of its chunks, the spare area being one
+abbrev pub sum_areas : (List ℕ → List ℕ → ℕ) → ℕ → ℕ → Page → ℕ
+sum_areas count data_bytes spare_bytes r = sum_chunks count (div_ceil data_bytes 256) r.body (body_codes spare_bytes r) + count (plain_of spare_bytes r) (plain_code spare_bytes r)
 
--- how many of its chunks are lost, the spare area being one
-unfoldable pub lost_chunks : Geometry → Page → ℕ
-lost_chunks g r = sum_chunks lost_in (chunk_count g) r.body (body_codes g r) + lost_in (plain_of g r) (plain_code g r)
+-- how many of its bits are turned back, and how many of its chunks are lost
+unfoldable pub turned_areas : ℕ → ℕ → Page → ℕ
+turned_areas data_bytes spare_bytes r = sum_areas wrong_in data_bytes spare_bytes r
+
+unfoldable pub lost_areas : ℕ → ℕ → Page → ℕ
+lost_areas data_bytes spare_bytes r = sum_areas lost_in data_bytes spare_bytes r
+
+-- ---- a page of a die
+
+abbrev pub corrected_page : Geometry → Page → Page
+corrected_page g r = corrected_areas g.data_bytes g.spare_bytes r
+
+abbrev pub turned_bits : Geometry → Page → ℕ
+turned_bits g r = turned_areas g.data_bytes g.spare_bytes r
+
+abbrev pub lost_chunks : Geometry → Page → ℕ
+lost_chunks g r = lost_areas g.data_bytes g.spare_bytes r
 
 -- ---- laws
 

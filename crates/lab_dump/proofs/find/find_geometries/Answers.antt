@@ -1,14 +1,11 @@
-use Rattle.std.proofs.Common.{◌≡◌, ◌+◌, ◌++◌, ◌∙◌, List, get_or, refl, ap, sym, subst}
-use Rattle.std.specs.Ordering.{is_lt, nat_cmp, ordering_then}
+use Rattle.std.proofs.Common.{◌≡◌, ◌+◌, ◌++◌, ◌∙◌, List, get_or, ap, sym, subst}
+use Rattle.std.specs.Ordering.{is_lt}
 use Rattle.std.specs.Prelude.{IsPermutation}
 use Rattle.std.proofs.lemmas.List.Sorted.{All-permutation}
 use Rattle.lab_dump.specs.declared.fit.Fit.{Fit}
-use Rattle.lab_dump.specs.declared.fit.TableSays.{TableSays}
-use Rattle.lab_dump.specs.declared.fit.TableSays.TheVariants.{Agrees, Short, Silent, Differs}
-use Rattle.lab_dump.specs.contracts.fit.TableSaysOrd.TheImpl as says
-use Rattle.lab_dump.specs.contracts.fit.FitOrd.TheImpl as fit
-use Rattle.lab_dump.specs.Fits.{fits_of, place, rank, IsPossible}
+use Rattle.lab_dump.specs.Fits.{fits_of, IsPossible}
 use Rattle.lab_dump.proofs.FitLemmas.{possible_none}
+use Rattle.lab_dump.proofs.RankLemmas.{same_rank}
 use Rattle.lab_dump.proofs.find.find_geometries.Goals as goal
 
 pub returns-clause-found : goal.returns-clause-found
@@ -19,32 +16,6 @@ returns-clause-found g c = λ all told.
 
 pub returns-clause-possible : goal.returns-clause-possible
 returns-clause-possible g c = All-permutation IsPossible _ _ c.sort_unstable.ensures.permutation (c.in_ok-add_all.ensures.any.possible (possible_none c.args.room.fits.items c.requires.none))
-
--- the order of what the table says, as it is derived, is that of the places
-same_place : (x y : TableSays) → says.ghosts.cmp x y ≡ nat_cmp (place x) (place y)
-same_place Agrees Agrees = refl
-same_place Agrees Short = refl
-same_place Agrees Silent = refl
-same_place Agrees Differs = refl
-same_place Short Agrees = refl
-same_place Short Short = refl
-same_place Short Silent = refl
-same_place Short Differs = refl
-same_place Silent Agrees = refl
-same_place Silent Short = refl
-same_place Silent Silent = refl
-same_place Silent Differs = refl
-same_place Differs Agrees = refl
-same_place Differs Short = refl
-same_place Differs Silent = refl
-same_place Differs Differs = refl
-
--- the same of the whole order
-same_rank : (x y : Fit) → fit.ghosts.cmp x y ≡ rank x y
-same_rank x y = ap (λ o. ordering_then (nat_cmp y.sound.0 x.sound.0) (ordering_then o (ordering_then (nat_cmp x.missing y.missing) (ordering_then (nat_cmp x.unsound_bytes y.unsound_bytes)
-    (ordering_then (nat_cmp x.data_bytes y.data_bytes) (ordering_then (nat_cmp x.spare_bytes y.spare_bytes) (ordering_then (nat_cmp x.pages y.pages)
-    (ordering_then (nat_cmp x.blocks y.blocks) (ordering_then (nat_cmp x.sectors y.sectors) (ordering_then (nat_cmp x.looked y.looked)
-    (ordering_then (nat_cmp x.unsound y.unsound) (ordering_then (nat_cmp x.blocks_told y.blocks_told) (nat_cmp x.sectors_told y.sectors_told))))))))))))) (same_place x.table y.table)
 
 pub returns-clause-ranked : goal.returns-clause-ranked
 returns-clause-ranked g c = λ k d zero within.

@@ -18,7 +18,7 @@ returns-clause-page c =
     let front = front_of (length a) both a (take n outer) c.put_areas.ensures refl in
     let size : length new ≡ length a = c.correct_chunks-data.auto.body ∙ ap length front in
     let back = back_of (length a) both a (take n outer) new c.put_areas.ensures refl size in
-    page_put g (page a outer) _ new spare
+    page_put g.data_bytes g.spare_bytes (page a outer) _ new spare
     (c.correct_chunks-data.ensures.chunks ∙ chunks_at _ _ _ _ _ _ c.chunk_count.ensures front (codes_of_body n g.spare_bytes outer e))
     (c.correct_chunk-spare.ensures.chunk ∙ corrected_at _ _ _ _ (back ∙ ap (λ k. take k outer) e) (code_of_plain n g.spare_bytes outer e))
     (tail_put (length a) new (drop (length a) both) spare size)
@@ -34,7 +34,7 @@ returns-clause-turned c =
     let new = c.correct_chunks-data.new.body in
     let front = front_of (length a) both a (take n outer) c.put_areas.ensures refl in
     let back = back_of (length a) both a (take n outer) new c.put_areas.ensures refl (c.correct_chunks-data.auto.body ∙ ap length front) in
-    turned_put g (page a outer) _ _ _ c.with.ensures.turned
+    turned_put g.data_bytes g.spare_bytes (page a outer) _ _ _ c.with.ensures.turned
     (c.correct_chunks-data.ensures.turned ∙ sum_at wrong_in _ _ _ _ _ _ c.chunk_count.ensures front (codes_of_body n g.spare_bytes outer e))
     (c.correct_chunk-spare.ensures.turned ∙ chunk_at wrong_in _ _ _ _ (back ∙ ap (λ k. take k outer) e) (code_of_plain n g.spare_bytes outer e))
 
@@ -49,6 +49,6 @@ returns-clause-lost c =
     let new = c.correct_chunks-data.new.body in
     let front = front_of (length a) both a (take n outer) c.put_areas.ensures refl in
     let back = back_of (length a) both a (take n outer) new c.put_areas.ensures refl (c.correct_chunks-data.auto.body ∙ ap length front) in
-    lost_put g (page a outer) _ _ _ c.with.ensures.lost
+    lost_put g.data_bytes g.spare_bytes (page a outer) _ _ _ c.with.ensures.lost
     (c.correct_chunks-data.ensures.lost ∙ sum_at lost_in _ _ _ _ _ _ c.chunk_count.ensures front (codes_of_body n g.spare_bytes outer e))
     (c.correct_chunk-spare.ensures.lost ∙ chunk_at lost_in _ _ _ _ (back ∙ ap (λ k. take k outer) e) (code_of_plain n g.spare_bytes outer e))
