@@ -82,6 +82,17 @@ pub struct MemoryLists {
     failed: u64,
 }
 
+impl MemoryLists {
+    /// No list was kept.
+    pub fn new(alloc: Global) -> MemoryLists {
+        MemoryLists {
+            alloc,
+            kept: Vec::new(alloc),
+            failed: 0,
+        }
+    }
+}
+
 impl KeepsLost for MemoryLists {
     ghost kept = { λ k. k.kept.items };
 
@@ -339,11 +350,7 @@ impl DiskFiles for MemoryFiles {
         _syncs: &MemorySyncs,
         _beside: &[u8],
     ) -> Result<MemoryLists, FileFault> {
-        Ok(MemoryLists {
-            alloc,
-            kept: Vec::new(alloc),
-            failed: 0,
-        })
+        Ok(MemoryLists::new(alloc))
     }
 }
 
