@@ -1,15 +1,13 @@
 -- How a fault of a file is told.
-use Rattle.std.proofs.Common.{◌≡◌, ◌*◌, inl, inr, ℕ, Bool, List, refl, subst, sym}
+use Rattle.std.proofs.Common.{◌≡◌, ◌*◌, inl, inr, ℕ, List, refl, subst, sym}
 use Rattle.page_layout.specs.Geometry.{page_bytes, row_count}
 use Rattle.std.specs.Borrow.{Bor}
 use Rattle.disk_commands.specs.declared.files.FileFault.{FileFault}
 use Rattle.disk_commands.specs.declared.files.FileFault.TheVariants as file
 use Rattle.disk_commands.specs.declared.text.DiskFault.{DiskFault}
-use Rattle.disk_commands.specs.declared.text.DiskFault.TheVariants as fault
 use Rattle.disk_commands.specs.Files.{Answers, FailsCopy}
-use Rattle.file_die.specs.Store.{Held}
 use Rattle.disk_commands.specs.declared.shape_text.DiskText.{DiskText}
-use Rattle.disk_commands.specs.Opening.{IsCopyFault, IsFaultAt, IsNotAt, IsNotFree, IsShapeFault, IsStoreAt, IsTextAt, told_at, told_of_copy}
+use Rattle.disk_commands.specs.Opening.{IsCopyFault, IsFaultAt, IsNotAt, IsNotFree, IsShapeFault, IsTextAt, told_at, told_of_copy}
 
 pub fault_at : (a : Answers) (f : FileFault) (path : Bor (List ℕ)) (wanted : ℕ) → a.fails path.now f → IsFaultAt a path.now wanted (told_at f path wanted)
 fault_at a file.Read path wanted h = (refl, h)

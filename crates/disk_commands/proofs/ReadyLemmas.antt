@@ -1,6 +1,5 @@
 -- A disk that is made ready to be served.
-use Rattle.std.proofs.Common.{◌≡◌, ◌⊎◌, ◌∙◌, inl, inr, ℕ, Bool, true, false, List, Option, Result, Err, ap, refl, subst, sym}
-use Rattle.std.specs.Borrow.{Bor}
+use Rattle.std.proofs.Common.{◌≡◌, ◌⊎◌, ◌∙◌, inl, inr, ℕ, Bool, true, false, List, Option, Result, Err, ap, subst, sym}
 use Rattle.std.specs.Io.KnownBytes.{Keeps}
 use Rattle.onfi_cycles.specs.Driver.{DriverState}
 use Rattle.certificate.specs.Claim.{Claim}

@@ -1,4 +1,4 @@
-use Rattle.std.proofs.Common.{◌≡◌, ◌∙◌, Bool, List, ap, arith, inl, inr, length, refl, subst, sym}
+use Rattle.std.proofs.Common.{◌∙◌, Bool, List, ap, inl, inr, refl, subst, sym}
 use Rattle.disk_commands.specs.Damage.{IsListAt, IsLookedAt, IsNoListAt}
 use Rattle.disk_commands.proofs.DamageLemmas.{kept_flags, looked_at, mark_fault, no_list_back}
 use Rattle.disk_commands.proofs.damage.look_at.Goals as goal

@@ -1,5 +1,4 @@
-use Rattle.std.proofs.Common.{◌∙◌, ap, inl, subst}
-use Rattle.disk_commands.specs.Opening.{IsShapeFault}
+use Rattle.std.proofs.Common.{ap, inl}
 use Rattle.disk_commands.proofs.DamageLemmas.{no_more_then, not_opened, shape_back, was_opened}
 use Rattle.disk_commands.proofs.OpeningLemmas.{not_locked}
 use Rattle.disk_commands.proofs.opening.open_at.Goals as goal

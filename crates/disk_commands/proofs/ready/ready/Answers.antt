@@ -1,4 +1,4 @@
-use Rattle.std.proofs.Common.{◌≡◌, ◌∙◌, Bool, List, ap, false, inl, inr, not, subst, sym}
+use Rattle.std.proofs.Common.{◌∙◌, ap, false, inl, inr, not, subst, sym}
 use Rattle.disk_recovery.specs.Recovered.{KeepsIfAny}
 use Rattle.disk_server.specs.Synced.{after_sync}
 use Rattle.disk_commands.specs.Ready.{IsDiskOf, IsNoneOf, IsUnkeptBy}
