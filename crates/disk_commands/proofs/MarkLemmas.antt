@@ -1,12 +1,12 @@
 -- A mark that is torn as it is written.
 use Rattle.std.proofs.Common.{rules, ◌≡◌, inl, inr, ℕ, zero, suc, ◌<◌, ◌≤◌, ◌-◌, ◌^◌, ◌+◌, ◌⊎◌, List, [], ◌∷◌, ◌++◌, length, refl, sym, ◌∙◌, ap, subst, arith}
-use Rattle.std.specs.Prelude.{take, drop, Option, Some, None, Bool, true, false, nat_lt, if◌then◌else◌}
+use Rattle.std.specs.Prelude.{take, drop, Option, Some, None}
 use Rattle.std.specs.Int.{w64, to_le_bytes, from_le_bytes}
 use Rattle.std.proofs.lemmas.Nat.{from_le_bytes-to_le_bytes_8}
 use Rattle.std.proofs.lemmas.Bool.{cases_lt}
 use Rattle.disk_server.specs.declared.mark.Mark.{Mark}
 use Rattle.disk_commands.specs.declared.mark.FoundMark.{FoundMark}
-use Rattle.disk_commands.specs.Mark.{HasSlots, IsEither, IsMarkRead, IsNumberText, IsSlotRead, IsSlotText, IsSmall, IsTornBeside, SlotLaw, TornFileLaw, TornSlotLaw, file_length, first_slot, found_in, number_text, second_slot, slot_text, torn_slot}
+use Rattle.disk_commands.specs.Mark.{HasSlots, IsEither, IsNumberText, IsSlotRead, IsSlotText, IsSmall, IsTornBeside, SlotLaw, TornFileLaw, TornSlotLaw, found_in, number_text, slot_text, torn_slot}
 
 -- ---- a list that is written over another one, up to a place
 

@@ -1,5 +1,5 @@
 -- How a session ends, and what that comes to.
-use Rattle.std.proofs.Common.{◌≡◌, ◌⊎◌, inl, inr, ℕ, Bool, true, false, List, [], Option, Result, Err, OnOk, refl, sym, subst}
+use Rattle.std.proofs.Common.{◌≡◌, ℕ, Bool, true, false, List, [], Option, Result, OnOk, sym, subst}
 use Rattle.std.specs.Borrow.{Bor}
 use Rattle.request_stream.specs.declared.reply.ServeFault.{ServeFault}
 use Rattle.disk_server.specs.declared.mark.Mark.{Mark}
@@ -13,7 +13,6 @@ use Rattle.disk_commands.specs.declared.serve.Terms.{Terms}
 use Rattle.disk_server.specs.declared.synced.SyncedDisk.{SyncedDisk}
 use Rattle.disk_server.specs.Synced.{HasSynced, Marks}
 use Rattle.disk_commands.specs.declared.text.DiskFault.{DiskFault}
-use Rattle.disk_commands.specs.declared.text.DiskFault.TheVariants as fault
 use Rattle.disk_commands.specs.Serve.{HasReadDisk, HasServedDisk, HasServedOn, IsFlushed, ServedBy, told_at_end}
 
 -- by the answer to the last flush
