@@ -36,3 +36,8 @@ Reports None None = Unit {0}
 Reports None (Some r) = ⊥
 Reports (Some d) None = ⊥
 Reports (Some d) (Some r) = Stands d r
+
+-- the die of a device, if there is one
+abbrev pub nand_in : {N : Type 0} → Option (Device N) → Option N
+nand_in None = None
+nand_in (Some d) = Some d.engine.nand
