@@ -89,4 +89,4 @@ pub record IsViewOf (d : Disk) (v : View) : Type 0 where
 pub record Looks (was : Disk) (number : ℕ) (view : View) (is : Disk) : Type 0 where
   pub done : number ≡ 0
   pub same : is ≡ was
-  pub view : IsViewOf was view
+  pub shows : IsViewOf was view

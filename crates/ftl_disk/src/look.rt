@@ -162,7 +162,7 @@ fn most_lost(errors: &ReadErrors) -> (u32, u64)
 
 // What was wrong with the reads of a chip, or nothing.
 fn told(errors: Option<&ReadErrors>) -> Errors
-    ensures { TellsErrors (option_copied errors) result }
+    ensures { TellsErrors (option_copied errors.entry) result }
 {
     let Some(errors) = errors else {
         return Errors {

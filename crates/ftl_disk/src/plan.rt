@@ -13,5 +13,5 @@ pub(crate) struct Plan {
     pub(crate) cache: u32,
     pub(crate) chip: Option<ChipGeometry>,
     ghost fits: { (1 ≤ cache) × (cache ≤ 65536) },
-    ghost room: { ForSome chip (IsChipOf geometry) },
+    ghost room: { ForSome chip (λ c. IsChipOf geometry c.raw) },
 }

@@ -14,8 +14,8 @@ returns-in-Ok-start_checked_over c =
       },
     )
 
-pub returns-in-Err-start_checked_over : goal.returns-in-Err-start_checked_over
-returns-in-Err-start_checked_over c =
+pub returns : goal.returns
+returns c =
     inr (record {
       same = refl;
       why = inr (record {

@@ -14,8 +14,8 @@ returns-in-Ok-start_over c =
       },
     )
 
-pub returns-in-Err-start_over : goal.returns-in-Err-start_over
-returns-in-Err-start_over c =
+pub returns : goal.returns
+returns c =
     inr (record {
       same = refl;
       why = inr (record {
