@@ -1,6 +1,5 @@
 -- WHAT STANDS IN A SLOT.
-use Rattle.std.specs.Prelude.{◌≡◌, ◌≤◌, ◌<◌, ◌+◌, ℕ, Bool, Option, Some, None, length, List}
-use Rattle.page_layout.specs.Flash.{Flash}
+use Rattle.std.specs.Prelude.{◌≡◌, ◌≤◌, ◌<◌, ◌+◌, ℕ, Option, Some, None, length, List}
 use Rattle.bad_blocks.specs.declared.table.TableRow.{TableRow}
 use Rattle.bad_blocks.specs.Table.{good_count, wear_at}
 use Rattle.allocation.specs.State.{free_count}

@@ -3,9 +3,8 @@ use Rattle.std.specs.Prelude.{◌≡◌, ◌⊎◌, ℕ, Bool, false, [], Option
 use Rattle.page_layout.specs.Flash.{Flash}
 use Rattle.page_layout.specs.Raw.{still}
 use Rattle.page_layout.specs.Recording.{Recording}
-use Rattle.onfi_cycles.specs.Cycles.{DieState, Unreset}
+use Rattle.onfi_cycles.specs.Cycles.{Unreset}
 use Rattle.onfi_cycles.specs.Driver.{DriverState, flash_by, seen}
-use Rattle.page_code.specs.declared.chip.ChipGeometry.{ChipGeometry}
 use Rattle.corrected_nand.specs.Errors.{no_errors}
 use Rattle.corrected_nand.specs.ChipBus.{ChipDriverState}
 use Rattle.corrected_nand.specs.Corrected.{CorrectedState}

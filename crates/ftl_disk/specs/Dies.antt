@@ -1,5 +1,5 @@
 -- WHAT A CALL OF A DISK COMES TO OVER ANY DIE, and by which number.
-use Rattle.std.specs.Prelude.{◌≡◌, ◌⊎◌, ℕ, Bool, true, List, Result, Ok, Err}
+use Rattle.std.specs.Prelude.{◌≡◌, ◌⊎◌, ℕ, Bool, true, List, Result, Err}
 use Rattle.page_layout.specs.declared.geometry.Geometry.{Geometry}
 use Rattle.page_layout.specs.Array.{array_of}
 use Rattle.page_layout.specs.Counter.{HasRisen}

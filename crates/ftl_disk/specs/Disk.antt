@@ -1,5 +1,5 @@
 -- WHAT LIES AT A HANDLE, and what each call makes of it.
-use Rattle.std.specs.Prelude.{◌≡◌, ◌≢◌, ◌≤◌, ◌⊎◌, ℕ, ℤ, Bool, true, false, List, [], length, Option, Some, None, Result, is_some}
+use Rattle.std.specs.Prelude.{◌≡◌, ◌≢◌, ◌⊎◌, ℕ, ℤ, Bool, true, false, List, [], length, Some, None, Result, is_some}
 use Rattle.promises.specs.Step as step
 use Rattle.certificate.specs.Claim.{Claim}
 use Rattle.certificate.specs.Spelling as spelling
@@ -7,11 +7,8 @@ use Rattle.certificate.specs.declared.fault.CertFault.{CertFault}
 use Rattle.certificate.specs.Faults.{IsFirstFault}
 use Rattle.ftl_device.specs.declared.device.Device.{Device}
 use Rattle.device_slot.specs.declared.slot.CallFault.{CallFault}
-use Rattle.device_slot.specs.declared.slot.Shortage.{Shortage}
-use Rattle.device_slot.specs.declared.report.Report.{Report}
 use Rattle.device_slot.specs.Power.{IsBrought}
 use Rattle.device_slot.specs.Calls.{IsCall, Told, ToldSized}
-use Rattle.device_slot.specs.Slot.{SlotState, Reports}
 use Rattle.ftl_disk.specs.Die.{Die, IsDieFor, IsUnreset, flash_in, recorded_in, honest_in, failed_in, programs_in, erases_in}
 use Rattle.ftl_disk.specs.Dies.{FormatsBy, IsBroughtBy, IsCertifiedBy, IsUncertifiedBy, IsUncheckedBy, IsUnstartedBy}
 use Rattle.ftl_disk.specs.Measures.{certificate_bytes}

@@ -3,7 +3,6 @@ use Rattle.std.specs.Prelude.{◌≡◌, ◌⊎◌, ℕ, Bool, List, Option, Som
 use Rattle.ftl_device.specs.declared.device.Device.{Device}
 use Rattle.ftl_device.specs.declared.fault.DeviceFault.{DeviceFault}
 use Rattle.ftl_device.specs.Calls.{number_of}
-use Rattle.page_code.specs.declared.chip.ChipGeometry.{ChipGeometry}
 use Rattle.corrected_nand.specs.Errors as counted
 use Rattle.device_slot.specs.declared.slot.Shortage.{Shortage}
 use Rattle.device_slot.specs.declared.report.Report.{Report}

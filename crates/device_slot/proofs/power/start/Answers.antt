@@ -1,4 +1,4 @@
-use Rattle.device_slot.proofs.PowerLemmas.{if_brought, if_unsettled_there, if_back_on, mid_back, mid_flash, mid_same, mid_still, mid_wanted, unbrought, unsettled_of}
+use Rattle.device_slot.proofs.PowerLemmas.{if_brought, if_unsettled_there, if_back_on, mid_back, mid_flash, mid_same, mid_still, unbrought, unsettled_of}
 use Rattle.device_slot.proofs.power.start.Goals as goal
 
 pub returns-in-Some-clause-brings : goal.returns-in-Some-clause-brings
