@@ -10,13 +10,13 @@ use mir.Syntax.{named}
 use mir.Val.{Val, vptr}
 use contract.Running.{tables}
 use types.Logic.{Logic, sem}
-use types.Kit.{‵, raw, ◌⊛◌, some, later, at_ret, ◌$◌, ◌∵◌, !, qed, done, by, move, keep, drop, use1, split, split3, join, fsplit, fsplit3, fjoin, fpack, pick, await, rewrite, suffices, frame, group}
+use types.Kit.{‵, ◌⊛◌, some, later, at_ret, ◌$◌, ◌∵◌, !, qed, done, move, keep, use1, split, split3, join, fsplit, fsplit3, fjoin, fpack, pick, await, rewrite, suffices, frame, group}
 use types.Run.{enter, of_opd, addr, load, stop, fld, first, blocks, exec, returns}
 use types.ByLocal.{alloc_all, pass_all, free_all, look_at, get, through, sets, sets_last, env}
 use types.Part.{whole, sub, look_in}
 use denote.Laws.{shows}
 use denote.Follow.{follows, lends_Part}
-use denote.Memory.{cell_at, mem, part_at, part_of}
+use denote.Memory.{cell_at, mem, part_of}
 use denote.RawPtr.{Ptr, block_ptr, lies_at, in_a_block}
 use denote.Ref.{MutRef, mut_vals, mut_Tells}
 use denote.Signature.{plain, mut_ref_to}

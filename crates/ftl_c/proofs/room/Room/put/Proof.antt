@@ -1,5 +1,5 @@
 -- `put` moves the disk into the room.
-use Rattle.std.proofs.Common.{◌≡◌, ℕ, List, [], ◌∷◌, ◌++◌, refl, sym, ap, ◌∙◌, Option, Some, None}
+use Rattle.std.proofs.Common.{◌≡◌, List, [], ◌∷◌, ◌++◌, refl, sym, ap, ◌∙◌, Option, Some, None}
 use Rattle.std.proofs.raw_atomic.Walks.{proved_at}
 use Rattle.std.proofs.VecSteps.Shapes.{after}
 use Rattle.std.proofs.alloc.Calls.{Goes-blank}
@@ -7,19 +7,17 @@ use Rattle.std.proofs.cell.Inside.{one}
 use borrow.Table.OneValue.{part_in}
 use base.Fraction.{full_share}
 use base.Logic.{id⊢}
-use base.Fml.{ftrue, fat, flft}
-use mir.Syntax.{named}
+use base.Fml.{ftrue, flft}
 use mir.Val.{Val, vptr, vunit}
 use contract.Running.{tables}
-use contract.Monad.{fact}
 use prog.Wp.{WpFn}
-use types.Kit.{‵, raw, ◌⊛◌, prop, at_ret, ◌$◌, ◌∵◌, !, qed, done, move, keep, drop, use2, split, join, fsplit, fsplit3, fjoin, feq_i, rewrite, regoal, suffices, frame, group}
-use types.Run.{enter, of_opd, addr, load, init, stop, fld, unit_lit, assigns_last, first, blocks, exec, returns}
+use types.Kit.{‵, raw, ◌⊛◌, prop, at_ret, ◌$◌, ◌∵◌, !, qed, done, move, keep, use2, split, join, fsplit, fsplit3, fjoin, feq_i, rewrite, regoal, suffices, frame, group}
+use types.Run.{enter, of_opd, load, init, stop, fld, unit_lit, assigns_last, first, blocks, exec, returns}
 use types.ByLocal.{alloc_all, pass_all, free_all, look_at, get, through, sets, env}
 use types.Part.{whole, sub, look_in}
 use denote.RattleType.{owns}
 use denote.Laws.{Is, shows}
-use denote.Memory.{cell_at, lone, part_at}
+use denote.Memory.{cell_at, lone}
 use denote.RawPtr.{Ptr, block_ptr, lies_at, room_at, in_a_block}
 use denote.Signature.{plain, types_at}
 use denote.Steps.{nothing, opens, closes, peeks, heard}
@@ -28,7 +26,6 @@ use Rattle.ftl_disk.specs.declared.disk.Disk.{Disk}
 use Rattle.ftl_disk.specs.contracts.disk.Disk.{the_row as R}
 use Rattle.ftl_disk.proofs.disk.Disk.TheLaws.{the_row_laws}
 use Rattle.ftl_c.specs.Room.{room_or_disk}
-use Rattle.ftl_c.specs.declared.room.Room.{Room}
 use Rattle.ftl_c.specs.contracts.room.Room.{the_row as B}
 use Rattle.ftl_c.specs.contracts.room.Room.put as f
 use Rattle.ftl_c.proofs.room.Room.TheLaws.{lowers}
