@@ -9,7 +9,7 @@
  *
  * Calls. Each answers one of the numbers below, FTL_DONE where it did what it is for. Where it answers another one, what it was to set
  * stays as it was, unless its text says otherwise. A pointer that is NULL is answered FTL_NULL before anything is done. Any other pointer has
- * to be one to what it says, aligned for it; `disk` has to be a handle that ftl_open set and that was not closed. Nothing can look at that.
+ * to be one to what it says, aligned for it; `disk` has to be a disk that ftl_open or ftl_open_at set and that was not closed. Nothing can look at that.
  *
  * One call at a time on a handle; two handles know nothing of each other. A handle may go from one thread to another between calls. No call from a
  * signal handler or an interrupt. A read or write that a signal interrupts counts as a failed link: block signals, or set SA_RESTART.
@@ -62,6 +62,7 @@ enum ftl_answer {
     FTL_WRONG_SIZE = 18,     /* the bytes are not as many as they have to be; nothing was done */
     FTL_NULL = 19,           /* a pointer is NULL; nothing was done */
     FTL_NO_SHORTAGE = 20,    /* ftl_get_shortage: the last call was not answered FTL_READ_ONLY */
+    FTL_NO_CODES = 21,       /* ftl_get_errors: the pages have no codes */
 
     /* of a shape: the first limit that it breaks */
     FTL_DATA_SIZE = 32,      /* data_bytes is no power of two from 64 to 4096 */
@@ -70,6 +71,7 @@ enum ftl_answer {
     FTL_BLOCKS = 35,         /* blocks is not from 12 to 4096, or above data_bytes / 4 * pages */
     FTL_SECTORS = 36,        /* sectors is not from 1 to 1048576 */
     FTL_CACHE = 37,          /* cache is not from 1 to 65536 */
+    FTL_CODES = 38,          /* codes is neither 0 nor 1; or the spare area has no room for codes: with them it would be above 256 */
 
     /* of ftl_format */
     FTL_TOO_FEW_GOOD = 48,   /* fewer blocks are good than the shape needs; nothing was written */
@@ -111,6 +113,9 @@ struct ftl_shape {
     uint32_t blocks;      /* of the die: 12 to 4096, at most data_bytes / 4 * pages */
     uint32_t sectors;     /* that the disk has: 1 to 1048576; ftl_format says whether the good blocks are enough for them */
     uint32_t cache;       /* entries of the mapping that are kept in memory: 1 to 65536 */
+    uint32_t codes;       /* 0: pages read back as they were programmed. 1: reads of the chip have wrong bits, and each page stands there with codes, by which
+                           * one wrong bit in each 256 bytes is turned back. spare_bytes is what the codes leave of the chip's spare area: of 2048+64
+                           * bytes they take 27, so spare_bytes is 37 (chip_spare_bytes of ftl_measure is 64 then) */
 };
 
 /* What follows from a shape. */
@@ -123,6 +128,7 @@ struct ftl_sizes {
                                  * may have had a larger cache, and been stopped with no flush: then ftl_start takes the larger cache once, and more
                                  * than this. Flush before such a stop, or open the disk with the larger cache once more */
     uint32_t memory_blocks;     /* in never more pieces than so: a heap that keeps h bytes beside each needs memory_blocks * h more */
+    uint32_t chip_spare_bytes;  /* what a page has beside its data on the chip: spare_bytes, and the codes where there are codes */
 };
 
 /* How a device stands. */
@@ -142,25 +148,46 @@ struct ftl_shortage {
     uint32_t failed; /* blocks that failed in the call */
 };
 
+/* What was wrong with the reads of a chip whose pages have codes, since the device was started; the start's own reads are counted too. */
+struct ftl_errors {
+    uint64_t turned;            /* wrong bits that were turned back */
+    uint64_t lost;              /* reads that gave a page which is neither erased nor sound, as one that was torn, or has more wrong bits than the codes find */
+    uint64_t most_turned;       /* wrong bits of the block that has the most */
+    uint64_t most_lost;         /* lost pages of the block that has the most */
+    uint32_t most_turned_block; /* that block, the first of several; 0 where no bit was wrong */
+    uint32_t most_lost_block;   /* that block, the first of several; 0 where no page was lost */
+};
+
+/* All that a disk tells of itself, of one moment. Where it has no device, or there is no shortage, or no codes, all that is of that is 0. */
+struct ftl_view {
+    struct ftl_errors errors;
+    struct ftl_shape shape;   /* what it was opened with */
+    uint32_t is_started;      /* 1 where it has a device, else 0 */
+    struct ftl_state state;
+    uint32_t is_short;        /* 1 where the last call that the device was told was answered FTL_READ_ONLY, else 0 */
+    struct ftl_shortage shortage;
+};
+
 /* A disk: a shape, the way to a die, and the device while it is started. */
 typedef struct ftl_disk ftl_disk;
 
 /* What the library itself exports. A program calls the functions below these, which look for NULL first: an entry takes it for granted that no
- * pointer is NULL. */
-uint32_t ftl_entry_open(const struct ftl_shape *shape, int32_t input, int32_t output, ftl_disk **disk);
+ * pointer is NULL, and that a disk lies at a handle. */
+struct ftl_handle { ftl_disk *at; };
+size_t ftl_entry_room(void);
+uint32_t ftl_entry_open(const struct ftl_shape *shape, int32_t input, int32_t output, struct ftl_handle *room);
 uint32_t ftl_entry_measure(const struct ftl_shape *shape, struct ftl_sizes *sizes);
-uint32_t ftl_entry_format(ftl_disk *disk);
-uint32_t ftl_entry_start(ftl_disk *disk);
-uint32_t ftl_entry_start_certified(ftl_disk *disk, const uint8_t *certificate, size_t size);
-uint32_t ftl_entry_certify(ftl_disk *disk, uint8_t *certificate, size_t size);
-uint32_t ftl_entry_stop(ftl_disk *disk);
-uint32_t ftl_entry_read(ftl_disk *disk, uint32_t sector, uint8_t *data, size_t size);
-uint32_t ftl_entry_write(ftl_disk *disk, uint32_t sector, const uint8_t *data, size_t size);
-uint32_t ftl_entry_trim(ftl_disk *disk, uint32_t sector);
-uint32_t ftl_entry_flush(ftl_disk *disk);
-uint32_t ftl_entry_turn(ftl_disk *disk);
-/* one count: 0 to 5 the numbers of the shape, 6 whether there is a device, 7 to 12 its state, 13 whether there is a shortage, 14 to 16 that; else 0 */
-uint32_t ftl_entry_count(ftl_disk *disk, uint32_t which);
+uint32_t ftl_entry_format(struct ftl_handle *handle);
+uint32_t ftl_entry_start(struct ftl_handle *handle);
+uint32_t ftl_entry_start_certified(struct ftl_handle *handle, const uint8_t *certificate, size_t size);
+uint32_t ftl_entry_certify(struct ftl_handle *handle, uint8_t *certificate, size_t size);
+uint32_t ftl_entry_stop(struct ftl_handle *handle);
+uint32_t ftl_entry_read(struct ftl_handle *handle, uint32_t sector, uint8_t *data, size_t size);
+uint32_t ftl_entry_write(struct ftl_handle *handle, uint32_t sector, const uint8_t *data, size_t size);
+uint32_t ftl_entry_trim(struct ftl_handle *handle, uint32_t sector);
+uint32_t ftl_entry_flush(struct ftl_handle *handle);
+uint32_t ftl_entry_turn(struct ftl_handle *handle);
+uint32_t ftl_entry_look(struct ftl_handle *handle, struct ftl_view *view);
 uint32_t ftl_entry_version(void);
 
 /* The heap, which you define. Alignments are powers of two, up to 16. For a size of 0 any pointer but NULL will do. Where there is no memory `ok` is false,
@@ -174,11 +201,32 @@ void rattle_dealloc(void *p);
 /* FTL_VERSION of the library that is linked. */
 static inline uint32_t ftl_version(void) { return ftl_entry_version(); }
 
-/* Sets `*disk` to a new disk of this shape, with no device yet. Nothing is asked of the die. `input` and `output` are handed to read and write as their
- * descriptors: frames are written to `output`, answers are read from `input`; they may be one. One piece of the heap is taken, until ftl_close.
- * Errors: of a shape; FTL_OUT_OF_MEMORY. */
+/* The bytes of a disk without its device: what ftl_open takes of the heap, or ftl_open_at of yours. */
+static inline size_t ftl_room(void) { return ftl_entry_room(); }
+
+/* Makes a disk of this shape in memory of yours, with no device yet, and sets `*disk` to it: `room` has to be ftl_room() bytes that begin at a multiple of 16. They are
+ * yours again after ftl_stop. Nothing is asked of the die, and nothing of the heap. `input` and `output` are handed to read and write as their descriptors: frames
+ * are written to `output`, answers are read from `input`; they may be one. Errors: of a shape. */
+static inline uint32_t ftl_open_at(const struct ftl_shape *shape, int32_t input, int32_t output, void *room, ftl_disk **disk) {
+    struct ftl_handle handle;
+    uint32_t answer;
+    if (shape == NULL || room == NULL || disk == NULL) return FTL_NULL;
+    handle.at = (ftl_disk *)room;
+    answer = ftl_entry_open(shape, input, output, &handle);
+    if (answer == FTL_DONE) *disk = handle.at;
+    return answer;
+}
+
+/* As ftl_open_at, in one piece of the heap, which is taken until ftl_close. Errors: of a shape; FTL_OUT_OF_MEMORY. */
 static inline uint32_t ftl_open(const struct ftl_shape *shape, int32_t input, int32_t output, ftl_disk **disk) {
-    return shape == NULL || disk == NULL ? (uint32_t)FTL_NULL : ftl_entry_open(shape, input, output, disk);
+    struct rattle_tried room;
+    uint32_t answer;
+    if (shape == NULL || disk == NULL) return FTL_NULL;
+    room = rattle_alloc(ftl_entry_room(), 16);
+    if (!room.ok) return FTL_OUT_OF_MEMORY;
+    answer = ftl_open_at(shape, input, output, room.p, disk);
+    if (answer != FTL_DONE) rattle_dealloc(room.p);
+    return answer;
 }
 
 /* Sets `*sizes` to what follows from a shape: how much memory, above all. No disk is needed. Errors: of a shape. */
@@ -186,53 +234,71 @@ static inline uint32_t ftl_measure(const struct ftl_shape *shape, struct ftl_siz
     return shape == NULL || sizes == NULL ? (uint32_t)FTL_NULL : ftl_entry_measure(shape, sizes);
 }
 
+/* Sets `*view` to all that the disk tells of itself, of one moment, started or not. Nothing is asked of the die. No other error than FTL_NULL. */
+static inline uint32_t ftl_look(ftl_disk *disk, struct ftl_view *view) {
+    struct ftl_handle handle;
+    handle.at = disk;
+    return disk == NULL || view == NULL ? (uint32_t)FTL_NULL : ftl_entry_look(&handle, view);
+}
+
 /* Sets `*sizes` to what follows from the shape that the disk was opened with, started or not. No other error than FTL_NULL. */
 static inline uint32_t ftl_get_sizes(ftl_disk *disk, struct ftl_sizes *sizes) {
-    struct ftl_shape shape;
+    struct ftl_view view;
     if (disk == NULL || sizes == NULL) return FTL_NULL;
-    shape.data_bytes = ftl_entry_count(disk, 0);
-    shape.spare_bytes = ftl_entry_count(disk, 1);
-    shape.pages = ftl_entry_count(disk, 2);
-    shape.blocks = ftl_entry_count(disk, 3);
-    shape.sectors = ftl_entry_count(disk, 4);
-    shape.cache = ftl_entry_count(disk, 5);
-    return ftl_entry_measure(&shape, sizes);
+    (void)ftl_look(disk, &view);
+    return ftl_entry_measure(&view.shape, sizes);
 }
 
 /* Makes a fresh die ready, once in its life: it is reset, each page is read, bad blocks are found, and their table is written. The disk is not started
  * by it. All its memory is given back. Errors: FTL_STARTED; of ftl_format; FTL_OUT_OF_MEMORY: nothing was written; FTL_BUS_FAULT. After the last, and
  * after FTL_WRITE_FAILED, pages may be written, and a next ftl_format is then answered FTL_NOT_FRESH. */
-static inline uint32_t ftl_format(ftl_disk *disk) { return disk == NULL ? (uint32_t)FTL_NULL : ftl_entry_format(disk); }
+static inline uint32_t ftl_format(ftl_disk *disk) {
+    struct ftl_handle handle;
+    handle.at = disk;
+    return disk == NULL ? (uint32_t)FTL_NULL : ftl_entry_format(&handle);
+}
 
 /* Power comes: the die is reset, each page is read, and the device is started with the array of sectors that the die holds. Where power went with more
  * sectors unflushed than the cache has entries, it starts with a larger cache first, up to 65536 entries, flushes, and begins anew; a device that takes no
  * change any more keeps the larger one. Errors: FTL_STARTED; of a start; FTL_OUT_OF_MEMORY; FTL_BUS_FAULT; where it had to flush, those of a device. The disk has no device after each, its
  * memory is given back, and the die holds the array that it held. */
-static inline uint32_t ftl_start(ftl_disk *disk) { return disk == NULL ? (uint32_t)FTL_NULL : ftl_entry_start(disk); }
+static inline uint32_t ftl_start(ftl_disk *disk) {
+    struct ftl_handle handle;
+    handle.at = disk;
+    return disk == NULL ? (uint32_t)FTL_NULL : ftl_entry_start(&handle);
+}
 
 /* As ftl_start, and the die has to hold just what this certificate says, `size` bytes that ftl_certify wrote: so what another wrote to the die between
  * is seen. Each page is read for that too; a start that reads less could promise less. It flushes nothing.
  * Errors: FTL_STARTED; FTL_WRONG_SIZE; of ftl_start_certified; of a start; FTL_OUT_OF_MEMORY; FTL_BUS_FAULT. The disk has no device after each,
  * and the die was asked for reads alone. */
 static inline uint32_t ftl_start_certified(ftl_disk *disk, const uint8_t *certificate, size_t size) {
-    return disk == NULL || certificate == NULL ? (uint32_t)FTL_NULL : ftl_entry_start_certified(disk, certificate, size);
+    struct ftl_handle handle;
+    handle.at = disk;
+    return disk == NULL || certificate == NULL ? (uint32_t)FTL_NULL : ftl_entry_start_certified(&handle, certificate, size);
 }
 
 /* Writes the certificate of what the die holds, for the cache of the disk, to `certificate`: `size` has to be certificate_bytes. The die is reset, and each page is
  * read. Take it after ftl_flush and ftl_stop. Any write, trim, flush or turn after it makes it out of date.
  * Errors: FTL_STARTED; FTL_WRONG_SIZE; of a start; FTL_OUT_OF_MEMORY; FTL_BUS_FAULT. `certificate` is as it was after each. */
 static inline uint32_t ftl_certify(ftl_disk *disk, uint8_t *certificate, size_t size) {
-    return disk == NULL || certificate == NULL ? (uint32_t)FTL_NULL : ftl_entry_certify(disk, certificate, size);
+    struct ftl_handle handle;
+    handle.at = disk;
+    return disk == NULL || certificate == NULL ? (uint32_t)FTL_NULL : ftl_entry_certify(&handle, certificate, size);
 }
 
 /* Power goes: the device is given up with all its memory, and nothing is written. What was answered FTL_DONE lasts all the same; a flush before it keeps
  * the next start short. Of a disk with no device nothing is done. No other error than FTL_NULL. */
-static inline uint32_t ftl_stop(ftl_disk *disk) { return disk == NULL ? (uint32_t)FTL_NULL : ftl_entry_stop(disk); }
+static inline uint32_t ftl_stop(ftl_disk *disk) {
+    struct ftl_handle handle;
+    handle.at = disk;
+    return disk == NULL ? (uint32_t)FTL_NULL : ftl_entry_stop(&handle);
+}
 
-/* Stops the disk and gives its handle back to the heap: it is none any more. NULL is done at once. */
+/* Stops a disk that ftl_open made and gives it back to the heap: it is none any more. NULL is done at once. A disk of ftl_open_at is done with after ftl_stop. */
 static inline void ftl_close(ftl_disk *disk) {
     if (disk != NULL) {
-        (void)ftl_entry_stop(disk);
+        (void)ftl_stop(disk);
         rattle_dealloc(disk);
     }
 }
@@ -241,48 +307,73 @@ static inline void ftl_close(ftl_disk *disk) {
  * Errors: FTL_NOT_STARTED; FTL_WRONG_SIZE; FTL_OUT_OF_RANGE; FTL_DAMAGED, which doesn't stop the device; FTL_BUS_FAULT, which does. `data` is as it
  * was after each. */
 static inline uint32_t ftl_read(ftl_disk *disk, uint32_t sector, uint8_t *data, size_t size) {
-    return disk == NULL || data == NULL ? (uint32_t)FTL_NULL : ftl_entry_read(disk, sector, data, size);
+    struct ftl_handle handle;
+    handle.at = disk;
+    return disk == NULL || data == NULL ? (uint32_t)FTL_NULL : ftl_entry_read(&handle, sector, data, size);
 }
 
 /* Writes a sector: `size` has to be sector_bytes. Once it is answered FTL_DONE it lasts, with no flush.
  * Errors: FTL_NOT_STARTED; FTL_WRONG_SIZE; FTL_OUT_OF_RANGE; FTL_READ_ONLY; FTL_SEQUENCE_SPENT; FTL_OUT_OF_MEMORY: the sector has its old bytes after each of these.
  * FTL_DAMAGED, FTL_BUS_FAULT: the device is stopped, and what the die holds of the sector is told by the next start. */
 static inline uint32_t ftl_write(ftl_disk *disk, uint32_t sector, const uint8_t *data, size_t size) {
-    return disk == NULL || data == NULL ? (uint32_t)FTL_NULL : ftl_entry_write(disk, sector, data, size);
+    struct ftl_handle handle;
+    handle.at = disk;
+    return disk == NULL || data == NULL ? (uint32_t)FTL_NULL : ftl_entry_write(&handle, sector, data, size);
 }
 
 /* Trims a sector, which then reads as 00h bytes. Errors: as ftl_write, but FTL_WRONG_SIZE. */
-static inline uint32_t ftl_trim(ftl_disk *disk, uint32_t sector) { return disk == NULL ? (uint32_t)FTL_NULL : ftl_entry_trim(disk, sector); }
+static inline uint32_t ftl_trim(ftl_disk *disk, uint32_t sector) {
+    struct ftl_handle handle;
+    handle.at = disk;
+    return disk == NULL ? (uint32_t)FTL_NULL : ftl_entry_trim(&handle, sector);
+}
 
 /* Writes to the die what is known in memory alone, so that the next start is short. No sector changes, and none needs it to last.
  * Errors: FTL_NOT_STARTED; FTL_READ_ONLY; FTL_SEQUENCE_SPENT; FTL_DAMAGED and FTL_BUS_FAULT, which stop the device. */
-static inline uint32_t ftl_flush(ftl_disk *disk) { return disk == NULL ? (uint32_t)FTL_NULL : ftl_entry_flush(disk); }
+static inline uint32_t ftl_flush(ftl_disk *disk) {
+    struct ftl_handle handle;
+    handle.at = disk;
+    return disk == NULL ? (uint32_t)FTL_NULL : ftl_entry_flush(&handle);
+}
 
 /* An idle moment: pages are moved out of failed blocks, or a collection goes a step on, or nothing is done. No sector changes. Errors: as ftl_flush. */
-static inline uint32_t ftl_turn(ftl_disk *disk) { return disk == NULL ? (uint32_t)FTL_NULL : ftl_entry_turn(disk); }
+static inline uint32_t ftl_turn(ftl_disk *disk) {
+    struct ftl_handle handle;
+    handle.at = disk;
+    return disk == NULL ? (uint32_t)FTL_NULL : ftl_entry_turn(&handle);
+}
 
 /* Sets `*state` to how the device stands. Nothing is asked of the die. Errors: FTL_NOT_STARTED. */
 static inline uint32_t ftl_get_state(ftl_disk *disk, struct ftl_state *state) {
+    struct ftl_view view;
     if (disk == NULL || state == NULL) return FTL_NULL;
-    if (ftl_entry_count(disk, 6) == 0) return FTL_NOT_STARTED;
-    state->free_blocks = ftl_entry_count(disk, 7);
-    state->good_blocks = ftl_entry_count(disk, 8);
-    state->bad_blocks = ftl_entry_count(disk, 9);
-    state->most_erases = ftl_entry_count(disk, 10);
-    state->read_only = ftl_entry_count(disk, 11);
-    state->stopped = ftl_entry_count(disk, 12);
+    (void)ftl_look(disk, &view);
+    if (!view.is_started) return FTL_NOT_STARTED;
+    *state = view.state;
     return FTL_DONE;
 }
 
 /* Sets `*shortage` to the counts of the last ftl_read, ftl_write, ftl_trim, ftl_flush or ftl_turn that the device was told, where that was answered FTL_READ_ONLY.
  * Nothing is asked of the die. Errors: FTL_NOT_STARTED; FTL_NO_SHORTAGE. */
 static inline uint32_t ftl_get_shortage(ftl_disk *disk, struct ftl_shortage *shortage) {
+    struct ftl_view view;
     if (disk == NULL || shortage == NULL) return FTL_NULL;
-    if (ftl_entry_count(disk, 6) == 0) return FTL_NOT_STARTED;
-    if (ftl_entry_count(disk, 13) == 0) return FTL_NO_SHORTAGE;
-    shortage->good = ftl_entry_count(disk, 14);
-    shortage->need = ftl_entry_count(disk, 15);
-    shortage->failed = ftl_entry_count(disk, 16);
+    (void)ftl_look(disk, &view);
+    if (!view.is_started) return FTL_NOT_STARTED;
+    if (!view.is_short) return FTL_NO_SHORTAGE;
+    *shortage = view.shortage;
+    return FTL_DONE;
+}
+
+/* Sets `*errors` to what was wrong with the reads of the chip since the device was started. A block of which many bits are wrong wears out. Nothing is asked of
+ * the die. Errors: FTL_NOT_STARTED; FTL_NO_CODES. */
+static inline uint32_t ftl_get_errors(ftl_disk *disk, struct ftl_errors *errors) {
+    struct ftl_view view;
+    if (disk == NULL || errors == NULL) return FTL_NULL;
+    (void)ftl_look(disk, &view);
+    if (!view.is_started) return FTL_NOT_STARTED;
+    if (!view.shape.codes) return FTL_NO_CODES;
+    *errors = view.errors;
     return FTL_DONE;
 }
 

@@ -16,7 +16,7 @@
 #include "ftl.h"
 #include "heap.h"
 
-static struct ftl_shape shape = {2048, 64, 64, 256, 8000, 4096};
+static struct ftl_shape shape = {2048, 64, 64, 256, 8000, 4096, 0};
 static struct die die;
 static struct cycles cycles;
 static ftl_disk *disk;

@@ -55,7 +55,7 @@ void die_mark(struct die *die, uint32_t block)
 void die_power(struct die *die)
 {
     die->off = 0;
-    die->cut_in = die->fail_in = die->flip_in = 0;
+    die->cut_in = die->fail_in = die->flip_in = die->twice_in = 0;
     die->phase = UNRESET;
     die->output = NOTHING_OUT;
     die->status = PASSED;
@@ -283,11 +283,34 @@ uint8_t die_data_in(struct die *die, const uint8_t *bytes, size_t count)
     return TAKEN;
 }
 
+static void turn_a_bit(struct die *die, uint8_t *bytes, size_t count)
+{
+    die->noise = die->noise * 1664525u + 1013904223u;
+    bytes[(die->noise >> 8) % count] ^= (uint8_t)(1u << (die->noise >> 28) % 8);
+}
+
+/* What a read of a chip with wrong bits puts out. */
+static void add_noise(struct die *die, uint8_t *bytes, size_t count)
+{
+    if (die->column >= die->data) {
+        turn_a_bit(die, bytes, count < 32 ? count : 32);
+        return;
+    }
+    for (size_t at = 0; at < count; at += 256)
+        turn_a_bit(die, bytes + at, count - at < 256 ? count - at : 256);
+}
+
 static uint8_t page_out(struct die *die, uint8_t *bytes, size_t count)
 {
     if (count > page_bytes(die) - die->column)
         return refuse(die, COLUMN_RANGE);
     memcpy(bytes, page_at(die, die->row) + die->column, count);
+    if (count && comes(&die->twice_in)) {
+        bytes[0] ^= 1;
+        bytes[count < 32 ? count - 1 : 31] ^= 2;
+    } else if (count && die->noisy) {
+        add_noise(die, bytes, count);
+    }
     die->column += (uint32_t)count;
     die->reads++;
     if (count && comes(&die->flip_in))

@@ -37,6 +37,9 @@ struct die {
     enum die_cut cut;
     long fail_in;         /* the nth program or erase fails, and its block is barred */
     long flip_in;         /* the nth data out of a page has one bit turned */
+    long twice_in;        /* the nth data out of a page has two bits turned in its first 32 bytes: more than the codes of a page turn back */
+    int noisy;            /* each data out has a bit turned in each 256 bytes of the data area, and one in the first 32 of the spare area */
+    uint32_t noise;
 
     unsigned long programs, erases, illegal, reads; /* asked for so far */
 };

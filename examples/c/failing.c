@@ -1,4 +1,5 @@
-/* Example 3. The die of example 1 with blocks that fail one after another, and with bytes that come out wrong: what a caller sees of it. */
+/* Example 3. The die of example 1 with blocks that fail one after another, and with bytes that come out wrong: what a caller sees of it. Then a chip of which each read has
+ * wrong bits, whose pages stand there with codes. */
 #include <stdio.h>
 #include <stdlib.h>
 #include <string.h>
@@ -13,6 +14,10 @@ enum { SECTORS = 300, BYTES = 512, FAILURES = 8 };
 
 static const struct ftl_shape shape = {
     .data_bytes = BYTES, .spare_bytes = 64, .pages = 16, .blocks = 64, .sectors = SECTORS, .cache = 32};
+
+/* The same chip: of its 64 spare bytes the codes take 9. */
+static const struct ftl_shape coded = {
+    .data_bytes = BYTES, .spare_bytes = 55, .pages = 16, .blocks = 64, .sectors = SECTORS, .cache = 32, .codes = 1};
 
 static unsigned char memory[128 * 1024];
 static struct die die;
@@ -148,17 +153,129 @@ static void too_few_are_left(void)
     puts("every sector reads as it was answered for, before a restart and after it");
 }
 
-int main(void)
+static struct ftl_errors errors_now(void)
 {
-    heap_give(memory, sizeof memory);
-    if (die_make(&die, shape.data_bytes, shape.spare_bytes, shape.pages, shape.blocks))
-        return 2;
+    struct ftl_errors errors = {0};
+
+    WANT(FTL_DONE, ftl_get_errors(disk, &errors));
+    THAT(errors.most_turned <= errors.turned && errors.most_lost <= errors.lost);
+    THAT(errors.most_turned_block < coded.blocks && errors.most_lost_block < coded.blocks);
+    return errors;
+}
+
+/* A chip with the power on, behind the port, and a disk over it. */
+static void chip_and_disk(const struct ftl_shape *of)
+{
+    struct ftl_sizes sizes = {0};
+
+    WANT(FTL_DONE, ftl_measure(of, &sizes));
+    THAT(sizes.chip_spare_bytes == 64);
+    if (die_make(&die, of->data_bytes, sizes.chip_spare_bytes, of->pages, of->blocks))
+        exit(2);
     die_mark(&die, 7);
     cycles = cycles_of_die(&die);
     port_to(&cycles);
-    WANT(FTL_DONE, ftl_open(&shape, PORT, PORT, &disk));
+    memset(version, 0, sizeof version);
+    WANT(FTL_DONE, ftl_open(of, PORT, PORT, &disk));
+}
+
+/* Every read has wrong bits, and blocks fail: each call is done, and the bits are counted, by block. */
+static void bits_are_turned_back(void)
+{
+    struct ftl_errors errors = {0}, later;
+
+    die.noisy = 1;
+    WANT(FTL_NOT_STARTED, ftl_get_errors(disk, &errors));
     WANT(FTL_DONE, ftl_format(disk));
     WANT(FTL_DONE, ftl_start(disk));
+    errors = errors_now();
+    /* the start looked at each page: one bit in each of two chunks of its data, and one beside them */
+    THAT(errors.turned >= 3ull * coded.pages * coded.blocks - 3 && errors.lost <= 1);
+    for (int i = 0; i < 2000; i++) {
+        if (i % 500 == 100)
+            die.fail_in = 1 + (long)any(20);
+        WANT(FTL_DONE, write_one(any(SECTORS)));
+        if (i % 2)
+            WANT(FTL_DONE, ftl_turn(disk));
+    }
+    look_at_all();
+    later = errors_now();
+    THAT(later.turned > errors.turned && later.most_turned > 0);
+    printf("%llu wrong bits were turned back in 2000 writes; block %u had the most, %llu; %u blocks failed\n",
+           (unsigned long long)later.turned, later.most_turned_block, (unsigned long long)later.most_turned, state_now().bad_blocks - 1);
+    THAT(state_now().bad_blocks == 1 + 4);
+}
+
+/* A page with two wrong bits in a chunk is lost for that read: it is said and counted, and no wrong byte is shown. */
+static void a_page_is_lost(void)
+{
+    struct ftl_errors before = errors_now();
+    unsigned damaged = 0;
+
+    for (int i = 0; i < 300; i++) {
+        uint32_t sector = any(SECTORS), answer;
+        die.twice_in = 1 + (long)any(4);
+        answer = ftl_read(disk, sector, seen, BYTES);
+        fill(sector);
+        damaged += answer == FTL_DAMAGED;
+        if (answer == FTL_DONE)
+            THAT(memcmp(seen, data, BYTES) == 0);
+        else
+            WANT(FTL_DAMAGED, answer);
+    }
+    die.twice_in = 0;
+    THAT(damaged > 0 && errors_now().lost >= before.lost + damaged);
+    look_at_all();
+    printf("300 reads with a page that may be lost: %u answered FTL_DAMAGED, %llu pages lost in all\n", damaged, (unsigned long long)errors_now().lost);
+}
+
+/* The power goes in the middle of a program, and comes back. */
+static void power_over_wrong_bits(void)
+{
+    struct ftl_view view;
+    uint32_t answer = FTL_DONE, sector = 0;
+
+    die.cut_in = 40;
+    die.cut = CUT_TORN;
+    while (answer == FTL_DONE)
+        answer = write_one(sector = any(SECTORS));
+    WANT(FTL_BUS_FAULT, answer);
+    WANT(FTL_DONE, ftl_stop(disk));
+    WANT(FTL_DONE, ftl_look(disk, &view));
+    THAT(view.is_started == 0 && view.errors.turned == 0 && view.shape.codes == 1);
+    die_power(&die);
+    WANT(FTL_DONE, ftl_start(disk));
+    look_at_all();
+    puts("after a loss of power every sector is as it was answered for");
+}
+
+static void a_chip_with_wrong_bits(void)
+{
+    struct ftl_shape none = coded;
+
+    none.codes = 2;
+    WANT(FTL_CODES, ftl_open(&none, PORT, PORT, &disk));
+    none.codes = 1;
+    none.spare_bytes = 248;
+    WANT(FTL_CODES, ftl_open(&none, PORT, PORT, &disk));
+    chip_and_disk(&coded);
+    bits_are_turned_back();
+    a_page_is_lost();
+    power_over_wrong_bits();
+    ftl_close(disk);
+    THAT(die.illegal == 0);
+    die_free(&die);
+}
+
+int main(void)
+{
+    struct ftl_errors errors;
+
+    heap_give(memory, sizeof memory);
+    chip_and_disk(&shape);
+    WANT(FTL_DONE, ftl_format(disk));
+    WANT(FTL_DONE, ftl_start(disk));
+    WANT(FTL_NO_CODES, ftl_get_errors(disk, &errors));
     some_blocks_fail();
     wrong_bytes();
     wrong_byte_in_a_write();
@@ -166,5 +283,6 @@ int main(void)
     ftl_close(disk);
     THAT(die.illegal == 0);
     die_free(&die);
+    a_chip_with_wrong_bits();
     return heap_live != 0;
 }

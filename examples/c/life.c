@@ -101,7 +101,7 @@ static void end(ftl_disk *disk)
 
 void life(struct board *board)
 {
-    ftl_disk *disk;
+    ftl_disk *disk = NULL;
     uint32_t torn;
 
     memset(version, 0, sizeof version);

@@ -1,5 +1,5 @@
 -- Calls on a device, one after another.
-use Rattle.std.proofs.Common.{◌≡◌, ◌≢◌, ◌⊎◌, inl, inr, ℕ, Bool, true, false, List, [], ◌∷◌, ◌++◌, length, Option, Some, None, Result, Ok, Err, refl, sym, ap, ◌∙◌, subst, append_assoc, append-nil}
+use Rattle.std.proofs.Common.{◌≡◌, ◌≢◌, inl, inr, ℕ, Bool, true, false, List, [], ◌∷◌, ◌++◌, Option, Some, None, Result, Ok, Err, refl, sym, ap, ◌∙◌, subst, append_assoc, append-nil}
 use Rattle.std.proofs.lemmas.Bool.{cases_eq}
 use Rattle.page_layout.specs.Flash.{Flash}
 use Rattle.page_layout.specs.Recording.{Recording}
@@ -18,10 +18,9 @@ use Rattle.command_queue.specs.Told.{WasTold, RunsTo}
 use Rattle.command_queue.proofs.AcceptedLemmas.{started_well, ran_accepted}
 use Rattle.command_queue.proofs.ToldLemmas.{told_none, told_more, until_so}
 use Rattle.device_slot.specs.declared.slot.CallFault.{CallFault}
-use Rattle.device_slot.specs.declared.slot.CallFault.TheVariants.{WrongSize}
 use Rattle.device_slot.specs.declared.slot.Shortage.{Shortage}
-use Rattle.device_slot.specs.Begun.{IsBegun, IsKept}
-use Rattle.device_slot.specs.Calls.{answer_of, Told, ToldSized, Call, IsTold, HasCalled, CalledEach, exchange_by, exchanges_in}
+use Rattle.device_slot.specs.Begun.{IsKept}
+use Rattle.device_slot.specs.Calls.{answer_of, Told, Call, CalledEach, exchange_by, exchanges_in}
 use Rattle.device_slot.specs.Laws.{SizedCallLaw, CallsToldLaw, CallsRunLaw, RunsFromBegun}
 
 nil_on : (xs : List Exchange) → [] ++ xs ≡ xs

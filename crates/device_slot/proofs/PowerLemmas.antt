@@ -1,5 +1,5 @@
 -- What power brings, and what it leaves.
-use Rattle.std.proofs.Common.{◌≡◌, ◌≢◌, ◌↔◌, ◌⊎◌, ◌<◌, ◌≤◌, inl, inr, arith, refl, ℕ, max, Bool, true, List, Option, None, Some, Result, Ok, Err, sym, ap, ◌∙◌, subst}
+use Rattle.std.proofs.Common.{◌≡◌, ◌≢◌, ◌↔◌, ◌<◌, ◌≤◌, inl, inr, arith, refl, ℕ, Bool, true, Option, None, Some, Result, Ok, Err, sym, ap, ◌∙◌, subst}
 use Rattle.std.proofs.lemmas.Bool.{cases_lt}
 use Rattle.page_layout.specs.declared.geometry.Geometry.{Geometry}
 use Rattle.page_layout.specs.Array.{array_of}
@@ -8,7 +8,7 @@ use Rattle.page_layout.specs.Page.{Image}
 use Rattle.page_layout.specs.Recording.{Recording}
 use Rattle.allocation.specs.View.{state}
 use Rattle.promises.specs.Legal.{accounts_of}
-use Rattle.promises.specs.Step.{State, Flush, Reply, QuietStep}
+use Rattle.promises.specs.Step.{Flush}
 use Rattle.promises.proofs.StepLemmas.{quiet}
 use Rattle.std.specs.Prelude.{IfOk, IfErr}
 use Rattle.page_layout.specs.Counter.{HasRisen}
@@ -17,24 +17,23 @@ use Rattle.image_check.specs.Accepted.{Acceptance}
 use Rattle.image_check.specs.Stale.{stale_count}
 use Rattle.image_check.specs.declared.refusal.Refusal.{Refusal}
 use Rattle.image_check.specs.declared.refusal.Refusal.TheVariants.{GeometryDiffers, Source, TooStale, WrongLength}
-use Rattle.image_check.specs.Mountable.{IsMountable}
-use Rattle.mount.specs.Mounted.{IsOfMounting, IsUnmountable, Refuses, Shows}
+use Rattle.mount.specs.Mounted.{Refuses, Shows}
 use Rattle.collection.specs.Safe.{ram, image_in}
 use Rattle.collection.specs.State.{Ram}
 use Rattle.collection.specs.Truth.{IsTrue}
 use Rattle.collection.specs.Log.{IsAccounted}
 use Rattle.ftl_device.specs.declared.device.Device.{Device}
 use Rattle.ftl_device.specs.declared.fault.DeviceFault.{DeviceFault}
-use Rattle.ftl_device.specs.declared.fault.DeviceFault.TheVariants.{OutOfRange, ReadOnly, SequenceSpent, OutOfMemory, Damaged, BusFault}
+use Rattle.ftl_device.specs.declared.fault.DeviceFault.TheVariants.{Damaged, BusFault}
 use Rattle.ftl_device.specs.Begin.{begun_ram, is_bad_in, free_in, is_scarce}
-use Rattle.ftl_device.specs.Calls.{IsWell, Says, array_in, state_in, reply_of, stop_of}
+use Rattle.ftl_device.specs.Calls.{Says, array_in, state_in, reply_of, stop_of}
 use Rattle.ftl_device.specs.Changes.{Upkeeps}
 use Rattle.ftl_device.specs.Device.{IsDevice, IsAcceptedFor}
 use Rattle.command_queue.proofs.AcceptedLemmas.{started_well}
 use Rattle.collection.proofs.Costs.{risen_over}
 use Rattle.device_slot.specs.declared.power.PowerFault.{PowerFault}
 use Rattle.device_slot.specs.declared.power.PowerFault.TheVariants.{Refused, Start, Flush as OfFlush}
-use Rattle.device_slot.specs.Begun.{IsBegun, IsKept}
+use Rattle.device_slot.specs.Begun.{IsBegun}
 use Rattle.device_slot.specs.Power.{nand_of, entries_for, HasCertificate, HoldsSame, IsBrought, IsHandedBack, IsPastEachCache, IsTooStale, IsUnbrought, IsUnmounted, IsUnsettled, IsUnsettledWith, StopsFlush, WantsCache, WantsMore}
 
 pub begun_so : {N : Type 0} (flash : N → Flash) (honest : N → Bool) (d : Device N) (nand : N) (a : Acceptance) → IsDevice flash d → d.engine.nand ≡ nand

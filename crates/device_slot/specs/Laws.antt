@@ -1,8 +1,7 @@
 -- WHAT CALLS COME TO.
-use Rattle.std.specs.Prelude.{◌≡◌, ℕ, Bool, true, List, length, Option, Result}
+use Rattle.std.specs.Prelude.{◌≡◌, ℕ, Bool, true, List, Option}
 use Rattle.page_layout.specs.Flash.{Flash}
 use Rattle.page_layout.specs.Recording.{Recording}
-use Rattle.promises.specs.Step as step
 use Rattle.ftl_device.specs.declared.device.Device.{Device}
 use Rattle.ftl_device.specs.Device.{IsDevice}
 use Rattle.ftl_device.specs.Calls.{IsWell}
@@ -10,10 +9,9 @@ use Rattle.command_queue.specs.Exchanges.{Exchange}
 use Rattle.command_queue.specs.Run.{RanFrom}
 use Rattle.command_queue.specs.Tells.{Tells}
 use Rattle.command_queue.specs.Told.{Until, WasTold}
-use Rattle.device_slot.specs.declared.slot.CallFault.{CallFault}
 use Rattle.device_slot.specs.declared.slot.Shortage.{Shortage}
 use Rattle.device_slot.specs.Begun.{IsBegun}
-use Rattle.device_slot.specs.Calls.{Call, Told, ToldSized, HasCalled, CalledEach, exchanges_in}
+use Rattle.device_slot.specs.Calls.{Call, ToldSized, HasCalled, CalledEach, exchanges_in}
 
 -- a call that hands over bytes is one of these
 abbrev pub SizedCallLaw : {N : Type 0} → (N → Flash) → (N → Option Recording) → (N → Bool) → (failed erases : N → ℕ) → Type 0

@@ -1,6 +1,5 @@
 -- WHAT STANDS IN A SLOT.
-use Rattle.std.specs.Prelude.{◌≡◌, ◌≤◌, ◌<◌, ◌+◌, ℕ, Bool, Option, Some, None, length, List}
-use Rattle.page_layout.specs.Flash.{Flash}
+use Rattle.std.specs.Prelude.{◌≡◌, ◌≤◌, ◌<◌, ◌+◌, ℕ, Option, Some, None, length, List}
 use Rattle.bad_blocks.specs.declared.table.TableRow.{TableRow}
 use Rattle.bad_blocks.specs.Table.{good_count, wear_at}
 use Rattle.allocation.specs.State.{free_count}
@@ -36,3 +35,8 @@ Reports None None = Unit {0}
 Reports None (Some r) = ⊥
 Reports (Some d) None = ⊥
 Reports (Some d) (Some r) = Stands d r
+
+-- the die of a device, if there is one
+abbrev pub nand_in : {N : Type 0} → Option (Device N) → Option N
+nand_in None = None
+nand_in (Some d) = Some d.engine.nand

@@ -32,6 +32,22 @@ pub enum PowerFault<N> {
     Flush { fault: DeviceFault, nand: N },
 }
 
+impl<N> PowerFault<N> {
+    ghost use Rattle.std.specs.Prelude.{◌≡◌};
+    ghost use Rattle.device_slot.specs.Power.{nand_of};
+
+    /// The die that comes back.
+    pub fn into_nand(self) -> N
+        ensures { result ≡ nand_of self }
+    {
+        match self {
+            PowerFault::Refused { nand, .. }
+            | PowerFault::Start { nand }
+            | PowerFault::Flush { nand, .. } => nand,
+        }
+    }
+}
+
 // The device that begins from an accepted certificate. The die comes back where a growth was refused.
 fn begin<'a, N: Nand>(alloc: Global, nand: N, accepted: Accepted<'a>) -> Result<Device<N>, N>
     requires same_geometry { sizes_of (N.flash nand).geometry ≡ accepted.claim.sizes }
@@ -191,17 +207,6 @@ fn stale_in<N>(fault: &PowerFault<N>, capacity: u32) -> Option<u32>
     }
 }
 
-// The die that comes back.
-fn nand_in<N>(fault: PowerFault<N>) -> N
-    ensures { result ≡ nand_of fault }
-{
-    match fault {
-        PowerFault::Refused { nand, .. }
-        | PowerFault::Start { nand }
-        | PowerFault::Flush { nand, .. } => nand,
-    }
-}
-
 // One look, in the words of several.
 fn look<N: Nand>(
     alloc: Global,
@@ -242,7 +247,7 @@ fn start_either<N: Nand>(
         Err(fault) => fault,
     };
     match stale_in(&fault, capacity) {
-        Some(stale) => look(alloc, nand_in(fault), geometry, stale),
+        Some(stale) => look(alloc, fault.into_nand(), geometry, stale),
         None => Err(fault),
     }
 }
@@ -304,7 +309,7 @@ pub fn start<N: Nand>(
         Err(fault) => fault,
     };
     match stale_in(&fault, capacity) {
-        Some(stale) => start_settled(alloc, nand_in(fault), geometry, capacity, stale),
+        Some(stale) => start_settled(alloc, fault.into_nand(), geometry, capacity, stale),
         None => Err(fault),
     }
 }

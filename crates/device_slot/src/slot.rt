@@ -145,11 +145,11 @@ fn write<N: Nand>(
 }
 
 impl<N: Nand> Slot<N> {
-    ghost use Rattle.std.specs.Prelude.{◌≡◌, [], None, length, IsSome, IfSome, ◌↔◌, true};
+    ghost use Rattle.std.specs.Prelude.{◌≡◌, [], None, length, IsSome, IfSome, ◌↔◌, true, option_copied};
     ghost use Rattle.std.specs.Option.{is_some};
     ghost use Rattle.promises.specs.Step as step;
     ghost use Rattle.device_slot.specs.Calls.{IsCall, Told, ToldSized};
-    ghost use Rattle.device_slot.specs.Slot.{Reports};
+    ghost use Rattle.device_slot.specs.Slot.{Reports, nand_in};
 
     /// An empty one.
     pub fn new() -> Slot<N>
@@ -183,6 +183,16 @@ impl<N: Nand> Slot<N> {
             return None;
         };
         Some(report_of(device))
+    }
+
+    /// The die of the device that stands there. Nothing is asked of it.
+    pub fn nand(&self) -> Option<&N>
+        ensures { option_copied result ≡ nand_in self.now.device }
+    {
+        let Some(device) = &self.device else {
+            return None;
+        };
+        Some(&device.engine.nand)
     }
 
     /// Reads a sector into `out`: `Device::read`, told as `command_queue::tell` does.

@@ -1,18 +1,19 @@
 //! What C calls. The header looks for NULL first.
-ghost use Rattle.std.specs.Prelude.{◌≡◌, ◌⊎◌};
-ghost use Rattle.std.specs.Borrow.{full_share, sem};
-ghost use Rattle.std.specs.Ptr.{lies_at};
-ghost use base.Fml.{fex};
-ghost use Rattle.ftl_c.specs.Counts.{Counts};
-ghost use Rattle.ftl_c.specs.Disk.{Certifies, Flushes, Formats, Reads, Starts, StartsCertified, Stops, Trims, Turns, Writes};
-ghost use Rattle.ftl_c.specs.Measures as measured;
-ghost use Rattle.ftl_c.specs.contracts.disk.Disk.{the_row as disk_row};
+ghost use Rattle.std.specs.Prelude.{◌≡◌, None};
+ghost use Rattle.std.specs.Mem.{type_size};
+ghost use Rattle.ftl_c.specs.Room.{IsOpened};
+ghost use Rattle.ftl_disk.specs.contracts.disk.Disk.{the_row as disk_row};
+ghost use Rattle.ftl_disk.specs.Disk.{Certifies, Flushes, Formats, Reads, Starts, StartsCertified, Stops, Trims, Turns, Writes};
+ghost use Rattle.ftl_disk.specs.Look.{Looks};
+ghost use Rattle.ftl_disk.specs.Measures as measured;
 
-use crate::disk::Disk;
-use crate::measures::{Sizes, measure};
-use crate::number::DONE;
-use crate::shape::Shape;
-use crate::{certificates, counts, disk};
+use crate::handle::Handle;
+use crate::room::Room;
+use ftl_disk::disk::Disk;
+use ftl_disk::look::View;
+use ftl_disk::measures::{Sizes, tell};
+use ftl_disk::shape::Shape;
+use ftl_disk::{certificates, disk, look};
 use std::alloc::Global;
 
 /// The version: major * 65536 + minor * 256 + patch. (This project's.)
@@ -28,29 +29,34 @@ pub extern "C" fn ftl_entry_version() -> u32
 pub extern "C" fn ftl_entry_measure(shape: &Shape, sizes: &mut Sizes) -> u32
     ensures { measured.Tells shape.now result sizes.old sizes.new }
 {
-    match shape.plan() {
-        Ok(plan) => {
-            *sizes = measure(&plan.geometry, plan.cache);
-            DONE
-        }
-        Err(number) => number,
-    }
+    tell(shape, sizes)
 }
 
-/// Makes a disk of this shape, whose die answers at `input` the frames that are written to `output`, and sets `disk` to its handle, where a disk lies
-/// then. Nothing is asked of the die. Else `disk` stays. (This project's.)
+/// The bytes of a disk. Its memory has to begin at a multiple of 16. (This project's.)
+#[unsafe(no_mangle)]
+pub extern "C" fn ftl_entry_room() -> usize
+    ensures { result ≡ type_size disk_row }
+{
+    std::mem::size_of::<Disk>()
+}
+
+/// Makes a disk of this shape in the room, whose die answers at `input` the frames that are written to `output`. Nothing is asked of the die. Else the number of the
+/// first limit that the shape breaks comes, and the room stays. (This project's.)
 #[unsafe(no_mangle)]
 pub extern "C" fn ftl_entry_open(
     alloc: Global,
     shape: &Shape,
     input: i32,
     output: i32,
-    disk: &mut *mut u8,
-) -> u32 {
+    room: &mut Room,
+) -> u32
+    requires { room.old.disk ≡ None }
+    ensures { IsOpened shape.now input output result room.new.disk }
+{
     match disk::open(alloc, shape, input, output) {
-        Ok(made) => {
-            *disk = Box::into_raw(made).cast::<u8>();
-            DONE
+        Ok(disk) => {
+            room.put(disk);
+            0
         }
         Err(number) => number,
     }
@@ -58,110 +64,88 @@ pub extern "C" fn ftl_entry_open(
 
 /// Makes the die ready, once in its life. (This project's.)
 #[unsafe(no_mangle)]
-pub unsafe extern "C" fn ftl_entry_format(disk: *mut u8) -> u32
-    ghost was: { Disk }
-    requires* { sem 𝓛 (lies_at disk_row full_share disk was) }
-    ensures* { sem 𝓛 (fex ((is : Disk) × Formats was result is) (λ after. lies_at disk_row full_share disk after.0)) }
+pub extern "C" fn ftl_entry_format(handle: &mut Handle) -> u32
+    ensures { Formats handle.old.disk result handle.new.disk }
 {
-    disk::format_die(unsafe { &mut *disk.cast::<Disk>() })
+    disk::format_die(handle.disk())
 }
 
 /// Power comes: the die is reset and mounted, and the device starts. (This project's.)
 #[unsafe(no_mangle)]
-pub unsafe extern "C" fn ftl_entry_start(disk: *mut u8) -> u32
-    ghost was: { Disk }
-    requires* { sem 𝓛 (lies_at disk_row full_share disk was) }
-    ensures* { sem 𝓛 (fex ((is : Disk) × Starts was result is) (λ after. lies_at disk_row full_share disk after.0)) }
+pub extern "C" fn ftl_entry_start(handle: &mut Handle) -> u32
+    ensures { Starts handle.old.disk result handle.new.disk }
 {
-    disk::start(unsafe { &mut *disk.cast::<Disk>() })
+    disk::start(handle.disk())
 }
 
 /// Power comes, and the die has to hold what the certificate says. (This project's.)
 #[unsafe(no_mangle)]
-pub unsafe extern "C" fn ftl_entry_start_certified(disk: *mut u8, certificate: &[u8]) -> u32
-    ghost was: { Disk }
-    requires* { sem 𝓛 (lies_at disk_row full_share disk was) }
-    ensures* { sem 𝓛 (fex ((is : Disk) × StartsCertified was certificate.now result is) (λ after. lies_at disk_row full_share disk after.0)) }
+pub extern "C" fn ftl_entry_start_certified(handle: &mut Handle, certificate: &[u8]) -> u32
+    ensures { StartsCertified handle.old.disk certificate.now result handle.new.disk }
 {
-    certificates::start_certified(unsafe { &mut *disk.cast::<Disk>() }, certificate)
+    certificates::start_certified(handle.disk(), certificate)
 }
 
 /// Writes the certificate of what the die holds. (This project's.)
 #[unsafe(no_mangle)]
-pub unsafe extern "C" fn ftl_entry_certify(disk: *mut u8, certificate: &mut [u8]) -> u32
-    ghost was: { Disk }
-    requires* { sem 𝓛 (lies_at disk_row full_share disk was) }
-    ensures* { sem 𝓛 (fex ((is : Disk) × Certifies was certificate.old result certificate.new is) (λ after. lies_at disk_row full_share disk after.0)) }
+pub extern "C" fn ftl_entry_certify(handle: &mut Handle, certificate: &mut [u8]) -> u32
+    ensures { Certifies handle.old.disk certificate.old result certificate.new handle.new.disk }
 {
-    certificates::certify(unsafe { &mut *disk.cast::<Disk>() }, certificate)
+    certificates::certify(handle.disk(), certificate)
 }
 
 /// Power goes: the device is given up, with no flush, and its memory given back. The handle stays. (This project's.)
 #[unsafe(no_mangle)]
-pub unsafe extern "C" fn ftl_entry_stop(disk: *mut u8) -> u32
-    ghost was: { Disk }
-    requires* { sem 𝓛 (lies_at disk_row full_share disk was) }
-    ensures* { sem 𝓛 (fex ((is : Disk) × Stops was result is) (λ after. lies_at disk_row full_share disk after.0)) }
+pub extern "C" fn ftl_entry_stop(handle: &mut Handle) -> u32
+    ensures { Stops handle.old.disk result handle.new.disk }
 {
-    disk::stop(unsafe { &mut *disk.cast::<Disk>() })
+    disk::stop(handle.disk())
 }
 
 /// Reads a sector. (This project's.)
 #[unsafe(no_mangle)]
-pub unsafe extern "C" fn ftl_entry_read(disk: *mut u8, sector: u32, out: &mut [u8]) -> u32
-    ghost was: { Disk }
-    requires* { sem 𝓛 (lies_at disk_row full_share disk was) }
-    ensures* { sem 𝓛 (fex ((is : Disk) × Reads was sector out.old result out.new is) (λ after. lies_at disk_row full_share disk after.0)) }
+pub extern "C" fn ftl_entry_read(handle: &mut Handle, sector: u32, out: &mut [u8]) -> u32
+    ensures { Reads handle.old.disk sector out.old result out.new handle.new.disk }
 {
-    disk::read(unsafe { &mut *disk.cast::<Disk>() }, sector, out)
+    disk::read(handle.disk(), sector, out)
 }
 
 /// Writes a sector. (This project's.)
 #[unsafe(no_mangle)]
-pub unsafe extern "C" fn ftl_entry_write(disk: *mut u8, sector: u32, body: &[u8]) -> u32
-    ghost was: { Disk }
-    requires* { sem 𝓛 (lies_at disk_row full_share disk was) }
-    ensures* { sem 𝓛 (fex ((is : Disk) × Writes was sector body.now result is) (λ after. lies_at disk_row full_share disk after.0)) }
+pub extern "C" fn ftl_entry_write(handle: &mut Handle, sector: u32, body: &[u8]) -> u32
+    ensures { Writes handle.old.disk sector body.now result handle.new.disk }
 {
-    disk::write(unsafe { &mut *disk.cast::<Disk>() }, sector, body)
+    disk::write(handle.disk(), sector, body)
 }
 
 /// Trims a sector, which then reads as 00h bytes. (This project's.)
 #[unsafe(no_mangle)]
-pub unsafe extern "C" fn ftl_entry_trim(disk: *mut u8, sector: u32) -> u32
-    ghost was: { Disk }
-    requires* { sem 𝓛 (lies_at disk_row full_share disk was) }
-    ensures* { sem 𝓛 (fex ((is : Disk) × Trims was sector result is) (λ after. lies_at disk_row full_share disk after.0)) }
+pub extern "C" fn ftl_entry_trim(handle: &mut Handle, sector: u32) -> u32
+    ensures { Trims handle.old.disk sector result handle.new.disk }
 {
-    disk::trim(unsafe { &mut *disk.cast::<Disk>() }, sector)
+    disk::trim(handle.disk(), sector)
 }
 
 /// Flushes. (This project's.)
 #[unsafe(no_mangle)]
-pub unsafe extern "C" fn ftl_entry_flush(disk: *mut u8) -> u32
-    ghost was: { Disk }
-    requires* { sem 𝓛 (lies_at disk_row full_share disk was) }
-    ensures* { sem 𝓛 (fex ((is : Disk) × Flushes was result is) (λ after. lies_at disk_row full_share disk after.0)) }
+pub extern "C" fn ftl_entry_flush(handle: &mut Handle) -> u32
+    ensures { Flushes handle.old.disk result handle.new.disk }
 {
-    disk::flush(unsafe { &mut *disk.cast::<Disk>() })
+    disk::flush(handle.disk())
 }
 
 /// Gives the device an idle moment. (This project's.)
 #[unsafe(no_mangle)]
-pub unsafe extern "C" fn ftl_entry_turn(disk: *mut u8) -> u32
-    ghost was: { Disk }
-    requires* { sem 𝓛 (lies_at disk_row full_share disk was) }
-    ensures* { sem 𝓛 (fex ((is : Disk) × Turns was result is) (λ after. lies_at disk_row full_share disk after.0)) }
+pub extern "C" fn ftl_entry_turn(handle: &mut Handle) -> u32
+    ensures { Turns handle.old.disk result handle.new.disk }
 {
-    disk::turn(unsafe { &mut *disk.cast::<Disk>() })
+    disk::turn(handle.disk())
 }
 
-/// One count of the disk, by its number. Nothing is asked of the die. (This project's.)
+/// Sets `view` to how the disk stands, all of one moment. Nothing is asked of the die. (This project's.)
 #[unsafe(no_mangle)]
-pub unsafe extern "C" fn ftl_entry_count(disk: *mut u8, which: u32) -> u32
-    ghost was: { Disk }
-    requires* { sem 𝓛 (lies_at disk_row full_share disk was) }
-    ensures* { sem 𝓛 (fex ((is : Disk) × Counts was which result is) (λ after. lies_at disk_row full_share disk after.0)) }
+pub extern "C" fn ftl_entry_look(handle: &mut Handle, view: &mut View) -> u32
+    ensures { Looks handle.old.disk result view.new handle.new.disk }
 {
-    counts::count(unsafe { &mut *disk.cast::<Disk>() }, which)
+    look::look(handle.disk(), view)
 }

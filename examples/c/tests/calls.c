@@ -8,7 +8,7 @@
 
 enum { CALLS = 2000, FAILURES = 12 };
 
-static const struct ftl_shape shape = {
+static struct ftl_shape shape = {
     .data_bytes = 256, .spare_bytes = 64, .pages = 16, .blocks = 64, .sectors = 300, .cache = 24};
 
 static struct die die;
@@ -154,11 +154,13 @@ int main(int count, char **words)
 {
     seed = count > 1 ? (uint32_t)strtoul(words[1], NULL, 0) : 1;
     port.pieces = count > 2 ? atoi(words[2]) : 0;
-    if (die_make(&die, shape.data_bytes, shape.spare_bytes, shape.pages, shape.blocks))
-        return 2;
-    die_mark(&die, any(shape.blocks));
-    die_mark(&die, any(shape.blocks));
+    shape.codes = count > 3;
     WANT(FTL_DONE, ftl_measure(&shape, &sizes));
+    if (die_make(&die, shape.data_bytes, sizes.chip_spare_bytes, shape.pages, shape.blocks))
+        return 2;
+    die.noisy = shape.codes == 1;
+    die_mark(&die, any(shape.blocks));
+    die_mark(&die, any(shape.blocks));
     certificate = malloc(sizes.certificate_bytes);
     list_begin(&list, &shape);
     open_disk();

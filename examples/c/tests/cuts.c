@@ -21,7 +21,7 @@ static int has(ftl_disk *disk, uint32_t sector, uint32_t version)
 /* After the next start: the array as answered for, but for one sector that may have its next version, or zeros where it was trimmed. */
 static void look(uint32_t torn, uint32_t version)
 {
-    ftl_disk *disk;
+    ftl_disk *disk = NULL;
 
     port_fresh(&die);
     die_power(&die);
@@ -43,7 +43,7 @@ static void look(uint32_t torn, uint32_t version)
 /* A life whose power goes at a frame. False: the script came to its end first. */
 static int one(enum wrong wrong, enum die_cut cut, unsigned long at)
 {
-    ftl_disk *disk;
+    ftl_disk *disk = NULL;
     uint32_t answer = FTL_DONE, sector = UINT32_MAX;
     unsigned nth = 0;
 
@@ -73,7 +73,7 @@ static int one(enum wrong wrong, enum die_cut cut, unsigned long at)
 /* A format whose power goes: the next one is done or sees pages that are written, and never writes over them. */
 static int one_format(enum wrong wrong, unsigned long at)
 {
-    ftl_disk *disk;
+    ftl_disk *disk = NULL;
     uint32_t answer, next;
 
     picture_put(&fresh, &die);

@@ -52,12 +52,12 @@ static uint32_t known(uint32_t answer)
 static struct ftl_shape next_shape(void)
 {
     static const struct ftl_shape small[] = {
-        {64, 40, 4, 16, 8, 3}, {64, 32, 8, 32, 32, 8}, {128, 64, 8, 24, 60, 2}, {64, 256, 4, 12, 1, 1}};
+        {64, 40, 4, 16, 8, 3, 0}, {64, 32, 8, 32, 32, 8, 1}, {128, 64, 8, 24, 60, 2, 1}, {64, 256, 4, 12, 1, 1, 0}};
     struct ftl_shape shape = small[next_byte() % 4];
     uint32_t *number = &shape.data_bytes;
 
     if (next_byte() < 40)
-        number[next_byte() % 6] = next_byte() < 128 ? next_byte() : next_word();
+        number[next_byte() % 7] = next_byte() < 128 ? next_byte() : next_word();
     return shape;
 }
 
@@ -87,8 +87,9 @@ static void open_one(struct one *one)
     one->shape = shape;
     is_true = 0;
     if (!die.array && is_small(&shape)) {
-        if (die_make(&die, shape.data_bytes, shape.spare_bytes, shape.pages, shape.blocks))
+        if (die_make(&die, shape.data_bytes, sizes.chip_spare_bytes, shape.pages, shape.blocks))
             exit(2);
+        die.noisy = shape.codes == 1;
         list_begin(&list, &shape);
         is_true = 1;
     }
@@ -182,6 +183,8 @@ static void one_call(void)
     struct one *one = &disks[next_byte() < 250 ? 0 : next_byte() % DISKS];
     struct ftl_state state = {0};
     struct ftl_shortage shortage = {0};
+    struct ftl_errors errors;
+    struct ftl_view view;
 
     is_true &= one == &disks[0];
     heap_refuse_at = next_byte() < 12 ? 1 + next_byte() % 8 : 0;
@@ -193,7 +196,7 @@ static void one_call(void)
     case 5: case 6: case 17: read_one(one); break;
     case 7: case 8: case 9: case 16: write_one(one); break;
     case 10: known(next_byte() % 2 ? ftl_turn(one->disk) : ftl_flush(one->disk)); break;
-    case 11: known(ftl_get_state(one->disk, &state)); known(ftl_get_shortage(one->disk, &shortage)); break;
+    case 11: known(ftl_get_state(one->disk, &state)); known(ftl_get_shortage(one->disk, &shortage)); known(ftl_get_errors(one->disk, &errors)); known(ftl_look(one->disk, &view)); break;
     case 12: known(ftl_stop(one->disk)); break;
     case 13: if (next_byte() < 128) go_wrong(); break;
     case 14: if (next_byte() < 64) { begin_frames(); if (die.array) die_power(&die); } break;

@@ -49,7 +49,7 @@ static int one(enum wrong wrong, unsigned long at, uint8_t byte)
     size_t live = heap_live;
     uint32_t sector, answer;
     unsigned long frames;
-    ftl_disk *disk;
+    ftl_disk *disk = NULL;
 
     picture_put(&used, &die);
     port_fresh(&die);

@@ -5,7 +5,7 @@
 
 #include "world.h"
 
-static const struct ftl_shape shape = {
+static struct ftl_shape shape = {
     .data_bytes = 256, .spare_bytes = 64, .pages = 16, .blocks = 64, .sectors = 300, .cache = 16};
 
 static struct die die;
@@ -73,11 +73,14 @@ static void refuse_in_calls(void)
     THAT(refused[0] > 0);
 }
 
-int main(void)
+/* All of it, over pages without codes or with. */
+static void refuse_all(uint32_t codes)
 {
-    if (die_make(&die, shape.data_bytes, shape.spare_bytes, shape.pages, shape.blocks))
-        return 2;
+    shape.codes = codes;
     WANT(FTL_DONE, ftl_measure(&shape, &sizes));
+    if (die_make(&die, shape.data_bytes, sizes.chip_spare_bytes, shape.pages, shape.blocks))
+        exit(2);
+    die.noisy = codes == 1;
     certificate = malloc(sizes.certificate_bytes);
     port_fresh(&die);
     list_begin(&list, &shape);
@@ -94,5 +97,12 @@ int main(void)
     THAT(heap_live == 0 && die.illegal == 0);
     free(certificate);
     die_free(&die);
+}
+
+int main(void)
+{
+    refuse_all(0);
+    puts("the same over a chip with wrong bits, and pages with codes");
+    refuse_all(1);
     return 0;
 }

@@ -8,7 +8,7 @@ const struct ftl_shape script_shape = {
 
 void script_prepare(struct die *die, struct list *list)
 {
-    ftl_disk *disk;
+    ftl_disk *disk = NULL;
 
     if (die_make(die, script_shape.data_bytes, script_shape.spare_bytes, script_shape.pages, script_shape.blocks))
         exit(2);

@@ -1,4 +1,4 @@
-use Rattle.std.proofs.Common.{refl, arith}
+use Rattle.std.proofs.Common.{refl}
 use Rattle.device_slot.proofs.PowerLemmas.{if_brought, if_unsettled, if_back_on, back_same, stale_more, unsettled_with}
 use Rattle.device_slot.proofs.power.start_settled.Goals as goal
 

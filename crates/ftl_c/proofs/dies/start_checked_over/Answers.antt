@@ -1,5 +1,0 @@
-use Rattle.std.proofs.Common.{sym}
-use Rattle.ftl_c.proofs.dies.start_checked_over.Goals as goal
-
-pub returns-in-Err-clause-fault : goal.returns-in-Err-clause-fault
-returns-in-Err-clause-fault g c = record { fault = c.in-Err.fault; given_is = sym c.nand_in.ensures; number_is = c.of_power.ensures; unaccepted = c.in-Err.ensures.fault }

@@ -1,0 +1,32 @@
+//! What C hands over as a disk.
+ghost use Rattle.std.specs.Prelude.{◌≡◌};
+ghost use Rattle.std.specs.Borrow.{full_share, sem};
+ghost use Rattle.std.specs.Ptr.{lies_at};
+ghost use Rattle.ftl_disk.specs.declared.disk.Disk.{Disk};
+ghost use Rattle.ftl_disk.specs.contracts.disk.Disk.{the_row as disk_row};
+
+use ftl_disk::disk::Disk;
+use std::marker::Model;
+
+/// A pointer to a disk, in a place of its own. While it is handed over nothing else uses the disk. (This project's.)
+#[repr(C)]
+pub struct Handle {
+    at: *mut u8,
+    ghost disk: { Disk } by { disk_row.coded },
+}
+
+impl Model for Handle {
+    ghost also_owns = { λ h. lies_at disk_row full_share h.at h.disk };
+}
+
+impl Handle {
+    ghost use Rattle.ftl_c.specs.Handle.{LendsDisk};
+
+    /// The disk that lies there.
+    pub(crate) fn disk(&mut self) -> &mut Disk
+        ensures* writes_back { sem 𝓛 (LendsDisk self.entry result) }
+        ensures value { result.now ≡ self.old.disk }
+    {
+        unsafe { &mut *self.at.cast::<Disk>() }
+    }
+}

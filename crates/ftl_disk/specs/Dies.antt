@@ -1,0 +1,71 @@
+-- WHAT A CALL OF A DISK COMES TO OVER ANY DIE, and by which number.
+use Rattle.std.specs.Prelude.{◌≡◌, ◌⊎◌, ℕ, Bool, true, List, Result, Err}
+use Rattle.page_layout.specs.declared.geometry.Geometry.{Geometry}
+use Rattle.page_layout.specs.Array.{array_of}
+use Rattle.page_layout.specs.Counter.{HasRisen}
+use Rattle.page_layout.specs.Flash.{Flash}
+use Rattle.certificate.specs.Claim.{Claim}
+use Rattle.certificate.specs.Spelling as spelling
+use Rattle.image_check.specs.Agrees.{IsAsked}
+use Rattle.image_check.specs.declared.refusal.Refusal.{Refusal}
+use Rattle.image_check.specs.declared.refusal.Refusal.TheVariants.{Source}
+use Rattle.mount.specs.Formatted.{Answers, Formats}
+use Rattle.mount.specs.Mounted.{IsMounted, IsOfMounting, Refuses}
+use Rattle.mount.specs.declared.format_fault.FormatFault.{FormatFault}
+use Rattle.mount.specs.declared.format_fault.FormatFault.TheVariants.{Bus}
+use Rattle.ftl_device.specs.declared.device.Device.{Device}
+use Rattle.ftl_device.specs.Calls.{array_in}
+use Rattle.device_slot.specs.declared.power.PowerFault.{PowerFault}
+use Rattle.device_slot.specs.Begun.{IsBegun}
+use Rattle.device_slot.specs.Power.{nand_of, IsUnaccepted, IsUnsettled}
+use Rattle.ftl_disk.specs.Numbers.{of_formatting, of_power, of_refusal}
+
+-- A FORMAT: its number is that of what the format answered, which an honest die shows, and a failed bus was counted
+pub record FormatsBy {N : Type 0} (flash : N → Flash) (honest : N → Bool) (programs failed : N → ℕ) (g : Geometry) (old : N) (number : ℕ) (new : N) : Type 0 where
+  pub result : Result ℕ FormatFault
+  pub number_is : number ≡ of_formatting result
+  pub formats : honest old ≡ true → Formats g (flash old) (flash new) result
+  pub answers : Answers g (programs old) (programs new) result
+  pub rose : result ≡ Err Bus → HasRisen (failed old) (failed new)
+
+-- NO DEVICE WAS BROUGHT: the number is that of why, and this die came back
+pub record IsUnstartedBy {N : Type 0} (flash : N → Flash) (honest : N → Bool) (failed : N → ℕ) (die : N) (g : Geometry) (cache number : ℕ) (given : N) : Type 0 where
+  pub fault : PowerFault N
+  pub given_is : nand_of fault ≡ given
+  pub number_is : number ≡ of_power fault
+  pub unsettled : IsUnsettled flash honest failed die g cache fault
+
+-- nor by a certificate
+pub record IsUncheckedBy {N : Type 0} (flash : N → Flash) (honest : N → Bool) (failed : N → ℕ) (die : N) (g : Geometry) (cache : ℕ) (c : Claim) (number : ℕ) (given : N) : Type 0 where
+  pub fault : PowerFault N
+  pub given_is : nand_of fault ≡ given
+  pub number_is : number ≡ of_power fault
+  pub unaccepted : IsUnaccepted flash honest failed die g cache c fault
+
+-- A DEVICE WAS BROUGHT BY A CERTIFICATE: of an honest die it holds the array that the image holds, and nothing was written
+pub record IsBroughtBy {N : Type 0} (flash : N → Flash) (honest : N → Bool) (die : N) (g : Geometry) (cache : ℕ) (d : Device N) : Type 0 where
+  pub begun : IsBegun flash honest d
+  pub sized : d.engine.geometry ≡ g
+  pub cache_is : d.engine.mapping.capacity ≡ cache
+  pub array : honest die ≡ true → array_in flash d ≡ array_of g (flash die).image
+  pub pages : honest die ≡ true → flash d.engine.nand ≡ flash die
+
+-- THE BYTES OF THE CERTIFICATE of what a die holds: of an honest one it agrees with the image, and leaves no sequence out
+pub record IsCertifiedBy {N : Type 0} (flash : N → Flash) (honest : N → Bool) (g : Geometry) (cache : ℕ) (die : N) (bytes : List ℕ) : Type 0 where
+  pub claim : Claim
+  pub fits : spelling.Fits claim
+  pub spelled : bytes ≡ spelling.certificate_bytes claim
+  pub asked : IsAsked g cache claim
+  pub mounted : honest die ≡ true → IsMounted g cache (flash die).image claim
+
+-- the pages were refused: of an honest die for what is so of them, and a read that failed was counted
+pub record IsRefusedBy {N : Type 0} (flash : N → Flash) (honest : N → Bool) (failed : N → ℕ) (g : Geometry) (cache : ℕ) (die : N) (number : ℕ) (given : N) : Type 0 where
+  pub why : Refusal
+  pub number_is : number ≡ of_refusal why
+  pub only : IsOfMounting why
+  pub refuses : honest die ≡ true → Refuses g cache (flash die).image why
+  pub rose : why ≡ Source → HasRisen (failed die) (failed given)
+
+-- THERE IS NO CERTIFICATE: for that, or memory was refused
+abbrev pub IsUncertifiedBy : {N : Type 0} → (N → Flash) → (N → Bool) → (N → ℕ) → Geometry → (cache : ℕ) → N → (number : ℕ) → N → Type 0
+IsUncertifiedBy flash honest failed g cache die number given = (number ≡ 4) ⊎ IsRefusedBy flash honest failed g cache die number given

@@ -1,0 +1,197 @@
+-- WHAT LIES AT A HANDLE, and what each call makes of it.
+use Rattle.std.specs.Prelude.{◌≡◌, ◌≢◌, ◌⊎◌, ℕ, ℤ, Bool, true, false, List, [], length, Some, None, Result, is_some}
+use Rattle.promises.specs.Step as step
+use Rattle.certificate.specs.Claim.{Claim}
+use Rattle.certificate.specs.Spelling as spelling
+use Rattle.certificate.specs.declared.fault.CertFault.{CertFault}
+use Rattle.certificate.specs.Faults.{IsFirstFault}
+use Rattle.ftl_device.specs.declared.device.Device.{Device}
+use Rattle.device_slot.specs.declared.slot.CallFault.{CallFault}
+use Rattle.device_slot.specs.Power.{IsBrought}
+use Rattle.device_slot.specs.Calls.{IsCall, Told, ToldSized}
+use Rattle.ftl_disk.specs.Die.{Die, IsDieFor, IsUnreset, flash_in, recorded_in, honest_in, failed_in, programs_in, erases_in}
+use Rattle.ftl_disk.specs.Dies.{FormatsBy, IsBroughtBy, IsCertifiedBy, IsUncertifiedBy, IsUncheckedBy, IsUnstartedBy}
+use Rattle.ftl_disk.specs.Measures.{certificate_bytes}
+use Rattle.ftl_disk.specs.Numbers.{of_call, of_certificate}
+use Rattle.ftl_disk.specs.Plans.{IsPlanOf}
+use Rattle.ftl_disk.specs.declared.shape.Shape.{Shape}
+use Rattle.ftl_disk.specs.declared.disk.Disk.{Disk}
+
+-- whether it has a device
+abbrev pub is_started : Disk → Bool
+is_started d = is_some d.slot.device
+
+-- it is made for the same, with the same way to its die
+pub record IsSame (was is : Disk) : Type 0 where
+  pub plan : is.plan ≡ was.plan
+  pub link : is.link ≡ was.link
+
+-- A DISK THAT IS OPENED: of this shape, over these descriptors, with no device
+pub record Opens (s : Shape) (input output : ℤ) (d : Disk) : Type 0 where
+  pub plan : IsPlanOf s d.plan
+  pub input_is : d.link.input ≡ input
+  pub output_is : d.link.output ≡ output
+  pub empty : d.slot ≡ record { device = None; shortage = None }
+
+-- a call that is for a disk without a device: 17 where it has one, and nothing is done
+pub record IsForStopped (was : Disk) (number : ℕ) (is : Disk) (Then : Type 0) : Type 0 where
+  pub refused : is_started was ≡ true → (number ≡ 17) × (is ≡ was)
+  pub does : is_started was ≡ false → Then
+
+-- ---- power
+
+-- the die took the reset, and was formatted or refused
+pub record HasFormatted (was : Disk) (number : ℕ) : Type 0 where
+  pub die : Die
+  pub its : IsDieFor was.plan die
+  pub after : Die
+  pub formats : FormatsBy flash_in honest_in programs_in failed_in was.plan.geometry die number after
+
+-- A FORMAT leaves the disk as it was: with no device
+pub record IsFormatting (was : Disk) (number : ℕ) (is : Disk) : Type 0 where
+  pub same : is ≡ was
+  pub why : IsUnreset was.plan number ⊎ HasFormatted was number
+
+abbrev pub Formats : Disk → ℕ → Disk → Type 0
+Formats was number is = IsForStopped was number is (IsFormatting was number is)
+
+-- a device stands there
+pub record Holds (was : Disk) (device : Device Die) (is : Disk) : Type 0 where
+  pub stands : is.slot ≡ record { device = Some device; shortage = None }
+  pub same : IsSame was is
+
+-- one that power brought over the die: of the disk's geometry and with at least its cache
+pub record HasBegun (was is : Disk) : Type 0 where
+  pub die : Die
+  pub its : IsDieFor was.plan die
+  pub device : Device Die
+  pub holds : Holds was device is
+  pub brings : IsBrought flash_in honest_in failed_in die was.plan.geometry was.plan.cache device
+
+-- the die took the reset, and power brought no device
+pub record IsUnstarted (was : Disk) (number : ℕ) : Type 0 where
+  pub die : Die
+  pub its : IsDieFor was.plan die
+  pub given : Die
+  pub why : IsUnstartedBy flash_in honest_in failed_in die was.plan.geometry was.plan.cache number given
+
+-- why there is none: the die took no Reset, or that; and the disk is as it was
+pub record IsStopped (was : Disk) (number : ℕ) (is : Disk) (Why : Type 0) : Type 0 where
+  pub same : is ≡ was
+  pub why : IsUnreset was.plan number ⊎ Why
+
+-- A START: 0 with a device, or the number of what kept it from one, and the disk as it was
+abbrev pub IsStarting : Disk → ℕ → Disk → Type 0
+IsStarting was number is = ((number ≡ 0) × HasBegun was is) ⊎ IsStopped was number is (IsUnstarted was number)
+
+abbrev pub Starts : Disk → ℕ → Disk → Type 0
+Starts was number is = IsForStopped was number is (IsStarting was number is)
+
+-- the bytes are none of a certificate: the first fault that stands in them
+pub record IsNoCertificateBy (bytes : List ℕ) (number : ℕ) : Type 0 where
+  pub fault : CertFault
+  pub first : IsFirstFault bytes fault
+  pub number_is : number ≡ of_certificate fault
+
+-- they are not as many as a certificate of this disk has, or none
+pub record IsNoCertificate (was : Disk) (bytes : List ℕ) (number : ℕ) (is : Disk) : Type 0 where
+  pub same : is ≡ was
+  pub why : ((number ≡ 18) × (length bytes ≢ certificate_bytes was.plan.geometry)) ⊎ IsNoCertificateBy bytes number
+
+-- a device stands there that began from this certificate
+pub record HasBegunBy (was : Disk) (c : Claim) (is : Disk) : Type 0 where
+  pub die : Die
+  pub its : IsDieFor was.plan die
+  pub device : Device Die
+  pub holds : Holds was device is
+  pub brings : IsBroughtBy flash_in honest_in die was.plan.geometry was.plan.cache device
+
+-- the die took the reset, and this certificate brought no device
+pub record IsUnstartedAt (was : Disk) (c : Claim) (number : ℕ) : Type 0 where
+  pub die : Die
+  pub its : IsDieFor was.plan die
+  pub given : Die
+  pub why : IsUncheckedBy flash_in honest_in failed_in die was.plan.geometry was.plan.cache c number given
+
+abbrev pub IsStartingBy : Disk → Claim → ℕ → Disk → Type 0
+IsStartingBy was c number is = ((number ≡ 0) × HasBegunBy was c is) ⊎ IsStopped was number is (IsUnstartedAt was c number)
+
+-- the bytes are those of a certificate, by which it starts
+pub record StartsByOne (was : Disk) (bytes : List ℕ) (number : ℕ) (is : Disk) : Type 0 where
+  pub claim : Claim
+  pub fits : spelling.Fits claim
+  pub spelled : spelling.certificate_bytes claim ≡ bytes
+  pub starts : IsStartingBy was claim number is
+
+-- A START BY A CERTIFICATE, which is held against the die
+abbrev pub StartsBy : Disk → List ℕ → ℕ → Disk → Type 0
+StartsBy was bytes number is = IsNoCertificate was bytes number is ⊎ StartsByOne was bytes number is
+
+abbrev pub StartsCertified : Disk → List ℕ → ℕ → Disk → Type 0
+StartsCertified was bytes number is = IsForStopped was number is (StartsBy was bytes number is)
+
+-- the bytes of a certificate of a die of this disk, for its cache
+pub record IsCertified (was : Disk) (bytes : List ℕ) : Type 0 where
+  pub die : Die
+  pub its : IsDieFor was.plan die
+  pub certifies : IsCertifiedBy flash_in honest_in was.plan.geometry was.plan.cache die bytes
+
+-- the die took the reset, and has none
+pub record IsUnmountedAt (was : Disk) (number : ℕ) : Type 0 where
+  pub die : Die
+  pub its : IsDieFor was.plan die
+  pub given : Die
+  pub why : IsUncertifiedBy flash_in honest_in failed_in was.plan.geometry was.plan.cache die number given
+
+-- or the number of what kept the die from one: its link, its pages, or memory
+abbrev pub IsUncertified : Disk → ℕ → Type 0
+IsUncertified was number = (number ≢ 0) × (IsUnreset was.plan number ⊎ IsUnmountedAt was number)
+
+-- A CERTIFICATE IS MADE: the disk stays, and so do the bytes where it is not
+pub record IsCertifying (was : Disk) (given : List ℕ) (number : ℕ) (out : List ℕ) (is : Disk) : Type 0 where
+  pub same : is ≡ was
+  pub sized : length given ≢ certificate_bytes was.plan.geometry → number ≡ 18
+  pub kept : number ≢ 0 → out ≡ given
+  pub why : length given ≡ certificate_bytes was.plan.geometry → number ≢ 0 → (number ≡ 18) ⊎ IsUncertified was number
+  pub made : number ≡ 0 → IsCertified was out
+
+abbrev pub Certifies : Disk → (given : List ℕ) → ℕ → (out : List ℕ) → Disk → Type 0
+Certifies was given number out is =
+    (is_started was ≡ true → (number ≡ 17) × (is ≡ was) × (out ≡ given)) × (is_started was ≡ false → IsCertifying was given number out is)
+
+-- A STOP: no device stands there afterwards
+pub record Stops (was : Disk) (number : ℕ) (is : Disk) : Type 0 where
+  pub done : number ≡ 0
+  pub same : IsSame was is
+  pub empty : is.slot ≡ record { device = None; shortage = None }
+
+-- ---- calls
+
+-- A CALL OF THE SLOT, and its answer's number
+pub record Answers (was : Disk) (number : ℕ) (is : Disk) (Comes : Result (Unit {0}) CallFault → Type 0) : Type 0 where
+  pub answer : Result (Unit {0}) CallFault
+  pub calls : Comes answer
+  pub number_is : number ≡ of_call answer
+  pub same : IsSame was is
+
+-- the device was told a command without bytes
+abbrev pub Tells : Disk → step.Command → ℕ → Disk → Type 0
+Tells was command number is = Answers was number is (λ answer.
+    IsCall was.slot (λ d now. Told flash_in recorded_in honest_in failed_in erases_in d command [] answer [] now is.slot.shortage) [] answer [] is.slot)
+
+abbrev pub Reads : Disk → (sector : ℕ) → (given : List ℕ) → ℕ → (out : List ℕ) → Disk → Type 0
+Reads was sector given number out is = Answers was number is (λ answer.
+    IsCall was.slot (λ d now. ToldSized flash_in recorded_in honest_in failed_in erases_in d was.slot.shortage (step.Read sector) (length given) given answer out now is.slot.shortage) given answer out is.slot)
+
+abbrev pub Writes : Disk → (sector : ℕ) → (body : List ℕ) → ℕ → Disk → Type 0
+Writes was sector body number is = Answers was number is (λ answer.
+    IsCall was.slot (λ d now. ToldSized flash_in recorded_in honest_in failed_in erases_in d was.slot.shortage (step.Write sector body) (length body) [] answer [] now is.slot.shortage) [] answer [] is.slot)
+
+abbrev pub Trims : Disk → (sector : ℕ) → ℕ → Disk → Type 0
+Trims was sector number is = Tells was (step.Trim sector) number is
+
+abbrev pub Flushes : Disk → ℕ → Disk → Type 0
+Flushes was number is = Tells was step.Flush number is
+
+abbrev pub Turns : Disk → ℕ → Disk → Type 0
+Turns was number is = Tells was step.Turn number is

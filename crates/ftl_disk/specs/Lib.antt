@@ -1,0 +1,9 @@
+pub mod Die
+pub mod Dies
+pub mod Disk
+pub mod Either
+pub mod Look
+pub mod Measures
+pub mod NoLaw
+pub mod Numbers
+pub mod Plans
