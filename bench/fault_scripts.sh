@@ -5,12 +5,12 @@
 # quarter of an hour. Takes what earlier checks kept of the libraries (out/rlib) and of these crates, and proves the rest first. It
 # prints the tests.
 #
-#     bench/fault_scripts.sh [fault_tests] [hostile_tests]       these crates of tests (default: both)
+#     bench/fault_scripts.sh [fault_tests] [device_tests]       these crates of tests (default: both)
 set -eu
 top="$(cd "$(dirname "$0")/.." && pwd)"
 folder="$(mktemp -d)"
 trap 'rm -rf "$folder"' EXIT
-if [ $# -eq 0 ]; then set -- fault_tests hostile_tests; fi
+if [ $# -eq 0 ]; then set -- fault_tests device_tests; fi
 cd "$top"
 git init -q "$folder"
 tar cf - --exclude='crates/*/out/incremental' crates crates.txt HANDLES | tar xf - -C "$folder"
@@ -27,8 +27,8 @@ tighten() {
 
 cd "$folder/crates"
 tighten fault_tests/src/tests/fault_scripts.rt EACH
-tighten hostile_tests/src/tests/scripts.rt CALLS_APART
-tighten hostile_tests/src/tests/scripts.rt CHANGES_APART
+tighten device_tests/src/tests/hostile/scripts.rt CALLS_APART
+tighten device_tests/src/tests/hostile/scripts.rt CHANGES_APART
 for name in "$@"; do
     (cd "$name" && RT_SECONDS=900 rt test 2>&1 | grep '^\(test\|rt:\) ')
 done

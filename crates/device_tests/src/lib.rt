@@ -1,4 +1,5 @@
-//! Devices from end to end, sectors over the driver over a die in memory: written and read, flushed, started anew.
+//! Devices from end to end, over the driver over a die in memory: sectors written, read and flushed, blocks collected, devices started
+//! anew, served, and used with ill will.
 #![tactic(auto)]
 
 #[cfg(test)]

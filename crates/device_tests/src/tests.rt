@@ -1,7 +1,12 @@
 // The devices of these tests, and their geometry, are those of `device_bench`.
+mod collection_rows;
+mod count_runs;
 mod flush;
+mod hostile;
 mod lists;
 mod memory;
 mod migrate;
 mod restarts;
 mod rows;
+mod server;
+mod turn_rows;

@@ -1,6 +1,9 @@
 //! Bytes looked at in lanes, and images that are checked in one pass, from a source that counts its reads and from readers.
+ghost use Rattle.std.specs.Prelude.{◌≡◌};
+
 use super::fickle::Fickle;
 use super::images::{FORMATTED_CLAIM, FORMATTED_PAGES, certificate_of, image_of};
+use certificate::Certificate;
 use image_check::{Refusal, check, check_stream};
 use page_layout::geometry::Geometry;
 use page_layout::lanes::has_zero;
@@ -148,6 +151,18 @@ fn another_capacity_is_told_first(rt: HostRuntime) -> Result<(), Fail> {
     Ok(())
 }
 
+// Whether a certificate is accepted for a cache of four entries.
+fn is_accepted(
+    alloc: Global,
+    source: &mut Fickle,
+    geometry: &Geometry,
+    certificate: &Certificate,
+) -> bool
+    requires { source.old.first.flash.geometry ≡ geometry.now }
+{
+    check(alloc, source, geometry, 4, certificate).is_ok()
+}
+
 // Each page of the die is read once.
 #[test]
 fn pages_are_read_once(rt: HostRuntime) -> Result<(), Fail> {
@@ -160,8 +175,7 @@ fn pages_are_read_once(rt: HostRuntime) -> Result<(), Fail> {
         after: u32::MAX,
         reads: 0,
     };
-    let checked = check(rt.alloc(), &mut source, &geometry, 4, &certificate);
-    assert!(rt; checked.is_ok());
+    assert!(rt; is_accepted(rt.alloc(), &mut source, &geometry, &certificate));
     assert!(rt; source.reads == 256);
     Ok(())
 }

@@ -7,7 +7,7 @@ use std::alloc::Global;
 use std::process::Abort;
 
 /// A call, and what comes of it.
-#[derive(Clone, Copy, Debug)]
+#[derive(Clone, Copy)]
 enum Call {
     // A cycle, and its answer.
     Cycle(Cycle, Result<(), BusFault>),
@@ -172,8 +172,8 @@ fn answers<B: Bus>(bus: &mut B, call: Call) -> bool {
 
 // A bus after these calls.
 fn called<B: Bus + Drop>(rt: &impl Abort, mut bus: B, calls: &[Call], row: &str) -> B {
-    for call in calls {
-        assert!(rt; answers(&mut bus, *call), "{call:?} at {row}");
+    for (step, call) in calls.iter().enumerate() {
+        assert!(rt; answers(&mut bus, *call), "{row}: step {step}");
     }
     bus
 }
@@ -190,7 +190,11 @@ fn faults_behind_a_fuse(rt: &impl Abort, alloc: Global, row: &Fuse) -> u64 {
 #[test]
 fn a_fuse_fails_for_a_while(rt: HostRuntime) {
     for row in &FUSES {
-        assert_eq!(rt; faults_behind_a_fuse(&rt, rt.alloc(), row), 0, "{}", row.0);
+        assert!(rt;
+            faults_behind_a_fuse(&rt, rt.alloc(), row) == 0,
+            "{}",
+            row.0
+        );
     }
 }
 
@@ -205,9 +209,8 @@ fn changes_behind_a_garble(rt: &impl Abort, alloc: Global, row: &Garbled) -> u64
 #[test]
 fn a_garble_turns_bits_once(rt: HostRuntime) {
     for row in &GARBLES {
-        assert_eq!(rt;
-            changes_behind_a_garble(&rt, rt.alloc(), row),
-            0,
+        assert!(rt;
+            changes_behind_a_garble(&rt, rt.alloc(), row) == 0,
             "{}",
             row.0
         );

@@ -64,16 +64,16 @@ fn numbers(rt: &impl Abort, alloc: Global, blocks: u32) -> Vec<u32> {
 
 fn make_marked(rt: &impl Abort, alloc: Global, limit: &Limit) {
     let marks = marks_of(rt, alloc, limit.blocks);
-    let refused = Die::new(alloc, geometry_of(rt, limit), marks.as_slice()).err();
-    assert_eq!(rt; refused, None, "{}", limit.name);
+    let die = Die::new(alloc, geometry_of(rt, limit), marks.as_slice());
+    assert!(rt; die.is_ok(), "{}", limit.name);
 }
 
 fn make_loaded(rt: &impl Abort, alloc: Global, limit: &Limit) {
     let bad = numbers(rt, alloc, limit.blocks);
     let image = vec![in alloc; 0; limit.image].expect(rt, "an image");
     let geometry = geometry_of(rt, limit);
-    let refused = Die::from_image(alloc, geometry, image.as_slice(), bad.as_slice()).err();
-    assert_eq!(rt; refused, None, "{}", limit.name);
+    let die = Die::from_image(alloc, geometry, image.as_slice(), bad.as_slice());
+    assert!(rt; die.is_ok(), "{}", limit.name);
 }
 
 #[test]

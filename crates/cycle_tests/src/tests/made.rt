@@ -111,7 +111,10 @@ const BAD_MARKS: [(&[Mark], u32); 2] = [
 fn marks_that_are_refused(rt: HostRuntime) {
     for (marks, block) in &BAD_MARKS {
         let refused = Die::new(rt.alloc(), small(&rt), marks).err();
-        assert_eq!(rt; refused, Some(DieFault::BadMark { block: *block }));
+        assert!(rt;
+            refused == Some(DieFault::BadMark { block: *block }),
+            "{block}"
+        );
     }
 }
 
@@ -138,7 +141,7 @@ pub fn image_of(rt: &impl Abort, alloc: Global, die: &Die) -> Vec<u8>
 // A die of an image, that puts out the same.
 fn die_of(rt: &impl Abort, alloc: Global, image: &[u8], bad: &[u32]) -> Die {
     let die = Die::from_image(alloc, small(rt), image, bad).expect(rt, "a die");
-    assert_eq!(rt; image_of(rt, alloc, &die).as_slice(), image);
+    assert!(rt; image_of(rt, alloc, &die).as_slice() == image);
     die
 }
 

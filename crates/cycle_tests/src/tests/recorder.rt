@@ -7,7 +7,7 @@ use std::alloc::Global;
 use std::process::Abort;
 
 /// What a bus was handed or put out. Of data it has how many bytes, and the one that each of them is.
-#[derive(Clone, Copy, Debug, PartialEq, Eq)]
+#[derive(Clone, Copy, PartialEq, Eq)]
 pub enum Seen {
     Command(u8),
     Address(u8),
@@ -127,6 +127,6 @@ pub fn after_cycles<B: Bus>(
     parts: &[&[Seen]],
 ) -> B {
     let Recorder { bus, seen } = recorder;
-    assert_eq!(rt; seen, all_of(rt, alloc, parts), "{name}");
+    assert!(rt; seen == all_of(rt, alloc, parts), "{name}");
     bus
 }

@@ -71,7 +71,7 @@ pub struct Row {
 }
 
 /// Where an assertion stands: the row's name, and the step, counted from 0.
-#[derive(Clone, Copy, Debug)]
+#[derive(Clone, Copy)]
 pub struct Place<'a> {
     pub row: &'a str,
     pub step: usize,
@@ -92,9 +92,14 @@ pub fn is_answered(die: &mut Die, cycle: Cycle, want: Result<(), BusFault>) -> b
     send(die, cycle) == want
 }
 
+// What a step comes to is as it says.
+fn hold(rt: &impl Abort, is_wanted: bool, place: Place) {
+    assert!(rt; is_wanted, "{}: step {}", place.row, place.step);
+}
+
 // One cycle, held to its answer.
 fn answer(rt: &impl Abort, die: &mut Die, cycle: Cycle, want: Result<(), BusFault>, place: Place) {
-    assert!(rt; is_answered(die, cycle, want), "{cycle:?} at {place:?}");
+    hold(rt, is_answered(die, cycle, want), place);
 }
 
 // A cycle that is taken.
@@ -109,23 +114,22 @@ fn open(rt: &impl Abort, die: &mut Die, code: u8, addresses: &[u8], place: Place
     }
 }
 
-fn put_out(rt: &impl Abort, die: &mut Die, bytes: &mut [u8], place: Place) {
-    assert_eq!(rt; die.data_out(bytes), Ok(()), "data out at {place:?}");
+// Whether just these bytes are put out, in one cycle.
+fn puts_out(die: &mut Die, want: &[u8]) -> bool {
+    let mut bytes = [0; 96];
+    match bytes.get_mut(..want.len()) {
+        Some(out) => die.data_out(out) == Ok(()) && *out == *want,
+        None => false,
+    }
 }
 
 fn expect_out(rt: &impl Abort, die: &mut Die, want: &[u8], place: Place) {
-    let mut bytes = [0; 96];
-    assert!(rt; want.len() <= 96, "{place:?}");
-    let out = &mut bytes[..want.len()];
-    put_out(rt, die, out, place);
-    assert_eq!(rt; &*out, want, "{place:?}");
+    hold(rt, puts_out(die, want), place);
 }
 
 fn expect_status(rt: &impl Abort, die: &mut Die, want: u8, place: Place) {
-    let mut status = [0];
     open(rt, die, 0x70, &[], place);
-    put_out(rt, die, &mut status, place);
-    assert_eq!(rt; status, [want], "{place:?}");
+    expect_out(rt, die, &[want], place);
 }
 
 /// The bytes of a page.
@@ -141,11 +145,7 @@ pub fn bytes_of(page: Page) -> [u8; 96] {
 
 // The data of a program.
 fn put_in(rt: &impl Abort, die: &mut Die, page: Page, place: Place) {
-    assert_eq!(rt;
-        die.data_in(&bytes_of(page)),
-        Ok(()),
-        "data in at {place:?}"
-    );
+    hold(rt, die.data_in(&bytes_of(page)) == Ok(()), place);
 }
 
 fn program(rt: &impl Abort, die: &mut Die, row: u8, page: Page, status: u8, place: Place) {
@@ -162,11 +162,9 @@ fn erase(rt: &impl Abort, die: &mut Die, row: u8, status: u8, place: Place) {
 }
 
 fn read(rt: &impl Abort, die: &mut Die, row: u8, want: Page, place: Place) {
-    let mut page = [0; 96];
     open(rt, die, 0x00, &[0, 0, row, 0, 0], place);
     open(rt, die, 0x30, &[], place);
-    put_out(rt, die, &mut page, place);
-    assert_eq!(rt; page, bytes_of(want), "row {row} at {place:?}");
+    expect_out(rt, die, &bytes_of(want), place);
 }
 
 fn read_each(rt: &impl Abort, die: &mut Die, first: u8, last: u8, want: Page, place: Place) {
@@ -176,7 +174,7 @@ fn read_each(rt: &impl Abort, die: &mut Die, first: u8, last: u8, want: Page, pl
 }
 
 fn expect_abuse(rt: &impl Abort, die: &Die, want: u64, place: Place) {
-    assert_eq!(rt; die.abuse(), want, "{place:?}");
+    hold(rt, die.abuse() == want, place);
 }
 
 // A page with a sound record.
@@ -232,7 +230,7 @@ fn set(
     place: Place,
 ) {
     let faults = faults_of(rt, alloc, orders);
-    assert_eq!(rt; die.set_faults(faults), want, "{place:?}");
+    hold(rt, die.set_faults(faults) == want, place);
 }
 
 fn walk_step(rt: &impl Abort, alloc: Global, die: &mut Die, step: Step, place: Place) {

@@ -214,10 +214,7 @@ fn set_stop(rt: &impl Abort, alloc: Global, die: &mut Die, setting: Setting, row
 {
     let (nth_change, halt, want) = setting;
     let stop = stop_of(rt, alloc, halt);
-    match die.set_stop(nth_change, stop) {
-        Ok(()) => assert_eq!(rt; want, SET, "{row}"),
-        Err(fault) => assert_eq!(rt; want, Err(fault), "{row}"),
-    }
+    assert!(rt; die.set_stop(nth_change, stop) == want, "{row}");
 }
 
 fn set_stops(rt: &impl Abort, alloc: Global, die: &mut Die, row: &Row)
@@ -240,9 +237,8 @@ fn expect_pages(rt: &impl Abort, alloc: Global, die: &Die, row: &Row)
     for (at, page) in row.holds {
         let start = *at as usize * 96;
         let held = image.as_slice().get(start..start + 96);
-        assert_eq!(rt;
-            held,
-            Some(bytes_of(*page).as_slice()),
+        assert!(rt;
+            held == Some(bytes_of(*page).as_slice()),
             "row {at}, {}",
             row.name
         );
@@ -254,8 +250,8 @@ fn walk_stops(rt: &impl Abort, alloc: Global, row: &Row) {
     let mut die = new_die(rt, alloc, geometry, &[]);
     set_stops(rt, alloc, &mut die, row);
     let die = after(rt, die, geometry, row.name, row.operations);
-    assert_eq!(rt; die.changes(), row.changes, "{}", row.name);
-    assert_eq!(rt; die.abuse(), row.abuse, "{}", row.name);
+    let counts = (die.changes(), die.abuse());
+    assert!(rt; counts == (row.changes, row.abuse), "{}", row.name);
     expect_pages(rt, alloc, &die, row);
 }
 
@@ -320,15 +316,11 @@ const RECORDS: [Records; 4] = [
 fn walk_records(rt: &impl Abort, alloc: Global, geometry: Geometry, row: &Records) {
     let mut die = new_die(rt, alloc, geometry, &[]);
     for (room, want) in row.begun {
-        assert_eq!(rt;
-            record(&mut die, alloc, *room),
-            *want,
-            "room for {room}, {}",
-            row.name
-        );
+        let begun = record(&mut die, alloc, *room);
+        assert!(rt; begun == *want, "room for {room}, {}", row.name);
     }
     walk(rt, alloc, &mut die, row.name, row.steps);
-    assert_eq!(rt; die.changes(), 2, "{}", row.name);
+    assert!(rt; die.changes() == 2, "{}", row.name);
 }
 
 #[test]
@@ -339,17 +331,20 @@ fn records_on_large_pages(rt: HostRuntime) {
     }
 }
 
-// A record with room for an operation, of one that is done and one more; then another.
+// A record with room for so many operations, and another; then two operations.
+fn walk_recorded(rt: &impl Abort, alloc: Global, room: u32) {
+    let geometry = small(rt);
+    let mut die = new_die(rt, alloc, geometry, &[]);
+    let begun = (record(&mut die, alloc, room), record(&mut die, alloc, room));
+    assert!(rt; begun == (SET, SET), "room for {room}");
+    let die = after(rt, die, geometry, "recorded", ROOM_FOR_ONE);
+    assert!(rt; die.changes() == 2, "room for {room}");
+}
+
 #[test]
 fn records_begin_and_end(rt: HostRuntime) {
-    let alloc = rt.alloc();
-    let geometry = small(&rt);
-    for room in [0, 1, 2] {
-        let mut die = new_die(&rt, alloc, geometry, &[]);
-        assert_eq!(rt; die.record(alloc, room), Ok(()), "room for {room}");
-        assert_eq!(rt; die.record(alloc, room), Ok(()), "room for {room} anew");
-        let die = after(&rt, die, geometry, "recorded", ROOM_FOR_ONE);
-        assert_eq!(rt; die.changes(), 2, "room for {room}");
+    for room in 0..3 {
+        walk_recorded(&rt, rt.alloc(), room);
     }
 }
 

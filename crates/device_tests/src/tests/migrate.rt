@@ -1,13 +1,13 @@
 //! Dies with pages of version 1 are brought forward.
-ghost use Rattle.std.specs.Prelude.{◌≡◌, IfOk};
 ghost use Rattle.ftl_device.specs.Device.{IsDevice};
 
-use device_bench::bench::{driver_on, given_up, recorded, started, unwired, wired};
+use device_bench::bench::{given_up, recorded, started, unwired, wired};
+use device_bench::dies::{image_of, loaded};
 use device_bench::hold::hold_same;
 use device_bench::recorder::Cycle;
 use ftl_device::{Device, DeviceFault};
 use nand_die::Die;
-use onfi_cycles::{Driver, Nand};
+use onfi_cycles::Nand;
 use page_layout::geometry::Geometry;
 use page_layout::record::{Kind, read_record, record_version};
 use page_layout::source::ImageSlice;
@@ -158,12 +158,6 @@ const CASES: [Case; 4] = [
     },
 ];
 
-fn loaded(alloc: Global, geometry: Geometry, image: &[u8]) -> Result<Driver<Die>, Fail>
-    ensures { IfOk result (λ driver. driver.geometry ≡ geometry) }
-{
-    driver_on(Die::from_image(alloc, geometry, image, &[])?, geometry)
-}
-
 // How many calls migrate one.
 fn migrate_all<N: Nand>(device: &mut Device<N>) -> Result<u32, DeviceFault>
     requires { IsDevice N.flash device.old }
@@ -187,17 +181,6 @@ fn migrate_and_flush<N: Nand>(device: &mut Device<N>) -> Result<u32, DeviceFault
     let migrated = migrate_all(device)?;
     device.flush()?;
     Ok(migrated)
-}
-
-// The image of a die.
-fn image_of(alloc: Global, geometry: &Geometry, driver: Driver<Die>) -> Result<Vec<u8>, Fail>
-    requires { driver.geometry ≡ geometry.now }
-{
-    let rows = geometry.blocks() as usize * geometry.pages() as usize;
-    let mut image = vec![in alloc; 0; rows * (geometry.data_bytes() + geometry.spare_bytes())]?;
-    let die = driver.into_bus();
-    die.image_into(&mut image);
-    Ok(image)
 }
 
 // The page of a row, if it is sound.

@@ -5,6 +5,7 @@ use page_layout::record::{
     Key, Kind, Record, is_erased, read_record, record_version, sequence_in, write_record,
     write_record_v1,
 };
+use std::alloc::Global;
 use std::process::Abort;
 use std::test::Fail;
 
@@ -105,20 +106,22 @@ fn sequence(rt: &impl Abort, key: Key, body: &[u8], spare: &[u8]) -> Result<Opti
     Ok(sequence_in(&geometry, key, body, spare))
 }
 
+fn hold_sound(rt: &impl Abort, alloc: Global, page: &Sound) -> Result<(), Fail> {
+    let (written, fill, expected, version) = *page;
+    let body = [fill; 64];
+    let mut spare = vec![in alloc; 0u8; expected.len()]?;
+    write(rt, &written, version == 1, &body, &mut spare)?;
+    hold(rt, &written, &spare.as_slice(), &expected);
+    let found = read(rt, &body, expected)?;
+    hold(rt, &written, &found, &Some((written, version)));
+    hold(rt, &written, &written.key(), &Key::Sector(5));
+    Ok(())
+}
+
 #[test]
 fn sound_pages(rt: HostRuntime) -> Result<(), Fail> {
-    for (written, fill, expected, version) in SOUND {
-        let body = [fill; 64];
-        let mut spare = vec![in rt.alloc(); 0u8; expected.len()]?;
-        write(&rt, &written, version == 1, &body, &mut spare)?;
-        hold(&rt, &written, &spare.as_slice(), &expected);
-        hold(
-            &rt,
-            &written,
-            &read(&rt, &body, expected)?,
-            &Some((written, version)),
-        );
-        hold(&rt, &written, &written.key(), &Key::Sector(5));
+    for page in &SOUND {
+        hold_sound(&rt, rt.alloc(), page)?;
     }
     Ok(())
 }

@@ -4,54 +4,11 @@ ghost use Rattle.std.specs.Prelude.{◌≡◌};
 use super::hold;
 use image_check::{SectorFault, sector, sector_in};
 use page_layout::geometry::Geometry;
-use page_layout::record::{Kind, Record, write_record};
 use page_layout::source::{ImageSlice, PageSource, SourceFault};
 use std::alloc::{AllocError, Global};
 use std::process::Abort;
 use std::test::Fail;
-
-// A page of sector 5: its row, its kind, its sequence, and the byte that fills its data area.
-struct Written {
-    row: u32,
-    kind: Kind,
-    sequence: u64,
-    fill: u8,
-}
-
-// The areas of this page, or of an erased one.
-fn areas_of(rt: &impl Abort, geometry: &Geometry, page: Option<&Written>) -> ([u8; 64], [u8; 32]) {
-    let Some(page) = page else {
-        return ([0xFF; 64], [0xFF; 32]);
-    };
-    let written = Record {
-        kind: page.kind,
-        number: 5,
-        sequence: page.sequence,
-        wear: 0,
-    };
-    let body = [page.fill; 64];
-    let mut spare = [0; 32];
-    assert!(rt; geometry.data_bytes() == 64 && geometry.spare_bytes() == 32);
-    write_record(geometry, &written, &body, &mut spare);
-    (body, spare)
-}
-
-// Erased pages, but for these.
-fn image(
-    rt: &impl Abort,
-    alloc: Global,
-    geometry: &Geometry,
-    pages: &[Written],
-) -> Result<Vec<u8>, AllocError> {
-    let mut bytes = Vec::new(alloc);
-    for row in 0..geometry.rows() {
-        let page = pages.iter().find(|page| page.row == row);
-        let (body, spare) = areas_of(rt, geometry, page);
-        bytes.extend_from_slice(&body)?;
-        bytes.extend_from_slice(&spare)?;
-    }
-    Ok(bytes)
-}
+use test_images::{Written, image_of, page};
 
 // What the scan answers, with what it left of a sector of AAh bytes.
 fn copied<S: PageSource>(
@@ -88,18 +45,8 @@ const SCANNED: [Scanned; 3] = [
     Scanned {
         name: "the newest page is the sector",
         pages: &[
-            Written {
-                row: 8,
-                kind: Kind::Sector,
-                sequence: 9,
-                fill: 0x11,
-            },
-            Written {
-                row: 16,
-                kind: Kind::Sector,
-                sequence: 4,
-                fill: 0x22,
-            },
+            page!(8, Sector 5, sequence 9, fill 0x11),
+            page!(16, Sector 5, sequence 4, fill 0x22),
         ],
         answer: Ok(()),
         fill: 0x11,
@@ -108,18 +55,8 @@ const SCANNED: [Scanned; 3] = [
     Scanned {
         name: "a trim reads as zeros",
         pages: &[
-            Written {
-                row: 8,
-                kind: Kind::Sector,
-                sequence: 3,
-                fill: 0x11,
-            },
-            Written {
-                row: 9,
-                kind: Kind::Trim,
-                sequence: 4,
-                fill: 0x22,
-            },
+            page!(8, Sector 5, sequence 3, fill 0x11),
+            page!(9, Trim 5, sequence 4, fill 0x22),
         ],
         answer: Ok(()),
         fill: 0,
@@ -128,36 +65,11 @@ const SCANNED: [Scanned; 3] = [
     Scanned {
         name: "of three rows that share the sequence the lowest two are named",
         pages: &[
-            Written {
-                row: 7,
-                kind: Kind::Sector,
-                sequence: 8,
-                fill: 0x11,
-            },
-            Written {
-                row: 8,
-                kind: Kind::Sector,
-                sequence: 9,
-                fill: 0x11,
-            },
-            Written {
-                row: 16,
-                kind: Kind::Trim,
-                sequence: 9,
-                fill: 0x22,
-            },
-            Written {
-                row: 24,
-                kind: Kind::Sector,
-                sequence: 9,
-                fill: 0x33,
-            },
-            Written {
-                row: 25,
-                kind: Kind::Sector,
-                sequence: 7,
-                fill: 0x33,
-            },
+            page!(7, Sector 5, sequence 8, fill 0x11),
+            page!(8, Sector 5, sequence 9, fill 0x11),
+            page!(16, Trim 5, sequence 9, fill 0x22),
+            page!(24, Sector 5, sequence 9, fill 0x33),
+            page!(25, Sector 5, sequence 7, fill 0x33),
         ],
         answer: Err(SectorFault::SequenceRepeated {
             first: 8,
@@ -170,7 +82,7 @@ const SCANNED: [Scanned; 3] = [
 
 fn hold_scan(rt: &impl Abort, alloc: Global, row: &Scanned) -> Result<(), Fail> {
     let geometry = Geometry::new(64, 32, 8, 32, 32)?;
-    let bytes = image(rt, alloc, &geometry, row.pages)?;
+    let bytes = image_of(alloc, &geometry, row.pages)?;
     let mut slice = ImageSlice::new(&geometry, &bytes)?;
     hold(rt, &row.name, &first_lent(&slice, 5), &row.lent);
     let (answer, out) = copied(alloc, &mut slice, &geometry, 5)?;

@@ -1,5 +1,0 @@
-use Rattle.ftl_device.specs.Device.{IsDevice}
-use Rattle.collection_tests.proofs.tests.turn_rows.collecting.Given as goal
-
-abbrev pub invariant-loop-i : goal.invariant-loop-i
-invariant-loop-i g l = IsDevice g.N.PageSource.flash l.device

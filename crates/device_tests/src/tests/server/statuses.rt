@@ -1,0 +1,229 @@
+// Each status as a frame, and those that a device answers with other commands than its die's failures want.
+ghost use Rattle.std.specs.Prelude.{◌≡◌, true, IfOk};
+ghost use Rattle.certificate.specs.Claim.{sizes_of};
+
+use super::bench::served;
+use super::streams::{Narrow, Pieces};
+use block_server::serve;
+use certificate::Certificate;
+use device_bench::bench::{driver_on, formatted_die, mounted, small, start_on, with_bytes};
+use image_check::{Accepted, check};
+use nand_die::{CycleFuse, Die, Fault, Garble};
+use onfi_cycles::{Bus, Driver};
+use page_layout::geometry::Geometry;
+use promises::stream::Op;
+use request_stream::{Header, send_reply};
+use std::alloc::Global;
+use std::process::Abort;
+use std::test::Fail;
+
+// A write of sector 5.
+const WRITE: &[u8] =
+    b"\x44\x46\x02\x00\x02\x00\x00\x00\x05\x00\x00\x00\x11\x11\x11\x11\x11\x11\x11\x11\x11\x11\x11\x11\x11\x11\x11\x11\x11\x11\x11\x11\x11\x11\x11\x11\x11\x11\x11\x11\x11\x11\x11\x11\x11\x11\x11\x11\x11\x11\x11\x11\x11\x11\x11\x11\x11\x11\x11\x11\x11\x11\x11\x11\x11\x11\x11\x11\x11\x11\x11\x11\x11\x11\x11\x11";
+
+// A read of sector 5, a turn, and the read again.
+const READS: &[u8] =
+    b"\x44\x46\x01\x00\x03\x00\x00\x00\x05\x00\x00\x00\x44\x46\x05\x00\x04\x00\x00\x00\x00\x00\x00\x00\x44\x46\x01\x00\x03\x00\x00\x00\x05\x00\x00\x00";
+
+const STATUSES: [(u8, &[u8]); 7] = [
+    (0, b"df\x02\x00\x04\x03\x02\x01"),
+    (1, b"df\x02\x01\x04\x03\x02\x01"),
+    (2, b"df\x02\x02\x04\x03\x02\x01"),
+    (3, b"df\x02\x03\x04\x03\x02\x01"),
+    (4, b"df\x02\x04\x04\x03\x02\x01"),
+    (5, b"df\x02\x05\x04\x03\x02\x01"),
+    (6, b"df\x02\x06\x04\x03\x02\x01"),
+];
+
+#[test]
+fn statuses_stand_in_frames(rt: HostRuntime) -> Result<(), Fail> {
+    let header = Header {
+        op: Op::Write,
+        tag: 0x0102_0304,
+        sector: 5,
+    };
+    for (status, frame) in STATUSES {
+        let mut writer = Narrow::new(rt.alloc(), 3, 0);
+        assert!(rt; send_reply(&mut writer, header, status, &[]).is_ok());
+        assert!(rt; writer.bytes.as_slice() == frame, "{status}");
+    }
+    Ok(())
+}
+
+// What stands between a device and its die, or goes wrong in the die.
+#[derive(Clone, Copy)]
+enum Round {
+    // So many programs and erases fail, from the first on.
+    Failing(u64),
+    // Which data out is garbled, in which byte, by which mask.
+    Garble(u64, usize, u8),
+    // How many calls of the bus are handed on, Reset included, before one fails.
+    Fuse(u64),
+}
+
+// What a formatted die is served first, the bytes of the next sequence in the certificate where they are not those of the mount, what is
+// round the die then, and what a new device on it answers to a stream.
+struct Row {
+    name: &'static str,
+    before: &'static [u8],
+    next: Option<[u8; 8]>,
+    round: Round,
+    input: &'static [u8],
+    output: &'static [u8],
+}
+
+// A read of sector 5, a turn, the read again, a flush, and the read once more.
+const LONG: &[u8] =
+    b"\x44\x46\x01\x00\x03\x00\x00\x00\x05\x00\x00\x00\x44\x46\x05\x00\x04\x00\x00\x00\x00\x00\x00\x00\x44\x46\x01\x00\x03\x00\x00\x00\x05\x00\x00\x00\x44\x46\x04\x00\x05\x00\x00\x00\x00\x00\x00\x00\x44\x46\x01\x00\x03\x00\x00\x00\x05\x00\x00\x00";
+
+const ROWS: [Row; 6] = [
+    Row {
+        name: "the last sequence is spent",
+        before: &[],
+        next: Some([0xFF; 8]),
+        round: Round::Failing(0),
+        input: WRITE,
+        output: b"df\x02\x03\x02\x00\x00\x00",
+    },
+    Row {
+        name: "each program fails until one block is left",
+        before: &[],
+        next: None,
+        round: Round::Failing(31),
+        input: WRITE,
+        output: b"df\x02\x02\x02\x00\x00\x00",
+    },
+    // The page that the first read asks for comes with a bit turned, and that of the second as it is.
+    Row {
+        name: "damage",
+        before: WRITE,
+        next: None,
+        round: Round::Garble(1, 7, 0x10),
+        input: READS,
+        output: b"df\x01\x05\x03\x00\x00\x00df\x05\x00\x04\x00\x00\x00df\x01\x00\x03\x00\x00\x00\x11\x11\x11\x11\x11\x11\x11\x11\x11\x11\x11\x11\x11\x11\x11\x11\x11\x11\x11\x11\x11\x11\x11\x11\x11\x11\x11\x11\x11\x11\x11\x11\x11\x11\x11\x11\x11\x11\x11\x11\x11\x11\x11\x11\x11\x11\x11\x11\x11\x11\x11\x11\x11\x11\x11\x11\x11\x11\x11\x11\x11\x11\x11\x11",
+    },
+    // Before the fault each answer is the array's, and from it on each is the fault.
+    Row {
+        name: "a call fails in the first read",
+        before: WRITE,
+        next: None,
+        round: Round::Fuse(5),
+        input: LONG,
+        output: b"df\x01\x06\x03\x00\x00\x00df\x05\x06\x04\x00\x00\x00df\x01\x06\x03\x00\x00\x00df\x04\x06\x05\x00\x00\x00df\x01\x06\x03\x00\x00\x00",
+    },
+    Row {
+        name: "a call fails in the second read",
+        before: WRITE,
+        next: None,
+        round: Round::Fuse(12),
+        input: LONG,
+        output: b"df\x01\x00\x03\x00\x00\x00\x11\x11\x11\x11\x11\x11\x11\x11\x11\x11\x11\x11\x11\x11\x11\x11\x11\x11\x11\x11\x11\x11\x11\x11\x11\x11\x11\x11\x11\x11\x11\x11\x11\x11\x11\x11\x11\x11\x11\x11\x11\x11\x11\x11\x11\x11\x11\x11\x11\x11\x11\x11\x11\x11\x11\x11\x11\x11\x11\x11\x11\x11\x11\x11df\x05\x00\x04\x00\x00\x00df\x01\x06\x03\x00\x00\x00df\x04\x06\x05\x00\x00\x00df\x01\x06\x03\x00\x00\x00",
+    },
+    Row {
+        name: "a call fails in the flush",
+        before: WRITE,
+        next: None,
+        round: Round::Fuse(25),
+        input: LONG,
+        output: b"df\x01\x00\x03\x00\x00\x00\x11\x11\x11\x11\x11\x11\x11\x11\x11\x11\x11\x11\x11\x11\x11\x11\x11\x11\x11\x11\x11\x11\x11\x11\x11\x11\x11\x11\x11\x11\x11\x11\x11\x11\x11\x11\x11\x11\x11\x11\x11\x11\x11\x11\x11\x11\x11\x11\x11\x11\x11\x11\x11\x11\x11\x11\x11\x11\x11\x11\x11\x11\x11\x11df\x05\x00\x04\x00\x00\x00df\x01\x00\x03\x00\x00\x00\x11\x11\x11\x11\x11\x11\x11\x11\x11\x11\x11\x11\x11\x11\x11\x11\x11\x11\x11\x11\x11\x11\x11\x11\x11\x11\x11\x11\x11\x11\x11\x11\x11\x11\x11\x11\x11\x11\x11\x11\x11\x11\x11\x11\x11\x11\x11\x11\x11\x11\x11\x11\x11\x11\x11\x11\x11\x11\x11\x11\x11\x11\x11\x11df\x04\x06\x05\x00\x00\x00df\x01\x06\x03\x00\x00\x00",
+    },
+];
+
+// What a device over this bus answers to a stream.
+fn replies<B: Bus + Drop>(
+    alloc: Global,
+    bus: B,
+    accepted: Accepted,
+    geometry: Geometry,
+    input: &[u8],
+) -> Result<Vec<u8>, Fail>
+    requires same { B.honest bus ≡ true → (B.die bus).flash.geometry ≡ geometry }
+    requires asked { sizes_of geometry ≡ accepted.claim.sizes }
+{
+    let driver = driver_on(bus, geometry)?;
+    let mut device = start_on(alloc, driver, accepted)?;
+    let mut reader = Pieces {
+        left: input,
+        piece: 1000,
+        failing: 0,
+        reads: 0,
+    };
+    let mut writer = Narrow::new(alloc, 1000, 0);
+    match serve(alloc, &mut reader, &mut writer, &mut device) {
+        Ok(_) => Ok(writer.bytes),
+        Err(_) => Err("not served")?,
+    }
+}
+
+// A formatted die that was served.
+fn prepared(alloc: Global, geometry: &Geometry, before: &[u8]) -> Result<Driver<Die>, Fail>
+    ensures { IfOk result (λ driver. driver.geometry ≡ geometry.now) }
+{
+    let driver = formatted_die(alloc, *geometry, &[], 0)?;
+    let mut writer = Narrow::new(alloc, 1000, 0);
+    served(alloc, driver, geometry, 4, before, &mut writer)
+}
+
+// The certificate of a row.
+fn certificate_of(
+    alloc: Global,
+    driver: &mut Driver<Die>,
+    geometry: &Geometry,
+    next: Option<[u8; 8]>,
+) -> Result<Certificate, Fail>
+    requires { driver.old.geometry ≡ geometry.now }
+    ensures { driver.new.geometry ≡ geometry.now }
+{
+    let certificate = mounted(alloc, driver, geometry, 4)?;
+    match next {
+        Some(next) => with_bytes(alloc, &certificate, 32, &next),
+        None => Ok(certificate),
+    }
+}
+
+// The first so many programs and erases fail.
+fn faults_of(alloc: Global, failing: u64) -> Result<Vec<Fault>, Fail> {
+    let mut faults = Vec::new(alloc);
+    for nth in 0..failing {
+        faults.push(Fault {
+            nth_change: nth.saturating_add(1),
+            page_left: Vec::new(alloc),
+        })?;
+    }
+    Ok(faults)
+}
+
+// What comes of the stream of a row.
+fn came(alloc: Global, row: &Row) -> Result<Vec<u8>, Fail> {
+    let geometry = small()?;
+    let mut driver = prepared(alloc, &geometry, row.before)?;
+    let certificate = certificate_of(alloc, &mut driver, &geometry, row.next)?;
+    let accepted = check(alloc, &mut driver, &geometry, 4, &certificate)?;
+    let mut die = driver.into_bus();
+    match row.round {
+        Round::Failing(count) => {
+            die.set_faults(faults_of(alloc, count)?)?;
+            replies(alloc, die, accepted, geometry, row.input)
+        }
+        Round::Garble(nth, byte, mask) => {
+            let bus = Garble::new(die, nth, byte, mask);
+            replies(alloc, bus, accepted, geometry, row.input)
+        }
+        Round::Fuse(passed) => {
+            let bus = CycleFuse::new(die, passed, 1);
+            replies(alloc, bus, accepted, geometry, row.input)
+        }
+    }
+}
+
+#[test]
+fn devices_answer_by_their_status(rt: HostRuntime) -> Result<(), Fail> {
+    for row in &ROWS {
+        assert!(rt;
+            came(rt.alloc(), row)?.as_slice() == row.output,
+            "{}",
+            row.name
+        );
+    }
+    Ok(())
+}

@@ -1,5 +1,0 @@
-use Rattle.ftl_device.specs.Device.{IsDevice}
-use Rattle.hostile_tests.proofs.tests.images.do_calls.Given as goal
-
-abbrev pub invariant-loop-i : goal.invariant-loop-i
-invariant-loop-i g l = IsDevice g.N.PageSource.flash l.device

@@ -1,6 +1,0 @@
-// The geometry of these tests has sectors of 64 bytes, 32 of them, on 32 blocks of 8 pages.
-mod bench;
-mod plain;
-mod rows;
-mod statuses;
-mod streams;
