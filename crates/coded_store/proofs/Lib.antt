@@ -1,0 +1,5 @@
+pub mod ReadLemmas
+pub mod LawLemmas
+pub mod ShowLemmas
+pub mod StoreLemmas
+pub mod MemoryLemmas

@@ -1,0 +1,45 @@
+-- THE STORE OVER A FILE OF PAGES WITH THEIR CODES: its file, and what was wrong with each row as it was last read.
+use Rattle.std.specs.Prelude.{◌≡◌, ℕ, Bool, true, false, List, length, replicate, slice_set, sum_by, count_by}
+use Rattle.page_layout.specs.declared.geometry.Geometry.{Geometry}
+use Rattle.page_layout.specs.Geometry.{row_count}
+use Rattle.file_die.specs.Store.{Held, page_in}
+use Rattle.coded_store.specs.declared.wrong.Wrong.{Wrong}
+use Rattle.coded_store.specs.declared.wrong.Wrong.TheVariants.{Turned, Lost}
+use Rattle.coded_store.specs.Reading.{coded_bytes, wrong_with}
+use Rattle.coded_store.specs.File.{AreWithCodes}
+
+pub record Coded (F : Type 0) : Type 0 where
+  pub file : F
+  pub wrong : List Wrong
+
+-- nothing was read yet
+abbrev pub unread : {F : Type 0} → F → Geometry → Coded F
+unread file g = record { file = file; wrong = replicate (row_count g) (Turned 0) }
+
+-- what is true of its parts
+pub record AreCodedParts (s : Held) (honest : Bool) (g : Geometry) (buffer : List ℕ) (wrong : List Wrong) : Type 0 where
+  pub same : s.geometry ≡ g
+  pub whole : honest ≡ true → AreWithCodes s
+  pub buffer_whole : length buffer ≡ coded_bytes g
+  pub rows : length wrong ≡ row_count g
+
+-- A LOAD TELLS WHAT WAS WRONG: of the row that was read, and of no other
+pub record Tells {F : Type 0} (held : F → Held) (honest : F → Bool) (old new : Coded F) (row : ℕ) : Type 0 where
+  pub told : honest old.file ≡ true → new.wrong ≡ slice_set old.wrong row (wrong_with (held old.file).geometry (page_in (held old.file).pages row))
+
+-- ---- in all
+
+abbrev pub turned_in : Wrong → ℕ
+turned_in (Turned bits) = bits
+turned_in Lost = 0
+
+abbrev pub is_lost : Wrong → Bool
+is_lost (Turned bits) = false
+is_lost Lost = true
+
+-- the bits that were turned back, and the rows that were lost, as each was last read
+abbrev pub turned_of : List Wrong → ℕ
+turned_of wrong = sum_by turned_in wrong
+
+abbrev pub lost_of : List Wrong → ℕ
+lost_of wrong = count_by is_lost wrong
