@@ -20,7 +20,7 @@ use Rattle.disk_commands.specs.declared.text.DiskFault.{DiskFault}
 use Rattle.disk_commands.specs.declared.text.DiskFault.TheVariants as fault
 use Rattle.disk_commands.specs.Files.{Answers}
 use Rattle.disk_commands.specs.Info.{lost_lines}
-use Rattle.disk_commands.specs.Opening.{IsMarkAt, IsStoreAt, IsTextAt, IsUnopenedAt}
+use Rattle.disk_commands.specs.Opening.{IsMarkAt, IsNotAt, IsStoreAt, IsTextAt}
 
 -- ---- the list beside a disk
 
@@ -67,12 +67,18 @@ abbrev pub IsNoneFound : {S : Type 0} → (S → Held) → (honest : S → Bool)
 IsNoneFound {S} held honest failed a path (fault.Open at why) = (at.now ≡ path) × ((told : DiskText) × (store : S) × IsStoreAt held honest a path told store × IsUnfound held honest failed store why)
 IsNoneFound held honest failed a path _ = ⊥
 
--- why it was not: the disk was not opened, its mark or its list was not read, or its store was not mounted
+-- a growth was refused
+abbrev pub IsOutOfMemory : DiskFault → Type 0
+IsOutOfMemory fault.OutOfMemory = Unit {0}
+IsOutOfMemory _ = ⊥
+
+-- why it was not: the disk was not opened, or its mark not read; its list was not read; its store was not mounted; or a growth was refused
 abbrev pub IsUnlookedAt : {S : Type 0} → (S → Held) → (honest : S → Bool) → (failed : S → ℕ) → Answers → (path : List ℕ) → DiskFault → Type 0
 IsUnlookedAt held honest failed a path why =
-    IsUnopenedAt held honest failed a path why
+    IsNotAt a path why
+    ⊎ (IsOutOfMemory why
     ⊎ (((told : DiskText) × IsTextAt a path told × IsNoListAt a path told why)
-    ⊎ IsNoneFound held honest failed a path why)
+    ⊎ IsNoneFound held honest failed a path why))
 
 -- ---- what is told of it
 

@@ -65,9 +65,9 @@ with_opened opened path writes = option_map (λ known. known ++ (record { path =
 abbrev pub with_mark : Option (List Opened) → (path : List ℕ) → Option (List Opened)
 with_mark opened path = option_map (λ known. known ++ (record { path = path; mark = true; writes = true } ∷ [])) opened
 
--- none was to be opened, or this one, once
+-- this one was to be opened, once
 abbrev pub Opens : (path : List ℕ) → (writes : Bool) → (before after : Option (List Opened)) → Type 0
-Opens path writes before after = (after ≡ before) ⊎ (after ≡ with_opened before path writes)
+Opens path writes before after = after ≡ with_opened before path writes
 
 -- and where it is to be written, its mark behind it, or not
 abbrev pub OpensMarked : (path : List ℕ) → (writes : Bool) → (before after : Option (List Opened)) → Type 0

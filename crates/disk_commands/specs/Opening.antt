@@ -1,14 +1,13 @@
 -- The disk at a path: its shape, its die, and how a fault of its files is told.
-use Rattle.std.specs.Prelude.{◌≡◌, ◌⊎◌, ℕ, Bool, true, false, List, Option}
+use Rattle.std.specs.Prelude.{◌≡◌, ◌⊎◌, ◌*◌, ℕ, Bool, true, false, List, Option}
 use Rattle.std.specs.Borrow.{Bor}
+use Rattle.page_layout.specs.Geometry.{page_bytes, row_count}
 use Rattle.page_layout.specs.Counter.{HasRisen}
 use Rattle.file_die.specs.Store.{Held}
 use Rattle.disk_commands.specs.declared.shape_text.DiskText.{DiskText}
 use Rattle.disk_commands.specs.declared.mark.FoundMark.{FoundMark}
 use Rattle.disk_commands.specs.Mark.{IsMarkRead, none_found}
 use Rattle.disk_commands.specs.ShapeText.{IsNoShape, IsShapeText}
-use Rattle.disk_server.specs.Stopped.{IsUnopenedLater}
-use Rattle.disk_recovery.specs.Recovered.{IsUnopenedRecovered}
 use Rattle.disk_commands.specs.declared.files.FileFault.{FileFault}
 use Rattle.disk_commands.specs.declared.files.FileFault.TheVariants as file
 use Rattle.disk_commands.specs.declared.text.DiskFault.{DiskFault}
@@ -62,7 +61,7 @@ pub record IsTextAt (a : Answers) (path : List ℕ) (told : DiskText) : Type 0 w
   pub tells : a.tells path text
   pub says : IsShapeText text told
 
--- that file could not be read, or it tells none
+-- the die was not locked, that file could not be read, or it tells none
 abbrev pub IsShapeFault : Answers → List ℕ → DiskFault → Type 0
 IsShapeFault a path (fault.Shape told why) = (told.now ≡ path) × ((text : List ℕ) × a.tells path text × IsNoShape text why)
 IsShapeFault a path told = IsFaultAt a path 0 told
@@ -83,30 +82,13 @@ pub record IsStoreAt {S : Type 0} (held : S → Held) (honest : S → Bool) (a :
   pub geometry : (held store).geometry ≡ told.shape.geometry
   pub is_honest : honest store ≡ a.honest
 
--- of a store that was opened at the path to be read there is no disk, for this reason; or a growth was refused
-abbrev pub IsNoDisk : {S : Type 0} → (S → Held) → (honest : S → Bool) → (failed : S → ℕ) → Answers → List ℕ → DiskFault → Type 0
-IsNoDisk {S} held honest failed a path (fault.Open told why) =
-    (told.now ≡ path) × ((text : DiskText) × (store : S) × IsStoreAt held honest a path text store × IsUnopenedLater held honest failed store text.shape.cache why)
-IsNoDisk held honest failed a path fault.OutOfMemory = Unit {0}
-IsNoDisk held honest failed a path _ = ⊥
-
--- or of one that was opened to be written, and recovered by the mark that was found
-abbrev pub IsNotLeft : {S : Type 0} → (S → Held) → (honest : S → Bool) → (failed : S → ℕ) → Answers → List ℕ → DiskText → S → DiskFault → Type 0
-IsNotLeft held honest failed a path text store (fault.Open told why) =
-    (told.now ≡ path) × ((found : FoundMark) × IsMarkAt a path text.marked found × IsUnopenedRecovered held honest failed store text.shape.cache found.mark.synced why)
-IsNotLeft held honest failed a path text store _ = ⊥
-
--- the file of the die, or the one of its mark, was not opened or read
+-- the file of the die was not opened: it has another number of bytes than the pages of the shape, or it failed
 abbrev pub IsNoFile : Answers → List ℕ → DiskFault → Type 0
-IsNoFile a path told = (text : DiskText) × IsTextAt a path text × ((wanted : ℕ) × IsFaultAt a path wanted told)
+IsNoFile a path told = (text : DiskText) × IsTextAt a path text × IsFaultAt a path (row_count text.shape.geometry * page_bytes text.shape.geometry) told
 
--- the files of the disk at a path were not opened: for its shape, or for one of them
+-- the files of the disk at a path were not opened: for its lock or its shape, or for its die
 abbrev pub IsNotAt : Answers → List ℕ → DiskFault → Type 0
 IsNotAt a path told = IsShapeFault a path told ⊎ IsNoFile a path told
-
--- why the disk at a path was not opened to be read: for its files, or for what its die holds
-abbrev pub IsUnopenedAt : {S : Type 0} → (S → Held) → (honest : S → Bool) → (failed : S → ℕ) → Answers → List ℕ → DiskFault → Type 0
-IsUnopenedAt held honest failed a path told = IsNotAt a path told ⊎ IsNoDisk held honest failed a path told
 
 -- ---- a disk that is to be written
 
@@ -118,13 +100,3 @@ IsUnmarkedAt missed path _ = ⊥
 -- or its file was not opened or made
 abbrev pub IsUnkeptAt : {Y : Type 0} → (missed : Y → ℕ) → Answers → List ℕ → DiskFault → Type 0
 IsUnkeptAt missed a path told = IsFaultAt a path 0 told ⊎ IsUnmarkedAt missed path told
-
--- of a store that was opened at the path there is no disk to be written: its mark was not read or kept, or its die not opened
-abbrev pub IsUnwrittenOf : {S Y : Type 0} → (S → Held) → (honest : S → Bool) → (failed : S → ℕ) → (missed : Y → ℕ) → Answers → List ℕ → DiskText → S → DiskFault → Type 0
-IsUnwrittenOf held honest failed missed a path text store told = IsUnkeptAt missed a path told ⊎ IsNotLeft held honest failed a path text store told
-
--- why the disk at a path was not opened to be written: for its files; for its store; or a growth was refused
-abbrev pub IsUnwrittenAt : {S Y : Type 0} → (S → Held) → (honest : S → Bool) → (failed : S → ℕ) → (missed : Y → ℕ) → Answers → List ℕ → DiskFault → Type 0
-IsUnwrittenAt {S} held honest failed missed a path told =
-    IsNotAt a path told
-    ⊎ (((text : DiskText) × (store : S) × IsStoreAt held honest a path text store × IsUnwrittenOf held honest failed missed a path text store told) ⊎ (told ≡ fault.OutOfMemory))

@@ -52,7 +52,7 @@ abbrev pub DoesAsked : {S Y K : Type 0} → (S → Held) → (honest : S → Boo
     → Result (Unit {0}) DiskFault → Type 0
 DoesAsked held honest failed synced missed marked kept unlisted a (asked.Create words) old new result = Creates held honest failed a words old new result × (new.out ≡ old.out) × (new.input ≡ old.input) × (new.opened ≡ old.opened) × (new.err ≡ old.err)
 DoesAsked held honest failed synced missed marked kept unlisted a (asked.Serve words) old new result =
-    (HasServedAt held honest synced marked kept a words old.input new.input old.out new.out old.err new.err result ⊎ HasNotServed held honest failed missed unlisted a words old.out new.out old.err new.err result) × (new.kept ≡ old.kept)
+    (HasServedAt held honest synced marked kept a words old.input new.input old.out new.out old.err new.err result ⊎ HasNotServed held honest failed missed kept unlisted a words old.out new.out old.err new.err result) × (new.kept ≡ old.kept)
     × OpensMarked words.disk.now (not words.read_only) old.opened new.opened
 DoesAsked held honest failed synced missed marked kept unlisted a (asked.Info words) old new result = Tells held honest failed a words old new result × (new.kept ≡ old.kept) × (new.input ≡ old.input)
     × Opens words.disk.now false old.opened new.opened × (new.err ≡ old.err)

@@ -35,7 +35,7 @@ use Rattle.disk_commands.specs.Damage.{Names}
 use Rattle.disk_commands.specs.Ready.{IsReadyAt, IsUnreadyAt}
 use Rattle.disk_commands.specs.Told.{IsUnprinted}
 use Rattle.disk_server.specs.declared.guarded.GuardedSectors.{GuardedSectors}
-use Rattle.disk_server.specs.Guarded.{ReadsGuarded, RestsGuarded}
+use Rattle.disk_server.specs.Guarded.{ReadsGuarded, RestsGuarded, shown}
 
 -- ---- what the client is told
 
@@ -130,7 +130,8 @@ reads_in held honest old new = OnlyReads (flash_in held) (is_honest_in honest) (
 
 -- ---- the command
 
--- IT SERVED: the disk at the path was opened, its lost sectors were named and guarded, and it was served
+-- IT SERVED: the disk at the path was opened, its lost sectors were named and guarded, and it was served. No byte of a lost sector is one of its array: so a read of one is not answered without an error until it was
+-- written or trimmed (`guard_laws`)
 pub record HasServedAt {S Y K : Type 0} (held : S → Held) (honest : S → Bool) (synced : Y → ℕ) (marked : Y → Mark) (kept : K → List Bool) (a : Answers) (words : ServeWords)
     (unread left before after telling told_after : Option (List ℕ)) (result : Result (Unit {0}) DiskFault) : Type 0 where
   pub told : DiskText
@@ -138,14 +139,14 @@ pub record HasServedAt {S Y K : Type 0} (held : S → Held) (honest : S → Bool
   pub syncs : Y
   pub at : IsReadyAt held honest marked kept a words.disk.now words.read_only told disk syncs
   pub named : Names disk.lost.items telling told_after
-  pub served : HasServedOn (λ d. contents_of (flash_in held) (is_honest_in honest) d.sectors) (λ d. holds (is_honest_in honest) d.sectors) (RestsGuarded (rests_in held honest)) (ReadsGuarded (reads_in held honest))
+  pub served : HasServedOn (shown (contents_of (flash_in held) (is_honest_in honest)) (λ d. d.engine.geometry.data_bytes)) (λ d. holds (is_honest_in honest) d.sectors) (RestsGuarded (rests_in held honest)) (ReadsGuarded (reads_in held honest))
       (λ d. d.sectors.engine.next) (λ d. takes_changes d.sectors) synced marked (terms_of told.shape words.read_only) words.disk disk syncs unread left before after result
 
 -- or it did not, and nothing was sent: the disk was not ready. Lost sectors may have been named where that is told, or where a growth was refused
-pub record HasNotServed {S Y K : Type 0} (held : S → Held) (honest : S → Bool) (failed : S → ℕ) (missed : Y → ℕ) (unlisted : K → ℕ) (a : Answers) (words : ServeWords) (before after telling told_after : Option (List ℕ))
+pub record HasNotServed {S Y K : Type 0} (held : S → Held) (honest : S → Bool) (failed : S → ℕ) (missed : Y → ℕ) (kept : K → List Bool) (unlisted : K → ℕ) (a : Answers) (words : ServeWords) (before after telling told_after : Option (List ℕ))
     (result : Result (Unit {0}) DiskFault) : Type 0 where
   pub told : DiskFault
   pub is : result ≡ Err told
-  pub why : IsUnreadyAt held honest failed missed unlisted a words.disk.now words.read_only told
+  pub why : IsUnreadyAt held honest failed missed kept unlisted a words.disk.now words.read_only told
   pub silent : Keeps before after
   pub unnamed : (told_after ≡ telling) ⊎ IsUnprinted told

@@ -1,7 +1,7 @@
 //! What is lost of the disk at a path: the list beside it, and what its pages show.
-ghost use Rattle.std.specs.Prelude.{◌≡◌, false, IfErr, IfOk, OnErr, OnOk, replicate};
+ghost use Rattle.std.specs.Prelude.{◌≡◌, false, IfErr, IfOk, OnOk, replicate};
 ghost use Rattle.disk_commands.specs.Damage.{IsListAt, IsLookedAt, IsNoListAt, IsUnlookedAt, Names};
-ghost use Rattle.disk_commands.specs.Files.{Opens, SaysNoMore, with_opened};
+ghost use Rattle.disk_commands.specs.Files.{Opens, SaysNoMore};
 ghost use Rattle.disk_commands.specs.ShapeText.{IsWithin};
 ghost use Rattle.disk_commands.specs.Told.{IsUnprinted};
 
@@ -92,8 +92,7 @@ pub(crate) fn look_at<'a, F: DiskFiles>(
 ) -> Result<Looked<F::Store, F::Syncs>, DiskFault<'a>>
     ensures ok { IfOk result (λ looked. IsLookedAt F.Store.held F.Store.honest (F.answers files.old) path.now looked.told looked.found looked.store looked.certificate looked.lost.items) }
     ensures fault { IfErr result (IsUnlookedAt F.Store.held F.Store.honest F.Store.failed (F.answers files.old) path.now) }
-    ensures opened { OnOk result (F.opened files.new ≡ with_opened (F.opened files.old) path.now writes) }
-    ensures unopened { OnErr result (Opens path.now writes (F.opened files.old) (F.opened files.new)) }
+    ensures opened { Opens path.now writes (F.opened files.old) (F.opened files.new) }
     ensures within { IfOk result (λ looked. IsWithin looked.told.shape.cache) }
     ensures no_more { OnOk result (SaysNoMore (F.answers files.old) (F.answers files.new)) }
     ensures kept { F.kept files.new ≡ F.kept files.old }

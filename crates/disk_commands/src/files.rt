@@ -35,7 +35,10 @@ pub trait DiskFiles {
     ghost use Rattle.file_die.specs.Store.{blank};
     ghost use Rattle.disk_commands.specs.Files.{Answers, FailsCopy, FailsNoMore, Kept, Opened, SaysNoMore, kept_after, with_mark, with_opened};
 
-    /// The pages of a die in a file. While it is there no other program opens or makes the disk.
+    /// The file of a die, open and locked: while it is there no other program opens or makes the disk.
+    type Locked: Drop;
+
+    /// The pages of a die in a file that is locked.
     type Store: Store + Drop;
 
     /// A second handle of such a file.
@@ -63,12 +66,28 @@ pub trait DiskFiles {
         ensures failed { IfErr result ((answers self.old).fails path.now) }
         ensures same { self.new ≡ self.old };
 
-    /// The bytes of the file that tells the shape of the disk at a path, or the first 65,536 of them.
+    /// Opens the file of the die at a path, and locks it. With `writes` false it is opened for reading alone.
+    ///
+    /// # Errors
+    ///
+    /// One that these files may answer of the path: `InUse` where it is locked. The disks in their places are as they were.
+    fn lock(&mut self, path: &str, writes: bool) -> Result<Self::Locked, FileFault>
+        ensures failed { IfErr result ((answers self.old).fails path.now) }
+        ensures answers { answers self.new ≡ answers self.old }
+        ensures opened { opened self.new ≡ with_opened (opened self.old) path.now writes }
+        ensures kept { kept self.new ≡ kept self.old };
+
+    /// The bytes of the file that tells the shape of the disk at a path, whose die is locked, or the first 65,536 of them.
     ///
     /// # Errors
     ///
     /// One that these files may answer of the path, where there is no such file or it could not be read. They are as they were.
-    fn shape_text(&mut self, alloc: Global, path: &str) -> Result<Vec<u8>, FileFault>
+    fn shape_text(
+        &mut self,
+        alloc: Global,
+        path: &str,
+        locked: &Self::Locked,
+    ) -> Result<Vec<u8>, FileFault>
         ensures bytes { IfOk result (λ text. (answers self.old).tells path.now text.items) }
         ensures failed { IfErr result ((answers self.old).fails path.now) }
         ensures same { self.new ≡ self.old };
@@ -83,8 +102,7 @@ pub trait DiskFiles {
         ensures failed { IfErr result ((answers self.old).fails path.now) }
         ensures same { self.new ≡ self.old };
 
-    /// The store of the die at a path, and a second handle of its file: a file of as many bytes as the geometry's pages have. With `writes` false it is opened for
-    /// reading alone.
+    /// The store of the die at a path, which is locked, and a second handle of its file: a file of as many bytes as the geometry's pages have.
     ///
     /// # Errors
     ///
@@ -93,14 +111,14 @@ pub trait DiskFiles {
         &mut self,
         alloc: Global,
         path: &str,
+        locked: Self::Locked,
         geometry: &Geometry,
-        writes: bool,
     ) -> Result<(Self::Store, Self::Syncs), FileFault>
         ensures held { IfOk result (λ opened. (answers self.old).holds path.now (Self.Store.held opened.0)) }
         ensures geometry { IfOk result (λ opened. (Self.Store.held opened.0).geometry ≡ geometry.now) }
         ensures honest { IfOk result (λ opened. Self.Store.honest opened.0 ≡ (answers self.old).honest) }
         ensures failed { IfErr result ((answers self.old).fails path.now) }
-        ensures opened { opened self.new ≡ with_opened (opened self.old) path.now writes }
+        ensures opened { opened self.new ≡ opened self.old }
         ensures no_more { SaysNoMore (answers self.old) (answers self.new) }
         ensures kept { kept self.new ≡ kept self.old };
 

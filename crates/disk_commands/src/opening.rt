@@ -1,8 +1,8 @@
 //! The files that each command begins with.
-ghost use Rattle.std.specs.Prelude.{◌≡◌, ◌*◌, IfOk, IfErr, OnOk, OnErr, false};
+ghost use Rattle.std.specs.Prelude.{◌≡◌, ◌*◌, IfOk, IfErr, OnOk, false};
 ghost use Rattle.page_layout.specs.Geometry.{page_bytes, row_count};
 ghost use Rattle.disk_commands.specs.ShapeText.{IsWithin};
-ghost use Rattle.disk_commands.specs.Files.{Opens, SaysNoMore, with_opened};
+ghost use Rattle.disk_commands.specs.Files.{Opens, SaysNoMore};
 ghost use Rattle.disk_commands.specs.Opening.{IsFaultAt, IsMarkAt, IsNotAt, IsNotFree, IsShapeFault, IsStoreAt, IsTextAt, told_at, told_of_copy};
 
 use crate::files::{DiskFiles, FileFault};
@@ -48,17 +48,18 @@ pub(crate) fn told_of_copy<'a>(
     }
 }
 
-/// What the file beside the disk at a path tells.
-pub(crate) fn text_at<'a, F: DiskFiles>(
+// What the file beside the disk at a path tells, whose die is locked.
+fn text_at<'a, F: DiskFiles>(
     alloc: Global,
     files: &mut F,
     path: &'a str,
+    locked: &F::Locked,
 ) -> Result<DiskText, DiskFault<'a>>
     ensures ok { IfOk result (IsTextAt (F.answers files.old) path.now) }
     ensures fault { IfErr result (IsShapeFault (F.answers files.old) path.now) }
     ensures same { files.new ≡ files.old }
 {
-    let text = match files.shape_text(alloc, path) {
+    let text = match files.shape_text(alloc, path, locked) {
         Ok(text) => text,
         Err(fault) => return Err(told_at(fault, path, 0)),
     };
@@ -68,7 +69,7 @@ pub(crate) fn text_at<'a, F: DiskFiles>(
     }
 }
 
-/// The die of the disk at a path and a second handle of its file, opened, and what the file beside it tells.
+/// The die of the disk at a path and a second handle of its file, opened, and what the file beside it tells, which is read once the die is locked.
 pub(crate) fn open_at<'a, F: DiskFiles>(
     alloc: Global,
     files: &mut F,
@@ -77,18 +78,21 @@ pub(crate) fn open_at<'a, F: DiskFiles>(
 ) -> Result<(F::Store, F::Syncs, DiskText), DiskFault<'a>>
     ensures ok { IfOk result (λ opened. IsStoreAt F.Store.held F.Store.honest (F.answers files.old) path.now opened.2 opened.0) }
     ensures fault { IfErr result (IsNotAt (F.answers files.old) path.now) }
-    ensures opened { OnOk result (F.opened files.new ≡ with_opened (F.opened files.old) path.now writes) }
-    ensures unopened { OnErr result (Opens path.now writes (F.opened files.old) (F.opened files.new)) }
+    ensures opened { Opens path.now writes (F.opened files.old) (F.opened files.new) }
     ensures within { IfOk result (λ opened. IsWithin opened.2.shape.cache) }
     ensures no_more { OnOk result (SaysNoMore (F.answers files.old) (F.answers files.new)) }
     ensures kept { F.kept files.new ≡ F.kept files.old }
 {
-    let told = match text_at(alloc, files, path) {
+    let locked = match files.lock(path, writes) {
+        Ok(locked) => locked,
+        Err(fault) => return Err(told_at(fault, path, 0)),
+    };
+    let told = match text_at(alloc, files, path, &locked) {
         Ok(told) => told,
         Err(fault) => return Err(fault),
     };
     let geometry = told.shape.geometry;
-    match files.open(alloc, path, &geometry, writes) {
+    match files.open(alloc, path, locked, &geometry) {
         Ok((store, syncs)) => Ok((store, syncs, told)),
         Err(fault) => Err(told_at(fault, path, die_bytes(&geometry))),
     }

@@ -1,13 +1,16 @@
 //! The disk at a path is made ready to be served: it is looked at, the list of its lost sectors is kept, and it is opened.
-ghost use Rattle.std.specs.Prelude.{◌≡◌, ◌⊎◌, false, not, true, IfErr, IfOk};
+ghost use Rattle.std.specs.Prelude.{◌≡◌, ◌⊎◌, false, not, true, IfErr, IfOk, OnOk};
 ghost use Rattle.image_check.specs.Agrees.{Agrees};
+ghost use Rattle.disk_server.specs.Disk.{contents_of, holds};
+ghost use Rattle.disk_server.specs.Opened.{flash_in, is_honest_in};
+ghost use Rattle.disk_server.specs.Synced.{after_sync};
+ghost use Rattle.disk_recovery.specs.Recovered.{KeepsIfAny};
 ghost use Rattle.disk_commands.specs.Damage.{Names};
 ghost use Rattle.disk_commands.specs.Files.{OpensMarked, with_mark};
 ghost use Rattle.disk_commands.specs.Opening.{IsUnkeptAt};
-ghost use Rattle.disk_commands.specs.Ready.{IsDiskOf, IsReadyAt, IsUnopenedOf, IsUnreadyAt, MarksBy};
+ghost use Rattle.disk_commands.specs.Ready.{HoldsPages, IsNoneOf, IsReadyAt, IsUnkeptBy, IsUnreadyAt, MarksBy};
 ghost use Rattle.disk_commands.specs.ShapeText.{IsWithin};
 ghost use Rattle.disk_commands.specs.Told.{IsUnprinted};
-ghost use Rattle.disk_server.specs.Synced.{after_sync};
 
 use crate::damage::{Looked, look_at, name_lost};
 use crate::files::DiskFiles;
@@ -18,11 +21,11 @@ use crate::shape_text::DiskText;
 use crate::text::DiskFault;
 use crate::words::ServeWords;
 use certificate::Certificate;
-use disk_recovery::recover_mounted;
+use disk_recovery::{ListedFault, recover_listed};
 use disk_server::{
-    DeviceDisk, GuardedSectors, SectorDisk, Sequenced, StoreDisk, Syncs, open_stopped,
+    DeviceDisk, GuardedSectors, KeepsLost, SectorDisk, Sequenced, StoreDisk, Syncs, open_stopped,
 };
-use file_die::{FileDie, SyncWhen};
+use file_die::{FileDie, Store, SyncWhen};
 use onfi_cycles::Driver;
 use std::alloc::Global;
 use std::io::Write;
@@ -36,6 +39,47 @@ fn sync_when(always: bool) -> SyncWhen {
         SyncWhen::Always
     } else {
         SyncWhen::Erases
+    }
+}
+
+// The disk of a store that was looked at. Where it is to be written, the list of its lost sectors is kept first, and then what a crash left torn is taken away.
+fn disk_of<'a, S: Store + Drop, K: KeepsLost>(
+    alloc: Global,
+    words: &ServeWords<'a>,
+    store: S,
+    certificate: &Certificate,
+    told: &DiskText,
+    found: FoundMark,
+    keeper: &mut K,
+    lost: &[bool],
+) -> Result<StoreDisk<S>, DiskFault<'a>>
+    requires within { IsWithin told.now.shape.cache }
+    requires mounted { S.honest store ≡ true → Agrees (S.held store).geometry 65536 (S.held store).pages certificate.now }
+    ensures honest { IfOk result (λ d. S.honest store ≡ true → holds (is_honest_in S.honest) d ≡ true) }
+    ensures bytes { IfOk result (λ d. HoldsPages words.now.read_only found.mark.synced (S.honest store ≡ true) (S.held store) (contents_of (flash_in S.held) (is_honest_in S.honest) d).bytes) }
+    ensures listed { OnOk result (words.now.read_only ≡ false → KeepsIfAny K.kept lost.now keeper.new) }
+    ensures fault { IfErr result (IsNoneOf S.held S.honest S.failed K.kept K.failed words.now.disk.now words.now.read_only told.now found store lost.now keeper.old keeper.new) }
+{
+    let when = sync_when(words.sync_always);
+    if words.read_only {
+        return match open_stopped(alloc, store, told.shape.cache, when, false) {
+            Ok(disk) => Ok(disk),
+            Err(why) => Err(DiskFault::Open(words.disk, why)),
+        };
+    }
+    match recover_listed(
+        alloc,
+        store,
+        certificate,
+        keeper,
+        lost,
+        told.shape.cache,
+        found.mark.synced,
+        when,
+    ) {
+        Ok(disk) => Ok(disk),
+        Err(ListedFault::List { .. }) => Err(DiskFault::WriteList(words.disk)),
+        Err(ListedFault::Open(why)) => Err(DiskFault::Open(words.disk, why)),
     }
 }
 
@@ -63,72 +107,25 @@ fn keep_mark<'a, F: DiskFiles>(
     }
 }
 
-// The disk of a store that was looked at, to be written: what a crash left torn is taken away, and the mark is kept from now on, where one counts.
-fn open_to_write<'a, F: DiskFiles>(
+// The same where the disk is to be written, and a mark of it counts.
+fn keep_mark_of<'a, F: DiskFiles>(
     alloc: Global,
     files: &mut F,
     words: &ServeWords<'a>,
-    opened: (F::Store, F::Syncs),
-    certificate: &Certificate,
+    syncs: F::Syncs,
     told: &DiskText,
     found: FoundMark,
-) -> Result<(StoreDisk<F::Store>, F::Syncs), DiskFault<'a>>
-    requires within { IsWithin told.now.shape.cache }
-    requires mounted { F.Store.honest opened.0 ≡ true → Agrees (F.Store.held opened.0).geometry 65536 (F.Store.held opened.0).pages certificate.now }
-    ensures ok { IfOk result (λ disk. IsDiskOf F.Store.held F.Store.honest F.Syncs.marked false told.now found opened.0 disk.0 disk.1) }
-    ensures fault { IfErr result (IsUnopenedOf F.Store.held F.Store.honest F.Store.failed F.Syncs.failed (F.answers files.old) words.now.disk.now false told.now found opened.0) }
-    ensures opened { (F.opened files.new ≡ F.opened files.old) ⊎ (F.opened files.new ≡ with_mark (F.opened files.old) words.now.disk.now) }
-    ensures kept { F.kept files.new ≡ F.kept files.old }
-{
-    let (store, syncs) = opened;
-    let when = sync_when(words.sync_always);
-    let disk = match recover_mounted(
-        alloc,
-        store,
-        certificate,
-        told.shape.cache,
-        found.mark.synced,
-        when,
-    ) {
-        Ok(disk) => disk,
-        Err(why) => return Err(DiskFault::Open(words.disk, why)),
-    };
-    if !told.marked {
-        return Ok((disk, syncs));
-    }
-    let next = disk.next_sequence();
-    match keep_mark(alloc, files, words.disk, syncs, found, next) {
-        Ok(syncs) => Ok((disk, syncs)),
-        Err(fault) => Err(fault),
-    }
-}
-
-// The disk of a store that was looked at, by whether it is only to be read.
-fn open_looked<'a, F: DiskFiles>(
-    alloc: Global,
-    files: &mut F,
-    words: &ServeWords<'a>,
-    opened: (F::Store, F::Syncs),
-    certificate: &Certificate,
-    told: &DiskText,
-    found: FoundMark,
-) -> Result<(StoreDisk<F::Store>, F::Syncs), DiskFault<'a>>
-    requires within { IsWithin told.now.shape.cache }
-    requires mounted { F.Store.honest opened.0 ≡ true → Agrees (F.Store.held opened.0).geometry 65536 (F.Store.held opened.0).pages certificate.now }
-    ensures ok { IfOk result (λ disk. IsDiskOf F.Store.held F.Store.honest F.Syncs.marked words.now.read_only told.now found opened.0 disk.0 disk.1) }
-    ensures fault { IfErr result (IsUnopenedOf F.Store.held F.Store.honest F.Store.failed F.Syncs.failed (F.answers files.old) words.now.disk.now words.now.read_only told.now found opened.0) }
+    next: u64,
+) -> Result<F::Syncs, DiskFault<'a>>
+    ensures marked { IfOk result (λ keeps. words.now.read_only ≡ false → told.now.marked ≡ true → F.Syncs.marked keeps ≡ after_sync next false found.mark) }
+    ensures fault { IfErr result (IsUnkeptBy words.now.read_only F.Syncs.failed (F.answers files.old) words.now.disk.now) }
     ensures opened { MarksBy (not words.now.read_only) words.now.disk.now (F.opened files.old) (F.opened files.new) }
     ensures kept { F.kept files.new ≡ F.kept files.old }
 {
-    if !words.read_only {
-        return open_to_write(alloc, files, words, opened, certificate, told, found);
+    if words.read_only || !told.marked {
+        return Ok(syncs);
     }
-    let (store, syncs) = opened;
-    let when = sync_when(words.sync_always);
-    match open_stopped(alloc, store, told.shape.cache, when, false) {
-        Ok(disk) => Ok((disk, syncs)),
-        Err(why) => Err(DiskFault::Open(words.disk, why)),
-    }
+    keep_mark(alloc, files, words.disk, syncs, found, next)
 }
 
 /// The disk at a path, whose lost sectors are named on standard error and guarded, with a second handle of its file, and what is told beside it. Where it is to be written, the list of its lost sectors is
@@ -141,7 +138,7 @@ pub(crate) fn ready<'a, F: DiskFiles, E: Write>(
 ) -> Result<(GuardedDisk<F::Store, F::Lists>, F::Syncs, DiskText), DiskFault<'a>>
     ensures ok { IfOk result (λ r. IsReadyAt F.Store.held F.Store.honest F.Syncs.marked F.Lists.kept (F.answers files.old) words.now.disk.now words.now.read_only r.2 r.0 r.1) }
     ensures named { IfOk result (λ r. Names r.0.lost.items (E.contents err.old) (E.contents err.new)) }
-    ensures fault { IfErr result (IsUnreadyAt F.Store.held F.Store.honest F.Store.failed F.Syncs.failed F.Lists.failed (F.answers files.old) words.now.disk.now words.now.read_only) }
+    ensures fault { IfErr result (IsUnreadyAt F.Store.held F.Store.honest F.Store.failed F.Syncs.failed F.Lists.kept F.Lists.failed (F.answers files.old) words.now.disk.now words.now.read_only) }
     ensures unnamed { IfErr result (λ fault. (E.contents err.new ≡ E.contents err.old) ⊎ IsUnprinted fault) }
     ensures opened { OpensMarked words.now.disk.now (not words.now.read_only) (F.opened files.old) (F.opened files.new) }
     ensures kept { F.kept files.new ≡ F.kept files.old }
@@ -150,7 +147,7 @@ pub(crate) fn ready<'a, F: DiskFiles, E: Write>(
         Ok(looked) => looked,
         Err(fault) => return Err(fault),
     };
-    let keeper = match keeper_at(alloc, files, words.disk, &looked, !words.read_only) {
+    let mut keeper = match keeper_at(alloc, files, words.disk, &looked) {
         Ok(keeper) => keeper,
         Err(fault) => return Err(fault),
     };
@@ -162,16 +159,22 @@ pub(crate) fn ready<'a, F: DiskFiles, E: Write>(
         certificate,
         lost,
     } = looked;
-    let (disk, syncs) = match open_looked(
+    let disk = match disk_of(
         alloc,
-        files,
         words,
-        (store, syncs),
+        store,
         &certificate,
         &told,
         found,
+        &mut keeper,
+        &lost,
     ) {
-        Ok(opened) => opened,
+        Ok(disk) => disk,
+        Err(fault) => return Err(fault),
+    };
+    let next = disk.next_sequence();
+    let syncs = match keep_mark_of(alloc, files, words, syncs, &told, found, next) {
+        Ok(syncs) => syncs,
         Err(fault) => return Err(fault),
     };
     match name_lost(alloc, &lost, err) {

@@ -10,7 +10,7 @@ use Rattle.crash_recovery.specs.Taken.{Recovers}
 use Rattle.disk_server.specs.declared.opened.OpenStoreFault.{OpenStoreFault}
 use Rattle.disk_server.specs.Opened.{HasCome, bytes_of}
 use Rattle.disk_server.specs.Stopped.{IsUnopenedLater}
-use Rattle.disk_recovery.specs.Recovered.{HoldsRecovered, IsLeft, IsNotTaken, IsRecovered, IsUnopenedRecovered, IsUnrecovered}
+use Rattle.disk_recovery.specs.Recovered.{HoldsRecovered, IsLeft, IsRecovered, IsUnrecovered}
 
 -- the certificate is that of the store which came back
 pub agrees_again : {S : Type 0} (held : S → Held) (honest : S → Bool) (store mounted : S) (c : Claim) → HasCome held honest store mounted → honest store ≡ true
@@ -28,34 +28,6 @@ pub recovered_of : {S : Type 0} (held : S → Held) (honest : S → Bool) (store
     → IsRecovered mark (held mounted) changed left → IsRecovered mark (held store) changed left
 recovered_of held honest store mounted left mark changed come h is =
     record { mounted = is.mounted; geometry = is.geometry ∙ come.geometry h; pages = is.pages ∙ come.pages h; recovers = is.recovers }
-
-pub left_of : {S : Type 0} (held : S → Held) (honest : S → Bool) (store mounted : S) (left : Held) (mark : ℕ) → HasCome held honest store mounted → honest store ≡ true
-    → IsLeft mark (held mounted) left → IsLeft mark (held store) left
-left_of held honest store mounted left mark come h (inl once) = inl (recovered_of held honest store mounted left mark false come h once)
-left_of held honest store mounted left mark come h (inr twice) = inr (twice.0, recovered_of held honest store mounted twice.0 mark true come h twice.1, twice.2)
-
-pub holds_of : {D E S : Type 0} (bytes : D → List ℕ) (held : S → Held) (honest : S → Bool) (store mounted : S) (mark : ℕ) (result : Result D E) → HasCome held honest store mounted
-    → IfOk result (λ d. honest mounted ≡ true → HoldsRecovered mark (held mounted) (bytes d)) → IfOk result (λ d. honest store ≡ true → HoldsRecovered mark (held store) (bytes d))
-holds_of bytes held honest store mounted mark (Ok d) come opened = λ h.
-    (let was = opened (come.as_honest ∙ h) in record { left = was.left; recovered = left_of held honest store mounted was.left mark come h was.recovered; bytes_are = was.bytes_are })
-holds_of bytes held honest store mounted mark (Err e) come opened = tt
-
-not_taken : {S : Type 0} (honest : S → Bool) (failed : S → ℕ) (store mounted : S) (fault : OpenStoreFault) → honest mounted ≡ honest store → IsNotTaken honest failed mounted fault → IsNotTaken honest failed store fault
-not_taken honest failed store mounted fault same (inl memory) = inl memory
-not_taken honest failed store mounted fault same (inr failing) = inr (failing.0, failing.1, failing.2 ∙ same, failing.3, failing.4)
-
-unrecovered : {S : Type 0} (held : S → Held) (honest : S → Bool) (failed : S → ℕ) (store mounted : S) (capacity mark : ℕ) (fault : OpenStoreFault) → HasCome held honest store mounted
-    → IsUnrecovered held honest failed mounted capacity mark fault → IsUnrecovered held honest failed store capacity mark fault
-unrecovered held honest failed store mounted capacity mark fault come (inl first) = inl (not_taken honest failed store mounted fault come.as_honest first)
-unrecovered held honest failed store mounted capacity mark fault come (inr (inl again)) =
-    inr (inl (again.0, again.1 ∙ come.as_honest, (λ h. recovered_of held honest store mounted (held again.0) mark true come h (again.2 (come.as_honest ∙ h))), again.3))
-unrecovered held honest failed store mounted capacity mark fault come (inr (inr later)) =
-    inr (inr (later.0, later.1 ∙ come.as_honest, (λ h. left_of held honest store mounted (held later.0) mark come h (later.2 (come.as_honest ∙ h))), later.3))
-
-pub fault_of : {S A : Type 0} (held : S → Held) (honest : S → Bool) (failed : S → ℕ) (store mounted : S) (capacity mark : ℕ) (result : Result A OpenStoreFault) → HasCome held honest store mounted
-    → IfErr result (IsUnrecovered held honest failed mounted capacity mark) → IfErr result (IsUnopenedRecovered held honest failed store capacity mark)
-fault_of held honest failed store mounted capacity mark (Ok d) come is = tt
-fault_of held honest failed store mounted capacity mark (Err fault) come is = inr (unrecovered held honest failed store mounted capacity mark fault come is)
 
 -- nothing was torn
 pub left_once : (mark : ℕ) (s t : Held) (changed : Bool) → changed ≡ false → IsRecovered mark s changed t → IsLeft mark s t

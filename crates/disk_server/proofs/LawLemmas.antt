@@ -1,12 +1,23 @@
 -- What the definitions of a device as a disk come to.
-use Rattle.std.proofs.Common.{◌+◌, ◌*◌, inl, inr, ℕ, Bool, List, refl, ap, ◌∙◌, arith}
-use Rattle.std.specs.Prelude.{slice_range}
+use Rattle.std.proofs.Common.{◌≡◌, ◌+◌, ◌*◌, ◌&&◌, inl, inr, ℕ, Bool, true, false, List, [], Option, Result, Ok, Err, refl, sym, subst, ap, ◌∙◌, arith}
+use Rattle.std.specs.Prelude.{slice_range, not, ◌==◌}
+use Rattle.std.proofs.lemmas.Bool.{eq-eqb, lt-ltb}
 use Rattle.page_layout.specs.Array.{zeros}
 use Rattle.page_layout.specs.Flash.{Flash}
+use Rattle.page_layout.specs.Recording.{Recording}
+use Rattle.promises.specs.Step.{Flush}
+use Rattle.allocation.specs.State.{free_count}
+use Rattle.image_check.specs.Stale.{stale_sectors}
+use Rattle.collection.specs.Safe.{ram}
+use Rattle.ftl_device.specs.declared.device.Device.{Device}
+use Rattle.ftl_device.specs.declared.fault.DeviceFault.{DeviceFault}
+use Rattle.ftl_device.specs.Begin.{is_scarce}
+use Rattle.ftl_device.specs.Changes.{Upkeeps}
 use Rattle.disk_server.proofs.FlatLemmas.{flat_law}
 use Rattle.ftl_device.specs.declared.fault.DeviceFault.TheVariants.{OutOfRange, ReadOnly, SequenceSpent, OutOfMemory, Damaged, BusFault}
 use Rattle.ftl_device.specs.Calls.{array_in}
-use Rattle.disk_server.specs.Laws.{LengthLaw, SectorLaw, LastsLaw, HoldsLaw, NoSpaceLaw, ReadOnlyLaw, ClosedLaw}
+use Rattle.disk_server.specs.Disk.{holds, flush_answer, takes_changes, IsDisk}
+use Rattle.disk_server.specs.Laws.{BelowLaw, LengthLaw, SectorLaw, LastsLaw, HoldsLaw, NoSpaceLaw, ReadOnlyLaw, ClosedLaw, WrittenLaw}
 use Rattle.disk_server.proofs.Sizes.{zeros_long}
 use Rattle.disk_server.proofs.Holding.{parts, holds_from, held, long, array_sectors_of, array_count}
 
@@ -49,3 +60,35 @@ closed SequenceSpent = ((λ e. inl refl), λ o. refl)
 closed OutOfMemory = ((λ e. cc), λ o. (elim o [ inl is ↦ cc | inr its ↦ (let is = its.3 in cc) ]))
 closed Damaged = ((λ e. cc), λ o. (elim o [ inl is ↦ cc | inr its ↦ (let is = its.3 in cc) ]))
 closed BusFault = ((λ e. cc), λ o. (elim o [ inl is ↦ cc | inr its ↦ (let is = its.3 in cc) ]))
+
+-- ---- what a mark says
+
+pub below_law : {N : Type 0} (flash : N → Flash) (honest : N → Bool) → BelowLaw flash honest
+below_law flash honest d is h = (is.well h).truth.below
+
+-- a device that takes changes is not read-only, and its last sequence is not given out
+takes : (a b : Bool) → (not a && not b) ≡ true → (a ≡ false) × (b ≡ false)
+takes false false e = (refl, refl)
+takes false true e = (let no : ⊥ = cc in absurd no)
+takes true b e = (let no : ⊥ = cc in absurd no)
+
+module _ {N : Type 0} (flash : N → Flash) (recorded : N → Option Recording) (honest calm : N → Bool) (failed : N → ℕ) (old new : Device N) (was : IsDisk flash honest old) (is : IsDisk flash honest new)
+    (h : holds honest old ≡ true) (going : takes_changes new ≡ true) where
+  written_by : (answer : Result (Unit {0}) DeviceFault) → Ok tt ≡ flush_answer answer → Upkeeps flash recorded honest calm failed Flush old answer new
+      → stale_sectors old.engine.geometry (flash new.engine.nand).image ≡ []
+  written_by (Ok done) told upkeeps = ((upkeeps.logs (parts honest old h).0 (λ e. cc)).flushed (was.well h) refl refl).fresh
+  written_by (Err (ReadOnly good wanted grown)) told upkeeps =
+      let closed : new.read_only ≡ true = is.device.read_only ∙ lt-ltb (free_count (ram new.engine).blocks) 5 upkeeps.refuses.says.scarce in
+      let no : false ≡ true = sym (takes new.read_only (new.engine.next == 2 ^ 64 - 1) going).0 ∙ closed in
+      (let never : ⊥ = cc in absurd never)
+  written_by (Err SequenceSpent) told upkeeps =
+      let spent : (new.engine.next == 2 ^ 64 - 1) ≡ true = eq-eqb new.engine.next (2 ^ 64 - 1) upkeeps.refuses.says in
+      let no : false ≡ true = sym (takes new.read_only (new.engine.next == 2 ^ 64 - 1) going).1 ∙ spent in
+      (let never : ⊥ = cc in absurd never)
+  written_by (Err OutOfRange) told upkeeps = (let no : ⊥ = cc in absurd no)
+  written_by (Err OutOfMemory) told upkeeps = (let no : ⊥ = cc in absurd no)
+  written_by (Err Damaged) told upkeeps = (let no : ⊥ = cc in absurd no)
+  written_by (Err BusFault) told upkeeps = (let no : ⊥ = cc in absurd no)
+
+pub written_law : {N : Type 0} (flash : N → Flash) (recorded : N → Option Recording) (honest calm : N → Bool) (failed : N → ℕ) → WrittenLaw flash recorded honest calm failed
+written_law flash recorded honest calm failed old new was is asks h going = written_by flash recorded honest calm failed old new was is h going asks.answer asks.told asks.upkeeps

@@ -16,3 +16,4 @@ pub mod PowerLemmas
 pub mod SyncLemmas
 pub mod ReadingLemmas
 pub mod GuardLemmas
+pub mod GuardedLemmas

@@ -1,6 +1,8 @@
 -- A DEVICE OF WHICH SOME SECTORS ARE LOST: they are not read until they are written again, or trimmed.
-use Rattle.std.specs.Prelude.{◌≡◌, ◌⊎◌, ℕ, Bool, true, false, List, get_or, slice_set, Result, Err}
+use Rattle.std.specs.Prelude.{◌≡◌, ◌⊎◌, ◌≤◌, ◌<◌, ◌+◌, ◌-◌, ◌/◌, ℕ, Bool, true, false, List, [], ◌∷◌, get_or, length, slice_index, slice_set, Result, Err, if◌then◌else◌}
 use Rattle.page_layout.specs.Counter.{HasRisen}
+use Rattle.nbd_stream.specs.declared.task.Task.TheVariants.{Read}
+use Rattle.nbd_stream.specs.Disk.{Contents, bytes_given}
 use Rattle.nbd_stream.specs.declared.fault.DiskFault.{DiskFault}
 use Rattle.nbd_stream.specs.declared.fault.DiskFault.TheVariants as fault
 use Rattle.disk_server.specs.declared.guarded.GuardedSectors.{GuardedSectors}
@@ -8,6 +10,40 @@ use Rattle.disk_server.specs.declared.guarded.GuardedSectors.{GuardedSectors}
 -- whether sector n is on the list
 abbrev pub is_listed : {S K : Type 0} → GuardedSectors S K → (n : ℕ) → Bool
 is_listed d n = get_or d.lost.items n false
+
+-- ---- what it shows
+
+-- what stands for a byte that is not given: no byte is it
+abbrev pub no_byte : ℕ
+no_byte = 256
+
+-- a byte of a device at its place, by the sectors that are lost
+abbrev pub guarded_byte : (size : ℕ) → List Bool → (place byte : ℕ) → ℕ
+guarded_byte size lost place byte = if get_or lost (place / size) false then no_byte else byte
+
+-- the bytes of a device from a place on
+unfoldable pub guarded_from : (size : ℕ) → List Bool → (place : ℕ) → List ℕ → List ℕ
+guarded_from size lost place [] = []
+guarded_from size lost place (byte ∷ bytes) = guarded_byte size lost place byte ∷ guarded_from size lost (place + 1) bytes
+
+-- ITS CONTENTS are those of the device, of which no byte of a lost sector is given. What is there after a stop is what is there
+abbrev pub shown : {S K : Type 0} → (contents : S → Contents) → (size : S → ℕ) → GuardedSectors S K → Contents
+shown contents size d = record {
+  bytes = guarded_from (size d.sectors) d.lost.items 0 (contents d.sectors).bytes;
+  durable = guarded_from (size d.sectors) d.lost.items 0 (contents d.sectors).bytes;
+}
+
+-- A BYTE IS THE DEVICE'S, OR NONE where its sector is lost
+abbrev pub GuardedByteLaw : Type 0
+GuardedByteLaw = (size : ℕ) (lost : List Bool) (bytes : List ℕ) (place : ℕ) → place < length bytes
+    → slice_index (guarded_from size lost 0 bytes) place ≡ guarded_byte size lost place (slice_index bytes place)
+
+-- SO NO READ OF A LOST SECTOR IS ANSWERED WITHOUT AN ERROR: none gives bytes alone whose range has a byte of one
+abbrev pub GuardedReadLaw : Type 0
+GuardedReadLaw = (size : ℕ) (lost : List Bool) (bytes : List ℕ) (offset count place : ℕ) (given : List ℕ) → offset + count ≤ length bytes → offset ≤ place → place < offset + count
+    → get_or lost (place / size) false ≡ true → given ≡ bytes_given (Read offset count) (guarded_from size lost 0 bytes) → slice_index given (place - offset) ≡ no_byte
+
+-- ---- its list
 
 -- nothing but the device is another
 pub record KeepsList {S K : Type 0} (old new : GuardedSectors S K) : Type 0 where

@@ -1,12 +1,16 @@
 -- What the definitions of a device as a disk come to.
-use Rattle.std.specs.Prelude.{◌≡◌, ◌<◌, ◌+◌, ◌*◌, ◌↔◌, ◌⊎◌, ℕ, Bool, true, [], length, get_or, slice_range, Ok, Err, None}
+use Rattle.std.specs.Prelude.{◌≡◌, ◌<◌, ◌+◌, ◌*◌, ◌↔◌, ◌⊎◌, ℕ, Bool, true, [], length, get_or, slice_range, Option, Ok, Err, None}
+use Rattle.page_layout.specs.Array.{marks}
 use Rattle.page_layout.specs.Flash.{Flash}
+use Rattle.page_layout.specs.OneArray.{AreBelow}
+use Rattle.page_layout.specs.Recording.{Recording}
+use Rattle.image_check.specs.Stale.{stale_sectors}
 use Rattle.nbd_stream.specs.declared.fault.DiskFault.TheVariants as fault
 use Rattle.ftl_device.specs.declared.device.Device.{Device}
 use Rattle.ftl_device.specs.declared.fault.DeviceFault.{DeviceFault}
 use Rattle.ftl_device.specs.declared.fault.DeviceFault.TheVariants.{OutOfMemory, SequenceSpent, ReadOnly}
 use Rattle.ftl_device.specs.Calls.{array_in, stop_of}
-use Rattle.disk_server.specs.Disk.{holds, contents_of, IsDisk, change_fault, flush_answer}
+use Rattle.disk_server.specs.Disk.{AsksFlush, IsDisk, change_fault, contents_of, flush_answer, holds, takes_changes}
 
 -- the bytes are as many as all sectors have, whether the device holds its array or not
 abbrev pub LengthLaw : {N : Type 0} → (N → Flash) → (N → Bool) → Type 0
@@ -39,3 +43,14 @@ ReadOnlyLaw = (e : DeviceFault) → (change_fault e ≡ fault.ReadOnly) ↔ (flu
 abbrev pub ClosedLaw : Type 0
 ClosedLaw = (e : DeviceFault) → (change_fault e ≡ fault.ReadOnly)
     ↔ ((e ≡ SequenceSpent) ⊎ ((good : ℕ) × (wanted : ℕ) × (failed : ℕ) × (e ≡ ReadOnly good wanted failed)))
+
+-- ---- what a mark says of a device's pages
+
+-- ALL SOUND PAGES LIE BELOW THE NEXT SEQUENCE: so a mark that is written with it after a sync is ahead of no page, and each page that is programmed later has that sequence or a later one
+abbrev pub BelowLaw : {N : Type 0} → (N → Flash) → (N → Bool) → Type 0
+BelowLaw {N} flash honest = (d : Device N) → IsDisk flash honest d → holds honest d ≡ true → AreBelow (marks (flash d.engine.nand).image) d.engine.next
+
+-- A FLUSH THAT IS ANSWERED AS DONE LEFT NO SECTOR STALE, where the device takes changes after it: its translation pages name the newest page of each
+abbrev pub WrittenLaw : {N : Type 0} → (N → Flash) → (N → Option Recording) → (honest calm : N → Bool) → (failed : N → ℕ) → Type 0
+WrittenLaw {N} flash recorded honest calm failed = (old new : Device N) → IsDisk flash honest old → IsDisk flash honest new → AsksFlush flash recorded honest calm failed old (Ok tt) new
+    → holds honest old ≡ true → takes_changes new ≡ true → stale_sectors old.engine.geometry (flash new.engine.nand).image ≡ []

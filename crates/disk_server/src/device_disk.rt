@@ -7,7 +7,7 @@ ghost use Rattle.ftl_device.specs.Device.{IsAcceptedFor};
 ghost use Rattle.disk_server.specs.Disk.{IsDisk};
 
 use crate::answer::{change_answer, flush_answer, read_answer, rest_answer};
-use crate::sectors::Sectors;
+use crate::sectors::{Lasting, Sectors};
 use ftl_device::{Device, StartFault};
 use image_check::Accepted;
 use nbd_stream::{DiskFault, Task};
@@ -218,4 +218,10 @@ impl<N: Nand> Sectors for DeviceDisk<N> {
     fn takes_changes(&self) -> bool {
         !self.device.read_only() && self.device.engine.next != u64::MAX
     }
+}
+
+impl<N: Nand> Lasting for DeviceDisk<N> {
+    ghost use Rattle.std.specs.Prelude.{refl};
+
+    ghost lasts = { λ d. refl };
 }

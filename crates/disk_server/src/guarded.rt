@@ -1,7 +1,7 @@
 //! A device of sectors of which some are lost.
 ghost use Rattle.std.specs.Prelude.{◌≡◌, List, Bool, true};
 
-use crate::sectors::Sectors;
+use crate::sectors::{Lasting, Sectors};
 use nbd_stream::{DiskFault, Task};
 
 /// A place beside a device where its lost sectors are listed. (This project's.)
@@ -31,7 +31,8 @@ pub trait KeepsLost {
 /// A device of whole sectors of which some are lost, and a list of them beside it. (This project's.)
 ///
 /// A lost sector has older bytes than it was left with, or zeros. So a read of it answers `Failed`, and nothing is asked of the device, until it is written or trimmed: then
-/// what was written lasts, and the list without it, before the change is answered. The device's contents are what it holds, a lost sector's too, and it is as honest as it was.
+/// what was written lasts, and the list without it, before the change is answered. Its contents are the device's, but that no byte of a lost sector is given (`shown`): so of all
+/// that is built on it no read of a lost sector is answered without an error. It is as honest as the device.
 ///
 /// **After a list that was not kept nothing is asked of the device any more, and each call answers `Failed`.**
 #[derive(Drop)]
@@ -43,7 +44,7 @@ pub struct GuardedSectors<S: Sectors, K: KeepsLost> {
 }
 
 impl<S: Sectors, K: KeepsLost> GuardedSectors<S, K> {
-    ghost use Rattle.std.specs.Prelude.{◌≡◌, ◌<◌, ◌↔◌, false, true, length, Ok, OnOk, OnErr, IfErr, IsTrue};
+    ghost use Rattle.std.specs.Prelude.{◌≡◌, ◌<◌, ◌*◌, ◌↔◌, false, true, length, slice_set, Ok, OnOk, OnErr, IfErr, IsTrue};
     ghost use Rattle.page_layout.specs.Counter.{HasRisen};
     ghost use Rattle.disk_server.specs.Guarded.{HealsIfListed, is_listed};
 
@@ -86,11 +87,21 @@ impl<S: Sectors, K: KeepsLost> GuardedSectors<S, K> {
         (sectors, keeper)
     }
 
+    // What is known of the device's bytes: they are those of its sectors, of which each has some.
+    fn know(&self)
+        ensures some { 0 < S.size self.now.sectors }
+        ensures whole { length (S.contents self.now.sectors).bytes ≡ S.count self.now.sectors * S.size self.now.sectors }
+    {
+        let _some = self.sectors.sector_bytes();
+        let _whole = self.sectors.sector_count();
+    }
+
     // Takes a sector off the list, once it was written.
     fn heal(&mut self, sector: u64) -> Result<(), DiskFault>
         ensures sectors { self.new.sectors ≡ self.old.sectors }
         ensures heals { OnOk result (HealsIfListed K.kept sector self.old self.new) }
         ensures unlisted { is_listed self.old sector ≡ false → (result ≡ Ok tt) × (self.new ≡ self.old) }
+        ensures taken { is_listed self.old sector ≡ true → self.new.lost.items ≡ slice_set self.old.lost.items sector false }
         ensures failed { OnErr result ((self.new.failed ≡ true) × HasRisen (K.failed self.old.keeper) (K.failed self.new.keeper)) }
         ensures fault { IfErr result (λ e. e ≡ DiskFault.Failed) }
     {
@@ -108,13 +119,13 @@ impl<S: Sectors, K: KeepsLost> GuardedSectors<S, K> {
     }
 }
 
-impl<S: Sectors, K: KeepsLost> Sectors for GuardedSectors<S, K> {
+impl<S: Lasting, K: KeepsLost> Sectors for GuardedSectors<S, K> {
     ghost use Rattle.std.specs.Prelude.{◌≡◌, ◌⊎◌, ◌<◌, ◌*◌, false, [], length, true, OnErr, OnOk};
     ghost use Rattle.page_layout.specs.Counter.{HasRisen};
     ghost use Rattle.nbd_stream.specs.Disk.{Idles, Performs, answer_from};
-    ghost use Rattle.disk_server.specs.Guarded.{HealsIfListed, IsRefused, KeepsList, KeepsOrFails, ReadsGuarded, RestsGuarded, is_listed};
+    ghost use Rattle.disk_server.specs.Guarded.{HealsIfListed, IsRefused, KeepsList, KeepsOrFails, ReadsGuarded, RestsGuarded, is_listed, shown};
 
-    ghost contents = { λ d. S.contents d.sectors };
+    ghost contents = { shown S.contents S.size };
 
     ghost honest = { λ d. S.honest d.sectors };
 
@@ -144,7 +155,7 @@ impl<S: Sectors, K: KeepsLost> Sectors for GuardedSectors<S, K> {
         requires whole { length buffer.old ≡ S.size self.old.sectors }
         ensures size { S.size self.new.sectors ≡ S.size self.old.sectors }
         ensures count { S.count self.new.sectors ≡ S.count self.old.sectors }
-        ensures performs { Performs (λ d. S.contents d.sectors) (λ d. S.honest d.sectors) (λ _. false)
+        ensures performs { Performs (shown S.contents S.size) (λ d. S.honest d.sectors) (λ _. false)
             (Task.Read (sector * S.size self.old.sectors) (S.size self.old.sectors)) [] self.old (answer_from result buffer.new) self.new }
         ensures reads { ReadsGuarded S.reads self.old self.new }
         ensures refused { is_listed self.old sector ≡ true → IsRefused self.old result self.new }
@@ -168,7 +179,7 @@ impl<S: Sectors, K: KeepsLost> Sectors for GuardedSectors<S, K> {
         requires whole { length bytes.now ≡ S.size self.old.sectors }
         ensures size { S.size self.new.sectors ≡ S.size self.old.sectors }
         ensures count { S.count self.new.sectors ≡ S.count self.old.sectors }
-        ensures performs { Performs (λ d. S.contents d.sectors) (λ d. S.honest d.sectors) (λ _. false)
+        ensures performs { Performs (shown S.contents S.size) (λ d. S.honest d.sectors) (λ _. false)
             (Task.Write (sector * S.size self.old.sectors) (S.size self.old.sectors) false) bytes.now self.old (answer_from result []) self.new }
         ensures heals { OnOk result (HealsIfListed K.kept sector self.old self.new) }
         ensures kept { OnErr result (KeepsOrFails K.failed self.old self.new) }
@@ -182,6 +193,7 @@ impl<S: Sectors, K: KeepsLost> Sectors for GuardedSectors<S, K> {
         if self.failed {
             return Err(DiskFault::Failed);
         }
+        self.know();
         match self.sectors.write_sector(sector, bytes) {
             Ok(()) => self.heal(sector),
             Err(fault) => Err(fault),
@@ -197,7 +209,7 @@ impl<S: Sectors, K: KeepsLost> Sectors for GuardedSectors<S, K> {
         requires within { sector < S.count self.old.sectors }
         ensures size { S.size self.new.sectors ≡ S.size self.old.sectors }
         ensures count { S.count self.new.sectors ≡ S.count self.old.sectors }
-        ensures performs { Performs (λ d. S.contents d.sectors) (λ d. S.honest d.sectors) (λ _. false)
+        ensures performs { Performs (shown S.contents S.size) (λ d. S.honest d.sectors) (λ _. false)
             (Task.Trim (sector * S.size self.old.sectors) (S.size self.old.sectors) false) [] self.old (answer_from result []) self.new }
         ensures heals { OnOk result (HealsIfListed K.kept sector self.old self.new) }
         ensures kept { OnErr result (KeepsOrFails K.failed self.old self.new) }
@@ -211,6 +223,7 @@ impl<S: Sectors, K: KeepsLost> Sectors for GuardedSectors<S, K> {
         if self.failed {
             return Err(DiskFault::Failed);
         }
+        self.know();
         match self.sectors.trim_sector(sector) {
             Ok(()) => self.heal(sector),
             Err(fault) => Err(fault),
@@ -225,7 +238,7 @@ impl<S: Sectors, K: KeepsLost> Sectors for GuardedSectors<S, K> {
     fn flush(&mut self) -> Result<(), DiskFault>
         ensures size { S.size self.new.sectors ≡ S.size self.old.sectors }
         ensures count { S.count self.new.sectors ≡ S.count self.old.sectors }
-        ensures performs { Performs (λ d. S.contents d.sectors) (λ d. S.honest d.sectors) (λ _. false) Task.Flush [] self.old (answer_from result []) self.new }
+        ensures performs { Performs (shown S.contents S.size) (λ d. S.honest d.sectors) (λ _. false) Task.Flush [] self.old (answer_from result []) self.new }
         ensures kept { KeepsList self.old self.new }
         ensures over { self.old.failed ≡ true → IsRefused self.old result self.new }
         ensures asked { self.old.failed ≡ false → Performs S.contents S.honest S.calm Task.Flush [] self.old.sectors (answer_from result []) self.new.sectors }
@@ -263,4 +276,10 @@ impl<S: Sectors, K: KeepsLost> Sectors for GuardedSectors<S, K> {
     fn takes_changes(&self) -> bool {
         self.sectors.takes_changes()
     }
+}
+
+impl<S: Lasting, K: KeepsLost> Lasting for GuardedSectors<S, K> {
+    ghost use Rattle.std.specs.Prelude.{refl};
+
+    ghost lasts = { λ d. refl };
 }

@@ -1,7 +1,8 @@
 //! What a device of sectors is as bytes, the block device as one, and a disk in a store after a loss of power. Each function does nothing: its contract is
 //! the law.
-ghost use Rattle.disk_server.specs.Laws.{ClosedLaw, HoldsLaw, LastsLaw, LengthLaw, NoSpaceLaw, ReadOnlyLaw, SectorLaw};
+ghost use Rattle.disk_server.specs.Laws.{BelowLaw, ClosedLaw, HoldsLaw, LastsLaw, LengthLaw, NoSpaceLaw, ReadOnlyLaw, SectorLaw, WrittenLaw};
 ghost use Rattle.disk_server.specs.Flat.{FlatLaw};
+ghost use Rattle.disk_server.specs.Guarded.{GuardedByteLaw, GuardedReadLaw};
 ghost use Rattle.disk_server.specs.Power.{FoundLaw, LeavesLaw};
 
 use onfi_cycles::Nand;
@@ -19,6 +20,20 @@ pub fn array_laws<N: Nand>()
     ensures sector { SectorLaw N.flash N.honest }
     ensures lasts { LastsLaw N.flash N.honest }
     ensures holds { HoldsLaw N.honest }
+{}
+
+/// What a mark says of a device's pages, where it is written after a sync: all sound pages lie below the sequence that was next, and where the device was flushed before and takes changes, no sector is stale.
+/// (This project's.)
+pub fn mark_laws<N: Nand>()
+    ensures below { BelowLaw N.flash N.honest }
+    ensures written { WrittenLaw N.flash N.recorded N.honest N.calm N.failed }
+{}
+
+/// What a device shows of which some sectors are lost: each byte is the device's, and of a lost sector none is a byte. So a read is answered without an error only where no sector of its range is lost. (This
+/// project's.)
+pub fn guard_laws()
+    ensures byte { GuardedByteLaw }
+    ensures read { GuardedReadLaw }
 {}
 
 /// Which refusals of the device are `NoSpace` and `ReadOnly`: `OutOfMemory` alone is the one; those after which no change is taken any more are the

@@ -5,7 +5,7 @@
 //! - `DeviceDisk`: the block device as such a device of whole sectors; `open_checked` starts one.
 //! - `open_mounted`: the disk of a die, started from a mount, so that each page is looked at once.
 //! - `open_store`: the same over the die that a store holds; `close_store` gives the store back.
-//! - `open_stopped`, `mount_stopped`: the same where the die may have been stopped, with more that is stale than the cache has room for.
+//! - `open_stopped`: the same where the die may have been stopped, with more that is stale than the cache has room for.
 //! - `format_store`: a store of erased pages becomes a die with a device on it.
 //! - `SyncedDisk`: a disk whose flushes and durable changes end with a sync of what it is kept in, and of whose changes no more than a `SyncPace` says lack one;
 //!   `serve_synced` serves it. After a sync that failed it answers nothing but that it failed. With each sync goes a `Mark`: up to which sequence all pages were synced.
@@ -42,7 +42,7 @@ pub use open::{OpenFault, open_checked};
 pub use opened::{OpenStoreFault, StoreDisk, close_store, mount_store, open_store};
 pub use reading::ReadOnlyDisk;
 pub use sector_disk::SectorDisk;
-pub use sectors::Sectors;
+pub use sectors::{Lasting, Sectors};
 pub use served::{Offer, serve_reading, serve_synced};
-pub use stopped::{mount_stopped, open_stopped};
+pub use stopped::open_stopped;
 pub use synced::{Sequenced, SyncPace, SyncedDisk, Syncs};

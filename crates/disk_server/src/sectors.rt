@@ -114,3 +114,10 @@ pub trait Sectors {
     fn takes_changes(&self) -> bool
         ensures { result ≡ takes self.now };
 }
+
+/// A device that keeps nothing back: what is there after a stop is what is there. (This project's.)
+pub trait Lasting: Sectors {
+    ghost use Rattle.std.specs.Prelude.{◌≡◌};
+
+    ghost lasts: { (d : Self) → (Self.contents d).durable ≡ (Self.contents d).bytes };
+}

@@ -1,12 +1,10 @@
 //! The disk of a die that may have been stopped.
 ghost use Rattle.std.specs.Prelude.{◌≡◌, ◌≤◌, true, IfOk, IfErr, IfSome};
 ghost use Rattle.disk_server.specs.Disk.{contents_of, holds};
-ghost use Rattle.mount.specs.Mounted.{IsMounted};
 ghost use Rattle.disk_server.specs.Opened.{bytes_of, flash_in, is_honest_in};
 ghost use Rattle.disk_server.specs.Stopped.{HasRoomFor, IsUnopenedLater};
 
-use crate::opened::{OpenStoreFault, StoreDisk, close_store, mount_store, open_store};
-use certificate::Certificate;
+use crate::opened::{OpenStoreFault, StoreDisk, close_store, open_store};
 use file_die::{Store, SyncWhen};
 use image_check::Refusal;
 use nbd_stream::Disk;
@@ -120,34 +118,5 @@ pub fn open_stopped<S: Store + Drop>(
         open_stale(alloc, store, capacity, stale, sync_when)
     } else {
         open_either(alloc, store, stale, stale, sync_when)
-    }
-}
-
-/// The certificate of a die that may have been stopped, and nothing is started: for a cache of `capacity` entries, or where that has no room for all that is stale, for
-/// one of as many entries as that wants.
-///
-/// # Errors
-///
-/// As `mount_store`, of the last time that the store was mounted; it is let go. (This project's.)
-pub fn mount_stopped<S: Store + Drop>(
-    alloc: Global,
-    store: S,
-    capacity: u32,
-) -> Result<Certificate, OpenStoreFault>
-    requires least { 1 ≤ capacity }
-    requires most { capacity ≤ 65536 }
-    ensures fault { IfErr result (IsUnopenedLater S.held S.honest S.failed store capacity) }
-    ensures mounted { IfOk result (λ certificate. S.honest store ≡ true → IsMounted (S.held store).geometry certificate.capacity (S.held store).pages certificate) }
-{
-    let (store, fault) = match mount_store(alloc, store, capacity) {
-        Ok((_, certificate)) => return Ok(certificate),
-        Err(back) => back,
-    };
-    let Some(stale) = stale_in(&fault) else {
-        return Err(fault);
-    };
-    match mount_store(alloc, store, stale) {
-        Ok((_, certificate)) => Ok(certificate),
-        Err((_, fault)) => Err(fault),
     }
 }

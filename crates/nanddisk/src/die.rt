@@ -9,11 +9,10 @@ use std::alloc::Global;
 use std::fs::{File, OpenOptions, TryLockError};
 use std::rt::Files;
 
-/// The file of the die at a path, locked, so that other programs of this kind keep out, and as long as its geometry says.
-pub fn open_die<R: Files<File = File>>(
+/// The file of the die at a path, locked, so that other programs of this kind keep out.
+pub fn lock_die<R: Files<File = File>>(
     rt: &R,
     path: &str,
-    geometry: &Geometry,
     writes: bool,
 ) -> Result<File, FileFault> {
     let file = match OpenOptions::new().read(true).write(writes).open(rt, path) {
@@ -21,10 +20,14 @@ pub fn open_die<R: Files<File = File>>(
         Err(error) => return Err(unread(error)),
     };
     match file.try_lock() {
-        Ok(()) => {}
-        Err(TryLockError::WouldBlock) => return Err(FileFault::InUse),
-        Err(TryLockError::Error(error)) => return Err(unread(error)),
+        Ok(()) => Ok(file),
+        Err(TryLockError::WouldBlock) => Err(FileFault::InUse),
+        Err(TryLockError::Error(error)) => Err(unread(error)),
     }
+}
+
+/// The same file, if it is as long as a geometry says.
+pub fn as_long(file: File, geometry: &Geometry) -> Result<File, FileFault> {
     let found = match file.metadata() {
         Ok(metadata) => metadata.len(),
         Err(error) => return Err(unread(error)),

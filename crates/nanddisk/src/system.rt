@@ -1,7 +1,7 @@
 //! The files of the system.
 ghost use Rattle.std.specs.Prelude.{◌≡◌, IfOk, Ok};
 
-use crate::die::{open_die, second_handle, store_over};
+use crate::die::{as_long, lock_die, second_handle, store_over};
 use crate::fault::{unmade, unread, unseen, unwritten};
 use crate::lists::{FileLists, ListNames};
 use crate::mark::{MarkFile, put_blank};
@@ -220,6 +220,8 @@ impl<'a, R: Files<File = File> + AllocGlobal> DiskFiles for SystemFiles<'a, R> {
     ghost use Rattle.std.specs.Prelude.{None};
     ghost use Rattle.disk_commands.specs.Files.{unknown};
 
+    type Locked = File;
+
     type Store = FileStore;
 
     type Syncs = FileSyncs;
@@ -246,7 +248,16 @@ impl<'a, R: Files<File = File> + AllocGlobal> DiskFiles for SystemFiles<'a, R> {
         }
     }
 
-    fn shape_text(&mut self, alloc: Global, path: &str) -> Result<Vec<u8>, FileFault> {
+    fn lock(&mut self, path: &str, writes: bool) -> Result<File, FileFault> {
+        lock_die(self.rt, path, writes)
+    }
+
+    fn shape_text(
+        &mut self,
+        alloc: Global,
+        path: &str,
+        _locked: &File,
+    ) -> Result<Vec<u8>, FileFault> {
         let names = match path_names(alloc, path) {
             Ok(names) => names,
             Err(fault) => return Err(fault),
@@ -267,11 +278,11 @@ impl<'a, R: Files<File = File> + AllocGlobal> DiskFiles for SystemFiles<'a, R> {
     fn open(
         &mut self,
         alloc: Global,
-        path: &str,
+        _path: &str,
+        locked: File,
         geometry: &Geometry,
-        writes: bool,
     ) -> Result<(FileStore, FileSyncs), FileFault> {
-        let file = match open_die(self.rt, path, geometry, writes) {
+        let file = match as_long(locked, geometry) {
             Ok(file) => file,
             Err(fault) => return Err(fault),
         };

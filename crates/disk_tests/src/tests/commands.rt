@@ -1,5 +1,5 @@
 //! Runs of the program over files in memory, and what each has to say.
-mod files;
+pub mod files;
 mod rows;
 
 use crate::tests::nbd::pieces::Pieces;

@@ -5,6 +5,7 @@ mod alike;
 mod failing;
 mod noting;
 mod opened;
+mod torn;
 
 use file_die::MemoryStore;
 use onfi_cycles::{Bus, BusFault};

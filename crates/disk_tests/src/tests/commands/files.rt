@@ -49,6 +49,10 @@ pub struct MemoryFiles {
     disks: Vec<MemoryDisk>,
 }
 
+/// A disk that is locked.
+#[derive(Drop)]
+pub struct MemoryLock;
+
 /// Syncs of what is in memory.
 #[derive(Drop)]
 pub struct MemorySyncs {
@@ -76,6 +80,17 @@ pub struct MemoryLists {
     alloc: Global,
     kept: Vec<bool>,
     failed: u64,
+}
+
+impl MemoryLists {
+    /// No list was kept.
+    pub fn new(alloc: Global) -> MemoryLists {
+        MemoryLists {
+            alloc,
+            kept: Vec::new(alloc),
+            failed: 0,
+        }
+    }
 }
 
 impl KeepsLost for MemoryLists {
@@ -180,6 +195,8 @@ impl DiskFiles for MemoryFiles {
     ghost use Rattle.std.specs.Prelude.{None, true};
     ghost use Rattle.disk_commands.specs.Files.{unknown};
 
+    type Locked = MemoryLock;
+
     type Store = MemoryStore;
 
     type Syncs = MemorySyncs;
@@ -199,7 +216,22 @@ impl DiskFiles for MemoryFiles {
         Ok(self.find(path).is_some())
     }
 
-    fn shape_text(&mut self, alloc: Global, path: &str) -> Result<Vec<u8>, FileFault> {
+    fn lock(&mut self, path: &str, _writes: bool) -> Result<MemoryLock, FileFault> {
+        if matches!(self.trouble, Trouble::Busy) {
+            return Err(FileFault::InUse);
+        }
+        match self.find(path) {
+            Some(_) => Ok(MemoryLock),
+            None => Err(FileFault::Read),
+        }
+    }
+
+    fn shape_text(
+        &mut self,
+        alloc: Global,
+        path: &str,
+        _locked: &MemoryLock,
+    ) -> Result<Vec<u8>, FileFault> {
         if matches!(self.trouble, Trouble::Listed(_) | Trouble::Unlisted) {
             return copied(alloc, LISTED);
         }
@@ -220,12 +252,9 @@ impl DiskFiles for MemoryFiles {
         &mut self,
         alloc: Global,
         path: &str,
+        _locked: MemoryLock,
         geometry: &Geometry,
-        _writes: bool,
     ) -> Result<(MemoryStore, MemorySyncs), FileFault> {
-        if matches!(self.trouble, Trouble::Busy) {
-            return Err(FileFault::InUse);
-        }
         let Some(disk) = self.find(path) else {
             return Err(FileFault::Read);
         };
@@ -321,11 +350,7 @@ impl DiskFiles for MemoryFiles {
         _syncs: &MemorySyncs,
         _beside: &[u8],
     ) -> Result<MemoryLists, FileFault> {
-        Ok(MemoryLists {
-            alloc,
-            kept: Vec::new(alloc),
-            failed: 0,
-        })
+        Ok(MemoryLists::new(alloc))
     }
 }
 

@@ -1,0 +1,198 @@
+-- The bytes that a device shows of which some sectors are lost.
+use Rattle.std.proofs.Common.{◌≡◌, ◌≢◌, ◌⊎◌, ◌+◌, ◌-◌, ◌*◌, ◌/◌, ◌%◌, ◌<◌, ◌≤◌, inl, inr, zero, suc, ℕ, Bool, true, false, List, [], ◌∷◌, length, get_or, take, drop, set, Result, Ok, Err, refl, sym, ap, ◌∙◌, subst, arith, add-zero, length-take, length-drop}
+use Rattle.std.specs.Prelude.{slice_index, slice_range, slice_set, IfOk, OnOk, OnErr, if◌then◌else◌}
+use Rattle.std.proofs.lemmas.Bool.{cases_lt}
+use Rattle.std.proofs.lemmas.List.{ext_get_or, get_or_past, get_or-drop, get_or-set_same, get_or-set_other, get_or-take, length-take-le}
+use Rattle.std.proofs.lemmas.Nat.{div-mul-add}
+use Rattle.std.proofs.Math.Nat.{div-mul-le_self, lt-div-mul-add}
+use Rattle.nbd_stream.specs.declared.reply.RequestError.{RequestError}
+use Rattle.nbd_stream.specs.declared.task.Task.{Task}
+use Rattle.nbd_stream.specs.declared.task.Task.TheVariants.{Read}
+use Rattle.nbd_stream.specs.Disk.{Contents, IsEither, Steps, bytes_after, bytes_given, with_bytes}
+use Rattle.nbd_stream.proofs.DiskLemmas.{before_it, inside_it, length-with_bytes, past_it}
+use Rattle.disk_server.specs.Guarded.{GuardedByteLaw, GuardedReadLaw, guarded_byte, guarded_from, no_byte}
+use Rattle.disk_server.proofs.Tasks.{Answer, lasting}
+
+-- ---- a byte
+
+pub length-guarded : (size : ℕ) (lost : List Bool) (place : ℕ) (bytes : List ℕ) → length (guarded_from size lost place bytes) ≡ length bytes
+unfolding guarded_from
+length-guarded size lost place [] = refl
+length-guarded size lost place (byte ∷ bytes) = ap suc (length-guarded size lost (place + 1) bytes)
+
+byte_from : (size : ℕ) (lost : List Bool) (place : ℕ) (bytes : List ℕ) (k : ℕ) → k < length bytes
+    → get_or (guarded_from size lost place bytes) k 0 ≡ guarded_byte size lost (place + k) (get_or bytes k 0)
+unfolding guarded_from
+byte_from size lost place [] k within = absurd (omega (arith, within))
+byte_from size lost place (byte ∷ bytes) zero within = ap (λ n. guarded_byte size lost n byte) (sym (add-zero place))
+byte_from size lost place (byte ∷ bytes) (suc k) within =
+    byte_from size lost (place + 1) bytes k (omega (arith, within))
+    ∙ ap (λ n. guarded_byte size lost n (get_or bytes k 0)) (omega arith)
+
+pub byte_law : GuardedByteLaw
+byte_law size lost bytes place within = byte_from size lost 0 bytes place within
+
+-- of a sector that is not lost it is the device's, of any other none
+there : (size : ℕ) (lost : List Bool) (place byte : ℕ) → get_or lost (place / size) false ≡ false → guarded_byte size lost place byte ≡ byte
+there size lost place byte is = ap (λ b. if b then no_byte else byte) is
+
+pub none_there : (size : ℕ) (lost : List Bool) (place byte : ℕ) → get_or lost (place / size) false ≡ true → guarded_byte size lost place byte ≡ no_byte
+none_there size lost place byte is = ap (λ b. if b then no_byte else byte) is
+
+at_lost : (size : ℕ) (lost : List Bool) (bytes : List ℕ) (p : ℕ) → p < length bytes → get_or lost (p / size) false ≡ true → slice_index (guarded_from size lost 0 bytes) p ≡ no_byte
+at_lost size lost bytes p within is = byte_from size lost 0 bytes p within ∙ none_there size lost p (slice_index bytes p) is
+
+at_there : (size : ℕ) (lost : List Bool) (bytes : List ℕ) (p : ℕ) → p < length bytes → get_or lost (p / size) false ≡ false → slice_index (guarded_from size lost 0 bytes) p ≡ slice_index bytes p
+at_there size lost bytes p within is = byte_from size lost 0 bytes p within ∙ there size lost p (slice_index bytes p) is
+
+-- ---- the sector of a place
+
+inside : (size n place : ℕ) → n * size ≤ place → place < n * size + size → place / size ≡ n
+inside size n place from to =
+    let back : n * size + (place - n * size) ≡ place = omega (arith, from) in
+    ap (λ p. p / size) (sym back) ∙ div-mul-add n size (place - n * size) (omega (arith, from, to))
+
+before : (size n place : ℕ) → place < n * size → place / size ≢ n
+before size n place less = λ is. (let most : n * size ≤ place = subst (λ k. k * size ≤ place) is (div-mul-le_self place size) in absurd (omega (arith, most, less)))
+
+past : (size n place : ℕ) → 0 < size → n * size + size ≤ place → place / size ≢ n
+past size n place some more = λ is. (let less : place < n * size + size = subst (λ k. place < k * size + size) is (lt-div-mul-add some) in absurd (omega (arith, less, more)))
+
+-- ---- a sector that is set
+
+-- SECTOR n IS NOT LISTED, and of each other one nothing has changed
+pub record IsCleared (n : ℕ) (old new : List Bool) : Type 0 where
+  pub here : get_or new n false ≡ false
+  pub others : (m : ℕ) → m ≢ n → get_or new m false ≡ get_or old m false
+
+pub unlisted : (n : ℕ) (lost : List Bool) → get_or lost n false ≡ false → IsCleared n lost lost
+unlisted n lost is = record { here = is; others = λ m other. refl }
+
+pub taken : (n : ℕ) (old new : List Bool) → get_or old n false ≡ true → new ≡ slice_set old n false → IsCleared n old new
+taken n old new was is = record {
+  here = elim (cases_lt n (length old)) [
+      | inl within ↦ ap (λ l. get_or l n false) is ∙ get_or-set_same old n false false within
+      | inr beyond ↦ (let no : false ≡ true = sym (get_or_past old n false beyond) ∙ was in (let never : ⊥ = cc in absurd never))
+    ];
+  others = λ m other. ap (λ l. get_or l m false) is ∙ get_or-set_other old n m false false other;
+}
+
+same_byte : (size : ℕ) (lost lost' : List Bool) (place byte : ℕ) → get_or lost' (place / size) false ≡ get_or lost (place / size) false → guarded_byte size lost' place byte ≡ guarded_byte size lost place byte
+same_byte size lost lost' place byte same = ap (λ b. if b then no_byte else byte) same
+
+module _ (size n : ℕ) (body s : List ℕ) (some : 0 < size) (long : length body ≡ size) (fits : n * size + size ≤ length s) where
+  set_at : (lost lost' : List Bool) → IsCleared n lost lost' → (p : ℕ) → p < length s
+      → guarded_byte size lost' p (slice_index (with_bytes (n * size) body s) p) ≡ slice_index (with_bytes (n * size) body (guarded_from size lost 0 s)) p
+  set_at lost lost' cleared p within =
+      let shown : List ℕ = guarded_from size lost 0 s in
+      let same : length shown ≡ length s = length-guarded size lost 0 s in
+      let fits' : n * size + length body ≤ length s = omega (arith, long, fits) in
+      let shown_fits : n * size + length body ≤ length shown = omega (arith, same, fits') in
+      elim (cases_lt p (n * size)) [
+        | inl less ↦ ap (guarded_byte size lost' p) (before_it (n * size) body s p fits' less)
+            ∙ same_byte size lost lost' p (slice_index s p) (cleared.others (p / size) (before size n p less))
+            ∙ sym (byte_from size lost 0 s p within) ∙ sym (before_it (n * size) body shown p shown_fits less)
+        | inr from ↦ elim (cases_lt p (n * size + size)) [
+          | inl to ↦ there size lost' p _ (ap (λ k. get_or lost' k false) (inside size n p from to) ∙ cleared.here)
+              ∙ inside_it (n * size) body s p fits' from (omega (arith, to, long)) ∙ sym (inside_it (n * size) body shown p shown_fits from (omega (arith, to, long)))
+          | inr more ↦ ap (guarded_byte size lost' p) (past_it (n * size) body s p fits' (omega (arith, more, long)))
+              ∙ same_byte size lost lost' p (slice_index s p) (cleared.others (p / size) (past size n p some more))
+              ∙ sym (byte_from size lost 0 s p within) ∙ sym (past_it (n * size) body shown p shown_fits (omega (arith, more, long)))
+        ]
+      ]
+
+  -- WHAT IS SHOWN is set where the device's bytes are, and the sector is taken off the list
+  pub shown_set : (lost lost' : List Bool) (t : List ℕ) → IsCleared n lost lost' → t ≡ with_bytes (n * size) body s → guarded_from size lost' 0 t ≡ with_bytes (n * size) body (guarded_from size lost 0 s)
+  shown_set lost lost' t cleared is =
+      let set : List ℕ = with_bytes (n * size) body s in
+      let shown : List ℕ = guarded_from size lost 0 s in
+      let set_long : length set ≡ length s = length-with_bytes (n * size) body s (omega (arith, long, fits)) in
+      let shown_long : length shown ≡ length s = length-guarded size lost 0 s in
+      let due_long : length (with_bytes (n * size) body shown) ≡ length shown = length-with_bytes (n * size) body shown (omega (arith, long, fits, shown_long)) in
+      let all_long : length (guarded_from size lost' 0 set) ≡ length set = length-guarded size lost' 0 set in
+      ap (guarded_from size lost' 0) is
+      ∙ ext_get_or 0 (guarded_from size lost' 0 set) (with_bytes (n * size) body shown) (all_long ∙ set_long ∙ sym shown_long ∙ sym due_long)
+      (λ p within. (let here : p < length s = omega (arith, within, all_long, set_long) in byte_from size lost' 0 set p (omega (arith, here, set_long)) ∙ set_at lost lost' cleared p here))
+
+  torn_at : (lost : List Bool) (t : List ℕ) → length t ≡ length s → (p : ℕ) → p < length s → IsEither s (with_bytes (n * size) body s) t p → (b : Bool) → get_or lost (p / size) false ≡ b
+      → IsEither (guarded_from size lost 0 s) (with_bytes (n * size) body (guarded_from size lost 0 s)) (guarded_from size lost 0 t) p
+  torn_at lost t same p within either true is = inl (at_lost size lost t p (omega (arith, within, same)) is ∙ sym (at_lost size lost s p within is))
+  torn_at lost t same p within (inl was) false is = inl (at_there size lost t p (omega (arith, within, same)) is ∙ was ∙ sym (at_there size lost s p within is))
+  torn_at lost t same p within (inr due) false is =
+      let fits' : n * size + length body ≤ length s = omega (arith, long, fits) in
+      let shown_fits : n * size + length body ≤ length (guarded_from size lost 0 s) = omega (arith, length-guarded size lost 0 s, fits') in
+      let now : slice_index (guarded_from size lost 0 t) p ≡ slice_index (with_bytes (n * size) body s) p = at_there size lost t p (omega (arith, within, same)) is ∙ due in
+      elim (cases_lt p (n * size)) [
+        | inl less ↦ inl (now ∙ before_it (n * size) body s p fits' less ∙ sym (at_there size lost s p within is))
+        | inr from ↦ elim (cases_lt p (n * size + length body)) [
+          | inl to ↦ inr (now ∙ inside_it (n * size) body s p fits' from to ∙ sym (inside_it (n * size) body (guarded_from size lost 0 s) p shown_fits from to))
+          | inr more ↦ inl (now ∙ past_it (n * size) body s p fits' more ∙ sym (at_there size lost s p within is))
+        ]
+      ]
+
+  -- where that failed, each byte that is shown is as it was or as it was to be
+  pub shown_torn : (lost : List Bool) (t : List ℕ) → length t ≡ length s → (p : ℕ) → IsEither s (with_bytes (n * size) body s) t p
+      → IsEither (guarded_from size lost 0 s) (with_bytes (n * size) body (guarded_from size lost 0 s)) (guarded_from size lost 0 t) p
+  shown_torn lost t same p either =
+      let shown_long : length (guarded_from size lost 0 s) ≡ length s = length-guarded size lost 0 s in
+      let new_long : length (guarded_from size lost 0 t) ≡ length t = length-guarded size lost 0 t in
+      elim (cases_lt p (length s)) [
+        | inl within ↦ torn_at lost t same p within either (get_or lost (p / size) false) refl
+        | inr beyond ↦ inl (get_or_past (guarded_from size lost 0 t) p 0 (omega (arith, new_long, same, beyond)) ∙ sym (get_or_past (guarded_from size lost 0 s) p 0 (omega (arith, shown_long, beyond))))
+      ]
+
+-- ---- what is read
+
+shown_piece : (size n : ℕ) (lost : List Bool) (s : List ℕ) (k : ℕ) → get_or lost n false ≡ false → k < size → n * size + k < length s
+    → slice_index (guarded_from size lost 0 s) (n * size + k) ≡ slice_index s (n * size + k)
+shown_piece size n lost s k is less within = at_there size lost s (n * size + k) within (ap (λ m. get_or lost m false) (inside size n (n * size + k) (omega arith) (omega (arith, less))) ∙ is)
+
+-- a range of bytes, byte by byte
+range_at : (s : List ℕ) (o c k : ℕ) → k < c → slice_index (slice_range s o (o + c)) k ≡ slice_index s (o + k)
+range_at s o c k less =
+    let all : (o + c) - o ≡ c = omega arith in
+    ap (λ m. slice_index (take m (drop o s)) k) all ∙ get_or-take c (drop o s) k 0 less ∙ get_or-drop o s k 0
+
+range_long : (s : List ℕ) (o c : ℕ) → o + c ≤ length s → length (slice_range s o (o + c)) ≡ c
+range_long s o c fits = length-take-le ((o + c) - o) (drop o s) (omega (arith, length-drop o s, fits)) ∙ omega arith
+
+-- A SECTOR THAT IS NOT LISTED is given as the device gives it
+pub shown_range : (size n : ℕ) (lost : List Bool) (s : List ℕ) → n * size + size ≤ length s → get_or lost n false ≡ false
+    → slice_range (guarded_from size lost 0 s) (n * size) (n * size + size) ≡ slice_range s (n * size) (n * size + size)
+shown_range size n lost s fits is =
+    let shown : List ℕ = guarded_from size lost 0 s in
+    let same : length shown ≡ length s = length-guarded size lost 0 s in
+    let given_long : length (slice_range shown (n * size) (n * size + size)) ≡ size = range_long shown (n * size) size (omega (arith, same, fits)) in
+    ext_get_or 0 (slice_range shown (n * size) (n * size + size)) (slice_range s (n * size) (n * size + size)) (given_long ∙ sym (range_long s (n * size) size fits))
+    (λ k within. (let less : k < size = omega (arith, within, given_long) in
+    range_at shown (n * size) size k less ∙ shown_piece size n lost s k is less (omega (arith, less, fits)) ∙ sym (range_at s (n * size) size k less)))
+
+pub read_law : GuardedReadLaw
+read_law size lost bytes offset count place given fits from to is gives =
+    let shown : List ℕ = guarded_from size lost 0 bytes in
+    let back : offset + (place - offset) ≡ place = omega (arith, from) in
+    ap (λ l. slice_index l (place - offset)) gives ∙ range_at shown offset count (place - offset) (omega (arith, from, to))
+    ∙ ap (slice_index shown) back ∙ at_lost size lost bytes place (omega (arith, to, fits)) is
+
+-- ---- one call
+
+-- the bytes of a device that are the same ones are shown as the same ones
+pub shown_kept : (size : ℕ) (lost : List Bool) (s t : List ℕ) → length t ≡ length s → (p : ℕ) → slice_index t p ≡ slice_index s p
+    → slice_index (guarded_from size lost 0 t) p ≡ slice_index (guarded_from size lost 0 s) p
+shown_kept size lost s t same p is = elim (cases_lt p (length s)) [
+  | inl within ↦ byte_from size lost 0 t p (omega (arith, within, same)) ∙ ap (guarded_byte size lost p) is ∙ sym (byte_from size lost 0 s p within)
+  | inr beyond ↦ get_or_past (guarded_from size lost 0 t) p 0 (omega (arith, length-guarded size lost 0 t, same, beyond))
+      ∙ sym (get_or_past (guarded_from size lost 0 s) p 0 (omega (arith, length-guarded size lost 0 s, beyond)))
+]
+
+-- of what keeps nothing back: done, the bytes are those that the task leaves; else each is one of two
+pub steps_shown : (task : Task) (body s : List ℕ) (answer : Answer) (t : List ℕ) → OnOk answer (t ≡ bytes_after task body s) → IfOk answer (λ given. given ≡ bytes_given task s)
+    → OnErr answer ((place : ℕ) → IsEither s (bytes_after task body s) t place) → Steps task body (lasting s) answer (lasting t)
+steps_shown task body s (Ok given) t done gave torn = record {
+  done = done;
+  gave = gave;
+  torn = tt;
+  stays = λ p. inr (inr (ap (λ l. slice_index l p) done));
+  lasts = λ p makes. refl;
+}
+steps_shown task body s (Err e) t done gave torn = record { done = tt; gave = tt; torn = torn; stays = λ p. inr (torn p); lasts = tt }
