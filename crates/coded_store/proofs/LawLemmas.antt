@@ -1,11 +1,8 @@
 -- The laws on pages with codes.
-use Rattle.std.proofs.Common.{◌≡◌, ◌⊎◌, inl, inr, ℕ, ◌+◌, ◌-◌, ◌*◌, ◌/◌, ◌%◌, ◌^◌, ◌<◌, ◌≤◌, zero, suc, min, Bool, true, false, cond, List, [], ◌∷◌, ◌++◌, length, take, drop, map, replicate, get_or, Option, Some, None, refl, sym, ap, ◌∙◌, subst, arith, length-take, length-drop, length-append, take-append-drop}
-use Rattle.std.specs.Prelude.{slice_index, slice_get}
-use Rattle.std.specs.Option.{unwrap_or}
-use Rattle.std.specs.Int.Bits.{bit_xor}
+use Rattle.std.proofs.Common.{◌≡◌, ◌⊎◌, inl, inr, ℕ, ◌+◌, ◌-◌, ◌*◌, ◌/◌, ◌%◌, ◌^◌, ◌<◌, ◌≤◌, zero, suc, min, Bool, true, false, List, [], ◌∷◌, ◌++◌, length, take, drop, replicate, Option, Some, None, refl, sym, ap, ◌∙◌, arith, length-take, length-drop, take-append-drop}
 use Rattle.std.proofs.lemmas.Nat.{xor_of_8}
 use Rattle.std.proofs.lemmas.Bool.{cases_lt}
-use Rattle.std.proofs.lemmas.List.{ext_get_or, get_or-map, length-map, length-replicate, take_all, take-replicate, drop-replicate, replicate-append-replicate, nil_from_length}
+use Rattle.std.proofs.lemmas.List.{ext_get_or, get_or-map, length-map, length-replicate, take_all, take-replicate, drop-replicate, replicate-append-replicate}
 use Rattle.std.proofs.lemmas.Option.{slice_get-get_or}
 use Rattle.error_correction.specs.Bits.{AreBytes, bits_apart}
 use Rattle.error_correction.specs.Code.{is_odd, pairs, third, double, inner, line_of, column_of, code_of}
@@ -15,7 +12,7 @@ use Rattle.error_correction.proofs.Near.{erased_code, two_not}
 use Rattle.error_correction.proofs.Tables.{inner_fits}
 use Rattle.page_layout.specs.declared.geometry.Geometry.{Geometry}
 use Rattle.page_layout.specs.Geometry.{row_count}
-use Rattle.page_layout.specs.Page.{Page, Image, page, IsPage, IsImage}
+use Rattle.page_layout.specs.Page.{Page, page, IsPage}
 use Rattle.page_layout.specs.Change.{erased_page}
 use Rattle.page_layout.specs.Flash.{no_page}
 use Rattle.page_code.specs.Layout.{chunk_count, outer_bytes, codes_of, coded}
@@ -27,12 +24,11 @@ use Rattle.page_code.proofs.Pages.{enough, written}
 use Rattle.page_code.proofs.Puts.{put_right_law}
 use Rattle.page_code.proofs.Rights.{stored_law}
 use Rattle.page_code.proofs.Wrongs.{more_wrong, page_wrong}
-use Rattle.corrected_nand.specs.Shown.{lost_page}
 use Rattle.corrected_nand.proofs.Cleans.{lost_unsound, lost_unerased}
 use Rattle.corrected_nand.proofs.Counts.{clean_law}
 use Rattle.file_die.specs.Store.{page_in}
-use Rattle.coded_store.specs.declared.wrong.Wrong.TheVariants.{Turned, Lost}
-use Rattle.coded_store.specs.Reading.{read_as, wrong_with, read_image, erased_with_codes}
+use Rattle.coded_store.specs.declared.wrong.Wrong.TheVariants.{Turned}
+use Rattle.coded_store.specs.Reading.{read_as, read_image, erased_with_codes}
 use Rattle.coded_store.specs.File.{IsWithCodes}
 use Rattle.coded_store.specs.Laws.{HasTwoIn, HasTwo, MendedLaw, LostLaw, NoPageLaw, OwnLaw, ErasedLaw, FileLaw}
 use Rattle.coded_store.proofs.ReadLemmas.{reads_right, reads_lost, tells_right, tells_lost, append_bytes}
@@ -226,8 +222,8 @@ erased_reads g = ap (read_as g) (sym (erased_law g)) ∙ (own_law g (erased_page
 pub file_law : FileLaw
 file_law g image stand is near =
     ext_get_or no_page (read_image g stand) image (length-map stand (read_as g) ∙ (near.rows ∙ sym is.rows)) (λ row l.
-        let in_stand : row < length stand = omega (arith, length-map stand (read_as g), l) in
-        let in_rows : row < row_count g = omega (arith, near.rows) in
-        let in_image : row < length image = omega (arith, is.rows) in
-        get_or-map (read_as g) stand row no_page no_page in_stand
-        ∙ (mended_law g (page_in image row) (page_in stand row) (is.pages row (page_in image row) (slice_get-get_or image row no_page in_image)) (near.with_codes row in_rows) (near.near row in_rows)).shows)
+    let in_stand : row < length stand = omega (arith, length-map stand (read_as g), l) in
+    let in_rows : row < row_count g = omega (arith, near.rows) in
+    let in_image : row < length image = omega (arith, is.rows) in
+    get_or-map (read_as g) stand row no_page no_page in_stand
+    ∙ (mended_law g (page_in image row) (page_in stand row) (is.pages row (page_in image row) (slice_get-get_or image row no_page in_image)) (near.with_codes row in_rows) (near.near row in_rows)).shows)

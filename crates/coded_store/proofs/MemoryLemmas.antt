@@ -1,6 +1,6 @@
 -- A file in memory meets each clause.
-use Rattle.std.proofs.Common.{◌≡◌, ◌≢◌, inl, ℕ, ◌+◌, ◌*◌, ◌/◌, ◌<◌, true, false, List, length, get_or, take, drop, map, replicate, refl, sym, ap, ◌∙◌, subst, arith}
-use Rattle.std.specs.Prelude.{slice_get, slice_set, slice_range, Some}
+use Rattle.std.proofs.Common.{◌≡◌, inl, ℕ, ◌+◌, ◌*◌, ◌/◌, ◌<◌, true, List, length, get_or, take, drop, map, replicate, refl, sym, ap, ◌∙◌, arith}
+use Rattle.std.specs.Prelude.{slice_get, slice_set, slice_range}
 use Rattle.std.specs.List.{range_with_len}
 use Rattle.std.proofs.lemmas.List.{get_or-set_other}
 use Rattle.page_layout.specs.declared.geometry.Geometry.{Geometry}
@@ -16,7 +16,7 @@ use Rattle.file_die.specs.Memory.{standing}
 use Rattle.onfi_cycles.specs.Cycles.{page_of}
 use Rattle.file_die.specs.Store.{Lasts, Loads, page_in}
 use Rattle.file_die.proofs.MemoryLemmas.{clears}
-use Rattle.coded_store.specs.Reading.{coded_bytes, read_image, reading, erased_with_codes}
+use Rattle.coded_store.specs.Reading.{coded_bytes, reading, erased_with_codes}
 use Rattle.coded_store.specs.File.{IsImageWithCodes, AreWithCodes, Writes, Erases, Keeps}
 use Rattle.coded_store.specs.Memory.{image_with_codes}
 

@@ -1,5 +1,5 @@
 -- The bytes of a page, as it reads.
-use Rattle.std.proofs.Common.{◌≡◌, ℕ, ◌+◌, ◌-◌, ◌<◌, ◌≤◌, List, ◌++◌, length, take, drop, replicate, refl, sym, ap, ◌∙◌, subst, arith, length-take, length-drop}
+use Rattle.std.proofs.Common.{◌≡◌, ℕ, ◌-◌, ◌<◌, ◌≤◌, List, ◌++◌, length, take, drop, replicate, sym, ap, ◌∙◌, subst, arith, length-take, length-drop}
 use Rattle.std.proofs.lemmas.List.{take_at, drop_at, take-replicate, drop-replicate}
 use Rattle.error_correction.specs.Bits.{AreBytes}
 use Rattle.page_layout.specs.declared.geometry.Geometry.{Geometry}

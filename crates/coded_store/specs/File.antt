@@ -1,6 +1,6 @@
 -- A FILE OF PAGES WITH THEIR CODES: what stands in it, and what each call makes of that. Of what a failure or a loss of power leaves it is said what
 -- it reads as, since no byte of it is known.
-use Rattle.std.specs.Prelude.{◌≡◌, ◌≢◌, ◌/◌, ℕ, Bool, true, false, List, [], ◌∷◌, length, replicate, slice_get, slice_set, Some}
+use Rattle.std.specs.Prelude.{◌≡◌, ◌≢◌, ◌/◌, ℕ, Bool, true, false, [], ◌∷◌, length, replicate, slice_get, slice_set, Some}
 use Rattle.page_layout.specs.declared.geometry.Geometry.{Geometry}
 use Rattle.page_layout.specs.Geometry.{row_count}
 use Rattle.page_layout.specs.Page.{Page, Image}

@@ -48,7 +48,8 @@ impl<F: PageFile> Model for CodedStore<F> {
 
 // The bits that were turned back of a row.
 fn turned_in(wrong: Wrong) -> u64
-    ensures { result ≡ Rattle.coded_store.specs.Coded.turned_in wrong }
+    ensures is { result ≡ Rattle.coded_store.specs.Coded.turned_in wrong }
+    ensures few { result < 256 }
 {
     match wrong {
         Wrong::Turned(bits) => u64::from(bits),
@@ -66,6 +67,18 @@ fn is_lost(wrong: Wrong) -> bool
     }
 }
 
+// The bits that were turned back of rows.
+fn bits_of(wrong: &[Wrong]) -> u64
+    requires { length wrong.now < 2 ^ 48 }
+    ensures { result ≡ turned_of wrong.now }
+{
+    let mut bits = 0;
+    for row in wrong {
+        bits += turned_in(*row);
+    }
+    bits
+}
+
 // What was wrong with rows in all.
 fn mended_of(wrong: &[Wrong]) -> Mended
     requires { length wrong.now < 2 ^ 48 }
@@ -73,7 +86,7 @@ fn mended_of(wrong: &[Wrong]) -> Mended
     ensures lost { result.lost ≡ lost_of wrong.now }
 {
     Mended {
-        turned: wrong.iter().map(|row| turned_in(*row)).sum(),
+        turned: bits_of(wrong),
         lost: wrong.iter().filter(|row| is_lost(**row)).count() as u64,
     }
 }

@@ -32,8 +32,7 @@ impl SystemPages {
     pub fn new(alloc: Global, geometry: Geometry, file: File) -> Result<SystemPages, AllocError>
         ensures { IfOk result (λ pages. (pages.geometry ≡ geometry) × (pages.failures ≡ 0)) }
     {
-        let erased =
-            vec![in alloc; 0xFFu8; geometry.pages() as usize * coded_length(&geometry)]?;
+        let erased = vec![in alloc; 0xFFu8; geometry.pages() as usize * coded_length(&geometry)]?;
         Ok(SystemPages {
             file,
             geometry,

@@ -1,7 +1,4 @@
-use Rattle.std.proofs.Common.{◌≡◌, refl}
 use Rattle.std.proofs.Math.Facts.{Fits-lt-pow}
-use Rattle.page_layout.specs.Page.{page}
-use Rattle.onfi_cycles.specs.Cycles.{page_of}
 use Rattle.coded_store.proofs.ShowLemmas.{page_at_front, stands_with_codes, shows_right, shows_lost, told_right, told_lost}
 use Rattle.coded_store.proofs.show.show.Goals as goal
 

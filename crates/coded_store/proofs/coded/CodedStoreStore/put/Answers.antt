@@ -1,7 +1,6 @@
-use Rattle.std.proofs.Common.{◌∙◌, ap, sym, subst}
+use Rattle.std.proofs.Common.{◌∙◌, ap}
 use Rattle.std.proofs.Math.Facts.{Fits-lt-pow}
 use Rattle.std.proofs.lemmas.List.{with_items_is}
-use Rattle.page_layout.specs.Page.{Page}
 use Rattle.onfi_cycles.specs.Cycles.{page_of}
 use Rattle.coded_store.proofs.StoreLemmas.{puts_read}
 use Rattle.coded_store.proofs.ShowLemmas.{spelled_reads}

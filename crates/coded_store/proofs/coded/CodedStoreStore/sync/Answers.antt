@@ -1,4 +1,3 @@
-use Rattle.std.proofs.Common.{◌∙◌, ap, sym, subst}
 use Rattle.coded_store.proofs.StoreLemmas.{syncs_read}
 use Rattle.coded_store.proofs.coded.CodedStoreStore.sync.Goals as goal
 
