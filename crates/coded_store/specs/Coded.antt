@@ -1,11 +1,12 @@
 -- THE STORE OVER A FILE OF PAGES WITH THEIR CODES: its file, and what was wrong with each row as it was last read.
-use Rattle.std.specs.Prelude.{◌≡◌, ℕ, Bool, true, false, List, length, replicate, slice_set, sum_by, count_by}
+use Rattle.std.specs.Prelude.{◌≡◌, ℕ, Bool, true, false, List, length, replicate, sum_by, count_by}
 use Rattle.page_layout.specs.declared.geometry.Geometry.{Geometry}
 use Rattle.page_layout.specs.Geometry.{row_count}
-use Rattle.file_die.specs.Store.{Held, page_in}
+use Rattle.file_die.specs.Store.{Held}
 use Rattle.coded_store.specs.declared.wrong.Wrong.{Wrong}
 use Rattle.coded_store.specs.declared.wrong.Wrong.TheVariants.{Turned, Lost}
-use Rattle.coded_store.specs.Reading.{coded_bytes, wrong_with}
+use Rattle.coded_store.specs.declared.coded.Mended.{Mended}
+use Rattle.coded_store.specs.Reading.{coded_bytes}
 use Rattle.coded_store.specs.File.{AreWithCodes}
 
 pub record Coded (F : Type 0) : Type 0 where
@@ -23,10 +24,6 @@ pub record AreCodedParts (s : Held) (honest : Bool) (g : Geometry) (buffer : Lis
   pub buffer_whole : length buffer ≡ coded_bytes g
   pub rows : length wrong ≡ row_count g
 
--- A LOAD TELLS WHAT WAS WRONG: of the row that was read, and of no other
-pub record Tells {F : Type 0} (held : F → Held) (honest : F → Bool) (old new : Coded F) (row : ℕ) : Type 0 where
-  pub told : honest old.file ≡ true → new.wrong ≡ slice_set old.wrong row (wrong_with (held old.file).geometry (page_in (held old.file).pages row))
-
 -- ---- in all
 
 abbrev pub turned_in : Wrong → ℕ
@@ -43,3 +40,9 @@ turned_of wrong = sum_by turned_in wrong
 
 abbrev pub lost_of : List Wrong → ℕ
 lost_of wrong = count_by is_lost wrong
+
+abbrev pub mended_of : List Wrong → Mended
+mended_of wrong = record { turned = turned_of wrong; lost = lost_of wrong }
+
+abbrev pub nothing_wrong : Mended
+nothing_wrong = record { turned = 0; lost = 0 }

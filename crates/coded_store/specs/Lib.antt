@@ -8,3 +8,5 @@ pub mod Coded
 pub mod Laws
 -- such a file in memory
 pub mod Memory
+-- a store with codes, or one without
+pub mod Either

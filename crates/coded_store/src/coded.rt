@@ -6,7 +6,7 @@ ghost use Rattle.onfi_cycles.specs.Cycles.{page_of};
 ghost use Rattle.page_code.specs.Layout.{coded};
 ghost use Rattle.file_die.specs.Store.{AreImages, Loads, Puts, Clears, Syncs, page_in};
 ghost use Rattle.coded_store.specs.Reading.{reading, wrong_with};
-ghost use Rattle.coded_store.specs.Coded.{unread, turned_of, lost_of};
+ghost use Rattle.coded_store.specs.Coded.{unread, turned_of, mended_of};
 
 use crate::file::PageFile;
 use crate::show::{coded_length, show, spell};
@@ -80,10 +80,9 @@ fn bits_of(wrong: &[Wrong]) -> u64
 }
 
 // What was wrong with rows in all.
-fn mended_of(wrong: &[Wrong]) -> Mended
+fn tally(wrong: &[Wrong]) -> Mended
     requires { length wrong.now < 2 ^ 48 }
-    ensures turned { result.turned ≡ turned_of wrong.now }
-    ensures lost { result.lost ≡ lost_of wrong.now }
+    ensures { result ≡ mended_of wrong.now }
 {
     Mended {
         turned: bits_of(wrong),
@@ -114,11 +113,10 @@ impl<F: PageFile> CodedStore<F> {
     }
 
     /// What was wrong with its rows, as each was last read. Of one that was not read it is nothing.
-    pub fn mended(&self) -> Mended
-        ensures turned { result.turned ≡ turned_of self.now.wrong }
-        ensures lost { result.lost ≡ lost_of self.now.wrong }
+    pub fn mended_so_far(&self) -> Mended
+        ensures { result ≡ mended_of self.now.wrong }
     {
-        mended_of(&self.wrong)
+        tally(&self.wrong)
     }
 
     /// The file.
