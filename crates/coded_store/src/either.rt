@@ -28,8 +28,6 @@ pub trait TellsMended {
 }
 
 impl TellsMended for FileStore {
-    ghost use Rattle.coded_store.specs.Coded.{nothing_wrong};
-
     ghost mended = { λ _. nothing_wrong };
 
     fn mended(&self) -> Mended {
@@ -38,8 +36,6 @@ impl TellsMended for FileStore {
 }
 
 impl TellsMended for MemoryStore {
-    ghost use Rattle.coded_store.specs.Coded.{nothing_wrong};
-
     ghost mended = { λ _. nothing_wrong };
 
     fn mended(&self) -> Mended {

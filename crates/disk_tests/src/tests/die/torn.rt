@@ -172,7 +172,9 @@ fn tear_row(store: &mut MemoryStore, row: u32, byte: u8) -> bool
 {
     let geometry = store.geometry();
     let mut page = [0; PAGE];
-    if geometry.data_bytes() + geometry.spare_bytes() != PAGE || store.load(row, &mut page).is_err() {
+    if geometry.data_bytes() + geometry.spare_bytes() != PAGE
+        || store.load(row, &mut page).is_err()
+    {
         return false;
     }
     if page[..64] != [byte; 64] {
