@@ -10,7 +10,7 @@ use Rattle.ftl_device.specs.declared.device.Device.{Device}
 use Rattle.disk_server.specs.Disk.{contents_of, holds, takes_changes}
 use Rattle.disk_server.specs.declared.guarded.GuardedSectors.{GuardedSectors}
 use Rattle.disk_server.specs.declared.mark.Mark.{Mark}
-use Rattle.disk_server.specs.Guarded.{ReadsGuarded, RestsGuarded}
+use Rattle.disk_server.specs.Guarded.{ReadsGuarded, RestsGuarded, shown}
 use Rattle.disk_server.specs.Opened.{flash_in, is_honest_in}
 use Rattle.disk_commands.specs.declared.mark.FoundMark.{FoundMark}
 use Rattle.disk_commands.specs.declared.serve.Terms.{Terms}
@@ -22,7 +22,7 @@ use Rattle.disk_commands.specs.Damage.{IsLookedAt, Names}
 use Rattle.disk_commands.specs.Files.{Answers, Opened, Opens, OpensMarked, SaysNoMore, with_mark, with_opened}
 use Rattle.disk_commands.specs.Guard.{IsUnlistedAt}
 use Rattle.disk_commands.specs.Opening.{IsUnkeptAt}
-use Rattle.disk_commands.specs.Ready.{IsReadyAt, IsUnkeptBy, IsUnopenedOf, MarksBy}
+use Rattle.disk_commands.specs.Ready.{IsReadyAt, IsUnkeptBy, MarksBy}
 use Rattle.disk_commands.specs.Serve.{HasNotServed, HasServedAt, HasServedOn, reads_in, rests_in, terms_of}
 use Rattle.disk_commands.proofs.DamageLemmas.{fault_back}
 
@@ -33,34 +33,28 @@ opens_marked path true before after h = inl h
 opens_marked path false before after h = h
 
 pub marks_then : (path : List ℕ) (writes : Bool) (before mid after : Option (List Opened)) → mid ≡ with_opened before path writes → MarksBy writes path mid after → OpensMarked path writes before after
-marks_then path true before mid after is (inl same) = inl (inr (same ∙ is))
+marks_then path true before mid after is (inl same) = inl (same ∙ is)
 marks_then path true before mid after is (inr marked) = inr (marked ∙ ap (λ x. with_mark x path) is)
-marks_then path false before mid after is same = inr (same ∙ is)
+marks_then path false before mid after is same = same ∙ is
 
 -- ---- why it is not ready
 
-pub unlisted_back : {K : Type 0} (failed : K → ℕ) (a b : Answers) (path : List ℕ) (why : DiskFault) → SaysNoMore a b → IsUnlistedAt failed b path why → IsUnlistedAt failed a path why
-unlisted_back failed a b path (fault.WriteList at) less h = h
-unlisted_back failed a b path fault.OutOfMemory less h = tt
-unlisted_back failed a b path (fault.Read told) less h = fault_back a b path 0 (fault.Read told) less h
-unlisted_back failed a b path (fault.Write told) less h = fault_back a b path 0 (fault.Write told) less h
-unlisted_back failed a b path (fault.InUse told) less h = fault_back a b path 0 (fault.InUse told) less h
-unlisted_back failed a b path (fault.Exists told) less h = fault_back a b path 0 (fault.Exists told) less h
-unlisted_back failed a b path (fault.Length told found due) less h = fault_back a b path 0 (fault.Length told found due) less h
-unlisted_back failed a b path why less h = absurd h
+pub unlisted_back : (a b : Answers) (path : List ℕ) (why : DiskFault) → SaysNoMore a b → IsUnlistedAt b path why → IsUnlistedAt a path why
+unlisted_back a b path fault.OutOfMemory less h = tt
+unlisted_back a b path (fault.Read told) less h = fault_back a b path 0 (fault.Read told) less h
+unlisted_back a b path (fault.Write told) less h = fault_back a b path 0 (fault.Write told) less h
+unlisted_back a b path (fault.InUse told) less h = fault_back a b path 0 (fault.InUse told) less h
+unlisted_back a b path (fault.Exists told) less h = fault_back a b path 0 (fault.Exists told) less h
+unlisted_back a b path (fault.Length told found due) less h = fault_back a b path 0 (fault.Length told found due) less h
+unlisted_back a b path why less h = absurd h
 
 unkept_back : {Y : Type 0} (missed : Y → ℕ) (a b : Answers) (path : List ℕ) (why : DiskFault) → SaysNoMore a b → IsUnkeptAt missed b path why → IsUnkeptAt missed a path why
 unkept_back missed a b path why less (inl h) = inl (fault_back a b path 0 why less h)
 unkept_back missed a b path why less (inr h) = inr h
 
-unkept_by : {Y : Type 0} (read_only : Bool) (missed : Y → ℕ) (a b : Answers) (path : List ℕ) (why : DiskFault) → SaysNoMore a b → IsUnkeptBy read_only missed b path why → IsUnkeptBy read_only missed a path why
+pub unkept_by : {Y : Type 0} (read_only : Bool) (missed : Y → ℕ) (a b : Answers) (path : List ℕ) (why : DiskFault) → SaysNoMore a b → IsUnkeptBy read_only missed b path why → IsUnkeptBy read_only missed a path why
 unkept_by true missed a b path why less h = h
 unkept_by false missed a b path why less h = unkept_back missed a b path why less h
-
-pub unopened_back : {S Y : Type 0} (held : S → Held) (honest : S → Bool) (failed : S → ℕ) (missed : Y → ℕ) (a b : Answers) (path : List ℕ) (read_only : Bool) (told : DiskText) (found : FoundMark) (store : S) (why : DiskFault)
-    → SaysNoMore a b → IsUnopenedOf held honest failed missed b path read_only told found store why → IsUnopenedOf held honest failed missed a path read_only told found store why
-unopened_back held honest failed missed a b path read_only told found store why less (inl h) = inl h
-unopened_back held honest failed missed a b path read_only told found store why less (inr h) = inr (unkept_by read_only missed a b path why less h)
 
 -- ---- the command
 
@@ -68,10 +62,10 @@ unopened_back held honest failed missed a b path read_only told found store why 
 pub served_at : {S Y K : Type 0} (held : S → Held) (honest : S → Bool) (failed : S → ℕ) (synced missed : Y → ℕ) (marked : Y → Mark) (kept : K → List Bool) (unlisted : K → ℕ) (a : Answers) (words : ServeWords) (told : DiskText)
     (disk : GuardedSectors (Device (DriverState (FileState S))) K) (syncs : Y) (terms : Terms) (unread left before after telling told_after : Option (List ℕ)) (result : Result (Unit {0}) DiskFault)
     → IsReadyAt held honest marked kept a words.disk.now words.read_only told disk syncs → Names disk.lost.items telling told_after → terms ≡ terms_of told.shape words.read_only
-    → HasServedOn (λ d. contents_of (flash_in held) (is_honest_in honest) d.sectors) (λ d. holds (is_honest_in honest) d.sectors) (RestsGuarded (rests_in held honest)) (ReadsGuarded (reads_in held honest))
+    → HasServedOn (shown (contents_of (flash_in held) (is_honest_in honest)) (λ d. d.engine.geometry.data_bytes)) (λ d. holds (is_honest_in honest) d.sectors) (RestsGuarded (rests_in held honest)) (ReadsGuarded (reads_in held honest))
     (λ d. d.sectors.engine.next) (λ d. takes_changes d.sectors) synced marked terms words.disk disk syncs unread left before after result
     ⊎ ((result ≡ Err fault.OutOfMemory) × Keeps before after)
-    → HasServedAt held honest synced marked kept a words unread left before after telling told_after result ⊎ HasNotServed held honest failed missed unlisted a words before after telling told_after result
+    → HasServedAt held honest synced marked kept a words unread left before after telling told_after result ⊎ HasNotServed held honest failed missed kept unlisted a words before after telling told_after result
 served_at held honest failed synced missed marked kept unlisted a words told disk syncs terms unread left before after telling told_after result at named is (inl h) =
     inl (record {
       told = told;
@@ -79,7 +73,7 @@ served_at held honest failed synced missed marked kept unlisted a words told dis
       syncs = syncs;
       at = at;
       named = named;
-      served = subst (λ t. HasServedOn (λ d. contents_of (flash_in held) (is_honest_in honest) d.sectors) (λ d. holds (is_honest_in honest) d.sectors) (RestsGuarded (rests_in held honest)) (ReadsGuarded (reads_in held honest))
+      served = subst (λ t. HasServedOn (shown (contents_of (flash_in held) (is_honest_in honest)) (λ d. d.engine.geometry.data_bytes)) (λ d. holds (is_honest_in honest) d.sectors) (RestsGuarded (rests_in held honest)) (ReadsGuarded (reads_in held honest))
           (λ d. d.sectors.engine.next) (λ d. takes_changes d.sectors) synced marked t words.disk disk syncs unread left before after result) is h;
     })
 served_at held honest failed synced missed marked kept unlisted a words told disk syncs terms unread left before after telling told_after result at named is (inr h) =

@@ -1,16 +1,20 @@
 -- The bytes that a device shows of which some sectors are lost.
-use Rattle.std.proofs.Common.{◌≡◌, ◌≢◌, ◌⊎◌, ◌+◌, ◌-◌, ◌*◌, ◌/◌, ◌%◌, ◌<◌, ◌≤◌, inl, inr, zero, suc, ℕ, Bool, true, false, List, [], ◌∷◌, length, get_or, take, drop, set, Result, Ok, Err, refl, sym, ap, ◌∙◌, subst, arith, add-zero, length-take, length-drop}
-use Rattle.std.specs.Prelude.{slice_index, slice_range, slice_set, IfOk, OnOk, OnErr, if◌then◌else◌}
+use Rattle.std.proofs.Common.{◌≡◌, ◌≢◌, ◌⊎◌, ◌+◌, ◌-◌, ◌*◌, ◌/◌, ◌%◌, ◌<◌, ◌≤◌, inl, inr, zero, suc, ℕ, Bool, true, false, List, [], ◌∷◌, length, get_or, take, drop, set, Result, Ok, Err, refl, sym, ap, ◌∙◌, subst, arith, add-zero, zero-add, length-take, length-drop}
+use Rattle.std.specs.Prelude.{slice_index, slice_range, slice_set, IfErr, IfOk, OnOk, OnErr, if◌then◌else◌}
 use Rattle.std.proofs.lemmas.Bool.{cases_lt}
 use Rattle.std.proofs.lemmas.List.{ext_get_or, get_or_past, get_or-drop, get_or-set_same, get_or-set_other, get_or-take, length-take-le}
 use Rattle.std.proofs.lemmas.Nat.{div-mul-add}
 use Rattle.std.proofs.Math.Nat.{div-mul-le_self, lt-div-mul-add}
+use Rattle.nbd_stream.specs.declared.fault.DiskFault.{DiskFault}
+use Rattle.nbd_stream.specs.declared.fault.DiskFault.TheVariants as fault
 use Rattle.nbd_stream.specs.declared.reply.RequestError.{RequestError}
+use Rattle.nbd_stream.specs.declared.reply.RequestError.TheVariants.{InputOutput}
 use Rattle.nbd_stream.specs.declared.task.Task.{Task}
-use Rattle.nbd_stream.specs.declared.task.Task.TheVariants.{Read}
-use Rattle.nbd_stream.specs.Disk.{Contents, IsEither, Steps, bytes_after, bytes_given, with_bytes}
+use Rattle.nbd_stream.specs.declared.task.Task.TheVariants.{Flush, Read}
+use Rattle.nbd_stream.specs.Disk.{Contents, Idles, IsEither, MayAnswer, Performs, answer_from, error_for, Steps, bytes_after, bytes_given, count_given, with_bytes}
 use Rattle.nbd_stream.proofs.DiskLemmas.{before_it, inside_it, length-with_bytes, past_it}
-use Rattle.disk_server.specs.Guarded.{GuardedByteLaw, GuardedReadLaw, guarded_byte, guarded_from, no_byte}
+use Rattle.disk_server.specs.declared.guarded.GuardedSectors.{GuardedSectors}
+use Rattle.disk_server.specs.Guarded.{GuardedByteLaw, GuardedReadLaw, HealsIfListed, guarded_byte, guarded_from, is_listed, no_byte, shown}
 use Rattle.disk_server.proofs.Tasks.{Answer, lasting}
 
 -- ---- a byte
@@ -30,7 +34,7 @@ byte_from size lost place (byte ∷ bytes) (suc k) within =
     ∙ ap (λ n. guarded_byte size lost n (get_or bytes k 0)) (omega arith)
 
 pub byte_law : GuardedByteLaw
-byte_law size lost bytes place within = byte_from size lost 0 bytes place within
+byte_law size lost bytes place within = byte_from size lost 0 bytes place within ∙ ap (λ n. guarded_byte size lost n (get_or bytes place 0)) (zero-add place)
 
 -- of a sector that is not lost it is the device's, of any other none
 there : (size : ℕ) (lost : List Bool) (place byte : ℕ) → get_or lost (place / size) false ≡ false → guarded_byte size lost place byte ≡ byte
@@ -40,10 +44,10 @@ pub none_there : (size : ℕ) (lost : List Bool) (place byte : ℕ) → get_or l
 none_there size lost place byte is = ap (λ b. if b then no_byte else byte) is
 
 at_lost : (size : ℕ) (lost : List Bool) (bytes : List ℕ) (p : ℕ) → p < length bytes → get_or lost (p / size) false ≡ true → slice_index (guarded_from size lost 0 bytes) p ≡ no_byte
-at_lost size lost bytes p within is = byte_from size lost 0 bytes p within ∙ none_there size lost p (slice_index bytes p) is
+at_lost size lost bytes p within is = byte_law size lost bytes p within ∙ none_there size lost p (slice_index bytes p) is
 
 at_there : (size : ℕ) (lost : List Bool) (bytes : List ℕ) (p : ℕ) → p < length bytes → get_or lost (p / size) false ≡ false → slice_index (guarded_from size lost 0 bytes) p ≡ slice_index bytes p
-at_there size lost bytes p within is = byte_from size lost 0 bytes p within ∙ there size lost p (slice_index bytes p) is
+at_there size lost bytes p within is = byte_law size lost bytes p within ∙ there size lost p (slice_index bytes p) is
 
 -- ---- the sector of a place
 
@@ -91,13 +95,13 @@ module _ (size n : ℕ) (body s : List ℕ) (some : 0 < size) (long : length bod
       elim (cases_lt p (n * size)) [
         | inl less ↦ ap (guarded_byte size lost' p) (before_it (n * size) body s p fits' less)
             ∙ same_byte size lost lost' p (slice_index s p) (cleared.others (p / size) (before size n p less))
-            ∙ sym (byte_from size lost 0 s p within) ∙ sym (before_it (n * size) body shown p shown_fits less)
+            ∙ sym (byte_law size lost s p within) ∙ sym (before_it (n * size) body shown p shown_fits less)
         | inr from ↦ elim (cases_lt p (n * size + size)) [
           | inl to ↦ there size lost' p _ (ap (λ k. get_or lost' k false) (inside size n p from to) ∙ cleared.here)
               ∙ inside_it (n * size) body s p fits' from (omega (arith, to, long)) ∙ sym (inside_it (n * size) body shown p shown_fits from (omega (arith, to, long)))
           | inr more ↦ ap (guarded_byte size lost' p) (past_it (n * size) body s p fits' (omega (arith, more, long)))
               ∙ same_byte size lost lost' p (slice_index s p) (cleared.others (p / size) (past size n p some more))
-              ∙ sym (byte_from size lost 0 s p within) ∙ sym (past_it (n * size) body shown p shown_fits (omega (arith, more, long)))
+              ∙ sym (byte_law size lost s p within) ∙ sym (past_it (n * size) body shown p shown_fits (omega (arith, more, long)))
         ]
       ]
 
@@ -112,7 +116,7 @@ module _ (size n : ℕ) (body s : List ℕ) (some : 0 < size) (long : length bod
       let all_long : length (guarded_from size lost' 0 set) ≡ length set = length-guarded size lost' 0 set in
       ap (guarded_from size lost' 0) is
       ∙ ext_get_or 0 (guarded_from size lost' 0 set) (with_bytes (n * size) body shown) (all_long ∙ set_long ∙ sym shown_long ∙ sym due_long)
-      (λ p within. (let here : p < length s = omega (arith, within, all_long, set_long) in byte_from size lost' 0 set p (omega (arith, here, set_long)) ∙ set_at lost lost' cleared p here))
+      (λ p within. (let here : p < length s = omega (arith, within, all_long, set_long) in byte_law size lost' set p (omega (arith, here, set_long)) ∙ set_at lost lost' cleared p here))
 
   torn_at : (lost : List Bool) (t : List ℕ) → length t ≡ length s → (p : ℕ) → p < length s → IsEither s (with_bytes (n * size) body s) t p → (b : Bool) → get_or lost (p / size) false ≡ b
       → IsEither (guarded_from size lost 0 s) (with_bytes (n * size) body (guarded_from size lost 0 s)) (guarded_from size lost 0 t) p
@@ -180,13 +184,13 @@ read_law size lost bytes offset count place given fits from to is gives =
 pub shown_kept : (size : ℕ) (lost : List Bool) (s t : List ℕ) → length t ≡ length s → (p : ℕ) → slice_index t p ≡ slice_index s p
     → slice_index (guarded_from size lost 0 t) p ≡ slice_index (guarded_from size lost 0 s) p
 shown_kept size lost s t same p is = elim (cases_lt p (length s)) [
-  | inl within ↦ byte_from size lost 0 t p (omega (arith, within, same)) ∙ ap (guarded_byte size lost p) is ∙ sym (byte_from size lost 0 s p within)
+  | inl within ↦ byte_law size lost t p (omega (arith, within, same)) ∙ ap (guarded_byte size lost p) is ∙ sym (byte_law size lost s p within)
   | inr beyond ↦ get_or_past (guarded_from size lost 0 t) p 0 (omega (arith, length-guarded size lost 0 t, same, beyond))
       ∙ sym (get_or_past (guarded_from size lost 0 s) p 0 (omega (arith, length-guarded size lost 0 s, beyond)))
 ]
 
 -- of what keeps nothing back: done, the bytes are those that the task leaves; else each is one of two
-pub steps_shown : (task : Task) (body s : List ℕ) (answer : Answer) (t : List ℕ) → OnOk answer (t ≡ bytes_after task body s) → IfOk answer (λ given. given ≡ bytes_given task s)
+steps_shown : (task : Task) (body s : List ℕ) (answer : Answer) (t : List ℕ) → OnOk answer (t ≡ bytes_after task body s) → IfOk answer (λ given. given ≡ bytes_given task s)
     → OnErr answer ((place : ℕ) → IsEither s (bytes_after task body s) t place) → Steps task body (lasting s) answer (lasting t)
 steps_shown task body s (Ok given) t done gave torn = record {
   done = done;
@@ -196,3 +200,130 @@ steps_shown task body s (Ok given) t done gave torn = record {
   lasts = λ p makes. refl;
 }
 steps_shown task body s (Err e) t done gave torn = record { done = tt; gave = tt; torn = torn; stays = λ p. inr (torn p); lasts = tt }
+
+either_kept : (s t : List ℕ) (p : ℕ) → IsEither s s t p → slice_index t p ≡ slice_index s p
+either_kept s t p (inl is) = is
+either_kept s t p (inr is) = is
+
+-- a read of a sector that is not listed
+pub read_steps : (size n : ℕ) (lost : List Bool) (s t : Contents) (answer : Answer) → n * size + size ≤ length s.bytes → length t.bytes ≡ length s.bytes → get_or lost n false ≡ false
+    → Steps (Read (n * size) size) [] s answer t → Steps (Read (n * size) size) [] (lasting (guarded_from size lost 0 s.bytes)) answer (lasting (guarded_from size lost 0 t.bytes))
+read_steps size n lost s t (Ok given) fits same is steps =
+    steps_shown (Read (n * size) size) [] (guarded_from size lost 0 s.bytes) (Ok given) (guarded_from size lost 0 t.bytes) (ap (guarded_from size lost 0) steps.done)
+    (steps.gave ∙ sym (shown_range size n lost s.bytes fits is)) tt
+read_steps size n lost s t (Err e) fits same is steps =
+    steps_shown (Read (n * size) size) [] (guarded_from size lost 0 s.bytes) (Err e) (guarded_from size lost 0 t.bytes) tt tt
+    (λ p. inl (shown_kept size lost s.bytes t.bytes same p (either_kept s.bytes t.bytes p (steps.torn p))))
+
+-- a flush
+pub flush_steps : (size : ℕ) (lost : List Bool) (s t : Contents) (answer : Answer) → length t.bytes ≡ length s.bytes
+    → Steps Flush [] s answer t → Steps Flush [] (lasting (guarded_from size lost 0 s.bytes)) answer (lasting (guarded_from size lost 0 t.bytes))
+flush_steps size lost s t (Ok given) same steps =
+    steps_shown Flush [] (guarded_from size lost 0 s.bytes) (Ok given) (guarded_from size lost 0 t.bytes) (ap (guarded_from size lost 0) steps.done) steps.gave tt
+flush_steps size lost s t (Err e) same steps =
+    steps_shown Flush [] (guarded_from size lost 0 s.bytes) (Err e) (guarded_from size lost 0 t.bytes) tt tt
+    (λ p. inl (shown_kept size lost s.bytes t.bytes same p (either_kept s.bytes t.bytes p (steps.torn p))))
+
+-- a change of a sector: the device has done it, and the sector was taken off the list, or was to be; or the device has failed
+module _ (size n : ℕ) (task : Task) (body set : List ℕ) (leaves : (l : List ℕ) → bytes_after task body l ≡ with_bytes (n * size) set l) (gives : (l : List ℕ) → [] ≡ bytes_given task l)
+    (some : 0 < size) (long : length set ≡ size) (lost : List Bool) (s t : Contents) (fits : n * size + size ≤ length s.bytes) where
+  set_steps : (lost' : List Bool) → IsCleared n lost lost' → Steps task body s (Ok []) t
+      → guarded_from size lost' 0 t.bytes ≡ bytes_after task body (guarded_from size lost 0 s.bytes)
+  set_steps lost' cleared steps =
+      shown_set size n set s.bytes some long fits lost lost' t.bytes cleared (steps.done ∙ leaves s.bytes) ∙ sym (leaves (guarded_from size lost 0 s.bytes))
+
+  pub healed_steps : (lost' : List Bool) → IsCleared n lost lost' → Steps task body s (Ok []) t
+      → Steps task body (lasting (guarded_from size lost 0 s.bytes)) (Ok []) (lasting (guarded_from size lost' 0 t.bytes))
+  healed_steps lost' cleared steps =
+      steps_shown task body (guarded_from size lost 0 s.bytes) (Ok []) (guarded_from size lost' 0 t.bytes) (set_steps lost' cleared steps) (gives (guarded_from size lost 0 s.bytes)) tt
+
+  pub unhealed_steps : (lost' : List Bool) (e : RequestError) → IsCleared n lost lost' → Steps task body s (Ok []) t
+      → Steps task body (lasting (guarded_from size lost 0 s.bytes)) (Err e) (lasting (guarded_from size lost' 0 t.bytes))
+  unhealed_steps lost' e cleared steps =
+      steps_shown task body (guarded_from size lost 0 s.bytes) (Err e) (guarded_from size lost' 0 t.bytes) tt tt (λ p. inr (ap (λ l. slice_index l p) (set_steps lost' cleared steps)))
+
+  pub failed_steps : (e : RequestError) → length t.bytes ≡ length s.bytes → Steps task body s (Err e) t
+      → Steps task body (lasting (guarded_from size lost 0 s.bytes)) (Err e) (lasting (guarded_from size lost 0 t.bytes))
+  failed_steps e same steps =
+      let shown : List ℕ = guarded_from size lost 0 s.bytes in
+      steps_shown task body shown (Err e) (guarded_from size lost 0 t.bytes) tt tt
+      (λ p. subst (λ l. IsEither shown l (guarded_from size lost 0 t.bytes) p) (sym (leaves shown))
+      (shown_torn size n set s.bytes some long fits lost t.bytes same p (subst (λ l. IsEither s.bytes l t.bytes p) (leaves s.bytes) (steps.torn p))))
+
+-- ---- a call of the whole
+
+module _ {S K : Type 0} (contents : S → Contents) (size : S → ℕ) (honest : S → Bool) where
+  -- with so many bytes a sector
+  same_size : (d : GuardedSectors S K) (n : ℕ) → size d.sectors ≡ n → shown contents size d ≡ lasting (guarded_from n d.lost.items 0 (contents d.sectors).bytes)
+  same_size d n is = ap (λ k. lasting (guarded_from k d.lost.items 0 (contents d.sectors).bytes)) is
+
+  pub call_shown : (task : Task) (body : List ℕ) (old : GuardedSectors S K) (answer : Answer) (new : GuardedSectors S K) → size new.sectors ≡ size old.sectors → length (contents new.sectors).bytes ≡ length (contents old.sectors).bytes
+      → OnOk answer (honest new.sectors ≡ honest old.sectors) → (honest new.sectors ≡ true → honest old.sectors ≡ true) → IfErr answer (MayAnswer task) → IfOk answer (λ given. length given ≡ count_given task)
+      → (honest new.sectors ≡ true → Steps task body (lasting (guarded_from (size old.sectors) old.lost.items 0 (contents old.sectors).bytes)) answer (lasting (guarded_from (size old.sectors) new.lost.items 0 (contents new.sectors).bytes)))
+      → Performs (shown contents size) (λ d. honest d.sectors) (λ d. false) task body old answer new
+  call_shown task body old answer new same long kept back may given steps = record {
+    sized = length-guarded (size new.sectors) new.lost.items 0 (contents new.sectors).bytes ∙ long ∙ sym (length-guarded (size old.sectors) old.lost.items 0 (contents old.sectors).bytes);
+    kept = kept;
+    back = back;
+    calm_is = refl;
+    fault = may;
+    given = given;
+    calmly = λ never. (let no : ⊥ = cc in absurd no);
+    steps = λ h. subst (λ c. Steps task body (shown contents size old) answer c) (sym (same_size new (size old.sectors) same)) (steps h);
+  }
+
+  pub rest_shown : (calm : S → Bool) (old : GuardedSectors S K) (result : Result (Unit {0}) DiskFault) (new : GuardedSectors S K) → size new.sectors ≡ size old.sectors → new.lost.items ≡ old.lost.items
+      → Idles contents honest calm old.sectors result new.sectors → Idles (shown contents size) (λ d. honest d.sectors) (λ d. false) old result new
+  rest_shown calm old result new same lost idles =
+      let bytes_same : honest new.sectors ≡ true → (shown contents size new).bytes ≡ (shown contents size old).bytes = λ h.
+      (ap (λ (c : Contents). c.bytes) (same_size new (size old.sectors) same) ∙ ap (λ l. guarded_from (size old.sectors) l 0 (contents new.sectors).bytes) lost
+      ∙ ap (guarded_from (size old.sectors) old.lost.items 0) (idles.bytes h)) in
+      record {
+        sized = length-guarded (size new.sectors) new.lost.items 0 (contents new.sectors).bytes ∙ idles.sized ∙ sym (length-guarded (size old.sectors) old.lost.items 0 (contents old.sectors).bytes);
+        kept = idles.kept;
+        was_honest = idles.was_honest;
+        calm_is = refl;
+        fault = idles.fault;
+        calmly = λ never. (let no : ⊥ = cc in absurd no);
+        bytes = bytes_same;
+        stays = λ h place. inl (ap (λ l. slice_index l place) (bytes_same h));
+      }
+
+  cleared_of : (kept : K → List Bool) (n : ℕ) (old new : GuardedSectors S K) → HealsIfListed kept n old new → IsCleared n old.lost.items new.lost.items
+  cleared_of kept n old new (inl kept_so) = subst (λ v. IsCleared n old.lost.items v.items) (sym kept_so.1.lost_same) (unlisted n old.lost.items kept_so.0)
+  cleared_of kept n old new (inr heals) = taken n old.lost.items new.lost.items heals.was heals.taken
+
+  cleared_by : (n : ℕ) (old new : GuardedSectors S K) (result : Result (Unit {0}) DiskFault) (e : DiskFault) (b : Bool) → result ≡ Err e → is_listed old n ≡ b
+      → (is_listed old n ≡ false → (result ≡ Ok tt) × (new ≡ old)) → (is_listed old n ≡ true → new.lost.items ≡ slice_set old.lost.items n false) → IsCleared n old.lost.items new.lost.items
+  cleared_by n old new result e true failed is done off = taken n old.lost.items new.lost.items is (off is)
+  cleared_by n old new result e false failed is done off = (let no : result ≡ Ok tt = (done is).0 in (let never : ⊥ = cc in absurd never))
+
+  -- a change that the device has done: the sector was taken off the list, or it was to be
+  module _ (kept : K → List Bool) (calm : S → Bool) (n : ℕ) (task : Task) (body set : List ℕ) (old : GuardedSectors S K) (leaves : (l : List ℕ) → bytes_after task body l ≡ with_bytes (n * size old.sectors) set l)
+      (gives : (l : List ℕ) → [] ≡ bytes_given task l) (may : MayAnswer task InputOutput) (some : 0 < size old.sectors) (long : length set ≡ size old.sectors) (fits : n * size old.sectors + size old.sectors ≤ length (contents old.sectors).bytes)
+      (mid : S) (new : GuardedSectors S K) (same : size mid ≡ size old.sectors) (sectors : new.sectors ≡ mid) (p : Performs contents honest calm task body old.sectors (Ok []) mid) where
+    device_steps : honest new.sectors ≡ true → Steps task body (contents old.sectors) (Ok []) (contents new.sectors)
+    device_steps h = subst (λ s. Steps task body (contents old.sectors) (Ok []) (contents s)) (sym sectors) (p.steps (sym (ap honest sectors) ∙ h))
+
+    pub change_shown : (result : Result (Unit {0}) DiskFault) → OnOk result (HealsIfListed kept n (record old { sectors = mid }) new)
+        → (is_listed old n ≡ false → (result ≡ Ok tt) × (new ≡ record old { sectors = mid })) → (is_listed old n ≡ true → new.lost.items ≡ slice_set old.lost.items n false) → IfErr result (λ e. e ≡ fault.Failed)
+        → Performs (shown contents size) (λ d. honest d.sectors) (λ d. false) task body old (answer_from result []) new
+    change_shown (Ok done) heals unlisted_so off failed =
+        call_shown task body old (Ok []) new (ap size sectors ∙ same) (ap (λ s. length (contents s).bytes) sectors ∙ p.sized) (ap honest sectors ∙ p.kept) (λ h. p.back (sym (ap honest sectors) ∙ h)) tt p.given
+        (λ h. healed_steps (size old.sectors) n task body set leaves gives some long old.lost.items (contents old.sectors) (contents new.sectors) fits new.lost.items
+        (cleared_of kept n (record old { sectors = mid }) new heals) (device_steps h))
+    change_shown (Err e) heals unlisted_so off failed =
+        call_shown task body old (Err (error_for e)) new (ap size sectors ∙ same) (ap (λ s. length (contents s).bytes) sectors ∙ p.sized) tt (λ h. p.back (sym (ap honest sectors) ∙ h))
+        (subst (λ f. MayAnswer task (error_for f)) (sym failed) may) tt
+        (λ h. unhealed_steps (size old.sectors) n task body set leaves gives some long old.lost.items (contents old.sectors) (contents new.sectors) fits new.lost.items (error_for e)
+        (cleared_by n (record old { sectors = mid }) new (Err e) e (is_listed old n) refl refl unlisted_so off) (device_steps h))
+
+  -- or it has failed
+  pub failed_shown : (calm : S → Bool) (n : ℕ) (task : Task) (body set : List ℕ) (old : GuardedSectors S K) (leaves : (l : List ℕ) → bytes_after task body l ≡ with_bytes (n * size old.sectors) set l)
+      (gives : (l : List ℕ) → [] ≡ bytes_given task l) (some : 0 < size old.sectors) (long : length set ≡ size old.sectors) (fits : n * size old.sectors + size old.sectors ≤ length (contents old.sectors).bytes)
+      (new : GuardedSectors S K) (e : RequestError) → size new.sectors ≡ size old.sectors → new.lost.items ≡ old.lost.items → Performs contents honest calm task body old.sectors (Err e) new.sectors
+      → Performs (shown contents size) (λ d. honest d.sectors) (λ d. false) task body old (Err e) new
+  failed_shown calm n task body set old leaves gives some long fits new e same lost p =
+      call_shown task body old (Err e) new same p.sized tt p.back p.fault tt
+      (λ h. subst (λ l. Steps task body (lasting (guarded_from (size old.sectors) old.lost.items 0 (contents old.sectors).bytes)) (Err e) (lasting (guarded_from (size old.sectors) l 0 (contents new.sectors).bytes))) (sym lost)
+      (failed_steps (size old.sectors) n task body set leaves gives some long old.lost.items (contents old.sectors) (contents new.sectors) fits e p.sized (p.steps h)))

@@ -1,5 +1,5 @@
 -- What the definitions of a device as a disk come to.
-use Rattle.std.proofs.Common.{◌≡◌, ◌+◌, ◌*◌, ◌&&◌, inl, inr, ℕ, Bool, true, false, List, [], Option, Result, Ok, Err, refl, sym, subst, ap, ◌∙◌, arith}
+use Rattle.std.proofs.Common.{◌≡◌, ◌+◌, ◌-◌, ◌*◌, ◌^◌, ◌&&◌, inl, inr, ℕ, Bool, true, false, List, [], Option, Result, Ok, Err, refl, sym, subst, ap, ◌∙◌, arith}
 use Rattle.std.specs.Prelude.{slice_range, not, ◌==◌}
 use Rattle.std.proofs.lemmas.Bool.{eq-eqb, lt-ltb}
 use Rattle.page_layout.specs.Array.{zeros}

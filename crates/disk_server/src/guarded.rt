@@ -166,6 +166,7 @@ impl<S: Lasting, K: KeepsLost> Sectors for GuardedSectors<S, K> {
         if self.failed || self.is_listed(sector) {
             return Err(DiskFault::Failed);
         }
+        self.know();
         self.sectors.read_sector(sector, buffer)
     }
 

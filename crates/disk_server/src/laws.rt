@@ -24,7 +24,7 @@ pub fn array_laws<N: Nand>()
 
 /// What a mark says of a device's pages, where it is written after a sync: all sound pages lie below the sequence that was next, and where the device was flushed before and takes changes, no sector is stale.
 /// (This project's.)
-pub fn mark_laws<N: Nand>()
+pub fn sequence_laws<N: Nand>()
     ensures below { BelowLaw N.flash N.honest }
     ensures written { WrittenLaw N.flash N.recorded N.honest N.calm N.failed }
 {}

@@ -1,5 +1,5 @@
 use Rattle.disk_server.proofs.LawLemmas.{below_law, written_law}
-use Rattle.disk_server.proofs.laws.mark_laws.Goals as goal
+use Rattle.disk_server.proofs.laws.sequence_laws.Goals as goal
 
 pub returns-clause-below : goal.returns-clause-below
 returns-clause-below g c = below_law g.N.PageSource.flash g.N.PageSource.honest
