@@ -10,6 +10,7 @@ use Rattle.page_layout.specs.Raw.{raw_image, IsRaw}
 use Rattle.page_layout.specs.Change.{erased_page}
 use Rattle.page_layout.specs.Flash.{no_page, with_block}
 use Rattle.page_layout.proofs.RawLemmas.{raw_image_whole}
+use Rattle.nand_die.proofs.PagesLemmas.{blank_image}
 use Rattle.page_code.specs.Layout.{outer_bytes}
 use Rattle.page_code.specs.Chip.{IsChipOf}
 use Rattle.file_die.specs.Memory.{standing}
@@ -104,3 +105,8 @@ loads g chip bytes lent slice read row is e at r = record {
   gave = λ _. ap (page_of g) r ∙ (sym (page_as g chip slice is) ∙ (sym at ∙ (ap (λ z. get_or (raw_image chip z) row no_page) e ∙ ap (λ (z : Image). page_in z row) (image_is g chip bytes is))));
   same = refl;
 }
+
+pub erased_file : (g chip : Geometry) (n : ℕ) → IsChipOf g chip → n ≡ row_count chip * page_bytes chip → image_with_codes g (replicate n 255) ≡ replicate (row_count g) (erased_with_codes g)
+erased_file g chip n is e =
+    sym (image_is g chip (replicate n 255) is) ∙ (blank_image chip n e
+    ∙ (ap (replicate (row_count chip)) (erased_is g chip is) ∙ ap (λ k. replicate k (erased_with_codes g)) (same_count g chip is)))

@@ -13,6 +13,7 @@ use Rattle.nand_die.proofs.PagesLemmas.{block_within}
 use Rattle.file_die.specs.Store.{Held, AreImages, MayBeLeft, Loads, Puts, Clears, Syncs, page_in}
 use Rattle.coded_store.specs.Reading.{read_as, read_image, reading, erased_with_codes}
 use Rattle.coded_store.specs.File.{IsWithCodes, IsImageWithCodes, AreWithCodes, Writes, Erases, Keeps}
+use Rattle.coded_store.specs.Laws.{BlankLaw}
 use Rattle.coded_store.proofs.ReadLemmas.{read_sized}
 use Rattle.coded_store.proofs.LawLemmas.{erased_reads}
 
@@ -124,3 +125,6 @@ block_rows g block row l e =
     let low = k.1 in
     let is = k.2 in
     omega arith
+
+pub blank_law : BlankLaw
+blank_law g = fill_reads (read_as g) (row_count g) (erased_with_codes g) ∙ ap (replicate (row_count g)) (erased_reads g)

@@ -1,5 +1,5 @@
 -- WHAT A FILE WITH CODES COMES TO: pages with wrong bits read as they were written.
-use Rattle.std.specs.Prelude.{◌≡◌, ◌<◌, ◌+◌, ℕ, zero, suc, ◌⊎◌, false, None, List, take, drop, length}
+use Rattle.std.specs.Prelude.{◌≡◌, ◌<◌, ◌+◌, ℕ, zero, suc, ◌⊎◌, false, None, List, take, drop, length, replicate}
 use Rattle.page_layout.specs.declared.geometry.Geometry.{Geometry}
 use Rattle.page_layout.specs.Geometry.{row_count}
 use Rattle.page_layout.specs.Page.{Page, Image, IsPage, IsImage}
@@ -55,6 +55,10 @@ OwnLaw = (g : Geometry) (p : Page) → IsPage g p → Reads g (coded g p) p (Tur
 -- an erased page has erased codes
 abbrev pub ErasedLaw : Type 0
 ErasedLaw = (g : Geometry) → coded g (erased_page g) ≡ erased_with_codes g
+
+-- a file of erased pages reads as a store of such
+abbrev pub BlankLaw : Type 0
+BlankLaw = (g : Geometry) → read_image g (replicate (row_count g) (erased_with_codes g)) ≡ replicate (row_count g) (erased_page g)
 
 -- each row is near to that of an image
 pub record AreNearTo (g : Geometry) (image stand : Image) : Type 0 where

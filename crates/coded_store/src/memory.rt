@@ -1,5 +1,5 @@
 //! A file of pages with their codes, in memory.
-ghost use Rattle.std.specs.Prelude.{◌≡◌, ◌≢◌, ◌<◌, ◌⊎◌, ◌*◌, length, replicate, slice_set, IfSome, IfNone, true};
+ghost use Rattle.std.specs.Prelude.{◌≡◌, ◌≢◌, ◌<◌, ◌⊎◌, ◌*◌, length, replicate, slice_set, IfOk, IfSome, IfNone, true};
 ghost use Rattle.page_layout.specs.Geometry.{row_count, page_bytes};
 ghost use Rattle.page_layout.specs.Raw.{raw_image, IsRaw};
 ghost use Rattle.page_layout.specs.Change.{erased_page};
@@ -13,6 +13,7 @@ use file_die::StoreFault;
 use nand_die::{erase_pages, image_length, page_slice, write_page};
 use page_code::chip::ChipGeometry;
 use page_layout::geometry::Geometry;
+use std::alloc::{AllocError, Global};
 use std::marker::Model;
 
 /// The pages of a die with their codes in memory. It keeps what it is given, and never fails. There is no power stop that it outlives: what lasts is what
@@ -58,7 +59,7 @@ fn clear_block(bytes: &mut [u8], chip: &Geometry, block: u32)
 }
 
 impl MemoryPages {
-    ghost use Rattle.coded_store.specs.Memory.{image_with_codes};
+    ghost use Rattle.coded_store.specs.Memory.{erased_file, image_with_codes};
 
     /// Over these bytes: the pages in row order, each its data area and then its spare area with its codes. `None` where they are not as many as the
     /// pages have together, or the spare area with the codes would have more than 256 bytes.
@@ -76,6 +77,27 @@ impl MemoryPages {
             chip,
             bytes,
         })
+    }
+
+    /// Of erased pages. `None` where the spare area with the codes would have more than 256 bytes.
+    ///
+    /// # Errors
+    ///
+    /// `AllocError` where there is no memory for the pages.
+    pub fn erased(alloc: Global, geometry: Geometry) -> Result<Option<MemoryPages>, AllocError>
+        ensures made { IfOk result (λ made. IfSome made (λ pages. pages ≡ erased_file geometry)) }
+        ensures none { IfOk result (λ made. IfNone made (256 < outer_bytes geometry)) }
+    {
+        let Some(chip) = ChipGeometry::of(&geometry) else {
+            return Ok(None);
+        };
+        let chip = *chip.raw();
+        let bytes = vec![in alloc; 0xFFu8; image_length(&chip)]?;
+        Ok(Some(MemoryPages {
+            geometry,
+            chip,
+            bytes,
+        }))
     }
 
     /// The bytes.

@@ -1,4 +1,5 @@
 use Rattle.coded_store.proofs.LawLemmas.{mended_law, lost_law, no_page_law, own_law, erased_law, file_law}
+use Rattle.coded_store.proofs.StoreLemmas.{blank_law}
 use Rattle.coded_store.proofs.laws.reading_laws.Goals as goal
 
 pub returns-clause-mended : goal.returns-clause-mended
@@ -15,6 +16,9 @@ returns-clause-own c = own_law
 
 pub returns-clause-erased : goal.returns-clause-erased
 returns-clause-erased c = erased_law
+
+pub returns-clause-blank : goal.returns-clause-blank
+returns-clause-blank c = blank_law
 
 pub returns-clause-file : goal.returns-clause-file
 returns-clause-file c = file_law
