@@ -1,7 +1,7 @@
 #!/usr/bin/python3
 """Damages the file of a disk that was closed, and holds what `nanddisk` tells and serves to what it has lost.
 
-Usage: disk_damage.py NANDDISK [BITS [HOLES [SEED]]]
+Usage: disk_damage.py NANDDISK [BITS [HOLES [SEED [STOPS]]]]
 
 A disk is written and trimmed at random by a client, flushed and closed. Then, each time on a copy of its file and of the files beside it:
 
@@ -12,7 +12,11 @@ Of each `check`, `info` and `serve` have to name the same sectors, with status 1
 too: these are counted as silent, and of a turned bit there may be none. A sector that is named is not read (EIO), by a second session neither; all others read as before. Then each is written and read
 again, and a third session names none.
 
-It ends with status 1 where something differs. Asks for python3-libnbd, which is for the system's Python."""
+At last (STOPS disks, 3 without a number) some bits are turned so that sectors are lost, and `serve` is stopped while it keeps their list, before its client's first request and between its writes of these
+sectors: by a kill, or by an error, at each of its calls that write, sync and name files, one call a run. Whatever it had done, `check` and the next `serve` still tell each sector that was not written, and one
+that was answered as written reads so.
+
+It ends with status 1 where something differs. Asks for Debian's strace and python3-libnbd, which is for the system's Python."""
 
 import errno
 import json
@@ -32,12 +36,18 @@ BESIDE = ("", ".json", ".mark", ".lost")
 class Session:
     """A client of a server that was just started."""
 
-    def __init__(self, program, path, *words):
+    def __init__(self, program, path, *words, watch=()):
         self.client = nbd.NBD()
         ours, theirs = socket.socketpair()
-        self.server = subprocess.Popen([program, "serve", *words, path], stdin=theirs, stdout=theirs, stderr=subprocess.PIPE)
+        self.server = subprocess.Popen([*watch, program, "serve", *words, path], stdin=theirs, stdout=theirs, stderr=subprocess.PIPE)
         theirs.close()
-        self.client.connect_socket(ours.detach())
+        self.connected = True
+        try:
+            self.client.connect_socket(ours.detach())
+        except nbd.Error:
+            if not watch:
+                raise
+            self.connected = False
 
     def end(self):
         self.client.shutdown()
@@ -129,9 +139,86 @@ def healed(disk, path, found, what, failures, draw):
         failures.append(f"{what}: a later session names some")
 
 
+# The calls by which a list, and the file that says that it is there, are stored and named.
+CALLS = ("write", "pwrite64", "fsync", "fdatasync", "link", "linkat", "rename", "renameat", "renameat2", "unlink", "unlinkat")
+
+
+def turned(path, length, bits, draw):
+    """Turns some bits."""
+    with open(path, "r+b") as file:
+        for _ in range(bits):
+            where = draw.randrange(length)
+            file.seek(where)
+            byte = file.read(1)[0] ^ 1 << draw.randrange(8)
+            file.seek(where)
+            file.write(bytes([byte]))
+
+
+def stopped_once(disk, path, found, call, number, how, failures, draw):
+    """A session that writes the lost sectors, stopped at a call. Whether that call came."""
+    watch = ["strace", "-f", "-o", os.devnull, "-e", f"trace={call}", "-e", f"inject={call}:{how}:when={number}"]
+    what = f"{how} at {call} {number}"
+    session = Session(disk.program, path, watch=watch)
+    wrote, hand = {}, None
+    if session.connected:
+        try:
+            for n in sorted(found):
+                hand = (n, draw.randbytes(disk.size))
+                session.client.pwrite(hand[1], n * disk.size)
+                wrote[n], hand = hand[1], None
+            session.client.shutdown()
+        except nbd.Error:
+            pass
+    session.client.close()
+    session.server.stderr.read()
+    status = session.server.wait()
+    session.server.stderr.close()
+    open_ones = found - set(wrote)
+    status_then, now = told(disk.program, "check", path)
+    if now is None or status_then != (1 if now else 0):
+        failures.append(f"{what}: check answers {status_then}")
+        return status != 0
+    if not (open_ones - ({hand[0]} if hand else set()) <= now <= open_ones):
+        failures.append(f"{what}: {sorted(open_ones)} were not written, and {sorted(now)} are told")
+    session = Session(disk.program, path)
+    for n in sorted(found):
+        body = read(session, n, disk.size)
+        wanted = None if n in now else wrote[n] if n in wrote else hand[1]
+        if body != wanted:
+            failures.append(f"{what}: sector {n} is read otherwise")
+    if session.end() != (0, now):
+        failures.append(f"{what}: the next session names others")
+    return status != 0
+
+
+def stopped(disk, failures, draw):
+    """A session over a damaged disk is stopped at each of its calls. How many were."""
+    path = disk.copy()
+    found = set()
+    while len(found) < 3:
+        path = disk.copy()
+        turned(path, os.path.getsize(path), 12, draw)
+        found = told(disk.program, "check", path)[1] or set()
+    damaged = {end: open(path + end, "rb").read() for end in BESIDE if os.path.exists(path + end)}
+    count = 0
+    for call in CALLS:
+        for how in ("signal=SIGKILL", "error=EIO"):
+            for number in range(1, 200):
+                for end in BESIDE:
+                    if end in damaged:
+                        with open(path + end, "wb") as file:
+                            file.write(damaged[end])
+                    elif os.path.exists(path + end):
+                        os.remove(path + end)
+                if not stopped_once(disk, path, found, call, number, how, failures, draw):
+                    break
+                count += 1
+    return len(found), count
+
+
 def main():
     program = sys.argv[1]
-    bits, holes, seed = (int(word) for word in (sys.argv[2:] + ["60", "20", "1"][len(sys.argv) - 2 :]))
+    bits, holes, seed, stops = (int(word) for word in (sys.argv[2:] + ["60", "20", "1", "3"][len(sys.argv) - 2 :]))
     draw, failures = random.Random(seed), []
     with tempfile.TemporaryDirectory() as folder:
         disk = Disk(program, folder, draw)
@@ -159,7 +246,10 @@ def main():
                 if kind == "bit" and untold:
                     failures.append(f"{what}: silent {sorted(untold)[:9]}")
                 healed(disk, path, found, what, failures, draw)
-            print(f"{kind}s {count}: {hit} with lost sectors, {named} named, {silent} read otherwise unnamed, {refused} refused")
+            print(f"{kind}s {count}: {hit} with lost sectors, {named} named, {silent} read otherwise unnamed, {refused} refused", flush=True)
+        for _ in range(stops):
+            lost, count = stopped(disk, failures, draw)
+            print(f"stopped at each of {count} calls with {lost} lost sectors: each is told, or was written")
     for failure in failures:
         print(failure)
     sys.exit(1 if failures else 0)

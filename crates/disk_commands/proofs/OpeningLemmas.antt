@@ -56,8 +56,12 @@ pub no_file : (a b : Answers) (f : FileFault) (path : Bor (List ℕ)) (wanted : 
     → b ≡ a → IsTextAt b path.now text → b.fails path.now f → wanted ≡ row_count text.shape.geometry * page_bytes text.shape.geometry → told ≡ told_at f path wanted → IsNotAt a path.now told
 no_file a b f path wanted text told same at fails bytes is =
     let its : IsFaultAt b path.now wanted told = subst (IsFaultAt b path.now wanted) (sym is) (fault_at b f path wanted fails) in
-    inr (text, subst (λ x. IsTextAt x path.now text) same at, subst (λ x. IsFaultAt x path.now (row_count text.shape.geometry * page_bytes text.shape.geometry) told) same
-    (subst (λ n. IsFaultAt b path.now n told) bytes its))
+    inr (
+      text,
+      subst (λ x. IsTextAt x path.now text) same at,
+      subst (λ x. IsFaultAt x path.now (row_count text.shape.geometry * page_bytes text.shape.geometry) told) same
+          (subst (λ n. IsFaultAt b path.now n told) bytes its),
+    )
 
 -- a call that names the path failed
 pub told_fault : (a : Answers) (f : FileFault) (path : Bor (List ℕ)) (wanted : ℕ) (told : DiskFault) → a.fails path.now f → told ≡ told_at f path wanted → IsFaultAt a path.now wanted told

@@ -1,5 +1,5 @@
 -- The bytes that a device shows of which some sectors are lost.
-use Rattle.std.proofs.Common.{◌≡◌, ◌≢◌, ◌⊎◌, ◌+◌, ◌-◌, ◌*◌, ◌/◌, ◌%◌, ◌<◌, ◌≤◌, inl, inr, zero, suc, ℕ, Bool, true, false, List, [], ◌∷◌, length, get_or, take, drop, set, Result, Ok, Err, refl, sym, ap, ◌∙◌, subst, arith, add-zero, zero-add, length-take, length-drop}
+use Rattle.std.proofs.Common.{◌≡◌, ◌≢◌, ◌+◌, ◌-◌, ◌*◌, ◌/◌, ◌<◌, ◌≤◌, inl, inr, zero, suc, ℕ, Bool, true, false, List, [], ◌∷◌, length, get_or, take, drop, set, Result, Ok, Err, refl, sym, ap, ◌∙◌, subst, arith, add-zero, zero-add, length-drop}
 use Rattle.std.specs.Prelude.{slice_index, slice_range, slice_set, IfErr, IfOk, OnOk, OnErr, if◌then◌else◌}
 use Rattle.std.proofs.lemmas.Bool.{cases_lt}
 use Rattle.std.proofs.lemmas.List.{ext_get_or, get_or_past, get_or-drop, get_or-set_same, get_or-set_other, get_or-take, length-take-le}
@@ -75,9 +75,9 @@ unlisted n lost is = record { here = is; others = λ m other. refl }
 pub taken : (n : ℕ) (old new : List Bool) → get_or old n false ≡ true → new ≡ slice_set old n false → IsCleared n old new
 taken n old new was is = record {
   here = elim (cases_lt n (length old)) [
-      | inl within ↦ ap (λ l. get_or l n false) is ∙ get_or-set_same old n false false within
-      | inr beyond ↦ (let no : false ≡ true = sym (get_or_past old n false beyond) ∙ was in (let never : ⊥ = cc in absurd never))
-    ];
+    | inl within ↦ ap (λ l. get_or l n false) is ∙ get_or-set_same old n false false within
+    | inr beyond ↦ (let no : false ≡ true = sym (get_or_past old n false beyond) ∙ was in (let never : ⊥ = cc in absurd never))
+  ];
   others = λ m other. ap (λ l. get_or l m false) is ∙ get_or-set_other old n m false false other;
 }
 

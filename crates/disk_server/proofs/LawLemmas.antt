@@ -1,5 +1,5 @@
 -- What the definitions of a device as a disk come to.
-use Rattle.std.proofs.Common.{◌≡◌, ◌+◌, ◌-◌, ◌*◌, ◌^◌, ◌&&◌, inl, inr, ℕ, Bool, true, false, List, [], Option, Result, Ok, Err, refl, sym, subst, ap, ◌∙◌, arith}
+use Rattle.std.proofs.Common.{◌≡◌, ◌+◌, ◌-◌, ◌*◌, ◌^◌, ◌&&◌, inl, inr, ℕ, Bool, true, false, List, [], Option, Result, Ok, Err, refl, sym, ap, ◌∙◌, arith}
 use Rattle.std.specs.Prelude.{slice_range, not, ◌==◌}
 use Rattle.std.proofs.lemmas.Bool.{eq-eqb, lt-ltb}
 use Rattle.page_layout.specs.Array.{zeros}
@@ -11,7 +11,6 @@ use Rattle.image_check.specs.Stale.{stale_sectors}
 use Rattle.collection.specs.Safe.{ram}
 use Rattle.ftl_device.specs.declared.device.Device.{Device}
 use Rattle.ftl_device.specs.declared.fault.DeviceFault.{DeviceFault}
-use Rattle.ftl_device.specs.Begin.{is_scarce}
 use Rattle.ftl_device.specs.Changes.{Upkeeps}
 use Rattle.disk_server.proofs.FlatLemmas.{flat_law}
 use Rattle.ftl_device.specs.declared.fault.DeviceFault.TheVariants.{OutOfRange, ReadOnly, SequenceSpent, OutOfMemory, Damaged, BusFault}

@@ -1,13 +1,10 @@
 -- A disk that is only read, and one that is asked nothing any more.
-use Rattle.std.proofs.Common.{◌≡◌, ◌⊎◌, inl, inr, ℕ, suc, zero, Bool, true, false, List, [], Result, Ok, Err, refl, sym, subst, ap, ◌∙◌}
+use Rattle.std.proofs.Common.{◌≡◌, ◌⊎◌, inl, inr, ℕ, suc, zero, Bool, true, false, List, [], Result, Ok, Err, refl, sym, ap, ◌∙◌}
 use Rattle.std.specs.Prelude.{slice_index}
 use Rattle.nbd_stream.specs.declared.reply.RequestError.{RequestError}
-use Rattle.nbd_stream.specs.declared.reply.RequestError.TheVariants.{InputOutput}
-use Rattle.nbd_stream.specs.declared.fault.DiskFault.{DiskFault}
-use Rattle.nbd_stream.specs.declared.fault.DiskFault.TheVariants as fault
 use Rattle.nbd_stream.specs.declared.task.Task.{Task}
 use Rattle.nbd_stream.specs.declared.task.Task.TheVariants.{Read, Flush}
-use Rattle.nbd_stream.specs.Disk.{Contents, Idles, IsEither, MayAnswer, Performs, Steps}
+use Rattle.nbd_stream.specs.Disk.{Contents, IsEither, MayAnswer, Performs, Steps}
 use Rattle.nbd_stream.specs.Through.{Times, Through}
 use Rattle.nbd_stream.proofs.ThroughLemmas.{joined, none}
 use Rattle.disk_server.specs.Reading.{AllLasts}

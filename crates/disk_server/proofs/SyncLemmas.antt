@@ -9,7 +9,7 @@ use Rattle.page_layout.specs.Counter.{counted, HasRisen}
 use Rattle.nbd_stream.specs.declared.fault.DiskFault.{DiskFault}
 use Rattle.disk_server.specs.declared.synced.SyncedDisk.{SyncedDisk}
 use Rattle.disk_server.specs.declared.mark.Mark.{Mark}
-use Rattle.disk_server.specs.Synced.{Counts, HasSynced, IsUnsynced, KeepsCount, Marks, NoneFailed, OneFailed, after_change, touched}
+use Rattle.disk_server.specs.Synced.{HasSynced, IsUnsynced, KeepsCount, Marks, NoneFailed, OneFailed, after_change, touched}
 
 -- a count with one more
 rise : (a b c : ℕ) → a ≤ b → c ≡ counted b → HasRisen a c

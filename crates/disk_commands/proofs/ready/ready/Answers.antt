@@ -1,16 +1,17 @@
-use Rattle.std.proofs.Common.{◌≡◌, ◌∙◌, Bool, List, ap, inl, inr, not, subst, sym}
-use Rattle.disk_commands.specs.Guard.{KeepsIfAny}
-use Rattle.disk_commands.specs.Ready.{IsDiskOf, IsUnopenedOf}
-use Rattle.disk_commands.proofs.ReadyLemmas.{looked_same, marks_then, unlisted_back, unopened_back}
+use Rattle.std.proofs.Common.{◌≡◌, ◌∙◌, Bool, List, ap, false, inl, inr, not, subst, sym}
+use Rattle.disk_recovery.specs.Recovered.{KeepsIfAny}
+use Rattle.disk_server.specs.Synced.{after_sync}
+use Rattle.disk_commands.specs.Ready.{IsDiskOf, IsNoneOf, IsUnkeptBy}
+use Rattle.disk_commands.proofs.ReadyLemmas.{looked_same, marks_then, unkept_by, unlisted_back}
 use Rattle.disk_commands.proofs.ready.ready.Goals as goal
 
 pub returns-in-Err-keeper_at-clause-fault : goal.returns-in-Err-keeper_at-clause-fault
 returns-in-Err-keeper_at-clause-fault g c =
-    inr (inl (unlisted_back g.F.Lists.KeepsLost.failed (g.F.DiskFiles.answers c.args.files.now) (g.F.DiskFiles.answers c.look_at.new.files) c.args.words.now.disk.now c.in-Err-keeper_at.fault c.in-Ok.ensures.no_more
+    inr (inl (unlisted_back (g.F.DiskFiles.answers c.args.files.now) (g.F.DiskFiles.answers c.look_at.new.files) c.args.words.now.disk.now c.in-Err-keeper_at.fault c.in-Ok.ensures.no_more
     c.in-Err-keeper_at.ensures.fault))
 
-pub returns-in-Err-open_looked-clause-fault : goal.returns-in-Err-open_looked-clause-fault
-returns-in-Err-open_looked-clause-fault g c =
+pub returns-in-Err-disk_of-clause-fault : goal.returns-in-Err-disk_of-clause-fault
+returns-in-Err-disk_of-clause-fault g c =
     inr (inr (inl (record {
       told = c.in-Ok.looked.told;
       found = c.in-Ok.looked.found;
@@ -18,26 +19,47 @@ returns-in-Err-open_looked-clause-fault g c =
       certificate = _;
       lost = c.in-Ok.looked.lost.items;
       looked = c.in-Ok.ensures.ok;
-      unopened = unopened_back g.F.Store.Store.held g.F.Store.Store.honest g.F.Store.Store.failed g.F.Syncs.Syncs.failed (g.F.DiskFiles.answers c.args.files.now) (g.F.DiskFiles.answers c.look_at.new.files) c.args.words.now.disk.now
-          c.args.words.now.read_only c.in-Ok.looked.told c.in-Ok.looked.found c.in-Ok.looked.store c.in-Err-open_looked.fault c.in-Ok.ensures.no_more
-          (subst (λ x. IsUnopenedOf g.F.Store.Store.held g.F.Store.Store.honest g.F.Store.Store.failed g.F.Syncs.Syncs.failed (g.F.DiskFiles.answers x) c.args.words.now.disk.now c.args.words.now.read_only c.in-Ok.looked.told
-          c.in-Ok.looked.found c.in-Ok.looked.store c.in-Err-open_looked.fault) c.in-Ok-keeper_at.ensures.same c.in-Err-open_looked.ensures.fault);
+      keeper = c.in-Ok-keeper_at.keeper;
+      left = c.disk_of.new.keeper;
+      unopened = inl (subst (λ l. IsNoneOf g.F.Store.Store.held g.F.Store.Store.honest g.F.Store.Store.failed g.F.Lists.KeepsLost.kept g.F.Lists.KeepsLost.failed c.args.words.now.disk.now c.args.words.now.read_only c.in-Ok.looked.told
+          c.in-Ok.looked.found c.in-Ok.looked.store l c.in-Ok-keeper_at.keeper c.disk_of.new.keeper c.in-Err-disk_of.fault) c.deref.ensures.value c.in-Err-disk_of.ensures.fault);
     })))
+
+pub returns-in-Err-keep_mark_of-clause-fault : goal.returns-in-Err-keep_mark_of-clause-fault
+returns-in-Err-keep_mark_of-clause-fault g c =
+    inr (inr (inl (record {
+      told = c.in-Ok.looked.told;
+      found = c.in-Ok.looked.found;
+      store = c.in-Ok.looked.store;
+      certificate = _;
+      lost = c.in-Ok.looked.lost.items;
+      looked = c.in-Ok.ensures.ok;
+      keeper = c.in-Ok-keeper_at.keeper;
+      left = c.disk_of.new.keeper;
+      unopened = inr (unkept_by c.args.words.now.read_only g.F.Syncs.Syncs.failed (g.F.DiskFiles.answers c.args.files.now) (g.F.DiskFiles.answers c.look_at.new.files) c.args.words.now.disk.now c.in-Err-keep_mark_of.fault
+          c.in-Ok.ensures.no_more (subst (λ x. IsUnkeptBy c.args.words.now.read_only g.F.Syncs.Syncs.failed (g.F.DiskFiles.answers x) c.args.words.now.disk.now c.in-Err-keep_mark_of.fault) c.in-Ok-keeper_at.ensures.same
+          c.in-Err-keep_mark_of.ensures.fault));
+    })))
+
+pub returns-in-Err-keep_mark_of-clause-opened : goal.returns-in-Err-keep_mark_of-clause-opened
+returns-in-Err-keep_mark_of-clause-opened g c =
+    marks_then c.args.words.now.disk.now (not c.args.words.now.read_only) (g.F.DiskFiles.opened c.args.files.now) (g.F.DiskFiles.opened c.keeper_at.new.files) (g.F.DiskFiles.opened c.keep_mark_of.new.files)
+    (ap g.F.DiskFiles.opened c.in-Ok-keeper_at.ensures.same ∙ c.in-Ok.ensures.opened) c.in-Err-keep_mark_of.ensures.opened
 
 pub returns-in-Err-name_lost-clause-opened : goal.returns-in-Err-name_lost-clause-opened
 returns-in-Err-name_lost-clause-opened g c =
-    marks_then c.args.words.now.disk.now (not c.args.words.now.read_only) (g.F.DiskFiles.opened c.args.files.now) (g.F.DiskFiles.opened c.keeper_at.new.files) (g.F.DiskFiles.opened c.open_looked.new.files)
-    (ap g.F.DiskFiles.opened c.in-Ok-keeper_at.ensures.same ∙ c.in-Ok.ensures.opened) c.in-Ok-open_looked.ensures.opened
+    marks_then c.args.words.now.disk.now (not c.args.words.now.read_only) (g.F.DiskFiles.opened c.args.files.now) (g.F.DiskFiles.opened c.keeper_at.new.files) (g.F.DiskFiles.opened c.keep_mark_of.new.files)
+    (ap g.F.DiskFiles.opened c.in-Ok-keeper_at.ensures.same ∙ c.in-Ok.ensures.opened) c.in-Ok-keep_mark_of.ensures.opened
 
 pub returns-in-Ok-guarded-clause-opened : goal.returns-in-Ok-guarded-clause-opened
 returns-in-Ok-guarded-clause-opened g c =
-    marks_then c.args.words.now.disk.now (not c.args.words.now.read_only) (g.F.DiskFiles.opened c.args.files.now) (g.F.DiskFiles.opened c.keeper_at.new.files) (g.F.DiskFiles.opened c.open_looked.new.files)
-    (ap g.F.DiskFiles.opened c.in-Ok-keeper_at.ensures.same ∙ c.in-Ok.ensures.opened) c.in-Ok-open_looked.ensures.opened
+    marks_then c.args.words.now.disk.now (not c.args.words.now.read_only) (g.F.DiskFiles.opened c.args.files.now) (g.F.DiskFiles.opened c.keeper_at.new.files) (g.F.DiskFiles.opened c.keep_mark_of.new.files)
+    (ap g.F.DiskFiles.opened c.in-Ok-keeper_at.ensures.same ∙ c.in-Ok.ensures.opened) c.in-Ok-keep_mark_of.ensures.opened
 
 pub returns-clause-opened : goal.returns-clause-opened
 returns-clause-opened g c =
-    marks_then c.args.words.now.disk.now (not c.args.words.now.read_only) (g.F.DiskFiles.opened c.args.files.now) (g.F.DiskFiles.opened c.keeper_at.new.files) (g.F.DiskFiles.opened c.open_looked.new.files)
-    (ap g.F.DiskFiles.opened c.in-Ok-keeper_at.ensures.same ∙ c.in-Ok.ensures.opened) c.in-Ok-open_looked.ensures.opened
+    marks_then c.args.words.now.disk.now (not c.args.words.now.read_only) (g.F.DiskFiles.opened c.args.files.now) (g.F.DiskFiles.opened c.keeper_at.new.files) (g.F.DiskFiles.opened c.keep_mark_of.new.files)
+    (ap g.F.DiskFiles.opened c.in-Ok-keeper_at.ensures.same ∙ c.in-Ok.ensures.opened) c.in-Ok-keep_mark_of.ensures.opened
 
 pub returns-in-Ok-guarded-clause-ok : goal.returns-in-Ok-guarded-clause-ok
 returns-in-Ok-guarded-clause-ok g c = record {
@@ -46,9 +68,14 @@ returns-in-Ok-guarded-clause-ok g c = record {
   certificate = _;
   looked = looked_same g.F.Store.Store.held g.F.Store.Store.honest (g.F.DiskFiles.answers c.args.files.now) c.args.words.now.disk.now c.in-Ok.looked.told c.in-Ok.looked.found c.in-Ok.looked.store _ c.in-Ok.looked.lost.items
       c.in-Ok-guarded.disk.lost.items (ap (λ v. v.items) c.in-Ok-guarded.ensures.lost) c.in-Ok.ensures.ok;
-  of = subst (λ d. IsDiskOf g.F.Store.Store.held g.F.Store.Store.honest g.F.Syncs.Syncs.marked c.args.words.now.read_only c.in-Ok.looked.told c.in-Ok.looked.found c.in-Ok.looked.store d c.in-Ok-open_looked.opened.1)
-      (sym c.in-Ok-guarded.ensures.sectors) c.in-Ok-open_looked.ensures.ok;
+  of = subst (λ d. IsDiskOf g.F.Store.Store.held g.F.Store.Store.honest g.F.Syncs.Syncs.marked c.args.words.now.read_only c.in-Ok.looked.told c.in-Ok.looked.found c.in-Ok.looked.store d c.in-Ok-keep_mark_of.syncs)
+      (sym c.in-Ok-guarded.ensures.sectors) (record {
+        held_array = c.in-Ok-disk_of.ensures.honest;
+        bytes = c.in-Ok-disk_of.ensures.bytes;
+        keeps = λ writes marked. c.in-Ok-keep_mark_of.ensures.marked writes marked ∙ ap (λ n. after_sync n false c.in-Ok.looked.found.mark) c.next_sequence-next.ensures;
+      });
   none_failed = c.in-Ok-guarded.ensures.failed;
   lasts = λ writes. subst (λ v. KeepsIfAny g.F.Lists.KeepsLost.kept v.items c.in-Ok-guarded.disk.keeper) (sym c.in-Ok-guarded.ensures.lost)
-      (subst (λ k. KeepsIfAny g.F.Lists.KeepsLost.kept c.in-Ok.looked.lost.items k) (sym c.in-Ok-guarded.ensures.keeper) (c.in-Ok-keeper_at.ensures.ok (ap not writes)));
+      (subst (λ k. KeepsIfAny g.F.Lists.KeepsLost.kept c.in-Ok.looked.lost.items k) (sym c.in-Ok-guarded.ensures.keeper)
+      (subst (λ l. KeepsIfAny g.F.Lists.KeepsLost.kept l c.disk_of.new.keeper) c.deref.ensures.value (c.in-Ok-disk_of.ensures.listed writes)));
 }

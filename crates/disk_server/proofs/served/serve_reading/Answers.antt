@@ -1,4 +1,4 @@
-use Rattle.std.proofs.Common.{◌≡◌, false, ap, ◌∙◌, subst, length}
+use Rattle.std.proofs.Common.{false, ap, ◌∙◌, subst, length}
 use Rattle.nbd_stream.specs.declared.export.Export.{Export}
 use Rattle.nbd_stream.specs.Transmission.{Serves}
 use Rattle.disk_server.specs.Reading.{RestsNever}

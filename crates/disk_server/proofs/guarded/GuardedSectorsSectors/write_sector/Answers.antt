@@ -1,5 +1,4 @@
-use Rattle.std.proofs.Common.{◌*◌, ◌+◌, ◌≤◌, ℕ, [], false, inl, length, refl, replicate}
-use Rattle.std.proofs.lemmas.List.{length-replicate}
+use Rattle.std.proofs.Common.{◌*◌, ◌+◌, ◌≤◌, false, inl, length, refl}
 use Rattle.nbd_stream.specs.declared.task.Task.TheVariants as task
 use Rattle.disk_server.proofs.Bytes.{sector_fits}
 use Rattle.disk_server.proofs.GuardLemmas.{asked, asked_or}
