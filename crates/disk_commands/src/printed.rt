@@ -161,7 +161,12 @@ impl Info {
         match form {
             Form::Text => {
                 let lines = lost_text(alloc, lost)?;
-                write!(out, "{}{lines}{}", Lines(self), MendedLines(self.shape.code, self.mended))
+                write!(
+                    out,
+                    "{}{lines}{}",
+                    Lines(self),
+                    MendedLines(self.shape.code, self.mended)
+                )
             }
             Form::Json => {
                 let numbers = joined(alloc, lost)?;

@@ -141,11 +141,7 @@ fn shape_value(alloc: Global, shape: &Shape, lost: bool) -> Result<Value, AllocE
     ensures { IfOk result (λ value. view value ≡ shape_data shape.now lost) }
 {
     let word = geometry_word(alloc, &shape.geometry)?;
-    let (cache, code, geometry) = (
-        u64::from(shape.cache),
-        code_word(shape.code),
-        word.as_str(),
-    );
+    let (cache, code, geometry) = (u64::from(shape.cache), code_word(shape.code), word.as_str());
     json!(in alloc; {"cache": cache, "code": code, "geometry": geometry, "lost": lost, "share": 0u64, "version": 2u64})
 }
 

@@ -1,4 +1,4 @@
-use Rattle.std.proofs.Common.{rules, ◌≡◌, arith, None}
+use Rattle.std.proofs.Common.{rules, ◌≡◌, arith, None, refl}
 use Rattle.std.specs.Int.{div_ceil}
 use Rattle.disk_commands.specs.declared.shapes.SizeFault.TheVariants.{TooLarge}
 use Rattle.disk_commands.proofs.ShapeLemmas.{no_die, over_die, roomy, shaped, spared_die}
