@@ -24,7 +24,7 @@ LAW = re.compile(r"_laws?$")
 # the sections that are not called as the one crate that they tell of
 SECTIONS = {
     "allocation": ["allocation", "budget", "promises"],
-    "chips-with-wrong-bits": ["error_correction", "page_code", "corrected_nand"],
+    "chips-with-wrong-bits": ["error_correction", "page_code", "corrected_nand", "coded_store"],
     "crash_recovery": ["crash_recovery", "disk_recovery", "lost_sectors", "disk_damage"],
     "sectors-as-a-disk": ["disk_server"],
     "the-block-device-as-sectors": ["disk_server"],
