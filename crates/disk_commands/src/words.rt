@@ -85,7 +85,7 @@ fn code(word: Option<&str>) -> Option<Code>
     match word {
         None | Some("none") => Some(Code::Plain),
         Some("hamming") => Some(Code::Hamming),
-        Some(_) => None,
+        _ => None,
     }
 }
 
