@@ -1,5 +1,5 @@
 -- What files that say no more answer was answered before.
-use Rattle.std.proofs.Common.{◌≡◌, ◌∙◌, ◌++◌, inl, inr, zero, suc, ℕ, Bool, true, false, List, [], ◌∷◌, ap, drop, length, refl, replicate, subst, sym, take}
+use Rattle.std.proofs.Common.{◌≡◌, ◌∙◌, ◌*◌, ◌++◌, inl, inr, zero, suc, ℕ, Bool, true, false, List, [], ◌∷◌, ap, drop, length, refl, replicate, subst, sym, take}
 use Rattle.std.specs.Borrow.{Bor}
 use Rattle.page_layout.specs.declared.geometry.Geometry.{Geometry}
 use Rattle.certificate.specs.Claim.{Claim}
@@ -23,8 +23,10 @@ use Rattle.disk_commands.specs.declared.shape_text.DiskText.{DiskText}
 use Rattle.disk_commands.specs.declared.text.DiskFault.{DiskFault}
 use Rattle.disk_commands.specs.declared.text.DiskFault.TheVariants as fault
 use Rattle.disk_commands.specs.Damage.{IsListAt, IsListBy, IsLookedAt, IsNoListAt, IsUnlookedAt}
-use Rattle.disk_commands.specs.Files.{Answers, SaysNoMore}
-use Rattle.disk_commands.specs.Opening.{IsFaultAt, IsMarkAt, IsStoreAt}
+use Rattle.disk_commands.specs.declared.files.FileFault.{FileFault}
+use Rattle.disk_commands.specs.Files.{Answers, AnswersNoMore, SaysNoMore}
+use Rattle.disk_commands.specs.Opening.{file_bytes, IsFaultAt, IsMarkAt, IsNotAt, IsShapeFault, IsStoreAt, IsTextAt, told_at}
+use Rattle.disk_commands.proofs.OpeningLemmas.{no_file}
 
 pub mark_back : (a b : Answers) (path : List ℕ) (marked : Bool) (found : FoundMark) → SaysNoMore a b → IsMarkAt b path marked found → IsMarkAt a path marked found
 mark_back a b path true found less h = (h.0, less.marks path h.0 h.1, h.2)
@@ -48,9 +50,63 @@ no_list_back a b path told (fault.List at reason) less h = (h.0, h.1, (h.2.0, le
 no_list_back a b path told (fault.ReadList at) less h = (h.0, h.1, (h.2.0, less.fails path h.2.0 h.2.1, h.2.2))
 no_list_back a b path told why less h = h
 
+-- ---- a disk that is locked, and then opened
+
+shape_of : (a : Answers) (path : List ℕ) (why : DiskFault) → IsFaultAt a path 0 why → IsShapeFault a path why
+shape_of a path (fault.Read told) h = h
+shape_of a path (fault.Write told) h = h
+shape_of a path (fault.InUse told) h = h
+shape_of a path (fault.Exists told) h = h
+shape_of a path (fault.Length told found due) h = h
+shape_of a path fault.OutOfMemory h = h
+shape_of a path why h = absurd h
+
+-- its mark was not read
+pub mark_fault : (a b : Answers) (path : List ℕ) (why : DiskFault) → SaysNoMore a b → IsFaultAt b path 0 why → IsNotAt a path why
+mark_fault a b path why less h = inl (shape_of a path why (fault_back a b path 0 why less h))
+
+pub text_back : (a m : Answers) (path : List ℕ) (told : DiskText) → AnswersNoMore a m → IsTextAt m path told → IsTextAt a path told
+text_back a m path told less h = record { text = h.text; tells = less.tells path h.text h.tells; says = h.says }
+
+-- its shape was not told
+pub shape_back : (a m : Answers) (path : List ℕ) (why : DiskFault) → AnswersNoMore a m → IsShapeFault m path why → IsShapeFault a path why
+shape_back a m path (fault.Shape told why) less h = (h.0, (h.1.0, less.tells path h.1.0 h.1.1, h.1.2))
+shape_back a m path (fault.Read told) less h = fault_back a m path 0 (fault.Read told) less.says h
+shape_back a m path (fault.Write told) less h = fault_back a m path 0 (fault.Write told) less.says h
+shape_back a m path (fault.InUse told) less h = fault_back a m path 0 (fault.InUse told) less.says h
+shape_back a m path (fault.Exists told) less h = fault_back a m path 0 (fault.Exists told) less.says h
+shape_back a m path (fault.Length told found due) less h = fault_back a m path 0 (fault.Length told found due) less.says h
+shape_back a m path fault.OutOfMemory less h = fault_back a m path 0 fault.OutOfMemory less.says h
+shape_back a m path why less h = absurd h
+
+-- with the answers that it had once it was locked
+module _ (a m t : Answers) (path : Bor (List ℕ)) (text : DiskText) (less : AnswersNoMore a m) (same : t ≡ m) (at : IsTextAt m path.now text) where
+  pub not_opened : (f : FileFault) (wanted : ℕ) (told : DiskFault) → t.fails path.now f → wanted ≡ file_bytes text.shape → told ≡ told_at f path wanted → IsNotAt a path.now told
+  not_opened f wanted told fails bytes is =
+      no_file a f path wanted text told (text_back a m path.now text less at) (less.says.fails path.now f (subst (λ x. x.fails path.now f) same fails)) bytes is
+
+  pub was_opened : {S : Type 0} (held : S → Held) (honest : S → Bool) (store : S) → t.holds path.now (held store) → (held store).geometry ≡ text.shape.geometry → honest store ≡ t.honest
+      → IsStoreAt held honest a path.now text store
+  was_opened held honest store holds geometry is = record {
+    text = text_back a m path.now text less at;
+    holds = less.holds path.now (held store) (subst (λ x. x.holds path.now (held store)) same holds);
+    geometry = geometry;
+    is_honest = subst (λ x. honest store ≡ x.honest) same is ∙ less.honest;
+  }
+
+-- what says no more than what says no more
+pub no_more_then : (a m t n : Answers) → AnswersNoMore a m → t ≡ m → SaysNoMore t n → SaysNoMore a n
+no_more_then a m t n less same more =
+    let then : SaysNoMore m n = subst (λ x. SaysNoMore x n) same more in
+    record {
+      marks = λ path text h. less.says.marks path text (then.marks path text h);
+      lists = λ path text h. less.says.lists path text (then.lists path text h);
+      fails = λ path f h. less.says.fails path f (then.fails path f h);
+    }
+
 -- a growth was refused
 pub no_memory : {S : Type 0} (held : S → Held) (honest : S → Bool) (failed : S → ℕ) (a : Answers) (path : List ℕ) → IsUnlookedAt held honest failed a path fault.OutOfMemory
-no_memory held honest failed a path = inl (inr tt)
+no_memory held honest failed a path = inr (inl tt)
 
 take_append : (xs ys : List Bool) → take (length xs) (xs ++ ys) ≡ xs
 take_append [] ys = refl

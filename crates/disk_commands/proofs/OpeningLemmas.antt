@@ -1,6 +1,5 @@
 -- How a fault of a file is told.
 use Rattle.std.proofs.Common.{◌≡◌, ◌*◌, inl, inr, ℕ, Bool, List, refl, subst, sym}
-use Rattle.page_layout.specs.Geometry.{page_bytes, row_count}
 use Rattle.std.specs.Borrow.{Bor}
 use Rattle.disk_commands.specs.declared.files.FileFault.{FileFault}
 use Rattle.disk_commands.specs.declared.files.FileFault.TheVariants as file
@@ -9,7 +8,7 @@ use Rattle.disk_commands.specs.declared.text.DiskFault.TheVariants as fault
 use Rattle.disk_commands.specs.Files.{Answers, FailsCopy}
 use Rattle.file_die.specs.Store.{Held}
 use Rattle.disk_commands.specs.declared.shape_text.DiskText.{DiskText}
-use Rattle.disk_commands.specs.Opening.{IsCopyFault, IsFaultAt, IsNotAt, IsNotFree, IsShapeFault, IsStoreAt, IsTextAt, told_at, told_of_copy}
+use Rattle.disk_commands.specs.Opening.{file_bytes, IsCopyFault, IsFaultAt, IsNotAt, IsNotFree, IsShapeFault, IsStoreAt, IsTextAt, told_at, told_of_copy}
 
 pub fault_at : (a : Answers) (f : FileFault) (path : Bor (List ℕ)) (wanted : ℕ) → a.fails path.now f → IsFaultAt a path.now wanted (told_at f path wanted)
 fault_at a file.Read path wanted h = (refl, h)
@@ -52,23 +51,11 @@ pub not_locked : (a : Answers) (f : FileFault) (path : Bor (List ℕ)) (told : D
 not_locked a f path told fails is = inl (subst (IsShapeFault a path.now) (sym is) (shape_fault a f path fails))
 
 -- or its file not opened, whose shape is told
-pub no_file : (a b : Answers) (f : FileFault) (path : Bor (List ℕ)) (wanted : ℕ) (text : DiskText) (told : DiskFault)
-    → b ≡ a → IsTextAt b path.now text → b.fails path.now f → wanted ≡ row_count text.shape.geometry * page_bytes text.shape.geometry → told ≡ told_at f path wanted → IsNotAt a path.now told
-no_file a b f path wanted text told same at fails bytes is =
-    let its : IsFaultAt b path.now wanted told = subst (IsFaultAt b path.now wanted) (sym is) (fault_at b f path wanted fails) in
-    inr (
-      text,
-      subst (λ x. IsTextAt x path.now text) same at,
-      subst (λ x. IsFaultAt x path.now (row_count text.shape.geometry * page_bytes text.shape.geometry) told) same
-          (subst (λ n. IsFaultAt b path.now n told) bytes its),
-    )
+pub no_file : (a : Answers) (f : FileFault) (path : Bor (List ℕ)) (wanted : ℕ) (text : DiskText) (told : DiskFault)
+    → IsTextAt a path.now text → a.fails path.now f → wanted ≡ file_bytes text.shape → told ≡ told_at f path wanted → IsNotAt a path.now told
+no_file a f path wanted text told at fails bytes is =
+    inr (text, at, subst (λ n. IsFaultAt a path.now n told) bytes (subst (IsFaultAt a path.now wanted) (sym is) (fault_at a f path wanted fails)))
 
 -- a call that names the path failed
 pub told_fault : (a : Answers) (f : FileFault) (path : Bor (List ℕ)) (wanted : ℕ) (told : DiskFault) → a.fails path.now f → told ≡ told_at f path wanted → IsFaultAt a path.now wanted told
 told_fault a f path wanted told fails is = subst (IsFaultAt a path.now wanted) (sym is) (fault_at a f path wanted fails)
-
--- what holds of a store that was opened
-pub store_at : {S : Type 0} (held : S → Held) (honest : S → Bool) (a b : Answers) (path : List ℕ) (text : DiskText) (store : S)
-    → b ≡ a → IsTextAt b path text → b.holds path (held store) → (held store).geometry ≡ text.shape.geometry → honest store ≡ b.honest → IsStoreAt held honest a path text store
-store_at held honest a b path text store same at holds geometry is =
-    record { text = subst (λ x. IsTextAt x path text) same at; holds = subst (λ x. x.holds path (held store)) same holds; geometry = geometry; is_honest = subst (λ x. honest store ≡ x.honest) same is }

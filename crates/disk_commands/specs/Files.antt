@@ -44,6 +44,13 @@ pub record SaysNoMore (old new : Answers) : Type 0 where
   pub lists : (path text : List ℕ) → new.lists path text → old.lists path text
   pub fails : FailsNoMore old new
 
+-- nor anything else
+pub record AnswersNoMore (old new : Answers) : Type 0 where
+  pub tells : (path text : List ℕ) → new.tells path text → old.tells path text
+  pub holds : (path : List ℕ) (held : Held) → new.holds path held → old.holds path held
+  pub honest : new.honest ≡ old.honest
+  pub says : SaysNoMore old new
+
 -- how a copy of a dump may fail that is made beside a path: for the dump, or for what is made
 abbrev pub FailsCopy : Answers → (path dump : List ℕ) → FileFault → Type 0
 FailsCopy a path dump file.Read = a.fails dump file.Read

@@ -34,7 +34,7 @@ pub enum FileFault {
 pub trait DiskFiles {
     ghost use Rattle.std.specs.Prelude.{◌≡◌, true, List, Option, option_map, IfOk, IfErr};
     ghost use Rattle.file_die.specs.Store.{blank};
-    ghost use Rattle.disk_commands.specs.Files.{Answers, FailsCopy, FailsNoMore, Kept, Opened, SaysNoMore, kept_after, with_mark, with_opened};
+    ghost use Rattle.disk_commands.specs.Files.{Answers, AnswersNoMore, FailsCopy, FailsNoMore, Kept, Opened, SaysNoMore, kept_after, with_mark, with_opened};
 
     /// The file of a die, open and locked: while it is there no other program opens or makes the disk.
     type Locked: Drop;
@@ -74,7 +74,7 @@ pub trait DiskFiles {
     /// One that these files may answer of the path: `InUse` where it is locked. The disks in their places are as they were.
     fn lock(&mut self, path: &str, writes: bool) -> Result<Self::Locked, FileFault>
         ensures failed { IfErr result ((answers self.old).fails path.now) }
-        ensures answers { answers self.new ≡ answers self.old }
+        ensures no_more { AnswersNoMore (answers self.old) (answers self.new) }
         ensures opened { opened self.new ≡ with_opened (opened self.old) path.now writes }
         ensures kept { kept self.new ≡ kept self.old };
 
