@@ -11,6 +11,6 @@ returns-in-Ok-new-clause-ok g c = record {
   certificate = _;
   list = c.in-Ok.looked.lost.items;
   looked = c.in-Ok.ensures.ok;
-  is = c.in-Ok-new.ensures ∙ ap (info_of c.in-Ok.looked.told.shape c.in-Ok.looked.certificate) c.mended.ensures;
+  is = c.in-Ok-new.ensures ∙ ap (info_of c.in-Ok.looked.told.shape c.in-Ok.looked.certificate) c.mended-mended.ensures;
   lost_are = c.in-Ok-numbers_of.ensures ∙ ap listed_sectors c.deref.ensures.value;
 }

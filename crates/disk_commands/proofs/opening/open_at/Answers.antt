@@ -14,7 +14,7 @@ returns-in-Err-text_at-clause-fault g c =
 pub returns-in-Err-open-clause-fault : goal.returns-in-Err-open-clause-fault
 returns-in-Err-open-clause-fault g c =
     not_opened (g.F.DiskFiles.answers c.args.files.now) (g.F.DiskFiles.answers c.lock.new.self) (g.F.DiskFiles.answers c.text_at.new.files) c.args.path c.in-Ok-text_at.told c.in-Ok.ensures.no_more
-    (ap g.F.DiskFiles.answers c.in-Ok-text_at.ensures.same) c.in-Ok-text_at.ensures.ok c.in-Err-open.fault _ c.told_at.result c.in-Err-open.ensures.failed c.die_bytes.ensures c.told_at.ensures
+    (ap g.F.DiskFiles.answers c.in-Ok-text_at.ensures.same) c.in-Ok-text_at.ensures.ok c.in-Err-open.fault _ c.told_at-in-Err-open.result c.in-Err-open.ensures.failed c.die_bytes.ensures c.told_at-in-Err-open.ensures
 
 pub returns-in-Ok-open-clause-ok : goal.returns-in-Ok-open-clause-ok
 returns-in-Ok-open-clause-ok g c =

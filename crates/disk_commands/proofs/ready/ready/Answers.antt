@@ -74,7 +74,7 @@ returns-in-Ok-guarded-clause-ok g c = record {
         bytes = c.in-Ok-disk_of.ensures.bytes;
         keeps = λ writes marked. c.in-Ok-keep_mark_of.ensures.marked writes marked ∙ ap (λ n. after_sync n false c.in-Ok.looked.found.mark) c.next_sequence-next.ensures;
       });
-  mended_is = search rules;
+  mended_is = c.mended-mended.ensures;
   none_failed = c.in-Ok-guarded.ensures.failed;
   lasts = λ writes. subst (λ v. KeepsIfAny g.F.Lists.KeepsLost.kept v.items c.in-Ok-guarded.disk.keeper) (sym c.in-Ok-guarded.ensures.lost)
       (subst (λ k. KeepsIfAny g.F.Lists.KeepsLost.kept c.in-Ok.looked.lost.items k) (sym c.in-Ok-guarded.ensures.keeper)
