@@ -6,7 +6,7 @@ Usage: disk_kill.py NANDDISK [ROUNDS [SEED]]
 Three disks in turn, with pages of 64, 512 and 4,096 bytes, each small enough that its blocks are collected all the time. In each round a client of libnbd reads, writes, trims and flushes at random, several
 requests at a time, until the server is killed by `kill -9`. Then the disk is served again, and each of its sectors is read: one whose last change was answered is
 as that left it; one whose change was not answered is as before or as that was to leave it, byte by byte. Then the disk takes a write and a flush, and `info` tells as many bad blocks
-as before, none. In some rounds the slot of the mark that was written last is torn.
+as before, none. In some rounds the slot of the mark that was written last is torn. With CODE=hamming in the environment the disks keep a code.
 
 Asks for Debian's python3-libnbd, which is for the system's Python."""
 
@@ -220,7 +220,7 @@ def told_of(program, path):
 def rounds_over(program, folder, sector, geometry, rounds, draw):
     """So many rounds over a disk of a shape. How many requests were answered, how many marks torn, and what is told of the disk then."""
     path = os.path.join(folder, f"disk{sector}.nand")
-    subprocess.run([program, "create", "--geometry", geometry, path], check=True, stdout=subprocess.DEVNULL)
+    subprocess.run([program, "create", "--code", os.environ.get("CODE", "none"), "--geometry", geometry, path], check=True, stdout=subprocess.DEVNULL)
     disk = Disk(sector, int(geometry.split(",")[4]))
     answered = torn = 0
     for number in range(rounds):

@@ -15,6 +15,8 @@ Of each `nanddisk serve` is asked for all bytes (every one, and of the cuts each
 one at hand was to. After a loss each sector is as at the last sync, or as one of the requests since left it; and a flush or a durable write that was answered before the sync has lost
 nothing. With `--sync always` a lost file is as a torn one. After each the disk takes writes, and no block is bad.
 
+With CODE=hamming in the environment the disks keep a code.
+
 Asks for Debian's strace and python3-libnbd, which is for the system's Python."""
 
 import json
@@ -316,7 +318,7 @@ def losses(program, folder, run, draw, always, each):
 def noted(program, shape, folder, requests, draw, words, **how):
     """A run over a new disk, with all its writes and replies."""
     path, log = os.path.join(folder, "disk.nand"), os.path.join(folder, "log")
-    subprocess.run([program, "create", "--geometry", shape.words, path], check=True, stdout=subprocess.DEVNULL)
+    subprocess.run([program, "create", "--code", os.environ.get("CODE", "none"), "--geometry", shape.words, path], check=True, stdout=subprocess.DEVNULL)
     image = open(path, "rb").read()
     os.link(path + ".json", os.path.join(folder, "cut.nand.json"))
     sent = run(program, shape, path, log, requests, draw, words, **how)

@@ -9,6 +9,7 @@ _nanddisk()
     fi
     case "$before" in
         --cache) return ;;
+        --code) return ;;
         --from) compopt -o filenames; mapfile -t COMPREPLY < <(compgen -f -- "$word"); return ;;
         --geometry) return ;;
         --size) return ;;
@@ -16,7 +17,7 @@ _nanddisk()
     esac
     if [[ "$word" == -* ]]; then
         case "${COMP_WORDS[1]}" in
-            create) mapfile -t COMPREPLY < <(compgen -W "--size --geometry --from --cache --help" -- "$word") ;;
+            create) mapfile -t COMPREPLY < <(compgen -W "--size --geometry --from --cache --code --help" -- "$word") ;;
             serve) mapfile -t COMPREPLY < <(compgen -W "--read-only --sync --help" -- "$word") ;;
             info) mapfile -t COMPREPLY < <(compgen -W "--json --help" -- "$word") ;;
             check) mapfile -t COMPREPLY < <(compgen -W "--json --help" -- "$word") ;;

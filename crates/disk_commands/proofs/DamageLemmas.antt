@@ -25,9 +25,8 @@ use Rattle.disk_commands.specs.declared.text.DiskFault.TheVariants as fault
 use Rattle.disk_commands.specs.Damage.{IsListAt, IsListBy, IsLookedAt, IsNoListAt, IsUnlookedAt}
 use Rattle.disk_commands.specs.declared.files.FileFault.{FileFault}
 use Rattle.disk_commands.specs.Files.{Answers, AnswersNoMore, SaysNoMore}
-use Rattle.disk_commands.specs.Opening.{IsFaultAt, IsMarkAt, IsNotAt, IsShapeFault, IsStoreAt, IsTextAt, told_at}
+use Rattle.disk_commands.specs.Opening.{file_bytes, IsFaultAt, IsMarkAt, IsNotAt, IsShapeFault, IsStoreAt, IsTextAt, told_at}
 use Rattle.disk_commands.proofs.OpeningLemmas.{no_file}
-use Rattle.page_layout.specs.Geometry.{page_bytes, row_count}
 
 pub mark_back : (a b : Answers) (path : List ℕ) (marked : Bool) (found : FoundMark) → SaysNoMore a b → IsMarkAt b path marked found → IsMarkAt a path marked found
 mark_back a b path true found less h = (h.0, less.marks path h.0 h.1, h.2)
@@ -82,7 +81,7 @@ shape_back a m path why less h = absurd h
 
 -- with the answers that it had once it was locked
 module _ (a m t : Answers) (path : Bor (List ℕ)) (text : DiskText) (less : AnswersNoMore a m) (same : t ≡ m) (at : IsTextAt m path.now text) where
-  pub not_opened : (f : FileFault) (wanted : ℕ) (told : DiskFault) → t.fails path.now f → wanted ≡ row_count text.shape.geometry * page_bytes text.shape.geometry → told ≡ told_at f path wanted → IsNotAt a path.now told
+  pub not_opened : (f : FileFault) (wanted : ℕ) (told : DiskFault) → t.fails path.now f → wanted ≡ file_bytes text.shape → told ≡ told_at f path wanted → IsNotAt a path.now told
   not_opened f wanted told fails bytes is =
       no_file a f path wanted text told (text_back a m path.now text less at) (less.says.fails path.now f (subst (λ x. x.fails path.now f) same fails)) bytes is
 

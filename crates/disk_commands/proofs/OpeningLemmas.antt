@@ -1,13 +1,12 @@
 -- How a fault of a file is told.
-use Rattle.std.proofs.Common.{◌≡◌, ◌*◌, inl, inr, ℕ, List, refl, subst, sym}
-use Rattle.page_layout.specs.Geometry.{page_bytes, row_count}
+use Rattle.std.proofs.Common.{◌≡◌, ◌*◌, inl, inr, ℕ, Bool, List, refl, subst, sym}
 use Rattle.std.specs.Borrow.{Bor}
 use Rattle.disk_commands.specs.declared.files.FileFault.{FileFault}
 use Rattle.disk_commands.specs.declared.files.FileFault.TheVariants as file
 use Rattle.disk_commands.specs.declared.text.DiskFault.{DiskFault}
 use Rattle.disk_commands.specs.Files.{Answers, FailsCopy}
 use Rattle.disk_commands.specs.declared.shape_text.DiskText.{DiskText}
-use Rattle.disk_commands.specs.Opening.{IsCopyFault, IsFaultAt, IsNotAt, IsNotFree, IsShapeFault, IsTextAt, told_at, told_of_copy}
+use Rattle.disk_commands.specs.Opening.{file_bytes, IsCopyFault, IsFaultAt, IsNotAt, IsNotFree, IsShapeFault, IsStoreAt, IsTextAt, told_at, told_of_copy}
 
 pub fault_at : (a : Answers) (f : FileFault) (path : Bor (List ℕ)) (wanted : ℕ) → a.fails path.now f → IsFaultAt a path.now wanted (told_at f path wanted)
 fault_at a file.Read path wanted h = (refl, h)
@@ -51,7 +50,7 @@ not_locked a f path told fails is = inl (subst (IsShapeFault a path.now) (sym is
 
 -- or its file not opened, whose shape is told
 pub no_file : (a : Answers) (f : FileFault) (path : Bor (List ℕ)) (wanted : ℕ) (text : DiskText) (told : DiskFault)
-    → IsTextAt a path.now text → a.fails path.now f → wanted ≡ row_count text.shape.geometry * page_bytes text.shape.geometry → told ≡ told_at f path wanted → IsNotAt a path.now told
+    → IsTextAt a path.now text → a.fails path.now f → wanted ≡ file_bytes text.shape → told ≡ told_at f path wanted → IsNotAt a path.now told
 no_file a f path wanted text told at fails bytes is =
     inr (text, at, subst (λ n. IsFaultAt a path.now n told) bytes (subst (IsFaultAt a path.now wanted) (sym is) (fault_at a f path wanted fails)))
 

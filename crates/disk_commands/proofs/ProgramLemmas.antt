@@ -3,6 +3,7 @@ use Rattle.std.proofs.Common.{◌≡◌, ℕ, Bool, List}
 use Rattle.std.specs.Prelude.{Result, Ok, Err, OnOk, OnErr, IfErr}
 use Rattle.std.specs.Io.KnownBytes.{Appends}
 use Rattle.file_die.specs.Store.{Held}
+use Rattle.coded_store.specs.declared.coded.Mended.{Mended}
 use Rattle.disk_commands.specs.declared.words.CreateWords.{CreateWords}
 use Rattle.disk_commands.specs.declared.words.InfoWords.{InfoWords}
 use Rattle.disk_commands.specs.declared.text.DiskFault.{DiskFault}
@@ -18,10 +19,10 @@ pub creates : {S : Type 0} (held : S → Held) (honest : S → Bool) (failed : S
 creates held honest failed a words old new (Ok done) made fault kept = made
 creates held honest failed a words old new (Err told) made fault kept = (fault, kept)
 
-pub tells : {S : Type 0} (held : S → Held) (honest : S → Bool) (failed : S → ℕ) (a : Answers) (words : InfoWords) (old new : Around) (result : Result (Unit {0}) DiskFault)
-    → OnOk result (HasTold held honest a words old.out new.out) → IfErr result (IsUntold held honest failed a words old.out new.out) → Tells held honest failed a words old new result
-tells held honest failed a words old new (Ok done) printed fault = printed
-tells held honest failed a words old new (Err told) printed fault = fault
+pub tells : {S : Type 0} (held : S → Held) (honest : S → Bool) (mended : S → Mended) (failed : S → ℕ) (a : Answers) (words : InfoWords) (old new : Around) (result : Result (Unit {0}) DiskFault)
+    → OnOk result (HasTold held honest mended a words old.out new.out) → IfErr result (IsUntold held honest failed a words old.out new.out) → Tells held honest mended failed a words old new result
+tells held honest mended failed a words old new (Ok done) printed fault = printed
+tells held honest mended failed a words old new (Err told) printed fault = fault
 
 pub checks : {S : Type 0} (held : S → Held) (honest : S → Bool) (failed : S → ℕ) (a : Answers) (words : InfoWords) (old new : Around) (result : Result (Unit {0}) DiskFault)
     → OnOk result (HasChecked held honest a words 0 old.out new.out) → IfErr result (IsUnclean held honest failed a words old.out new.out) → Checks held honest failed a words old new result

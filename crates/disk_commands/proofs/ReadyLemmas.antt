@@ -4,6 +4,7 @@ use Rattle.std.specs.Io.KnownBytes.{Keeps}
 use Rattle.onfi_cycles.specs.Driver.{DriverState}
 use Rattle.certificate.specs.Claim.{Claim}
 use Rattle.file_die.specs.Store.{Held}
+use Rattle.coded_store.specs.declared.coded.Mended.{Mended}
 use Rattle.file_die.specs.Die.{FileState}
 use Rattle.ftl_device.specs.declared.device.Device.{Device}
 use Rattle.disk_server.specs.Disk.{contents_of, holds, takes_changes}
@@ -17,7 +18,7 @@ use Rattle.disk_commands.specs.declared.shape_text.DiskText.{DiskText}
 use Rattle.disk_commands.specs.declared.text.DiskFault.{DiskFault}
 use Rattle.disk_commands.specs.declared.text.DiskFault.TheVariants as fault
 use Rattle.disk_commands.specs.declared.words.ServeWords.{ServeWords}
-use Rattle.disk_commands.specs.Damage.{IsLookedAt, Names}
+use Rattle.disk_commands.specs.Damage.{IsLookedAt, NamesAll}
 use Rattle.disk_commands.specs.Files.{Answers, Opened, Opens, OpensMarked, SaysNoMore, with_mark, with_opened}
 use Rattle.disk_commands.specs.Guard.{IsUnlistedAt}
 use Rattle.disk_commands.specs.Opening.{IsUnkeptAt}
@@ -58,24 +59,25 @@ unkept_by false missed a b path why less h = unkept_back missed a b path why les
 -- ---- the command
 
 -- it was served, or memory for its requests was refused
-pub served_at : {S Y K : Type 0} (held : S → Held) (honest : S → Bool) (failed : S → ℕ) (synced missed : Y → ℕ) (marked : Y → Mark) (kept : K → List Bool) (unlisted : K → ℕ) (a : Answers) (words : ServeWords) (told : DiskText)
+pub served_at : {S Y K : Type 0} (held : S → Held) (honest : S → Bool) (mended_in : S → Mended) (failed : S → ℕ) (synced missed : Y → ℕ) (marked : Y → Mark) (kept : K → List Bool) (unlisted : K → ℕ) (a : Answers) (words : ServeWords) (told : DiskText) (mended : Mended)
     (disk : GuardedSectors (Device (DriverState (FileState S))) K) (syncs : Y) (terms : Terms) (unread left before after telling told_after : Option (List ℕ)) (result : Result (Unit {0}) DiskFault)
-    → IsReadyAt held honest marked kept a words.disk.now words.read_only told disk syncs → Names disk.lost.items telling told_after → terms ≡ terms_of told.shape words.read_only
+    → IsReadyAt held honest mended_in marked kept a words.disk.now words.read_only told mended disk syncs → NamesAll disk.lost.items told.shape.code mended telling told_after → terms ≡ terms_of told.shape words.read_only
     → HasServedOn (shown (contents_of (flash_in held) (is_honest_in honest)) (λ d. d.engine.geometry.data_bytes)) (λ d. holds (is_honest_in honest) d.sectors) (RestsGuarded (rests_in held honest)) (ReadsGuarded (reads_in held honest))
     (λ d. d.sectors.engine.next) (λ d. takes_changes d.sectors) synced marked terms words.disk disk syncs unread left before after result
     ⊎ ((result ≡ Err fault.OutOfMemory) × Keeps before after)
-    → HasServedAt held honest synced marked kept a words unread left before after telling told_after result ⊎ HasNotServed held honest failed missed kept unlisted a words before after telling told_after result
-served_at held honest failed synced missed marked kept unlisted a words told disk syncs terms unread left before after telling told_after result at named is (inl h) =
+    → HasServedAt held honest mended_in synced marked kept a words unread left before after telling told_after result ⊎ HasNotServed held honest failed missed kept unlisted a words before after telling told_after result
+served_at held honest mended_in failed synced missed marked kept unlisted a words told mended disk syncs terms unread left before after telling told_after result at named is (inl h) =
     inl (record {
       told = told;
       disk = disk;
       syncs = syncs;
+      mended = mended;
       at = at;
       named = named;
       served = subst (λ t. HasServedOn (shown (contents_of (flash_in held) (is_honest_in honest)) (λ d. d.engine.geometry.data_bytes)) (λ d. holds (is_honest_in honest) d.sectors) (RestsGuarded (rests_in held honest)) (ReadsGuarded (reads_in held honest))
           (λ d. d.sectors.engine.next) (λ d. takes_changes d.sectors) synced marked t words.disk disk syncs unread left before after result) is h;
     })
-served_at held honest failed synced missed marked kept unlisted a words told disk syncs terms unread left before after telling told_after result at named is (inr h) =
+served_at held honest mended_in failed synced missed marked kept unlisted a words told mended disk syncs terms unread left before after telling told_after result at named is (inr h) =
     inr (record { told = fault.OutOfMemory; is = h.0; why = inr (inr (inr tt)); silent = h.1; unnamed = inr tt })
 
 -- the same list

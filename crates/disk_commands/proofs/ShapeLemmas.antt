@@ -9,6 +9,7 @@ use Rattle.std.proofs.lemmas.Grind.{div_ceil_times}
 use Rattle.page_layout.specs.declared.geometry.Geometry.{Geometry}
 use Rattle.page_layout.specs.Limits.{IsPageCount, IsWithinLimits}
 use Rattle.page_layout.specs.Geometry.{need}
+use Rattle.disk_commands.specs.declared.shapes.Code.TheVariants.{Plain}
 use Rattle.disk_commands.specs.declared.shapes.Shape.{Shape}
 use Rattle.disk_commands.specs.declared.shapes.SizeFault.{SizeFault}
 use Rattle.disk_commands.specs.declared.shapes.SizeFault.TheVariants.{Zero, TooLarge}
@@ -190,8 +191,8 @@ no_die bytes TooLarge over p known g is =
 
 -- ---- the shape
 
-pub shaped : (bytes s p b spare : ℕ) (shape : Shape) → s ≡ div_ceil bytes 4096 → spare ≡ div_ceil b 20 → IsPagesFor s p → IsLeast p s b → IsDie p (b + spare) s shape.geometry → shape.cache ≡ cache_of shape.geometry → IsShapeFor bytes shape
-shaped bytes s p b spare shape s_is spare_is its least die cache =
+pub shaped : (bytes s p b spare : ℕ) (shape : Shape) → s ≡ div_ceil bytes 4096 → spare ≡ div_ceil b 20 → IsPagesFor s p → IsLeast p s b → IsDie p (b + spare) s shape.geometry → shape.cache ≡ cache_of shape.geometry → shape.code ≡ Plain → IsShapeFor bytes shape
+shaped bytes s p b spare shape s_is spare_is its least die cache code =
     let g = shape.geometry in
     let same : p ≡ g.pages = sym die.pages_is in
     let fewest : (fewer : ℕ) → IsPages fewer → fewer < p → (h : Geometry) → ¬ IsDieFor fewer s h = λ fewer known less h. no_fewer p s fewer h its known less in
@@ -202,4 +203,5 @@ shaped bytes s p b spare shape s_is spare_is its least die cache =
       die = subst (λ n. IsDieFor n (div_ceil bytes 4096) g) same (subst (λ n. IsDieFor p n g) s_is die_is);
       fewest = subst (λ n. (fewer : ℕ) → IsPages fewer → fewer < n → (h : Geometry) → ¬ IsDieFor fewer (div_ceil bytes 4096) h) same (subst (λ n. (fewer : ℕ) → IsPages fewer → fewer < p → (h : Geometry) → ¬ IsDieFor fewer n h) s_is fewest);
       cache = cache;
+      code = code;
     }

@@ -3,6 +3,7 @@ use Rattle.std.specs.Prelude.{◌≡◌, ◌⊎◌, ℕ, List, Option, Some, Non
 use Rattle.std.specs.Borrow.{Bor}
 use Rattle.page_layout.specs.declared.geometry.Geometry.{Geometry}
 use Rattle.command_words.specs.Numbers.{number_of}
+use Rattle.disk_commands.specs.declared.shapes.Code.TheVariants.{Plain}
 use Rattle.disk_commands.specs.declared.shapes.Shape.{Shape}
 use Rattle.disk_commands.specs.declared.shape_words.GeometryWordFault.TheVariants as word
 use Rattle.disk_commands.specs.Shapes.{IsNoSize, IsShapeFor, cache_of}
@@ -19,7 +20,7 @@ use Rattle.disk_commands.specs.declared.text.DiskFault.TheVariants as fault
 
 -- the geometry of the shape for the size that a word says
 abbrev pub IsGeometryFor : List ℕ → Geometry → Type 0
-IsGeometryFor word g = (bytes : ℕ) × SpellsSize word bytes × IsShapeFor bytes (record { geometry = g; cache = cache_of g })
+IsGeometryFor word g = (bytes : ℕ) × SpellsSize word bytes × IsShapeFor bytes (record { geometry = g; cache = cache_of g; code = Plain })
 
 -- the geometry that is named, or the one for the size
 abbrev pub IsGeometryAsked : MakeWords → Geometry → Type 0
@@ -37,7 +38,7 @@ IsCacheAsked None g cache = cache ≡ cache_of g
 IsCacheAsked (Some word) g cache = IsCacheAt word.now cache
 
 abbrev pub IsShapeAsked : CreateWords → Shape → Type 0
-IsShapeAsked words s = IsGeometryAsked words.make s.geometry × IsCacheAsked words.cache s.geometry s.cache
+IsShapeAsked words s = IsGeometryAsked words.make s.geometry × IsCacheAsked words.cache s.geometry s.cache × (s.code ≡ words.code)
 
 -- ---- why there is none
 

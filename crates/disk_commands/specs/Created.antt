@@ -1,7 +1,8 @@
 -- A disk that was created.
-use Rattle.std.specs.Prelude.{◌≡◌, ◌⊎◌, ℕ, Bool, true, false, List, Option}
+use Rattle.std.specs.Prelude.{◌≡◌, ◌⊎◌, ◌*◌, ℕ, Bool, true, false, List, Option}
 use Rattle.std.specs.Borrow.{Bor}
 use Rattle.page_layout.specs.declared.geometry.Geometry.{Geometry}
+use Rattle.page_layout.specs.Geometry.{page_bytes, row_count}
 use Rattle.file_die.specs.Store.{Held, blank}
 use Rattle.image_check.specs.declared.refusal.Refusal.TheVariants.{TooStale}
 use Rattle.certificate.specs.Claim.{Claim}
@@ -78,7 +79,7 @@ IsUnformatted held honest failed a path g told = IsFaultAt a path 0 told
 abbrev pub IsNoDump : {S : Type 0} → (S → Held) → (honest : S → Bool) → (failed : S → ℕ) → Answers → (path dump : List ℕ) → Shape → DiskFault → Type 0
 IsNoDump {S} held honest failed a path dump shape (fault.Open told why) =
     (told.now ≡ dump) × ((store given : S) × a.holds dump (held store) × ((held store).geometry ≡ shape.geometry) × IsUnopened held honest failed store shape.cache given why)
-IsNoDump held honest failed a path dump shape told = (wanted : ℕ) × IsCopyFault a path dump wanted told
+IsNoDump held honest failed a path dump shape told = IsCopyFault a path dump (row_count shape.geometry * page_bytes shape.geometry) told
 
 abbrev pub IsUnmadeFor : {S : Type 0} → (S → Held) → (honest : S → Bool) → (failed : S → ℕ) → Answers → (path : List ℕ) → MakeWords → Shape → DiskFault → Type 0
 IsUnmadeFor held honest failed a path (make.Size word) shape told = IsUnformatted held honest failed a path shape.geometry told

@@ -1,9 +1,11 @@
 -- WHAT IS LOST OF THE DISK AT A PATH: the list beside it, and what its pages show.
-use Rattle.std.specs.Prelude.{◌≡◌, ◌≢◌, ◌⊎◌, ℕ, Bool, true, false, List, [], ◌∷◌, replicate, Option}
+use Rattle.std.specs.Prelude.{◌≡◌, ◌≢◌, ◌⊎◌, ℕ, ◌≤◌, nat_le, ◌==◌, ◌&&◌, Bool, true, false, List, [], ◌∷◌, length, replicate, sum_by, Option, if◌then◌else◌}
 use Rattle.std.specs.Borrow.{Bor}
 use Rattle.std.specs.Io.KnownBytes.{Appends}
 use Rattle.certificate.specs.Claim.{Claim}
 use Rattle.file_die.specs.Store.{Held}
+use Rattle.coded_store.specs.declared.coded.Mended.{Mended}
+use Rattle.disk_commands.specs.declared.shapes.Code.{Code}
 use Rattle.mount.specs.Mounted.{IsMounted}
 use Rattle.lost_sectors.specs.Lost.{Adds, DropsNone, is_lost}
 use Rattle.disk_damage.specs.declared.list_text.ListFault.{ListFault}
@@ -19,7 +21,7 @@ use Rattle.disk_commands.specs.declared.shape_text.DiskText.{DiskText}
 use Rattle.disk_commands.specs.declared.text.DiskFault.{DiskFault}
 use Rattle.disk_commands.specs.declared.text.DiskFault.TheVariants as fault
 use Rattle.disk_commands.specs.Files.{Answers}
-use Rattle.disk_commands.specs.Info.{lost_lines}
+use Rattle.disk_commands.specs.Info.{lost_lines, mended_lines}
 use Rattle.disk_commands.specs.Opening.{IsMarkAt, IsNotAt, IsStoreAt, IsTextAt}
 
 -- ---- the list beside a disk
@@ -90,3 +92,14 @@ named_text (n ∷ ns) = lost_lines (n ∷ ns)
 -- THE LOST SECTORS WERE NAMED
 abbrev pub Names : (lost : List Bool) → (before after : Option (List ℕ)) → Type 0
 Names lost before after = Appends before after (named_text (listed_sectors lost))
+
+-- WHAT WAS WRONG WITH ITS PAGES WAS TOLD: nothing where nothing was, or where they have no code
+abbrev pub told_mended : Code → Mended → List ℕ
+told_mended code mended = if mended.turned == 0 && mended.lost == 0 then [] else mended_lines code mended
+
+abbrev pub NamesMended : Code → Mended → (before after : Option (List ℕ)) → Type 0
+NamesMended code mended before after = Appends before after (told_mended code mended)
+
+-- both, one after the other
+abbrev pub NamesAll : (lost : List Bool) → Code → Mended → (before after : Option (List ℕ)) → Type 0
+NamesAll lost code mended before after = (between : Option (List ℕ)) × Names lost before between × NamesMended code mended between after

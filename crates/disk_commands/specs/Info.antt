@@ -1,9 +1,12 @@
 -- What is told of a disk.
-use Rattle.std.specs.Prelude.{ℕ, ◌+◌, ◌-◌, ◌*◌, ◌^◌, ◌==◌, min, max, List, ◌++◌, codes, decimal, count_by, if◌then◌else◌, nat_le}
+use Rattle.std.specs.Prelude.{ℕ, ◌+◌, ◌-◌, ◌*◌, ◌^◌, ◌==◌, min, max, List, [], ◌++◌, codes, decimal, count_by, if◌then◌else◌, nat_le}
 use Rattle.std.specs.List.{fold}
 use Rattle.page_layout.specs.declared.geometry.Geometry.{Geometry}
 use Rattle.certificate.specs.declared.block_state.BlockState.{BlockState}
 use Rattle.certificate.specs.Claim.{Claim, is_good}
+use Rattle.coded_store.specs.declared.coded.Mended.{Mended}
+use Rattle.disk_commands.specs.declared.shapes.Code.{Code}
+use Rattle.disk_commands.specs.declared.shapes.Code.TheVariants.{Plain, Hamming}
 use Rattle.disk_commands.specs.declared.shapes.Shape.{Shape}
 use Rattle.disk_damage.specs.Numbers.{counted_lines, with_commas}
 use Rattle.disk_commands.specs.ShapeText.{geometry_words}
@@ -29,8 +32,8 @@ least_wear states = fold (λ least s. if is_good s then min s.wear least else le
 abbrev pub erase_sum : List BlockState → ℕ
 erase_sum states = fold (λ sum s. if is_good s then min (sum + s.wear) (2 ^ 64 - 1) else sum) 0 states
 
-abbrev pub info_of : Shape → Claim → Info
-info_of s c = record {
+abbrev pub info_of : Shape → Claim → Mended → Info
+info_of s c mended = record {
   shape = s;
   free = free_count c.blocks;
   bad = bad_count c.blocks;
@@ -38,6 +41,7 @@ info_of s c = record {
   most = most_wear c.blocks;
   erases = erase_sum c.blocks;
   next = c.next;
+  mended = mended;
 }
 
 -- ---- the text
@@ -58,12 +62,21 @@ wear_of i = codes "{\"least\":" ++ (decimal i.least ++ (codes ",\"most\":" ++ (d
 abbrev pub lost_lines : List ℕ → List ℕ
 lost_lines lost = counted_lines (codes "lost ") (codes "lost sector ") lost
 
+-- what was wrong with its pages, where they have a code: the bits that were turned back, and the pages that were lost
+abbrev pub mended_lines : Code → Mended → List ℕ
+mended_lines Plain mended = []
+mended_lines Hamming mended = codes "code hamming\nturned " ++ (decimal mended.turned ++ (codes "\nlost pages " ++ (decimal mended.lost ++ codes "\n")))
+
+abbrev pub mended_members : Code → Mended → List ℕ
+mended_members Plain mended = []
+mended_members Hamming mended = codes ",\"code\":\"hamming\",\"turned\":" ++ (decimal mended.turned ++ (codes ",\"lost_pages\":" ++ decimal mended.lost))
+
 -- with the numbers of the lost sectors, which stand so
 abbrev pub object_of : Info → (lost : List ℕ) → List ℕ
 object_of i lost =
     codes "{\"size\":" ++ (decimal (size_of i.shape.geometry) ++ (codes ",\"geometry\":\"" ++ (geometry_words i.shape.geometry ++ (codes "\",\"cache\":" ++ (decimal i.shape.cache
-    ++ (codes ",\"free\":" ++ (decimal i.free ++ (codes ",\"bad\":" ++ (decimal i.bad ++ (codes ",\"wear\":" ++ (wear_of i ++ (codes ",\"next\":" ++ (decimal i.next ++ (codes ",\"lost\":[" ++ (lost ++ codes "]}\n")))))))))))))))
+    ++ (codes ",\"free\":" ++ (decimal i.free ++ (codes ",\"bad\":" ++ (decimal i.bad ++ (codes ",\"wear\":" ++ (wear_of i ++ (codes ",\"next\":" ++ (decimal i.next ++ (codes ",\"lost\":[" ++ (lost ++ (codes "]" ++ (mended_members i.shape.code i.mended ++ codes "}\n")))))))))))))))))
 
 abbrev pub info_text : Form → Info → (lost : List ℕ) → List ℕ
-info_text Text i lost = lines_of i ++ lost_lines lost
+info_text Text i lost = lines_of i ++ (lost_lines lost ++ mended_lines i.shape.code i.mended)
 info_text Json i lost = object_of i (with_commas lost)

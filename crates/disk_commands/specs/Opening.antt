@@ -1,8 +1,13 @@
 -- The disk at a path: its shape, its die, and how a fault of its files is told.
 use Rattle.std.specs.Prelude.{◌≡◌, ◌⊎◌, ◌*◌, ℕ, Bool, true, false, List, Option}
 use Rattle.std.specs.Borrow.{Bor}
+use Rattle.page_layout.specs.declared.geometry.Geometry.{Geometry}
 use Rattle.page_layout.specs.Geometry.{page_bytes, row_count}
 use Rattle.page_layout.specs.Counter.{HasRisen}
+use Rattle.coded_store.specs.Reading.{coded_bytes}
+use Rattle.disk_commands.specs.declared.shapes.Code.{Code}
+use Rattle.disk_commands.specs.declared.shapes.Code.TheVariants.{Plain, Hamming}
+use Rattle.disk_commands.specs.declared.shapes.Shape.{Shape}
 use Rattle.file_die.specs.Store.{Held}
 use Rattle.disk_commands.specs.declared.shape_text.DiskText.{DiskText}
 use Rattle.disk_commands.specs.declared.mark.FoundMark.{FoundMark}
@@ -13,6 +18,16 @@ use Rattle.disk_commands.specs.declared.files.FileFault.TheVariants as file
 use Rattle.disk_commands.specs.declared.text.DiskFault.{DiskFault}
 use Rattle.disk_commands.specs.declared.text.DiskFault.TheVariants as fault
 use Rattle.disk_commands.specs.Files.{Answers}
+
+-- ---- its bytes
+
+-- those of all pages of its die, with their codes where it has a code
+abbrev pub page_in_file : Code → Geometry → ℕ
+page_in_file Plain g = page_bytes g
+page_in_file Hamming g = coded_bytes g
+
+abbrev pub file_bytes : Shape → ℕ
+file_bytes s = row_count s.geometry * page_in_file s.code s.geometry
 
 -- ---- a fault
 
@@ -84,7 +99,7 @@ pub record IsStoreAt {S : Type 0} (held : S → Held) (honest : S → Bool) (a :
 
 -- the file of the die was not opened: it has another number of bytes than the pages of the shape, or it failed
 abbrev pub IsNoFile : Answers → List ℕ → DiskFault → Type 0
-IsNoFile a path told = (text : DiskText) × IsTextAt a path text × IsFaultAt a path (row_count text.shape.geometry * page_bytes text.shape.geometry) told
+IsNoFile a path told = (text : DiskText) × IsTextAt a path text × IsFaultAt a path (file_bytes text.shape) told
 
 -- the files of the disk at a path were not opened: for its lock or its shape, or for its die
 abbrev pub IsNotAt : Answers → List ℕ → DiskFault → Type 0

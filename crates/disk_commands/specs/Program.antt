@@ -2,6 +2,7 @@
 use Rattle.std.specs.Prelude.{◌≡◌, ◌⊎◌, ℕ, Bool, false, not, List, Option, Result, Ok, Err, string_bytes}
 use Rattle.std.specs.Io.KnownBytes.{Appends}
 use Rattle.file_die.specs.Store.{Held}
+use Rattle.coded_store.specs.declared.coded.Mended.{Mended}
 use Rattle.disk_commands.specs.declared.words.CreateWords.{CreateWords}
 use Rattle.disk_commands.specs.declared.words.InfoWords.{InfoWords}
 use Rattle.disk_commands.specs.declared.words.DiskWords.{DiskWords}
@@ -38,9 +39,9 @@ Creates held honest failed a words old new (Ok done) = HasCreated held honest a 
 Creates held honest failed a words old new (Err told) = IsUncreated held honest failed a words told × (new.kept ≡ old.kept)
 
 -- it was told what a disk is, or not
-abbrev pub Tells : {S : Type 0} → (S → Held) → (honest : S → Bool) → (failed : S → ℕ) → Answers → InfoWords → (old new : Around) → Result (Unit {0}) DiskFault → Type 0
-Tells held honest failed a words old new (Ok done) = HasTold held honest a words old.out new.out
-Tells held honest failed a words old new (Err told) = IsUntold held honest failed a words old.out new.out told
+abbrev pub Tells : {S : Type 0} → (S → Held) → (honest : S → Bool) → (mended : S → Mended) → (failed : S → ℕ) → Answers → InfoWords → (old new : Around) → Result (Unit {0}) DiskFault → Type 0
+Tells held honest mended failed a words old new (Ok done) = HasTold held honest mended a words old.out new.out
+Tells held honest mended failed a words old new (Err told) = IsUntold held honest failed a words old.out new.out told
 
 -- all of a disk was looked at, or not; or sectors are lost
 abbrev pub Checks : {S : Type 0} → (S → Held) → (honest : S → Bool) → (failed : S → ℕ) → Answers → InfoWords → (old new : Around) → Result (Unit {0}) DiskFault → Type 0
@@ -48,17 +49,17 @@ Checks held honest failed a words old new (Ok done) = HasChecked held honest a w
 Checks held honest failed a words old new (Err told) = IsUnclean held honest failed a words old.out new.out told
 
 -- WHAT THE WORDS ASK FOR WAS DONE, or not for the reason that is answered. Of what it does not name nothing changes
-abbrev pub DoesAsked : {S Y K : Type 0} → (S → Held) → (honest : S → Bool) → (failed : S → ℕ) → (synced missed : Y → ℕ) → (marked : Y → Mark) → (kept : K → List Bool) → (unlisted : K → ℕ) → Answers → DiskWords → (old new : Around)
+abbrev pub DoesAsked : {S Y K : Type 0} → (S → Held) → (honest : S → Bool) → (mended : S → Mended) → (failed : S → ℕ) → (synced missed : Y → ℕ) → (marked : Y → Mark) → (kept : K → List Bool) → (unlisted : K → ℕ) → Answers → DiskWords → (old new : Around)
     → Result (Unit {0}) DiskFault → Type 0
-DoesAsked held honest failed synced missed marked kept unlisted a (asked.Create words) old new result = Creates held honest failed a words old new result × (new.out ≡ old.out) × (new.input ≡ old.input) × (new.opened ≡ old.opened) × (new.err ≡ old.err)
-DoesAsked held honest failed synced missed marked kept unlisted a (asked.Serve words) old new result =
-    (HasServedAt held honest synced marked kept a words old.input new.input old.out new.out old.err new.err result ⊎ HasNotServed held honest failed missed kept unlisted a words old.out new.out old.err new.err result) × (new.kept ≡ old.kept)
+DoesAsked held honest mended failed synced missed marked kept unlisted a (asked.Create words) old new result = Creates held honest failed a words old new result × (new.out ≡ old.out) × (new.input ≡ old.input) × (new.opened ≡ old.opened) × (new.err ≡ old.err)
+DoesAsked held honest mended failed synced missed marked kept unlisted a (asked.Serve words) old new result =
+    (HasServedAt held honest mended synced marked kept a words old.input new.input old.out new.out old.err new.err result ⊎ HasNotServed held honest failed missed kept unlisted a words old.out new.out old.err new.err result) × (new.kept ≡ old.kept)
     × OpensMarked words.disk.now (not words.read_only) old.opened new.opened
-DoesAsked held honest failed synced missed marked kept unlisted a (asked.Info words) old new result = Tells held honest failed a words old new result × (new.kept ≡ old.kept) × (new.input ≡ old.input)
+DoesAsked held honest mended failed synced missed marked kept unlisted a (asked.Info words) old new result = Tells held honest mended failed a words old new result × (new.kept ≡ old.kept) × (new.input ≡ old.input)
     × Opens words.disk.now false old.opened new.opened × (new.err ≡ old.err)
-DoesAsked held honest failed synced missed marked kept unlisted a (asked.Check words) old new result = Checks held honest failed a words old new result × (new.kept ≡ old.kept) × (new.input ≡ old.input)
+DoesAsked held honest mended failed synced missed marked kept unlisted a (asked.Check words) old new result = Checks held honest failed a words old new result × (new.kept ≡ old.kept) × (new.input ≡ old.input)
     × Opens words.disk.now false old.opened new.opened × (new.err ≡ old.err)
-DoesAsked held honest failed synced missed marked kept unlisted a (asked.Text text) old new result = Prints (string_bytes text) old new result × (new.kept ≡ old.kept) × (new.input ≡ old.input) × (new.opened ≡ old.opened) × (new.err ≡ old.err)
+DoesAsked held honest mended failed synced missed marked kept unlisted a (asked.Text text) old new result = Prints (string_bytes text) old new result × (new.kept ≡ old.kept) × (new.input ≡ old.input) × (new.opened ≡ old.opened) × (new.err ≡ old.err)
 
 -- THE WORDS ARE NO COMMAND, or memory for them was refused: nothing was done
 pub record AsksNothing (words : List (List ℕ)) (old new : Around) (result : Result (Unit {0}) DiskFault) : Type 0 where
@@ -69,11 +70,11 @@ pub record AsksNothing (words : List (List ℕ)) (old new : Around) (result : Re
 
 -- ---- all of it
 
-abbrev pub Obeys : {S Y K : Type 0} → (S → Held) → (honest : S → Bool) → (failed : S → ℕ) → (synced missed : Y → ℕ) → (marked : Y → Mark) → (kept : K → List Bool) → (unlisted : K → ℕ) → Answers → (words : List (List ℕ)) → (old new : Around)
+abbrev pub Obeys : {S Y K : Type 0} → (S → Held) → (honest : S → Bool) → (mended : S → Mended) → (failed : S → ℕ) → (synced missed : Y → ℕ) → (marked : Y → Mark) → (kept : K → List Bool) → (unlisted : K → ℕ) → Answers → (words : List (List ℕ)) → (old new : Around)
     → Result (Unit {0}) DiskFault → Type 0
-Obeys held honest failed synced missed marked kept unlisted a words old new result =
+Obeys held honest mended failed synced missed marked kept unlisted a words old new result =
     AsksNothing words old new result
-    ⊎ ((found : DiskWords) × IsAsked words found × DoesAsked held honest failed synced missed marked kept unlisted a found old new result)
+    ⊎ ((found : DiskWords) × IsAsked words found × DoesAsked held honest mended failed synced missed marked kept unlisted a found old new result)
 
 -- status 0 where it was done, with no more on standard error; else the fault's line there, and its status
 abbrev pub IsAnswered : Result (Unit {0}) DiskFault → (told telling : Option (List ℕ)) → (status : ℕ) → Type 0
@@ -85,9 +86,9 @@ abbrev pub with_err : Around → Option (List ℕ) → Around
 with_err around told = record around { err = told }
 
 -- the command leaves all so, but for the fault's line
-pub record Runs {S Y K : Type 0} (held : S → Held) (honest : S → Bool) (failed : S → ℕ) (synced missed : Y → ℕ) (marked : Y → Mark) (kept : K → List Bool) (unlisted : K → ℕ) (a : Answers) (words : List (List ℕ))
+pub record Runs {S Y K : Type 0} (held : S → Held) (honest : S → Bool) (mended : S → Mended) (failed : S → ℕ) (synced missed : Y → ℕ) (marked : Y → Mark) (kept : K → List Bool) (unlisted : K → ℕ) (a : Answers) (words : List (List ℕ))
     (old new : Around) (status : ℕ) : Type 0 where
   pub result : Result (Unit {0}) DiskFault
   pub told : Option (List ℕ)
-  pub obeys : Obeys held honest failed synced missed marked kept unlisted a words old (with_err new told) result
+  pub obeys : Obeys held honest mended failed synced missed marked kept unlisted a words old (with_err new told) result
   pub answered : IsAnswered result told new.err status

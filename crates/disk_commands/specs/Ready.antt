@@ -4,6 +4,7 @@ use Rattle.page_layout.specs.Counter.{HasRisen}
 use Rattle.onfi_cycles.specs.Driver.{DriverState}
 use Rattle.certificate.specs.Claim.{Claim}
 use Rattle.file_die.specs.Store.{Held}
+use Rattle.coded_store.specs.declared.coded.Mended.{Mended}
 use Rattle.file_die.specs.Die.{FileState}
 use Rattle.ftl_device.specs.declared.device.Device.{Device}
 use Rattle.disk_recovery.specs.Recovered.{HoldsRecovered, IsUnrecovered, KeepsIfAny}
@@ -63,14 +64,15 @@ MarksBy false path before after = after ≡ before
 
 -- ---- the disk at a path
 
--- THE DISK AT A PATH, whose lost sectors are guarded: those of the list beside it and of the pages of its store, as it was looked at. Where it is to be written, and any is lost, their list lasts
-pub record IsReadyAt {S Y K : Type 0} (held : S → Held) (honest : S → Bool) (marked : Y → Mark) (kept : K → List Bool) (a : Answers) (path : List ℕ) (read_only : Bool) (told : DiskText)
+-- THE DISK AT A PATH, whose lost sectors are guarded: those of the list beside it and of the pages of its store, as it was looked at; that store tells what was wrong with its pages. Where it is to be written, and any is lost, their list lasts
+pub record IsReadyAt {S Y K : Type 0} (held : S → Held) (honest : S → Bool) (mended_in : S → Mended) (marked : Y → Mark) (kept : K → List Bool) (a : Answers) (path : List ℕ) (read_only : Bool) (told : DiskText) (mended : Mended)
     (disk : GuardedSectors (Device (DriverState (FileState S))) K) (syncs : Y) : Type 0 where
   pub found : FoundMark
   pub store : S
   pub certificate : Claim
   pub looked : IsLookedAt held honest a path told found store certificate disk.lost.items
   pub of : IsDiskOf held honest marked read_only told found store disk.sectors syncs
+  pub mended_is : mended ≡ mended_in store
   pub none_failed : disk.failed ≡ false
   pub lasts : read_only ≡ false → KeepsIfAny kept disk.lost.items disk.keeper
 

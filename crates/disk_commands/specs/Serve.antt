@@ -6,6 +6,7 @@ use Rattle.page_layout.specs.declared.geometry.Geometry.{Geometry}
 use Rattle.onfi_cycles.specs.Driver.{DriverState}
 use Rattle.request_stream.specs.declared.reply.ServeFault.{ServeFault}
 use Rattle.file_die.specs.Store.{Held}
+use Rattle.coded_store.specs.declared.coded.Mended.{Mended}
 use Rattle.file_die.specs.Die.{FileState}
 use Rattle.ftl_device.specs.declared.device.Device.{Device}
 use Rattle.disk_server.specs.Disk.{AsksTurn, contents_of, holds, takes_changes}
@@ -31,7 +32,7 @@ use Rattle.disk_commands.specs.declared.text.DiskFault.{DiskFault}
 use Rattle.disk_commands.specs.declared.text.DiskFault.TheVariants as fault
 use Rattle.disk_commands.specs.Files.{Answers}
 use Rattle.disk_commands.specs.declared.shape_text.DiskText.{DiskText}
-use Rattle.disk_commands.specs.Damage.{Names}
+use Rattle.disk_commands.specs.Damage.{NamesAll}
 use Rattle.disk_commands.specs.Ready.{IsReadyAt, IsUnreadyAt}
 use Rattle.disk_commands.specs.Told.{IsUnprinted}
 use Rattle.disk_server.specs.declared.guarded.GuardedSectors.{GuardedSectors}
@@ -130,15 +131,16 @@ reads_in held honest old new = OnlyReads (flash_in held) (is_honest_in honest) (
 
 -- ---- the command
 
--- IT SERVED: the disk at the path was opened, its lost sectors were named and guarded, and it was served. No byte of a lost sector is one of its array: so a read of one is not answered without an error until it was
+-- IT SERVED: the disk at the path was opened, its lost sectors were named and guarded, what was wrong with its pages was told, and it was served. No byte of a lost sector is one of its array: so a read of one is not answered without an error until it was
 -- written or trimmed (`guard_laws`)
-pub record HasServedAt {S Y K : Type 0} (held : S → Held) (honest : S → Bool) (synced : Y → ℕ) (marked : Y → Mark) (kept : K → List Bool) (a : Answers) (words : ServeWords)
+pub record HasServedAt {S Y K : Type 0} (held : S → Held) (honest : S → Bool) (mended_in : S → Mended) (synced : Y → ℕ) (marked : Y → Mark) (kept : K → List Bool) (a : Answers) (words : ServeWords)
     (unread left before after telling told_after : Option (List ℕ)) (result : Result (Unit {0}) DiskFault) : Type 0 where
   pub told : DiskText
   pub disk : GuardedSectors (Device (DriverState (FileState S))) K
   pub syncs : Y
-  pub at : IsReadyAt held honest marked kept a words.disk.now words.read_only told disk syncs
-  pub named : Names disk.lost.items telling told_after
+  pub mended : Mended
+  pub at : IsReadyAt held honest mended_in marked kept a words.disk.now words.read_only told mended disk syncs
+  pub named : NamesAll disk.lost.items told.shape.code mended telling told_after
   pub served : HasServedOn (shown (contents_of (flash_in held) (is_honest_in honest)) (λ d. d.engine.geometry.data_bytes)) (λ d. holds (is_honest_in honest) d.sectors) (RestsGuarded (rests_in held honest)) (ReadsGuarded (reads_in held honest))
       (λ d. d.sectors.engine.next) (λ d. takes_changes d.sectors) synced marked (terms_of told.shape words.read_only) words.disk disk syncs unread left before after result
 

@@ -7,6 +7,8 @@ use Rattle.serde_json.specs.Find.{as_bool, as_number, as_object, as_str, as_u64,
 use Rattle.serde_json.specs.Read.{read}
 use Rattle.serde_json.specs.Written.{compact_text}
 use Rattle.page_layout.specs.declared.geometry.Geometry.{Geometry}
+use Rattle.disk_commands.specs.declared.shapes.Code.{Code}
+use Rattle.disk_commands.specs.declared.shapes.Code.TheVariants.{Plain, Hamming}
 use Rattle.disk_commands.specs.declared.shapes.Shape.{Shape}
 use Rattle.disk_commands.specs.declared.shape_text.DiskText.{DiskText}
 use Rattle.disk_commands.specs.declared.shape_text.Member as declared
@@ -24,10 +26,15 @@ abbrev pub geometry_words : Geometry → List ℕ
 geometry_words g =
     decimal g.data_bytes ++ (codes "," ++ (decimal g.spare_bytes ++ (codes "," ++ (decimal g.pages ++ (codes "," ++ (decimal g.blocks ++ (codes "," ++ decimal g.sectors)))))))
 
--- version 2: no code, none that waits, and whether a list of lost sectors stands beside the disk
+-- the word of a code
+abbrev pub code_words : Code → List ℕ
+code_words Plain = codes "none"
+code_words Hamming = codes "hamming"
+
+-- version 2: the code, none that waits, and whether a list of lost sectors stands beside the disk
 abbrev pub shape_data : Shape → (lost : Bool) → Data
 shape_data s lost =
-    object (member (codes "cache") (number (unsigned s.cache)) (member (codes "code") (string (codes "none")) (member (codes "geometry") (string (geometry_words s.geometry))
+    object (member (codes "cache") (number (unsigned s.cache)) (member (codes "code") (string (code_words s.code)) (member (codes "geometry") (string (geometry_words s.geometry))
     (member (codes "lost") (boolean lost) (member (codes "share") (number (unsigned 0)) (member (codes "version") (number (unsigned 2)) no_members))))))
 
 -- the object with no space, and a line feed
@@ -83,15 +90,15 @@ HasBadGeometry d why = (word : List ℕ) × (text_at name.Geometry d ≡ Some wo
 abbrev pub IsWithin : ℕ → Type 0
 IsWithin cache = (1 ≤ cache) × (cache ≤ 65536)
 
--- its members say this shape
-pub record TellsShape (d : Data) (s : Shape) : Type 0 where
-  pub cache : number_at name.Cache d ≡ Some s.cache
-  pub within : IsWithin s.cache
-  pub geometry : IsGeometryTold d s.geometry
+-- its members say this geometry and this cache
+pub record TellsShape (d : Data) (g : Geometry) (cache : ℕ) : Type 0 where
+  pub cache_is : number_at name.Cache d ≡ Some cache
+  pub within : IsWithin cache
+  pub geometry_is : IsGeometryTold d g
 
--- those that version 1 lacks say that there is no code, whether a list of lost sectors stands beside the disk, and that none waits
-pub record TellsLater (lost : Bool) (d : Data) : Type 0 where
-  pub no_code : text_at name.Code d ≡ Some (codes "none")
+-- those that version 1 lacks say which code there is, whether a list of lost sectors stands beside the disk, and that none waits
+pub record TellsLater (code : Code) (lost : Bool) (d : Data) : Type 0 where
+  pub code_is : text_at name.Code d ≡ Some (code_words code)
   pub lost_is : flag_at name.Lost d ≡ Some lost
   pub none_waits : number_at name.Share d ≡ Some 0
 
@@ -104,16 +111,16 @@ abbrev pub members_of : (second : Bool) → ℕ
 members_of false = 3
 members_of true = 6
 
--- version 1 may say nothing of them, and has no list
-abbrev pub TellsLaterBy : (second lost : Bool) → Data → Type 0
-TellsLaterBy false lost d = lost ≡ false
-TellsLaterBy true lost d = TellsLater lost d
+-- version 1 may say nothing of them, and has no code and no list
+abbrev pub TellsLaterBy : (second : Bool) → Code → (lost : Bool) → Data → Type 0
+TellsLaterBy false code lost d = (code ≡ Plain) × (lost ≡ false)
+TellsLaterBy true code lost d = TellsLater code lost d
 
 -- AN OBJECT WITH THE MEMBERS OF ITS VERSION AND NO OTHER, which say this. A mark counts from version 2 on
 pub record TellsText (d : Data) (t : DiskText) : Type 0 where
   pub version : number_at name.Version d ≡ Some (version_of t.marked)
-  pub shape : TellsShape d t.shape
-  pub later : TellsLaterBy t.marked t.lost d
+  pub shape : TellsShape d t.shape.geometry t.shape.cache
+  pub later : TellsLaterBy t.marked t.shape.code t.lost d
   pub alone : size_of d ≡ Some (members_of t.marked)
 
 -- the text is such an object
@@ -147,7 +154,7 @@ TellsNone d fault.Version = (version : ℕ) × (number_at name.Version d ≡ Som
 TellsNone d fault.BadGeometry = HasBadGeometry d word.NoNumbers
 TellsNone d (fault.Geometry limit) = HasBadGeometry d (word.Limit limit)
 TellsNone d fault.CacheRange = (cache : ℕ) × (number_at name.Cache d ≡ Some cache) × (¬ IsWithin cache)
-TellsNone d fault.Code = (code : List ℕ) × (text_at name.Code d ≡ Some code) × (code ≢ codes "none")
+TellsNone d fault.Code = (code : List ℕ) × (text_at name.Code d ≡ Some code) × (code ≢ codes "none") × (code ≢ codes "hamming")
 TellsNone d (fault.Share share) = (number_at name.Share d ≡ Some share) × (share ≢ 0)
 TellsNone d fault.OutOfMemory = ⊥
 

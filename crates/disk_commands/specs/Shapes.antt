@@ -4,6 +4,7 @@ use Rattle.std.specs.Int.{div_ceil}
 use Rattle.page_layout.specs.declared.geometry.Geometry.{Geometry}
 use Rattle.page_layout.specs.Faults.{HasNumbers}
 use Rattle.page_layout.specs.Geometry.{need}
+use Rattle.disk_commands.specs.declared.shapes.Code.TheVariants.{Plain}
 use Rattle.disk_commands.specs.declared.shapes.Shape.{Shape}
 use Rattle.disk_commands.specs.declared.shapes.SizeFault.{SizeFault}
 use Rattle.disk_commands.specs.declared.shapes.SizeFault.TheVariants.{Zero, TooLarge}
@@ -54,12 +55,13 @@ pub record IsDieFor (pages sectors : ℕ) (g : Geometry) : Type 0 where
 
 -- ---- the shape
 
--- Whole sectors for the bytes; the fewest pages a block of which there is such a die, and that die; and its cache.
+-- Whole sectors for the bytes; the fewest pages a block of which there is such a die, and that die; its cache; and no code.
 pub record IsShapeFor (bytes : ℕ) (s : Shape) : Type 0 where
   pub pages : IsPages s.geometry.pages
   pub die : IsDieFor s.geometry.pages (div_ceil bytes 4096) s.geometry
   pub fewest : (fewer : ℕ) → IsPages fewer → fewer < s.geometry.pages → (g : Geometry) → ¬ IsDieFor fewer (div_ceil bytes 4096) g
   pub cache : s.cache ≡ cache_of s.geometry
+  pub code : s.code ≡ Plain
 
 -- why there is no shape for so many bytes
 abbrev pub IsNoSize : ℕ → SizeFault → Type 0

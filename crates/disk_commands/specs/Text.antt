@@ -37,7 +37,7 @@ shape_words shape.Version = codes "another version"
 shape_words shape.BadGeometry = codes "the geometry is no five numbers"
 shape_words (shape.Geometry broken) = codes "the geometry breaks a limit: " ++ limit_words broken
 shape_words shape.CacheRange = codes "the cache has not from 1 to 65536 entries"
-shape_words shape.Code = codes "the code is not none"
+shape_words shape.Code = codes "the code is neither none nor hamming"
 shape_words (shape.Share share) = codes "the share is " ++ (decimal share ++ codes " and not 0")
 shape_words shape.OutOfMemory = codes "out of memory"
 

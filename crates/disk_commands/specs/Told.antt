@@ -3,6 +3,7 @@ use Rattle.std.specs.Prelude.{◌≡◌, ◌⊎◌, Bool, ℕ, List, codes, Opti
 use Rattle.std.specs.Io.KnownBytes.{Appends, Keeps}
 use Rattle.certificate.specs.Claim.{Claim}
 use Rattle.file_die.specs.Store.{Held}
+use Rattle.coded_store.specs.declared.coded.Mended.{Mended}
 use Rattle.disk_damage.specs.Numbers.{listed_sectors}
 use Rattle.disk_commands.specs.declared.mark.FoundMark.{FoundMark}
 use Rattle.disk_commands.specs.declared.shape_text.DiskText.{DiskText}
@@ -20,22 +21,22 @@ use Rattle.disk_commands.specs.Damage.{IsLookedAt, IsUnlookedAt}
 abbrev pub form_of : (json : Bool) → Form
 form_of json = if json then Json else Text
 
--- WHAT IS TOLD OF THE DISK AT A PATH: what its shape and a certificate tell, which is one of a mount of the pages of an honest store, and which sectors are lost
-pub record IsInfoAt {S : Type 0} (held : S → Held) (honest : S → Bool) (a : Answers) (path : List ℕ) (info : Info) (missing : List ℕ) : Type 0 where
+-- WHAT IS TOLD OF THE DISK AT A PATH: what its shape and a certificate tell, which is one of a mount of the pages of an honest store, what that store tells was wrong with its pages, and which sectors are lost
+pub record IsInfoAt {S : Type 0} (held : S → Held) (honest : S → Bool) (mended : S → Mended) (a : Answers) (path : List ℕ) (info : Info) (missing : List ℕ) : Type 0 where
   pub told : DiskText
   pub found : FoundMark
   pub store : S
   pub certificate : Claim
   pub list : List Bool
   pub looked : IsLookedAt held honest a path told found store certificate list
-  pub is : info ≡ info_of told.shape certificate
+  pub is : info ≡ info_of told.shape certificate (mended store)
   pub lost_are : missing ≡ listed_sectors list
 
 -- it was printed
-pub record HasTold {S : Type 0} (held : S → Held) (honest : S → Bool) (a : Answers) (words : InfoWords) (before after : Option (List ℕ)) : Type 0 where
+pub record HasTold {S : Type 0} (held : S → Held) (honest : S → Bool) (mended : S → Mended) (a : Answers) (words : InfoWords) (before after : Option (List ℕ)) : Type 0 where
   pub info : Info
   pub missing : List ℕ
-  pub at : IsInfoAt held honest a words.disk.now info missing
+  pub at : IsInfoAt held honest mended a words.disk.now info missing
   pub printed : Appends before after (info_text (form_of words.json) info missing)
 
 -- standard output failed, or memory was refused

@@ -6,6 +6,8 @@ use Rattle.clap.specs.Words.{App, Row, Shape, first_of, count_of}
 use Rattle.program_words.specs.Grammar.{command_of, flag, option, place, program_of}
 use Rattle.program_words.specs.Met.{AsksText, NamesCommand, once}
 use Rattle.program_words.specs.Met as met
+use Rattle.disk_commands.specs.declared.shapes.Code.{Code}
+use Rattle.disk_commands.specs.declared.shapes.Code.TheVariants.{Plain, Hamming}
 use Rattle.disk_commands.specs.declared.words.CreateWords.{CreateWords}
 use Rattle.disk_commands.specs.declared.words.InfoWords.{InfoWords}
 use Rattle.disk_commands.specs.declared.words.MakeWords.{MakeWords}
@@ -17,7 +19,7 @@ use Rattle.disk_commands.specs.declared.words.DiskWords.TheVariants as asked
 -- ---- what `clap` is told
 
 abbrev pub create : Shape
-create = command_of (codes "create") (option (codes "size") ∷ option (codes "geometry") ∷ option (codes "from") ∷ option (codes "cache") ∷ place (codes "DISK") ∷ [])
+create = command_of (codes "create") (option (codes "size") ∷ option (codes "geometry") ∷ option (codes "from") ∷ option (codes "cache") ∷ option (codes "code") ∷ place (codes "DISK") ∷ [])
 
 abbrev pub serve : Shape
 serve = command_of (codes "serve") (flag (codes "read-only") ∷ option (codes "sync") ∷ place (codes "DISK") ∷ [])
@@ -38,6 +40,11 @@ grammar = program_of (codes "nanddisk") (create ∷ serve ∷ info ∷ check ∷
 abbrev pub always : Option (List ℕ) → Option Bool
 always None = Some false
 always (Some word) = if bytes_eq word (codes "erases") then Some false else (if bytes_eq word (codes "always") then Some true else None)
+
+-- the code of the pages, which have none without a word
+abbrev pub code : Option (List ℕ) → Option Code
+code None = Some Plain
+code (Some word) = if bytes_eq word (codes "none") then Some Plain else (if bytes_eq word (codes "hamming") then Some Hamming else None)
 
 -- what a disk is made of: a size alone, or a geometry with a dump or without one
 abbrev pub make : Option (Bor (List ℕ)) → Option (Bor (List ℕ)) → Option (Bor (List ℕ)) → Option MakeWords
@@ -64,6 +71,7 @@ pub record IsCreateAt (rows : List Row) (read : CreateWords) : Type 0 where
   pub disk_is : first_of (codes "DISK") rows ≡ Some read.disk.now
   pub make_is : IsMakeAt rows read.make
   pub cache_is : first_of (codes "cache") rows ≡ option_map (λ word. word.now) read.cache
+  pub code_is : code (first_of (codes "code") rows) ≡ Some read.code
 
 -- those of the words of `serve` are these
 pub record IsServeAt (rows : List Row) (read : ServeWords) : Type 0 where

@@ -64,7 +64,7 @@ fn cache_asked<'a>(word: Option<&'a str>, geometry: &Geometry) -> Result<u32, Di
     }
 }
 
-/// The shape that the words of `create` ask for: the geometry that is named or the one for the size, and the cache that is named or the one for the geometry.
+/// The shape that the words of `create` ask for: the geometry that is named or the one for the size, the cache that is named or the one for the geometry, and the code.
 ///
 /// # Errors
 ///
@@ -80,7 +80,11 @@ pub fn shape_of<'a>(words: CreateWords<'a>) -> Result<Shape, DiskFault<'a>>
         Err(fault) => return Err(fault),
     };
     match cache_asked(words.cache, &geometry) {
-        Ok(cache) => Ok(Shape { geometry, cache }),
+        Ok(cache) => Ok(Shape {
+            geometry,
+            cache,
+            code: words.code,
+        }),
         Err(fault) => Err(fault),
     }
 }

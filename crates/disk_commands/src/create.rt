@@ -7,7 +7,7 @@ ghost use Rattle.disk_commands.specs.Files.{FailsNoMore, with_kept};
 
 use crate::asked::shape_of;
 use crate::files::DiskFiles;
-use crate::opening::{die_bytes, told_at, told_of_copy, want_free};
+use crate::opening::{dump_bytes, told_at, told_of_copy, want_free};
 use crate::shape_text::write_shape;
 use crate::shapes::Shape;
 use crate::text::DiskFault;
@@ -41,7 +41,7 @@ fn make_new<'a, F: DiskFiles>(
     ensures kept { F.kept files.new ≡ F.kept files.old }
     ensures opened { F.opened files.new ≡ F.opened files.old }
 {
-    let store = match files.create(alloc, path, &shape.geometry) {
+    let store = match files.create(alloc, path, shape) {
         Ok(store) => store,
         Err(fault) => return Err(told_at(fault, path, 0)),
     };
@@ -85,9 +85,9 @@ fn make_copy<'a, F: DiskFiles>(
     ensures kept { F.kept files.new ≡ F.kept files.old }
     ensures opened { F.opened files.new ≡ F.opened files.old }
 {
-    let store = match files.copy(alloc, path, &shape.geometry, dump) {
+    let store = match files.copy(alloc, path, shape, dump) {
         Ok(store) => store,
-        Err(fault) => return Err(told_of_copy(fault, path, dump, die_bytes(&shape.geometry))),
+        Err(fault) => return Err(told_of_copy(fault, path, dump, dump_bytes(&shape.geometry))),
     };
     match mountable(alloc, store, shape.cache) {
         Ok(store) => Ok(store),
@@ -144,7 +144,7 @@ fn put<'a, F: DiskFiles>(
     }
 }
 
-/// The command `create`: makes the disk DISK, a die and the file beside it that tells its shape. The die is formatted, or with `--from` has the pages of a raw dump.
+/// The command `create`: makes the disk DISK, a die and the file beside it that tells its shape. The die is formatted, or with `--from` has the pages of a raw dump. With `--code hamming` each page stands in the file with its codes, those of a dump too, which has none.
 ///
 /// # Errors
 ///

@@ -1,6 +1,6 @@
 //! What is lost of the disk at a path: the list beside it, and what its pages show.
 ghost use Rattle.std.specs.Prelude.{◌≡◌, false, IfErr, IfOk, OnOk, replicate};
-ghost use Rattle.disk_commands.specs.Damage.{IsListAt, IsLookedAt, IsNoListAt, IsUnlookedAt, Names};
+ghost use Rattle.disk_commands.specs.Damage.{IsListAt, IsLookedAt, IsNoListAt, IsUnlookedAt, Names, NamesMended};
 ghost use Rattle.disk_commands.specs.Files.{Opens, SaysNoMore};
 ghost use Rattle.disk_commands.specs.ShapeText.{IsWithin};
 ghost use Rattle.disk_commands.specs.Told.{IsUnprinted};
@@ -9,10 +9,12 @@ use crate::files::{DiskFiles, FileFault};
 use crate::info::unprinted;
 use crate::mark::FoundMark;
 use crate::opening::{mark_at, open_at};
-use crate::printed::lost_text;
+use crate::printed::{MendedLines, lost_text};
 use crate::shape_text::DiskText;
+use crate::shapes::Code;
 use crate::text::DiskFault;
 use certificate::Certificate;
+use coded_store::Mended;
 use disk_damage::{ListFault, mount_and_find, numbers_of, read_list};
 use std::alloc::{AllocError, Global};
 use std::io::Write;
@@ -119,6 +121,28 @@ pub(crate) fn look_at<'a, F: DiskFiles>(
             lost,
         }),
         Err(why) => Err(DiskFault::Open(path, why)),
+    }
+}
+
+/// Tells what was wrong with the pages of a disk on standard error, where anything was.
+pub(crate) fn name_mended<'a, E: Write>(
+    alloc: Global,
+    code: Code,
+    mended: Mended,
+    err: &mut E,
+) -> Result<(), DiskFault<'a>>
+    ensures named { OnOk result (NamesMended code mended (E.contents err.old) (E.contents err.new)) }
+    ensures fault { IfErr result IsUnprinted }
+{
+    if mended.turned == 0 && mended.lost == 0 {
+        return Ok(());
+    }
+    let Ok(text) = format!(in alloc; "{}", MendedLines(code, mended)) else {
+        return Err(DiskFault::OutOfMemory);
+    };
+    match err.write_all(text.as_bytes()) {
+        Ok(()) => Ok(()),
+        Err(error) => Err(unprinted(error)),
     }
 }
 

@@ -1,8 +1,9 @@
 //! The files that disks are: of each the die, the one beside it that tells its shape, and its mark.
 use crate::mark::FoundMark;
+use crate::shapes::Shape;
+use coded_store::TellsMended;
 use disk_server::{KeepsLost, Syncs};
 use file_die::Store;
-use page_layout::geometry::Geometry;
 use std::alloc::Global;
 use thiserror::Error;
 
@@ -21,7 +22,7 @@ pub enum FileFault {
     /// Something stands at its path.
     #[error("there is such a file already")]
     Exists,
-    /// It has so many bytes, and not as many as a die of the geometry.
+    /// It has so many bytes, and not as many as a die of the shape.
     #[error("a file has {0} bytes")]
     Length(u64),
     /// A growth was refused.
@@ -39,7 +40,7 @@ pub trait DiskFiles {
     type Locked: Drop;
 
     /// The pages of a die in a file that is locked.
-    type Store: Store + Drop;
+    type Store: Store + TellsMended + Drop;
 
     /// A second handle of such a file.
     type Syncs: Syncs + Drop;
@@ -102,7 +103,7 @@ pub trait DiskFiles {
         ensures failed { IfErr result ((answers self.old).fails path.now) }
         ensures same { self.new ≡ self.old };
 
-    /// The store of the die at a path, which is locked, and a second handle of its file: a file of as many bytes as the geometry's pages have.
+    /// The store of the die at a path, which is locked, and a second handle of its file: a file of as many bytes as the shape's pages have, with their codes where it has a code.
     ///
     /// # Errors
     ///
@@ -112,10 +113,10 @@ pub trait DiskFiles {
         alloc: Global,
         path: &str,
         locked: Self::Locked,
-        geometry: &Geometry,
+        shape: &Shape,
     ) -> Result<(Self::Store, Self::Syncs), FileFault>
         ensures held { IfOk result (λ opened. (answers self.old).holds path.now (Self.Store.held opened.0)) }
-        ensures geometry { IfOk result (λ opened. (Self.Store.held opened.0).geometry ≡ geometry.now) }
+        ensures geometry { IfOk result (λ opened. (Self.Store.held opened.0).geometry ≡ shape.now.geometry) }
         ensures honest { IfOk result (λ opened. Self.Store.honest opened.0 ≡ (answers self.old).honest) }
         ensures failed { IfErr result ((answers self.old).fails path.now) }
         ensures opened { opened self.new ≡ opened self.old }
@@ -141,25 +142,20 @@ pub trait DiskFiles {
         ensures opened { opened self.new ≡ with_mark (opened self.old) path.now }
         ensures kept { kept self.new ≡ kept self.old };
 
-    /// The store of a die to be made beside a path, of erased pages that last.
+    /// The store of a die to be made beside a path, of erased pages that last, with their codes where the shape has a code.
     ///
     /// # Errors
     ///
     /// One that these files may answer of the path, where it could not be made. The disks in their places are as they were.
-    fn create(
-        &mut self,
-        alloc: Global,
-        path: &str,
-        geometry: &Geometry,
-    ) -> Result<Self::Store, FileFault>
-        ensures erased { IfOk result (λ store. Self.Store.honest store ≡ true → Self.Store.held store ≡ blank geometry.now) }
+    fn create(&mut self, alloc: Global, path: &str, shape: &Shape) -> Result<Self::Store, FileFault>
+        ensures erased { IfOk result (λ store. Self.Store.honest store ≡ true → Self.Store.held store ≡ blank shape.now.geometry) }
         ensures honest { IfOk result (λ store. Self.Store.honest store ≡ (answers self.old).honest) }
         ensures failed { IfErr result ((answers self.old).fails path.now) }
         ensures no_more { FailsNoMore (answers self.old) (answers self.new) }
         ensures opened { opened self.new ≡ opened self.old }
         ensures kept { kept self.new ≡ kept self.old };
 
-    /// The store of a die to be made beside a path, with the pages of a raw dump, which last.
+    /// The store of a die to be made beside a path, with the pages of a raw dump without codes, which last.
     ///
     /// # Errors
     ///
@@ -168,11 +164,11 @@ pub trait DiskFiles {
         &mut self,
         alloc: Global,
         path: &str,
-        geometry: &Geometry,
+        shape: &Shape,
         dump: &str,
     ) -> Result<Self::Store, FileFault>
         ensures held { IfOk result (λ store. (answers self.old).holds dump.now (Self.Store.held store)) }
-        ensures geometry { IfOk result (λ store. (Self.Store.held store).geometry ≡ geometry.now) }
+        ensures geometry { IfOk result (λ store. (Self.Store.held store).geometry ≡ shape.now.geometry) }
         ensures honest { IfOk result (λ store. Self.Store.honest store ≡ (answers self.old).honest) }
         ensures failed { IfErr result (FailsCopy (answers self.old) path.now dump.now) }
         ensures no_more { FailsNoMore (answers self.old) (answers self.new) }

@@ -35,6 +35,12 @@ const CACHE: WordRule<'static> = WordRule {
     help: "The entries of the cache, from 1 to 65536",
 };
 
+const CODE: WordRule<'static> = WordRule {
+    id: "code",
+    kind: WordKind::Valued("CODE"),
+    help: "`hamming` keeps a code with each page that turns back wrong bits; else `none`",
+};
+
 const READ_ONLY: WordRule<'static> = WordRule {
     id: "read-only",
     kind: WordKind::Flag,
@@ -56,7 +62,7 @@ const JSON: WordRule<'static> = WordRule {
 const CREATE: CommandRule<'static> = CommandRule {
     name: "create",
     about: "Makes a disk of a size, or on a die of a geometry",
-    words: &[SIZE, GEOMETRY, FROM, CACHE, DISK],
+    words: &[SIZE, GEOMETRY, FROM, CACHE, CODE, DISK],
 };
 
 const SERVE: CommandRule<'static> = CommandRule {

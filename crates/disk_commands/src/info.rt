@@ -10,6 +10,7 @@ use crate::files::DiskFiles;
 use crate::printed::{Form, Info};
 use crate::text::DiskFault;
 use crate::words::InfoWords;
+use coded_store::TellsMended;
 use disk_damage::numbers_of;
 use std::alloc::Global;
 use std::io::{Error, ErrorKind, Write};
@@ -20,7 +21,7 @@ fn info_at<'a, F: DiskFiles>(
     files: &mut F,
     path: &'a str,
 ) -> Result<(Info, Vec<u64>), DiskFault<'a>>
-    ensures ok { IfOk result (λ told. IsInfoAt F.Store.held F.Store.honest (F.answers files.old) path.now told.0 told.1.items) }
+    ensures ok { IfOk result (λ told. IsInfoAt F.Store.held F.Store.honest F.Store.mended (F.answers files.old) path.now told.0 told.1.items) }
     ensures fault { IfErr result (IsUnlookedAt F.Store.held F.Store.honest F.Store.failed (F.answers files.old) path.now) }
     ensures kept { F.kept files.new ≡ F.kept files.old }
     ensures opened { Opens path.now false (F.opened files.old) (F.opened files.new) }
@@ -32,7 +33,8 @@ fn info_at<'a, F: DiskFiles>(
     let Ok(lost) = numbers_of(alloc, &looked.lost) else {
         return Err(DiskFault::OutOfMemory);
     };
-    match Info::new(alloc, &looked.told.shape, &looked.certificate) {
+    let mended = looked.store.mended();
+    match Info::new(alloc, &looked.told.shape, &looked.certificate, mended) {
         Ok(info) => Ok((info, lost)),
         Err(_) => Err(DiskFault::OutOfMemory),
     }
@@ -56,7 +58,7 @@ pub(crate) fn unprinted<'a>(error: Error) -> DiskFault<'a>
     }
 }
 
-/// The command `info`: prints what is told of the disk DISK, its bytes, geometry, cache, free and bad blocks, wear, next sequence and lost sectors.
+/// The command `info`: prints what is told of the disk DISK, its bytes, geometry, cache, free and bad blocks, wear, next sequence and lost sectors; and of one with a code how many wrong bits were turned back, and how many pages are lost.
 ///
 /// # Errors
 ///
@@ -69,7 +71,7 @@ pub(crate) fn info_command<'a, F: DiskFiles, W: Write>(
     files: &mut F,
     out: &mut W,
 ) -> Result<(), DiskFault<'a>>
-    ensures ok { OnOk result (HasTold F.Store.held F.Store.honest (F.answers files.old) words.entry (W.contents out.old) (W.contents out.new)) }
+    ensures ok { OnOk result (HasTold F.Store.held F.Store.honest F.Store.mended (F.answers files.old) words.entry (W.contents out.old) (W.contents out.new)) }
     ensures fault { IfErr result (IsUntold F.Store.held F.Store.honest F.Store.failed (F.answers files.old) words.entry (W.contents out.old) (W.contents out.new)) }
     ensures kept { F.kept files.new ≡ F.kept files.old }
     ensures opened { Opens words.entry.disk.now false (F.opened files.old) (F.opened files.new) }

@@ -3,7 +3,7 @@
 //! - `run`: does what the words say.
 //! - `DiskFiles`: the files that the words name, those of the system or some in memory.
 //! - `parse`: what the words of the command line mean, as `clap` reads them. No file is looked at, and no number is read.
-//! - `Shape`, `read_shape`, `write_shape`: the geometry of a disk's die and the entries of its device's cache, and the file beside the disk that tells them (`DiskText`);
+//! - `Shape`, `read_shape`, `write_shape`: the geometry of a disk's die, the entries of its device's cache and the code of its pages (`Code`), and the file beside the disk that tells them (`DiskText`);
 //!   `size_from`, `geometry_from`: a size and a geometry as words write them; `shape_for`: the shape for a size.
 //! - `mark_of`, `slot_bytes`, `slot_at`: the file beside a disk that tells up to which sequence all was synced.
 //! - `shape_of`, `Info`, `DiskFault`: the shape that `create` is asked for, what `info` tells, why a command was not done.
@@ -35,13 +35,13 @@ mod words;
 pub use asked::shape_of;
 pub use files::{DiskFiles, FileFault};
 pub use mark::{FoundMark, MARK_BYTES, mark_laws, mark_of, none_found, slot_at, slot_bytes};
-pub use opening::die_bytes;
+pub use opening::{die_bytes, dump_bytes};
 pub use printed::{Form, Info};
 pub use program::run;
 pub use program_words::WordsFault;
 pub use shape_text::{DiskText, Member, ShapeFault, read_shape, write_listed_shape, write_shape};
 pub use shape_words::{GeometryWordFault, geometry_from};
-pub use shapes::{Shape, SizeFault, cache_for, shape_for};
+pub use shapes::{Code, Shape, SizeFault, cache_for, shape_for};
 pub use sizes::size_from;
 pub use text::{DiskFault, tell};
 pub use words::{CreateWords, DiskWords, InfoWords, MakeWords, ServeWords, parse};

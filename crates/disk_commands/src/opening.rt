@@ -3,20 +3,33 @@ ghost use Rattle.std.specs.Prelude.{◌≡◌, ◌*◌, IfOk, IfErr, OnOk, false
 ghost use Rattle.page_layout.specs.Geometry.{page_bytes, row_count};
 ghost use Rattle.disk_commands.specs.ShapeText.{IsWithin};
 ghost use Rattle.disk_commands.specs.Files.{Opens, SaysNoMore};
-ghost use Rattle.disk_commands.specs.Opening.{IsFaultAt, IsMarkAt, IsNotAt, IsNotFree, IsShapeFault, IsStoreAt, IsTextAt, told_at, told_of_copy};
+ghost use Rattle.disk_commands.specs.Opening.{file_bytes, IsFaultAt, IsMarkAt, IsNotAt, IsNotFree, IsShapeFault, IsStoreAt, IsTextAt, told_at, told_of_copy};
 
 use crate::files::{DiskFiles, FileFault};
 use crate::mark::{FoundMark, mark_of, none_found};
 use crate::shape_text::{DiskText, read_shape};
+use crate::shapes::{Code, Shape};
 use crate::text::DiskFault;
+use coded_store::coded_length;
 use page_layout::geometry::Geometry;
 use std::alloc::Global;
 
-/// The bytes of a die's pages together.
-pub fn die_bytes(geometry: &Geometry) -> u64
+/// The bytes of a raw dump of a die: of its pages together, without codes.
+pub fn dump_bytes(geometry: &Geometry) -> u64
     ensures { result ≡ row_count geometry.now * page_bytes geometry.now }
 {
     u64::from(geometry.rows()) * (geometry.data_bytes() + geometry.spare_bytes()) as u64
+}
+
+/// The bytes of a disk's file: of the pages of its die together, with their codes where it has a code.
+pub fn die_bytes(shape: &Shape) -> u64
+    ensures { result ≡ file_bytes shape.now }
+{
+    let geometry = &shape.geometry;
+    match shape.code {
+        Code::Plain => dump_bytes(geometry),
+        Code::Hamming => u64::from(geometry.rows()) * coded_length(geometry) as u64,
+    }
 }
 
 /// How a fault of a file is told, of a path that so many bytes were wanted of.
@@ -91,10 +104,9 @@ pub(crate) fn open_at<'a, F: DiskFiles>(
         Ok(told) => told,
         Err(fault) => return Err(fault),
     };
-    let geometry = told.shape.geometry;
-    match files.open(alloc, path, locked, &geometry) {
+    match files.open(alloc, path, locked, &told.shape) {
         Ok((store, syncs)) => Ok((store, syncs, told)),
-        Err(fault) => Err(told_at(fault, path, die_bytes(&geometry))),
+        Err(fault) => Err(told_at(fault, path, die_bytes(&told.shape))),
     }
 }
 

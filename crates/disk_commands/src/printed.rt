@@ -4,8 +4,9 @@ ghost use Rattle.std.specs.Io.KnownBytes.{Appends};
 ghost use Rattle.disk_commands.specs.Info.{bad_count, erase_sum, free_count, info_of, info_text, least_wear, lost_lines, most_wear};
 
 use crate::shape_words::GeometryText;
-use crate::shapes::Shape;
+use crate::shapes::{Code, Shape};
 use certificate::{BlockState, Certificate};
+use coded_store::Mended;
 use disk_damage::{counted, joined};
 use page_layout::geometry::Geometry;
 use std::alloc::{AllocError, Global};
@@ -41,6 +42,8 @@ pub struct Info {
     pub erases: u64,
     /// The sequence that the next program takes.
     pub next: u64,
+    /// What was wrong with its pages, where they have a code.
+    pub mended: Mended,
 }
 
 // The states of all blocks.
@@ -115,13 +118,18 @@ fn erases(states: &[BlockState]) -> u64
 }
 
 impl Info {
-    /// What a certificate and the shape of its disk tell.
+    /// What a certificate and the shape of its disk tell, and what was wrong with its pages.
     ///
     /// # Errors
     ///
     /// Where a growth was refused.
-    pub fn new(alloc: Global, shape: &Shape, certificate: &Certificate) -> Result<Info, AllocError>
-        ensures { IfOk result (λ info. info ≡ info_of shape.now certificate.now) }
+    pub fn new(
+        alloc: Global,
+        shape: &Shape,
+        certificate: &Certificate,
+        mended: Mended,
+    ) -> Result<Info, AllocError>
+        ensures { IfOk result (λ info. info ≡ info_of shape.now certificate.now mended) }
     {
         let states = states_of(alloc, certificate)?;
         Ok(Info {
@@ -132,6 +140,7 @@ impl Info {
             most: most(&states),
             erases: erases(&states),
             next: certificate.next_sequence(),
+            mended,
         })
     }
 
@@ -152,7 +161,12 @@ impl Info {
         match form {
             Form::Text => {
                 let lines = lost_text(alloc, lost)?;
-                write!(out, "{}{lines}", Lines(self))
+                write!(
+                    out,
+                    "{}{lines}{}",
+                    Lines(self),
+                    MendedLines(self.shape.code, self.mended)
+                )
             }
             Form::Json => {
                 let numbers = joined(alloc, lost)?;
@@ -202,6 +216,47 @@ impl fmt::Display for Lines<'_> {
     }
 }
 
+/// What was wrong with the pages of a disk with this code, as lines: none where it has no code.
+#[derive(Clone, Copy)]
+pub(crate) struct MendedLines(pub Code, pub Mended);
+
+impl fmt::Display for MendedLines {
+    ghost use Rattle.std.specs.Prelude.{Some};
+    ghost use Rattle.disk_commands.specs.Info.{mended_lines};
+
+    ghost output = { λ text. Some (mended_lines text.0 text.1) };
+
+    fn fmt<W: fmt::Write>(&self, f: &mut fmt::Formatter<W>) -> fmt::Result {
+        let (turned, lost) = (self.1.turned, self.1.lost);
+        match self.0 {
+            Code::Plain => Ok(()),
+            Code::Hamming => write!(f, "code hamming\nturned {turned}\nlost pages {lost}\n"),
+        }
+    }
+}
+
+// The same, as members of a JSON object behind others.
+#[derive(Clone, Copy)]
+struct MendedMembers(Code, Mended);
+
+impl fmt::Display for MendedMembers {
+    ghost use Rattle.std.specs.Prelude.{Some};
+    ghost use Rattle.disk_commands.specs.Info.{mended_members};
+
+    ghost output = { λ text. Some (mended_members text.0 text.1) };
+
+    fn fmt<W: fmt::Write>(&self, f: &mut fmt::Formatter<W>) -> fmt::Result {
+        let (turned, lost) = (self.1.turned, self.1.lost);
+        match self.0 {
+            Code::Plain => Ok(()),
+            Code::Hamming => write!(
+                f,
+                ",\"code\":\"hamming\",\"turned\":{turned},\"lost_pages\":{lost}"
+            ),
+        }
+    }
+}
+
 // The erases of the good blocks, as a JSON object.
 #[derive(Clone, Copy)]
 struct Wear<'a>(&'a Info);
@@ -235,10 +290,10 @@ impl fmt::Display for Object<'_> {
         let i = self.0;
         let (size, geometry) = (size_of(&i.shape.geometry), GeometryText(&i.shape.geometry));
         let (cache, free, bad, wear, next) = (i.shape.cache, i.free, i.bad, Wear(i), i.next);
-        let lost = self.1;
+        let (lost, mended) = (self.1, MendedMembers(i.shape.code, i.mended));
         write!(
             f,
-            "{{\"size\":{size},\"geometry\":\"{geometry}\",\"cache\":{cache},\"free\":{free},\"bad\":{bad},\"wear\":{wear},\"next\":{next},\"lost\":[{lost}]}}\n"
+            "{{\"size\":{size},\"geometry\":\"{geometry}\",\"cache\":{cache},\"free\":{free},\"bad\":{bad},\"wear\":{wear},\"next\":{next},\"lost\":[{lost}]{mended}}}\n"
         )
     }
 }

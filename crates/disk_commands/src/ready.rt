@@ -5,22 +5,24 @@ ghost use Rattle.disk_server.specs.Disk.{contents_of, holds};
 ghost use Rattle.disk_server.specs.Opened.{flash_in, is_honest_in};
 ghost use Rattle.disk_server.specs.Synced.{after_sync};
 ghost use Rattle.disk_recovery.specs.Recovered.{KeepsIfAny};
-ghost use Rattle.disk_commands.specs.Damage.{Names};
+ghost use Rattle.disk_commands.specs.Damage.{NamesAll};
 ghost use Rattle.disk_commands.specs.Files.{OpensMarked, with_mark};
 ghost use Rattle.disk_commands.specs.Opening.{IsUnkeptAt};
 ghost use Rattle.disk_commands.specs.Ready.{HoldsPages, IsNoneOf, IsReadyAt, IsUnkeptBy, IsUnreadyAt, MarksBy};
 ghost use Rattle.disk_commands.specs.ShapeText.{IsWithin};
 ghost use Rattle.disk_commands.specs.Told.{IsUnprinted};
 
-use crate::damage::{Looked, look_at, name_lost};
+use crate::damage::{Looked, look_at, name_lost, name_mended};
 use crate::files::DiskFiles;
 use crate::guard::{guarded, keeper_at};
 use crate::mark::FoundMark;
 use crate::opening::told_at;
 use crate::shape_text::DiskText;
+use crate::shapes::Code;
 use crate::text::DiskFault;
 use crate::words::ServeWords;
 use certificate::Certificate;
+use coded_store::{Mended, TellsMended};
 use disk_recovery::{ListedFault, recover_listed};
 use disk_server::{
     DeviceDisk, GuardedSectors, KeepsLost, SectorDisk, Sequenced, StoreDisk, Syncs, open_stopped,
@@ -32,6 +34,9 @@ use std::io::Write;
 
 /// The disk of a store, of which some sectors are lost.
 pub(crate) type GuardedDisk<S, K> = SectorDisk<GuardedSectors<DeviceDisk<Driver<FileDie<S>>>, K>>;
+
+/// Such a disk, ready to be served: with a second handle of its file, what is told beside it, and what was wrong with its pages.
+pub(crate) type ReadyDisk<S, K, Y> = (GuardedDisk<S, K>, Y, DiskText, Mended);
 
 // When the die syncs its file.
 fn sync_when(always: bool) -> SyncWhen {
@@ -128,16 +133,33 @@ fn keep_mark_of<'a, F: DiskFiles>(
     keep_mark(alloc, files, words.disk, syncs, found, next)
 }
 
-/// The disk at a path, whose lost sectors are named on standard error and guarded, with a second handle of its file, and what is told beside it. Where it is to be written, the list of its lost sectors is
+// Names lost sectors, and tells what was wrong with the pages.
+fn name_all<'a, E: Write>(
+    alloc: Global,
+    lost: &[bool],
+    code: Code,
+    mended: Mended,
+    err: &mut E,
+) -> Result<(), DiskFault<'a>>
+    ensures named { OnOk result (NamesAll lost.now code mended (E.contents err.old) (E.contents err.new)) }
+    ensures fault { IfErr result IsUnprinted }
+{
+    match name_lost(alloc, lost, err) {
+        Ok(()) => name_mended(alloc, code, mended, err),
+        Err(fault) => Err(fault),
+    }
+}
+
+/// The disk at a path, whose lost sectors are named on standard error and guarded, with a second handle of its file, and what is told beside it. So is told there what was wrong with its pages. Where it is to be written, the list of its lost sectors is
 /// kept before anything is programmed.
 pub(crate) fn ready<'a, F: DiskFiles, E: Write>(
     alloc: Global,
     files: &mut F,
     words: &ServeWords<'a>,
     err: &mut E,
-) -> Result<(GuardedDisk<F::Store, F::Lists>, F::Syncs, DiskText), DiskFault<'a>>
-    ensures ok { IfOk result (λ r. IsReadyAt F.Store.held F.Store.honest F.Syncs.marked F.Lists.kept (F.answers files.old) words.now.disk.now words.now.read_only r.2 r.0 r.1) }
-    ensures named { IfOk result (λ r. Names r.0.lost.items (E.contents err.old) (E.contents err.new)) }
+) -> Result<ReadyDisk<F::Store, F::Lists, F::Syncs>, DiskFault<'a>>
+    ensures ok { IfOk result (λ r. IsReadyAt F.Store.held F.Store.honest F.Store.mended F.Syncs.marked F.Lists.kept (F.answers files.old) words.now.disk.now words.now.read_only r.2 r.3 r.0 r.1) }
+    ensures named { IfOk result (λ r. NamesAll r.0.lost.items r.2.shape.code r.3 (E.contents err.old) (E.contents err.new)) }
     ensures fault { IfErr result (IsUnreadyAt F.Store.held F.Store.honest F.Store.failed F.Syncs.failed F.Lists.kept F.Lists.failed (F.answers files.old) words.now.disk.now words.now.read_only) }
     ensures unnamed { IfErr result (λ fault. (E.contents err.new ≡ E.contents err.old) ⊎ IsUnprinted fault) }
     ensures opened { OpensMarked words.now.disk.now (not words.now.read_only) (F.opened files.old) (F.opened files.new) }
@@ -147,6 +169,7 @@ pub(crate) fn ready<'a, F: DiskFiles, E: Write>(
         Ok(looked) => looked,
         Err(fault) => return Err(fault),
     };
+    let mended = looked.store.mended();
     let mut keeper = match keeper_at(alloc, files, words.disk, &looked) {
         Ok(keeper) => keeper,
         Err(fault) => return Err(fault),
@@ -177,12 +200,12 @@ pub(crate) fn ready<'a, F: DiskFiles, E: Write>(
         Ok(syncs) => syncs,
         Err(fault) => return Err(fault),
     };
-    match name_lost(alloc, &lost, err) {
+    match name_all(alloc, &lost, told.shape.code, mended, err) {
         Ok(()) => {}
         Err(fault) => return Err(fault),
     }
     match guarded(alloc, disk, keeper, lost) {
-        Ok(disk) => Ok((disk, syncs, told)),
+        Ok(disk) => Ok((disk, syncs, told, mended)),
         Err(fault) => Err(fault),
     }
 }

@@ -169,7 +169,7 @@ fn serve_client<'a, S: Sectors + Drop, Y: Syncs + Drop, I: Read, O: Write>(
 /// from then on. **Of files whose stores are honest the client's answers are those of the array of bytes that the die at DISK holds, once that is taken away.**
 ///
 /// Lost sectors, those on the list beside DISK and those that its pages show, are named on standard error, and none is read until it is written or trimmed. Where any is lost and DISK is to be
-/// written, their list is kept before anything is programmed.
+/// written, their list is kept before anything is programmed. Of a disk with a code it is told there how many wrong bits were turned back and how many pages are lost, where any are.
 ///
 /// # Errors
 ///
@@ -186,13 +186,13 @@ pub(crate) fn serve_command<'a, F: DiskFiles, I: Read, O: Write, E: Write>(
     out: &mut O,
     err: &mut E,
 ) -> Result<(), DiskFault<'a>>
-    ensures served { HasServedAt F.Store.held F.Store.honest F.Syncs.synced F.Syncs.marked F.Lists.kept (F.answers files.old) words.entry (I.remaining input.old) (I.remaining input.new) (O.contents out.old) (O.contents out.new)
+    ensures served { HasServedAt F.Store.held F.Store.honest F.Store.mended F.Syncs.synced F.Syncs.marked F.Lists.kept (F.answers files.old) words.entry (I.remaining input.old) (I.remaining input.new) (O.contents out.old) (O.contents out.new)
         (E.contents err.old) (E.contents err.new) result
         ⊎ HasNotServed F.Store.held F.Store.honest F.Store.failed F.Syncs.failed F.Lists.kept F.Lists.failed (F.answers files.old) words.entry (O.contents out.old) (O.contents out.new) (E.contents err.old) (E.contents err.new) result }
     ensures opened { OpensMarked words.entry.disk.now (not words.entry.read_only) (F.opened files.old) (F.opened files.new) }
     ensures kept { F.kept files.new ≡ F.kept files.old }
 {
-    let (disk, syncs, told) = match ready(alloc, files, &words, err) {
+    let (disk, syncs, told, _) = match ready(alloc, files, &words, err) {
         Ok(ready) => ready,
         Err(fault) => return Err(fault),
     };

@@ -2,10 +2,10 @@
 ghost use Rattle.std.specs.Prelude.{◌≡◌, ◌≢◌, false, Some, IfOk, IfErr, OnOk, codes, string_bytes};
 ghost use Rattle.serde_json.specs.View.{view};
 ghost use Rattle.disk_commands.specs.declared.shape_text.Member.{Member};
-ghost use Rattle.disk_commands.specs.ShapeText.{IsGeometryTold, IsNoShape, IsShapeText, IsTextMember, IsWithin, TellsLater, TellsLaterBy, TellsNone, TellsShape, TellsText, flag_at, geometry_words, listed_text, number_at, shape_data, shape_text, members_of, size_of, text_at, version_of, without_feed};
+ghost use Rattle.disk_commands.specs.ShapeText.{IsGeometryTold, IsNoShape, IsShapeText, IsTextMember, IsWithin, TellsLater, TellsLaterBy, TellsNone, TellsShape, TellsText, code_words, flag_at, geometry_words, listed_text, number_at, shape_data, shape_text, members_of, size_of, text_at, version_of, without_feed};
 
 use crate::shape_words::{GeometryText, GeometryWordFault, geometry_from};
-use crate::shapes::Shape;
+use crate::shapes::{Code, Shape};
 use crate::text::{limit, told, told_of};
 use page_layout::geometry::{Geometry, GeometryFault};
 use serde_json::{Value, json};
@@ -29,7 +29,7 @@ pub struct DiskText {
 pub enum Member {
     /// The entries of the cache, a number.
     Cache,
-    /// The code of the pages, a string: `none`. Version 1 has no such member.
+    /// The code of the pages, a string: `none` or `hamming`. Version 1 has no such member.
     Code,
     /// The geometry, a string: the word GEOM of `nandctl`.
     Geometry,
@@ -81,7 +81,7 @@ pub enum ShapeFault {
     Geometry(GeometryFault),
     /// The cache has not from 1 to 65,536 entries.
     CacheRange,
-    /// The pages have a code, which this program does not read.
+    /// The code of the pages is neither `none` nor `hamming`.
     Code,
     /// So many moved sectors may wait for each translation page, and not 0.
     Share(u64),
@@ -112,7 +112,7 @@ impl fmt::Display for ShapeFault {
                 told(f, "the geometry breaks a limit: ", limit(fault))
             }
             ShapeFault::CacheRange => f.write_str("the cache has not from 1 to 65536 entries"),
-            ShapeFault::Code => f.write_str("the code is not none"),
+            ShapeFault::Code => f.write_str("the code is neither none nor hamming"),
             ShapeFault::Share(share) => write!(f, "the share is {share} and not 0"),
             ShapeFault::OutOfMemory => f.write_str("out of memory"),
         }
@@ -126,16 +126,26 @@ fn geometry_word(alloc: Global, geometry: &Geometry) -> Result<String, AllocErro
     format!(in alloc; "{}", GeometryText(geometry))
 }
 
+// The word of a code.
+fn code_word(code: Code) -> &'static str
+    ensures { result.now ≡ code_words code }
+{
+    match code {
+        Code::Plain => "none",
+        Code::Hamming => "hamming",
+    }
+}
+
 // The object of a disk of this shape, by whether a list of lost sectors stands beside it.
 fn shape_value(alloc: Global, shape: &Shape, lost: bool) -> Result<Value, AllocError>
     ensures { IfOk result (λ value. view value ≡ shape_data shape.now lost) }
 {
     let word = geometry_word(alloc, &shape.geometry)?;
-    let (cache, geometry) = (u64::from(shape.cache), word.as_str());
-    json!(in alloc; {"cache": cache, "code": "none", "geometry": geometry, "lost": lost, "share": 0u64, "version": 2u64})
+    let (cache, code, geometry) = (u64::from(shape.cache), code_word(shape.code), word.as_str());
+    json!(in alloc; {"cache": cache, "code": code, "geometry": geometry, "lost": lost, "share": 0u64, "version": 2u64})
 }
 
-/// The text of the file beside a disk of this shape, in version 2: one JSON object and a line feed. It says that there is no code, that no sectors are lost and that none waits.
+/// The text of the file beside a disk of this shape, in version 2: one JSON object and a line feed. It says which code there is, that no sectors are lost and that none waits.
 ///
 /// (The form is this project's.)
 pub fn write_shape(alloc: Global, shape: &Shape) -> Result<String, AllocError>
@@ -234,15 +244,15 @@ fn is_second(value: &Value) -> Result<bool, ShapeFault>
     }
 }
 
-// That the pages have no code.
-fn require_no_code(value: &Value) -> Result<(), ShapeFault>
-    ensures ok { OnOk result (text_at Member.Code (view value.now) ≡ Some (codes "none")) }
+// The code of the pages.
+fn code_told(value: &Value) -> Result<Code, ShapeFault>
+    ensures ok { IfOk result (λ code. text_at Member.Code (view value.now) ≡ Some (code_words code)) }
     ensures fault { IfErr result (TellsNone (view value.now)) }
 {
-    if word(value, Member::Code)? == "none" {
-        Ok(())
-    } else {
-        Err(ShapeFault::Code)
+    match word(value, Member::Code)? {
+        "none" => Ok(Code::Plain),
+        "hamming" => Ok(Code::Hamming),
+        _ => Err(ShapeFault::Code),
     }
 }
 
@@ -271,23 +281,27 @@ fn require_no_share(value: &Value) -> Result<(), ShapeFault>
     }
 }
 
-// What the members say which version 1 lacks, where this program reads it: whether a list of lost sectors stands beside the disk.
-fn later_told(value: &Value) -> Result<bool, ShapeFault>
-    ensures ok { IfOk result (λ lost. TellsLater lost (view value.now)) }
+// What the members say which version 1 lacks, where this program reads it: the code of the pages, and whether a list of lost sectors stands beside the disk.
+fn later_told(value: &Value) -> Result<(Code, bool), ShapeFault>
+    ensures ok { IfOk result (λ later. TellsLater later.0 later.1 (view value.now)) }
     ensures fault { IfErr result (TellsNone (view value.now)) }
 {
-    require_no_code(value)?;
+    let code = code_told(value)?;
     let lost = lost_told(value)?;
     require_no_share(value)?;
-    Ok(lost)
+    Ok((code, lost))
 }
 
 // The same by the version: the first has no such member.
-fn later_by(value: &Value, second: bool) -> Result<bool, ShapeFault>
-    ensures ok { IfOk result (λ lost. TellsLaterBy second lost (view value.now)) }
+fn later_by(value: &Value, second: bool) -> Result<(Code, bool), ShapeFault>
+    ensures ok { IfOk result (λ later. TellsLaterBy second later.0 later.1 (view value.now)) }
     ensures fault { IfErr result (TellsNone (view value.now)) }
 {
-    if second { later_told(value) } else { Ok(false) }
+    if second {
+        later_told(value)
+    } else {
+        Ok((Code::Plain, false))
+    }
 }
 
 // How many members an object of the version has.
@@ -311,14 +325,14 @@ fn require_alone(value: &Value, second: bool) -> Result<(), ShapeFault>
     }
 }
 
-// The shape that a value tells.
-fn shape_told(value: &Value) -> Result<Shape, ShapeFault>
-    ensures ok { IfOk result (TellsShape (view value.now)) }
+// The shape that a value tells, whatever its code.
+fn shape_told(value: &Value) -> Result<(Geometry, u32), ShapeFault>
+    ensures ok { IfOk result (λ shape. TellsShape (view value.now) shape.0 shape.1) }
     ensures fault { IfErr result (TellsNone (view value.now)) }
 {
     let cache = cache_told(value)?;
     let geometry = geometry_told(value)?;
-    Ok(Shape { geometry, cache })
+    Ok((geometry, cache))
 }
 
 // What a value tells.
@@ -330,11 +344,15 @@ fn text_told(value: &Value) -> Result<DiskText, ShapeFault>
         return Err(ShapeFault::NotObject);
     }
     let second = is_second(value)?;
-    let shape = shape_told(value)?;
-    let lost = later_by(value, second)?;
+    let (geometry, cache) = shape_told(value)?;
+    let (code, lost) = later_by(value, second)?;
     require_alone(value, second)?;
     Ok(DiskText {
-        shape,
+        shape: Shape {
+            geometry,
+            cache,
+            code,
+        },
         marked: second,
         lost,
     })

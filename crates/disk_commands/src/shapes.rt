@@ -33,11 +33,21 @@ pub(crate) const MOST_ENTRIES: u32 = 65_536;
 // The most blocks of any die.
 const MOST_BLOCKS: u32 = 4096;
 
-/// What a disk in a file is: the geometry of its die, and the entries of its device's cache, from 1 to 65,536.
+/// The code that the pages of a disk have in its file. (This project's.)
+#[derive(Clone, Copy, Debug, PartialEq, Eq)]
+pub enum Code {
+    /// None: a page is its data area and its spare area.
+    Plain,
+    /// Three bytes for each 256 of the data area and for the spare area, which turn back one wrong bit of each (`page_code`).
+    Hamming,
+}
+
+/// What a disk in a file is: the geometry of its die without codes, the entries of its device's cache, from 1 to 65,536, and the code of its pages.
 #[derive(Clone, Copy, Debug, PartialEq, Eq)]
 pub struct Shape {
     pub geometry: Geometry,
     pub cache: u32,
+    pub code: Code,
 }
 
 /// Why there is no shape for a size. (This project's.)
@@ -129,7 +139,7 @@ fn least_blocks(pages: u32, sectors: u32) -> Option<u32>
 }
 
 /// The shape of a disk of so many bytes, in whole sectors of 4,096 bytes: pages of 4,096 and 128 bytes; as many blocks as a format of that many sectors needs and a
-/// twentieth more, rounded up; the fewest pages a block, of 64, 128 and 256, of which there is such a die; and the cache of [`cache_for`].
+/// twentieth more, rounded up; the fewest pages a block, of 64, 128 and 256, of which there is such a die; the cache of [`cache_for`]; and no code.
 ///
 /// # Errors
 ///
@@ -170,6 +180,7 @@ pub fn shape_for(bytes: u64) -> Result<Shape, SizeFault>
         Ok(geometry) => Ok(Shape {
             geometry,
             cache: cache_for(&geometry),
+            code: Code::Plain,
         }),
         Err(_) => Err(SizeFault::TooLarge),
     }

@@ -9,6 +9,7 @@ ghost use Rattle.disk_commands.specs.declared.words.ServeWords.{ServeWords};
 ghost use Rattle.disk_commands.specs.Words.{IsAsked, IsAt, IsCreateAt, IsInfoAt, IsMakeAt, IsNoCommand, IsServeAt};
 
 use crate::grammar::grammar;
+use crate::shapes::Code;
 use program_words::{CommandWords, Met, WordsFault, read_words};
 use std::alloc::Global;
 
@@ -29,6 +30,8 @@ pub struct CreateWords<'a> {
     pub make: MakeWords<'a>,
     /// C, where the cache is not to be the one for the geometry.
     pub cache: Option<&'a str>,
+    /// The code of the pages, which have none without `--code`.
+    pub code: Code,
     pub disk: &'a str,
 }
 
@@ -75,6 +78,17 @@ fn always(word: Option<&str>) -> Option<bool>
     }
 }
 
+// The code of the pages, by the word of `--code`.
+fn code(word: Option<&str>) -> Option<Code>
+    ensures { result ≡ Rattle.disk_commands.specs.Words.code (option_map (λ word. word.now) word.entry) }
+{
+    match word {
+        None | Some("none") => Some(Code::Plain),
+        Some("hamming") => Some(Code::Hamming),
+        _ => None,
+    }
+}
+
 // What a disk is to be made of, by the words of `--size`, `--geometry` and `--from`.
 fn make<'a>(
     size: Option<&'a str>,
@@ -112,6 +126,7 @@ fn create_words<'a>(found: &CommandWords<'a>) -> Option<CreateWords<'a>>
         disk: found.word("DISK")?,
         make: make_words(found)?,
         cache: found.word("cache"),
+        code: code(found.word("code"))?,
     })
 }
 
@@ -164,7 +179,7 @@ fn asked_at<'a>(name: &str, found: &CommandWords<'a>) -> Result<DiskWords<'a>, W
 }
 
 /// What the words ask for, of which the first is the program's name: as `clap` reads them. No option may stand twice. `create` takes `--size`, or
-/// `--geometry` with `--from` or without it, and `--sync` is `erases` or `always`.
+/// `--geometry` with `--from` or without it; `--code` is `none` or `hamming`, and `--sync` is `erases` or `always`.
 ///
 /// # Errors
 ///

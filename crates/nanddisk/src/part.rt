@@ -1,16 +1,22 @@
 //! A die that is made beside its place.
+ghost use Rattle.std.specs.Prelude.{IfOk};
+ghost use Rattle.nanddisk.specs.Stores.{IsStoreOf};
+
+use crate::die::DieStore;
 use crate::fault::{unmade, unread, unseen, unwritten};
 use disk_commands::FileFault;
-use file_die::{FileStore, Store};
+use file_die::Store;
 use part_files::{
     Names, Pair, SystemNames, clear_begun, discard, is_begun, new_part, publish_pair,
 };
 use std::fs::{self, File};
-use std::io::{self, Seek, SeekFrom, Write};
+use page_layout::geometry::Geometry;
+use std::alloc::Global;
+use std::io::{self, BufReader, Read, Seek, SeekFrom, Write};
 use std::rt::Files;
 
 /// Erases all blocks of a store, and has them last.
-pub fn erase_all(store: &mut FileStore) -> Result<(), FileFault> {
+pub fn erase_all(store: &mut DieStore) -> Result<(), FileFault> {
     for block in 0..store.geometry().blocks() {
         if block >= store.geometry().blocks() {
             break;
@@ -54,6 +60,37 @@ pub fn copy_file(from: &mut File, file: &File) -> io::Result<()> {
     let mut to = file;
     io::copy(from, &mut to)?;
     file.sync_all()
+}
+
+/// Puts the pages of a dump into a store, and has them last.
+pub fn put_dump(
+    alloc: Global,
+    geometry: &Geometry,
+    from: File,
+    store: DieStore,
+) -> Result<DieStore, FileFault>
+    requires { IsStoreOf geometry.now store }
+    ensures { IfOk result (IsStoreOf geometry.now) }
+{
+    let mut store = store;
+    let length = geometry.data_bytes() + geometry.spare_bytes();
+    let (Ok(mut page), Ok(mut reader)) =
+        (vec![in alloc; 0u8; length], BufReader::new(alloc, from))
+    else {
+        return Err(FileFault::OutOfMemory);
+    };
+    for row in 0..geometry.rows() {
+        if let Err(error) = reader.read_exact(&mut page) {
+            return Err(unread(error));
+        }
+        if store.put(row, &page).is_err() {
+            return Err(FileFault::Write);
+        }
+    }
+    match store.sync() {
+        Ok(()) => Ok(store),
+        Err(_) => Err(FileFault::Write),
+    }
 }
 
 // Writes bytes, and has them stored.

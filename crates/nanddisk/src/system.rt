@@ -1,15 +1,14 @@
 //! The files of the system.
+ghost use Rattle.nanddisk.specs.Stores.{IsStoreOf};
 ghost use Rattle.std.specs.Prelude.{◌≡◌, IfOk, Ok};
 
-use crate::die::{as_long, lock_die, second_handle, store_over};
+use crate::die::{DieStore, as_long, lock_die, second_handle, store_over};
 use crate::fault::{unmade, unread, unseen, unwritten};
 use crate::lists::{FileLists, ListNames};
 use crate::mark::{MarkFile, put_blank};
-use crate::part::{copy_file, erase_all, is_taken, new_die, open_dump, publish};
+use crate::part::{copy_file, erase_all, is_taken, new_die, open_dump, publish, put_dump};
 use crate::syncs::FileSyncs;
-use disk_commands::{DiskFiles, FileFault, FoundMark, MARK_BYTES, die_bytes};
-use file_die::FileStore;
-use page_layout::geometry::Geometry;
+use disk_commands::{Code, DiskFiles, FileFault, FoundMark, MARK_BYTES, Shape, dump_bytes};
 use part_files::{Names, Pair, SystemNames, discard, new_part, part_name, publish_new};
 use std::alloc::{AllocError, Global};
 use std::fs::{self, File, OpenOptions};
@@ -84,8 +83,8 @@ impl<'a, R: Files<File = File> + AllocGlobal> SystemFiles<'a, R> {
         &mut self,
         names: &PathNames,
         own: Result<File, FileFault>,
-        made: Result<FileStore, FileFault>,
-    ) -> Result<FileStore, FileFault>
+        made: Result<DieStore, FileFault>,
+    ) -> Result<DieStore, FileFault>
         ensures { IfOk result (λ store. made ≡ Ok store) }
     {
         match (own, made) {
@@ -190,8 +189,8 @@ fn open_mark<R: Files<File = File>>(rt: &R, names: &PathNames) -> Result<Option<
 }
 
 // A store of erased pages over an empty file.
-fn new_store(alloc: Global, geometry: &Geometry, file: File) -> Result<FileStore, FileFault> {
-    let mut store = match store_over(alloc, geometry, file) {
+fn new_store(alloc: Global, shape: &Shape, file: File) -> Result<DieStore, FileFault> {
+    let mut store = match store_over(alloc, shape, file) {
         Ok(store) => store,
         Err(fault) => return Err(fault),
     };
@@ -204,15 +203,21 @@ fn new_store(alloc: Global, geometry: &Geometry, file: File) -> Result<FileStore
 // A store over an empty file, with the pages of a dump.
 fn copied(
     alloc: Global,
-    geometry: &Geometry,
+    shape: &Shape,
     mut from: File,
     file: File,
-) -> Result<FileStore, FileFault>
-    ensures { IfOk result (λ store. store.geometry ≡ geometry.now) }
+) -> Result<DieStore, FileFault>
+    ensures { IfOk result (IsStoreOf shape.now.geometry) }
 {
-    match copy_file(&mut from, &file) {
-        Ok(()) => store_over(alloc, geometry, file),
-        Err(error) => Err(unwritten(error)),
+    match shape.code {
+        Code::Plain => match copy_file(&mut from, &file) {
+            Ok(()) => store_over(alloc, shape, file),
+            Err(error) => Err(unwritten(error)),
+        },
+        Code::Hamming => match store_over(alloc, shape, file) {
+            Ok(store) => put_dump(alloc, &shape.geometry, from, store),
+            Err(fault) => Err(fault),
+        },
     }
 }
 
@@ -222,7 +227,7 @@ impl<'a, R: Files<File = File> + AllocGlobal> DiskFiles for SystemFiles<'a, R> {
 
     type Locked = File;
 
-    type Store = FileStore;
+    type Store = DieStore;
 
     type Syncs = FileSyncs;
 
@@ -280,9 +285,9 @@ impl<'a, R: Files<File = File> + AllocGlobal> DiskFiles for SystemFiles<'a, R> {
         alloc: Global,
         _path: &str,
         locked: File,
-        geometry: &Geometry,
-    ) -> Result<(FileStore, FileSyncs), FileFault> {
-        let file = match as_long(locked, geometry) {
+        shape: &Shape,
+    ) -> Result<(DieStore, FileSyncs), FileFault> {
+        let file = match as_long(locked, shape) {
             Ok(file) => file,
             Err(fault) => return Err(fault),
         };
@@ -290,7 +295,7 @@ impl<'a, R: Files<File = File> + AllocGlobal> DiskFiles for SystemFiles<'a, R> {
             Ok(own) => own,
             Err(fault) => return Err(fault),
         };
-        match store_over(alloc, geometry, own) {
+        match store_over(alloc, shape, own) {
             Ok(store) => Ok((store, FileSyncs::new(file))),
             Err(fault) => Err(fault),
         }
@@ -319,8 +324,8 @@ impl<'a, R: Files<File = File> + AllocGlobal> DiskFiles for SystemFiles<'a, R> {
         &mut self,
         alloc: Global,
         path: &str,
-        geometry: &Geometry,
-    ) -> Result<FileStore, FileFault> {
+        shape: &Shape,
+    ) -> Result<DieStore, FileFault> {
         let names = match path_names(alloc, path) {
             Ok(names) => names,
             Err(fault) => return Err(fault),
@@ -330,7 +335,7 @@ impl<'a, R: Files<File = File> + AllocGlobal> DiskFiles for SystemFiles<'a, R> {
             Err(fault) => return Err(fault),
         };
         let own = second_handle(&file);
-        let made = new_store(alloc, geometry, file);
+        let made = new_store(alloc, shape, file);
         self.keep_part(&names, own, made)
     }
 
@@ -338,14 +343,14 @@ impl<'a, R: Files<File = File> + AllocGlobal> DiskFiles for SystemFiles<'a, R> {
         &mut self,
         alloc: Global,
         path: &str,
-        geometry: &Geometry,
+        shape: &Shape,
         dump: &str,
-    ) -> Result<FileStore, FileFault> {
+    ) -> Result<DieStore, FileFault> {
         let names = match path_names(alloc, path) {
             Ok(names) => names,
             Err(fault) => return Err(fault),
         };
-        let from = match open_dump(self.rt, dump, die_bytes(geometry)) {
+        let from = match open_dump(self.rt, dump, dump_bytes(&shape.geometry)) {
             Ok(from) => from,
             Err(fault) => return Err(fault),
         };
@@ -354,11 +359,11 @@ impl<'a, R: Files<File = File> + AllocGlobal> DiskFiles for SystemFiles<'a, R> {
             Err(fault) => return Err(fault),
         };
         let own = second_handle(&file);
-        let made = copied(alloc, geometry, from, file);
+        let made = copied(alloc, shape, from, file);
         self.keep_part(&names, own, made)
     }
 
-    fn keep(&mut self, path: &str, _store: FileStore, text: &[u8]) -> Result<(), FileFault> {
+    fn keep(&mut self, path: &str, _store: DieStore, text: &[u8]) -> Result<(), FileFault> {
         let names = match path_names(self.rt.alloc(), path) {
             Ok(names) => names,
             Err(fault) => return Err(fault),

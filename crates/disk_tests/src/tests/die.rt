@@ -2,6 +2,7 @@
 ghost use Rattle.std.specs.Prelude.{◌≡◌};
 
 mod alike;
+mod coded;
 mod failing;
 mod noting;
 mod opened;

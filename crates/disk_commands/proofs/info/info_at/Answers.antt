@@ -1,5 +1,6 @@
 use Rattle.std.proofs.Common.{◌∙◌, ap}
 use Rattle.disk_damage.specs.Numbers.{listed_sectors}
+use Rattle.disk_commands.specs.Info.{info_of}
 use Rattle.disk_commands.proofs.info.info_at.Goals as goal
 
 pub returns-in-Ok-new-clause-ok : goal.returns-in-Ok-new-clause-ok
@@ -10,6 +11,6 @@ returns-in-Ok-new-clause-ok g c = record {
   certificate = _;
   list = c.in-Ok.looked.lost.items;
   looked = c.in-Ok.ensures.ok;
-  is = c.in-Ok-new.ensures;
+  is = c.in-Ok-new.ensures ∙ ap (info_of c.in-Ok.looked.told.shape c.in-Ok.looked.certificate) c.mended-mended.ensures;
   lost_are = c.in-Ok-numbers_of.ensures ∙ ap listed_sectors c.deref.ensures.value;
 }

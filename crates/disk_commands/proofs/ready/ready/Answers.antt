@@ -1,4 +1,4 @@
-use Rattle.std.proofs.Common.{◌∙◌, ap, false, inl, inr, not, subst, sym}
+use Rattle.std.proofs.Common.{rules, ◌≡◌, ◌∙◌, Bool, List, ap, false, inl, inr, not, subst, sym}
 use Rattle.disk_recovery.specs.Recovered.{KeepsIfAny}
 use Rattle.disk_server.specs.Synced.{after_sync}
 use Rattle.disk_commands.specs.Ready.{IsDiskOf, IsNoneOf, IsUnkeptBy}
@@ -46,8 +46,8 @@ returns-in-Err-keep_mark_of-clause-opened g c =
     marks_then c.args.words.now.disk.now (not c.args.words.now.read_only) (g.F.DiskFiles.opened c.args.files.now) (g.F.DiskFiles.opened c.keeper_at.new.files) (g.F.DiskFiles.opened c.keep_mark_of.new.files)
     (ap g.F.DiskFiles.opened c.in-Ok-keeper_at.ensures.same ∙ c.in-Ok.ensures.opened) c.in-Err-keep_mark_of.ensures.opened
 
-pub returns-in-Err-name_lost-clause-opened : goal.returns-in-Err-name_lost-clause-opened
-returns-in-Err-name_lost-clause-opened g c =
+pub returns-in-Err-name_all-clause-opened : goal.returns-in-Err-name_all-clause-opened
+returns-in-Err-name_all-clause-opened g c =
     marks_then c.args.words.now.disk.now (not c.args.words.now.read_only) (g.F.DiskFiles.opened c.args.files.now) (g.F.DiskFiles.opened c.keeper_at.new.files) (g.F.DiskFiles.opened c.keep_mark_of.new.files)
     (ap g.F.DiskFiles.opened c.in-Ok-keeper_at.ensures.same ∙ c.in-Ok.ensures.opened) c.in-Ok-keep_mark_of.ensures.opened
 
@@ -74,6 +74,7 @@ returns-in-Ok-guarded-clause-ok g c = record {
         bytes = c.in-Ok-disk_of.ensures.bytes;
         keeps = λ writes marked. c.in-Ok-keep_mark_of.ensures.marked writes marked ∙ ap (λ n. after_sync n false c.in-Ok.looked.found.mark) c.next_sequence-next.ensures;
       });
+  mended_is = c.mended-mended.ensures;
   none_failed = c.in-Ok-guarded.ensures.failed;
   lasts = λ writes. subst (λ v. KeepsIfAny g.F.Lists.KeepsLost.kept v.items c.in-Ok-guarded.disk.keeper) (sym c.in-Ok-guarded.ensures.lost)
       (subst (λ k. KeepsIfAny g.F.Lists.KeepsLost.kept c.in-Ok.looked.lost.items k) (sym c.in-Ok-guarded.ensures.keeper)

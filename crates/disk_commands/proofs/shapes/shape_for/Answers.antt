@@ -1,4 +1,4 @@
-use Rattle.std.proofs.Common.{rules, ◌≡◌, arith, None}
+use Rattle.std.proofs.Common.{rules, ◌≡◌, arith, None, refl}
 use Rattle.std.specs.Int.{div_ceil}
 use Rattle.disk_commands.specs.declared.shapes.SizeFault.TheVariants.{TooLarge}
 use Rattle.disk_commands.proofs.ShapeLemmas.{no_die, over_die, roomy, shaped, spared_die}
@@ -16,7 +16,7 @@ returns-in_default-least_blocks-clause-within c = (λ no. absurd (cc), λ is. ab
 pub returns-in-Ok-die-clause-ok : goal.returns-in-Ok-die-clause-ok
 returns-in-Ok-die-clause-ok c =
     let its : c.in-Ok.sectors ≡ div_ceil c.args.bytes 4096 = search rules in
-    shaped c.args.bytes c.in-Ok.sectors c.in-Some.pages c.in-Some-least_blocks.needed c.div_ceil-2.result _ its c.div_ceil-2.ensures c.in-Some.ensures.some c.in-Some-least_blocks.ensures.some c.in-Ok-die.ensures.ok c.cache_for.ensures.is
+    shaped c.args.bytes c.in-Ok.sectors c.in-Some.pages c.in-Some-least_blocks.needed c.div_ceil-2.result _ its c.div_ceil-2.ensures c.in-Some.ensures.some c.in-Some-least_blocks.ensures.some c.in-Ok-die.ensures.ok c.cache_for.ensures.is refl
 
 pub returns-in-Ok-die-clause-formats : goal.returns-in-Ok-die-clause-formats
 returns-in-Ok-die-clause-formats c = spared_die c.in-Some.pages c.in-Ok.sectors c.in-Some-least_blocks.needed c.div_ceil-2.result c.in-Ok-die.geometry c.in-Some.ensures.some.known c.in-Some-least_blocks.ensures.some c.div_ceil-2.ensures c.in-Ok-die.ensures.ok

@@ -1,4 +1,4 @@
-use Rattle.std.proofs.Common.{sym}
+use Rattle.std.proofs.Common.{rules, sym}
 use Rattle.std.specs.Borrow.{Bor}
 use Rattle.clap.specs.Walk.{Text}
 use Rattle.program_words.proofs.WordLemmas.{entry_of, lacks}
@@ -12,4 +12,5 @@ returns-clause-some c = record {
   disk_is = entry_of (λ (w : Bor Text). w.now) _ _ _ c.word.ensures c.in_ok-word.was;
   make_is = c.in_ok-make_words.ensures.some;
   cache_is = sym c.word-2.ensures;
+  code_is = search rules;
 }

@@ -3,7 +3,7 @@ ghost use Rattle.std.specs.Prelude.{◌≡◌, ◌<◌, IfOk};
 ghost use Rattle.page_layout.specs.Geometry.{row_count};
 ghost use Rattle.page_layout.specs.Raw.{raw_image};
 
-use disk_commands::{DiskFiles, FileFault, FoundMark, die_bytes, none_found};
+use disk_commands::{DiskFiles, FileFault, FoundMark, Shape, dump_bytes as raw_bytes, none_found};
 use disk_server::{KeepsLost, Mark, Syncs};
 use file_die::{MemoryStore, Store};
 use nbd_stream::DiskFault;
@@ -253,7 +253,7 @@ impl DiskFiles for MemoryFiles {
         alloc: Global,
         path: &str,
         _locked: MemoryLock,
-        geometry: &Geometry,
+        shape: &Shape,
     ) -> Result<(MemoryStore, MemorySyncs), FileFault> {
         let Some(disk) = self.find(path) else {
             return Err(FileFault::Read);
@@ -262,7 +262,7 @@ impl DiskFiles for MemoryFiles {
             Ok(pages) => pages,
             Err(fault) => return Err(fault),
         };
-        match store_of(geometry, pages) {
+        match store_of(&shape.geometry, pages) {
             Ok(store) => Ok((
                 store,
                 MemorySyncs {
@@ -294,29 +294,29 @@ impl DiskFiles for MemoryFiles {
         &mut self,
         alloc: Global,
         _path: &str,
-        geometry: &Geometry,
+        shape: &Shape,
     ) -> Result<MemoryStore, FileFault> {
         if matches!(self.trouble, Trouble::Full) {
             return Err(FileFault::Write);
         }
-        let Ok(pages) = vec![in alloc; 0xFF; die_bytes(geometry) as usize] else {
+        let Ok(pages) = vec![in alloc; 0xFF; raw_bytes(&shape.geometry) as usize] else {
             return Err(FileFault::OutOfMemory);
         };
-        store_of(geometry, pages)
+        store_of(&shape.geometry, pages)
     }
 
     fn copy(
         &mut self,
         alloc: Global,
         _path: &str,
-        geometry: &Geometry,
+        shape: &Shape,
         dump: &str,
     ) -> Result<MemoryStore, FileFault> {
         if dump != "dump" {
             return Err(FileFault::Read);
         }
         match dump_bytes(alloc) {
-            Ok(pages) => store_of(geometry, pages),
+            Ok(pages) => store_of(&shape.geometry, pages),
             Err(fault) => Err(fault),
         }
     }

@@ -140,7 +140,7 @@ const FAULTS: &[(&[u8], ShapeFault)] = &[
         ShapeFault::WrongType(Member::Code),
     ),
     (
-        b"{\"cache\":64,\"code\":\"hamming\",\"geometry\":\"4096,128,64,13,1\",\"version\":2}",
+        b"{\"cache\":64,\"code\":\"bch\",\"geometry\":\"4096,128,64,13,1\",\"version\":2}",
         ShapeFault::Code,
     ),
     (

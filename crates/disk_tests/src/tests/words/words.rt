@@ -1,11 +1,13 @@
 //! The words of `nanddisk`.
-use disk_commands::{CreateWords, DiskWords, InfoWords, MakeWords, ServeWords, WordsFault, parse};
+use disk_commands::{
+    Code, CreateWords, DiskWords, InfoWords, MakeWords, ServeWords, WordsFault, parse,
+};
 use std::alloc::Global;
 use std::process::Abort;
 use std::test::*;
 
 // Words, and what they ask for, word by word; of a text how it begins. The disk is `d`.
-const ROWS: [(&[&str], &[&str]); 33] = [
+const ROWS: [(&[&str], &[&str]); 36] = [
     (
         &["create", "--size", "64M", "d"],
         &["size", "64M", "-", "-"],
@@ -30,6 +32,18 @@ const ROWS: [(&[&str], &[&str]); 33] = [
             "d",
         ],
         &["geometry", "G", "F", "9"],
+    ),
+    (
+        &["create", "--size", "1", "--code", "hamming", "d"],
+        &["size", "1", "-", "-", "hamming"],
+    ),
+    (
+        &["create", "--code=none", "--size", "1", "d"],
+        &["size", "1", "-", "-"],
+    ),
+    (
+        &["create", "--size", "1", "--code", "bch", "d"],
+        &["nothing"],
     ),
     (&["create", "d"], &["nothing"]),
     (&["create", "--cache", "9", "d"], &["nothing"]),
@@ -81,7 +95,12 @@ fn is_create(words: &CreateWords<'_>, told: &[&str]) -> bool {
         MakeWords::Dump { geometry, from } => ("geometry", geometry, from),
     };
     let cache = words.cache.unwrap_or("-");
-    words.disk == "d" && told == [kind, made, from, cache].as_slice()
+    let made = [kind, made, from, cache, "hamming"];
+    let kept = match words.code {
+        Code::Plain => 4,
+        Code::Hamming => 5,
+    };
+    words.disk == "d" && told == &made[..kept]
 }
 
 fn is_serve(words: ServeWords<'_>, told: &[&str]) -> bool {

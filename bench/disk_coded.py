@@ -1,0 +1,214 @@
+"""Turns bits in the file of a disk that keeps a code, and holds `nanddisk` to what it promises of them. PROGRAM is the program, or $PROGRAM; it wants fio,
+mtools and dosfstools (mkfs.fat), nbdcopy and nbdsh of libnbd, and socat is not needed: libnbd starts each server.
+
+    disk_coded.py [rounds] [seed]
+
+1. A disk is made with `--code hamming`, and beside it one without: each answers a FAT file system and fio with verify alike.
+2. Each round turns one bit of each chunk with its code in the whole file, in codes and in erased pages too: `info` tells just as many, fio verifies what
+   it wrote before, the files are as they were, and more is written.
+3. Two bits are turned in a chunk of the newest page of one sector: that sector alone is EIO, all others are as they were; it is written, and read.
+"""
+import json, os, random, subprocess, sys, tempfile
+
+PROGRAM = os.environ.get("PROGRAM", "nanddisk")
+DATA, SPARE = 4096, 128
+CHUNKS = DATA // 256
+OUTER = SPARE + 3 * (CHUNKS + 1)
+PAGE = DATA + OUTER
+
+
+def run(*words, **more):
+    return subprocess.run([PROGRAM, *words], capture_output=True, **more)
+
+
+def chunks():
+    """Of each chunk the places of its bytes and of its code in a page."""
+    all_of = []
+    for k in range(CHUNKS):
+        code = DATA + SPARE + 3 + 3 * k
+        all_of.append(list(range(256 * k, 256 * k + 256)) + list(range(code, code + 3)))
+    all_of.append(list(range(DATA, DATA + SPARE + 3)))
+    return all_of
+
+
+PLACES = chunks()
+
+
+def turn(page, places, draw, bits):
+    for place, bit in draw.sample([(p, b) for p in places for b in range(8)], bits):
+        page[place] ^= 1 << bit
+
+
+def turn_all(path, draw):
+    """One bit of each chunk of each page. How many that were."""
+    size = os.path.getsize(path)
+    assert size % PAGE == 0, (size, PAGE)
+    with open(path, "r+b") as file:
+        for row in range(size // PAGE):
+            file.seek(row * PAGE)
+            page = bytearray(file.read(PAGE))
+            for places in PLACES:
+                place = places[draw.randrange(len(places))]
+                page[place] ^= 1 << draw.randrange(8)
+            file.seek(row * PAGE)
+            file.write(page)
+    return size // PAGE * len(PLACES)
+
+
+def told(path):
+    done = run("info", "--json", path)
+    assert done.returncode == 0, done
+    return json.loads(done.stdout)
+
+
+def newest_row(path, sector):
+    """The row of a sector's newest page, by its record in version 2."""
+    best = None
+    with open(path, "rb") as file:
+        for row in range(os.path.getsize(path) // PAGE):
+            spare = file.read(PAGE)[DATA : DATA + SPARE]
+            if spare[2:4] == b"\2\1" and int.from_bytes(spare[4:8], "little") == sector:
+                sequence = int.from_bytes(spare[8:16], "little")
+                if best is None or sequence > best[0]:
+                    best = (sequence, row)
+    return best[1]
+
+
+def server(path, *more):
+    return ["[", PROGRAM, "serve", *more, path, "]"]
+
+
+def fio(path, *words):
+    """fio over the disk; libnbd starts the server on a socket of its own."""
+    with tempfile.TemporaryDirectory() as folder:
+        sock = f"{folder}/s"
+        relay = subprocess.Popen(["socat", f"UNIX-LISTEN:{sock}", f"EXEC:{PROGRAM} serve {path}"], stderr=subprocess.DEVNULL)
+        while not os.path.exists(sock):
+            pass
+        done = subprocess.run(
+            ["fio", "--name=job", "--ioengine=nbd", f"--uri=nbd+unix:///?socket={sock}", "--rw=randwrite", "--bs=4k", "--verify=crc32c", "--randseed=7",
+             "--size=4M", "--offset=4M", "--iodepth=4", "--fsync=64", *words], capture_output=True, text=True)
+        relay.wait()
+        assert done.returncode == 0, done.stdout + done.stderr
+
+
+def copy(*ends):
+    done = subprocess.run(["nbdcopy", *ends], capture_output=True)
+    assert done.returncode == 0, done.stderr
+
+
+def read_sector(path, sector):
+    """The bytes of a sector, or None where it is EIO."""
+    code = f"""
+import sys, nbd
+h.connect_command({[PROGRAM, "serve", "--read-only", path]!r})
+try:
+    sys.stdout.buffer.write(h.pread({DATA}, {sector * DATA}))
+except nbd.Error as e:
+    sys.stdout.buffer.write(b"EIO" if e.errno == "EIO" else str(e).encode())
+"""
+    done = subprocess.run(["nbdsh", "-c", code], capture_output=True)
+    assert done.returncode == 0, done.stderr
+    return None if done.stdout == b"EIO" else done.stdout
+
+
+def read_all(path, sectors):
+    """All sectors, those that are EIO as None."""
+    code = f"""
+import sys, nbd
+h.connect_command({[PROGRAM, "serve", "--read-only", path]!r})
+for sector in range({sectors}):
+    try:
+        sys.stdout.buffer.write(b"+" + h.pread({DATA}, sector * {DATA}))
+    except nbd.Error as e:
+        assert e.errno == "EIO", e
+        sys.stdout.buffer.write(b"-" + bytes({DATA}))
+"""
+    done = subprocess.run(["nbdsh", "-c", code], capture_output=True)
+    assert done.returncode == 0, done.stderr
+    size = DATA + 1
+    assert len(done.stdout) == size * sectors
+    return [done.stdout[k * size + 1 : (k + 1) * size] if done.stdout[k * size] == 0x2B else None for k in range(sectors)], done.stderr
+
+
+def write_sector(path, sector, byte):
+    code = f"""
+h.connect_command({[PROGRAM, "serve", path]!r})
+h.pwrite(bytes([{byte}]) * {DATA}, {sector * DATA})
+h.flush()
+h.shutdown()
+"""
+    done = subprocess.run(["nbdsh", "-c", code], capture_output=True)
+    assert done.returncode == 0, done.stderr
+
+
+def fat(folder, name, number):
+    """A FAT file system of 2 MiB with a file of its own: its image."""
+    image, inner = f"{folder}/{name}", f"{folder}/{name}.txt"
+    subprocess.run(["truncate", "-s", "2M", image], check=True)
+    subprocess.run(["mkfs.fat", "-i", "01020304", image], check=True, capture_output=True)
+    open(inner, "wb").write(random.Random(number).randbytes(300_000))
+    subprocess.run(["mcopy", "-i", image, inner, "::/FILE.TXT"], check=True)
+    return image
+
+
+def main():
+    rounds = int(sys.argv[1]) if len(sys.argv) > 1 else 5
+    draw = random.Random(int(sys.argv[2]) if len(sys.argv) > 2 else 1)
+    with tempfile.TemporaryDirectory() as folder:
+        coded, plain = f"{folder}/coded", f"{folder}/plain"
+        for path, more in ((coded, ["--code", "hamming"]), (plain, [])):
+            done = run("create", "--size", "8M", *more, path)
+            assert done.returncode == 0, done
+        rows = os.path.getsize(plain) // (DATA + SPARE)
+        assert os.path.getsize(coded) == rows * PAGE
+        assert "code" not in told(plain) and told(coded)["code"] == "hamming"
+        image = fat(folder, "first", 1)
+        for path in (coded, plain):
+            copy(image, *server(path))
+            fio(path)
+        bits = 0
+        for number in range(rounds):
+            turned = turn_all(coded, draw)
+            bits += turned
+            info = told(coded)
+            assert (info["turned"], info["lost_pages"], info["lost"]) == (turned, 0, []), (turned, info)
+            served = run("serve", "--read-only", coded, stdin=subprocess.DEVNULL)
+            assert served.stderr.decode() == f"code hamming\nturned {turned}\nlost pages 0\n", served.stderr
+            fio(coded, "--verify_only=1")
+            seen = f"{folder}/seen"
+            copy(*server(coded, "--read-only"), seen)
+            subprocess.run(["mcopy", "-n", "-o", "-i", seen, "::/FILE.TXT", f"{folder}/out"], check=True)
+            assert open(f"{folder}/out", "rb").read() == open(f"{image}.txt", "rb").read()
+            image = fat(folder, f"round{number}", number + 2)
+            copy(image, *server(coded))
+            copy(image, *server(plain))
+            fio(coded)
+            fio(plain)
+            copy(*server(plain, "--read-only"), f"{folder}/beside")
+            copy(*server(coded, "--read-only"), seen)
+            assert open(seen, "rb").read() == open(f"{folder}/beside", "rb").read(), "the two disks differ"
+        whole, _ = read_all(coded, 2048)
+        assert None not in whole
+        for sector in draw.sample(range(1024), 8):
+            row = newest_row(coded, sector) if any(whole[sector]) else None
+            if row is None:
+                continue
+            with open(coded, "r+b") as file:
+                file.seek(row * PAGE)
+                page = bytearray(file.read(PAGE))
+                turn(page, PLACES[draw.randrange(len(PLACES))], draw, 2)
+                file.seek(row * PAGE)
+                file.write(page)
+            seen, told_on = read_all(coded, 2048)
+            wrong = [k for k in range(2048) if seen[k] != whole[k]]
+            assert wrong == [sector] and seen[sector] is None, (sector, wrong, told_on)
+            assert f"lost sector {sector}\n".encode() in told_on and b"lost pages 1\n" in told_on, told_on
+            write_sector(coded, sector, 0x5A)
+            whole[sector] = bytes([0x5A]) * DATA
+            seen, _ = read_all(coded, 2048)
+            assert seen == whole
+        print(f"{rounds} rounds: {bits} bits turned back, each in a chunk of its own; two in a chunk lose the sector of that page alone")
+
+
+main()

@@ -1,0 +1,2 @@
+-- the stores of dies in files of the system
+pub mod Stores
