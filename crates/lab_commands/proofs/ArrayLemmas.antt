@@ -1,6 +1,6 @@
 -- What the command `array` comes to where it isn't done.
-use Rattle.std.proofs.Common.{◌≡◌, ◌≢◌, inl, inr, ℕ, Bool, false, subst, List, Option, Some, None, IfSome, refl}
-use Rattle.std.specs.Prelude.{◌⊎◌, IsSomeAnd}
+use Rattle.std.proofs.Common.{◌≡◌, ◌≢◌, inl, inr, ℕ, Bool, false, subst, List, Option, Some, None, refl}
+use Rattle.std.specs.Prelude.{IsSomeAnd}
 use Rattle.std.specs.Borrow.{Bor}
 use Rattle.page_layout.specs.declared.geometry.Geometry.{Geometry}
 use Rattle.lab_commands.specs.declared.words.ArrayWords.{ArrayWords}
@@ -8,8 +8,8 @@ use Rattle.lab_commands.specs.declared.files.Standing.{Standing}
 use Rattle.lab_commands.specs.declared.files.Standing.TheVariants as standing
 use Rattle.lab_commands.specs.declared.text.LabFault.{LabFault}
 use Rattle.lab_commands.specs.declared.text.LabFault.TheVariants as fault
-use Rattle.lab_commands.specs.Files.{Answers, AnswersNoMore, IsOpened, Store}
-use Rattle.lab_commands.specs.Undone.{IsGeometryAt, IsNoGeometry, IsKeptThere, IsMapUnplaced, IsUnmade, IsUnplaced, IsUnread, IsUnwritten}
+use Rattle.lab_commands.specs.Files.{Answers, AnswersNoMore, Store}
+use Rattle.lab_commands.specs.Undone.{IsGeometryAt, IsNoGeometry, IsKeptThere, IsMapUnplaced, IsUnread, IsUnwritten}
 use Rattle.lab_commands.specs.Array.{AreAllowed, AreNotAllowed, IsArrayFault, IsMapNotAllowed, IsUnmapped, IsUnput, as_map}
 use Rattle.lab_commands.proofs.UndoneLemmas.{left_all, map_unplaced_before}
 

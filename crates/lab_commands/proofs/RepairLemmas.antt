@@ -1,10 +1,10 @@
 -- What the command `repair` comes to where it isn't done.
-use Rattle.std.proofs.Common.{◌≡◌, ◌⊎◌, inl, inr, ℕ, Bool, List, Option, IfSome, refl}
+use Rattle.std.proofs.Common.{◌≡◌, ◌⊎◌, inl, inr, ℕ, Bool, List, Option, refl}
 use Rattle.page_layout.specs.declared.geometry.Geometry.{Geometry}
 use Rattle.lab_dump.specs.declared.rows.Rows.{Rows}
 use Rattle.lab_commands.specs.declared.words.RepairWords.{RepairWords}
 use Rattle.lab_commands.specs.declared.text.LabFault.{LabFault}
-use Rattle.lab_commands.specs.Files.{Answers, IsOpened, Store}
+use Rattle.lab_commands.specs.Files.{Answers, Store}
 use Rattle.lab_commands.specs.Rows.{AreNoRows, AreRowsAt}
 use Rattle.lab_commands.specs.Undone.{IsGeometryAt, IsNoGeometry, IsUnmade, IsUnplaced, IsUnroomed, MayNotWrite, MayWrite}
 use Rattle.lab_commands.specs.Repair.{IsRepairFault}

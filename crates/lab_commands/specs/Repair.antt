@@ -8,7 +8,6 @@ use Rattle.lab_mend.specs.Repaired.{IsOwnRepair, IsRepaired}
 use Rattle.lab_commands.specs.Reports.{repair_text}
 use Rattle.lab_commands.specs.declared.words.RepairWords.{RepairWords}
 use Rattle.lab_commands.specs.declared.text.LabFault.{LabFault}
-use Rattle.lab_commands.specs.declared.text.LabFault.TheVariants as fault
 use Rattle.lab_commands.specs.Files.{Answers, IsOpened, Store, with_kept}
 use Rattle.lab_commands.specs.Rows.{AreNoRows, AreRowsAt}
 use Rattle.lab_commands.specs.Undone.{IsGeometryAt, IsNoGeometry, IsHalfPrinted, IsUnmade, IsUnplaced, IsUnroomed, LeavesAll, MayNotWrite, MayWrite, form_of}
