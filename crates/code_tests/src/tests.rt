@@ -1,2 +1,3 @@
 mod chunks;
 mod pages;
+mod stores;
