@@ -198,30 +198,7 @@ fn live_thrice<N: Nand + Drop>(alloc: Global, nand: N, geometry: Geometry) -> Re
     Ok(())
 }
 
-// A slot that is cleared has no device.
-fn clear<N: Nand + Drop>(
-    alloc: Global,
-    nand: N,
-    geometry: &Geometry,
-    life: &Life,
-) -> Result<(), Fail>
-    requires { (N.flash nand).geometry ≡ geometry.now }
-{
-    let mut slot = Slot::new();
-    slot.put(brought(alloc, nand, geometry, life)?);
-    slot.clear();
-    hold_calls(&mut slot, life.name, &NONE)?;
-    hold_state(&slot, life.name, None, None)
-}
-
-#[test]
-fn power_comes_and_goes(rt: HostRuntime) -> Result<(), Fail> {
-    let geometry = small()?;
-    let die = formatted_die(rt.alloc(), geometry, &[], 0)?;
-    live_thrice(rt.alloc(), die, geometry)
-}
-
-// The same over the frames of a wire.
+// The die at the other end of a wire.
 fn framed(driver: Driver<Die>, geometry: Geometry) -> Result<Driver<StreamBus<Near<Die>>>, Fail>
     requires { driver.geometry ≡ geometry }
     ensures { IfOk result (λ driver. driver.geometry ≡ geometry) }
@@ -251,11 +228,4 @@ fn a_shortage_is_noted(rt: HostRuntime) -> Result<(), Fail> {
     let die = formatted_die(rt.alloc(), geometry, &failing, 0)?;
     live(rt.alloc(), die, &geometry, &SHORT)?;
     Ok(())
-}
-
-#[test]
-fn a_slot_is_cleared(rt: HostRuntime) -> Result<(), Fail> {
-    let geometry = small()?;
-    let die = formatted_die(rt.alloc(), geometry, &[], 0)?;
-    clear(rt.alloc(), die, &geometry, &FIRST)
 }
