@@ -18,7 +18,7 @@ use Rattle.page_layout.specs.Flash.{no_page}
 use Rattle.page_code.specs.Layout.{chunk_count, outer_bytes, codes_of, coded}
 use Rattle.page_code.specs.Near.{AreNear, IsNear}
 use Rattle.page_code.specs.Wrong.{bits_wrong}
-use Rattle.page_code.specs.Corrected.{stored, lost_if, wrong_if, wrong_in, lost_in, sum_chunks, turned_bits, lost_chunks, plain_of, plain_code, body_codes}
+use Rattle.page_code.specs.Corrected.{stored, lost_if, wrong_if, wrong_in, lost_in, sum_chunks, turned_areas, lost_areas, turned_bits, lost_chunks, plain_of, plain_code, body_codes}
 use Rattle.page_code.proofs.Parts.{first_256, after_256, take_bytes, drop_bytes}
 use Rattle.page_code.proofs.Pages.{enough, written}
 use Rattle.page_code.proofs.Puts.{put_right_law}
@@ -64,15 +64,15 @@ near_sum (suc n) right body codes e s k p q near =
     all ∙ ap (λ z. bits_apart z body + bits_apart (codes_of (suc n) z) codes) (take-append-drop 256 right)
 
 near_bits : (g : Geometry) (p r : Page) → IsPage g p → IsWithCodes g r → IsNear g p r → turned_bits g r ≡ bits_wrong g p r
-unfolding turned_bits
+unfolding turned_areas
 near_bits g p r is w near =
     let outer = w.sizes.spare_size in
-    let body = near_sum (chunk_count g) p.body r.body (body_codes g r) (is.body_size ∙ sym w.sizes.body_size) (omega (arith, w.sizes.body_size, enough g))
+    let body = near_sum (chunk_count g) p.body r.body (body_codes g.spare_bytes r) (is.body_size ∙ sym w.sizes.body_size) (omega (arith, w.sizes.body_size, enough g))
     (omega (arith, length-drop (g.spare_bytes + 3) r.spare, outer)) is.body_fits w.bytes.body near.chunks in
-    let spare = near_wrong g.spare_bytes p.spare (plain_of g r) (plain_code g r) g.limits.spare_size.most
+    let spare = near_wrong g.spare_bytes p.spare (plain_of g.spare_bytes r) (plain_code g.spare_bytes r) g.limits.spare_size.most
     (record { size_is = omega (arith, length-take g.spare_bytes r.spare, outer); bytes = take_bytes g.spare_bytes r.spare w.bytes.spare })
     (record { size_is = is.spare_size; bytes = is.spare_fits }) (omega (arith, length-take 3 (drop g.spare_bytes r.spare), length-drop g.spare_bytes r.spare, outer)) near.spare in
-    page_wrong g p.body r.body p.spare r.spare (wrong_in (plain_of g r) (plain_code g r)) (sum_chunks wrong_in (chunk_count g) r.body (body_codes g r)) _ is.spare_size (sym spare) body (omega arith)
+    page_wrong g p.body r.body p.spare r.spare (wrong_in (plain_of g.spare_bytes r) (plain_code g.spare_bytes r)) (sum_chunks wrong_in (chunk_count g) r.body (body_codes g.spare_bytes r)) _ is.spare_size (sym spare) body (omega arith)
 
 pub mended_law : MendedLaw
 mended_law g p r is w near =
@@ -105,20 +105,20 @@ two_in_some (suc n) right body codes e s k p q (inr two) =
     (omega (arith, length-drop 3 codes, k)) (drop_bytes 256 right p) (drop_bytes 256 body q) two in
     omega arith
 
-some_lost : (g : Geometry) (r : Page) → (0 < sum_chunks lost_in (chunk_count g) r.body (body_codes g r)) ⊎ (lost_in (plain_of g r) (plain_code g r) ≡ 1) → 0 < lost_chunks g r
-unfolding lost_chunks
+some_lost : (g : Geometry) (r : Page) → (0 < sum_chunks lost_in (chunk_count g) r.body (body_codes g.spare_bytes r)) ⊎ (lost_in (plain_of g.spare_bytes r) (plain_code g.spare_bytes r) ≡ 1) → 0 < lost_chunks g r
+unfolding lost_areas
 some_lost g r (inl l) = omega arith
 some_lost g r (inr e) = omega arith
 
 two_in_page : (g : Geometry) (p r : Page) → IsPage g p → IsWithCodes g r → HasTwo g p r → 0 < lost_chunks g r
 two_in_page g p r is w (inl two) =
     let outer = w.sizes.spare_size in
-    some_lost g r (inr (two_in_chunk g.spare_bytes p.spare (plain_of g r) (plain_code g r) g.limits.spare_size.most
+    some_lost g r (inr (two_in_chunk g.spare_bytes p.spare (plain_of g.spare_bytes r) (plain_code g.spare_bytes r) g.limits.spare_size.most
     (record { size_is = omega (arith, length-take g.spare_bytes r.spare, outer); bytes = take_bytes g.spare_bytes r.spare w.bytes.spare })
     (record { size_is = is.spare_size; bytes = is.spare_fits }) (omega (arith, length-take 3 (drop g.spare_bytes r.spare), length-drop g.spare_bytes r.spare, outer)) two))
 two_in_page g p r is w (inr two) =
     let outer = w.sizes.spare_size in
-    some_lost g r (inl (two_in_some (chunk_count g) p.body r.body (body_codes g r) (is.body_size ∙ sym w.sizes.body_size) (omega (arith, w.sizes.body_size, enough g))
+    some_lost g r (inl (two_in_some (chunk_count g) p.body r.body (body_codes g.spare_bytes r) (is.body_size ∙ sym w.sizes.body_size) (omega (arith, w.sizes.body_size, enough g))
     (omega (arith, length-drop (g.spare_bytes + 3) r.spare, outer)) is.body_fits w.bytes.body two))
 
 pub lost_law : LostLaw

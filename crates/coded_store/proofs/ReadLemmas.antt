@@ -8,7 +8,7 @@ use Rattle.error_correction.proofs.Flips.{rest_bytes}
 use Rattle.page_layout.specs.declared.geometry.Geometry.{Geometry}
 use Rattle.page_layout.specs.Page.{Page, IsPage}
 use Rattle.page_code.specs.Layout.{chunk_count}
-use Rattle.page_code.specs.Corrected.{stored, corrected, corrected_chunks, corrected_page, turned_bits, lost_chunks, plain_of, plain_code, body_codes}
+use Rattle.page_code.specs.Corrected.{stored, corrected, corrected_chunks, corrected_areas, corrected_page, turned_bits, lost_chunks, plain_of, plain_code, body_codes}
 use Rattle.page_code.proofs.Parts.{take_bytes, drop_bytes}
 use Rattle.page_code.proofs.Pages.{enough}
 use Rattle.page_code.proofs.Rights.{stored_law}
@@ -69,11 +69,11 @@ chunks_right (suc n) body codes s e b =
     }
 
 pub corrected_sized : (g : Geometry) (r : Page) → IsWithCodes g r → IsPage g (corrected_page g r)
-unfolding corrected_page
+unfolding corrected_areas
 corrected_sized g r h =
     let outer = h.sizes.spare_size in
-    let body = chunks_right (chunk_count g) r.body (body_codes g r) (omega (arith, h.sizes.body_size, enough g)) (omega (arith, length-drop (g.spare_bytes + 3) r.spare, outer)) h.bytes.body in
-    let spare = chunk_right g.spare_bytes (plain_of g r) (plain_code g r) g.limits.spare_size.most
+    let body = chunks_right (chunk_count g) r.body (body_codes g.spare_bytes r) (omega (arith, h.sizes.body_size, enough g)) (omega (arith, length-drop (g.spare_bytes + 3) r.spare, outer)) h.bytes.body in
+    let spare = chunk_right g.spare_bytes (plain_of g.spare_bytes r) (plain_code g.spare_bytes r) g.limits.spare_size.most
     (record { size_is = omega (arith, length-take g.spare_bytes r.spare, outer); bytes = take_bytes g.spare_bytes r.spare h.bytes.spare })
     (omega (arith, length-take 3 (drop g.spare_bytes r.spare), length-drop g.spare_bytes r.spare, outer)) in
     record { body_size = body.size_is ∙ h.sizes.body_size; spare_size = spare.size_is; body_fits = body.bytes; spare_fits = spare.bytes }
