@@ -40,9 +40,8 @@ LAW = re.compile(r"_laws?$")
 HEAD = """# API
 
 Written by `bench/api.py` from the sources: the public calls from page to device, each with the first words of its docstring and its errors. The
-source has the rest, and behind each signature the contract; [PROMISES.md](PROMISES.md) says it in words, [TOTALITY.md](TOTALITY.md) what each
-refusal leaves, [FIRMWARE.md](FIRMWARE.md) shows the calls in their order, [FORMATS.md](FORMATS.md) has the limits of a geometry and what each
-fault means.
+source has the rest; [TOTALITY.md](TOTALITY.md) what each refusal leaves, [FIRMWARE.md](FIRMWARE.md) the calls in their order,
+[FORMATS.md](FORMATS.md) the limits of a geometry and what each fault means.
 """
 
 

@@ -39,9 +39,16 @@ def plain(text):
     return text
 
 
+def linked(found):
+    """What stands for a link: a page that is a manual page by that name, any other one as it is called."""
+    page = found.group(2).partition("#")[0]
+    own = [f"{name}({section_of(name)})" for name, (_, source) in PAGES.items() if source == page and found.group(1) in (page, page[:-3])]
+    return own[0] if own else found.group(1)
+
+
 def inline(text):
     """A line of Markdown as one of roff."""
-    text = re.sub(r"!?\[([^\]]*)\]\([^)]*\)", r"\1", text)
+    text = re.sub(r"!?\[([^\]]*)\]\(([^)]*)\)", linked, text)
     pieces = []
     for piece in re.split(r"(`[^`]+`|\*\*[^*]+\*\*|\*[^*\s][^*]*\*)", text):
         if piece.startswith("`") and len(piece) > 1:
@@ -106,8 +113,7 @@ def body_of(text):
             while at < len(lines) and lines[at].strip() and not re.match(r"(-|\d+\.) |\||```|#", lines[at]):
                 rest += " " + lines[at].strip()
                 at += 1
-            # a list of links has no use on paper
-            out += [] if rest.startswith("On this page") else [".PP", *wrapped(rest)]
+            out += [".PP", *wrapped(rest)]
         else:
             at += 1
     return out
@@ -183,6 +189,8 @@ def page_of(name):
         out += body[1:] if body and body[0] == ".PP" else body
     out += behind(name)
     out += [".SH SEE ALSO", ",\n".join(f".BR {it} (1)" for it in SEE[name]).replace(",\n", " ,\n")]
+    files = "Pages that end in `.md` stand in `share/doc/kothlaim`, beside `share/man`" + ("; files of `examples/c` in its folder `examples`." if name in HEADERS else ".")
+    out += [".PP", *wrapped(files)]
     return "\n".join(out) + "\n"
 
 

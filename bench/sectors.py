@@ -11,6 +11,8 @@ import tempfile
 from pathlib import Path
 
 MOST_SECTORS = 1 << 20
+# docs/FORMATS.md: data, spare, pages, blocks, sectors
+LIMITS = ([1 << it for it in range(6, 13)], range(32, 257), [1 << it for it in range(2, 9)], range(12, 4097), range(1, MOST_SECTORS + 1))
 USUAL = [
     (512, 32, 32, 2048),
     (2048, 64, 64, 1024),
@@ -109,9 +111,9 @@ def check():
 
 
 def geometry(word):
-    """The four numbers of a die, as GEOM has its first four; a fifth, the sectors, is passed over."""
+    """The four numbers of a die, as GEOM has its first four; a fifth, the sectors, is passed over. Each within the limits of a die: so no comma among thousands is taken."""
     numbers = [int(it) for it in word.split(",")]
-    if len(numbers) not in (4, 5):
+    if len(numbers) not in (4, 5) or any(number not in limit for number, limit in zip(numbers, LIMITS)):
         raise ValueError(word)
     return tuple(numbers[:4])
 
