@@ -1,5 +1,5 @@
 """Turns bits in the file of a disk that keeps a code, and holds `nanddisk` to what it promises of them. PROGRAM is the program, or $PROGRAM; it wants fio,
-mtools and dosfstools (mkfs.fat), nbdcopy and nbdsh of libnbd, and socat is not needed: libnbd starts each server.
+mtools and dosfstools (mkfs.fat), nbdcopy and nbdsh of libnbd, and socat.
 
     disk_coded.py [rounds] [seed]
 
@@ -8,7 +8,7 @@ mtools and dosfstools (mkfs.fat), nbdcopy and nbdsh of libnbd, and socat is not 
    it wrote before, the files are as they were, and more is written.
 3. Two bits are turned in a chunk of the newest page of one sector: that sector alone is EIO, all others are as they were; it is written, and read.
 """
-import json, os, random, subprocess, sys, tempfile
+import contextlib, json, os, random, subprocess, sys, tempfile, time
 
 PROGRAM = os.environ.get("PROGRAM", "nanddisk")
 DATA, SPARE = 4096, 128
@@ -74,26 +74,40 @@ def newest_row(path, sector):
     return best[1]
 
 
-def server(path, *more):
-    return ["[", PROGRAM, "serve", *more, path, "]"]
+@contextlib.contextmanager
+def served(path, *more):
+    """The disk on a socket, for clients one after another: its URI."""
+    with tempfile.TemporaryDirectory() as folder:
+        sock = f"{folder}/s"
+        relay = subprocess.Popen(["socat", f"UNIX-LISTEN:{sock},fork", f"EXEC:{' '.join([PROGRAM, 'serve', *more, path])}"], stderr=subprocess.DEVNULL)
+        while not os.path.exists(sock):
+            pass
+        yield f"nbd+unix:///?socket={sock}"
+        relay.terminate()
+        relay.wait()
+        # a server goes on until it has flushed
+        while b"in use" in run("info", path).stderr:
+            time.sleep(0.02)
 
 
 def fio(path, *words):
-    """fio over the disk; libnbd starts the server on a socket of its own."""
-    with tempfile.TemporaryDirectory() as folder:
-        sock = f"{folder}/s"
-        relay = subprocess.Popen(["socat", f"UNIX-LISTEN:{sock}", f"EXEC:{PROGRAM} serve {path}"], stderr=subprocess.DEVNULL)
-        while not os.path.exists(sock):
-            pass
+    """fio over the disk."""
+    with served(path) as uri:
         done = subprocess.run(
-            ["fio", "--name=job", "--ioengine=nbd", f"--uri=nbd+unix:///?socket={sock}", "--rw=randwrite", "--bs=4k", "--verify=crc32c", "--randseed=7",
+            ["fio", "--name=job", "--ioengine=nbd", f"--uri={uri}", "--rw=randwrite", "--bs=4k", "--verify=crc32c", "--randseed=7",
              "--size=4M", "--offset=4M", "--iodepth=4", "--fsync=64", *words], capture_output=True, text=True)
-        relay.wait()
-        assert done.returncode == 0, done.stdout + done.stderr
+    assert done.returncode == 0, done.stdout + done.stderr
 
 
-def copy(*ends):
-    done = subprocess.run(["nbdcopy", *ends], capture_output=True)
+def copy_in(image, path):
+    with served(path) as uri:
+        done = subprocess.run(["nbdcopy", "--connections=1", image, uri], capture_output=True)
+    assert done.returncode == 0, done.stderr
+
+
+def copy_out(path, to):
+    with served(path, "--read-only") as uri:
+        done = subprocess.run(["nbdcopy", "--connections=1", uri, to], capture_output=True)
     assert done.returncode == 0, done.stderr
 
 
@@ -165,7 +179,7 @@ def main():
         assert "code" not in told(plain) and told(coded)["code"] == "hamming"
         image = fat(folder, "first", 1)
         for path in (coded, plain):
-            copy(image, *server(path))
+            copy_in(image, path)
             fio(path)
         bits = 0
         for number in range(rounds):
@@ -173,21 +187,22 @@ def main():
             bits += turned
             info = told(coded)
             assert (info["turned"], info["lost_pages"], info["lost"]) == (turned, 0, []), (turned, info)
-            served = run("serve", "--read-only", coded, stdin=subprocess.DEVNULL)
-            assert served.stderr.decode() == f"code hamming\nturned {turned}\nlost pages 0\n", served.stderr
+            silent = run("serve", "--read-only", coded, stdin=subprocess.DEVNULL)
+            assert silent.stderr.decode() == f"code hamming\nturned {turned}\nlost pages 0\n", silent.stderr
             fio(coded, "--verify_only=1")
             seen = f"{folder}/seen"
-            copy(*server(coded, "--read-only"), seen)
+            copy_out(coded, seen)
             subprocess.run(["mcopy", "-n", "-o", "-i", seen, "::/FILE.TXT", f"{folder}/out"], check=True)
             assert open(f"{folder}/out", "rb").read() == open(f"{image}.txt", "rb").read()
             image = fat(folder, f"round{number}", number + 2)
-            copy(image, *server(coded))
-            copy(image, *server(plain))
+            copy_in(image, coded)
+            copy_in(image, plain)
             fio(coded)
             fio(plain)
-            copy(*server(plain, "--read-only"), f"{folder}/beside")
-            copy(*server(coded, "--read-only"), seen)
-            assert open(seen, "rb").read() == open(f"{folder}/beside", "rb").read(), "the two disks differ"
+            copy_out(plain, f"{folder}/beside")
+            copy_out(coded, seen)
+            # (fio writes the time of day into what it verifies, behind 4 MiB)
+            assert open(seen, "rb").read(4 << 20) == open(f"{folder}/beside", "rb").read(4 << 20), "the two disks differ"
         whole, _ = read_all(coded, 2048)
         assert None not in whole
         for sector in draw.sample(range(1024), 8):

@@ -91,7 +91,7 @@ fn takes(store: &mut CodedStore<MemoryPages>, page: &[u8; PAGE]) -> bool {
 // Turns bits of the page that stands at the row.
 fn turn(bytes: &mut [u8], turned: &[(usize, u32)]) {
     for (place, bit) in turned {
-        if let Some(byte) = bytes.get_mut(ROW as usize * STANDS + *place) {
+        if let Some(byte) = bytes.get_mut(place.wrapping_add(ROW as usize * STANDS)) {
             *byte ^= 1u8.wrapping_shl(*bit);
         }
     }
