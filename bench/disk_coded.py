@@ -39,17 +39,22 @@ def turn(page, places, draw, bits):
         page[place] ^= 1 << bit
 
 
-def turn_all(path, draw):
-    """One bit of each chunk of each page. How many that were."""
+def turn_all(path, draw, before):
+    """One bit of each chunk of each page, which `before` keeps as it was and as it is. How many that were."""
     size = os.path.getsize(path)
     assert size % PAGE == 0, (size, PAGE)
     with open(path, "r+b") as file:
         for row in range(size // PAGE):
             file.seek(row * PAGE)
             page = bytearray(file.read(PAGE))
+            # the bits of the last round stand in a page until it is written anew: a second one in a chunk would lose it
+            if row in before and before[row][1] == page:
+                page = bytearray(before[row][0])
+            right = bytes(page)
             for places in PLACES:
                 place = places[draw.randrange(len(places))]
                 page[place] ^= 1 << draw.randrange(8)
+            before[row] = right, bytes(page)
             file.seek(row * PAGE)
             file.write(page)
     return size // PAGE * len(PLACES)
@@ -181,9 +186,9 @@ def main():
         for path in (coded, plain):
             copy_in(image, path)
             fio(path)
-        bits = 0
+        bits, before = 0, {}
         for number in range(rounds):
-            turned = turn_all(coded, draw)
+            turned = turn_all(coded, draw, before)
             bits += turned
             info = told(coded)
             assert (info["turned"], info["lost_pages"], info["lost"]) == (turned, 0, []), (turned, info)

@@ -6,12 +6,12 @@ use crate::die::DieStore;
 use crate::fault::{unmade, unread, unseen, unwritten};
 use disk_commands::FileFault;
 use file_die::Store;
+use page_layout::geometry::Geometry;
 use part_files::{
     Names, Pair, SystemNames, clear_begun, discard, is_begun, new_part, publish_pair,
 };
-use std::fs::{self, File};
-use page_layout::geometry::Geometry;
 use std::alloc::Global;
+use std::fs::{self, File};
 use std::io::{self, BufReader, Read, Seek, SeekFrom, Write};
 use std::rt::Files;
 
@@ -74,8 +74,7 @@ pub fn put_dump(
 {
     let mut store = store;
     let length = geometry.data_bytes() + geometry.spare_bytes();
-    let (Ok(mut page), Ok(mut reader)) =
-        (vec![in alloc; 0u8; length], BufReader::new(alloc, from))
+    let (Ok(mut page), Ok(mut reader)) = (vec![in alloc; 0u8; length], BufReader::new(alloc, from))
     else {
         return Err(FileFault::OutOfMemory);
     };

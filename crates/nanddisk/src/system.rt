@@ -201,12 +201,7 @@ fn new_store(alloc: Global, shape: &Shape, file: File) -> Result<DieStore, FileF
 }
 
 // A store over an empty file, with the pages of a dump.
-fn copied(
-    alloc: Global,
-    shape: &Shape,
-    mut from: File,
-    file: File,
-) -> Result<DieStore, FileFault>
+fn copied(alloc: Global, shape: &Shape, mut from: File, file: File) -> Result<DieStore, FileFault>
     ensures { IfOk result (IsStoreOf shape.now.geometry) }
 {
     match shape.code {
@@ -320,12 +315,7 @@ impl<'a, R: Files<File = File> + AllocGlobal> DiskFiles for SystemFiles<'a, R> {
         Ok(syncs.with_mark(kept, found.mark))
     }
 
-    fn create(
-        &mut self,
-        alloc: Global,
-        path: &str,
-        shape: &Shape,
-    ) -> Result<DieStore, FileFault> {
+    fn create(&mut self, alloc: Global, path: &str, shape: &Shape) -> Result<DieStore, FileFault> {
         let names = match path_names(alloc, path) {
             Ok(names) => names,
             Err(fault) => return Err(fault),
