@@ -68,13 +68,15 @@ def refused_files(program, folder):
         (b'{"cache":64,"geometry":"512,32,8,48,150","version":3}', "another version"),
         (b'{"cache":64,"code":"none","geometry":"512,32,8,48,150","lost":false,"share":15,"version":2}', "the share is 15 and not 0"),
         (b'{"cache":64,"code":"x","geometry":"512,32,8,48,150","lost":false,"share":0,"version":2}', "the code is neither none nor hamming"),
-        (b'{"cache":64,"code":"none","geometry":"512,32,8,48,150","lost":true,"share":0,"version":2}', "sectors are lost"),
         (b'{"cache":0,"geometry":"512,32,8,48,150","version":1}', "the cache has not from 1 to 65536 entries"),
         (b'{"cache":64,"geometry":"512,32,8,48","version":1}', "the geometry is no five numbers"),
         (b'{"cache":64,"geometry":"512,32,8,48,150","version":1,"more":1}', "a member with another name"),
     ):
         open(path + ".json", "wb").write(text)
         hold([program, "serve", path], 1, f"refused: {path}.json: {why}")
+    # a list of lost sectors that is missing
+    open(path + ".json", "wb").write(b'{"cache":64,"code":"none","geometry":"512,32,8,48,150","lost":true,"share":0,"version":2}')
+    hold([program, "serve", path], 3, f"fault read {path}.lost")
     open(path + ".json", "wb").write(b'{"cache":64,"geometry":"512,32,8,64,150","version":1}')
     hold([program, "serve", path], 1, f"refused: {path} has {48 * 8 * 544} bytes, and its shape {64 * 8 * 544}")
     open(path + ".json", "wb").write(b'{"cache":64,"geometry":"512,32,16,24,150","version":1}')
@@ -135,7 +137,7 @@ def left_parts(program, folder):
         part = os.path.join(folder, part)
         os.link(path, part)
         other = os.path.join(folder, f"d{number}.nand")
-        for end in ("", ".json"):
+        for end in ("", ".json", ".mark"):
             os.rename(path + end, other + end)
         assert told([program, "create", "--geometry", GEOMETRY, path]) == (0, ""), part
         assert open(other, "rb").read() == image, f"create has changed another disk, by {part}"
@@ -192,7 +194,8 @@ def failed_syncs(program, folder):
     """After a sync that failed nothing is answered but that it failed, whatever the next sync of the system says."""
     path = os.path.join(folder, "g.nand")
     told([program, "create", "--geometry", GEOMETRY, path])
-    client, server = start(["strace", "-f", "-o", os.devnull, "-e", "trace=fdatasync", "-e", "inject=fdatasync:error=EIO:when=1", program, "serve", path])
+    # (a start has one sync of its own)
+    client, server = start(["strace", "-f", "-o", os.devnull, "-e", "trace=fdatasync", "-e", "inject=fdatasync:error=EIO:when=2", program, "serve", path])
     client.pwrite(b"\x5a" * 512, 0)
     failed = []
     for call in (client.flush, client.flush, lambda: client.pread(512, 0), lambda: client.pwrite(bytes(512), 0), client.flush):
