@@ -100,7 +100,7 @@ def fio(path, *words):
     with served(path) as uri:
         done = subprocess.run(
             ["fio", "--name=job", "--ioengine=nbd", f"--uri={uri}", "--rw=randwrite", "--bs=4k", "--verify=crc32c", "--randseed=7",
-             "--size=4M", "--offset=4M", "--iodepth=4", "--fsync=64", *words], capture_output=True, text=True)
+             "--size=4M", "--offset=4M", "--iodepth=4", "--fsync=64", "--verify_state_save=0", *words], capture_output=True, text=True)
     assert done.returncode == 0, done.stdout + done.stderr
 
 
