@@ -206,22 +206,27 @@ static inline size_t ftl_room(void) { return ftl_entry_room(); }
 
 /* Makes a disk of this shape in memory of yours, with no device yet, and sets `*disk` to it: `room` has to be ftl_room() bytes that begin at a multiple of 16. They are
  * yours again after ftl_stop. Nothing is asked of the die, and nothing of the heap. `input` and `output` are handed to read and write as their descriptors: frames
- * are written to `output`, answers are read from `input`; they may be one. Errors: of a shape. */
+ * are written to `output`, answers are read from `input`; they may be one. Errors: of a shape. `*disk` is NULL
+ * after any answer but FTL_DONE, so a call with it is answered FTL_NULL. */
 static inline uint32_t ftl_open_at(const struct ftl_shape *shape, int32_t input, int32_t output, void *room, ftl_disk **disk) {
     struct ftl_handle handle;
     uint32_t answer;
-    if (shape == NULL || room == NULL || disk == NULL) return FTL_NULL;
+    if (disk == NULL) return FTL_NULL;
+    *disk = NULL;
+    if (shape == NULL || room == NULL) return FTL_NULL;
     handle.at = (ftl_disk *)room;
     answer = ftl_entry_open(shape, input, output, &handle);
     if (answer == FTL_DONE) *disk = handle.at;
     return answer;
 }
 
-/* As ftl_open_at, in one piece of the heap, which is taken until ftl_close. Errors: of a shape; FTL_OUT_OF_MEMORY. */
+/* As ftl_open_at, in one piece of the heap, which is taken until ftl_close. Errors: of a shape; FTL_OUT_OF_MEMORY. `*disk` is as after that. */
 static inline uint32_t ftl_open(const struct ftl_shape *shape, int32_t input, int32_t output, ftl_disk **disk) {
     struct rattle_tried room;
     uint32_t answer;
-    if (shape == NULL || disk == NULL) return FTL_NULL;
+    if (disk == NULL) return FTL_NULL;
+    *disk = NULL;
+    if (shape == NULL) return FTL_NULL;
     room = rattle_alloc(ftl_entry_room(), 16);
     if (!room.ok) return FTL_OUT_OF_MEMORY;
     answer = ftl_open_at(shape, input, output, room.p, disk);

@@ -1,7 +1,7 @@
 /* What the library costs: time, reads and writes of the bus, and stack, a call; what the frames are of that, and what the page's seal. The chip is the die in C in
  * the same thread, whose cycles are copies in memory: on a real chip these take longer, and nothing else does.
  *
- *     cost [DATA SPARE PAGES BLOCKS SECTORS CACHE] */
+ *     cost [DATA SPARE PAGES BLOCKS SECTORS CACHE [CODES]] */
 #define _GNU_SOURCE
 #include <pthread.h>
 #include <stdio.h>
@@ -252,11 +252,11 @@ static void frames_cost(double write_us, double write_reads, double write_progra
     printf("of a write with collection frames are %.2f us of %.1f us: %.1f %%\n", frames, write_us, 100 * frames / write_us);
 }
 
-static void numbers(char **words)
+static void numbers(int count, char **words)
 {
     uint32_t *number = &shape.data_bytes;
 
-    for (int i = 0; i < 6; i++)
+    for (int i = 0; i < count; i++)
         number[i] = (uint32_t)strtoul(words[i], NULL, 0);
 }
 
@@ -266,12 +266,12 @@ int main(int count, char **words)
     unsigned long reads_before, programs_before;
     double write_us;
 
-    if (count == 7)
-        numbers(words + 1);
+    if (count == 7 || count == 8)
+        numbers(count - 1, words + 1);
     WANT(FTL_DONE, ftl_measure(&shape, &sizes));
     printf("%u+%u, %u pages, %u blocks, %u sectors, cache %u: at most %u bytes of memory in %u pieces\n", shape.data_bytes, shape.spare_bytes,
            shape.pages, shape.blocks, shape.sectors, shape.cache, sizes.memory_bytes, sizes.memory_blocks);
-    if (die_make(&die, shape.data_bytes, shape.spare_bytes, shape.pages, shape.blocks))
+    if (die_make(&die, shape.data_bytes, sizes.chip_spare_bytes, shape.pages, shape.blocks))
         return 2;
     cycles = cycles_of_die(&die);
     port_to(&cycles);

@@ -30,11 +30,12 @@ static int is_as_written(uint32_t sector, uint32_t nth)
 /* The first time: the die is made ready, once in its life. */
 static ftl_disk *begin(struct board *board)
 {
-    ftl_disk *disk = NULL;
+    ftl_disk *disk;
     struct ftl_shape wrong = life_shape;
 
     wrong.pages = 60;
     WANT(FTL_PAGES_PER_BLOCK, ftl_open(&wrong, board->descriptor, board->descriptor, &disk));
+    WANT(FTL_NULL, ftl_start(disk));
     WANT(FTL_DONE, ftl_open(&life_shape, board->descriptor, board->descriptor, &disk));
     WANT(FTL_NOT_STARTED, ftl_read(disk, 0, seen, BYTES));
     WANT(FTL_NOT_FORMATTED, ftl_start(disk));

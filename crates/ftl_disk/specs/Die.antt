@@ -1,5 +1,6 @@
 -- THE DIE BEHIND TWO DESCRIPTORS, of which nothing is known: one whose pages read back as they were programmed, or one over a chip whose pages have codes.
 use Rattle.std.specs.Prelude.{◌≡◌, ◌⊎◌, ℕ, Bool, false, [], Option, Some, None, IsSome}
+use Rattle.page_layout.specs.declared.geometry.Geometry.{Geometry}
 use Rattle.page_layout.specs.Flash.{Flash}
 use Rattle.page_layout.specs.Raw.{still}
 use Rattle.page_layout.specs.Recording.{Recording}
@@ -46,25 +47,31 @@ programs_in d = of_either (λ (p : PlainDie). p.programs) (λ (c : CodedDie). c.
 abbrev pub erases_in : Die → ℕ
 erases_in d = of_either (λ (p : PlainDie). p.erases) (λ (c : CodedDie). c.erases) d
 
+-- the way to a die of this geometry over the same descriptors
+abbrev pub way_of : Descriptors → Geometry → Descriptors
+way_of link g = record { input = link.input; output = link.output; geometry = g }
+
 -- ---- after a Reset
 
--- a die whose pages read back as they were programmed, which has counted nothing
-pub record IsPlainFor (p : Plan) (die : PlainDie) : Type 0 where
+-- a die whose pages read back as they were programmed, behind these descriptors, which has counted nothing
+pub record IsPlainFor (p : Plan) (link : Descriptors) (die : PlainDie) : Type 0 where
   pub none : p.chip ≡ None
+  pub behind : die.bus.link ≡ link
   pub geometry : die.geometry ≡ p.geometry
   pub fresh : die.failures ≡ 0
 
--- one over a chip of this geometry, which has counted nothing
-pub record IsCodedFor (p : Plan) (die : CodedDie) : Type 0 where
+-- one over a chip of this geometry, behind these descriptors, which has counted nothing
+pub record IsCodedFor (p : Plan) (link : Descriptors) (die : CodedDie) : Type 0 where
   pub chip : p.chip ≡ Some (record { raw = die.nand.driver.geometry })
+  pub behind : die.nand.driver.bus.link ≡ link
   pub geometry : die.nand.geometry ≡ p.geometry
   pub fresh : die.failures ≡ 0
   pub errors : die.errors ≡ no_errors p.geometry.blocks
 
--- A DIE FOR A DISK, after Reset: as its plan says, with codes or without
-abbrev pub IsDieFor : Plan → Die → Type 0
-IsDieFor p (Plain die) = IsPlainFor p die
-IsDieFor p (Coded die) = IsCodedFor p die
+-- A DIE FOR A DISK, after Reset: behind these descriptors, as the plan says, with codes or without
+abbrev pub IsDieFor : Plan → Descriptors → Die → Type 0
+IsDieFor p link (Plain die) = IsPlainFor p link die
+IsDieFor p link (Coded die) = IsCodedFor p link die
 
 -- why there is none: it took no Reset, or of a chip with codes memory was refused
 abbrev pub IsUnreset : Plan → (number : ℕ) → Type 0

@@ -1,5 +1,5 @@
 -- WHAT A CALL OF A DISK COMES TO OVER ANY DIE, and by which number.
-use Rattle.std.specs.Prelude.{◌≡◌, ◌⊎◌, ℕ, Bool, true, List, Result, Err}
+use Rattle.std.specs.Prelude.{◌≡◌, ◌≢◌, ◌⊎◌, ℕ, Bool, true, List, Some, None, Result, Err}
 use Rattle.page_layout.specs.declared.geometry.Geometry.{Geometry}
 use Rattle.page_layout.specs.Array.{array_of}
 use Rattle.page_layout.specs.Counter.{HasRisen}
@@ -17,7 +17,8 @@ use Rattle.ftl_device.specs.declared.device.Device.{Device}
 use Rattle.ftl_device.specs.Calls.{array_in}
 use Rattle.device_slot.specs.declared.power.PowerFault.{PowerFault}
 use Rattle.device_slot.specs.Begun.{IsBegun}
-use Rattle.device_slot.specs.Power.{nand_of, IsUnaccepted, IsUnsettled}
+use Rattle.device_slot.specs.Power.{IsBrought, IsUnaccepted, IsUnsettled}
+use Rattle.device_slot.specs.Slot.{SlotState}
 use Rattle.ftl_disk.specs.Numbers.{of_formatting, of_power, of_refusal}
 
 -- A FORMAT: its number is that of what the format answered, which an honest die shows, and a failed bus was counted
@@ -28,19 +29,27 @@ pub record FormatsBy {N : Type 0} (flash : N → Flash) (honest : N → Bool) (p
   pub answers : Answers g (programs old) (programs new) result
   pub rose : result ≡ Err Bus → HasRisen (failed old) (failed new)
 
--- NO DEVICE WAS BROUGHT: the number is that of why, and this die came back
-pub record IsUnstartedBy {N : Type 0} (flash : N → Flash) (honest : N → Bool) (failed : N → ℕ) (die : N) (g : Geometry) (cache number : ℕ) (given : N) : Type 0 where
+-- one that was done or refused
+pub record IsFormattedBy {N : Type 0} (flash : N → Flash) (honest : N → Bool) (programs failed : N → ℕ) (g : Geometry) (die : N) (number : ℕ) : Type 0 where
+  pub after : N
+  pub formats : FormatsBy flash honest programs failed g die number after
+
+-- A DEVICE STANDS IN THE SLOT, which power brought over the die
+pub record IsPutBy {N : Type 0} (flash : N → Flash) (honest : N → Bool) (failed : N → ℕ) (g : Geometry) (cache : ℕ) (die : N) (slot : SlotState N) : Type 0 where
+  pub device : Device N
+  pub stands : slot ≡ record { device = Some device; shortage = None }
+  pub brings : IsBrought flash honest failed die g cache device
+
+-- NO DEVICE WAS BROUGHT: the number is that of why
+pub record IsUnstartedBy {N : Type 0} (flash : N → Flash) (honest : N → Bool) (failed : N → ℕ) (g : Geometry) (cache : ℕ) (die : N) (number : ℕ) : Type 0 where
   pub fault : PowerFault N
-  pub given_is : nand_of fault ≡ given
   pub number_is : number ≡ of_power fault
   pub unsettled : IsUnsettled flash honest failed die g cache fault
 
--- nor by a certificate
-pub record IsUncheckedBy {N : Type 0} (flash : N → Flash) (honest : N → Bool) (failed : N → ℕ) (die : N) (g : Geometry) (cache : ℕ) (c : Claim) (number : ℕ) (given : N) : Type 0 where
-  pub fault : PowerFault N
-  pub given_is : nand_of fault ≡ given
-  pub number_is : number ≡ of_power fault
-  pub unaccepted : IsUnaccepted flash honest failed die g cache c fault
+-- A START over a die: the one or the other, and then the slot is as it was
+abbrev pub StartsBy : {N : Type 0} → (N → Flash) → (N → Bool) → (N → ℕ) → Geometry → (cache : ℕ) → N → SlotState N → (number : ℕ) → SlotState N → Type 0
+StartsBy flash honest failed g cache die was number is =
+    ((number ≡ 0) × IsPutBy flash honest failed g cache die is) ⊎ ((is ≡ was) × IsUnstartedBy flash honest failed g cache die number)
 
 -- A DEVICE WAS BROUGHT BY A CERTIFICATE: of an honest die it holds the array that the image holds, and nothing was written
 pub record IsBroughtBy {N : Type 0} (flash : N → Flash) (honest : N → Bool) (die : N) (g : Geometry) (cache : ℕ) (d : Device N) : Type 0 where
@@ -49,6 +58,21 @@ pub record IsBroughtBy {N : Type 0} (flash : N → Flash) (honest : N → Bool) 
   pub cache_is : d.engine.mapping.capacity ≡ cache
   pub array : honest die ≡ true → array_in flash d ≡ array_of g (flash die).image
   pub pages : honest die ≡ true → flash d.engine.nand ≡ flash die
+
+pub record IsPutByClaim {N : Type 0} (flash : N → Flash) (honest : N → Bool) (g : Geometry) (cache : ℕ) (die : N) (slot : SlotState N) : Type 0 where
+  pub device : Device N
+  pub stands : slot ≡ record { device = Some device; shortage = None }
+  pub brings : IsBroughtBy flash honest die g cache device
+
+-- nor by a certificate
+pub record IsUncheckedBy {N : Type 0} (flash : N → Flash) (honest : N → Bool) (failed : N → ℕ) (g : Geometry) (cache : ℕ) (c : Claim) (die : N) (number : ℕ) : Type 0 where
+  pub fault : PowerFault N
+  pub number_is : number ≡ of_power fault
+  pub unaccepted : IsUnaccepted flash honest failed die g cache c fault
+
+abbrev pub StartsByClaim : {N : Type 0} → (N → Flash) → (N → Bool) → (N → ℕ) → Geometry → (cache : ℕ) → Claim → N → SlotState N → (number : ℕ) → SlotState N → Type 0
+StartsByClaim flash honest failed g cache c die was number is =
+    ((number ≡ 0) × IsPutByClaim flash honest g cache die is) ⊎ ((is ≡ was) × IsUncheckedBy flash honest failed g cache c die number)
 
 -- THE BYTES OF THE CERTIFICATE of what a die holds: of an honest one it agrees with the image, and leaves no sequence out
 pub record IsCertifiedBy {N : Type 0} (flash : N → Flash) (honest : N → Bool) (g : Geometry) (cache : ℕ) (die : N) (bytes : List ℕ) : Type 0 where
@@ -69,3 +93,9 @@ pub record IsRefusedBy {N : Type 0} (flash : N → Flash) (honest : N → Bool) 
 -- THERE IS NO CERTIFICATE: for that, or memory was refused
 abbrev pub IsUncertifiedBy : {N : Type 0} → (N → Flash) → (N → Bool) → (N → ℕ) → Geometry → (cache : ℕ) → N → (number : ℕ) → N → Type 0
 IsUncertifiedBy flash honest failed g cache die number given = (number ≡ 4) ⊎ IsRefusedBy flash honest failed g cache die number given
+
+-- A CERTIFICATE IS MADE over a die, or the number says why not, and the bytes stay
+pub record CertifiesBy {N : Type 0} (flash : N → Flash) (honest : N → Bool) (failed : N → ℕ) (g : Geometry) (cache : ℕ) (die : N) (given : List ℕ) (number : ℕ) (out : List ℕ) : Type 0 where
+  pub kept : number ≢ 0 → out ≡ given
+  pub why : number ≢ 0 → (number ≡ 18) ⊎ ((after : N) × IsUncertifiedBy flash honest failed g cache die number after)
+  pub made : number ≡ 0 → IsCertifiedBy flash honest g cache die out

@@ -9,8 +9,8 @@ use Rattle.ftl_device.specs.declared.device.Device.{Device}
 use Rattle.device_slot.specs.declared.slot.CallFault.{CallFault}
 use Rattle.device_slot.specs.Power.{IsBrought}
 use Rattle.device_slot.specs.Calls.{IsCall, Told, ToldSized}
-use Rattle.ftl_disk.specs.Die.{Die, IsDieFor, IsUnreset, flash_in, recorded_in, honest_in, failed_in, programs_in, erases_in}
-use Rattle.ftl_disk.specs.Dies.{FormatsBy, IsBroughtBy, IsCertifiedBy, IsUncertifiedBy, IsUncheckedBy, IsUnstartedBy}
+use Rattle.ftl_disk.specs.Die.{Die, IsDieFor, IsUnreset, way_of, flash_in, recorded_in, honest_in, failed_in, programs_in, erases_in}
+use Rattle.ftl_disk.specs.Dies.{IsBroughtBy, IsCertifiedBy, IsFormattedBy, IsUncertifiedBy, IsUncheckedBy, IsUnstartedBy}
 use Rattle.ftl_disk.specs.Measures.{certificate_bytes}
 use Rattle.ftl_disk.specs.Numbers.{of_call, of_certificate}
 use Rattle.ftl_disk.specs.Plans.{IsPlanOf}
@@ -43,9 +43,8 @@ pub record IsForStopped (was : Disk) (number : ℕ) (is : Disk) (Then : Type 0) 
 -- the die took the reset, and was formatted or refused
 pub record HasFormatted (was : Disk) (number : ℕ) : Type 0 where
   pub die : Die
-  pub its : IsDieFor was.plan die
-  pub after : Die
-  pub formats : FormatsBy flash_in honest_in programs_in failed_in was.plan.geometry die number after
+  pub its : IsDieFor was.plan (way_of was.link was.plan.geometry) die
+  pub formats : IsFormattedBy flash_in honest_in programs_in failed_in was.plan.geometry die number
 
 -- A FORMAT leaves the disk as it was: with no device
 pub record IsFormatting (was : Disk) (number : ℕ) (is : Disk) : Type 0 where
@@ -63,7 +62,7 @@ pub record Holds (was : Disk) (device : Device Die) (is : Disk) : Type 0 where
 -- one that power brought over the die: of the disk's geometry and with at least its cache
 pub record HasBegun (was is : Disk) : Type 0 where
   pub die : Die
-  pub its : IsDieFor was.plan die
+  pub its : IsDieFor was.plan (way_of was.link was.plan.geometry) die
   pub device : Device Die
   pub holds : Holds was device is
   pub brings : IsBrought flash_in honest_in failed_in die was.plan.geometry was.plan.cache device
@@ -71,9 +70,8 @@ pub record HasBegun (was is : Disk) : Type 0 where
 -- the die took the reset, and power brought no device
 pub record IsUnstarted (was : Disk) (number : ℕ) : Type 0 where
   pub die : Die
-  pub its : IsDieFor was.plan die
-  pub given : Die
-  pub why : IsUnstartedBy flash_in honest_in failed_in die was.plan.geometry was.plan.cache number given
+  pub its : IsDieFor was.plan (way_of was.link was.plan.geometry) die
+  pub why : IsUnstartedBy flash_in honest_in failed_in was.plan.geometry was.plan.cache die number
 
 -- why there is none: the die took no Reset, or that; and the disk is as it was
 pub record IsStopped (was : Disk) (number : ℕ) (is : Disk) (Why : Type 0) : Type 0 where
@@ -101,7 +99,7 @@ pub record IsNoCertificate (was : Disk) (bytes : List ℕ) (number : ℕ) (is : 
 -- a device stands there that began from this certificate
 pub record HasBegunBy (was : Disk) (c : Claim) (is : Disk) : Type 0 where
   pub die : Die
-  pub its : IsDieFor was.plan die
+  pub its : IsDieFor was.plan (way_of was.link was.plan.geometry) die
   pub device : Device Die
   pub holds : Holds was device is
   pub brings : IsBroughtBy flash_in honest_in die was.plan.geometry was.plan.cache device
@@ -109,9 +107,8 @@ pub record HasBegunBy (was : Disk) (c : Claim) (is : Disk) : Type 0 where
 -- the die took the reset, and this certificate brought no device
 pub record IsUnstartedAt (was : Disk) (c : Claim) (number : ℕ) : Type 0 where
   pub die : Die
-  pub its : IsDieFor was.plan die
-  pub given : Die
-  pub why : IsUncheckedBy flash_in honest_in failed_in die was.plan.geometry was.plan.cache c number given
+  pub its : IsDieFor was.plan (way_of was.link was.plan.geometry) die
+  pub why : IsUncheckedBy flash_in honest_in failed_in was.plan.geometry was.plan.cache c die number
 
 abbrev pub IsStartingBy : Disk → Claim → ℕ → Disk → Type 0
 IsStartingBy was c number is = ((number ≡ 0) × HasBegunBy was c is) ⊎ IsStopped was number is (IsUnstartedAt was c number)
@@ -133,13 +130,13 @@ StartsCertified was bytes number is = IsForStopped was number is (StartsBy was b
 -- the bytes of a certificate of a die of this disk, for its cache
 pub record IsCertified (was : Disk) (bytes : List ℕ) : Type 0 where
   pub die : Die
-  pub its : IsDieFor was.plan die
+  pub its : IsDieFor was.plan (way_of was.link was.plan.geometry) die
   pub certifies : IsCertifiedBy flash_in honest_in was.plan.geometry was.plan.cache die bytes
 
 -- the die took the reset, and has none
 pub record IsUnmountedAt (was : Disk) (number : ℕ) : Type 0 where
   pub die : Die
-  pub its : IsDieFor was.plan die
+  pub its : IsDieFor was.plan (way_of was.link was.plan.geometry) die
   pub given : Die
   pub why : IsUncertifiedBy flash_in honest_in failed_in was.plan.geometry was.plan.cache die number given
 
@@ -147,13 +144,17 @@ pub record IsUnmountedAt (was : Disk) (number : ℕ) : Type 0 where
 abbrev pub IsUncertified : Disk → ℕ → Type 0
 IsUncertified was number = (number ≢ 0) × (IsUnreset was.plan number ⊎ IsUnmountedAt was number)
 
--- A CERTIFICATE IS MADE: the disk stays, and so do the bytes where it is not
+-- A CERTIFICATE IS MADE, or the number says why not, and the bytes stay
+pub record CertifiesDisk (was : Disk) (given : List ℕ) (number : ℕ) (out : List ℕ) : Type 0 where
+  pub kept : number ≢ 0 → out ≡ given
+  pub why : number ≢ 0 → (number ≡ 18) ⊎ IsUncertified was number
+  pub made : number ≡ 0 → IsCertified was out
+
+-- into as many bytes as one of this disk has; and the disk stays
 pub record IsCertifying (was : Disk) (given : List ℕ) (number : ℕ) (out : List ℕ) (is : Disk) : Type 0 where
   pub same : is ≡ was
-  pub sized : length given ≢ certificate_bytes was.plan.geometry → number ≡ 18
-  pub kept : number ≢ 0 → out ≡ given
-  pub why : length given ≡ certificate_bytes was.plan.geometry → number ≢ 0 → (number ≡ 18) ⊎ IsUncertified was number
-  pub made : number ≡ 0 → IsCertified was out
+  pub sized : length given ≢ certificate_bytes was.plan.geometry → (number ≡ 18) × (out ≡ given)
+  pub certifies : length given ≡ certificate_bytes was.plan.geometry → CertifiesDisk was given number out
 
 abbrev pub Certifies : Disk → (given : List ℕ) → ℕ → (out : List ℕ) → Disk → Type 0
 Certifies was given number out is =

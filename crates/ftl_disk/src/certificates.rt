@@ -1,20 +1,23 @@
 //! Certificates of a disk, in and out.
-ghost use Rattle.std.specs.Prelude.{◌≡◌, None, IfOk, IfErr};
-ghost use Rattle.ftl_disk.specs.Disk.{Certifies, IsCertifying, IsStartingBy, IsUncertified, StartsBy, StartsCertified, IsCertified};
+ghost use Rattle.std.specs.Prelude.{◌≡◌, None};
+ghost use Rattle.ftl_disk.specs.Disk.{Certifies, CertifiesDisk, IsCertifying, IsStartingBy, StartsBy, StartsCertified};
 
 use crate::dies::{certify_over, start_checked_over};
 use crate::disk::{Disk, reset};
 use crate::measures::certificate_bytes;
-use crate::number::{DONE, STARTED, WRONG_SIZE, of_certificate};
+use crate::number::{STARTED, WRONG_SIZE, of_certificate};
 use certificate::{Certificate, read_certificate};
 
-// The bytes of the certificate of what the die holds, or the number of what kept it from one.
-fn certified(disk: &Disk) -> Result<Vec<u8>, u32>
-    ensures made { IfOk result (λ bytes. IsCertified disk.now bytes.items) }
-    ensures fault { IfErr result (IsUncertified disk.now) }
+// The certificate of what the die holds is written to `out`.
+fn certified(disk: &Disk, out: &mut [u8]) -> u32
+    ensures { CertifiesDisk disk.now out.old result out.new }
 {
-    let mut die = reset(disk.alloc, &disk.link, &disk.plan)?;
-    certify_over(disk.alloc, &mut die, &disk.plan)
+    certify_over(
+        disk.alloc,
+        reset(disk.alloc, &disk.link, &disk.plan),
+        &disk.plan,
+        out,
+    )
 }
 
 // It is written to `out`, which has to be as long.
@@ -24,16 +27,7 @@ fn put_certificate(disk: &mut Disk, out: &mut [u8]) -> u32
     if out.len() as u64 != certificate_bytes(&disk.plan.geometry) {
         return WRONG_SIZE;
     }
-    match certified(disk) {
-        Ok(bytes) => {
-            if bytes.len() != out.len() {
-                return WRONG_SIZE;
-            }
-            out.copy_from_slice(&bytes);
-            DONE
-        }
-        Err(number) => number,
-    }
+    certified(disk, out)
 }
 
 /// Writes the certificate of what the die holds.
@@ -51,17 +45,13 @@ fn begin_by(disk: &mut Disk, certificate: &Certificate) -> u32
     requires { disk.old.slot.device ≡ None }
     ensures { IsStartingBy disk.old certificate.now result disk.new }
 {
-    let die = match reset(disk.alloc, &disk.link, &disk.plan) {
-        Ok(die) => die,
-        Err(number) => return number,
-    };
-    match start_checked_over(disk.alloc, die, &disk.plan, certificate) {
-        Ok(device) => {
-            disk.slot.put(device);
-            DONE
-        }
-        Err((number, _)) => number,
-    }
+    start_checked_over(
+        disk.alloc,
+        reset(disk.alloc, &disk.link, &disk.plan),
+        &disk.plan,
+        certificate,
+        &mut disk.slot,
+    )
 }
 
 // The bytes are read as a certificate first.

@@ -17,13 +17,16 @@ pub(crate) struct Descriptors {
 }
 
 impl Link for Descriptors {
-    ghost use Rattle.std.specs.Prelude.{false, []};
+    ghost use Rattle.std.specs.Prelude.{◌≡◌, false, []};
     ghost use Rattle.page_layout.specs.Raw.{still};
     ghost use Rattle.onfi_cycles.specs.Cycles.{Unreset};
 
     ghost die = { λ d. record { flash = still d.geometry []; phase = Unreset; status = 0 } };
 
     ghost honest = { λ _. false };
+
+    // The descriptors stay.
+    ghost called = { λ old _ _ _ _ new. new ≡ old };
 
     fn exchange(&mut self, head: &[u8; 10], bytes: &[u8], out: &mut [u8]) -> u8 {
         if !io::write_all(self.output, head) || !io::write_all(self.output, bytes) {

@@ -1,60 +1,88 @@
-//! What the calls of a disk come to, over any die.
-ghost use Rattle.std.specs.Prelude.{◌≡◌, ◌≢◌, IfOk, IfErr};
-ghost use Rattle.device_slot.specs.Power.{IsBrought};
-ghost use Rattle.ftl_disk.specs.Dies.{FormatsBy, IsBroughtBy, IsCertifiedBy, IsUncertifiedBy, IsUncheckedBy, IsUnstartedBy};
+//! What the calls of a disk come to, over any die, or where there is none. So only these, which are told of any die, are proved over what a device has.
+ghost use Rattle.std.specs.Prelude.{◌≡◌, ◌≢◌, IfOk, IfErr, MatchResult};
+ghost use Rattle.ftl_disk.specs.Dies.{CertifiesBy, IsCertifiedBy, IsFormattedBy, IsUncertifiedBy, StartsBy, StartsByClaim};
 
-use crate::number::{DONE, of_certificate, of_format, of_power, of_refusal};
+use crate::number::{DONE, WRONG_SIZE, of_certificate, of_format, of_power, of_refusal};
 use crate::plan::Plan;
 use certificate::{Certificate, write_certificate};
-use device_slot::{start, start_checked};
-use ftl_device::Device;
+use device_slot::{Slot, start, start_checked};
 use mount::{format, mount};
 use onfi_cycles::Nand;
 use page_layout::geometry::Geometry;
 use std::alloc::Global;
 
-/// Makes a die ready.
-pub(crate) fn format_over<N: Nand>(alloc: Global, die: &mut N, geometry: &Geometry) -> u32
-    requires { (N.flash die.old).geometry ≡ geometry.now }
-    ensures { FormatsBy N.flash N.honest N.programs N.failed geometry.now die.old result die.new }
+/// Makes a die ready; of none the number of why comes.
+pub(crate) fn format_over<N: Nand + Drop>(
+    alloc: Global,
+    made: Result<N, u32>,
+    geometry: &Geometry,
+) -> u32
+    requires { IfOk made (λ die. (N.flash die).geometry ≡ geometry.now) }
+    ensures { MatchResult made (λ die. IsFormattedBy N.flash N.honest N.programs N.failed geometry.now die result) (λ number. result ≡ number) }
 {
-    match format(alloc, die, geometry) {
+    let mut die = match made {
+        Ok(die) => die,
+        Err(number) => return number,
+    };
+    match format(alloc, &mut die, geometry) {
         Ok(_) => DONE,
         Err(fault) => of_format(fault),
     }
 }
 
-/// The device that power brings over a die, or the number of what kept it from one, and the die.
-pub(crate) fn start_over<N: Nand>(alloc: Global, die: N, plan: &Plan) -> Result<Device<N>, (u32, N)>
-    requires { (N.flash die).geometry ≡ plan.now.geometry }
-    ensures brings { IfOk result (IsBrought N.flash N.honest N.failed die plan.now.geometry plan.now.cache) }
-    ensures fault { IfErr result (λ e. IsUnstartedBy N.flash N.honest N.failed die plan.now.geometry plan.now.cache e.0 e.1) }
+/// The device that power brings over a die stands in the slot; or the number of what kept it from one comes, and the slot is as it was.
+pub(crate) fn start_over<N: Nand + Drop>(
+    alloc: Global,
+    made: Result<N, u32>,
+    plan: &Plan,
+    slot: &mut Slot<N>,
+) -> u32
+    requires { IfOk made (λ die. (N.flash die).geometry ≡ plan.now.geometry) }
+    ensures { MatchResult made
+        (λ die. StartsBy N.flash N.honest N.failed plan.now.geometry plan.now.cache die slot.old result slot.new)
+        (λ number. (result ≡ number) × (slot.new ≡ slot.old)) }
 {
+    let die = match made {
+        Ok(die) => die,
+        Err(number) => return number,
+    };
     match start(alloc, die, &plan.geometry, plan.cache) {
-        Ok(device) => Ok(device),
-        Err(fault) => Err((of_power(&fault), fault.into_nand())),
+        Ok(device) => {
+            slot.put(device);
+            DONE
+        }
+        Err(fault) => of_power(&fault),
     }
 }
 
-/// The device that begins from a certificate over a die, or the number of what kept it from one, and the die.
-pub(crate) fn start_checked_over<N: Nand>(
+/// The same of the device that begins from a certificate over a die.
+pub(crate) fn start_checked_over<N: Nand + Drop>(
     alloc: Global,
-    die: N,
+    made: Result<N, u32>,
     plan: &Plan,
     certificate: &Certificate,
-) -> Result<Device<N>, (u32, N)>
-    requires { (N.flash die).geometry ≡ plan.now.geometry }
-    ensures brings { IfOk result (IsBroughtBy N.flash N.honest die plan.now.geometry plan.now.cache) }
-    ensures fault { IfErr result (λ e. IsUncheckedBy N.flash N.honest N.failed die plan.now.geometry plan.now.cache certificate.now e.0 e.1) }
+    slot: &mut Slot<N>,
+) -> u32
+    requires { IfOk made (λ die. (N.flash die).geometry ≡ plan.now.geometry) }
+    ensures { MatchResult made
+        (λ die. StartsByClaim N.flash N.honest N.failed plan.now.geometry plan.now.cache certificate.now die slot.old result slot.new)
+        (λ number. (result ≡ number) × (slot.new ≡ slot.old)) }
 {
+    let die = match made {
+        Ok(die) => die,
+        Err(number) => return number,
+    };
     match start_checked(alloc, die, &plan.geometry, plan.cache, certificate) {
-        Ok(device) => Ok(device),
-        Err(fault) => Err((of_power(&fault), fault.into_nand())),
+        Ok(device) => {
+            slot.put(device);
+            DONE
+        }
+        Err(fault) => of_power(&fault),
     }
 }
 
-/// The bytes of the certificate of what a die holds, or the number of what kept it from one.
-pub(crate) fn certify_over<N: Nand>(alloc: Global, die: &mut N, plan: &Plan) -> Result<Vec<u8>, u32>
+// The bytes of the certificate of what a die holds, or the number of what kept it from one.
+fn certificate_of<N: Nand>(alloc: Global, die: &mut N, plan: &Plan) -> Result<Vec<u8>, u32>
     requires { (N.flash die.old).geometry ≡ plan.now.geometry }
     ensures made { IfOk result (λ bytes. IsCertifiedBy N.flash N.honest plan.now.geometry plan.now.cache die.old bytes.items) }
     ensures fault { IfErr result (λ number. IsUncertifiedBy N.flash N.honest N.failed plan.now.geometry plan.now.cache die.old number die.new) }
@@ -67,5 +95,33 @@ pub(crate) fn certify_over<N: Nand>(alloc: Global, die: &mut N, plan: &Plan) -> 
     match write_certificate(alloc, &certificate) {
         Ok(bytes) => Ok(bytes),
         Err(fault) => Err(of_certificate(fault)),
+    }
+}
+
+/// The certificate of what a die holds is written to `out`; or the number of what kept it from that comes, and the bytes stay.
+pub(crate) fn certify_over<N: Nand + Drop>(
+    alloc: Global,
+    made: Result<N, u32>,
+    plan: &Plan,
+    out: &mut [u8],
+) -> u32
+    requires { IfOk made (λ die. (N.flash die).geometry ≡ plan.now.geometry) }
+    ensures { MatchResult made
+        (λ die. CertifiesBy N.flash N.honest N.failed plan.now.geometry plan.now.cache die out.old result out.new)
+        (λ number. (result ≡ number) × (out.new ≡ out.old)) }
+{
+    let mut die = match made {
+        Ok(die) => die,
+        Err(number) => return number,
+    };
+    match certificate_of(alloc, &mut die, plan) {
+        Ok(bytes) => {
+            if bytes.len() != out.len() {
+                return WRONG_SIZE;
+            }
+            out.copy_from_slice(&bytes);
+            DONE
+        }
+        Err(number) => number,
     }
 }

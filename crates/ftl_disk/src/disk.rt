@@ -2,7 +2,7 @@
 ghost use Rattle.std.specs.Prelude.{◌≡◌, None, Some, IfOk, IfErr, MatchResult};
 ghost use Rattle.page_code.specs.Chip.{IsChipOf};
 ghost use Rattle.corrected_nand.specs.Errors.{no_errors};
-ghost use Rattle.ftl_disk.specs.Die.{IsCodedFor, IsDieFor, IsPlainFor, IsUnreset, flash_in};
+ghost use Rattle.ftl_disk.specs.Die.{IsCodedFor, IsDieFor, IsPlainFor, IsUnreset, flash_in, way_of};
 ghost use Rattle.ftl_disk.specs.Plans.{IsUnplanned};
 ghost use Rattle.ftl_disk.specs.Disk.{Flushes, Formats, IsFormatting, IsStarting, Opens, Reads, Starts, Stops, Trims, Turns, Writes};
 
@@ -39,7 +39,8 @@ pub struct Disk {
 fn plain_die(bus: StreamBus<Descriptors>, plan: &Plan) -> Result<Die, u32>
     requires geometry { bus.link.geometry ≡ plan.now.geometry }
     requires none { plan.now.chip ≡ None }
-    ensures die { IfOk result (IsDieFor plan.now) }
+    ensures die { IfOk result (IsDieFor plan.now bus.link) }
+    ensures geometry { IfOk result (λ die. (flash_in die).geometry ≡ plan.now.geometry) }
     ensures fault { IfErr result (λ number. number ≡ 6) }
 {
     match Driver::new(bus, plan.geometry) {
@@ -58,7 +59,8 @@ fn coded_die(
     requires geometry { bus.link.geometry ≡ plan.now.geometry }
     requires some { plan.now.chip ≡ Some chip.now }
     requires pages { IsChipOf plan.now.geometry chip.now.raw }
-    ensures die { IfOk result (IsDieFor plan.now) }
+    ensures die { IfOk result (IsDieFor plan.now bus.link) }
+    ensures geometry { IfOk result (λ die. (flash_in die).geometry ≡ plan.now.geometry) }
     ensures fault { IfErr result (IsUnreset plan.now) }
 {
     let errors = match ReadErrors::new(alloc, plan.geometry.blocks()) {
@@ -73,7 +75,8 @@ fn coded_die(
 
 /// The die of a disk, after Reset; or the number of the link's failure, or of want of memory.
 pub(crate) fn reset(alloc: Global, link: &Descriptors, plan: &Plan) -> Result<Die, u32>
-    ensures die { IfOk result (IsDieFor plan.now) }
+    ensures die { IfOk result (IsDieFor plan.now (way_of link.now plan.now.geometry)) }
+    ensures geometry { IfOk result (λ die. (flash_in die).geometry ≡ plan.now.geometry) }
     ensures fault { IfErr result (IsUnreset plan.now) }
 {
     let bus = StreamBus::new(way_to(link, plan.geometry));
@@ -85,7 +88,7 @@ pub(crate) fn reset(alloc: Global, link: &Descriptors, plan: &Plan) -> Result<Di
 
 /// The way to the die of a disk.
 fn way_to(link: &Descriptors, geometry: Geometry) -> Descriptors
-    ensures { result.geometry ≡ geometry }
+    ensures { result ≡ way_of link.now geometry }
 {
     Descriptors {
         input: link.input,
@@ -120,11 +123,11 @@ pub fn open(alloc: Global, shape: &Shape, input: i32, output: i32) -> Result<Dis
 fn make_ready(disk: &mut Disk) -> u32
     ensures { IsFormatting disk.old result disk.new }
 {
-    let mut die = match reset(disk.alloc, &disk.link, &disk.plan) {
-        Ok(die) => die,
-        Err(number) => return number,
-    };
-    format_over(disk.alloc, &mut die, &disk.plan.geometry)
+    format_over(
+        disk.alloc,
+        reset(disk.alloc, &disk.link, &disk.plan),
+        &disk.plan.geometry,
+    )
 }
 
 // Mounts the die, and begins.
@@ -132,17 +135,12 @@ fn begin(disk: &mut Disk) -> u32
     requires { disk.old.slot.device ≡ None }
     ensures { IsStarting disk.old result disk.new }
 {
-    let die = match reset(disk.alloc, &disk.link, &disk.plan) {
-        Ok(die) => die,
-        Err(number) => return number,
-    };
-    match start_over(disk.alloc, die, &disk.plan) {
-        Ok(device) => {
-            disk.slot.put(device);
-            DONE
-        }
-        Err((number, _)) => number,
-    }
+    start_over(
+        disk.alloc,
+        reset(disk.alloc, &disk.link, &disk.plan),
+        &disk.plan,
+        &mut disk.slot,
+    )
 }
 
 /// Makes the die ready, once in its life.

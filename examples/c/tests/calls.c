@@ -18,10 +18,32 @@ static struct ftl_sizes sizes;
 static uint8_t *certificate;
 static unsigned reads, writes, trims, others, wrongs, restarts, cuts, failures, certified;
 
+/* Memory of the program's own for a disk, and whether the disk lies there or in the heap. */
+static uint8_t room[2048] __attribute__((aligned(16)));
+static int is_in_room;
+
+static void open_again(void)
+{
+    THAT(ftl_room() <= sizeof room);
+    is_in_room = (int)any(2);
+    if (is_in_room)
+        WANT(FTL_DONE, ftl_open_at(&shape, PORT, PORT, room, &disk));
+    else
+        WANT(FTL_DONE, ftl_open(&shape, PORT, PORT, &disk));
+}
+
+static void close_disk(void)
+{
+    if (is_in_room)
+        WANT(FTL_DONE, ftl_stop(disk));
+    else
+        ftl_close(disk);
+}
+
 static void open_disk(void)
 {
     port_fresh(&die);
-    WANT(FTL_DONE, ftl_open(&shape, PORT, PORT, &disk));
+    open_again();
 }
 
 /* Once more from the start: by stop and start, or by another handle; by a certificate, where one is there. */
@@ -31,8 +53,8 @@ static void restart(int has_certificate)
         WANT(FTL_DONE, ftl_stop(disk));
         WANT(FTL_DONE, ftl_stop(disk));
     } else {
-        ftl_close(disk);
-        WANT(FTL_DONE, ftl_open(&shape, PORT, PORT, &disk));
+        close_disk();
+        open_again();
     }
     WANT(FTL_NOT_STARTED, list_read(&list, disk, 0));
     if (has_certificate) {
@@ -61,7 +83,7 @@ static void power_goes(void)
     version = list.next - 1;
     WANT(FTL_BUS_FAULT, answer);
     WANT(FTL_BUS_FAULT, ftl_turn(disk));
-    ftl_close(disk);
+    close_disk();
     die_power(&die);
     open_disk();
     WANT(FTL_DONE, ftl_start(disk));
@@ -78,8 +100,11 @@ static void wrong_arguments(void)
     struct ftl_state state = {0};
     struct ftl_shortage shortage = {0};
     uint8_t byte = 0;
+    ftl_disk *none = disk;
 
-    WANT(FTL_NULL, ftl_open(NULL, PORT, PORT, &disk));
+    WANT(FTL_NULL, ftl_open(NULL, PORT, PORT, &none));
+    WANT(FTL_NULL, ftl_start(none));
+    WANT(FTL_NULL, ftl_open_at(&shape, PORT, PORT, NULL, &none));
     WANT(FTL_NULL, ftl_open(&shape, PORT, PORT, NULL));
     WANT(FTL_NULL, ftl_read(disk, 0, NULL, list.bytes));
     WANT(FTL_NULL, ftl_read(NULL, 0, &byte, 1));
@@ -99,7 +124,7 @@ static void wrong_arguments(void)
     WANT(FTL_OUT_OF_RANGE, ftl_trim(disk, shape.sectors));
     WANT(FTL_STARTED, ftl_certify(disk, certificate, sizes.certificate_bytes));
     ftl_close(NULL);
-    wrongs += 20;
+    wrongs += 22;
 }
 
 static void looks(void)
@@ -169,7 +194,7 @@ int main(int count, char **words)
     for (unsigned nth = 0; reads + writes + trims + others + wrongs + restarts + cuts < CALLS; nth++)
         one_call(nth);
     list_all(&list, disk);
-    ftl_close(disk);
+    close_disk();
     THAT(die.illegal == 0);
     THAT(heap_live == 0);
     THAT(heap_most <= sizes.memory_bytes && heap_pieces_most <= sizes.memory_blocks);
