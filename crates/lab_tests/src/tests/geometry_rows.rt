@@ -31,7 +31,8 @@ const DOCUMENT: &str = r#"[{"command":"geometry","line":"command","program":"nan
 // is lost. Read in pages of 96 bytes the dump has one sound page too, its first: these geometries fit as it stands, and come behind.
 const CODED: Made = Made::Coded(&PAGES, &[(918, 0x30), (1739, 0x30), (5100, 0xFE)]);
 
-const TOLD_CODED: &str = "geometry 64,32,8,32,4 looked 256 sound 3 unsound 1 table agrees blocks 32 sectors 4 codes hamming: first nandlab correct 64,32,8,32,4 DUMP OUT
+const TOLD_CODED: &str =
+    "geometry 64,32,8,32,4 looked 256 sound 3 unsound 1 table agrees blocks 32 sectors 4 codes hamming: first nandlab correct 64,32,8,32,4 DUMP OUT
 geometry 64,32,16,16,4 looked 256 sound 3 unsound 1 table short blocks 32 sectors 4 codes hamming: first nandlab correct 64,32,16,16,4 DUMP OUT
 geometry 64,32,4,64,4 looked 256 sound 3 unsound 1 table differs blocks 32 sectors 4 codes hamming: first nandlab correct 64,32,4,64,4 DUMP OUT
 geometry 64,32,8,34,1 looked 272 sound 1 unsound 7 table differs blocks 16 sectors 0
