@@ -93,10 +93,13 @@ def times(folder):
         large_dump(path, g)
         print(f"dump: {g.words()}, {path.stat().st_size} bytes")
         timed(path)
-    # the last size once more, as a chip's dump with codes and wrong bits
+    # the last size once more, as a chip's dump with codes and a wrong bit in each page
     g = ref.Geometry(2048, 37, 64, 512, 20000)
     large_dump(path, g)
-    path.write_bytes(lab.spoiled(random.Random(2), g, path.read_bytes()))
+    dump, size = lab.on_chip(g, path.read_bytes())
+    for row in range(g.rows):
+        dump[row * size + row % size] ^= 1 << row % 8
+    path.write_bytes(dump)
     print(f"dump with codes: {g.words()}, {path.stat().st_size} bytes")
     timed(path)
 

@@ -579,10 +579,15 @@ def repair_case(rng, folder):
     stored(rng, folder, ["repair", g.words(), "dump.bin", "out.bin", *asked], want, out)
 
 
+def on_chip(g, raw):
+    """The dump of a chip with these pages and their codes, and how many bytes a page has there."""
+    dump = bytearray(b"".join(b"".join(hamming.physical(page[: g.data], page[g.data :])) for page in pages_of(g, raw)))
+    return dump, len(dump) // g.rows
+
+
 def spoiled(rng, g, raw):
-    """The dump of a chip with these pages and their codes, where bits of some chunks are wrong: of most one, of some more."""
-    dump = b"".join(b"".join(hamming.physical(page[: g.data], page[g.data :])) for page in pages_of(g, raw))
-    size, dump = len(dump) // g.rows, bytearray(dump)
+    """The dump of a chip where bits of some chunks are wrong: of most one, of some more."""
+    dump, size = on_chip(g, raw)
     for row in rng.sample(range(g.rows), rng.choice([0, 1, 5, g.rows])):
         for _ in range(rng.choice([1, 1, 1, 2, 2, 3, 12])):
             dump[row * size + rng.randrange(size)] ^= 1 << rng.randrange(8)
