@@ -1,14 +1,12 @@
 #!/usr/bin/env python3
-"""Holds the geometries that fit a dump, as `lab_correct` finds them with and without codes, against the independent reference, on dumps of pseudorandom making;
-with `--time`, times them on a dump of 264 MiB beside `sha256sum`.
+"""Holds the geometries that `nandlab geometry` tells, as the dump stands and with codes, against the independent reference, on dumps of pseudorandom
+making, of more shapes than those of lab.py; with `--time`, times it on dumps of 264 MiB and of 66 MiB beside `sha256sum`.
 
-    [FIND=..] bench/geometry.py [CASES] [SEED]
-    [FIND=..] bench/geometry.py --time
+    [LAB=..] bench/geometry.py [CASES] [SEED]
+    [LAB=..] bench/geometry.py --time
 
-FIND is a program built of bench/geometry_program.txt over `lab_dump` and `lab_correct` (a crate of its own, with `rt run`). It prints a line for each
-geometry, best first. It is counted in how many dumps the dump's own geometry comes first."""
+LAB is the program, as of lab.py. It is counted in how many dumps the dump's own geometry comes first."""
 
-import os
 import random
 import subprocess
 import sys
@@ -20,17 +18,8 @@ import lab
 import measure
 import reference as ref
 
-FIND = str(Path(os.environ["FIND"]).resolve())
 # Others than those of compare.py: of sizes that many areas divide.
 MORE = [(64, 128, 8, 48, 40), (64, 64, 16, 64, 300), (128, 32, 16, 20, 100), (256, 64, 8, 30, 90), (512, 128, 16, 36, 200)]
-
-
-def lines_of(raw):
-    lines = []
-    for coded, numbers, looked, sound, unsound, table, blocks, sectors in ref.geometries(raw):
-        shape = ",".join(map(str, numbers)) + (" codes hamming" if coded else "")
-        lines.append(f"{shape} looked {looked} sound {sound} unsound {unsound} table {table} blocks {blocks} sectors {sectors}\n")
-    return lines
 
 
 def dump_for(rng):
@@ -65,14 +54,10 @@ def case(rng, folder):
         page = len(raw) // g.rows
     if rng.random() < 0.1:
         raw = raw[: rng.randrange(len(raw))]
-    (folder / "dump.bin").write_bytes(raw)
-    done = subprocess.run([FIND, "dump.bin"], cwd=folder, capture_output=True, check=True)
-    want = lines_of(raw)
-    assert done.stdout.decode() == "".join(want), (g.words(), done.stdout.decode(), want)
+    want = lab.expect_fits(folder, raw)
     if not want or len(raw) != g.rows * page or all(record is None for record in image.records):
         return None
-    first = want[0].split(" ")[0].split(",")[:4]
-    return first == [str(g.data), str(g.spare), str(g.pages), str(g.blocks)], has_table(image)
+    return want[0][:2] == (coded, f"{g.data},{g.spare},{g.pages},{g.blocks}"), has_table(image)
 
 
 def large_dump(path, g):
@@ -94,15 +79,29 @@ def large_dump(path, g):
             out.write(body + spare)
 
 
-def times(folder):
-    g = ref.Geometry(2048, 64, 64, 2048, 100000)
-    path = folder / "dump.bin"
-    large_dump(path, g)
-    print(f"dump: {g.words()}, {path.stat().st_size} bytes")
-    for words in [["sha256sum", str(path)], [FIND, str(path)]]:
+def timed(path):
+    for words in [["sha256sum", str(path)], [lab.LAB, "geometry", str(path)]]:
         seconds, memory = measure.least(3, words)
         print(f"{Path(words[0]).name:15} {seconds:7.3f} s {memory:8} KiB")
-    print(subprocess.run([FIND, str(path)], capture_output=True, check=True).stdout.decode(), end="")
+    print(subprocess.run([lab.LAB, "geometry", str(path)], capture_output=True, check=True).stdout.decode(), end="")
+
+
+def times(folder):
+    path = folder / "dump.bin"
+    for numbers in [(2048, 64, 64, 2048, 100000), (2048, 64, 64, 512, 20000)]:
+        g = ref.Geometry(*numbers)
+        large_dump(path, g)
+        print(f"dump: {g.words()}, {path.stat().st_size} bytes")
+        timed(path)
+    # the last size once more, as a chip's dump with codes and a wrong bit in each page
+    g = ref.Geometry(2048, 37, 64, 512, 20000)
+    large_dump(path, g)
+    dump, size = lab.on_chip(g, path.read_bytes())
+    for row in range(g.rows):
+        dump[row * size + row % size] ^= 1 << row % 8
+    path.write_bytes(dump)
+    print(f"dump with codes: {g.words()}, {path.stat().st_size} bytes")
+    timed(path)
 
 
 def main():

@@ -8,6 +8,7 @@ LAB is the program, or the one that `rt run` in crates/nandlab builds. The files
 status are compared, and that no file is left beside OUT. The dumps are intact, damaged, cut, or read under another geometry of the same size.
 Half of the runs ask for JSON: the document is held to its form, and its objects, as lines, to the same report. Some ask for some rows alone."""
 
+import collections
 import itertools
 import json
 import os
@@ -33,6 +34,8 @@ COMMANDS = ["geometry", "survey", "array", "compare", "merge", "repair", "correc
 FORMS = random.Random("forms")
 # which of the last lines some dump had, and whether one with factory marks left nothing open
 SEEN = set()
+# how many dumps fitted as they stand, with codes, or both ways
+FITTED = collections.Counter()
 
 
 def line_of(told, outside, rewritten):
@@ -54,7 +57,9 @@ def line_of(told, outside, rewritten):
         return " ".join(f"{name} {told[name]}" for name in names if name in told)
     if kind == "geometry":
         names = {"looked": "looked", "sound": "sound", "unsound": "unsound", "table": "table", "blocks": "blocks_told", "sectors": "sectors_told"}
-        return f"geometry {','.join(map(str, told['geometry']))} " + " ".join(f"{name} {told[key]}" for name, key in names.items())
+        shape = ",".join(map(str, told["geometry"]))
+        assert told.get("codes", "hamming") == "hamming", told
+        return f"geometry {shape} " + " ".join(f"{name} {told[key]}" for name, key in names.items()) + codes_text("codes" in told, shape)
     if kind in ("mended", "erased"):
         return f"{kind} row {told['row']} bit {told['bit']}"
     if kind == "rows":
@@ -95,6 +100,10 @@ def run(words, folder):
     if asks and done.returncode == 0:
         out = lines_of(words[0], out)
     return done.returncode, out, done.stderr.decode()
+
+
+def codes_text(coded, shape):
+    return f" codes hamming: first nandlab correct {shape} DUMP OUT" if coded else ""
 
 
 def age_text(unsound, older, outside, rewritten):
@@ -473,24 +482,49 @@ def case(rng, folder):
     stored(rng, folder, words, want, out, extra)
 
 
+def mixed(rng, g, coded):
+    """A dump with codes, some rows of which have pages of as many bytes without them: it may fit either way."""
+    whole = ref.Geometry(g.data, len(coded) // g.rows - g.data, g.pages, g.blocks, g.sectors)
+    image = ref.Image(whole, b"\xff" * (whole.rows * whole.page))
+    compare.tables_of(rng, image)
+    compare.fill(rng, image)
+    plain, share = image.raw(), rng.random()
+    pages = [(plain if rng.random() < share else coded)[row * whole.page : (row + 1) * whole.page] for row in range(g.rows)]
+    return b"".join(pages)
+
+
+def expect_fits(folder, raw):
+    """Holds `geometry` to the reference over these bytes. Of each that fits, in their order: whether it is with codes, its areas, pages and blocks,
+    and its line."""
+    (folder / "dump.bin").write_bytes(raw)
+    found = []
+    for coded, numbers, *rest in ref.geometries(raw):
+        shape = ",".join(map(str, numbers))
+        line = "geometry {} looked {} sound {} unsound {} table {} blocks {} sectors {}".format(shape, *rest)
+        found.append((coded, shape.rpartition(",")[0], line + codes_text(coded, shape) + "\n"))
+    told = "".join(line for _, _, line in found)
+    want = (0, told, "") if told else (1, "", "refused geometry 6 NoneFits\n")
+    answer = run(["geometry", "dump.bin"], folder)
+    assert answer == want, (answer, want)
+    assert left_in(folder, "dump.bin") == {}
+    return found
+
+
 def geometry_case(rng, folder):
     g, image = dump_for(rng)
     raw = image.raw()
+    if rng.random() < 0.5:
+        raw = spoiled(rng, g, raw)
+        if rng.random() < 0.4:
+            raw = mixed(rng, g, raw)
+    page = len(raw) // g.rows
     if rng.random() < 0.1:
         raw = raw[: rng.randrange(len(raw))]
     elif rng.random() < 0.3:
         # the last blocks are missing
-        raw = raw[: g.page * g.pages * rng.randrange(g.blocks // 2, g.blocks)]
-    (folder / "dump.bin").write_bytes(raw)
-    told = "".join(
-        f"geometry {','.join(map(str, numbers))} looked {looked} sound {sound} unsound {unsound} table {table} blocks {blocks} sectors {sectors}\n"
-        for coded, numbers, looked, sound, unsound, table, blocks, sectors in ref.geometries(raw)
-        if not coded
-    )
-    want = (0, told, "") if told else (1, "", "refused geometry 6 NoneFits\n")
-    answer = run(["geometry", "dump.bin"], folder)
-    assert answer == want, (image.g.words(), answer, want)
-    assert left_in(folder, "dump.bin") == {}
+        raw = raw[: page * g.pages * rng.randrange(g.blocks // 2, g.blocks)]
+    sorts = {"coded" if coded else "plain" for coded, _, _ in expect_fits(folder, raw)}
+    FITTED["+".join(sorted(sorts)) or "none"] += 1
     clear(folder)
 
 
@@ -545,10 +579,15 @@ def repair_case(rng, folder):
     stored(rng, folder, ["repair", g.words(), "dump.bin", "out.bin", *asked], want, out)
 
 
+def on_chip(g, raw):
+    """The dump of a chip with these pages and their codes, and how many bytes a page has there."""
+    dump = bytearray(b"".join(b"".join(hamming.physical(page[: g.data], page[g.data :])) for page in pages_of(g, raw)))
+    return dump, len(dump) // g.rows
+
+
 def spoiled(rng, g, raw):
-    """The dump of a chip with these pages and their codes, where bits of some chunks are wrong: of most one, of some more."""
-    dump = b"".join(b"".join(hamming.physical(page[: g.data], page[g.data :])) for page in pages_of(g, raw))
-    size, dump = len(dump) // g.rows, bytearray(dump)
+    """The dump of a chip where bits of some chunks are wrong: of most one, of some more."""
+    dump, size = on_chip(g, raw)
     for row in rng.sample(range(g.rows), rng.choice([0, 1, 5, g.rows])):
         for _ in range(rng.choice([1, 1, 1, 2, 2, 3, 12])):
             dump[row * size + rng.randrange(size)] ^= 1 << rng.randrange(8)
@@ -778,7 +817,8 @@ def main():
             merge_case(random.Random(f"merge {seed}.{i}"), folder)
             correct_case(random.Random(f"correct {seed}.{i}"), folder)
         assert cases < 100 or SEEN == {"factory", "rewritten", "holes", "outside", "none"}, SEEN
-        print(f"each of the seven commands over {cases} dumps agrees with the reference, and the refusals")
+        assert cases < 100 or set(FITTED) == {"plain", "coded", "coded+plain", "none"}, FITTED
+        print(f"each of the seven commands over {cases} dumps agrees with the reference, and the refusals; geometry over {dict(FITTED)}")
 
 
 if __name__ == "__main__":

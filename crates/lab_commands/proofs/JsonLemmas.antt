@@ -2,13 +2,15 @@
 use Rattle.std.proofs.Common.{◌≡◌, ℕ, List, [], ◌∷◌, ◌++◌, Bool, true, false, refl, sym, ap, ◌∙◌, append_assoc}
 use Rattle.std.specs.Fmt.{decimal}
 use Rattle.certificate.specs.declared.block_state.BlockState.{BlockState}
-use Rattle.serde_json.specs.Written.{compact_text}
+use Rattle.serde_json.specs.Written.{compact_text, members_text}
 use Rattle.lab_dump.specs.declared.fit.Fit.{Fit}
+use Rattle.lab_correct.specs.declared.found.FoundFit.{FoundFit}
+use Rattle.lab_correct.specs.Coded.{found_as}
 use Rattle.lab_dump.specs.declared.doubts.Doubts.{Doubts}
 use Rattle.lab_dump.specs.declared.rows.Rows.{Rows}
 use Rattle.lab_dump.specs.Doubts.{most_older}
 use Rattle.lab_mend.specs.declared.merging.Tally.{Tally}
-use Rattle.lab_commands.specs.Values.{age_data, block_data, corrected_data, doubt_data, fit_data, head_data, key_data, lost_data, lost_row_data, mended_count_data, mended_data, merged_data, pages_data}
+use Rattle.lab_commands.specs.Values.{age_data, block_data, corrected_data, doubt_data, fit_members, found_data, front_words, head_data, key_data, lost_data, lost_row_data, mended_count_data, mended_data, merged_data, pages_data}
 use Rattle.lab_commands.specs.Values.{plain_block_data, reason_pages_data, reason_table_data, repeated_data, row_data, rows_age_data, rows_data}
 use Rattle.std.specs.Prelude.{codes, ◌==◌, if◌then◌else◌}
 use Rattle.json.specs.Print.{escape, escape_byte, quoted}
@@ -141,12 +143,23 @@ pub lost_json : (sector : ℕ) (r1 : ℕ) → r1 ≡ sector → codes "{\"line\"
 unfolding escape_byte
 lost_json sector r1 e1 = rw (e1) (refl)
 
-pub fit_json : (fit : Fit) (r1 : ℕ) (r2 : ℕ) (r3 : ℕ) (r4 : ℕ) (r5 : ℕ) (r6 : ℕ) (r7 : ℕ) (w : List ℕ) (r8 : ℕ) → r1 ≡ fit.data_bytes → r2 ≡ fit.spare_bytes → r3 ≡ fit.pages → r4 ≡ fit.blocks → r5 ≡ fit.sectors → r6 ≡ fit.looked → r7 ≡ fit.sound.0 → w ≡ says_words fit.table → r8 ≡ fit.unsound → codes "{\"blocks_told\":" ++ (decimal fit.blocks_told ++ (codes ",\"geometry\":[" ++ (decimal r1 ++ (codes "," ++ (decimal r2 ++ (codes "," ++ (decimal r3 ++ (codes "," ++ (decimal r4 ++ (codes "," ++ (decimal r5 ++ (codes "],\"line\":\"geometry\",\"looked\":" ++ (decimal r6 ++ (codes ",\"sectors_told\":" ++ (decimal fit.sectors_told ++ (codes ",\"sound\":" ++ (decimal r7 ++ (codes ",\"table\":\"" ++ (w ++ (codes "\",\"unsound\":" ++ (decimal r8 ++ codes "}"))))))))))))))))))))) ≡ compact_text (fit_data fit)
+-- the members of a geometry that fits, behind its first one and that of codes
+fit_rest : (fit : Fit) → codes ",\"geometry\":[" ++ (decimal fit.data_bytes ++ (codes "," ++ (decimal fit.spare_bytes ++ (codes "," ++ (decimal fit.pages ++ (codes "," ++ (decimal fit.blocks ++ (codes "," ++ (decimal fit.sectors ++ (codes "],\"line\":\"geometry\",\"looked\":" ++ (decimal fit.looked ++ (codes ",\"sectors_told\":" ++ (decimal fit.sectors_told ++ (codes ",\"sound\":" ++ (decimal fit.sound.0 ++ (codes ",\"table\":\"" ++ (says_words fit.table ++ (codes "\",\"unsound\":" ++ (decimal fit.unsound ++ codes "}"))))))))))))))))))) ≡ members_text true (fit_members fit)
 unfolding escape_byte
-fit_json fit r1 r2 r3 r4 r5 r6 r7 w r8 e1 e2 e3 e4 e5 e6 e7 ew e8 = rw (e1, e2, e3, e4, e5, e6, e7, ew, e8) (ap (λ t. codes "{\"blocks_told\":" ++ (decimal fit.blocks_told ++ (codes ",\"geometry\":[" ++ (decimal fit.data_bytes ++ (codes "," ++ (decimal fit.spare_bytes ++ (codes "," ++ (decimal fit.pages ++ (codes "," ++ (decimal fit.blocks ++ (codes "," ++ (decimal fit.sectors ++ (codes "],\"line\":\"geometry\",\"looked\":" ++ (decimal fit.looked ++ (codes ",\"sectors_told\":" ++ (decimal fit.sectors_told ++ (codes ",\"sound\":" ++ (decimal fit.sound.0 ++ (codes ",\"table\":" ++ t))))))))))))))))))) (sym (quoted_in (says_words fit.table) (codes ",\"unsound\":" ++ (decimal fit.unsound ++ codes "}")) (plain_says fit.table)))
-    ∙ ap (λ t. codes "{\"blocks_told\":" ++ (decimal fit.blocks_told ++ (codes ",\"geometry\":[" ++ t)))
+fit_rest fit = ap (λ t. codes ",\"geometry\":[" ++ (decimal fit.data_bytes ++ (codes "," ++ (decimal fit.spare_bytes ++ (codes "," ++ (decimal fit.pages ++ (codes "," ++ (decimal fit.blocks ++ (codes "," ++ (decimal fit.sectors ++ (codes "],\"line\":\"geometry\",\"looked\":" ++ (decimal fit.looked ++ (codes ",\"sectors_told\":" ++ (decimal fit.sectors_told ++ (codes ",\"sound\":" ++ (decimal fit.sound.0 ++ (codes ",\"table\":" ++ t))))))))))))))))) (sym (quoted_in (says_words fit.table) (codes ",\"unsound\":" ++ (decimal fit.unsound ++ codes "}")) (plain_says fit.table)))
+    ∙ ap (λ t. codes ",\"geometry\":[" ++ t)
     (sym (list_of_five (decimal fit.data_bytes) (decimal fit.spare_bytes) (decimal fit.pages) (decimal fit.blocks) (decimal fit.sectors)
-    (codes ",\"line\":\"geometry\",\"looked\":" ++ (decimal fit.looked ++ (codes ",\"sectors_told\":" ++ (decimal fit.sectors_told ++ (codes ",\"sound\":" ++ (decimal fit.sound.0 ++ (codes ",\"table\":" ++ (quoted (says_words fit.table) ++ (codes ",\"unsound\":" ++ (decimal fit.unsound ++ codes "}")))))))))))))
+    (codes ",\"line\":\"geometry\",\"looked\":" ++ (decimal fit.looked ++ (codes ",\"sectors_told\":" ++ (decimal fit.sectors_told ++ (codes ",\"sound\":" ++ (decimal fit.sound.0 ++ (codes ",\"table\":" ++ (quoted (says_words fit.table) ++ (codes ",\"unsound\":" ++ (decimal fit.unsound ++ codes "}"))))))))))))
+
+-- with the one of codes, and without it
+fit_by : (coded : Bool) (fit : Fit) → codes "{\"blocks_told\":" ++ (decimal fit.blocks_told ++ (front_words coded ++ (decimal fit.data_bytes ++ (codes "," ++ (decimal fit.spare_bytes ++ (codes "," ++ (decimal fit.pages ++ (codes "," ++ (decimal fit.blocks ++ (codes "," ++ (decimal fit.sectors ++ (codes "],\"line\":\"geometry\",\"looked\":" ++ (decimal fit.looked ++ (codes ",\"sectors_told\":" ++ (decimal fit.sectors_told ++ (codes ",\"sound\":" ++ (decimal fit.sound.0 ++ (codes ",\"table\":\"" ++ (says_words fit.table ++ (codes "\",\"unsound\":" ++ (decimal fit.unsound ++ codes "}"))))))))))))))))))))) ≡ compact_text (found_data (found_as coded fit))
+unfolding escape_byte
+fit_by true fit = ap (λ t. codes "{\"blocks_told\":" ++ (decimal fit.blocks_told ++ (codes ",\"codes\":\"hamming\"" ++ t))) (fit_rest fit)
+fit_by false fit = ap (λ t. codes "{\"blocks_told\":" ++ (decimal fit.blocks_told ++ t)) (fit_rest fit)
+
+pub fit_json : (found : FoundFit) (v : List ℕ) (r1 : ℕ) (r2 : ℕ) (r3 : ℕ) (r4 : ℕ) (r5 : ℕ) (r6 : ℕ) (r7 : ℕ) (w : List ℕ) (r8 : ℕ) → v ≡ front_words found.coded → r1 ≡ found.fit.data_bytes → r2 ≡ found.fit.spare_bytes → r3 ≡ found.fit.pages → r4 ≡ found.fit.blocks → r5 ≡ found.fit.sectors → r6 ≡ found.fit.looked → r7 ≡ found.fit.sound.0 → w ≡ says_words found.fit.table → r8 ≡ found.fit.unsound
+    → codes "{\"blocks_told\":" ++ (decimal found.fit.blocks_told ++ (v ++ (decimal r1 ++ (codes "," ++ (decimal r2 ++ (codes "," ++ (decimal r3 ++ (codes "," ++ (decimal r4 ++ (codes "," ++ (decimal r5 ++ (codes "],\"line\":\"geometry\",\"looked\":" ++ (decimal r6 ++ (codes ",\"sectors_told\":" ++ (decimal found.fit.sectors_told ++ (codes ",\"sound\":" ++ (decimal r7 ++ (codes ",\"table\":\"" ++ (w ++ (codes "\",\"unsound\":" ++ (decimal r8 ++ codes "}"))))))))))))))))))))) ≡ compact_text (found_data found)
+fit_json found v r1 r2 r3 r4 r5 r6 r7 w r8 ev e1 e2 e3 e4 e5 e6 e7 ew e8 = rw (ev, e1, e2, e3, e4, e5, e6, e7, ew, e8) (fit_by found.coded found.fit)
 
 pub mended_json : (made : Made) (row : ℕ) (bit : ℕ) (r1 : ℕ) (w : List ℕ) (r2 : ℕ) → r1 ≡ bit → w ≡ made_words made → r2 ≡ row → codes "{\"bit\":" ++ (decimal r1 ++ (codes ",\"line\":\"" ++ (w ++ (codes "\",\"row\":" ++ (decimal r2 ++ codes "}"))))) ≡ compact_text (mended_data made row bit)
 unfolding escape_byte

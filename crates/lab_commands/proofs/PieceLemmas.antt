@@ -7,8 +7,9 @@ use Rattle.std.specs.Prelude.{Bool, true, false, ◌==◌, if◌then◌else◌, 
 use Rattle.std.specs.Fmt.{decimal}
 use Rattle.lab_dump.specs.declared.fit.Fit.{Fit}
 use Rattle.lab_dump.specs.declared.doubts.Doubts.{Doubts}
+use Rattle.lab_correct.specs.declared.found.FoundFit.{FoundFit}
 use Rattle.lab_dump.specs.Doubts.{most_older}
-use Rattle.lab_commands.specs.Lines.{age_words, fit_words, moved_words, says_words, whole_words}
+use Rattle.lab_commands.specs.Lines.{age_words, first_words, fit_words, found_words, moved_words, says_words, whole_words}
 use Rattle.lab_commands.specs.declared.output.OutputFault.{OutputFault}
 use Rattle.lab_commands.specs.declared.pieces.Piece.{Piece}
 use Rattle.lab_commands.specs.Document.{Stops}
@@ -58,6 +59,18 @@ pub fit_pieces : (f : Fit) (r1 r2 r3 r4 r5 r6 r7 r8 : ℕ) (w : List ℕ) → r1
     → codes "geometry " ++ (decimal r1 ++ (codes "," ++ (decimal r2 ++ (codes "," ++ (decimal r3 ++ (codes "," ++ (decimal r4 ++ (codes "," ++ (decimal r5 ++ (codes " looked " ++ (decimal r6 ++ (codes " sound " ++ (decimal r7 ++ (codes " unsound " ++ (decimal r8
     ++ (codes " table " ++ (w ++ (codes " blocks " ++ (decimal f.blocks_told ++ (codes " sectors " ++ decimal f.sectors_told)))))))))))))))))))) ≡ fit_words f
 fit_pieces f r1 r2 r3 r4 r5 r6 r7 r8 w e1 e2 e3 e4 e5 e6 e7 e8 ew = rw (e1, e2, e3, e4, e5, e6, e7, e8, ew) (fit_flat f)
+
+-- what comes first of a dump with codes
+first_flat : (f : Fit) → codes " codes hamming: first nandlab correct " ++ (decimal f.data_bytes ++ (codes "," ++ (decimal f.spare_bytes ++ (codes "," ++ (decimal f.pages ++ (codes "," ++ (decimal f.blocks ++ (codes "," ++ (decimal f.sectors ++ codes " DUMP OUT"))))))))) ≡ first_words f
+first_flat f = simp append_assoc
+
+pub first_pieces : (f : Fit) (r1 r2 r3 r4 r5 : ℕ) → r1 ≡ f.data_bytes → r2 ≡ f.spare_bytes → r3 ≡ f.pages → r4 ≡ f.blocks → r5 ≡ f.sectors
+    → codes " codes hamming: first nandlab correct " ++ (decimal r1 ++ (codes "," ++ (decimal r2 ++ (codes "," ++ (decimal r3 ++ (codes "," ++ (decimal r4 ++ (codes "," ++ (decimal r5 ++ codes " DUMP OUT"))))))))) ≡ first_words f
+first_pieces f r1 r2 r3 r4 r5 e1 e2 e3 e4 e5 = rw (e1, e2, e3, e4, e5) (first_flat f)
+
+-- a geometry with codes is told in both parts
+pub coded_found : (found : FoundFit) → found.coded ≡ true → fit_words found.fit ++ first_words found.fit ≡ found_words found
+coded_found found is = sym (ap (λ b. if b then fit_words found.fit ++ first_words found.fit else fit_words found.fit) is)
 
 nonzero : (m : ℕ) → ¬ (m ≡ 0) → (m == 0) ≡ false
 nonzero zero h = absurd (h refl)

@@ -10,6 +10,7 @@ use Rattle.lab_dump.specs.declared.fit.TableSays.TheVariants.{Agrees, Short, Sil
 use Rattle.lab_dump.specs.declared.doubts.Doubts.{Doubts}
 use Rattle.lab_dump.specs.declared.rows.Rows.{Rows}
 use Rattle.lab_dump.specs.Doubts.{most_older}
+use Rattle.lab_correct.specs.declared.found.FoundFit.{FoundFit}
 use Rattle.lab_mend.specs.declared.mending.Made.{Made}
 use Rattle.lab_mend.specs.declared.mending.Made.TheVariants as made
 use Rattle.lab_mend.specs.declared.merging.Tally.{Tally}
@@ -74,6 +75,14 @@ told_words f = codes " table " ++ (says_words f.table ++ (codes " blocks " ++ (d
 abbrev pub fit_words : Fit → List ℕ
 fit_words f = codes "geometry " ++ (shape_words f ++ (looked_words f ++ told_words f))
 
+-- what comes first where the pages stand with their codes: the command that makes the dump without them, of this geometry
+abbrev pub first_words : Fit → List ℕ
+first_words f = codes " codes hamming: first nandlab correct " ++ (shape_words f ++ codes " DUMP OUT")
+
+-- a geometry that fits, as the dump stands or with codes
+abbrev pub found_words : FoundFit → List ℕ
+found_words found = if found.coded then fit_words found.fit ++ first_words found.fit else fit_words found.fit
+
 -- a block, its state, and its pages that are neither erased nor sound
 abbrev pub block_words : ℕ → BlockState → ℕ → List ℕ
 block_words block s unsound =
@@ -123,7 +132,7 @@ line_words (Missing of number) = codes "missing " ++ (label_words of ++ (codes "
 line_words (Block block s unsound) = block_words block s unsound
 line_words (PlainBlock block unsound) = codes "block " ++ (decimal block ++ (codes " unsound " ++ decimal unsound))
 line_words (Lost sector) = codes "lost sector " ++ decimal sector
-line_words (line.Fit f) = fit_words f
+line_words (line.Fit found) = found_words found
 line_words (Mended how row bit) = made_words how ++ (codes " row " ++ (decimal row ++ (codes " bit " ++ decimal bit)))
 line_words (MendedCount n) = codes "mended " ++ decimal n
 line_words (LostRow row chunks) = codes "lost row " ++ (decimal row ++ (codes " chunks " ++ decimal chunks))

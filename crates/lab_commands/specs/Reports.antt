@@ -7,9 +7,9 @@ use Rattle.lab_dump.specs.declared.held.State.{State}
 use Rattle.lab_dump.specs.declared.held.State.TheVariants as state
 use Rattle.lab_dump.specs.Held.{state_in}
 use Rattle.lab_dump.specs.declared.compare.Compared.{Compared}
-use Rattle.lab_dump.specs.declared.fit.Fit.{Fit}
 use Rattle.lab_mend.specs.declared.merging.Tally.{Tally}
 use Rattle.lab_correct.specs.declared.correcting.Loss.{Loss}
+use Rattle.lab_correct.specs.declared.found.FoundFit.{FoundFit}
 use Rattle.lab_mend.specs.declared.repairing.Mend.{Mend}
 use Rattle.lab_dump.specs.declared.survey.DieSurvey.{DieSurvey}
 use Rattle.lab_dump.specs.declared.doubts.Doubts.{Doubts}
@@ -47,7 +47,7 @@ lost_at lost n = lost_line n (get_or lost n false)
 abbrev pub tie_at : List State → ℕ → Option Line
 tie_at states n = tie_line n (get_or states n state.Absent)
 
-abbrev pub fit_at : List Fit → ℕ → Option Line
+abbrev pub fit_at : List FoundFit → ℕ → Option Line
 fit_at fits n = option_map line.Fit (slice_get fits n)
 
 abbrev pub mend_at : List Mend → ℕ → Option Line
@@ -159,7 +159,7 @@ ties_text form g states = text_below form (tie_at states) g.sectors
 abbrev pub array_text : Form → Geometry → List State → Doubts → List ℕ
 array_text form g states doubts = head_text form (codes "array") ++ (ties_text form g states ++ (doubts_text form doubts ++ tail_text form))
 
-abbrev pub fits_text : Form → List Fit → List ℕ
+abbrev pub fits_text : Form → List FoundFit → List ℕ
 fits_text form fits = head_text form (codes "geometry") ++ (text_below form (fit_at fits) (length fits) ++ tail_text form)
 
 abbrev pub repair_text : Form → List Mend → List ℕ

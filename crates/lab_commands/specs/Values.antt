@@ -1,11 +1,12 @@
 -- The lines of the reports, as JSON values: objects, each with its members by rising name. `line` says which line it is.
-use Rattle.std.specs.Prelude.{ℕ, List, codes}
-use Rattle.serde_json.specs.Data.{Data, number, unsigned, string, array, object, item, no_items, member, no_members}
+use Rattle.std.specs.Prelude.{ℕ, List, codes, Bool, true, false, if◌then◌else◌}
+use Rattle.serde_json.specs.Data.{Data, Members, number, unsigned, string, array, object, item, no_items, member, no_members}
 use Rattle.certificate.specs.declared.block_state.BlockState.{BlockState}
 use Rattle.lab_dump.specs.declared.fit.Fit.{Fit}
 use Rattle.lab_dump.specs.declared.doubts.Doubts.{Doubts}
 use Rattle.lab_dump.specs.declared.rows.Rows.{Rows}
 use Rattle.lab_dump.specs.Doubts.{most_older}
+use Rattle.lab_correct.specs.declared.found.FoundFit.{FoundFit}
 use Rattle.lab_mend.specs.declared.merging.Tally.{Tally}
 use Rattle.lab_mend.specs.declared.mending.Made.{Made}
 use Rattle.lab_commands.specs.declared.lines.Label.{Label}
@@ -64,11 +65,27 @@ lost_data n = object (member (codes "line") (text (codes "lost")) (member (codes
 abbrev pub shape_data : Fit → Data
 shape_data f = array (item (count f.data_bytes) (item (count f.spare_bytes) (item (count f.pages) (item (count f.blocks) (item (count f.sectors) no_items)))))
 
-abbrev pub fit_data : Fit → Data
-fit_data f =
-    object (member (codes "blocks_told") (count f.blocks_told) (member (codes "geometry") (shape_data f) (member (codes "line") (text (codes "geometry")) (
+-- its members behind the first one and the one of codes
+abbrev pub fit_members : Fit → Members
+fit_members f =
+    member (codes "geometry") (shape_data f) (member (codes "line") (text (codes "geometry")) (
     member (codes "looked") (count f.looked) (member (codes "sectors_told") (count f.sectors_told) (member (codes "sound") (count f.sound.0) (
-    member (codes "table") (text (says_words f.table)) (member (codes "unsound") (count f.unsound) no_members))))))))
+    member (codes "table") (text (says_words f.table)) (member (codes "unsound") (count f.unsound) no_members))))))
+
+abbrev pub fit_data : Fit → Data
+fit_data f = object (member (codes "blocks_told") (count f.blocks_told) (fit_members f))
+
+-- one whose pages stand with their codes
+abbrev pub coded_fit_data : Fit → Data
+coded_fit_data f = object (member (codes "blocks_told") (count f.blocks_told) (member (codes "codes") (text (codes "hamming")) (fit_members f)))
+
+-- a geometry that fits, as the dump stands or with codes
+abbrev pub found_data : FoundFit → Data
+found_data found = if found.coded then coded_fit_data found.fit else fit_data found.fit
+
+-- how its text goes on behind the first member, up to the five numbers
+abbrev pub front_words : Bool → List ℕ
+front_words coded = if coded then codes ",\"codes\":\"hamming\",\"geometry\":[" else codes ",\"geometry\":["
 
 abbrev pub mended_data : Made → ℕ → ℕ → Data
 mended_data how row bit = object (member (codes "bit") (count bit) (member (codes "line") (text (made_words how)) (member (codes "row") (count row) no_members)))
@@ -129,7 +146,7 @@ line_data (Missing of n) = key_data (codes "missing") of n
 line_data (Block block s n) = block_data block s n
 line_data (PlainBlock block n) = plain_block_data block n
 line_data (Lost n) = lost_data n
-line_data (line.Fit f) = fit_data f
+line_data (line.Fit found) = found_data found
 line_data (Mended how row bit) = mended_data how row bit
 line_data (MendedCount n) = mended_count_data n
 line_data (LostRow row chunks) = lost_row_data row chunks

@@ -4,12 +4,13 @@ ghost use Rattle.std.specs.Fmt.{decimal};
 ghost use Rattle.lab_commands.specs.Document.{Prints};
 ghost use Rattle.lab_commands.specs.Lines.{block_line, class_words, factory_line, hole_line, key_line, label_words, last_line, lost_line, made_words, outside_line, past_line, repeated_line, rewritten_line};
 ghost use Rattle.lab_commands.specs.Lines.{rows_line, says_words, sort_words, table_line, tie_line};
-ghost use Rattle.lab_commands.specs.Lines.{age_words, block_words, corrected_words, fit_words, line_words, moved_words, tally_words, whole_words};
+ghost use Rattle.lab_commands.specs.Lines.{age_words, block_words, corrected_words, first_words, fit_words, found_words, line_words, moved_words, tally_words, whole_words};
 
 use crate::output::{Output, OutputFault};
 use crate::pieces::Piece::{Number, Words};
 use crate::pieces::put_pieces;
 use certificate::BlockState;
+use lab_correct::FoundFit;
 use lab_dump::{Doubts, Fit, Rows, State, TableSays};
 use lab_mend::{Made, Tally};
 
@@ -57,8 +58,8 @@ pub enum Line {
     PlainBlock(u32, u32),
     /// A sector that has lost a page.
     Lost(u32),
-    /// A geometry that fits.
-    Fit(Fit),
+    /// A geometry that fits, as the dump stands or with codes.
+    Fit(FoundFit),
     /// The page of a row was mended to such a page by turning a bit.
     Mended(Made, u32, u32),
     /// So many pages were mended.
@@ -241,6 +242,40 @@ fn put_fit<W: Output>(out: &mut W, fit: Fit) -> Result<(), OutputFault>
     )
 }
 
+// What comes first where the pages stand with their codes.
+fn put_first<W: Output>(out: &mut W, fit: Fit) -> Result<(), OutputFault>
+    ensures { Prints (W.failed out.new) (W.contents out.old) (W.contents out.new) (first_words fit) result }
+{
+    put_pieces(
+        out,
+        &[
+            Words(" codes hamming: first nandlab correct "),
+            Number(u64::from(fit.data_bytes)),
+            Words(","),
+            Number(u64::from(fit.spare_bytes)),
+            Words(","),
+            Number(u64::from(fit.pages)),
+            Words(","),
+            Number(u64::from(fit.blocks)),
+            Words(","),
+            Number(u64::from(fit.sectors)),
+            Words(" DUMP OUT"),
+        ],
+    )
+}
+
+// A geometry that fits, as the dump stands or with codes.
+fn put_found<W: Output>(out: &mut W, found: FoundFit) -> Result<(), OutputFault>
+    ensures { Prints (W.failed out.new) (W.contents out.old) (W.contents out.new) (found_words found) result }
+{
+    if found.coded {
+        put_fit(out, found.fit)?;
+        put_first(out, found.fit)
+    } else {
+        put_fit(out, found.fit)
+    }
+}
+
 // A block with its state and its unsound pages.
 fn put_block<W: Output>(
     out: &mut W,
@@ -413,7 +448,7 @@ pub(crate) fn put_words<W: Output>(out: &mut W, line: Line) -> Result<(), Output
         Line::Block(block, state, unsound) => put_block(out, block, state, unsound),
         Line::PlainBlock(block, unsound) => put_two(out, "block ", block, " unsound ", unsound),
         Line::Lost(sector) => put_one(out, "lost sector ", u64::from(sector)),
-        Line::Fit(fit) => put_fit(out, fit),
+        Line::Fit(found) => put_found(out, found),
         Line::Mended(made, row, bit) => put_mended(out, made, row, bit),
         Line::MendedCount(count) => put_one(out, "mended ", count),
         Line::LostRow(row, chunks) => put_two(out, "lost row ", row, " chunks ", chunks),

@@ -6,8 +6,8 @@ ghost use Rattle.lab_commands.specs.Reports.{differ_at, fit_at, loss_at, mend_at
 
 use crate::lines::{Label, Line, block_line, key_line, lost_line, table_line, tie_line};
 use certificate::BlockState;
-use lab_correct::Loss;
-use lab_dump::{DieSurvey, Fit, Held, State};
+use lab_correct::{FoundFit, Loss};
+use lab_dump::{DieSurvey, Held, State};
 use lab_mend::Mend;
 
 /// Lines, one for each number below their count, or none for a number that has nothing to say.
@@ -26,7 +26,7 @@ pub(crate) enum Lines<'a> {
     /// Those of so many sectors of which two pages share the greatest sequence.
     Ties(&'a [Held], u32),
     /// The geometries that fit.
-    Fits(&'a [Fit]),
+    Fits(&'a [FoundFit]),
     /// The pages that were mended.
     Mends(&'a [Mend]),
     /// The rows with lost chunks.
@@ -92,7 +92,7 @@ fn fixed_line(lines: &[Option<Line>], number: usize) -> Option<Line>
     lines.get(number).copied().unwrap_or(None)
 }
 
-fn fit_line(fits: &[Fit], number: usize) -> Option<Line>
+fn fit_line(fits: &[FoundFit], number: usize) -> Option<Line>
     ensures { result ≡ fit_at fits.now number }
 {
     let fit = *fits.get(number)?;

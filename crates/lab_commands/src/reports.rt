@@ -11,8 +11,8 @@ use crate::lines::{
 };
 use crate::lists::Lines;
 use crate::output::{Output, OutputFault};
-use lab_correct::Loss;
-use lab_dump::{Compared, DieSurvey, Doubts, Fit, Held, Rows, State};
+use lab_correct::{FoundFit, Loss};
+use lab_dump::{Compared, DieSurvey, Doubts, Held, Rows, State};
 use lab_mend::{Mend, Tally};
 use page_layout::geometry::Geometry;
 
@@ -245,7 +245,11 @@ pub fn print_array<W: Output>(
 /// # Errors
 ///
 /// As of `print_survey`. (This project's.)
-pub fn print_fits<W: Output>(printer: Printer, out: &mut W, fits: &[Fit]) -> Result<(), OutputFault>
+pub fn print_fits<W: Output>(
+    printer: Printer,
+    out: &mut W,
+    fits: &[FoundFit],
+) -> Result<(), OutputFault>
     ensures { Prints (W.failed out.new) (W.contents out.old) (W.contents out.new) (fits_text printer.form fits.now) result }
 {
     printer.begin(out, Report::Geometry)?;

@@ -1,9 +1,9 @@
 //! The lines of the reports, as JSON objects.
-ghost use Rattle.std.specs.Prelude.{codes};
+ghost use Rattle.std.specs.Prelude.{◌≡◌, codes};
 ghost use Rattle.serde_json.specs.Written.{compact_text};
 ghost use Rattle.lab_commands.specs.Document.{Prints};
 ghost use Rattle.lab_commands.specs.Lines.{label_words};
-ghost use Rattle.lab_commands.specs.Values.{age_data, block_data, corrected_data, doubt_data, fit_data, head_data, key_data, line_data, lost_data, lost_row_data, mended_count_data, mended_data, merged_data, pages_data};
+ghost use Rattle.lab_commands.specs.Values.{age_data, block_data, corrected_data, doubt_data, found_data, front_words, head_data, key_data, line_data, lost_data, lost_row_data, mended_count_data, mended_data, merged_data, pages_data};
 ghost use Rattle.lab_commands.specs.Values.{plain_block_data, reason_pages_data, reason_table_data, repeated_data, row_data, rows_age_data, rows_data};
 
 use crate::lines::{Label, Line, Sort, class_text, made_text, says_text};
@@ -11,7 +11,8 @@ use crate::output::{Output, OutputFault};
 use crate::pieces::Piece::{Number, Words};
 use crate::pieces::put_pieces;
 use certificate::BlockState;
-use lab_dump::{Doubts, Fit, Rows};
+use lab_correct::FoundFit;
+use lab_dump::{Doubts, Rows};
 use lab_mend::{Made, Tally};
 
 // So many pages are of a sort.
@@ -204,17 +205,29 @@ fn put_lost<W: Output>(out: &mut W, sector: u32) -> Result<(), OutputFault>
     )
 }
 
-// A geometry that fits.
-#[tactic(auto, unfolding(json::specs::Print::escape_byte))]
-fn put_fit<W: Output>(out: &mut W, fit: Fit) -> Result<(), OutputFault>
-    ensures { Prints (W.failed out.new) (W.contents out.old) (W.contents out.new) (compact_text (fit_data fit)) result }
+// How the object of a geometry goes on behind its first member: where the pages stand with their codes by a member that says so.
+fn front_text(coded: bool) -> &'static str
+    ensures { result.now ≡ front_words coded }
 {
+    if coded {
+        ",\"codes\":\"hamming\",\"geometry\":["
+    } else {
+        ",\"geometry\":["
+    }
+}
+
+// A geometry that fits, as the dump stands or with codes.
+#[tactic(auto, unfolding(json::specs::Print::escape_byte))]
+fn put_fit<W: Output>(out: &mut W, found: FoundFit) -> Result<(), OutputFault>
+    ensures { Prints (W.failed out.new) (W.contents out.old) (W.contents out.new) (compact_text (found_data found)) result }
+{
+    let fit = found.fit;
     put_pieces(
         out,
         &[
             Words("{\"blocks_told\":"),
             Number(fit.blocks_told),
-            Words(",\"geometry\":["),
+            Words(front_text(found.coded)),
             Number(u64::from(fit.data_bytes)),
             Words(","),
             Number(u64::from(fit.spare_bytes)),
@@ -488,7 +501,7 @@ pub(crate) fn put_object<W: Output>(out: &mut W, line: Line) -> Result<(), Outpu
         Line::Block(block, state, unsound) => put_block(out, block, state, unsound),
         Line::PlainBlock(block, unsound) => put_plain_block(out, block, unsound),
         Line::Lost(sector) => put_lost(out, sector),
-        Line::Fit(fit) => put_fit(out, fit),
+        Line::Fit(found) => put_fit(out, found),
         Line::Mended(made, row, bit) => put_mended(out, made, row, bit),
         Line::MendedCount(count) => put_mended_count(out, count),
         Line::LostRow(row, chunks) => put_lost_row(out, row, chunks),
