@@ -1,6 +1,5 @@
 -- A STORE IS RECOVERED, AND ITS DISK IS OPENED.
 use Rattle.std.specs.Prelude.{◌≡◌, ◌⊎◌, ℕ, Bool, true, false, List}
-use Rattle.std.specs.List.{list_any}
 use Rattle.page_layout.specs.Counter.{HasRisen}
 use Rattle.file_die.specs.Store.{Held}
 use Rattle.crash_recovery.specs.Taken.{Recovers}
@@ -8,8 +7,6 @@ use Rattle.disk_server.specs.declared.opened.OpenStoreFault.{OpenStoreFault}
 use Rattle.disk_server.specs.declared.opened.OpenStoreFault.TheVariants.{Device, OutOfMemory}
 use Rattle.disk_server.specs.Opened.{IsUnopened, bytes_of}
 use Rattle.disk_server.specs.Stopped.{IsUnopenedLater}
-use Rattle.disk_recovery.specs.declared.recovered.ListedFault.{ListedFault}
-use Rattle.disk_recovery.specs.declared.recovered.ListedFault.TheVariants as listed
 
 -- a store that was mounted was recovered once, by whether anything was torn
 pub record IsRecovered (mark : ℕ) (s : Held) (changed : Bool) (t : Held) : Type 0 where
@@ -43,15 +40,3 @@ IsUnrecovered {S} held honest failed store capacity mark fault =
     IsNotTaken honest failed store fault
     ⊎ (((given : S) × (honest given ≡ honest store) × (honest store ≡ true → IsRecovered mark (held store) true (held given)) × IsNotAgain held honest failed given fault)
     ⊎ ((given : S) × (honest given ≡ honest store) × (honest store ≡ true → IsLeft mark (held store) (held given)) × IsUnopenedLater held honest failed given capacity fault))
-
--- ---- whose lost sectors are listed first
-
--- WHERE ANY SECTOR IS LOST the list lasts
-abbrev pub KeepsIfAny : {K : Type 0} → (kept : K → List Bool) → (lost : List Bool) → K → Type 0
-KeepsIfAny kept lost keeper = list_any (λ is_lost. is_lost) lost ≡ true → kept keeper ≡ lost
-
--- WHY THERE IS NONE: the list was not kept, which was counted, and the store comes back as it was; or it lasts, and the store was not recovered or opened
-abbrev pub IsUnlisted : {S K : Type 0} → (S → Held) → (honest : S → Bool) → (failed : S → ℕ) → (kept : K → List Bool) → (unlisted : K → ℕ) → S → (capacity mark : ℕ) → (lost : List Bool) → (keeper left : K) → ListedFault S
-    → Type 0
-IsUnlisted held honest failed kept unlisted store capacity mark lost keeper left (listed.List back) = (back ≡ store) × HasRisen (unlisted keeper) (unlisted left)
-IsUnlisted held honest failed kept unlisted store capacity mark lost keeper left (listed.Open why) = KeepsIfAny kept lost left × IsUnrecovered held honest failed store capacity mark why
