@@ -2,10 +2,10 @@
 use Rattle.std.specs.Prelude.{◌≡◌, ◌⊎◌, ℕ, Bool, true, false, List}
 use Rattle.page_layout.specs.Counter.{HasRisen}
 use Rattle.file_die.specs.Store.{Held}
-use Rattle.crash_recovery.specs.Taken.{Recovers}
+use Rattle.crash_recovery.specs.Taken.{Recovers, RecoversSome}
 use Rattle.disk_server.specs.declared.opened.OpenStoreFault.{OpenStoreFault}
 use Rattle.disk_server.specs.declared.opened.OpenStoreFault.TheVariants.{Device, OutOfMemory}
-use Rattle.disk_server.specs.Opened.{IsUnopened, bytes_of}
+use Rattle.disk_server.specs.Opened.{HasCome, IsUnopened, bytes_of}
 use Rattle.disk_server.specs.Stopped.{IsUnopenedLater}
 
 -- a store that was mounted was recovered once, by whether anything was torn
@@ -25,18 +25,21 @@ pub record HoldsRecovered (mark : ℕ) (s : Held) (bytes : List ℕ) : Type 0 wh
   pub recovered : IsLeft mark s left
   pub bytes_are : bytes ≡ bytes_of left
 
--- it was not recovered once: a growth was refused, or the store failed, and counted it
-abbrev pub IsNotTaken : {S : Type 0} → (honest : S → Bool) → (failed : S → ℕ) → S → OpenStoreFault → Type 0
-IsNotTaken {S} honest failed store fault =
-    (fault ≡ OutOfMemory) ⊎ ((mounted given : S) × (honest mounted ≡ honest store) × (fault ≡ Device) × HasRisen (failed mounted) (failed given))
+-- IT WAS NOT RECOVERED ONCE: a growth was refused, or the store failed, and counted it. What was torn may be taken away in part
+pub record IsNotTaken {S : Type 0} (held : S → Held) (honest : S → Bool) (failed : S → ℕ) (mark : ℕ) (store given : S) (fault : OpenStoreFault) : Type 0 where
+  pub as_honest : honest given ≡ honest store
+  pub some : honest store ≡ true → RecoversSome mark (held store) (held given)
+  pub why : (fault ≡ OutOfMemory) ⊎ ((fault ≡ Device) × HasRisen (failed store) (failed given))
 
--- nor once more: it was not mounted for the largest cache, or not recovered then
-abbrev pub IsNotAgain : {S : Type 0} → (S → Held) → (honest : S → Bool) → (failed : S → ℕ) → S → OpenStoreFault → Type 0
-IsNotAgain {S} held honest failed store fault = ((given : S) × IsUnopened held honest failed store 65536 given fault) ⊎ IsNotTaken honest failed store fault
+-- nor once more: it was not mounted for the largest cache, or came back of that and was not recovered
+abbrev pub IsNotAgain : {S : Type 0} → (S → Held) → (honest : S → Bool) → (failed : S → ℕ) → (mark : ℕ) → S → OpenStoreFault → Type 0
+IsNotAgain {S} held honest failed mark store fault =
+    ((given : S) × IsUnopened held honest failed store 65536 given fault)
+    ⊎ ((mounted given : S) × HasCome held honest store mounted × IsNotTaken held honest failed mark mounted given fault)
 
 -- why there is no disk of a store that was mounted: it was not recovered; or what was torn was taken away, and it was not recovered once more; or what was left was not opened
 abbrev pub IsUnrecovered : {S : Type 0} → (S → Held) → (honest : S → Bool) → (failed : S → ℕ) → S → (capacity mark : ℕ) → OpenStoreFault → Type 0
 IsUnrecovered {S} held honest failed store capacity mark fault =
-    IsNotTaken honest failed store fault
-    ⊎ (((given : S) × (honest given ≡ honest store) × (honest store ≡ true → IsRecovered mark (held store) true (held given)) × IsNotAgain held honest failed given fault)
+    ((given : S) × IsNotTaken held honest failed mark store given fault)
+    ⊎ (((given : S) × (honest given ≡ honest store) × (honest store ≡ true → IsRecovered mark (held store) true (held given)) × IsNotAgain held honest failed mark given fault)
     ⊎ ((given : S) × (honest given ≡ honest store) × (honest store ≡ true → IsLeft mark (held store) (held given)) × IsUnopenedLater held honest failed given capacity fault))

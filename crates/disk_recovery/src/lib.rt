@@ -9,5 +9,4 @@
 mod listed;
 mod recovered;
 
-pub use listed::{ListedStore, list_first};
-pub use recovered::recover_listed;
+pub use listed::{ListedStore, list_first, recover_listed};

@@ -5,7 +5,6 @@ ghost use Rattle.disk_server.specs.Disk.{contents_of, holds};
 ghost use Rattle.disk_server.specs.Opened.{flash_in, is_honest_in};
 ghost use Rattle.disk_recovery.specs.Recovered.{HoldsRecovered, IsNotAgain, IsNotTaken, IsRecovered, IsUnrecovered};
 
-use crate::listed::ListedStore;
 use certificate::Certificate;
 use crash_recovery::{RecoveryFault, recover};
 use disk_server::{OpenStoreFault, StoreDisk, mount_store, open_stopped};
@@ -25,7 +24,7 @@ fn recover_once<S: Store>(
     requires mounted { S.honest store.old ≡ true → Agrees (S.held store.old).geometry 65536 (S.held store.old).pages certificate.now }
     ensures recovered { IfOk result (λ changed. S.honest store.old ≡ true → IsRecovered mark (S.held store.old) changed (S.held store.new)) }
     ensures honest { S.honest store.new ≡ S.honest store.old }
-    ensures fault { IfErr result (IsNotTaken S.honest S.failed store.old) }
+    ensures fault { IfErr result (IsNotTaken S.held S.honest S.failed mark store.old store.new) }
 {
     match recover(alloc, store, certificate, mark) {
         Ok(changed) => Ok(changed),
@@ -38,7 +37,7 @@ fn recover_once<S: Store>(
 fn recover_again<S: Store + Drop>(alloc: Global, store: S, mark: u64) -> Result<S, OpenStoreFault>
     ensures recovered { IfOk result (λ left. S.honest store ≡ true → (changed : Bool) × IsRecovered mark (S.held store) changed (S.held left)) }
     ensures honest { IfOk result (λ left. S.honest left ≡ S.honest store) }
-    ensures fault { IfErr result (IsNotAgain S.held S.honest S.failed store) }
+    ensures fault { IfErr result (IsNotAgain S.held S.honest S.failed mark store) }
 {
     let (mut store, certificate) = match mount_store(alloc, store, MOST_ENTRIES) {
         Ok(mounted) => mounted,
@@ -51,7 +50,7 @@ fn recover_again<S: Store + Drop>(alloc: Global, store: S, mark: u64) -> Result<
 }
 
 // The disk of a store that was mounted with this certificate, once what was torn is taken away.
-fn recover_mounted<S: Store + Drop>(
+pub(crate) fn recover_mounted<S: Store + Drop>(
     alloc: Global,
     store: S,
     certificate: &Certificate,
@@ -78,37 +77,4 @@ fn recover_mounted<S: Store + Drop>(
         Ok(left) => open_stopped(alloc, left, capacity, sync_when, true),
         Err(fault) => Err(fault),
     }
-}
-
-/// Opens the disk of a die that a crash may have left torn, to write to it. The list of its lost sectors lasts. The store was mounted with this certificate for the largest cache, of 65,536
-/// entries. What is torn is taken away as `crash_recovery::recover` does; where anything was, the store is mounted and recovered once more; and the disk is opened as `open_stopped` does. All pages
-/// of a lower sequence than `mark` were synced. **Of a store that is honest the disk holds its array, and its bytes are those of the array of the pages that are left.**
-///
-/// # Errors
-///
-/// `OutOfMemory` where a growth was refused while the store was recovered, and `Device` where the store failed then; as `mount_store` for the largest cache where it was to be mounted once more; else as
-/// `open_stopped` over what was left. The store is let go. (This project's.)
-pub fn recover_listed<S: Store + Drop>(
-    alloc: Global,
-    listed: ListedStore<S>,
-    certificate: &Certificate,
-    capacity: u32,
-    mark: u64,
-    sync_when: SyncWhen,
-) -> Result<StoreDisk<S>, OpenStoreFault>
-    requires mounted { S.honest listed.store ≡ true → Agrees (S.held listed.store).geometry 65536 (S.held listed.store).pages certificate.now }
-    requires least { 1 ≤ capacity }
-    requires most { capacity ≤ 65536 }
-    ensures honest { IfOk result (λ d. S.honest listed.store ≡ true → holds (is_honest_in S.honest) d ≡ true) }
-    ensures bytes { IfOk result (λ d. S.honest listed.store ≡ true → HoldsRecovered mark (S.held listed.store) (contents_of (flash_in S.held) (is_honest_in S.honest) d).bytes) }
-    ensures fault { IfErr result (IsUnrecovered S.held S.honest S.failed listed.store capacity mark) }
-{
-    recover_mounted(
-        alloc,
-        listed.into_store(),
-        certificate,
-        capacity,
-        mark,
-        sync_when,
-    )
 }
