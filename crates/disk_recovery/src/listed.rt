@@ -85,12 +85,5 @@ pub fn recover_listed<S: Store + Drop>(
     ensures fault { IfErr result (IsUnrecovered S.held S.honest S.failed listed.store capacity mark) }
 {
     let ListedStore { store } = listed;
-    recover_mounted(
-        alloc,
-        store,
-        certificate,
-        capacity,
-        mark,
-        sync_when,
-    )
+    recover_mounted(alloc, store, certificate, capacity, mark, sync_when)
 }

@@ -207,7 +207,15 @@ fn hold_row(rt: &impl Abort, alloc: Global, row: &Row) -> Result<(), Fail> {
             held,
         } = disk;
         let store = turned(rt, alloc, store, *turn)?;
-        disk = live(alloc, Between { store, keeper, held }, life)?;
+        disk = live(
+            alloc,
+            Between {
+                store,
+                keeper,
+                held,
+            },
+            life,
+        )?;
         assert!(rt; disk.held, "{name}: life {at}");
     }
     Ok(())

@@ -9,9 +9,7 @@ use certificate::Certificate;
 use coded_store::TellsMended;
 use disk_damage::{bad_blocks, mount_and_find};
 use disk_recovery::{list_first, recover_listed};
-use disk_server::{
-    GuardedSectors, StoreDisk, close_store, format_store, open_stopped, open_store,
-};
+use disk_server::{GuardedSectors, StoreDisk, close_store, format_store, open_stopped, open_store};
 use file_die::{Store, SyncWhen};
 use std::alloc::Global;
 use std::test::Fail;
@@ -74,11 +72,7 @@ fn formatted<S: Store + Drop>(alloc: Global, store: S) -> Result<S, Fail> {
 }
 
 /// A new disk in a store of erased pages, once it was asked this.
-pub fn born<S: Store + Drop>(
-    alloc: Global,
-    store: S,
-    steps: &[Step],
-) -> Result<Between<S>, Fail> {
+pub fn born<S: Store + Drop>(alloc: Global, store: S, steps: &[Step]) -> Result<Between<S>, Fail> {
     let disk = match open_store(alloc, formatted(alloc, store)?, ENTRIES, SyncWhen::Erases) {
         Ok(disk) => disk,
         Err((_store, _fault)) => Err("not opened")?,
@@ -116,10 +110,8 @@ fn is_told<S: TellsMended>(
 ) -> Result<bool, Fail> {
     let mended = store.mended();
     let bad = bad_blocks(alloc, certificate)?.len();
-    let same = lost
-        .iter()
-        .enumerate()
-        .all(|(sector, is_lost)| *is_lost == life.lost.contains(&sector));
+    let same = lost.iter().enumerate().all(|(sector, is_lost)| *is_lost
+        == life.lost.contains(&sector));
     Ok(same && bad == life.bad && mended.turned == life.turned && mended.lost == life.unread)
 }
 

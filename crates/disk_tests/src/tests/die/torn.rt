@@ -377,7 +377,10 @@ fn hold_row(rt: &impl Abort, alloc: Global, row: &Row) -> Result<(), Fail> {
     let store = store_of(rt, small(rt), erased(rt, alloc));
     let mut disk: Between<MemoryStore> = born(alloc, store, row.before)?;
     for (filled, hurt) in row.hurt {
-        assert!(rt; is_hurt(&mut disk.store, *filled, *hurt), "{name}: no page of {filled}");
+        assert!(rt;
+            is_hurt(&mut disk.store, *filled, *hurt),
+            "{name}: no page of {filled}"
+        );
     }
     for (at, life) in row.lives.iter().enumerate() {
         disk = live(alloc, disk, life)?;
