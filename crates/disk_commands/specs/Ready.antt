@@ -1,13 +1,13 @@
 -- A DISK THAT IS READY TO BE SERVED.
-use Rattle.std.specs.Prelude.{◌≡◌, ◌⊎◌, ℕ, Bool, true, false, List, Option}
-use Rattle.page_layout.specs.Counter.{HasRisen}
+use Rattle.std.specs.Prelude.{◌≡◌, ◌⊎◌, ℕ, Bool, true, false, List, [], Option}
 use Rattle.onfi_cycles.specs.Driver.{DriverState}
 use Rattle.certificate.specs.Claim.{Claim}
 use Rattle.file_die.specs.Store.{Held}
 use Rattle.coded_store.specs.declared.coded.Mended.{Mended}
 use Rattle.file_die.specs.Die.{FileState}
 use Rattle.ftl_device.specs.declared.device.Device.{Device}
-use Rattle.disk_recovery.specs.Recovered.{HoldsRecovered, IsUnrecovered, KeepsIfAny}
+use Rattle.disk_recovery.specs.Listed.{IsUnkept, KeepsIfAny}
+use Rattle.disk_recovery.specs.Recovered.{HoldsRecovered, IsUnrecovered}
 use Rattle.disk_server.specs.declared.guarded.GuardedSectors.{GuardedSectors}
 use Rattle.disk_server.specs.declared.mark.Mark.{Mark}
 use Rattle.disk_server.specs.declared.opened.OpenStoreFault.{OpenStoreFault}
@@ -44,13 +44,18 @@ abbrev pub IsNoDiskBy : {S : Type 0} → (read_only : Bool) → (S → Held) →
 IsNoDiskBy true held honest failed told found store why = IsUnopenedLater held honest failed store told.shape.cache why
 IsNoDiskBy false held honest failed told found store why = IsUnrecovered held honest failed store told.shape.cache found.mark.synced why
 
--- THE LIST OF ITS LOST SECTORS WAS NOT KEPT, which was counted, where it was to be written: it was asked for nothing more. Or it has no disk: where it was to be written the list lasts then
+-- THE PLACE OF THE LIST OF ITS LOST SECTORS, by whether it is only read: nothing is asked of it; or the list lasts, where any is lost
+abbrev pub KeepsBy : {K : Type 0} → (read_only : Bool) → (kept : K → List Bool) → (lost : List Bool) → (place left : K) → Type 0
+KeepsBy true kept lost place left = left ≡ place
+KeepsBy false kept lost place left = KeepsIfAny kept lost place left
+
+-- THE LIST WAS NOT KEPT, where it was to be written: it was asked for nothing more. Or it has no disk: where it was to be written the list lasts then
 abbrev pub IsNoneOf : {S K : Type 0} → (S → Held) → (honest : S → Bool) → (failed : S → ℕ) → (kept : K → List Bool) → (unlisted : K → ℕ) → (path : List ℕ) → (read_only : Bool) → DiskText → FoundMark → S → (lost : List Bool)
-    → (keeper left : K) → DiskFault → Type 0
-IsNoneOf held honest failed kept unlisted path read_only told found store lost keeper left (fault.WriteList at) = (read_only ≡ false) × (at.now ≡ path) × HasRisen (unlisted keeper) (unlisted left)
-IsNoneOf held honest failed kept unlisted path read_only told found store lost keeper left (fault.Open at why) =
-    (at.now ≡ path) × (read_only ≡ false → KeepsIfAny kept lost left) × IsNoDiskBy read_only held honest failed told found store why
-IsNoneOf held honest failed kept unlisted path read_only told found store lost keeper left _ = ⊥
+    → (place left : K) → DiskFault → Type 0
+IsNoneOf held honest failed kept unlisted path read_only told found store lost place left (fault.WriteList at) = (read_only ≡ false) × (at.now ≡ path) × IsUnkept kept unlisted lost place left
+IsNoneOf held honest failed kept unlisted path read_only told found store lost place left (fault.Open at why) =
+    (at.now ≡ path) × KeepsBy read_only kept lost place left × IsNoDiskBy read_only held honest failed told found store why
+IsNoneOf held honest failed kept unlisted path read_only told found store lost place left _ = ⊥
 
 -- its mark was not kept, where it was to be written
 abbrev pub IsUnkeptBy : {Y : Type 0} → (read_only : Bool) → (missed : Y → ℕ) → Answers → (path : List ℕ) → DiskFault → Type 0
@@ -64,7 +69,8 @@ MarksBy false path before after = after ≡ before
 
 -- ---- the disk at a path
 
--- THE DISK AT A PATH, whose lost sectors are guarded: those of the list beside it and of the pages of its store, as it was looked at; that store tells what was wrong with its pages. Where it is to be written, and any is lost, their list lasts
+-- THE DISK AT A PATH, whose lost sectors are guarded: those of the list beside it and of the pages of its store, as it was looked at; that store tells what was wrong with its pages. Where it is to be written, and any is lost, their list lasts;
+-- else none was kept, for at the place of the list none was before
 pub record IsReadyAt {S Y K : Type 0} (held : S → Held) (honest : S → Bool) (mended_in : S → Mended) (marked : Y → Mark) (kept : K → List Bool) (a : Answers) (path : List ℕ) (read_only : Bool) (told : DiskText) (mended : Mended)
     (disk : GuardedSectors (Device (DriverState (FileState S))) K) (syncs : Y) : Type 0 where
   pub found : FoundMark
@@ -74,7 +80,9 @@ pub record IsReadyAt {S Y K : Type 0} (held : S → Held) (honest : S → Bool) 
   pub of : IsDiskOf held honest marked read_only told found store disk.sectors syncs
   pub mended_is : mended ≡ mended_in store
   pub none_failed : disk.failed ≡ false
-  pub lasts : read_only ≡ false → KeepsIfAny kept disk.lost.items disk.keeper
+  pub place : K
+  pub none_kept : kept place ≡ []
+  pub lasts : KeepsBy read_only kept disk.lost.items place disk.keeper
 
 -- a disk that was looked at was not opened, or its mark not kept
 pub record IsNotOpened {S Y K : Type 0} (held : S → Held) (honest : S → Bool) (failed : S → ℕ) (missed : Y → ℕ) (kept : K → List Bool) (unlisted : K → ℕ) (a : Answers) (path : List ℕ) (read_only : Bool) (why : DiskFault)
@@ -85,9 +93,10 @@ pub record IsNotOpened {S Y K : Type 0} (held : S → Held) (honest : S → Bool
   pub certificate : Claim
   pub lost : List Bool
   pub looked : IsLookedAt held honest a path told found store certificate lost
-  pub keeper : K
+  pub place : K
+  pub none_kept : kept place ≡ []
   pub left : K
-  pub unopened : IsNoneOf held honest failed kept unlisted path read_only told found store lost keeper left why ⊎ IsUnkeptBy read_only missed a path why
+  pub unopened : IsNoneOf held honest failed kept unlisted path read_only told found store lost place left why ⊎ IsUnkeptBy read_only missed a path why
 
 -- why it is not ready: it was not looked at, there is no place for the list of its lost sectors, it was not opened, or they were not named
 abbrev pub IsUnreadyAt : {S Y K : Type 0} → (S → Held) → (honest : S → Bool) → (failed : S → ℕ) → (missed : Y → ℕ) → (kept : K → List Bool) → (unlisted : K → ℕ) → Answers → (path : List ℕ) → (read_only : Bool) → DiskFault

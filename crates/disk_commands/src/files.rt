@@ -32,7 +32,7 @@ pub enum FileFault {
 
 /// The files that the words name, by their paths as written: those of the system, or some in memory. (This project's.)
 pub trait DiskFiles {
-    ghost use Rattle.std.specs.Prelude.{◌≡◌, true, List, Option, option_map, IfOk, IfErr};
+    ghost use Rattle.std.specs.Prelude.{◌≡◌, true, List, [], Option, option_map, IfOk, IfErr};
     ghost use Rattle.file_die.specs.Store.{blank};
     ghost use Rattle.disk_commands.specs.Files.{Answers, AnswersNoMore, FailsCopy, FailsNoMore, Kept, Opened, SaysNoMore, kept_after, with_mark, with_opened};
 
@@ -213,6 +213,7 @@ pub trait DiskFiles {
         syncs: &Self::Syncs,
         beside: &[u8],
     ) -> Result<Self::Lists, FileFault>
+        ensures none_kept { IfOk result (λ place. Self.Lists.kept place ≡ []) }
         ensures failed { IfErr result ((answers self.old).fails path.now) }
         ensures same { self.new ≡ self.old };
 }

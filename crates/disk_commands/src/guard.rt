@@ -1,5 +1,5 @@
 //! The lost sectors of a disk that is to be served: where their list is kept, and that they are guarded.
-ghost use Rattle.std.specs.Prelude.{◌≡◌, false, IfErr, IfOk};
+ghost use Rattle.std.specs.Prelude.{◌≡◌, [], false, IfErr, IfOk};
 ghost use Rattle.disk_commands.specs.Guard.{IsUnlistedAt};
 
 use crate::damage::Looked;
@@ -17,6 +17,7 @@ pub(crate) fn keeper_at<'a, F: DiskFiles>(
     path: &'a str,
     looked: &Looked<F::Store, F::Syncs>,
 ) -> Result<F::Lists, DiskFault<'a>>
+    ensures none_kept { IfOk result (λ place. F.Lists.kept place ≡ []) }
     ensures fault { IfErr result (IsUnlistedAt (F.answers files.old) path.now) }
     ensures same { files.new ≡ files.old }
 {

@@ -4,11 +4,10 @@ ghost use Rattle.image_check.specs.Agrees.{Agrees};
 ghost use Rattle.disk_server.specs.Disk.{contents_of, holds};
 ghost use Rattle.disk_server.specs.Opened.{flash_in, is_honest_in};
 ghost use Rattle.disk_server.specs.Synced.{after_sync};
-ghost use Rattle.disk_recovery.specs.Recovered.{KeepsIfAny};
 ghost use Rattle.disk_commands.specs.Damage.{NamesAll};
 ghost use Rattle.disk_commands.specs.Files.{OpensMarked, with_mark};
 ghost use Rattle.disk_commands.specs.Opening.{IsUnkeptAt};
-ghost use Rattle.disk_commands.specs.Ready.{HoldsPages, IsNoneOf, IsReadyAt, IsUnkeptBy, IsUnreadyAt, MarksBy};
+ghost use Rattle.disk_commands.specs.Ready.{HoldsPages, IsNoneOf, IsReadyAt, KeepsBy, IsUnkeptBy, IsUnreadyAt, MarksBy};
 ghost use Rattle.disk_commands.specs.ShapeText.{IsWithin};
 ghost use Rattle.disk_commands.specs.Told.{IsUnprinted};
 
@@ -23,7 +22,7 @@ use crate::text::DiskFault;
 use crate::words::ServeWords;
 use certificate::Certificate;
 use coded_store::{Mended, TellsMended};
-use disk_recovery::{ListedFault, recover_listed};
+use disk_recovery::{list_first, recover_listed};
 use disk_server::{
     DeviceDisk, GuardedSectors, KeepsLost, SectorDisk, Sequenced, StoreDisk, Syncs, open_stopped,
 };
@@ -62,7 +61,7 @@ fn disk_of<'a, S: Store + Drop, K: KeepsLost>(
     requires mounted { S.honest store ≡ true → Agrees (S.held store).geometry 65536 (S.held store).pages certificate.now }
     ensures honest { IfOk result (λ d. S.honest store ≡ true → holds (is_honest_in S.honest) d ≡ true) }
     ensures bytes { IfOk result (λ d. HoldsPages words.now.read_only found.mark.synced (S.honest store ≡ true) (S.held store) (contents_of (flash_in S.held) (is_honest_in S.honest) d).bytes) }
-    ensures listed { OnOk result (words.now.read_only ≡ false → KeepsIfAny K.kept lost.now keeper.new) }
+    ensures listed { OnOk result (KeepsBy words.now.read_only K.kept lost.now keeper.old keeper.new) }
     ensures fault { IfErr result (IsNoneOf S.held S.honest S.failed K.kept K.failed words.now.disk.now words.now.read_only told.now found store lost.now keeper.old keeper.new) }
 {
     let when = sync_when(words.sync_always);
@@ -72,19 +71,20 @@ fn disk_of<'a, S: Store + Drop, K: KeepsLost>(
             Err(why) => Err(DiskFault::Open(words.disk, why)),
         };
     }
+    let listed = match list_first(store, keeper, lost) {
+        Ok(listed) => listed,
+        Err(_unasked) => return Err(DiskFault::WriteList(words.disk)),
+    };
     match recover_listed(
         alloc,
-        store,
+        listed,
         certificate,
-        keeper,
-        lost,
         told.shape.cache,
         found.mark.synced,
         when,
     ) {
         Ok(disk) => Ok(disk),
-        Err(ListedFault::List { .. }) => Err(DiskFault::WriteList(words.disk)),
-        Err(ListedFault::Open(why)) => Err(DiskFault::Open(words.disk, why)),
+        Err(why) => Err(DiskFault::Open(words.disk, why)),
     }
 }
 

@@ -1,15 +1,12 @@
 -- A STORE IS RECOVERED, AND ITS DISK IS OPENED.
 use Rattle.std.specs.Prelude.{◌≡◌, ◌⊎◌, ℕ, Bool, true, false, List}
-use Rattle.std.specs.List.{list_any}
 use Rattle.page_layout.specs.Counter.{HasRisen}
 use Rattle.file_die.specs.Store.{Held}
-use Rattle.crash_recovery.specs.Taken.{Recovers}
+use Rattle.crash_recovery.specs.Taken.{Recovers, RecoversSome}
 use Rattle.disk_server.specs.declared.opened.OpenStoreFault.{OpenStoreFault}
 use Rattle.disk_server.specs.declared.opened.OpenStoreFault.TheVariants.{Device, OutOfMemory}
-use Rattle.disk_server.specs.Opened.{IsUnopened, bytes_of}
+use Rattle.disk_server.specs.Opened.{HasCome, IsUnopened, bytes_of}
 use Rattle.disk_server.specs.Stopped.{IsUnopenedLater}
-use Rattle.disk_recovery.specs.declared.recovered.ListedFault.{ListedFault}
-use Rattle.disk_recovery.specs.declared.recovered.ListedFault.TheVariants as listed
 
 -- a store that was mounted was recovered once, by whether anything was torn
 pub record IsRecovered (mark : ℕ) (s : Held) (changed : Bool) (t : Held) : Type 0 where
@@ -28,30 +25,21 @@ pub record HoldsRecovered (mark : ℕ) (s : Held) (bytes : List ℕ) : Type 0 wh
   pub recovered : IsLeft mark s left
   pub bytes_are : bytes ≡ bytes_of left
 
--- it was not recovered once: a growth was refused, or the store failed, and counted it
-abbrev pub IsNotTaken : {S : Type 0} → (honest : S → Bool) → (failed : S → ℕ) → S → OpenStoreFault → Type 0
-IsNotTaken {S} honest failed store fault =
-    (fault ≡ OutOfMemory) ⊎ ((mounted given : S) × (honest mounted ≡ honest store) × (fault ≡ Device) × HasRisen (failed mounted) (failed given))
+-- IT WAS NOT RECOVERED ONCE: a growth was refused, or the store failed, and counted it. What was torn may be taken away in part
+pub record IsNotTaken {S : Type 0} (held : S → Held) (honest : S → Bool) (failed : S → ℕ) (mark : ℕ) (store given : S) (fault : OpenStoreFault) : Type 0 where
+  pub as_honest : honest given ≡ honest store
+  pub some : honest store ≡ true → RecoversSome mark (held store) (held given)
+  pub why : (fault ≡ OutOfMemory) ⊎ ((fault ≡ Device) × HasRisen (failed store) (failed given))
 
--- nor once more: it was not mounted for the largest cache, or not recovered then
-abbrev pub IsNotAgain : {S : Type 0} → (S → Held) → (honest : S → Bool) → (failed : S → ℕ) → S → OpenStoreFault → Type 0
-IsNotAgain {S} held honest failed store fault = ((given : S) × IsUnopened held honest failed store 65536 given fault) ⊎ IsNotTaken honest failed store fault
+-- nor once more: it was not mounted for the largest cache, or came back of that and was not recovered
+abbrev pub IsNotAgain : {S : Type 0} → (S → Held) → (honest : S → Bool) → (failed : S → ℕ) → (mark : ℕ) → S → OpenStoreFault → Type 0
+IsNotAgain {S} held honest failed mark store fault =
+    ((given : S) × IsUnopened held honest failed store 65536 given fault)
+    ⊎ ((mounted given : S) × HasCome held honest store mounted × IsNotTaken held honest failed mark mounted given fault)
 
 -- why there is no disk of a store that was mounted: it was not recovered; or what was torn was taken away, and it was not recovered once more; or what was left was not opened
 abbrev pub IsUnrecovered : {S : Type 0} → (S → Held) → (honest : S → Bool) → (failed : S → ℕ) → S → (capacity mark : ℕ) → OpenStoreFault → Type 0
 IsUnrecovered {S} held honest failed store capacity mark fault =
-    IsNotTaken honest failed store fault
-    ⊎ (((given : S) × (honest given ≡ honest store) × (honest store ≡ true → IsRecovered mark (held store) true (held given)) × IsNotAgain held honest failed given fault)
+    ((given : S) × IsNotTaken held honest failed mark store given fault)
+    ⊎ (((given : S) × (honest given ≡ honest store) × (honest store ≡ true → IsRecovered mark (held store) true (held given)) × IsNotAgain held honest failed mark given fault)
     ⊎ ((given : S) × (honest given ≡ honest store) × (honest store ≡ true → IsLeft mark (held store) (held given)) × IsUnopenedLater held honest failed given capacity fault))
-
--- ---- whose lost sectors are listed first
-
--- WHERE ANY SECTOR IS LOST the list lasts
-abbrev pub KeepsIfAny : {K : Type 0} → (kept : K → List Bool) → (lost : List Bool) → K → Type 0
-KeepsIfAny kept lost keeper = list_any (λ is_lost. is_lost) lost ≡ true → kept keeper ≡ lost
-
--- WHY THERE IS NONE: the list was not kept, which was counted, and the store comes back as it was; or it lasts, and the store was not recovered or opened
-abbrev pub IsUnlisted : {S K : Type 0} → (S → Held) → (honest : S → Bool) → (failed : S → ℕ) → (kept : K → List Bool) → (unlisted : K → ℕ) → S → (capacity mark : ℕ) → (lost : List Bool) → (keeper left : K) → ListedFault S
-    → Type 0
-IsUnlisted held honest failed kept unlisted store capacity mark lost keeper left (listed.List back) = (back ≡ store) × HasRisen (unlisted keeper) (unlisted left)
-IsUnlisted held honest failed kept unlisted store capacity mark lost keeper left (listed.Open why) = KeepsIfAny kept lost left × IsUnrecovered held honest failed store capacity mark why

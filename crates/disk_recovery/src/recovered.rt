@@ -1,17 +1,14 @@
 //! A store is recovered, and its disk is opened.
-ghost use Rattle.std.specs.Prelude.{◌≡◌, ◌≤◌, Bool, true, IfOk, IfErr, OnOk, OnErr};
-ghost use Rattle.std.specs.List.{list_any};
-ghost use Rattle.page_layout.specs.Counter.{HasRisen};
+ghost use Rattle.std.specs.Prelude.{◌≡◌, ◌≤◌, Bool, true, IfOk, IfErr};
 ghost use Rattle.image_check.specs.Agrees.{Agrees};
 ghost use Rattle.disk_server.specs.Disk.{contents_of, holds};
 ghost use Rattle.disk_server.specs.Opened.{flash_in, is_honest_in};
-ghost use Rattle.disk_recovery.specs.Recovered.{HoldsRecovered, IsNotAgain, IsNotTaken, IsRecovered, IsUnlisted, IsUnrecovered, KeepsIfAny};
+ghost use Rattle.disk_recovery.specs.Recovered.{HoldsRecovered, IsNotAgain, IsNotTaken, IsRecovered, IsUnrecovered};
 
 use certificate::Certificate;
 use crash_recovery::{RecoveryFault, recover};
-use disk_server::{KeepsLost, OpenStoreFault, StoreDisk, mount_store, open_stopped};
+use disk_server::{OpenStoreFault, StoreDisk, mount_store, open_stopped};
 use file_die::{Store, SyncWhen};
-use nbd_stream::DiskFault;
 use std::alloc::Global;
 
 // The most entries of a cache: a store is mounted for so many, so that its stale sectors don't keep it from being recovered.
@@ -27,7 +24,7 @@ fn recover_once<S: Store>(
     requires mounted { S.honest store.old ≡ true → Agrees (S.held store.old).geometry 65536 (S.held store.old).pages certificate.now }
     ensures recovered { IfOk result (λ changed. S.honest store.old ≡ true → IsRecovered mark (S.held store.old) changed (S.held store.new)) }
     ensures honest { S.honest store.new ≡ S.honest store.old }
-    ensures fault { IfErr result (IsNotTaken S.honest S.failed store.old) }
+    ensures fault { IfErr result (IsNotTaken S.held S.honest S.failed mark store.old store.new) }
 {
     match recover(alloc, store, certificate, mark) {
         Ok(changed) => Ok(changed),
@@ -40,7 +37,7 @@ fn recover_once<S: Store>(
 fn recover_again<S: Store + Drop>(alloc: Global, store: S, mark: u64) -> Result<S, OpenStoreFault>
     ensures recovered { IfOk result (λ left. S.honest store ≡ true → (changed : Bool) × IsRecovered mark (S.held store) changed (S.held left)) }
     ensures honest { IfOk result (λ left. S.honest left ≡ S.honest store) }
-    ensures fault { IfErr result (IsNotAgain S.held S.honest S.failed store) }
+    ensures fault { IfErr result (IsNotAgain S.held S.honest S.failed mark store) }
 {
     let (mut store, certificate) = match mount_store(alloc, store, MOST_ENTRIES) {
         Ok(mounted) => mounted,
@@ -52,15 +49,8 @@ fn recover_again<S: Store + Drop>(alloc: Global, store: S, mark: u64) -> Result<
     }
 }
 
-/// Opens the disk of a die that a crash may have left torn, to write to it. The store was mounted with this certificate for the largest cache, of 65,536 entries. What is torn is taken away as
-/// `crash_recovery::recover` does; where anything was, the store is mounted and recovered once more; and the disk is opened as `open_stopped` does. All pages of a lower sequence than `mark`
-/// were synced. **Of a store that is honest the disk holds its array, and its bytes are those of the array of the pages that are left.**
-///
-/// # Errors
-///
-/// `OutOfMemory` where a growth was refused while the store was recovered, and `Device` where the store failed then; as `mount_store` for the largest cache where it was to be mounted once more; else as
-/// `open_stopped` over what was left. The store is let go. (This project's.)
-pub fn recover_mounted<S: Store + Drop>(
+// The disk of a store that was mounted with this certificate, once what was torn is taken away.
+pub(crate) fn recover_mounted<S: Store + Drop>(
     alloc: Global,
     store: S,
     certificate: &Certificate,
@@ -86,66 +76,5 @@ pub fn recover_mounted<S: Store + Drop>(
     match recover_again(alloc, store, mark) {
         Ok(left) => open_stopped(alloc, left, capacity, sync_when, true),
         Err(fault) => Err(fault),
-    }
-}
-
-/// Why there is no disk of a store whose lost sectors were to be listed first. (This project's.)
-#[derive(Drop)]
-pub enum ListedFault<S> {
-    /// The list was not kept: the store comes back, of which nothing was asked.
-    List { store: S },
-    /// For this reason. The store is let go.
-    Open(OpenStoreFault),
-}
-
-// Whether any sector is on a list.
-fn any_lost(lost: &[bool]) -> bool
-    ensures { result ≡ list_any (λ is_lost. is_lost) lost.now }
-{
-    lost.iter().any(|is_lost| *is_lost)
-}
-
-// Keeps a list where any sector is on it.
-fn keep_any<K: KeepsLost>(keeper: &mut K, lost: &[bool]) -> Result<(), DiskFault>
-    ensures done { OnOk result (KeepsIfAny K.kept lost.now keeper.new) }
-    ensures fault { OnErr result (HasRisen (K.failed keeper.old) (K.failed keeper.new)) }
-{
-    if any_lost(lost) {
-        return keeper.keep(lost);
-    }
-    Ok(())
-}
-
-/// Keeps the list of the lost sectors of a store, where any is lost, and then opens its disk as `recover_mounted` does. **Where the list was not kept nothing was asked of the store, which comes back: so none of
-/// its pages is programmed or erased before the list lasts.**
-///
-/// # Errors
-///
-/// `List` where the list was not kept. `Open` as `recover_mounted`: the list is kept then, and the store is let go. (This project's.)
-pub fn recover_listed<S: Store + Drop, K: KeepsLost>(
-    alloc: Global,
-    store: S,
-    certificate: &Certificate,
-    keeper: &mut K,
-    lost: &[bool],
-    capacity: u32,
-    mark: u64,
-    sync_when: SyncWhen,
-) -> Result<StoreDisk<S>, ListedFault<S>>
-    requires mounted { S.honest store ≡ true → Agrees (S.held store).geometry 65536 (S.held store).pages certificate.now }
-    requires least { 1 ≤ capacity }
-    requires most { capacity ≤ 65536 }
-    ensures honest { IfOk result (λ d. S.honest store ≡ true → holds (is_honest_in S.honest) d ≡ true) }
-    ensures bytes { IfOk result (λ d. S.honest store ≡ true → HoldsRecovered mark (S.held store) (contents_of (flash_in S.held) (is_honest_in S.honest) d).bytes) }
-    ensures listed { OnOk result (KeepsIfAny K.kept lost.now keeper.new) }
-    ensures fault { IfErr result (IsUnlisted S.held S.honest S.failed K.kept K.failed store capacity mark lost.now keeper.old keeper.new) }
-{
-    match keep_any(keeper, lost) {
-        Ok(()) => {}
-        Err(_) => return Err(ListedFault::List { store }),
-    }
-    match recover_mounted(alloc, store, certificate, capacity, mark, sync_when) {
-        Ok(disk) => Ok(disk),
-        Err(why) => Err(ListedFault::Open(why)),
     }
 }

@@ -1,1 +1,2 @@
+pub mod LifeLemmas
 pub mod StoreLemmas

@@ -1,5 +1,5 @@
 //! The list of a disk's lost sectors, in a file beside the disk.
-ghost use Rattle.std.specs.Prelude.{◌≡◌};
+ghost use Rattle.std.specs.Prelude.{◌≡◌, []};
 
 use disk_damage::write_list;
 use disk_server::KeepsLost;
@@ -40,7 +40,9 @@ impl<'a, R: Files<File = File>> FileLists<'a, R> {
         die: File,
         names: ListNames,
         beside: Vec<u8>,
-    ) -> FileLists<'a, R> {
+    ) -> FileLists<'a, R>
+        ensures { result.kept.items ≡ [] }
+    {
         FileLists {
             rt,
             alloc,

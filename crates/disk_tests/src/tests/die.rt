@@ -2,9 +2,12 @@
 ghost use Rattle.std.specs.Prelude.{◌≡◌};
 
 mod alike;
+mod coded;
 mod failing;
+mod lives;
 mod noting;
 mod opened;
+mod torn;
 
 use file_die::MemoryStore;
 use onfi_cycles::{Bus, BusFault};

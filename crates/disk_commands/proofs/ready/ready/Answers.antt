@@ -1,7 +1,6 @@
 use Rattle.std.proofs.Common.{rules, ◌≡◌, ◌∙◌, Bool, List, ap, false, inl, inr, not, subst, sym}
-use Rattle.disk_recovery.specs.Recovered.{KeepsIfAny}
 use Rattle.disk_server.specs.Synced.{after_sync}
-use Rattle.disk_commands.specs.Ready.{IsDiskOf, IsNoneOf, IsUnkeptBy}
+use Rattle.disk_commands.specs.Ready.{IsDiskOf, IsNoneOf, IsUnkeptBy, KeepsBy}
 use Rattle.disk_commands.proofs.ReadyLemmas.{looked_same, marks_then, unkept_by, unlisted_back}
 use Rattle.disk_commands.proofs.ready.ready.Goals as goal
 
@@ -19,7 +18,8 @@ returns-in-Err-disk_of-clause-fault g c =
       certificate = _;
       lost = c.in-Ok.looked.lost.items;
       looked = c.in-Ok.ensures.ok;
-      keeper = c.in-Ok-keeper_at.keeper;
+      place = c.in-Ok-keeper_at.keeper;
+      none_kept = c.in-Ok-keeper_at.ensures.none_kept;
       left = c.disk_of.new.keeper;
       unopened = inl (subst (λ l. IsNoneOf g.F.Store.Store.held g.F.Store.Store.honest g.F.Store.Store.failed g.F.Lists.KeepsLost.kept g.F.Lists.KeepsLost.failed c.args.words.now.disk.now c.args.words.now.read_only c.in-Ok.looked.told
           c.in-Ok.looked.found c.in-Ok.looked.store l c.in-Ok-keeper_at.keeper c.disk_of.new.keeper c.in-Err-disk_of.fault) c.deref.ensures.value c.in-Err-disk_of.ensures.fault);
@@ -34,7 +34,8 @@ returns-in-Err-keep_mark_of-clause-fault g c =
       certificate = _;
       lost = c.in-Ok.looked.lost.items;
       looked = c.in-Ok.ensures.ok;
-      keeper = c.in-Ok-keeper_at.keeper;
+      place = c.in-Ok-keeper_at.keeper;
+      none_kept = c.in-Ok-keeper_at.ensures.none_kept;
       left = c.disk_of.new.keeper;
       unopened = inr (unkept_by c.args.words.now.read_only g.F.Syncs.Syncs.failed (g.F.DiskFiles.answers c.args.files.now) (g.F.DiskFiles.answers c.look_at.new.files) c.args.words.now.disk.now c.in-Err-keep_mark_of.fault
           c.in-Ok.ensures.no_more (subst (λ x. IsUnkeptBy c.args.words.now.read_only g.F.Syncs.Syncs.failed (g.F.DiskFiles.answers x) c.args.words.now.disk.now c.in-Err-keep_mark_of.fault) c.in-Ok-keeper_at.ensures.same
@@ -76,7 +77,9 @@ returns-in-Ok-guarded-clause-ok g c = record {
       });
   mended_is = c.mended-mended.ensures;
   none_failed = c.in-Ok-guarded.ensures.failed;
-  lasts = λ writes. subst (λ v. KeepsIfAny g.F.Lists.KeepsLost.kept v.items c.in-Ok-guarded.disk.keeper) (sym c.in-Ok-guarded.ensures.lost)
-      (subst (λ k. KeepsIfAny g.F.Lists.KeepsLost.kept c.in-Ok.looked.lost.items k) (sym c.in-Ok-guarded.ensures.keeper)
-      (subst (λ l. KeepsIfAny g.F.Lists.KeepsLost.kept l c.disk_of.new.keeper) c.deref.ensures.value (c.in-Ok-disk_of.ensures.listed writes)));
+  place = c.in-Ok-keeper_at.keeper;
+  none_kept = c.in-Ok-keeper_at.ensures.none_kept;
+  lasts = subst (λ v. KeepsBy c.args.words.now.read_only g.F.Lists.KeepsLost.kept v.items c.in-Ok-keeper_at.keeper c.in-Ok-guarded.disk.keeper) (sym c.in-Ok-guarded.ensures.lost)
+      (subst (λ k. KeepsBy c.args.words.now.read_only g.F.Lists.KeepsLost.kept c.in-Ok.looked.lost.items c.in-Ok-keeper_at.keeper k) (sym c.in-Ok-guarded.ensures.keeper)
+      (subst (λ l. KeepsBy c.args.words.now.read_only g.F.Lists.KeepsLost.kept l c.in-Ok-keeper_at.keeper c.disk_of.new.keeper) c.deref.ensures.value c.in-Ok-disk_of.ensures.listed));
 }

@@ -1,5 +1,5 @@
 //! Files of disks in memory, which can fail. Their stores are honest.
-ghost use Rattle.std.specs.Prelude.{◌≡◌, ◌<◌, IfOk};
+ghost use Rattle.std.specs.Prelude.{◌≡◌, ◌<◌, [], IfOk};
 ghost use Rattle.page_layout.specs.Geometry.{row_count};
 ghost use Rattle.page_layout.specs.Raw.{raw_image};
 
@@ -74,21 +74,34 @@ impl Syncs for MemorySyncs {
     }
 }
 
-/// A list of lost sectors in memory.
+/// A list of lost sectors in memory. None is kept where it fails.
 #[derive(Drop)]
 pub struct MemoryLists {
     alloc: Global,
     kept: Vec<bool>,
     failed: u64,
+    pub fails: bool,
 }
 
 impl MemoryLists {
     /// No list was kept.
-    pub fn new(alloc: Global) -> MemoryLists {
+    pub fn new(alloc: Global) -> MemoryLists
+        ensures { result.kept.items ≡ [] }
+    {
         MemoryLists {
             alloc,
             kept: Vec::new(alloc),
             failed: 0,
+            fails: false,
+        }
+    }
+
+    /// The list that was kept last; of so many sectors that are not lost, where none was.
+    pub fn list(&self, sectors: usize) -> Result<Vec<bool>, AllocError> {
+        if self.kept.is_empty() {
+            vec![in self.alloc; false; sectors]
+        } else {
+            self.kept.to_vec(self.alloc)
         }
     }
 }
@@ -100,11 +113,11 @@ impl KeepsLost for MemoryLists {
 
     fn keep(&mut self, lost: &[bool]) -> Result<(), DiskFault> {
         match lost.to_vec(self.alloc) {
-            Ok(copy) => {
+            Ok(copy) if !self.fails => {
                 self.kept = copy;
                 Ok(())
             }
-            Err(_) => {
+            _ => {
                 self.failed = self.failed.saturating_add(1);
                 Err(DiskFault::Failed)
             }
@@ -163,13 +176,13 @@ fn store_of(geometry: &Geometry, bytes: Vec<u8>) -> Result<MemoryStore, FileFaul
 }
 
 // Adds the bytes of a page of a store.
-fn add_page(
+fn add_page<S: Store>(
     alloc: Global,
-    store: &mut MemoryStore,
+    store: &mut S,
     row: u32,
     pages: &mut Vec<u8>,
 ) -> Result<(), AllocError>
-    requires { row < row_count store.old.geometry }
+    requires { row < row_count (S.held store.old).geometry }
 {
     let geometry = store.geometry();
     let mut page = vec![in alloc; 0; geometry.data_bytes() + geometry.spare_bytes()]?;
@@ -179,14 +192,14 @@ fn add_page(
     Ok(())
 }
 
-// The bytes of a store's pages, one after another.
-fn pages_of(alloc: Global, mut store: MemoryStore) -> Result<Vec<u8>, AllocError> {
+/// The bytes of a store's pages, one after another.
+pub fn pages_of<S: Store>(alloc: Global, store: &mut S) -> Result<Vec<u8>, AllocError> {
     let mut pages = Vec::new(alloc);
     for row in 0..store.geometry().rows() {
         if row >= store.geometry().rows() {
             break;
         }
-        add_page(alloc, &mut store, row, &mut pages)?;
+        add_page(alloc, store, row, &mut pages)?;
     }
     Ok(pages)
 }
@@ -357,14 +370,14 @@ impl DiskFiles for MemoryFiles {
 fn kept_disk(
     alloc: Global,
     path: &str,
-    store: MemoryStore,
+    mut store: MemoryStore,
     text: &[u8],
 ) -> Result<MemoryDisk, AllocError> {
     let mut beside = Vec::new(alloc);
     beside.extend_from_slice(text)?;
     Ok(MemoryDisk {
         path: path.to_string(alloc)?,
-        pages: pages_of(alloc, store)?,
+        pages: pages_of(alloc, &mut store)?,
         text: beside,
     })
 }

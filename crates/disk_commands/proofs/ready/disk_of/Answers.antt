@@ -1,0 +1,28 @@
+use Rattle.std.proofs.Common.{◌≡◌, true, refl, subst, sym}
+use Rattle.disk_recovery.specs.Recovered.{HoldsRecovered, IsUnrecovered}
+use Rattle.disk_server.specs.Disk.{contents_of}
+use Rattle.disk_server.specs.Opened.{flash_in, is_honest_in}
+use Rattle.disk_commands.specs.Ready.{HoldsPages, IsNoDiskBy, KeepsBy}
+use Rattle.disk_commands.proofs.ready.disk_of.Goals as goal
+
+-- the store that is listed is the one that was given
+pub returns-in-Ok-recover_listed-clause-bytes : goal.returns-in-Ok-recover_listed-clause-bytes
+returns-in-Ok-recover_listed-clause-bytes g c =
+    let held = g.S.Store.held in
+    let honest = g.S.Store.honest in
+    let bytes = (contents_of (flash_in held) (is_honest_in honest) c.in-Ok-recover_listed.disk).bytes in
+    subst (λ r. HoldsPages r c.args.found.mark.synced (honest c.args.store ≡ true) (held c.args.store) bytes) (sym c.if-words.false)
+    (subst (λ s. honest s ≡ true → HoldsRecovered c.args.found.mark.synced (held s) bytes) c.in-Ok-list_first.ensures.same c.in-Ok-recover_listed.ensures.bytes)
+
+pub returns-in-Err-recover_listed-clause-fault : goal.returns-in-Err-recover_listed-clause-fault
+returns-in-Err-recover_listed-clause-fault g c =
+    let held = g.S.Store.held in
+    let honest = g.S.Store.honest in
+    let failed = g.S.Store.failed in
+    let why = c.in-Err-recover_listed.why in
+    (
+      refl,
+      subst (λ r. KeepsBy r g.K.KeepsLost.kept c.args.lost.now c.args.keeper.now c.list_first.new.keeper) (sym c.if-words.false) c.in-Ok-list_first.ensures.listed,
+      subst (λ r. IsNoDiskBy r held honest failed c.args.told.now c.args.found c.args.store why) (sym c.if-words.false)
+          (subst (λ s. IsUnrecovered held honest failed s c.args.told.now.shape.cache c.args.found.mark.synced why) c.in-Ok-list_first.ensures.same c.in-Err-recover_listed.ensures.fault),
+    )
