@@ -100,7 +100,9 @@ def fio(path, *words):
     with served(path) as uri:
         done = subprocess.run(
             ["fio", "--name=job", "--ioengine=nbd", f"--uri={uri}", "--rw=randwrite", "--bs=4k", "--verify=crc32c", "--randseed=7",
-             "--size=4M", "--offset=4M", "--iodepth=4", "--fsync=64", "--verify_state_save=0", *words], capture_output=True, text=True)
+             "--size=4M", "--offset=4M", "--iodepth=4", "--fsync=64", *words],
+            # it leaves a file of its own where it runs
+            capture_output=True, text=True, cwd=os.path.dirname(path))
     assert done.returncode == 0, done.stdout + done.stderr
 
 

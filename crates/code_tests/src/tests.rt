@@ -1,3 +1,5 @@
+mod bus;
+mod bus_life;
 mod chunks;
 mod pages;
 mod stores;

@@ -3,3 +3,4 @@ pub mod LawLemmas
 pub mod ShowLemmas
 pub mod StoreLemmas
 pub mod MemoryLemmas
+pub mod AnyLemmas

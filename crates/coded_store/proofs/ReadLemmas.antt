@@ -50,14 +50,14 @@ append_bytes (x ∷ xs) ys p q zero = p 0
 append_bytes (x ∷ xs) ys p q (suc i) = append_bytes xs ys (rest_bytes x xs p) q i
 
 -- a chunk that is put right is one of the same size
-chunk_right : (size : ℕ) (chunk code : List ℕ) → size ≤ 256 → IsChunk size chunk → length code ≡ 3 → IsChunk size (corrected chunk code)
+pub chunk_right : (size : ℕ) (chunk code : List ℕ) → size ≤ 256 → IsChunk size chunk → length code ≡ 3 → IsChunk size (corrected chunk code)
 chunk_right size chunk code s p e = by (stored chunk code) refl
   where
     by : (found : Option (List ℕ)) → stored chunk code ≡ found → IsChunk size (corrected chunk code)
     by None f = subst (IsChunk size) (sym (ap (λ o. unwrap_or o chunk) f)) p
     by (Some right) f = subst (IsChunk size) (sym (ap (λ o. unwrap_or o chunk) f)) ((stored_law size chunk code right s p e).0 f).0
 
-chunks_right : (n : ℕ) (body codes : List ℕ) → length body ≤ 256 * n → length codes ≡ 3 * n → AreBytes body → IsChunk (length body) (corrected_chunks n body codes)
+pub chunks_right : (n : ℕ) (body codes : List ℕ) → length body ≤ 256 * n → length codes ≡ 3 * n → AreBytes body → IsChunk (length body) (corrected_chunks n body codes)
 chunks_right zero body codes s e b = record { size_is = omega arith; bytes = λ i. omega arith }
 chunks_right (suc n) body codes s e b =
     let here = take 256 body in

@@ -1,13 +1,16 @@
 -- THE STORE OVER A FILE OF PAGES WITH THEIR CODES: its file, and what was wrong with each row as it was last read.
-use Rattle.std.specs.Prelude.{◌≡◌, ℕ, Bool, true, false, List, length, replicate, sum_by, count_by}
+use Rattle.std.specs.Prelude.{◌≡◌, ℕ, Bool, true, false, List, length, replicate, slice_set, sum_by, count_by, Result, Ok, Err}
 use Rattle.page_layout.specs.declared.geometry.Geometry.{Geometry}
 use Rattle.page_layout.specs.Geometry.{row_count}
+use Rattle.page_layout.specs.Page.{Page}
+use Rattle.onfi_cycles.specs.Cycles.{page_of}
+use Rattle.file_die.specs.declared.store.StoreFault.{StoreFault}
 use Rattle.file_die.specs.Store.{Held}
 use Rattle.coded_store.specs.declared.wrong.Wrong.{Wrong}
 use Rattle.coded_store.specs.declared.wrong.Wrong.TheVariants.{Turned, Lost}
 use Rattle.coded_store.specs.declared.coded.Mended.{Mended}
-use Rattle.coded_store.specs.Reading.{coded_bytes}
-use Rattle.coded_store.specs.File.{AreWithCodes}
+use Rattle.coded_store.specs.Reading.{coded_bytes, read_as, wrong_with}
+use Rattle.coded_store.specs.File.{IsWithCodes, AreWithCodes}
 
 pub record Coded (F : Type 0) : Type 0 where
   pub file : F
@@ -23,6 +26,23 @@ pub record AreCodedParts (s : Held) (honest : Bool) (g : Geometry) (buffer : Lis
   pub whole : honest ≡ true → AreWithCodes s
   pub buffer_whole : length buffer ≡ coded_bytes g
   pub rows : length wrong ≡ row_count g
+
+-- ---- a load
+
+-- A LOAD OF A ROW, whatever the file does: it was read once, and of just the bytes that it gave the page is shown, and what is wrong with them is remembered
+-- of the row. `gave` is the file's own word for one read.
+pub record ShowsRow {F : Type 0} (gave : F → ℕ → Result (Unit {0}) StoreFault → List ℕ → F → Type 0) (g : Geometry) (old new : Coded F) (row : ℕ) (shown : Page) : Type 0 where
+  pub bytes : List ℕ
+  pub once : gave old.file row (Ok tt) bytes new.file
+  pub whole : IsWithCodes g (page_of g bytes)
+  pub shows : shown ≡ read_as g (page_of g bytes)
+  pub tells : new.wrong ≡ slice_set old.wrong row (wrong_with g (page_of g bytes))
+
+-- One that failed: the file was read once, and what is remembered stays.
+pub record FailsRow {F : Type 0} (gave : F → ℕ → Result (Unit {0}) StoreFault → List ℕ → F → Type 0) (old new : Coded F) (row : ℕ) (fault : StoreFault) : Type 0 where
+  pub bytes : List ℕ
+  pub once : gave old.file row (Err fault) bytes new.file
+  pub tells : new.wrong ≡ old.wrong
 
 -- ---- in all
 

@@ -40,6 +40,22 @@ HasTwo g p stands =
 abbrev pub LostLaw : Type 0
 LostLaw = (g : Geometry) (p stands : Page) → IsPage g p → IsWithCodes g stands → HasTwo g p stands → Reads g stands (lost_page g) Lost
 
+-- bytes that are near to a page are shown as it, and just so many bits are told as are wrong
+pub record IsMended (g : Geometry) (stands : Page) : Type 0 where
+  pub page : Page
+  pub is_page : IsPage g page
+  pub near : IsNear g page stands
+  pub reads : Reads g stands page (Turned (bits_wrong g page stands))
+
+-- those that are near to none are lost
+pub record IsLost (g : Geometry) (stands : Page) : Type 0 where
+  pub far : (p : Page) → IsPage g p → IsNear g p stands → ⊥
+  pub reads : Reads g stands (lost_page g) Lost
+
+-- ANY BYTES, such as a file may give that is not honest
+abbrev pub AnyLaw : Type 0
+AnyLaw = (g : Geometry) (stands : Page) → IsWithCodes g stands → IsMended g stands ⊎ IsLost g stands
+
 -- the page that is lost has no record, and is not erased
 pub record IsNoPage (p : Page) : Type 0 where
   pub unsound : record_of p ≡ None

@@ -1,12 +1,12 @@
 //! The store over a file of pages with their codes.
-ghost use Rattle.std.specs.Prelude.{◌≡◌, ◌<◌, ◌≤◌, ◌^◌, true, length, slice_set, OnErr, OnOk, IfOk, is_ok};
+ghost use Rattle.std.specs.Prelude.{◌≡◌, ◌<◌, ◌≤◌, ◌^◌, true, length, slice_set, OnErr, OnOk, IfOk, MatchResult, is_ok};
 ghost use Rattle.page_layout.specs.Counter.{HasRisen};
 ghost use Rattle.page_layout.specs.Geometry.{row_count, page_bytes};
 ghost use Rattle.onfi_cycles.specs.Cycles.{page_of};
 ghost use Rattle.page_code.specs.Layout.{coded};
 ghost use Rattle.file_die.specs.Store.{AreImages, Loads, Puts, Clears, Syncs, page_in};
 ghost use Rattle.coded_store.specs.Reading.{reading, wrong_with};
-ghost use Rattle.coded_store.specs.Coded.{unread, turned_of, mended_of};
+ghost use Rattle.coded_store.specs.Coded.{unread, turned_of, mended_of, ShowsRow, FailsRow};
 
 use crate::file::PageFile;
 use crate::show::{coded_length, show, spell};
@@ -153,7 +153,11 @@ impl<F: PageFile> Store for CodedStore<F> {
         ensures settled { OnOk result (F.failed self.new.file ≡ F.failed self.old.file) }
         ensures rose { OnErr result (HasRisen (F.failed self.old.file) (F.failed self.new.file)) }
 
-        // What was wrong with the row is remembered, and with no other; nothing where it was not read.
+        // Whatever the file does, honest or not: it is read once, and of just the bytes that it gave the page is shown, and what is wrong with them
+        // is remembered of the row, and of no other. A load that fails changes nothing of that.
+        ensures told_of { MatchResult result (λ _. ShowsRow F.gave (F.held self.old.file).geometry self.old self.new row (page_of (F.held self.old.file).geometry page.new)) (λ fault. FailsRow F.gave self.old self.new row fault) }
+
+        // Where it is honest these are the bytes that stand there.
         ensures told { OnOk result (F.honest self.old.file ≡ true → self.new.wrong ≡ slice_set self.old.wrong row (wrong_with (F.held self.old.file).geometry (page_in (F.held self.old.file).pages row))) }
         ensures untold { OnErr result (self.new.wrong ≡ self.old.wrong) }
     {

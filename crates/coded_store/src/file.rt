@@ -9,11 +9,12 @@ use page_layout::geometry::Geometry;
 /// leaves of its own what reads as the page that was there, as the one that was to be, or as one without a sound record; and a sync holds. Of one that is not
 /// honest nothing is known but its geometry and that it counts its failures.
 pub trait PageFile {
-    ghost use Rattle.std.specs.Prelude.{◌≡◌, ◌<◌, ◌≤◌, ℕ, Bool, true, length, OnErr, OnOk, is_ok};
+    ghost use Rattle.std.specs.Prelude.{⊤, ◌≡◌, ◌<◌, ◌≤◌, ℕ, Bool, true, List, length, Result, OnErr, OnOk, is_ok};
     ghost use Rattle.page_layout.specs.Counter.{HasRisen};
     ghost use Rattle.page_layout.specs.Geometry.{row_count};
     ghost use Rattle.onfi_cycles.specs.Cycles.{page_of};
     ghost use Rattle.file_die.specs.Store.{Held, Loads};
+    ghost use Rattle.file_die.specs.declared.store.StoreFault.{StoreFault};
     ghost use Rattle.coded_store.specs.Reading.{coded_bytes};
     ghost use Rattle.coded_store.specs.File.{AreWithCodes, Writes, Erases, Keeps};
 
@@ -26,6 +27,10 @@ pub trait PageFile {
     /// Its failures so far. They stay at 2^64 - 1 once there.
     ghost failed: { Self → ℕ };
 
+    /// That it was read so: in this state, of this row, answering so with these bytes in the buffer, and left in that state. A file says here of its
+    /// reads what it likes, nothing by default; what is proved of a store over any file, it does by these very reads.
+    ghost gave: { Self → ℕ → Result (Unit {0}) StoreFault → List ℕ → Self → Type 0 } = { λ _ _ _ _ _. ⊤ };
+
     /// Reads what stands at a row: the data area, and the spare area with the codes.
     ///
     /// # Errors
@@ -34,6 +39,7 @@ pub trait PageFile {
     fn read(&mut self, row: u32, stands: &mut [u8]) -> Result<(), StoreFault>
         requires in_range { row < row_count (held self.old).geometry }
         requires room { length stands.old ≡ coded_bytes (held self.old).geometry }
+        ensures gave { gave self.old row result stands.new self.new }
         ensures reads { honest self.old ≡ true → Loads (held self.old) row (page_of (held self.old).geometry stands.new) (is_ok result) (held self.new) }
         ensures geometry { (held self.new).geometry ≡ (held self.old).geometry }
         ensures honest { honest self.new ≡ honest self.old }

@@ -5,6 +5,7 @@ ghost use Rattle.onfi_cycles.specs.Cycles.{page_of};
 ghost use Rattle.page_code.specs.Layout.{coded};
 ghost use Rattle.corrected_nand.specs.Shown.{lost_page};
 ghost use Rattle.coded_store.specs.Reading.{coded_bytes, read_as, wrong_with};
+ghost use Rattle.coded_store.specs.File.{IsWithCodes};
 
 use crate::wrong::Wrong;
 use page_code::{correct_page, encode_page, outer_bytes};
@@ -31,6 +32,7 @@ pub(crate) fn show(geometry: &Geometry, stands: &[u8], page: &mut [u8]) -> Wrong
     requires room { length page.old ≡ page_bytes geometry.now }
     ensures page { page_of geometry.now page.new ≡ read_as geometry.now (page_of geometry.now stands.now) }
     ensures wrong { result ≡ wrong_with geometry.now (page_of geometry.now stands.now) }
+    ensures bytes { IsWithCodes geometry.now (page_of geometry.now stands.now) }
 {
     let (body, outer) = stands.split_at(geometry.data_bytes());
     let tally = correct_page(geometry, body, outer, page);

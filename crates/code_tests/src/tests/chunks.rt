@@ -14,8 +14,8 @@ fn codes(rt: HostRuntime) {
     assert_eq!(rt; encode(&[0u8; 37]), [0xff, 0xff, 0xff]);
 }
 
-// The next number of a fixed pseudorandom row.
-fn next(state: u64) -> u64 {
+/// The next number of a fixed pseudorandom row.
+pub fn next(state: u64) -> u64 {
     let mut state = state;
     state ^= state << 13;
     state ^= state >> 7;

@@ -1,4 +1,5 @@
 use Rattle.coded_store.proofs.LawLemmas.{mended_law, lost_law, no_page_law, own_law, erased_law, file_law}
+use Rattle.coded_store.proofs.AnyLemmas.{any_law}
 use Rattle.coded_store.proofs.StoreLemmas.{blank_law}
 use Rattle.coded_store.proofs.laws.reading_laws.Goals as goal
 
@@ -7,6 +8,9 @@ returns-clause-mended c = mended_law
 
 pub returns-clause-lost : goal.returns-clause-lost
 returns-clause-lost c = lost_law
+
+pub returns-clause-any : goal.returns-clause-any
+returns-clause-any c = any_law
 
 pub returns-clause-no_page : goal.returns-clause-no_page
 returns-clause-no_page c = no_page_law
