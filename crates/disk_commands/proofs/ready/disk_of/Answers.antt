@@ -19,8 +19,7 @@ returns-in-Err-recover_listed-clause-fault g c =
     let held = g.S.Store.held in
     let honest = g.S.Store.honest in
     let failed = g.S.Store.failed in
-    let why = c.in-Err-recover_listed.why in
-    (
+    let why = c.in-Err-recover_listed.why in (
       refl,
       subst (λ r. KeepsBy r g.K.KeepsLost.kept c.args.lost.now c.args.keeper.now c.list_first.new.keeper) (sym c.if-words.false) c.in-Ok-list_first.ensures.listed,
       subst (λ r. IsNoDiskBy r held honest failed c.args.told.now c.args.found c.args.store why) (sym c.if-words.false)
