@@ -169,7 +169,8 @@ def stopped_once(disk, path, found, call, number, how, failures, draw):
             session.client.shutdown()
         except nbd.Error:
             pass
-    session.client.close()
+    # its socket is closed with it
+    session.client = None
     session.server.stderr.read()
     status = session.server.wait()
     session.server.stderr.close()
