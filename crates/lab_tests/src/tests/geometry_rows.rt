@@ -27,6 +27,39 @@ const DOCUMENT: &str = r#"[{"command":"geometry","line":"command","program":"nan
 ]
 "#;
 
+// The same pages as on a chip, of 102 bytes with their codes: one bit of row 9 is wrong, one of an erased page, and two of the data area of row 17, which
+// is lost. Read in pages of 96 bytes the dump has one sound page too, its first: these geometries fit as it stands, and come behind.
+const CODED: Made = Made::Coded(&PAGES, &[(918, 0x30), (1739, 0x30), (5100, 0xFE)]);
+
+const TOLD_CODED: &str =
+    "geometry 64,32,8,32,4 looked 256 sound 3 unsound 1 table agrees blocks 32 sectors 4 codes hamming: first nandlab correct 64,32,8,32,4 DUMP OUT
+geometry 64,32,16,16,4 looked 256 sound 3 unsound 1 table short blocks 32 sectors 4 codes hamming: first nandlab correct 64,32,16,16,4 DUMP OUT
+geometry 64,32,4,64,4 looked 256 sound 3 unsound 1 table differs blocks 32 sectors 4 codes hamming: first nandlab correct 64,32,4,64,4 DUMP OUT
+geometry 64,32,8,34,1 looked 272 sound 1 unsound 7 table differs blocks 16 sectors 0
+geometry 64,32,16,17,1 looked 272 sound 1 unsound 7 table differs blocks 16 sectors 0\n";
+
+const DOCUMENT_CODED: &str = r#"[{"command":"geometry","line":"command","program":"nandlab"},
+{"blocks_told":32,"codes":"hamming","geometry":[64,32,8,32,4],"line":"geometry","looked":256,"sectors_told":4,"sound":3,"table":"agrees","unsound":1},
+{"blocks_told":32,"codes":"hamming","geometry":[64,32,16,16,4],"line":"geometry","looked":256,"sectors_told":4,"sound":3,"table":"short","unsound":1},
+{"blocks_told":32,"codes":"hamming","geometry":[64,32,4,64,4],"line":"geometry","looked":256,"sectors_told":4,"sound":3,"table":"differs","unsound":1},
+{"blocks_told":16,"geometry":[64,32,8,34,1],"line":"geometry","looked":272,"sectors_told":0,"sound":1,"table":"differs","unsound":7},
+{"blocks_told":16,"geometry":[64,32,16,17,1],"line":"geometry","looked":272,"sectors_told":0,"sound":1,"table":"differs","unsound":7}
+]
+"#;
+
+// What the first line says to type makes the dump that the others take.
+const STEPS_CODED: [Step; 5] = [
+    Step::Run(GEOMETRY, 0, TOLD_CODED),
+    Step::Run("nandlab geometry dump.bin --json", 0, DOCUMENT_CODED),
+    Step::Closed(GEOMETRY, 0),
+    Step::Run(
+        "nandlab correct 64,32,8,32,4 dump.bin out.bin",
+        0,
+        "lost row 17 chunks 1\nturned 2 rows 2 lost 1\n",
+    ),
+    Step::Run("nandlab geometry out.bin", 0, TOLD),
+];
+
 const TROUBLES: [Step; 9] = [
     Step::Trouble(Trouble::ReadsEnd(24575)),
     Step::Run(GEOMETRY, 3, "fault read dump.bin\n"),
@@ -51,7 +84,7 @@ const TROUBLES: [Step; 9] = [
     ),
 ];
 
-const CASES: [Case; 2] = [
+const CASES: [Case; 3] = [
     Case {
         name: "the shapes",
         files: &[("dump.bin", Made::Changed(&PAGES, &[(1632, 0)]))],
@@ -60,6 +93,11 @@ const CASES: [Case; 2] = [
             Step::Run("nandlab geometry --json dump.bin --progress", 0, DOCUMENT),
             Step::Closed(GEOMETRY, 0),
         ],
+    },
+    Case {
+        name: "with codes",
+        files: &[("dump.bin", CODED)],
+        steps: &STEPS_CODED,
     },
     Case {
         name: "refusals",
