@@ -158,7 +158,7 @@ fn turn_page(page: &mut [u8], turn: Turn, row: usize) {
     };
     turn_in(page, DATA_CHUNK, row);
     if two {
-        turn_in(page, DATA_CHUNK, row + 1);
+        turn_in(page, DATA_CHUNK, row.wrapping_add(1));
     } else {
         turn_in(page, SPARE_CHUNK, row % 35);
     }

@@ -365,7 +365,7 @@ fn is_hurt(store: &mut MemoryStore, filled: u8, hurt: Hurt) -> bool {
     let mut count = 0u32;
     for row in 0..256 {
         if row < store.geometry().rows() && hurt_row(store, row, filled, hurt) {
-            count += 1;
+            count = count.saturating_add(1);
         }
     }
     count == 1
