@@ -175,8 +175,9 @@ pub read_law : GuardedReadLaw
 read_law size lost bytes offset count place given fits from to is gives =
     let shown : List ℕ = guarded_from size lost 0 bytes in
     let back : offset + (place - offset) ≡ place = omega (arith, from) in
-    ap (λ l. slice_index l (place - offset)) gives ∙ range_at shown offset count (place - offset) (omega (arith, from, to))
-    ∙ ap (slice_index shown) back ∙ at_lost size lost bytes place (omega (arith, to, fits)) is
+    let none : slice_index given (place - offset) ≡ no_byte = ap (λ l. slice_index l (place - offset)) gives ∙ range_at shown offset count (place - offset) (omega (arith, from, to))
+    ∙ ap (slice_index shown) back ∙ at_lost size lost bytes place (omega (arith, to, fits)) is in
+    omega (arith, none)
 
 -- ---- one call
 

@@ -38,10 +38,10 @@ abbrev pub GuardedByteLaw : Type 0
 GuardedByteLaw = (size : ℕ) (lost : List Bool) (bytes : List ℕ) (place : ℕ) → place < length bytes
     → slice_index (guarded_from size lost 0 bytes) place ≡ guarded_byte size lost place (slice_index bytes place)
 
--- SO NO READ OF A LOST SECTOR IS ANSWERED WITHOUT AN ERROR: none gives bytes alone whose range has a byte of one
+-- SO NO READ OF A LOST SECTOR IS ANSWERED WITHOUT AN ERROR: what would be given of its range is above each byte, and so no list of bytes is it
 abbrev pub GuardedReadLaw : Type 0
 GuardedReadLaw = (size : ℕ) (lost : List Bool) (bytes : List ℕ) (offset count place : ℕ) (given : List ℕ) → offset + count ≤ length bytes → offset ≤ place → place < offset + count
-    → get_or lost (place / size) false ≡ true → given ≡ bytes_given (Read offset count) (guarded_from size lost 0 bytes) → slice_index given (place - offset) ≡ no_byte
+    → get_or lost (place / size) false ≡ true → given ≡ bytes_given (Read offset count) (guarded_from size lost 0 bytes) → 255 < slice_index given (place - offset)
 
 -- ---- its list
 
