@@ -18,6 +18,7 @@ import socket
 import subprocess
 import sys
 import tempfile
+import time
 
 import nbd
 
@@ -52,10 +53,21 @@ def write_all(client, draw):
     return bytes(disk)
 
 
-def rows_by_sync(log):
+def whole_log(log):
+    """The lines that strace wrote, once it has told that the server was killed."""
+    for _ in range(200):
+        with open(log, encoding="ascii", errors="replace") as file:
+            lines = file.readlines()
+        if lines and "+++ killed by SIGKILL" in lines[-1]:
+            return lines
+        time.sleep(0.05)
+    raise AssertionError("strace did not end")
+
+
+def rows_by_sync(lines):
     """The rows that were written before each sync, since the one before it; the last list is of those after the last one."""
     found = [[]]
-    for line in open(log, encoding="ascii", errors="replace"):
+    for line in lines:
         match = WRITE.search(line)
         if match:
             count, offset = map(int, match.groups())
@@ -77,13 +89,13 @@ def main():
     with tempfile.TemporaryDirectory(prefix="disk-large-") as folder:
         path, log = os.path.join(folder, "d.nand"), os.path.join(folder, "log")
         subprocess.run([program, "create", "--geometry", f"{DATA},{SPARE},{PAGES},{BLOCKS},{SECTORS}", path], check=True)
-        command = ["strace", "-f", "-s", "0", "-e", "trace=pwrite64,fdatasync,fsync", "-o", log, program, "serve", path]
+        # the server is the process that was started, and strace one that goes as it does
+        command = ["strace", "-D", "-f", "-s", "0", "-e", "trace=pwrite64,fdatasync,fsync", "-o", log, program, "serve", path]
         client, server, disk = served(command, lambda its: write_all(its, draw))
         # the last sync of the run is that of its end
         server.kill()
-        subprocess.run(["pkill", "-KILL", "-f", path], check=False)
         server.wait()
-        parts = rows_by_sync(log)
+        parts = rows_by_sync(whole_log(log))
         with open(path, "rb") as file:
             last = file.read()
 

@@ -1,5 +1,5 @@
 #!/usr/bin/python3
-"""Holds what `nanddisk` refuses, and what it leaves: files that are there, in use, of the wrong length or shape, read-only, shrunk while they are served, a full
+"""Holds what `nanddisk` refuses, and what it leaves: files that are there, in use (by those who write, or who only read), of the wrong length or shape, read-only, shrunk while they are served, a full
 file system, a `create` that is killed at each of its calls, syncs that fail, and hostile streams.
 
 Usage: disk_refused.py NANDDISK [STREAMS [SEED]]
@@ -9,6 +9,7 @@ read-only, whose file has to stay as it is to the byte. Each ends with status 0 
 
 The read-only and the full file system are tmpfs, so this is for root. Asks for Debian's strace and python3-libnbd, which is for the system's Python."""
 
+import concurrent.futures
 import fcntl
 import itertools
 import json
@@ -20,6 +21,7 @@ import struct
 import subprocess
 import sys
 import tempfile
+import time
 
 import nbd
 
@@ -96,6 +98,34 @@ def refused_files(program, folder):
     assert not [name for name in os.listdir(folder) if "2" in name], os.listdir(folder)
 
 
+def held(program, folder):
+    """Programs that only read hold a disk together. One that is to write it holds it alone, and with `--wait` it waits for them, at little cost."""
+    path = os.path.join(folder, "h.nand")
+    assert told([program, "create", "--geometry", GEOMETRY, path]) == (0, "")
+    readers = [start([program, "serve", "--read-only", path]) for _ in range(2)]
+    assert told([program, "info", path]) == (0, "") and told([program, "check", path]) == (0, "")
+    hold([program, "serve", path], 1, f"refused: {path} is in use")
+    begun, used = time.monotonic(), resource.getrusage(resource.RUSAGE_CHILDREN)
+    hold([program, "serve", "--wait", "2", path], 1, f"refused: {path} is in use")
+    now = resource.getrusage(resource.RUSAGE_CHILDREN)
+    assert 1.9 < time.monotonic() - begun < 20, "it waited as long as it was told"
+    assert now.ru_utime + now.ru_stime - used.ru_utime - used.ru_stime < 0.2, "a wait costs a processor little"
+    with concurrent.futures.ThreadPoolExecutor(1) as later:
+        writer = later.submit(start, [program, "serve", "--wait", "60", path])
+        time.sleep(0.5)
+        assert not writer.done()
+        for client, server in readers:
+            client.shutdown()
+            assert server.wait() == 0
+        client, server = writer.result(30)
+    client.pwrite(b"\x5a" * 512, 0)
+    for words in (["info"], ["check"], ["serve", "--read-only"], ["serve"]):
+        hold([program, *words, path], 1, f"refused: {path} is in use")
+    client.shutdown()
+    assert server.wait() == 0
+    hold([program, "serve", "--wait", "soon", path], 2, "usage: no such command, see nanddisk --help")
+
+
 def shrunk(program, folder):
     """A file that shrinks while it is served: each request has EIO from then on, and what stands is served again."""
     path = os.path.join(folder, "b.nand")
@@ -150,16 +180,17 @@ def left_parts(program, folder):
         hold([program, "create", "--geometry", GEOMETRY, path], 1, f"refused: {path} is in use")
 
 
-# The calls by which a `create` locks, names, syncs and removes files.
-CALLS = ("link", "linkat", "unlink", "unlinkat", "rename", "fsync", "fdatasync", "flock")
+# The calls by which a `create` opens, locks, names, syncs and removes files.
+CALLS = ("openat", "link", "linkat", "unlink", "unlinkat", "rename", "fsync", "fdatasync", "flock")
 
 
-def killed_creates(program, folder):
-    """A `create` is killed as it enters each of its calls: a whole disk is left, or nothing that refuses the next `create`; and that one leaves a disk that was renamed as it was."""
-    place = os.path.join(folder, "killed")
+def killed_creates(program, folder, name, more=()):
+    """A `create` with these further words is killed as it enters each of its calls: a whole disk is left, or nothing that refuses the next `create`; and that one leaves a disk that was
+    renamed as it was."""
+    place = os.path.join(folder, name)
     os.mkdir(place)
     path, other = os.path.join(place, "e.nand"), os.path.join(place, "f.nand")
-    create = [program, "create", "--geometry", GEOMETRY, path]
+    create = [program, "create", "--geometry", GEOMETRY, *more, path]
     kills = whole = 0
     for call, number in itertools.product(CALLS, range(1, 100)):
         kill = ["strace", "-o", os.devnull, "-e", f"trace={call}", "-e", f"inject={call}:signal=SIGKILL:when={number}"]
@@ -298,9 +329,14 @@ def main():
     draw = random.Random(int(sys.argv[3]) if len(sys.argv) > 3 else 35)
     with tempfile.TemporaryDirectory() as folder:
         refused_files(program, folder)
+        held(program, folder)
         shrunk(program, folder)
         left_parts(program, folder)
-        killed_creates(program, folder)
+        killed_creates(program, folder, "new")
+        dump = os.path.join(folder, "dump.nand")
+        assert told([program, "create", "--geometry", GEOMETRY, dump]) == (0, "")
+        killed_creates(program, folder, "copied", ("--from", dump))
+        killed_creates(program, folder, "coded", ("--from", dump, "--code", "hamming"))
         failed_syncs(program, folder)
         file_systems(program, folder)
         most = streams(program, folder, count, draw)

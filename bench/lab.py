@@ -9,6 +9,7 @@ status are compared, and that no file is left beside OUT. The dumps are intact, 
 Half of the runs ask for JSON: the document is held to its form, and its objects, as lines, to the same report. Some ask for some rows alone."""
 
 import collections
+import copy
 import itertools
 import json
 import os
@@ -30,12 +31,14 @@ LAB = str(Path(os.environ.get("LAB", BUILT)).resolve())
 
 
 NONE = "usage: no such command, see nandlab --help\n"
-COMMANDS = ["geometry", "survey", "array", "compare", "merge", "repair", "correct"]
+COMMANDS = ["geometry", "survey", "array", "history", "compare", "merge", "repair", "correct", "arrange"]
 FORMS = random.Random("forms")
 # which of the last lines some dump had, and whether one with factory marks left nothing open
 SEEN = set()
 # how many dumps fitted as they stand, with codes, or both ways
 FITTED = collections.Counter()
+# how many sectors had no page, one, two, or more
+FOUND = collections.Counter()
 
 
 def line_of(told, outside, rewritten):
@@ -72,10 +75,18 @@ def line_of(told, outside, rewritten):
         return f"lost row {told['row']} chunks {told['chunks']}"
     if kind == "corrected":
         return " ".join(f"{name} {told[name]}" for name in ["turned", "rows", "lost"])
+    if kind == "arranged":
+        return f"arranged {told['rows']}"
     if kind == "merged":
         return " ".join(f"{name} {told[name]}" for name in ["sound", "differ", "majority", "erased", "unsound"])
     if kind in ("factory", "rewritten", "holes", "outside"):
         return f"{kind} {told['pages']}"
+    if kind == "until":
+        return until_text(told["unsound"], told["sequence"])
+    if kind == "page":
+        return "page row {row} block {block} sequence {sequence} version {version} {kind}".format(**told)
+    if kind == "history":
+        return history_text(told["pages"], told["unsound"])
     if kind == "age":
         return age_text(told["unsound"], told["older"], outside, rewritten)
     ((of, number),) = told.items()
@@ -115,6 +126,14 @@ def age_text(unsound, older, outside, rewritten):
     return f"unsound {unsound}: {claim}, if no page was lost behind the last one of its block{moved}"
 
 
+def until_text(unsound, last):
+    return f"unsound {unsound}: as of sequence {last}, the newest of what is still there"
+
+
+def history_text(pages, unsound):
+    return f"history {pages} unsound {unsound}: of what is still there, newest first"
+
+
 def rows_age_text(unsound):
     return f"unsound {unsound}: of these rows alone, of others nothing is told"
 
@@ -132,8 +151,9 @@ def holes_of(image, block):
     return sum(image.erased[first:last])
 
 
-def age_lines(image):
-    """What the dump leaves open, by block: blocks that the table names factory bad, those that were written again, and all others."""
+def age_lines(image, last=None):
+    """What the dump leaves open, by block: blocks that the table names factory bad, those that were written again, and all others. Of the array as of
+    a sequence the last line says that it is."""
     blocks = range(image.g.blocks)
     factory = {block for block in blocks if ref.named(image, block) == 1}
     rewritten = set(ref.written_again(image))
@@ -143,7 +163,8 @@ def age_lines(image):
     outside = sum(x is not None and x.key()[0] == "sector" and x.number >= image.g.sectors for x in image.records)
     named = {"factory": marks, "rewritten": moved, "holes": holes, "outside": outside}
     SEEN.update({name for name, count in named.items() if count > 0} | {"none" for _ in [0] if unsound + holes == 0 and marks > 0})
-    return "".join(f"{name} {count}\n" for name, count in named.items() if count > 0) + age_text(unsound, unsound + holes, outside, moved) + "\n"
+    claim = age_text(unsound, unsound + holes, outside, moved) if last is None else until_text(unsound, last)
+    return "".join(f"{name} {count}\n" for name, count in named.items() if count > 0) + claim + "\n"
 
 
 def some_rows(rng, g):
@@ -154,8 +175,26 @@ def some_rows(rng, g):
     return range(first, end), ["--rows", f"{first}..{end}"]
 
 
-def array_of(image):
-    """The sectors, and the report."""
+def as_of(image, last):
+    """The image in which just the sound pages count that have this sequence or an earlier one."""
+    if last is None:
+        return image
+    counts = copy.copy(image)
+    counts.records = [x if x is not None and x.sequence <= last else None for x in image.records]
+    return counts
+
+
+def some_sequence(rng, image):
+    """A sequence that is asked for: mostly one that some page has, or the next."""
+    if rng.random() < 0.5:
+        return None
+    sequences = sorted({x.sequence for x in image.records if x is not None}) or [0]
+    return min(2**64 - 1, max(0, rng.choice(sequences) + rng.choice([0, 0, -1, 1])))
+
+
+def array_of(image, last=None):
+    """The sectors as of a sequence, where one is said, and the report."""
+    whole, image = image, as_of(image, last)
     g, sectors, told = image.g, [], ""
     for n in range(g.sectors):
         try:
@@ -163,7 +202,7 @@ def array_of(image):
         except ref.Refused:
             sectors.append(bytes(g.data))
             told += f"tied sector {n}\n"
-    told += age_lines(image)
+    told += age_lines(whole, last)
     return b"".join(sectors), told
 
 
@@ -474,12 +513,65 @@ def case(rng, folder):
     elif cut < 0.1:
         raw += b"\0"
     (folder / "dump.bin").write_bytes(raw)
-    words, extra = ["array", g.words(), "dump.bin", "out.bin"], {}
+    last = some_sequence(rng, image)
+    words, extra = ["array", g.words(), "dump.bin", "out.bin", *([] if last is None else ["--until", str(last)])], {}
     if rng.random() < 0.5:
-        words, extra = [*words, "--map", "out.map"], {"out.map": map_of(image).encode()}
-    out, told = array_of(image)
+        words, extra = [*words, "--map", "out.map"], {"out.map": map_of(as_of(image, last)).encode()}
+    out, told = array_of(image, last)
     want = (0, told, "") if len(raw) == g.rows * g.page else (1, "", "refused image 1 WrongLength\n")
     stored(rng, folder, words, want, out, extra)
+
+
+def history_of(image, n):
+    """The sound pages of a sector, newest first, and of two with one sequence that of the lower row."""
+    rows = sorted(image.of_key("sector", n), key=lambda row: (-image.records[row].sequence, row))
+    told = ""
+    for row in rows:
+        x, version = image.records[row], ref.version_of(image.data[row], image.spare[row])
+        told += f"page row {row} block {row // image.g.pages} sequence {x.sequence} version {version} {'data' if x.kind == 1 else 'trim'}\n"
+    broken = sum(x is None and not erased for x, erased in zip(image.records, image.erased))
+    return told + history_text(len(rows), broken) + "\n", len(rows)
+
+
+def history_case(rng, folder):
+    g, image = dump_for(rng)
+    numbers = [x.number for x in image.records if x is not None and x.key()[0] == "sector" and x.number < g.sectors]
+    n = rng.choice(numbers) if numbers and rng.random() < 0.7 else rng.randrange(g.sectors)
+    for _ in range(rng.choice([0, 0, 3, 20])):
+        # more pages of the sector, trims too, in either version
+        made = ref.Record(rng.choice([1, 1, 2]), n, rng.choice([rng.randrange(50), rng.randrange(2**64)]), rng.randrange(9))
+        version = rng.choice([1, 2]) if g.spare >= 40 else 1
+        image.put(rng.randrange(g.rows), made, rng.randbytes(g.data), version)
+    raw = image.raw()
+    cut = rng.random() < 0.1
+    if cut:
+        raw = rng.choice([raw[: rng.randrange(len(raw))], raw + b"\0"])
+    (folder / "dump.bin").write_bytes(raw)
+    told, pages = history_of(image, n)
+    FOUND[min(pages, 3)] += 1
+    want = (1, "", "refused image 1 WrongLength\n") if cut else (0, told, "")
+    answer = run(["history", g.words(), "dump.bin", str(n)], folder)
+    assert answer == want, (g.words(), n, answer, want)
+    assert left_in(folder, "dump.bin") == {}
+    clear(folder)
+
+
+def then_case(rng, folder):
+    """A die that was not collected since: the array as of the sequence then is the array then, byte for byte."""
+    g, image = dump_for(rng)
+    top = max([x.sequence for x in image.records if x is not None], default=0)
+    if top >= 2**63:
+        return
+    then, _ = array_of(image)
+    for sequence in range(top + 1, top + 1 + rng.choice([1, 5, 40])):
+        free = [row for row in range(g.rows) if image.records[row] is None]
+        if free:
+            made = compare.record(rng, g, sequence)
+            image.put(rng.choice(free), made, compare.data_for(rng, g, made.kind))
+    (folder / "dump.bin").write_bytes(image.raw())
+    code, _, errors = run(["array", g.words(), "dump.bin", "out.bin", "--until", str(top)], folder)
+    assert (code, errors) == (0, "") and (folder / "out.bin").read_bytes() == then, (g.words(), top)
+    clear(folder)
 
 
 def mixed(rng, g, coded):
@@ -708,6 +800,16 @@ def refusals(folder):
         (["survey", "63,32,8,32,32", "dump.bin"], (1, "", "refused geometry 1 DataSize\n")),
         (["survey", "64,32,8,32,32", "none.bin"], (3, "", "fault read none.bin\n")),
         (["survey", "64,32,8,32,32"], (2, "", NONE)),
+        (["history", "64,32,8,32", "none.bin", "x"], (2, "", "usage: bad number 64,32,8,32\n")),
+        (["history", "64,32,8,32,32", "none.bin", "x"], (2, "", "usage: bad number x\n")),
+        (["history", "64,32,8,32,32", "none.bin", "32"], (1, "", "refused sector 1 OutOfRange\n")),
+        (["history", "64,32,8,32,32", "none.bin", "4294967296"], (2, "", "usage: bad number 4294967296\n")),
+        (["history", "64,32,8,32,32", "none.bin", "31"], (3, "", "fault read none.bin\n")),
+        (["history", "64,32,8,32,32", "dump.bin"], (2, "", NONE)),
+        (["history", "64,32,8,32,32", "dump.bin", "1", "--until", "5"], (2, "", NONE)),
+        (["array", "64,32,8,32,32", "none.bin", "dump.bin", "--until", "18446744073709551616"], (2, "", "usage: bad number 18446744073709551616\n")),
+        (["array", "64,32,8,32,32", "none.bin", "out.bin", "--until", ""], (2, "", "usage: bad number \n")),
+        (["array", "64,32,8,32,32", "none.bin", "out.bin", "--until"], (2, "", NONE)),
         (["survey", "64,32,8,32,32", "dump.bin", "--force"], (2, "", NONE)),
         (["compare", "64,32,8,32", "die.cert", "dump.bin"], (2, "", "usage: bad number 64,32,8,32\n")),
         (["compare", "63,32,8,32,32", "die.cert", "dump.bin"], (1, "", "refused geometry 1 DataSize\n")),
@@ -791,7 +893,9 @@ def times(folder):
     for words in [
         ["geometry", "dump.bin"],
         ["survey", g.words(), "dump.bin"],
+        ["history", g.words(), "dump.bin", "7"],
         ["array", g.words(), "dump.bin", "out.bin", "--force"],
+        ["array", g.words(), "dump.bin", "out.bin", "--force", "--until", str(g.rows // 2)],
         ["compare", g.words(), "die.cert", "dump.bin"],
         ["merge", g.words(), "out.bin", "dump.bin", "dump.bin", "--force"],
         ["repair", g.words(), "dump.bin", "out.bin", "--force"],
@@ -811,6 +915,8 @@ def main():
         for i in range(cases):
             case(random.Random(f"{seed}.{i}"), folder)
             survey_case(random.Random(f"survey {seed}.{i}"), folder)
+            history_case(random.Random(f"history {seed}.{i}"), folder)
+            then_case(random.Random(f"then {seed}.{i}"), folder)
             compare_case(random.Random(f"compare {seed}.{i}"), folder)
             geometry_case(random.Random(f"geometry {seed}.{i}"), folder)
             repair_case(random.Random(f"repair {seed}.{i}"), folder)
@@ -818,7 +924,8 @@ def main():
             correct_case(random.Random(f"correct {seed}.{i}"), folder)
         assert cases < 100 or SEEN == {"factory", "rewritten", "holes", "outside", "none"}, SEEN
         assert cases < 100 or set(FITTED) == {"plain", "coded", "coded+plain", "none"}, FITTED
-        print(f"each of the seven commands over {cases} dumps agrees with the reference, and the refusals; geometry over {dict(FITTED)}")
+        assert cases < 100 or set(FOUND) == {0, 1, 2, 3}, FOUND
+        print(f"each of the eight commands over {cases} dumps agrees with the reference, and the refusals; geometry over {dict(FITTED)}")
 
 
 if __name__ == "__main__":

@@ -14,11 +14,12 @@ _nanddisk()
         --geometry) return ;;
         --size) return ;;
         --sync) mapfile -t COMPREPLY < <(compgen -W "erases always" -- "$word"); return ;;
+        --wait) return ;;
     esac
     if [[ "$word" == -* ]]; then
         case "${COMP_WORDS[1]}" in
             create) mapfile -t COMPREPLY < <(compgen -W "--size --geometry --from --cache --code --help" -- "$word") ;;
-            serve) mapfile -t COMPREPLY < <(compgen -W "--read-only --sync --help" -- "$word") ;;
+            serve) mapfile -t COMPREPLY < <(compgen -W "--read-only --sync --wait --help" -- "$word") ;;
             info) mapfile -t COMPREPLY < <(compgen -W "--json --help" -- "$word") ;;
             check) mapfile -t COMPREPLY < <(compgen -W "--json --help" -- "$word") ;;
         esac

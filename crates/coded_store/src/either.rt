@@ -4,7 +4,7 @@ ghost use Rattle.coded_store.specs.Coded.{nothing_wrong};
 
 use crate::coded::{CodedStore, Mended};
 use crate::file::PageFile;
-use file_die::{FileStore, MemoryStore, Store, StoreFault};
+use file_die::{ByteFile, FileStore, MemoryStore, Store, StoreFault};
 use page_layout::geometry::Geometry;
 
 // Nothing.
@@ -27,7 +27,7 @@ pub trait TellsMended {
         ensures { result ≡ mended self.now };
 }
 
-impl TellsMended for FileStore {
+impl<F: ByteFile> TellsMended for FileStore<F> {
     ghost mended = { λ _. nothing_wrong };
 
     fn mended(&self) -> Mended {

@@ -1,43 +1,85 @@
 -- How a session ends, and what that comes to.
-use Rattle.std.proofs.Common.{◌≡◌, ℕ, Bool, true, false, List, [], Option, Result, OnOk, sym, subst}
+use Rattle.std.proofs.Common.{◌≡◌, ◌⊎◌, inl, inr, ℕ, Bool, true, false, List, [], Option, Result, Err, sym, subst}
 use Rattle.std.specs.Borrow.{Bor}
+use Rattle.std.specs.Io.KnownBytes.{Keeps}
 use Rattle.request_stream.specs.declared.reply.ServeFault.{ServeFault}
+use Rattle.onfi_cycles.specs.Driver.{DriverState}
+use Rattle.file_die.specs.Store.{Held}
+use Rattle.file_die.specs.Die.{FileState}
+use Rattle.coded_store.specs.declared.coded.Mended.{Mended}
+use Rattle.ftl_device.specs.declared.device.Device.{Device}
+use Rattle.disk_server.specs.declared.guarded.GuardedSectors.{GuardedSectors}
 use Rattle.disk_server.specs.declared.mark.Mark.{Mark}
+use Rattle.disk_server.specs.Disk.{holds, takes_changes}
+use Rattle.disk_server.specs.Guarded.{PassesOn, ReadsGuarded}
+use Rattle.disk_server.specs.Opened.{is_honest_in}
 use Rattle.nbd_stream.specs.declared.fault.DiskFault.{DiskFault as NbdFault}
 use Rattle.nbd_stream.specs.declared.request.End.{End}
+use Rattle.nbd_stream.specs.declared.task.Task.{Task}
 use Rattle.nbd_stream.specs.declared.task.Task.TheVariants.{Flush}
 use Rattle.nbd_stream.specs.Disk.{Contents, Performs, answer_from}
 use Rattle.nbd_stream.specs.declared.export.Export.{Export}
 use Rattle.nbd_stream.specs.Transmission.{Serves}
 use Rattle.disk_commands.specs.declared.serve.Terms.{Terms}
+use Rattle.disk_commands.specs.declared.shape_text.DiskText.{DiskText}
+use Rattle.disk_commands.specs.declared.words.ServeWords.{ServeWords}
 use Rattle.disk_server.specs.declared.synced.SyncedDisk.{SyncedDisk}
-use Rattle.disk_server.specs.Synced.{HasSynced, Marks}
+use Rattle.disk_server.specs.Synced.{Closes}
 use Rattle.disk_commands.specs.declared.text.DiskFault.{DiskFault}
-use Rattle.disk_commands.specs.Serve.{HasReadDisk, HasServedDisk, HasServedOn, IsFlushed, ServedBy, told_at_end}
+use Rattle.disk_commands.specs.declared.text.DiskFault.TheVariants as fault
+use Rattle.disk_commands.specs.Damage.{NamesAll}
+use Rattle.disk_commands.specs.Files.{Answers}
+use Rattle.disk_commands.specs.Ready.{IsReadyAt}
+use Rattle.disk_commands.specs.Serve.{HasNotServed, HasReadDisk, HasServedAt, HasServedDisk, HasServedOn, IsClosed, ServedBy, does_in, reads_in, rests_in, shown_in, terms_of, told_at_end}
 
--- by the answer to the last flush
-pub flushed : {D Y : Type 0} (contents : D → Contents) (honest : D → Bool) (next : D → ℕ) (takes : D → Bool) (synced : Y → ℕ) (marked : Y → Mark) (path : Bor (List ℕ)) (last left : SyncedDisk D Y)
-    (answer : Result End ServeFault) (done said : Result (Unit {0}) NbdFault) (result : Result (Unit {0}) DiskFault)
-    → Performs (λ s. contents s.disk) (λ s. honest s.disk) (λ _. false) Flush [] last (answer_from done []) left → OnOk done (HasSynced synced true last left)
-    → Marks marked next takes true last done left → done ≡ said → result ≡ told_at_end said path answer → IsFlushed contents honest next takes synced marked path last answer result
-flushed contents honest next takes synced marked path last left answer done said result performs synced_once marks is told =
-    record { done = done; left = left; performs = performs; synced_once = synced_once; marks = marks; told = subst (λ d. result ≡ told_at_end d path answer) (sym is) told }
+-- by how the disk was closed
+pub closed : {D Y : Type 0} (contents : D → Contents) (honest : D → Bool) (does : D → Task → Result (Unit {0}) NbdFault → D → Type 0) (next : D → ℕ) (takes : D → Bool) (synced failed : Y → ℕ) (marked : Y → Mark)
+    (counts : Bool) (path : Bor (List ℕ)) (last left : SyncedDisk D Y) (answer : Result End ServeFault) (done said : Result (Unit {0}) NbdFault) (result : Result (Unit {0}) DiskFault)
+    → Performs (λ s. contents s.disk) (λ s. honest s.disk) (λ _. false) Flush [] last (answer_from done []) left → Closes does synced failed marked next takes counts last done left
+    → done ≡ said → result ≡ told_at_end said path answer → IsClosed contents honest does next takes synced failed marked counts path last answer result
+closed contents honest does next takes synced failed marked counts path last left answer done said result performs closes is told =
+    record { done = done; left = left; performs = performs; closes = closes; told = subst (λ d. result ≡ told_at_end d path answer) (sym is) told }
 
 -- a disk that was only read, and one that was written
-pub was_read : {D Y : Type 0} (contents : D → Contents) (honest : D → Bool) (rests : D → Result (Unit {0}) NbdFault → D → Type 0) (reads : D → D → Type 0) (next : D → ℕ) (takes : D → Bool) (synced : Y → ℕ) (marked : Y → Mark)
+pub was_read : {D Y : Type 0} (contents : D → Contents) (honest : D → Bool) (does : D → Task → Result (Unit {0}) NbdFault → D → Type 0) (rests : D → Result (Unit {0}) NbdFault → D → Type 0) (reads : D → D → Type 0)
+    (next : D → ℕ) (takes : D → Bool) (synced failed : Y → ℕ) (marked : Y → Mark)
     (terms : Terms) (path : Bor (List ℕ)) (disk : D) (syncs : Y) (unread left before after : Option (List ℕ)) (result : Result (Unit {0}) DiskFault) → terms.offer.read_only ≡ true
-    → HasReadDisk contents honest reads terms disk unread left before after result → HasServedOn contents honest rests reads next takes synced marked terms path disk syncs unread left before after result
-was_read contents honest rests reads next takes synced marked terms path disk syncs unread left before after result is =
-    subst (λ b. ServedBy b contents honest rests reads next takes synced marked terms path disk syncs unread left before after result) (sym is)
+    → HasReadDisk contents honest reads terms disk unread left before after result → HasServedOn contents honest does rests reads next takes synced failed marked terms path disk syncs unread left before after result
+was_read contents honest does rests reads next takes synced failed marked terms path disk syncs unread left before after result is =
+    subst (λ b. ServedBy b contents honest does rests reads next takes synced failed marked terms path disk syncs unread left before after result) (sym is)
 
-pub was_written : {D Y : Type 0} (contents : D → Contents) (honest : D → Bool) (rests : D → Result (Unit {0}) NbdFault → D → Type 0) (reads : D → D → Type 0) (next : D → ℕ) (takes : D → Bool) (synced : Y → ℕ) (marked : Y → Mark)
+pub was_written : {D Y : Type 0} (contents : D → Contents) (honest : D → Bool) (does : D → Task → Result (Unit {0}) NbdFault → D → Type 0) (rests : D → Result (Unit {0}) NbdFault → D → Type 0) (reads : D → D → Type 0)
+    (next : D → ℕ) (takes : D → Bool) (synced failed : Y → ℕ) (marked : Y → Mark)
     (terms : Terms) (path : Bor (List ℕ)) (disk : D) (syncs : Y) (unread left before after : Option (List ℕ)) (result : Result (Unit {0}) DiskFault) → terms.offer.read_only ≡ false
-    → HasServedDisk contents honest rests next takes synced marked terms path disk syncs unread left before after result → HasServedOn contents honest rests reads next takes synced marked terms path disk syncs unread left before after result
-was_written contents honest rests reads next takes synced marked terms path disk syncs unread left before after result is =
-    subst (λ b. ServedBy b contents honest rests reads next takes synced marked terms path disk syncs unread left before after result) (sym is)
+    → HasServedDisk contents honest does rests next takes synced failed marked terms path disk syncs unread left before after result
+    → HasServedOn contents honest does rests reads next takes synced failed marked terms path disk syncs unread left before after result
+was_written contents honest does rests reads next takes synced failed marked terms path disk syncs unread left before after result is =
+    subst (λ b. ServedBy b contents honest does rests reads next takes synced failed marked terms path disk syncs unread left before after result) (sym is)
 
 -- a session with a buffer of just so many bytes
-pub limited : {D : Type 0} (contents : D → Contents) (honest calm : D → Bool) (rests : D → Result (Unit {0}) NbdFault → D → Type 0) (e : Export) (room most : ℕ) (first last : D)
+pub limited : {D : Type 0} (contents : D → Contents) (honest calm : D → Bool) (does : D → Task → Result (Unit {0}) NbdFault → D → Type 0) (rests : D → Result (Unit {0}) NbdFault → D → Type 0) (e : Export) (room most : ℕ) (first last : D)
     (unread left before after : Option (List ℕ)) (result : Result End ServeFault) → room ≡ most
-    → Serves contents honest calm rests e room first last unread left before after result → Serves contents honest calm rests e most first last unread left before after result
-limited contents honest calm rests e room most first last unread left before after result is = subst (λ n. Serves contents honest calm rests e n first last unread left before after result) is
+    → Serves contents honest calm does rests e room first last unread left before after result → Serves contents honest calm does rests e most first last unread left before after result
+limited contents honest calm does rests e room most first last unread left before after result is = subst (λ n. Serves contents honest calm does rests e n first last unread left before after result) is
+
+-- it was served, or memory for its requests was refused
+pub served_at : {S Y K : Type 0} (held : S → Held) (honest : S → Bool) (mended_in : S → Mended) (failed : S → ℕ) (synced missed : Y → ℕ) (marked : Y → Mark) (kept : K → List Bool) (unlisted : K → ℕ) (a : Answers) (words : ServeWords) (told : DiskText) (mended : Mended)
+    (disk : GuardedSectors (Device (DriverState (FileState S))) K) (syncs : Y) (terms : Terms) (unread left before after telling told_after : Option (List ℕ)) (result : Result (Unit {0}) DiskFault)
+    → IsReadyAt held honest mended_in marked kept a words.disk.now words.read_only told mended disk syncs → NamesAll disk.lost.items told.shape.code mended telling told_after → terms ≡ terms_of told words.read_only
+    → HasServedOn (shown_in held honest) (λ d. holds (is_honest_in honest) d.sectors) (does_in held honest) (PassesOn (rests_in held honest)) (ReadsGuarded (reads_in held honest))
+    (λ d. d.sectors.engine.next) (λ d. takes_changes d.sectors) synced missed marked terms words.disk disk syncs unread left before after result
+    ⊎ ((result ≡ Err fault.OutOfMemory) × Keeps before after)
+    → HasServedAt held honest mended_in synced missed marked kept a words unread left before after telling told_after result ⊎ HasNotServed held honest failed missed kept unlisted a words before after telling told_after result
+served_at held honest mended_in failed synced missed marked kept unlisted a words told mended disk syncs terms unread left before after telling told_after result at named is (inl h) =
+    inl (record {
+      told = told;
+      disk = disk;
+      syncs = syncs;
+      mended = mended;
+      at = at;
+      named = named;
+      served = subst (λ t. HasServedOn (shown_in held honest) (λ d. holds (is_honest_in honest) d.sectors) (does_in held honest) (PassesOn (rests_in held honest)) (ReadsGuarded (reads_in held honest))
+          (λ d. d.sectors.engine.next) (λ d. takes_changes d.sectors) synced missed marked t words.disk disk syncs unread left before after result) is h;
+    })
+served_at held honest mended_in failed synced missed marked kept unlisted a words told mended disk syncs terms unread left before after telling told_after result at named is (inr h) =
+    inr (record { told = fault.OutOfMemory; is = h.0; why = inr (inr (inr tt)); silent = h.1; unnamed = inr tt })

@@ -2,6 +2,7 @@
 use Rattle.std.specs.Prelude.{◌≡◌, ◌⊎◌, ℕ, Bool, true, false, List, [], ◌∷◌, ◌++◌, Option, Result, Ok, Err}
 use Rattle.std.specs.Option.{option_map}
 use Rattle.file_die.specs.Store.{Held}
+use Rattle.disk_commands.specs.declared.files.Access.{Access}
 use Rattle.disk_commands.specs.declared.files.FileFault.{FileFault}
 use Rattle.disk_commands.specs.declared.files.FileFault.TheVariants as file
 
@@ -60,26 +61,34 @@ FailsCopy a path dump file.InUse = a.fails path file.InUse
 FailsCopy a path dump file.Exists = a.fails path file.Exists
 FailsCopy a path dump file.OutOfMemory = a.fails path file.OutOfMemory
 
--- a die that was to be opened: its path, and whether to be written; or the mark beside it, to be written
+-- how one is opened to be looked at: for reading alone, and at once or not at all
+abbrev pub to_look : Access
+to_look = record { writes = false; wait = 0 }
+
+-- a die that was to be opened: its path, whether to be written, and how many seconds to wait for it; or the mark beside it, to be written
 pub record Opened : Type 0 where
   pub path : List ℕ
   pub mark : Bool
   pub writes : Bool
+  pub wait : ℕ
 
-abbrev pub with_opened : Option (List Opened) → (path : List ℕ) → (writes : Bool) → Option (List Opened)
-with_opened opened path writes = option_map (λ known. known ++ (record { path = path; mark = false; writes = writes } ∷ [])) opened
+abbrev pub with_opened : Option (List Opened) → (path : List ℕ) → Access → Option (List Opened)
+with_opened opened path access = option_map (λ known. known ++ (record { path = path; mark = false; writes = access.writes; wait = access.wait } ∷ [])) opened
 
 abbrev pub with_mark : Option (List Opened) → (path : List ℕ) → Option (List Opened)
-with_mark opened path = option_map (λ known. known ++ (record { path = path; mark = true; writes = true } ∷ [])) opened
+with_mark opened path = option_map (λ known. known ++ (record { path = path; mark = true; writes = true; wait = 0 } ∷ [])) opened
 
 -- this one was to be opened, once
-abbrev pub Opens : (path : List ℕ) → (writes : Bool) → (before after : Option (List Opened)) → Type 0
-Opens path writes before after = after ≡ with_opened before path writes
+abbrev pub Opens : (path : List ℕ) → Access → (before after : Option (List Opened)) → Type 0
+Opens path access before after = after ≡ with_opened before path access
 
 -- and where it is to be written, its mark behind it, or not
-abbrev pub OpensMarked : (path : List ℕ) → (writes : Bool) → (before after : Option (List Opened)) → Type 0
-OpensMarked path true before after = Opens path true before after ⊎ (after ≡ with_mark (with_opened before path true) path)
-OpensMarked path false before after = Opens path false before after
+abbrev pub OpensMarkedIf : (writes : Bool) → (path : List ℕ) → Access → (before after : Option (List Opened)) → Type 0
+OpensMarkedIf true path access before after = Opens path access before after ⊎ (after ≡ with_mark (with_opened before path access) path)
+OpensMarkedIf false path access before after = Opens path access before after
+
+abbrev pub OpensMarked : (path : List ℕ) → Access → (before after : Option (List Opened)) → Type 0
+OpensMarked path access before after = OpensMarkedIf access.writes path access before after
 
 -- a disk: what its die holds, and the text beside it
 pub record Kept : Type 0 where

@@ -1,5 +1,5 @@
 -- What a run of the program comes to.
-use Rattle.std.specs.Prelude.{◌≡◌, ◌⊎◌, ℕ, Bool, false, not, List, Option, Result, Ok, Err, string_bytes}
+use Rattle.std.specs.Prelude.{◌≡◌, ◌⊎◌, ℕ, Bool, List, Option, Result, Ok, Err, string_bytes}
 use Rattle.std.specs.Io.KnownBytes.{Appends}
 use Rattle.file_die.specs.Store.{Held}
 use Rattle.coded_store.specs.declared.coded.Mended.{Mended}
@@ -13,7 +13,8 @@ use Rattle.disk_commands.specs.declared.text.DiskFault.TheVariants as fault
 use Rattle.disk_commands.specs.Check.{HasChecked, IsUnclean}
 use Rattle.disk_commands.specs.Created.{HasCreated, IsUncreated}
 use Rattle.disk_server.specs.declared.mark.Mark.{Mark}
-use Rattle.disk_commands.specs.Files.{Answers, Kept, Opened, Opens, OpensMarked}
+use Rattle.disk_commands.specs.Files.{Answers, Kept, Opened, Opens, OpensMarked, to_look}
+use Rattle.disk_commands.specs.Ready.{access_of}
 use Rattle.disk_commands.specs.Serve.{HasNotServed, HasServedAt}
 use Rattle.disk_commands.specs.Text.{IsTold}
 use Rattle.disk_commands.specs.Told.{HasTold, IsUnprinted, IsUntold}
@@ -53,12 +54,12 @@ abbrev pub DoesAsked : {S Y K : Type 0} → (S → Held) → (honest : S → Boo
     → Result (Unit {0}) DiskFault → Type 0
 DoesAsked held honest mended failed synced missed marked kept unlisted a (asked.Create words) old new result = Creates held honest failed a words old new result × (new.out ≡ old.out) × (new.input ≡ old.input) × (new.opened ≡ old.opened) × (new.err ≡ old.err)
 DoesAsked held honest mended failed synced missed marked kept unlisted a (asked.Serve words) old new result =
-    (HasServedAt held honest mended synced marked kept a words old.input new.input old.out new.out old.err new.err result ⊎ HasNotServed held honest failed missed kept unlisted a words old.out new.out old.err new.err result) × (new.kept ≡ old.kept)
-    × OpensMarked words.disk.now (not words.read_only) old.opened new.opened
+    (HasServedAt held honest mended synced missed marked kept a words old.input new.input old.out new.out old.err new.err result ⊎ HasNotServed held honest failed missed kept unlisted a words old.out new.out old.err new.err result) × (new.kept ≡ old.kept)
+    × OpensMarked words.disk.now (access_of words) old.opened new.opened
 DoesAsked held honest mended failed synced missed marked kept unlisted a (asked.Info words) old new result = Tells held honest mended failed a words old new result × (new.kept ≡ old.kept) × (new.input ≡ old.input)
-    × Opens words.disk.now false old.opened new.opened × (new.err ≡ old.err)
+    × Opens words.disk.now to_look old.opened new.opened × (new.err ≡ old.err)
 DoesAsked held honest mended failed synced missed marked kept unlisted a (asked.Check words) old new result = Checks held honest failed a words old new result × (new.kept ≡ old.kept) × (new.input ≡ old.input)
-    × Opens words.disk.now false old.opened new.opened × (new.err ≡ old.err)
+    × Opens words.disk.now to_look old.opened new.opened × (new.err ≡ old.err)
 DoesAsked held honest mended failed synced missed marked kept unlisted a (asked.Text text) old new result = Prints (string_bytes text) old new result × (new.kept ≡ old.kept) × (new.input ≡ old.input) × (new.opened ≡ old.opened) × (new.err ≡ old.err)
 
 -- THE WORDS ARE NO COMMAND, or memory for them was refused: nothing was done

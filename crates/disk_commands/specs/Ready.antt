@@ -1,10 +1,12 @@
 -- A DISK THAT IS READY TO BE SERVED.
-use Rattle.std.specs.Prelude.{◌≡◌, ◌⊎◌, ℕ, Bool, true, false, List, [], Option}
+use Rattle.std.specs.Prelude.{◌≡◌, ◌⊎◌, ℕ, Bool, true, false, not, List, [], Option}
 use Rattle.onfi_cycles.specs.Driver.{DriverState}
 use Rattle.certificate.specs.Claim.{Claim}
 use Rattle.file_die.specs.Store.{Held}
 use Rattle.coded_store.specs.declared.coded.Mended.{Mended}
 use Rattle.file_die.specs.Die.{FileState}
+use Rattle.file_die.specs.declared.die.SyncWhen.{SyncWhen}
+use Rattle.file_die.specs.declared.die.SyncWhen.TheVariants.{Always, Erases}
 use Rattle.ftl_device.specs.declared.device.Device.{Device}
 use Rattle.disk_recovery.specs.Listed.{IsUnkept, KeepsIfAny}
 use Rattle.disk_recovery.specs.Recovered.{HoldsRecovered, IsUnrecovered}
@@ -15,15 +17,28 @@ use Rattle.disk_server.specs.Disk.{contents_of, holds}
 use Rattle.disk_server.specs.Opened.{bytes_of, flash_in, is_honest_in}
 use Rattle.disk_server.specs.Stopped.{IsUnopenedLater}
 use Rattle.disk_server.specs.Synced.{after_sync}
+use Rattle.disk_commands.specs.declared.files.Access.{Access}
 use Rattle.disk_commands.specs.declared.mark.FoundMark.{FoundMark}
 use Rattle.disk_commands.specs.declared.shape_text.DiskText.{DiskText}
 use Rattle.disk_commands.specs.declared.text.DiskFault.{DiskFault}
+use Rattle.disk_commands.specs.declared.words.ServeWords.{ServeWords}
 use Rattle.disk_commands.specs.declared.text.DiskFault.TheVariants as fault
 use Rattle.disk_commands.specs.Damage.{IsLookedAt, IsUnlookedAt}
 use Rattle.disk_commands.specs.Files.{Answers, Opened, with_mark}
 use Rattle.disk_commands.specs.Guard.{IsUnlistedAt}
 use Rattle.disk_commands.specs.Opening.{IsUnkeptAt}
 use Rattle.disk_commands.specs.Told.{IsUnprinted}
+
+-- ---- what the words ask for
+
+-- how its die is opened
+abbrev pub access_of : ServeWords → Access
+access_of words = record { writes = not words.read_only; wait = words.wait }
+
+-- when it syncs its file: after each page, or about erases alone
+abbrev pub sync_when : (always : Bool) → SyncWhen
+sync_when true = Always
+sync_when false = Erases
 
 -- ---- the disk of a store that was looked at
 

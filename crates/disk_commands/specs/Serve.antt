@@ -1,5 +1,5 @@
 -- A disk that was served to one client.
-use Rattle.std.specs.Prelude.{◌≡◌, ℕ, ◌+◌, ◌-◌, ◌*◌, ◌/◌, ◌^◌, ◌⊎◌, nat_le, Bool, true, false, List, [], length, Option, None, Result, Ok, Err, OnOk, if◌then◌else◌}
+use Rattle.std.specs.Prelude.{◌≡◌, ℕ, ◌+◌, ◌-◌, ◌*◌, ◌/◌, ◌^◌, ◌⊎◌, nat_le, Bool, true, false, List, [], length, Option, None, Result, Ok, Err, if◌then◌else◌}
 use Rattle.std.specs.Borrow.{Bor}
 use Rattle.std.specs.Io.KnownBytes.{Keeps}
 use Rattle.page_layout.specs.declared.geometry.Geometry.{Geometry}
@@ -9,10 +9,12 @@ use Rattle.file_die.specs.Store.{Held}
 use Rattle.coded_store.specs.declared.coded.Mended.{Mended}
 use Rattle.file_die.specs.Die.{FileState}
 use Rattle.ftl_device.specs.declared.device.Device.{Device}
-use Rattle.disk_server.specs.Disk.{AsksTurn, contents_of, holds, takes_changes}
+use Rattle.disk_server.specs.Asked.{AsksSectors}
+use Rattle.disk_server.specs.Disk.{AsksFlush, AsksTurn, contents_of, holds, takes_changes}
 use Rattle.nbd_stream.specs.declared.fault.DiskFault.{DiskFault as NbdFault}
 use Rattle.nbd_stream.specs.declared.request.End.{End}
 use Rattle.nbd_stream.specs.declared.request.End.TheVariants as end
+use Rattle.nbd_stream.specs.declared.task.Task.{Task}
 use Rattle.nbd_stream.specs.declared.task.Task.TheVariants.{Flush}
 use Rattle.nbd_stream.specs.Disk.{Contents, Performs, answer_from}
 use Rattle.nbd_stream.specs.Transmission.{Serves}
@@ -24,8 +26,8 @@ use Rattle.disk_server.specs.declared.synced.SyncedDisk.{SyncedDisk}
 use Rattle.disk_server.specs.Opened.{flash_in, is_honest_in}
 use Rattle.disk_server.specs.declared.synced.SyncPace.{SyncPace}
 use Rattle.disk_server.specs.declared.mark.Mark.{Mark}
-use Rattle.disk_server.specs.Synced.{HasSynced, Marks, RestsSynced, export_of}
-use Rattle.disk_server.specs.Reading.{RestsNever}
+use Rattle.disk_server.specs.Synced.{Closes, RestsSynced, SyncsTask, export_of}
+use Rattle.disk_server.specs.Reading.{OnlyAsksReads, RestsNever}
 use Rattle.page_layout.specs.OnlyReads.{OnlyReads}
 use Rattle.nbd_stream.specs.Through.{Through}
 use Rattle.disk_commands.specs.declared.text.DiskFault.{DiskFault}
@@ -36,7 +38,7 @@ use Rattle.disk_commands.specs.Damage.{NamesAll}
 use Rattle.disk_commands.specs.Ready.{IsReadyAt, IsUnreadyAt}
 use Rattle.disk_commands.specs.Told.{IsUnprinted}
 use Rattle.disk_server.specs.declared.guarded.GuardedSectors.{GuardedSectors}
-use Rattle.disk_server.specs.Guarded.{ReadsGuarded, RestsGuarded, shown}
+use Rattle.disk_server.specs.Guarded.{PassesOn, ReadsGuarded, shown}
 
 -- ---- what the client is told
 
@@ -52,8 +54,9 @@ pace_of s = record {
   most = if nat_le s.geometry.sectors 65536 then 2 ^ 64 - 1 else 65536 - (s.cache + (s.geometry.pages * 2 + (1048576 / s.geometry.data_bytes + 1)));
 }
 
-abbrev pub terms_of : Shape → (read_only : Bool) → Terms
-terms_of s read_only = record { offer = offer_of s.geometry read_only; pace = pace_of s }
+-- by what is told beside it: whether a mark of it counts is told there
+abbrev pub terms_of : DiskText → (read_only : Bool) → Terms
+terms_of told read_only = record { offer = offer_of told.shape.geometry read_only; pace = pace_of told.shape; marked = told.marked }
 
 -- ---- how it ended
 
@@ -65,25 +68,25 @@ end_of (Ok end.Unfinished) = Ok tt
 end_of (Ok end.BadFrame) = Err fault.BadFrame
 end_of (Err e) = Err fault.Stream
 
--- but the device that failed its last flush is told first
+-- but a disk that was not closed is told first
 abbrev pub told_at_end : Result (Unit {0}) NbdFault → Bor (List ℕ) → Result End ServeFault → Result (Unit {0}) DiskFault
 told_at_end (Ok done) path answer = end_of answer
 told_at_end (Err e) path answer = Err (fault.Device path)
 
--- THE LAST FLUSH, a sync with it, and the mark of that
-pub record IsFlushed {D Y : Type 0} (contents : D → Contents) (honest : D → Bool) (next : D → ℕ) (takes : D → Bool) (synced : Y → ℕ) (marked : Y → Mark) (path : Bor (List ℕ)) (last : SyncedDisk D Y)
-    (answer : Result End ServeFault) (result : Result (Unit {0}) DiskFault) : Type 0 where
+-- THE DISK IS CLOSED as its session ends: it is flushed, as the device says, and that synced and marked; unless its mark, where one counts, says that all of it is
+pub record IsClosed {D Y : Type 0} (contents : D → Contents) (honest : D → Bool) (does : D → Task → Result (Unit {0}) NbdFault → D → Type 0) (next : D → ℕ) (takes : D → Bool)
+    (synced failed : Y → ℕ) (marked : Y → Mark) (counts : Bool) (path : Bor (List ℕ)) (last : SyncedDisk D Y) (answer : Result End ServeFault) (result : Result (Unit {0}) DiskFault) : Type 0 where
   pub done : Result (Unit {0}) NbdFault
   pub left : SyncedDisk D Y
   pub performs : Performs (λ s. contents s.disk) (λ s. honest s.disk) (λ _. false) Flush [] last (answer_from done []) left
-  pub synced_once : OnOk done (HasSynced synced true last left)
-  pub marks : Marks marked next takes true last done left
+  pub closes : Closes does synced failed marked next takes counts last done left
   pub told : result ≡ told_at_end done path answer
 
 -- ---- all of it
 
--- A DISK THAT WAS SERVED to one client on these terms, and then flushed
-pub record HasServedDisk {D Y : Type 0} (contents : D → Contents) (honest : D → Bool) (rests : D → Result (Unit {0}) NbdFault → D → Type 0) (next : D → ℕ) (takes : D → Bool) (synced : Y → ℕ) (marked : Y → Mark)
+-- A DISK THAT WAS SERVED to one client on these terms, and then closed. What each task was to its syncs, and what it asked of the device, `SyncsTask` says
+pub record HasServedDisk {D Y : Type 0} (contents : D → Contents) (honest : D → Bool) (does : D → Task → Result (Unit {0}) NbdFault → D → Type 0) (rests : D → Result (Unit {0}) NbdFault → D → Type 0)
+    (next : D → ℕ) (takes : D → Bool) (synced failed : Y → ℕ) (marked : Y → Mark)
     (terms : Terms) (path : Bor (List ℕ)) (disk : D) (syncs : Y) (unread left before after : Option (List ℕ)) (result : Result (Unit {0}) DiskFault) : Type 0 where
   pub first : SyncedDisk D Y
   pub disk_is : first.disk ≡ disk
@@ -93,31 +96,32 @@ pub record HasServedDisk {D Y : Type 0} (contents : D → Contents) (honest : D 
   pub none_failed : first.failed ≡ false
   pub last : SyncedDisk D Y
   pub answer : Result End ServeFault
-  pub serves : Serves (λ s. contents s.disk) (λ s. honest s.disk) (λ _. false) (RestsSynced rests)
+  pub serves : Serves (λ s. contents s.disk) (λ s. honest s.disk) (λ _. false) (SyncsTask does synced failed marked next) (RestsSynced rests)
       (export_of terms.offer (length (contents first.disk).bytes)) terms.offer.maximum first last unread left before after answer
-  pub ends : IsFlushed contents honest next takes synced marked path last answer result
+  pub ends : IsClosed contents honest does next takes synced failed marked terms.marked path last answer result
 
 -- A DISK THAT WAS ONLY READ by one client: what stands under it was asked for reads of its sectors, and for nothing else
 pub record HasReadDisk {D : Type 0} (contents : D → Contents) (honest : D → Bool) (reads : D → D → Type 0)
     (terms : Terms) (disk : D) (unread left before after : Option (List ℕ)) (result : Result (Unit {0}) DiskFault) : Type 0 where
   pub last : D
   pub answer : Result End ServeFault
-  pub serves : Serves contents honest (λ _. false) RestsNever (export_of terms.offer (length (contents disk).bytes)) terms.offer.maximum disk last unread left before after answer
+  pub serves : Serves contents honest (λ _. false) (OnlyAsksReads reads) RestsNever (export_of terms.offer (length (contents disk).bytes)) terms.offer.maximum disk last unread left before after answer
   pub only_read : Through reads disk last
   pub told : result ≡ end_of answer
 
 -- by whether it was to be read-only
-abbrev pub ServedBy : {D Y : Type 0} → (read_only : Bool) → (contents : D → Contents) → (honest : D → Bool) → (rests : D → Result (Unit {0}) NbdFault → D → Type 0)
-    → (reads : D → D → Type 0) → (next : D → ℕ) → (takes : D → Bool) → (synced : Y → ℕ) → (marked : Y → Mark) → (terms : Terms) → (path : Bor (List ℕ)) → (disk : D) → (syncs : Y) → (unread left before after : Option (List ℕ))
-    → Result (Unit {0}) DiskFault → Type 0
-ServedBy true contents honest rests reads next takes synced marked terms path disk syncs unread left before after result = HasReadDisk contents honest reads terms disk unread left before after result
-ServedBy false contents honest rests reads next takes synced marked terms path disk syncs unread left before after result = HasServedDisk contents honest rests next takes synced marked terms path disk syncs unread left before after result
+abbrev pub ServedBy : {D Y : Type 0} → (read_only : Bool) → (contents : D → Contents) → (honest : D → Bool) → (does : D → Task → Result (Unit {0}) NbdFault → D → Type 0)
+    → (rests : D → Result (Unit {0}) NbdFault → D → Type 0) → (reads : D → D → Type 0) → (next : D → ℕ) → (takes : D → Bool) → (synced failed : Y → ℕ) → (marked : Y → Mark)
+    → (terms : Terms) → (path : Bor (List ℕ)) → (disk : D) → (syncs : Y) → (unread left before after : Option (List ℕ)) → Result (Unit {0}) DiskFault → Type 0
+ServedBy true contents honest does rests reads next takes synced failed marked terms path disk syncs unread left before after result = HasReadDisk contents honest reads terms disk unread left before after result
+ServedBy false contents honest does rests reads next takes synced failed marked terms path disk syncs unread left before after result =
+    HasServedDisk contents honest does rests next takes synced failed marked terms path disk syncs unread left before after result
 
-abbrev pub HasServedOn : {D Y : Type 0} → (contents : D → Contents) → (honest : D → Bool) → (rests : D → Result (Unit {0}) NbdFault → D → Type 0)
-    → (reads : D → D → Type 0) → (next : D → ℕ) → (takes : D → Bool) → (synced : Y → ℕ) → (marked : Y → Mark) → (terms : Terms) → (path : Bor (List ℕ)) → (disk : D) → (syncs : Y) → (unread left before after : Option (List ℕ))
-    → Result (Unit {0}) DiskFault → Type 0
-HasServedOn contents honest rests reads next takes synced marked terms path disk syncs unread left before after result =
-    ServedBy terms.offer.read_only contents honest rests reads next takes synced marked terms path disk syncs unread left before after result
+abbrev pub HasServedOn : {D Y : Type 0} → (contents : D → Contents) → (honest : D → Bool) → (does : D → Task → Result (Unit {0}) NbdFault → D → Type 0)
+    → (rests : D → Result (Unit {0}) NbdFault → D → Type 0) → (reads : D → D → Type 0) → (next : D → ℕ) → (takes : D → Bool) → (synced failed : Y → ℕ) → (marked : Y → Mark)
+    → (terms : Terms) → (path : Bor (List ℕ)) → (disk : D) → (syncs : Y) → (unread left before after : Option (List ℕ)) → Result (Unit {0}) DiskFault → Type 0
+HasServedOn contents honest does rests reads next takes synced failed marked terms path disk syncs unread left before after result =
+    ServedBy terms.offer.read_only contents honest does rests reads next takes synced failed marked terms path disk syncs unread left before after result
 
 -- ---- the disk
 
@@ -129,11 +133,23 @@ rests_in held honest = AsksTurn (flash_in held) (λ d. None) (is_honest_in hones
 abbrev pub reads_in : {S : Type 0} → (S → Held) → (honest : S → Bool) → Device (DriverState (FileState S)) → Device (DriverState (FileState S)) → Type 0
 reads_in held honest old new = OnlyReads (flash_in held) (is_honest_in honest) (λ d. false) (λ d. d.programs) (λ d. d.erases) (λ d. d.failures) old.engine.nand new.engine.nand
 
+-- what a flush of it is
+abbrev pub flushes_in : {S : Type 0} → (S → Held) → (honest : S → Bool) → Device (DriverState (FileState S)) → Result (Unit {0}) NbdFault → Device (DriverState (FileState S)) → Type 0
+flushes_in held honest = AsksFlush (flash_in held) (λ d. None) (is_honest_in honest) (λ d. false) (λ d. d.failures)
+
+-- what it shows, once its lost sectors are guarded, and what a task asks of it
+abbrev pub shown_in : {S K : Type 0} → (S → Held) → (honest : S → Bool) → GuardedSectors (Device (DriverState (FileState S))) K → Contents
+shown_in held honest = shown (contents_of (flash_in held) (is_honest_in honest)) (λ d. d.engine.geometry.data_bytes)
+
+abbrev pub does_in : {S K : Type 0} → (S → Held) → (honest : S → Bool) → GuardedSectors (Device (DriverState (FileState S))) K → Task → Result (Unit {0}) NbdFault
+    → GuardedSectors (Device (DriverState (FileState S))) K → Type 0
+does_in held honest = AsksSectors (shown_in held honest) (λ d. holds (is_honest_in honest) d.sectors) (ReadsGuarded (reads_in held honest)) (PassesOn (flushes_in held honest))
+
 -- ---- the command
 
 -- IT SERVED: the disk at the path was opened, its lost sectors were named and guarded, what was wrong with its pages was told, and it was served. No byte of a lost sector is one of its array: so a read of one is not answered without an error until it was
 -- written or trimmed (`guard_laws`)
-pub record HasServedAt {S Y K : Type 0} (held : S → Held) (honest : S → Bool) (mended_in : S → Mended) (synced : Y → ℕ) (marked : Y → Mark) (kept : K → List Bool) (a : Answers) (words : ServeWords)
+pub record HasServedAt {S Y K : Type 0} (held : S → Held) (honest : S → Bool) (mended_in : S → Mended) (synced missed : Y → ℕ) (marked : Y → Mark) (kept : K → List Bool) (a : Answers) (words : ServeWords)
     (unread left before after telling told_after : Option (List ℕ)) (result : Result (Unit {0}) DiskFault) : Type 0 where
   pub told : DiskText
   pub disk : GuardedSectors (Device (DriverState (FileState S))) K
@@ -141,8 +157,8 @@ pub record HasServedAt {S Y K : Type 0} (held : S → Held) (honest : S → Bool
   pub mended : Mended
   pub at : IsReadyAt held honest mended_in marked kept a words.disk.now words.read_only told mended disk syncs
   pub named : NamesAll disk.lost.items told.shape.code mended telling told_after
-  pub served : HasServedOn (shown (contents_of (flash_in held) (is_honest_in honest)) (λ d. d.engine.geometry.data_bytes)) (λ d. holds (is_honest_in honest) d.sectors) (RestsGuarded (rests_in held honest)) (ReadsGuarded (reads_in held honest))
-      (λ d. d.sectors.engine.next) (λ d. takes_changes d.sectors) synced marked (terms_of told.shape words.read_only) words.disk disk syncs unread left before after result
+  pub served : HasServedOn (shown_in held honest) (λ d. holds (is_honest_in honest) d.sectors) (does_in held honest) (PassesOn (rests_in held honest)) (ReadsGuarded (reads_in held honest))
+      (λ d. d.sectors.engine.next) (λ d. takes_changes d.sectors) synced missed marked (terms_of told words.read_only) words.disk disk syncs unread left before after result
 
 -- or it did not, and nothing was sent: the disk was not ready. Lost sectors may have been named where that is told, or where a growth was refused
 pub record HasNotServed {S Y K : Type 0} (held : S → Held) (honest : S → Bool) (failed : S → ℕ) (missed : Y → ℕ) (kept : K → List Bool) (unlisted : K → ℕ) (a : Answers) (words : ServeWords) (before after telling told_after : Option (List ℕ))

@@ -44,7 +44,7 @@ shape_words shape.OutOfMemory = codes "out of memory"
 -- ---- the line, without its line feed
 
 unfoldable pub line_of : DiskFault → List ℕ
-line_of fault.NoSuchCommand = codes "usage: no such command"
+line_of fault.NoSuchCommand = codes "usage: no such command, see nanddisk --help"
 line_of (fault.BadSize word) = codes "usage: bad size " ++ word.now
 line_of (fault.BadNumber word) = codes "usage: bad number " ++ word.now
 line_of (fault.Size why) = codes "refused size: " ++ size_words why

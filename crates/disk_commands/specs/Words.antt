@@ -2,6 +2,7 @@
 use Rattle.std.specs.Prelude.{◌≡◌, ℕ, Bool, true, false, List, [], ◌∷◌, codes, Option, Some, None, option_map, if◌then◌else◌}
 use Rattle.std.specs.Str.{bytes_eq}
 use Rattle.std.specs.Borrow.{Bor}
+use Rattle.command_words.specs.Numbers.{number_of}
 use Rattle.clap.specs.Words.{App, Row, Shape, first_of, count_of}
 use Rattle.program_words.specs.Grammar.{command_of, flag, option, place, program_of}
 use Rattle.program_words.specs.Met.{AsksText, NamesCommand, once}
@@ -22,7 +23,7 @@ abbrev pub create : Shape
 create = command_of (codes "create") (option (codes "size") ∷ option (codes "geometry") ∷ option (codes "from") ∷ option (codes "cache") ∷ option (codes "code") ∷ place (codes "DISK") ∷ [])
 
 abbrev pub serve : Shape
-serve = command_of (codes "serve") (flag (codes "read-only") ∷ option (codes "sync") ∷ place (codes "DISK") ∷ [])
+serve = command_of (codes "serve") (flag (codes "read-only") ∷ option (codes "sync") ∷ option (codes "wait") ∷ place (codes "DISK") ∷ [])
 
 abbrev pub info : Shape
 info = command_of (codes "info") (flag (codes "json") ∷ place (codes "DISK") ∷ [])
@@ -40,6 +41,11 @@ grammar = program_of (codes "nanddisk") (create ∷ serve ∷ info ∷ check ∷
 abbrev pub always : Option (List ℕ) → Option Bool
 always None = Some false
 always (Some word) = if bytes_eq word (codes "erases") then Some false else (if bytes_eq word (codes "always") then Some true else None)
+
+-- the seconds to wait, none without a word
+abbrev pub seconds : Option (List ℕ) → Option ℕ
+seconds None = Some 0
+seconds (Some word) = number_of word
 
 -- the code of the pages, which have none without a word
 abbrev pub code : Option (List ℕ) → Option Code
@@ -78,6 +84,7 @@ pub record IsServeAt (rows : List Row) (read : ServeWords) : Type 0 where
   pub disk_is : first_of (codes "DISK") rows ≡ Some read.disk.now
   pub read_only_is : once (count_of (codes "read-only") rows) ≡ Some read.read_only
   pub sync_is : always (first_of (codes "sync") rows) ≡ Some read.sync_always
+  pub wait_is : seconds (first_of (codes "wait") rows) ≡ Some read.wait
 
 -- those of the words of `info` or `check` are these
 pub record IsInfoAt (rows : List Row) (read : InfoWords) : Type 0 where

@@ -5,7 +5,7 @@ ghost use Rattle.disk_commands.specs.Files.{Opens, SaysNoMore};
 ghost use Rattle.disk_commands.specs.ShapeText.{IsWithin};
 ghost use Rattle.disk_commands.specs.Told.{IsUnprinted};
 
-use crate::files::{DiskFiles, FileFault};
+use crate::files::{Access, DiskFiles, FileFault};
 use crate::info::unprinted;
 use crate::mark::FoundMark;
 use crate::opening::{mark_at, open_at};
@@ -90,16 +90,16 @@ pub(crate) fn look_at<'a, F: DiskFiles>(
     alloc: Global,
     files: &mut F,
     path: &'a str,
-    writes: bool,
+    access: Access,
 ) -> Result<Looked<F::Store, F::Syncs>, DiskFault<'a>>
     ensures ok { IfOk result (λ looked. IsLookedAt F.Store.held F.Store.honest (F.answers files.old) path.now looked.told looked.found looked.store looked.certificate looked.lost.items) }
     ensures fault { IfErr result (IsUnlookedAt F.Store.held F.Store.honest F.Store.failed (F.answers files.old) path.now) }
-    ensures opened { Opens path.now writes (F.opened files.old) (F.opened files.new) }
+    ensures opened { Opens path.now access (F.opened files.old) (F.opened files.new) }
     ensures within { IfOk result (λ looked. IsWithin looked.told.shape.cache) }
     ensures no_more { OnOk result (SaysNoMore (F.answers files.old) (F.answers files.new)) }
     ensures kept { F.kept files.new ≡ F.kept files.old }
 {
-    let (store, syncs, told) = match open_at(alloc, files, path, writes) {
+    let (store, syncs, told) = match open_at(alloc, files, path, access) {
         Ok(opened) => opened,
         Err(fault) => return Err(fault),
     };

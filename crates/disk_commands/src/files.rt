@@ -1,4 +1,7 @@
 //! The files that disks are: of each the die, the one beside it that tells its shape, and its mark.
+ghost use Rattle.std.specs.Prelude.{◌≡◌};
+ghost use Rattle.disk_commands.specs.Files.{to_look};
+
 use crate::mark::FoundMark;
 use crate::shapes::Shape;
 use coded_store::TellsMended;
@@ -30,14 +33,41 @@ pub enum FileFault {
     OutOfMemory,
 }
 
+/// How the die of a disk is opened. (This project's.)
+#[derive(Clone, Copy, Debug, PartialEq, Eq)]
+pub struct Access {
+    /// To be written, and then by this program alone. Else for reading alone, beside others that do no more.
+    pub writes: bool,
+    /// Seconds to wait for those who hold it otherwise.
+    pub wait: u32,
+}
+
+/// A look at a disk: for reading alone, and at once or not at all.
+pub(crate) fn to_look() -> Access
+    ensures { result ≡ to_look }
+{
+    Access {
+        writes: false,
+        wait: 0,
+    }
+}
+
+/// The file of a die that is open and locked. (This project's.)
+pub trait LockedDie {
+    ghost use Rattle.std.specs.Prelude.{Bool};
+
+    /// Whether it was opened to be written, and is held by this program alone. Else it was opened for reading alone, and others that do no more may hold it too.
+    ghost writes: { Self → Bool };
+}
+
 /// The files that the words name, by their paths as written: those of the system, or some in memory. (This project's.)
 pub trait DiskFiles {
     ghost use Rattle.std.specs.Prelude.{◌≡◌, true, List, [], Option, option_map, IfOk, IfErr};
     ghost use Rattle.file_die.specs.Store.{blank};
     ghost use Rattle.disk_commands.specs.Files.{Answers, AnswersNoMore, FailsCopy, FailsNoMore, Kept, Opened, SaysNoMore, kept_after, with_mark, with_opened};
 
-    /// The file of a die, open and locked: while it is there no other program opens or makes the disk.
-    type Locked: Drop;
+    /// The file of a die, open and locked: while it is there no other program writes or makes the disk, nor opens it, where this one is to write it.
+    type Locked: LockedDie + Drop;
 
     /// The pages of a die in a file that is locked.
     type Store: Store + TellsMended + Drop;
@@ -67,15 +97,16 @@ pub trait DiskFiles {
         ensures failed { IfErr result ((answers self.old).fails path.now) }
         ensures same { self.new ≡ self.old };
 
-    /// Opens the file of the die at a path, and locks it. With `writes` false it is opened for reading alone.
+    /// Opens the file of the die at a path, and locks it.
     ///
     /// # Errors
     ///
-    /// One that these files may answer of the path: `InUse` where it is locked. The disks in their places are as they were.
-    fn lock(&mut self, path: &str, writes: bool) -> Result<Self::Locked, FileFault>
+    /// One that these files may answer of the path: `InUse` where others hold it otherwise until the wait is over. The disks in their places are as they were.
+    fn lock(&mut self, path: &str, access: Access) -> Result<Self::Locked, FileFault>
+        ensures writes { IfOk result (λ locked. Self.Locked.writes locked ≡ access.writes) }
         ensures failed { IfErr result ((answers self.old).fails path.now) }
         ensures no_more { AnswersNoMore (answers self.old) (answers self.new) }
-        ensures opened { opened self.new ≡ with_opened (opened self.old) path.now writes }
+        ensures opened { opened self.new ≡ with_opened (opened self.old) path.now access }
         ensures kept { kept self.new ≡ kept self.old };
 
     /// The bytes of the file that tells the shape of the disk at a path, whose die is locked, or the first 65,536 of them.

@@ -53,6 +53,12 @@ const SYNC: WordRule<'static> = WordRule {
     help: "Syncs the file about `erases` alone, or `always`, after each page too",
 };
 
+const WAIT: WordRule<'static> = WordRule {
+    id: "wait",
+    kind: WordKind::Valued("SECONDS"),
+    help: "Waits so long for those who hold the disk; else it is refused at once",
+};
+
 const JSON: WordRule<'static> = WordRule {
     id: "json",
     kind: WordKind::Flag,
@@ -68,7 +74,7 @@ const CREATE: CommandRule<'static> = CommandRule {
 const SERVE: CommandRule<'static> = CommandRule {
     name: "serve",
     about: "Serves a disk by NBD over standard input and output",
-    words: &[READ_ONLY, SYNC, DISK],
+    words: &[READ_ONLY, SYNC, WAIT, DISK],
 };
 
 const INFO: CommandRule<'static> = CommandRule {

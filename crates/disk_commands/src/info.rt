@@ -1,12 +1,12 @@
 //! The command `info`: what is told of a disk.
-ghost use Rattle.std.specs.Prelude.{◌≡◌, false, OnOk, IfOk, IfErr};
+ghost use Rattle.std.specs.Prelude.{◌≡◌, OnOk, IfOk, IfErr};
 ghost use Rattle.std.specs.IoError.{error_kind};
-ghost use Rattle.disk_commands.specs.Files.{Opens};
+ghost use Rattle.disk_commands.specs.Files.{Opens, to_look};
 ghost use Rattle.disk_commands.specs.Damage.{IsUnlookedAt};
 ghost use Rattle.disk_commands.specs.Told.{HasTold, IsInfoAt, IsUnprinted, IsUntold, form_of};
 
 use crate::damage::look_at;
-use crate::files::DiskFiles;
+use crate::files::{DiskFiles, to_look};
 use crate::printed::{Form, Info};
 use crate::text::DiskFault;
 use crate::words::InfoWords;
@@ -24,9 +24,9 @@ fn info_at<'a, F: DiskFiles>(
     ensures ok { IfOk result (λ told. IsInfoAt F.Store.held F.Store.honest F.Store.mended (F.answers files.old) path.now told.0 told.1.items) }
     ensures fault { IfErr result (IsUnlookedAt F.Store.held F.Store.honest F.Store.failed (F.answers files.old) path.now) }
     ensures kept { F.kept files.new ≡ F.kept files.old }
-    ensures opened { Opens path.now false (F.opened files.old) (F.opened files.new) }
+    ensures opened { Opens path.now to_look (F.opened files.old) (F.opened files.new) }
 {
-    let looked = match look_at(alloc, files, path, false) {
+    let looked = match look_at(alloc, files, path, to_look()) {
         Ok(looked) => looked,
         Err(fault) => return Err(fault),
     };
@@ -74,7 +74,7 @@ pub(crate) fn info_command<'a, F: DiskFiles, W: Write>(
     ensures ok { OnOk result (HasTold F.Store.held F.Store.honest F.Store.mended (F.answers files.old) words.entry (W.contents out.old) (W.contents out.new)) }
     ensures fault { IfErr result (IsUntold F.Store.held F.Store.honest F.Store.failed (F.answers files.old) words.entry (W.contents out.old) (W.contents out.new)) }
     ensures kept { F.kept files.new ≡ F.kept files.old }
-    ensures opened { Opens words.entry.disk.now false (F.opened files.old) (F.opened files.new) }
+    ensures opened { Opens words.entry.disk.now to_look (F.opened files.old) (F.opened files.new) }
 {
     let (info, lost) = match info_at(alloc, files, words.disk) {
         Ok(told) => told,

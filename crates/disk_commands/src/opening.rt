@@ -5,7 +5,7 @@ ghost use Rattle.disk_commands.specs.ShapeText.{IsWithin};
 ghost use Rattle.disk_commands.specs.Files.{Opens, SaysNoMore};
 ghost use Rattle.disk_commands.specs.Opening.{file_bytes, IsFaultAt, IsMarkAt, IsNotAt, IsNotFree, IsShapeFault, IsStoreAt, IsTextAt, told_at, told_of_copy};
 
-use crate::files::{DiskFiles, FileFault};
+use crate::files::{Access, DiskFiles, FileFault};
 use crate::mark::{FoundMark, mark_of, none_found};
 use crate::shape_text::{DiskText, read_shape};
 use crate::shapes::{Code, Shape};
@@ -87,16 +87,16 @@ pub(crate) fn open_at<'a, F: DiskFiles>(
     alloc: Global,
     files: &mut F,
     path: &'a str,
-    writes: bool,
+    access: Access,
 ) -> Result<(F::Store, F::Syncs, DiskText), DiskFault<'a>>
     ensures ok { IfOk result (λ opened. IsStoreAt F.Store.held F.Store.honest (F.answers files.old) path.now opened.2 opened.0) }
     ensures fault { IfErr result (IsNotAt (F.answers files.old) path.now) }
-    ensures opened { Opens path.now writes (F.opened files.old) (F.opened files.new) }
+    ensures opened { Opens path.now access (F.opened files.old) (F.opened files.new) }
     ensures within { IfOk result (λ opened. IsWithin opened.2.shape.cache) }
     ensures no_more { OnOk result (SaysNoMore (F.answers files.old) (F.answers files.new)) }
     ensures kept { F.kept files.new ≡ F.kept files.old }
 {
-    let locked = match files.lock(path, writes) {
+    let locked = match files.lock(path, access) {
         Ok(locked) => locked,
         Err(fault) => return Err(told_at(fault, path, 0)),
     };

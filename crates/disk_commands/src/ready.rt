@@ -7,12 +7,12 @@ ghost use Rattle.disk_server.specs.Synced.{after_sync};
 ghost use Rattle.disk_commands.specs.Damage.{NamesAll};
 ghost use Rattle.disk_commands.specs.Files.{OpensMarked, with_mark};
 ghost use Rattle.disk_commands.specs.Opening.{IsUnkeptAt};
-ghost use Rattle.disk_commands.specs.Ready.{HoldsPages, IsNoneOf, IsReadyAt, KeepsBy, IsUnkeptBy, IsUnreadyAt, MarksBy};
+ghost use Rattle.disk_commands.specs.Ready.{HoldsPages, IsNoneOf, IsReadyAt, KeepsBy, IsUnkeptBy, IsUnreadyAt, MarksBy, access_of, sync_when};
 ghost use Rattle.disk_commands.specs.ShapeText.{IsWithin};
 ghost use Rattle.disk_commands.specs.Told.{IsUnprinted};
 
 use crate::damage::{Looked, look_at, name_lost, name_mended};
-use crate::files::DiskFiles;
+use crate::files::{Access, DiskFiles};
 use crate::guard::{guarded, keeper_at};
 use crate::mark::FoundMark;
 use crate::opening::told_at;
@@ -37,8 +37,20 @@ pub(crate) type GuardedDisk<S, K> = SectorDisk<GuardedSectors<DeviceDisk<Driver<
 /// Such a disk, ready to be served: with a second handle of its file, what is told beside it, and what was wrong with its pages.
 pub(crate) type ReadyDisk<S, K, Y> = (GuardedDisk<S, K>, Y, DiskText, Mended);
 
+// How a disk is opened to be served.
+fn access_of(words: &ServeWords<'_>) -> Access
+    ensures { result ≡ access_of words.now }
+{
+    Access {
+        writes: !words.read_only,
+        wait: words.wait,
+    }
+}
+
 // When the die syncs its file.
-fn sync_when(always: bool) -> SyncWhen {
+fn sync_when(always: bool) -> SyncWhen
+    ensures { result ≡ sync_when always }
+{
     if always {
         SyncWhen::Always
     } else {
@@ -162,10 +174,10 @@ pub(crate) fn ready<'a, F: DiskFiles, E: Write>(
     ensures named { IfOk result (λ r. NamesAll r.0.lost.items r.2.shape.code r.3 (E.contents err.old) (E.contents err.new)) }
     ensures fault { IfErr result (IsUnreadyAt F.Store.held F.Store.honest F.Store.failed F.Syncs.failed F.Lists.kept F.Lists.failed (F.answers files.old) words.now.disk.now words.now.read_only) }
     ensures unnamed { IfErr result (λ fault. (E.contents err.new ≡ E.contents err.old) ⊎ IsUnprinted fault) }
-    ensures opened { OpensMarked words.now.disk.now (not words.now.read_only) (F.opened files.old) (F.opened files.new) }
+    ensures opened { OpensMarked words.now.disk.now (access_of words.now) (F.opened files.old) (F.opened files.new) }
     ensures kept { F.kept files.new ≡ F.kept files.old }
 {
-    let looked = match look_at(alloc, files, words.disk, !words.read_only) {
+    let looked = match look_at(alloc, files, words.disk, access_of(words)) {
         Ok(looked) => looked,
         Err(fault) => return Err(fault),
     };

@@ -3,19 +3,22 @@ ghost use Rattle.std.specs.Prelude.{◌≡◌, ◌⊎◌, OnOk, IfOk, IfErr, Err
 ghost use Rattle.std.specs.Io.KnownBytes.{Keeps};
 ghost use Rattle.disk_commands.specs.declared.text.DiskFault.TheVariants as fault;
 ghost use Rattle.disk_commands.specs.Files.{OpensMarked};
-ghost use Rattle.disk_commands.specs.Serve.{HasNotServed, HasReadDisk, HasServedAt, HasServedDisk, HasServedOn, IsFlushed, end_of, offer_of, pace_of, terms_of};
+ghost use Rattle.disk_commands.specs.Ready.{access_of};
+ghost use Rattle.disk_commands.specs.Serve.{HasNotServed, HasReadDisk, HasServedAt, HasServedDisk, HasServedOn, IsClosed, end_of, offer_of, pace_of, terms_of};
+ghost use Rattle.disk_server.specs.Asked.{AsksSectors};
 ghost use Rattle.disk_server.specs.Reading.{AllLasts};
 
 use crate::files::DiskFiles;
 use crate::ready::ready;
+use crate::shape_text::DiskText;
 use crate::shapes::{MOST_ENTRIES, Shape};
 use crate::text::DiskFault;
 use crate::words::ServeWords;
 use disk_server::{
-    Offer, ReadOnlyDisk, SectorDisk, Sectors, SyncPace, SyncedDisk, Syncs, serve_reading,
+    Lasting, Offer, ReadOnlyDisk, SectorDisk, Sectors, SyncPace, SyncedDisk, Syncs, serve_reading,
     serve_synced,
 };
-use nbd_stream::{Disk, End};
+use nbd_stream::End;
 use page_layout::geometry::Geometry;
 use request_stream::ServeFault;
 use std::alloc::Global;
@@ -45,7 +48,8 @@ fn offer_of(geometry: &Geometry, read_only: bool) -> Offer
     }
 }
 
-// How much of a disk may be changed between two syncs of its file.
+// How much of a disk may be changed between two syncs of its file. At a sync at most the entries of its cache and the pages of two blocks are stale, whether its device was flushed before
+// or not: so no sync needs that flush for what is stale to have room at the next mount. Of a disk of fewer sectors all of them have.
 fn pace_of(shape: &Shape) -> SyncPace
     ensures { result ≡ pace_of shape.now }
 {
@@ -64,20 +68,22 @@ fn pace_of(shape: &Shape) -> SyncPace
     }
 }
 
-// What a disk is served on.
+// What a disk is served on, and whether a mark of it counts.
 #[derive(Clone, Copy)]
 struct Terms {
     offer: Offer,
     pace: SyncPace,
+    marked: bool,
 }
 
-// What the disk of a shape is served on.
-fn terms_of(shape: &Shape, read_only: bool) -> Terms
-    ensures { result ≡ terms_of shape.now read_only }
+// What the disk is served on beside which this is told.
+fn terms_of(told: &DiskText, read_only: bool) -> Terms
+    ensures { result ≡ terms_of told.now read_only }
 {
     Terms {
-        offer: offer_of(&shape.geometry, read_only),
-        pace: pace_of(shape),
+        offer: offer_of(&told.shape.geometry, read_only),
+        pace: pace_of(&told.shape),
+        marked: told.marked,
     }
 }
 
@@ -92,22 +98,23 @@ fn end_of<'a>(served: Result<End, ServeFault>) -> Result<(), DiskFault<'a>>
     }
 }
 
-// Ends a session on a disk, which is flushed.
-fn end_session<'a, S: Sectors, Y: Syncs>(
+// Ends a session on a disk, which is closed. A mark of it counts or not.
+fn end_session<'a, S: Lasting, Y: Syncs>(
     disk: &mut SyncedDisk<SectorDisk<S>, Y>,
+    marked: bool,
     path: &'a str,
     served: Result<End, ServeFault>,
 ) -> Result<(), DiskFault<'a>>
-    ensures { IsFlushed S.contents S.honest S.next S.takes Y.synced Y.marked path.entry disk.old served result }
+    ensures { IsClosed S.contents S.honest (AsksSectors S.contents S.honest S.reads S.flushes) S.next S.takes Y.synced Y.failed Y.marked marked path.entry disk.old served result }
 {
-    match disk.flush() {
+    match disk.close(marked) {
         Ok(()) => end_of(served),
         Err(_) => Err(DiskFault::Device(path)),
     }
 }
 
-// Serves a disk to one client, and has it flushed when the client has gone.
-fn serve_writing<'a, S: Sectors + Drop, Y: Syncs + Drop, I: Read, O: Write>(
+// Serves a disk to one client, and closes it when the client has gone.
+fn serve_writing<'a, S: Lasting + Drop, Y: Syncs + Drop, I: Read, O: Write>(
     opened: (SectorDisk<S>, Y),
     terms: Terms,
     path: &'a str,
@@ -116,12 +123,12 @@ fn serve_writing<'a, S: Sectors + Drop, Y: Syncs + Drop, I: Read, O: Write>(
     out: &mut O,
 ) -> Result<(), DiskFault<'a>>
     requires { length buffer.old ≡ terms.offer.maximum }
-    ensures { HasServedDisk S.contents S.honest S.rests S.next S.takes Y.synced Y.marked terms path.entry opened.0 opened.1 (I.remaining input.old) (I.remaining input.new) (O.contents out.old) (O.contents out.new) result }
+    ensures { HasServedDisk S.contents S.honest (AsksSectors S.contents S.honest S.reads S.flushes) S.rests S.next S.takes Y.synced Y.failed Y.marked terms path.entry opened.0 opened.1 (I.remaining input.old) (I.remaining input.new) (O.contents out.old) (O.contents out.new) result }
 {
     let (disk, syncs) = opened;
     let mut disk = SyncedDisk::new(disk, syncs, terms.pace);
     let served = serve_synced(&mut disk, terms.offer, buffer, input, out);
-    end_session(&mut disk, path, served)
+    end_session(&mut disk, terms.marked, path, served)
 }
 
 // Serves a disk that is only read to one client.
@@ -142,7 +149,7 @@ fn serve_only_reading<'a, S: Sectors + Drop, I: Read, O: Write>(
 }
 
 // Serves a disk to one client, on these terms.
-fn serve_client<'a, S: Sectors + Drop, Y: Syncs + Drop, I: Read, O: Write>(
+fn serve_client<'a, S: Lasting + Drop, Y: Syncs + Drop, I: Read, O: Write>(
     alloc: Global,
     opened: (SectorDisk<S>, Y),
     terms: Terms,
@@ -151,7 +158,7 @@ fn serve_client<'a, S: Sectors + Drop, Y: Syncs + Drop, I: Read, O: Write>(
     out: &mut O,
 ) -> Result<(), DiskFault<'a>>
     requires { S.honest opened.0 ≡ true → AllLasts (S.contents opened.0) }
-    ensures { HasServedOn S.contents S.honest S.rests S.reads S.next S.takes Y.synced Y.marked terms path.entry opened.0 opened.1 (I.remaining input.old) (I.remaining input.new) (O.contents out.old) (O.contents out.new) result
+    ensures { HasServedOn S.contents S.honest (AsksSectors S.contents S.honest S.reads S.flushes) S.rests S.reads S.next S.takes Y.synced Y.failed Y.marked terms path.entry opened.0 opened.1 (I.remaining input.old) (I.remaining input.new) (O.contents out.old) (O.contents out.new) result
         ⊎ ((result ≡ Err fault.OutOfMemory) × Keeps (O.contents out.old) (O.contents out.new)) }
 {
     let Ok(mut buffer) = vec![in alloc; 0u8; terms.offer.maximum as usize] else {
@@ -164,7 +171,8 @@ fn serve_client<'a, S: Sectors + Drop, Y: Syncs + Drop, I: Read, O: Write>(
     }
 }
 
-/// The command `serve`: serves the disk DISK to the client at `input` and `out` until it goes, and then flushes it. With `--read-only` its file is opened for reading alone, nothing is
+/// The command `serve`: serves the disk DISK to the client at `input` and `out` until it goes, and then flushes it, unless its mark says that it is flushed and nothing was programmed since. A
+/// flush that a client asks for syncs the file, and no more. With `--read-only` its file is opened for reading alone, nothing is
 /// asked of its die but reads, and a flush is answered as done. Else what a crash left torn is taken away first, by the mark beside DISK; a disk whose file says that one counts has its mark kept
 /// from then on. **Of files whose stores are honest the client's answers are those of the array of bytes that the die at DISK holds, once that is taken away.**
 ///
@@ -176,7 +184,7 @@ fn serve_client<'a, S: Sectors + Drop, Y: Syncs + Drop, I: Read, O: Write>(
 /// The first of this order: `Read`, `Shape` or `OutOfMemory` where the file beside DISK tells no shape; `Read`, `InUse`, `Length` or `OutOfMemory` where DISK was not opened;
 /// `Read` or `OutOfMemory` where its mark was not read; `ReadList` or `List` where the list of its lost sectors was not read; `Open` where it holds no disk; `WriteList` where that list was not kept;
 /// `Open` where the disk was not opened; `Read`, `Write` or `OutOfMemory` where its mark cannot be kept, `Device` where the first sync failed; `Write` of `-` where lost sectors were not named;
-/// `OutOfMemory` for the memory of a request. After each of these nothing was sent. Then `Device` where the last flush failed;
+/// `OutOfMemory` for the memory of a request. After each of these nothing was sent. Then `Device` where the flush at the end failed, or a sync;
 /// `BadFrame` where the client sent what is no request, `Stream` where `input` or `out` failed. (This project's.)
 pub(crate) fn serve_command<'a, F: DiskFiles, I: Read, O: Write, E: Write>(
     alloc: Global,
@@ -186,16 +194,16 @@ pub(crate) fn serve_command<'a, F: DiskFiles, I: Read, O: Write, E: Write>(
     out: &mut O,
     err: &mut E,
 ) -> Result<(), DiskFault<'a>>
-    ensures served { HasServedAt F.Store.held F.Store.honest F.Store.mended F.Syncs.synced F.Syncs.marked F.Lists.kept (F.answers files.old) words.entry (I.remaining input.old) (I.remaining input.new) (O.contents out.old) (O.contents out.new)
+    ensures served { HasServedAt F.Store.held F.Store.honest F.Store.mended F.Syncs.synced F.Syncs.failed F.Syncs.marked F.Lists.kept (F.answers files.old) words.entry (I.remaining input.old) (I.remaining input.new) (O.contents out.old) (O.contents out.new)
         (E.contents err.old) (E.contents err.new) result
         ⊎ HasNotServed F.Store.held F.Store.honest F.Store.failed F.Syncs.failed F.Lists.kept F.Lists.failed (F.answers files.old) words.entry (O.contents out.old) (O.contents out.new) (E.contents err.old) (E.contents err.new) result }
-    ensures opened { OpensMarked words.entry.disk.now (not words.entry.read_only) (F.opened files.old) (F.opened files.new) }
+    ensures opened { OpensMarked words.entry.disk.now (access_of words.entry) (F.opened files.old) (F.opened files.new) }
     ensures kept { F.kept files.new ≡ F.kept files.old }
 {
     let (disk, syncs, told, _) = match ready(alloc, files, &words, err) {
         Ok(ready) => ready,
         Err(fault) => return Err(fault),
     };
-    let terms = terms_of(&told.shape, words.read_only);
+    let terms = terms_of(&told, words.read_only);
     serve_client(alloc, (disk, syncs), terms, words.disk, input, out)
 }

@@ -141,7 +141,7 @@ impl fmt::Display for DiskFault<'_> {
     #[tactic(auto, unfolding(crate::specs::Text::line_of))]
     fn fmt<W: fmt::Write>(&self, f: &mut fmt::Formatter<W>) -> fmt::Result {
         match *self {
-            DiskFault::NoSuchCommand => f.write_str("usage: no such command"),
+            DiskFault::NoSuchCommand => f.write_str("usage: no such command, see nanddisk --help"),
             DiskFault::BadSize(word) => told(f, "usage: bad size ", word),
             DiskFault::BadNumber(word) => told(f, "usage: bad number ", word),
             DiskFault::Size(fault) => write!(f, "refused size: {fault}"),

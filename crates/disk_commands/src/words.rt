@@ -10,6 +10,7 @@ ghost use Rattle.disk_commands.specs.Words.{IsAsked, IsAt, IsCreateAt, IsInfoAt,
 
 use crate::grammar::grammar;
 use crate::shapes::Code;
+use command_words::number;
 use program_words::{CommandWords, Met, WordsFault, read_words};
 use std::alloc::Global;
 
@@ -35,12 +36,14 @@ pub struct CreateWords<'a> {
     pub disk: &'a str,
 }
 
-/// The words of `serve [--read-only] [--sync erases|always] DISK`.
+/// The words of `serve [--read-only] [--sync erases|always] [--wait SECONDS] DISK`.
 #[derive(Clone, Copy)]
 pub struct ServeWords<'a> {
     pub read_only: bool,
     /// Whether the file is synced after each program, and not before and after each erase alone.
     pub sync_always: bool,
+    /// Seconds to wait for those who hold the disk.
+    pub wait: u32,
     pub disk: &'a str,
 }
 
@@ -75,6 +78,16 @@ fn always(word: Option<&str>) -> Option<bool>
         None | Some("erases") => Some(false),
         Some("always") => Some(true),
         Some(_) => None,
+    }
+}
+
+// The seconds to wait, by the word of `--wait`.
+fn seconds(word: Option<&str>) -> Option<u32>
+    ensures { result ≡ Rattle.disk_commands.specs.Words.seconds (option_map (λ word. word.now) word.entry) }
+{
+    match word {
+        None => Some(0),
+        Some(word) => number(word),
     }
 }
 
@@ -139,6 +152,7 @@ fn serve_words<'a>(found: &CommandWords<'a>) -> Option<ServeWords<'a>>
         disk: found.word("DISK")?,
         read_only: found.once("read-only")?,
         sync_always: always(found.word("sync"))?,
+        wait: seconds(found.word("wait"))?,
     })
 }
 
@@ -179,7 +193,7 @@ fn asked_at<'a>(name: &str, found: &CommandWords<'a>) -> Result<DiskWords<'a>, W
 }
 
 /// What the words ask for, of which the first is the program's name: as `clap` reads them. No option may stand twice. `create` takes `--size`, or
-/// `--geometry` with `--from` or without it; `--code` is `none` or `hamming`, and `--sync` is `erases` or `always`.
+/// `--geometry` with `--from` or without it; `--code` is `none` or `hamming`, `--sync` is `erases` or `always`, and `--wait` a number below 2^32.
 ///
 /// # Errors
 ///

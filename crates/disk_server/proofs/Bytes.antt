@@ -30,6 +30,13 @@ cut o n s = sym (take-append-drop o s) ∙ ap (λ (l : List ℕ). take o s ++ l)
 cut_long : (o n : ℕ) (s : List ℕ) → o + n ≤ length s → length (take n (drop o s)) ≡ n
 cut_long o n s fits = length-take-le n (drop o s) (omega (arith, length-drop o s, fits))
 
+-- a range that is set to what it has leaves all as it was
+pub set_same : (s : List ℕ) (o n : ℕ) → o + n ≤ length s → with_bytes o (slice_range s o (o + n)) s ≡ s
+set_same s o n fits =
+    let here : slice_range s o (o + n) ≡ take n (drop o s) = ap (λ (m : ℕ). take m (drop o s)) (omega arith) in
+    let past : drop (o + length (take n (drop o s))) s ≡ drop n (drop o s) = ap (λ (m : ℕ). drop (o + m) s) (cut_long o n s fits) ∙ sym (drop-drop n o s) in
+    ap (λ (l : List ℕ). with_bytes o l s) here ∙ ap (λ (l : List ℕ). take o s ++ (take n (drop o s) ++ l)) past ∙ sym (cut o n s)
+
 -- ---- a range, and the one behind it
 
 more_parts : (a p q c front piece : List ℕ) (o place : ℕ) → length a ≡ o → length p ≡ length front → length q ≡ length piece → place ≡ o + length front

@@ -1,5 +1,5 @@
 -- A range of bytes, piece by piece.
-use Rattle.std.proofs.Common.{◌≡◌, ◌≤◌, ◌+◌, ◌-◌, ℕ, Bool, false, List, [], ◌++◌, length, take, drop, replicate, Ok, Err, refl, sym, ap, ◌∙◌, subst, arith, append-nil}
+use Rattle.std.proofs.Common.{◌≡◌, ◌≤◌, ◌+◌, ◌-◌, add-zero, inl, ℕ, Bool, false, List, [], ◌++◌, length, take, drop, replicate, Ok, Err, refl, sym, ap, ◌∙◌, subst, arith, append-nil}
 use Rattle.std.proofs.lemmas.List.{length-replicate, length-take-le, replicate-append-replicate, take-append-drop}
 use Rattle.std.proofs.lemmas.Slice.{take-put_mid}
 use Rattle.std.proofs.Math.Seq.{take-add}
@@ -41,6 +41,25 @@ module _ {D : Type 0} (contents : D → Contents) (honest calm : D → Bool) whe
         (write_then contents honest calm (take k all) (piece k m all) rest o k n j (o + k) old mid new (Err e) (omega (arith, front_long)) (omega (arith, long, fits)) one two tt)
 
   -- ---- zeros
+
+  -- no byte is set
+  pub nothing_set : (o : ℕ) (d : D) → Performs contents honest calm (Write o 0 false) (replicate 0 0) d (Ok []) d
+  nothing_set o d = record {
+    sized = refl;
+    kept = refl;
+    back = λ h. h;
+    calm_is = refl;
+    fault = tt;
+    given = refl;
+    calmly = λ h. refl;
+    steps = λ h. record {
+      done = sym (ap (λ (k : ℕ). take o (contents d).bytes ++ drop k (contents d).bytes) (add-zero o) ∙ take-append-drop o (contents d).bytes);
+      gave = refl;
+      torn = tt;
+      stays = λ p. inl refl;
+      lasts = λ p no. (let never : ⊥ = cc in absurd never);
+    };
+  }
 
   module _ (n o k m : ℕ) (old mid new : D) (within : k + m ≤ n) (fits : o + n ≤ length (contents old).bytes)
       (one : Performs contents honest calm (Write o k false) (replicate k 0) old (Ok []) mid) where

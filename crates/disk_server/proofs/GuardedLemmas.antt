@@ -14,6 +14,7 @@ use Rattle.nbd_stream.specs.declared.task.Task.TheVariants.{Flush, Read}
 use Rattle.nbd_stream.specs.Disk.{Contents, Idles, IsEither, MayAnswer, Performs, answer_from, error_for, Steps, bytes_after, bytes_given, count_given, with_bytes}
 use Rattle.nbd_stream.proofs.DiskLemmas.{before_it, inside_it, length-with_bytes, past_it}
 use Rattle.disk_server.specs.declared.guarded.GuardedSectors.{GuardedSectors}
+use Rattle.disk_server.specs.Asked.{HasZeros}
 use Rattle.disk_server.specs.Guarded.{GuardedByteLaw, GuardedReadLaw, HealsIfListed, guarded_byte, guarded_from, is_listed, no_byte, shown}
 use Rattle.disk_server.proofs.Tasks.{Answer, lasting}
 
@@ -152,7 +153,7 @@ shown_piece : (size n : ℕ) (lost : List Bool) (s : List ℕ) (k : ℕ) → get
 shown_piece size n lost s k is less within = at_there size lost s (n * size + k) within (ap (λ m. get_or lost m false) (inside size n (n * size + k) (omega arith) (omega (arith, less))) ∙ is)
 
 -- a range of bytes, byte by byte
-range_at : (s : List ℕ) (o c k : ℕ) → k < c → slice_index (slice_range s o (o + c)) k ≡ slice_index s (o + k)
+pub range_at : (s : List ℕ) (o c k : ℕ) → k < c → slice_index (slice_range s o (o + c)) k ≡ slice_index s (o + k)
 range_at s o c k less =
     let all : (o + c) - o ≡ c = omega arith in
     ap (λ m. slice_index (take m (drop o s)) k) all ∙ get_or-take c (drop o s) k 0 less ∙ get_or-drop o s k 0
@@ -170,6 +171,18 @@ shown_range size n lost s fits is =
     ext_get_or 0 (slice_range shown (n * size) (n * size + size)) (slice_range s (n * size) (n * size + size)) (given_long ∙ sym (range_long s (n * size) size fits))
     (λ k within. (let less : k < size = omega (arith, within, given_long) in
     range_at shown (n * size) size k less ∙ shown_piece size n lost s k is less (omega (arith, less, fits)) ∙ sym (range_at s (n * size) size k less)))
+
+-- so one that is shown as zeros is one of zeros, and none that is listed is
+pub shown_zeros : (size n : ℕ) (lost : List Bool) (s : List ℕ) → n * size + size ≤ length s → get_or lost n false ≡ false → HasZeros (n * size) size (guarded_from size lost 0 s) → HasZeros (n * size) size s
+shown_zeros size n lost s fits is zeros = λ place from to.
+    sym (at_there size lost s place (omega (arith, to, fits)) (ap (λ m. get_or lost m false) (inside size n place from to) ∙ is)) ∙ zeros place from to
+
+pub listed_zeros : (size n : ℕ) (lost : List Bool) (s : List ℕ) → 0 < size → n * size + size ≤ length s → get_or lost n false ≡ true → HasZeros (n * size) size (guarded_from size lost 0 s) → ⊥
+listed_zeros size n lost s some fits is zeros =
+    let none : slice_index (guarded_from size lost 0 s) (n * size) ≡ no_byte =
+    at_lost size lost s (n * size) (omega (arith, some, fits)) (ap (λ m. get_or lost m false) (inside size n (n * size) (omega arith) (omega (arith, some))) ∙ is) in
+    let zero : slice_index (guarded_from size lost 0 s) (n * size) ≡ 0 = zeros (n * size) (omega arith) (omega (arith, some)) in
+    omega (arith, none, zero)
 
 pub read_law : GuardedReadLaw
 read_law size lost bytes offset count place given fits from to is gives =

@@ -2,12 +2,13 @@
 use Rattle.std.proofs.Common.{◌≡◌, ◌<◌, ◌≤◌, ◌+◌, ◌-◌, ◌*◌, ◌/◌, ◌%◌, ◌⊎◌, inl, inr, ℕ, Bool, false, List, [], ◌++◌, length, take, drop, replicate}
 use Rattle.std.proofs.Common.{Result, Ok, Err, refl, sym, ap, ◌∙◌, subst, arith, append_assoc, append-nil, length-append, length-drop}
 use Rattle.std.specs.Prelude.{slice_index, slice_range, OnOk, OnErr}
-use Rattle.std.proofs.lemmas.List.{length-take-le}
+use Rattle.std.proofs.lemmas.List.{ext_get_or, length-take-le}
 use Rattle.nbd_stream.specs.declared.reply.RequestError.{RequestError}
 use Rattle.nbd_stream.specs.declared.task.Task.{Task}
 use Rattle.nbd_stream.specs.declared.task.Task.TheVariants.{Read, Write, Trim}
 use Rattle.nbd_stream.specs.Disk.{Contents, IsEither, Performs, Steps, with_bytes}
-use Rattle.disk_server.proofs.Bytes.{front_either, lent_back, part_read, part_set, place_is, range_more, sector_fits, with_more}
+use Rattle.disk_server.proofs.Bytes.{front_either, lent_back, part_read, part_set, place_is, range_more, sector_fits, set_same, with_more}
+use Rattle.disk_server.proofs.ReadingLemmas.{by_answer}
 
 abbrev pub Answer : Type 0
 Answer = Result (List ℕ) RequestError
@@ -145,6 +146,26 @@ steps_part part sector base start size n offset s m t answer within fits at one 
       lasts = any_ok answer (λ p no. (let never : ⊥ = cc in absurd never));
     }
 
+-- a sector that was read, whatever came of it, is as it was
+same_bytes : (o n : ℕ) (s t : Contents) (answer : Answer) → length t.bytes ≡ length s.bytes → Steps (Read o n) [] s answer t → t.bytes ≡ s.bytes
+same_bytes o n s t answer long steps = ext_get_or 0 t.bytes s.bytes long (λ p within. by_answer o n s t answer steps p)
+
+-- so a trim behind that is one of what was there
+steps_then : (o n o' n' : ℕ) (s m t : Contents) (answer answer' : Answer) → length m.bytes ≡ length s.bytes
+    → Steps (Read o n) [] s answer m → Steps (Trim o' n' false) [] m answer' t → Steps (Trim o' n' false) [] s answer' t
+steps_then o n o' n' s m t answer answer' long one two =
+    let due : List ℕ = with_bytes o' (replicate n' 0) s.bytes in
+    let next : List ℕ = with_bytes o' (replicate n' 0) m.bytes in
+    let is : next ≡ due = ap (with_bytes o' (replicate n' 0)) (same_bytes o n s m answer long one) in
+    let between : Between due next s m = same_between due next s m (same_bytes o n s m answer long one) is in
+    record {
+      done = ok_then answer' two.done (λ e. e ∙ is);
+      gave = two.gave;
+      torn = err_then answer' two.torn (λ torn p. torn_then due next s m between t.bytes p (torn p));
+      stays = λ p. stays_then due next s m between t p (unread_stays due s.bytes s.durable m.durable p (one.stays p)) (two.stays p);
+      lasts = any_ok answer' (λ p no. (let never : ⊥ = cc in absurd never));
+    }
+
 -- what the first step left is due
 done_between : (due : List ℕ) (s m : Contents) → m.bytes ≡ due → Between due m.bytes s m
 done_between due s m is = record {
@@ -232,6 +253,44 @@ module _ {D : Type 0} (contents : D → Contents) (honest calm : D → Bool) whe
     steps = λ h. let its = is.steps h in record { done = its.done; gave = its.gave; torn = its.torn; stays = its.stays; lasts = its.lasts };
   }
 
+  -- a sector was read, and is trimmed then
+  pub read_then : (o n o' n' : ℕ) (old mid new : D) (answer answer' : Answer) → OnOk answer' (honest mid ≡ honest old)
+      → Does (Read o n) [] old answer mid → Does (Trim o' n' false) [] mid answer' new → Does (Trim o' n' false) [] old answer' new
+  read_then o n o' n' old mid new answer answer' same one two = record {
+    sized = two.sized ∙ one.sized;
+    kept = ok_both answer' two.kept same (λ is is'. is ∙ is');
+    back = λ h. one.back (two.back h);
+    calm_is = two.calm_is ∙ one.calm_is;
+    fault = two.fault;
+    given = two.given;
+    calmly = λ h. two.calmly (one.calm_is ∙ h);
+    steps = λ h. steps_then o n o' n' (contents old) (contents mid) (contents new) answer answer' one.sized (one.steps (two.back h)) (two.steps h);
+  }
+
+  -- zeros that were read are what a trim would leave
+  pub read_clears : (o n : ℕ) (old new : D) → o + n ≤ length (contents old).bytes → Does (Read o n) [] old (Ok (replicate n 0)) new → Does (Trim o n false) [] old (Ok []) new
+  read_clears o n old new fits one = record {
+    sized = one.sized;
+    kept = one.kept;
+    back = one.back;
+    calm_is = one.calm_is;
+    fault = tt;
+    given = refl;
+    calmly = λ h. refl;
+    steps = λ h.
+        let its = one.steps h in
+        let s : List ℕ = (contents old).bytes in
+        let due : List ℕ = with_bytes o (replicate n 0) s in
+        let is : due ≡ s = ap (λ (l : List ℕ). with_bytes o l s) its.gave ∙ set_same s o n fits in
+        record {
+          done = its.done ∙ sym is;
+          gave = refl;
+          torn = tt;
+          stays = λ p. unread_stays due s (contents old).durable (contents new).durable p (its.stays p);
+          lasts = λ p no. (let never : ⊥ = cc in absurd never);
+        };
+  }
+
   -- ---- reads
 
   -- the bytes of a part of the sector that was read
@@ -301,3 +360,8 @@ module _ {D : Type 0} (contents : D → Contents) (honest calm : D → Bool) whe
         let same : given ≡ slice_range sector (offset % size) (offset % size + n) = is ∙ ap (λ (i : ℕ). slice_range sector i (i + n)) start_is in
         subst (λ (l : List ℕ). Does (Read offset n) [] old (Ok l) new) (sym same)
         (part_given sector ((offset / z) * size) (offset % size) n size offset old new inside sector_within stands_at long one)
+
+    pub piece_clears : (sector : List ℕ) → length sector ≡ size → take ((offset % z + n) - offset % z) (drop (offset % z) sector) ≡ replicate n 0
+        → Does (Read ((offset / z) * size) size) [] old (Ok sector) new → Does (Trim offset n false) [] old (Ok []) new
+    piece_clears sector long are one =
+        read_clears offset n old new (omega (arith, sector_within, stands_at, start_is, inside)) (piece_given sector (replicate n 0) long (sym are) one)

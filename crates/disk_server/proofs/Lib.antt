@@ -17,3 +17,5 @@ pub mod SyncLemmas
 pub mod ReadingLemmas
 pub mod GuardLemmas
 pub mod GuardedLemmas
+pub mod ClearLemmas
+pub mod SyncedLemmas

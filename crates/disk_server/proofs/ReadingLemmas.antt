@@ -58,7 +58,7 @@ unread : (old new durable : List ℕ) (place : ℕ) → IsEither old old new pla
 unread old new durable place (inl is) = is
 unread old new durable place (inr is) = is
 
-by_answer : (offset count : ℕ) (s t : Contents) (answer : Result (List ℕ) RequestError) → Steps (Read offset count) [] s answer t
+pub by_answer : (offset count : ℕ) (s t : Contents) (answer : Result (List ℕ) RequestError) → Steps (Read offset count) [] s answer t
     → (place : ℕ) → slice_index t.bytes place ≡ slice_index s.bytes place
 by_answer offset count s t (Ok bytes) steps place = ap (λ all. slice_index all place) steps.done
 by_answer offset count s t (Err e) steps place = unread s.bytes t.bytes [] place (steps.torn place)

@@ -1,9 +1,14 @@
--- A disk that was flushed and opened again has the bytes that it had.
-use Rattle.std.proofs.Common.{◌≡◌, inr, ℕ, Bool, true, List, Result, Ok, Err, IfOk, IfErr, ◌∙◌, subst}
+-- A disk that was flushed and opened again: its bytes, and with which cache.
+use Rattle.std.proofs.Common.{◌≡◌, ◌≢◌, inl, inr, ℕ, Bool, true, false, List, Result, Ok, Err, IfOk, IfErr, sym, ◌∙◌, subst}
+use Rattle.onfi_cycles.specs.Driver.{DriverState}
+use Rattle.file_die.specs.Die.{FileState}
 use Rattle.file_die.specs.Store.{Held}
+use Rattle.image_check.specs.declared.refusal.Refusal.TheVariants.{Source, TooStale}
+use Rattle.ftl_device.specs.declared.device.Device.{Device}
 use Rattle.disk_server.specs.declared.opened.OpenStoreFault.{OpenStoreFault}
-use Rattle.disk_server.specs.Opened.{IsUnopened}
-use Rattle.disk_server.specs.Stopped.{HasRoomFor, IsUnopenedLater, WasStale}
+use Rattle.disk_server.specs.declared.opened.OpenStoreFault.TheVariants as why
+use Rattle.disk_server.specs.Opened.{ComesBack, IsUnopened}
+use Rattle.disk_server.specs.Stopped.{AsksToFlush, HasRoomFor, IsLastFault, IsOpenedBy, IsOpenedEither, IsOpenedFlushed, IsOpenedNeither, IsOpenedWith, IsStale, IsUnopenedLater, IsUnopenedStale}
 
 -- with H for an honest store, A for a disk that held its array once it was flushed, G for the store that came of it, honest; and the bytes of each
 pub reopened : {D E : Type 0} (bytes : D → List ℕ) (H A G : Type 0) (was back : List ℕ)
@@ -18,14 +23,81 @@ pub held_again : {D E : Type 0} (holds : D → Bool) (H : Type 0) (given : Bool)
 held_again holds H given (Ok d) is opened = λ h. opened ∙ is h
 held_again holds H given (Err e) is opened = tt
 
--- a store that was refused for its stale sectors
-pub was_stale : {S : Type 0} (held : S → Held) (honest : S → Bool) (failed : S → ℕ) (store given : S) (capacity stale : ℕ) (fault : OpenStoreFault)
-    → HasRoomFor fault stale → IsUnopened held honest failed store capacity given fault → WasStale held honest store capacity
-was_stale held honest failed store given capacity stale fault room is =
-    (stale, room.capacity, subst (IsUnopened held honest failed store capacity given) room.is is)
+-- ---- a store that was refused for its stale sectors
 
--- what a later attempt tells
-pub later : {S A : Type 0} (held : S → Held) (honest : S → Bool) (failed : S → ℕ) (store : S) (capacity : ℕ) (result : Result A OpenStoreFault)
-    → WasStale held honest store capacity → IfErr result (IsUnopenedLater held honest failed store capacity)
-later held honest failed store capacity (Ok x) was = tt
-later held honest failed store capacity (Err fault) was = inr was
+no_reset : (stale asked : ℕ) → why.Mount (TooStale stale asked) ≢ why.Reset
+no_reset stale asked = λ e. cc
+
+no_source : (stale asked : ℕ) → why.Mount (TooStale stale asked) ≢ why.Mount Source
+no_source stale asked = λ e. cc
+
+-- it came back as it was
+pub was_stale : {S : Type 0} (held : S → Held) (honest : S → Bool) (failed : S → ℕ) (store given : S) (capacity stale : ℕ) (fault : OpenStoreFault)
+    → HasRoomFor fault stale → IsUnopened held honest failed store capacity given fault → ComesBack held honest store fault given → IsStale held honest store capacity stale given
+was_stale held honest failed store given capacity stale fault room is back = record {
+  asked = room.capacity;
+  refuses = subst (IsUnopened held honest failed store capacity given) room.is is;
+  come = record {
+    as_honest = back.as_honest;
+    geometry = λ h. back.geometry h (λ e. no_reset stale room.capacity (sym room.is ∙ e));
+    pages = λ h. back.pages h (λ e. no_reset stale room.capacity (sym room.is ∙ e)) (λ e. no_source stale room.capacity (sym room.is ∙ e));
+  };
+  least = room.least;
+  most = room.most;
+}
+
+-- ---- one that was flushed
+
+module _ {S A : Type 0} (held : S → Held) (honest : S → Bool) (failed : S → ℕ) (entries : A → ℕ) (capacity stale : ℕ) (left : Device (DriverState (FileState S)))
+    (asks : AsksToFlush held honest stale (Ok tt) left) (given : S) (is : given ≡ left.engine.nand.bus.store) where
+  pub then_opened : (result : Result A OpenStoreFault) → IfOk result (λ d. IsOpenedEither held honest given capacity stale (entries d)) → IfOk result (λ d. IsOpenedFlushed held honest capacity stale (entries d))
+  then_opened (Ok d) either = (left, asks, subst (λ s. IsOpenedEither held honest s capacity stale (entries d)) is either)
+  then_opened (Err e) either = tt
+
+  pub then_unopened : (store : S) (result : Result A OpenStoreFault) → IfErr result (IsOpenedNeither held honest failed given capacity stale) → IfErr result (IsUnopenedStale held honest failed store capacity stale)
+  then_unopened store (Ok d) neither = tt
+  then_unopened store (Err e) neither = inr (inr (left, asks, subst (λ s. IsOpenedNeither held honest failed s capacity stale e) is neither))
+
+-- once more: not with as many entries as were stale before
+pub neither : {S A : Type 0} (held : S → Held) (honest : S → Bool) (failed : S → ℕ) (store given : S) (capacity again stale : ℕ) (result : Result A OpenStoreFault)
+    → IsStale held honest store capacity again given → IfErr result (IsLastFault held honest failed given stale) → IfErr result (IsOpenedNeither held honest failed store capacity stale)
+neither held honest failed store given capacity again stale (Ok d) was last = tt
+neither held honest failed store given capacity again stale (Err e) was last = inr (again, given, was, last)
+
+pub either : {S A : Type 0} (held : S → Held) (honest : S → Bool) (entries : A → ℕ) (store given : S) (capacity again stale : ℕ) (result : Result A OpenStoreFault)
+    → IsStale held honest store capacity again given → IfOk result (λ d. entries d ≡ stale) → IfOk result (λ d. IsOpenedEither held honest store capacity stale (entries d))
+either held honest entries store given capacity again stale (Ok d) was is = inr ((again, given, was), is)
+either held honest entries store given capacity again stale (Err e) was is = tt
+
+-- ---- what a later attempt comes to
+
+pub opened_later : {S A : Type 0} (held : S → Held) (honest : S → Bool) (entries : A → ℕ) (writes : Bool) (store given : S) (capacity stale : ℕ) (result : Result A OpenStoreFault)
+    → IsStale held honest store capacity stale given → IfOk result (λ d. IsOpenedBy held honest writes capacity stale (entries d))
+    → IfOk result (λ d. IsOpenedWith held honest writes store capacity (entries d))
+opened_later held honest entries writes store given capacity stale (Ok d) was is = inr (stale, given, was, is)
+opened_later held honest entries writes store given capacity stale (Err e) was is = tt
+
+pub by_writes : {S A : Type 0} (held : S → Held) (honest : S → Bool) (entries : A → ℕ) (writes : Bool) (capacity stale : ℕ) (result : Result A OpenStoreFault) → writes ≡ true
+    → IfOk result (λ d. IsOpenedFlushed held honest capacity stale (entries d)) → IfOk result (λ d. IsOpenedBy held honest writes capacity stale (entries d))
+by_writes held honest entries writes capacity stale (Ok d) write is = subst (λ b. IsOpenedBy held honest b capacity stale (entries d)) (sym write) is
+by_writes held honest entries writes capacity stale (Err e) write is = tt
+
+pub by_reads : {S A : Type 0} (held : S → Held) (honest : S → Bool) (entries : A → ℕ) (writes : Bool) (capacity stale : ℕ) (result : Result A OpenStoreFault) → writes ≡ false
+    → IfOk result (λ d. entries d ≡ stale) → IfOk result (λ d. IsOpenedBy held honest writes capacity stale (entries d))
+by_reads held honest entries writes capacity stale (Ok d) read is = subst (λ b. IsOpenedBy held honest b capacity stale (entries d)) (sym read) is
+by_reads held honest entries writes capacity stale (Err e) read is = tt
+
+pub later : {S A : Type 0} (held : S → Held) (honest : S → Bool) (failed : S → ℕ) (store given : S) (capacity stale : ℕ) (result : Result A OpenStoreFault)
+    → IsStale held honest store capacity stale given → IfErr result (IsUnopenedStale held honest failed given capacity stale) → IfErr result (IsUnopenedLater held honest failed store capacity)
+later held honest failed store given capacity stale (Ok d) was is = tt
+later held honest failed store given capacity stale (Err e) was is = inr (stale, given, was, is)
+
+pub last_fault : {S A : Type 0} (held : S → Held) (honest : S → Bool) (failed : S → ℕ) (store : S) (capacity stale : ℕ) (result : Result A OpenStoreFault)
+    → IfErr result (IsLastFault held honest failed store stale) → IfErr result (IsUnopenedStale held honest failed store capacity stale)
+last_fault held honest failed store capacity stale (Ok d) is = tt
+last_fault held honest failed store capacity stale (Err e) is = inl is
+
+-- the pages, by whether they may be written
+pub unwritten : {A : Type 0} (P Q : A → Type 0) (writes : Bool) (result : Result A OpenStoreFault) → writes ≡ true → IfOk result (λ d. writes ≡ false → P d → Q d)
+unwritten P Q writes (Ok d) write = λ read. (let both : true ≡ false = sym write ∙ read in (let never : ⊥ = cc in absurd never))
+unwritten P Q writes (Err e) write = tt

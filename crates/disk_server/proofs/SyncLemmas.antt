@@ -1,5 +1,5 @@
 -- What a change comes to in syncs.
-use Rattle.std.proofs.Common.{◌≡◌, ◌⊎◌, inl, inr, ℕ, Bool, ◌<◌, ◌≤◌, ◌+◌, ◌-◌, ◌*◌, ◌%◌, ◌^◌, true, false, Result, Ok, Err, OnOk, refl, sym, subst, ap, ◌∙◌, arith}
+use Rattle.std.proofs.Common.{◌≡◌, ◌⊎◌, inl, inr, ℕ, Bool, ◌<◌, ◌≤◌, ◌+◌, ◌-◌, ◌*◌, ◌%◌, ◌^◌, false, Result, Ok, Err, refl, sym, subst, ap, ◌∙◌, arith}
 use Rattle.std.specs.Prelude.{min, max}
 use Rattle.std.specs.Int.{div_ceil}
 use Rattle.std.proofs.Math.Nat.{add-mul, one-mul, mul-le-mul_right}
@@ -18,7 +18,7 @@ rise a b c most more = elim (cases_lt b (2 ^ 64 - 1)) [
   | inr high ↦ inr (omega (arith, more, high))
 ]
 
-no_less : (a b c : ℕ) → (a ≤ b) ⊎ (b ≡ 2 ^ 64 - 1) → c ≡ counted b → HasRisen a c
+pub no_less : (a b c : ℕ) → (a ≤ b) ⊎ (b ≡ 2 ^ 64 - 1) → c ≡ counted b → HasRisen a c
 no_less a b c (inl most) more = rise a b c most more
 no_less a b c (inr last) more = inr (omega (arith, last, more))
 
@@ -60,12 +60,12 @@ then_failed failed old mid new before (inr one) = inr (record { kept = one.kept;
 
 -- ---- what is marked
 
--- with a sync that was due: the sequence that is next on the disk
-pub marked_due : {D Y : Type 0} (marked : Y → Mark) (next : D → ℕ) (takes : D → Bool) (old new : SyncedDisk D Y) (result : Result (Unit {0}) DiskFault)
-    → Marks marked next takes true old result new → OnOk result ((marked new.syncs).synced ≡ next new.disk)
-marked_due marked next takes old new (Ok done) (inl is) = ap (λ (m : Mark). m.synced) is.1
-marked_due marked next takes old new (Ok done) (inr none) = absurd (none.0 (inl refl))
-marked_due marked next takes old new (Err e) is = tt
+-- no sync marks more as flushed
+pub unflushed : {D Y : Type 0} (marked : Y → Mark) (next : D → ℕ) (durable : Bool) (old new : SyncedDisk D Y) (result : Result (Unit {0}) DiskFault)
+    → Marks marked next durable old result new → (marked new.syncs).flushed ≡ (marked old.syncs).flushed
+unflushed marked next durable old new (Ok done) (inl due) = ap (λ (m : Mark). m.flushed) due.1
+unflushed marked next durable old new (Ok done) (inr none) = ap (λ (m : Mark). m.flushed) none.1
+unflushed marked next durable old new (Err e) is = ap (λ (m : Mark). m.flushed) is
 
 -- ---- what counts as changed
 

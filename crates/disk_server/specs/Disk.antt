@@ -1,16 +1,19 @@
 -- A DEVICE AS SECTORS OF A DISK: whether it still holds its array, and the array as bytes.
-use Rattle.std.specs.Prelude.{◌≡◌, ◌≤◌, ◌-◌, ◌^◌, ◌==◌, ◌&&◌, not, ℕ, Bool, true, List, replicate, Option, None, Result, Ok, Err, OnOk, OnErr, if◌then◌else◌}
+use Rattle.std.specs.Prelude.{◌≡◌, ◌≢◌, ◌⊎◌, ◌≤◌, ◌-◌, ◌*◌, ◌^◌, ◌==◌, ◌&&◌, not, ℕ, Bool, true, false, List, [], replicate, Option, None, Result, Ok, Err, OnOk, OnErr, if◌then◌else◌}
 use Rattle.std.specs.Option.{is_none}
 use Rattle.page_layout.specs.Array.{zeros}
 use Rattle.page_layout.specs.Flash.{Flash}
+use Rattle.page_layout.specs.OnlyReads.{OnlyReads}
 use Rattle.page_layout.specs.Recording.{Recording}
+use Rattle.promises.specs.Step as step
 use Rattle.promises.specs.Step.{Command, Flush, Turn}
 use Rattle.allocation.specs.State.{free_count}
 use Rattle.collection.specs.Collect.{HasAiling, HasNoneAiling}
 use Rattle.collection.specs.Safe.{ram}
 use Rattle.nbd_stream.specs.declared.fault.DiskFault.{DiskFault}
 use Rattle.nbd_stream.specs.declared.fault.DiskFault.TheVariants as fault
-use Rattle.nbd_stream.specs.Disk.{Contents}
+use Rattle.nbd_stream.specs.declared.task.Task.TheVariants.{Read}
+use Rattle.nbd_stream.specs.Disk.{Contents, Performs, answer_from}
 use Rattle.disk_server.specs.Flat.{flat}
 use Rattle.ftl_device.specs.declared.device.Device.{Device}
 use Rattle.ftl_device.specs.declared.fault.DeviceFault.{DeviceFault}
@@ -94,6 +97,17 @@ pub record AsksChange {N : Type 0} (flash : N → Flash) (recorded : N → Optio
   pub answer : Result (Unit {0}) DeviceFault
   pub told : result ≡ change_answer answer
   pub changes : Changes flash recorded honest calm failed n command old answer new
+
+-- or a sector to be cleared: a read that gave zeros, and nothing else; or a read that did not, or failed, and then a trim
+pub record AsksClear {N : Type 0} (flash : N → Flash) (recorded : N → Option Recording) (honest calm : N → Bool) (programs erases failed : N → ℕ) (n : ℕ) (old : Device N) (result : Result (Unit {0}) DiskFault) (new : Device N)
+    : Type 0 where
+  pub mid : Device N
+  pub answer : Result (Unit {0}) DiskFault
+  pub given : List ℕ
+  pub read : Performs (contents_of flash honest) (holds honest) (λ d. false) (Read (n * old.engine.geometry.data_bytes) old.engine.geometry.data_bytes) [] old (answer_from answer given) mid
+  pub only_reads : OnlyReads flash honest calm programs erases failed old.engine.nand mid.engine.nand
+  pub trims : ((answer ≡ Ok tt) × (given ≡ replicate old.engine.geometry.data_bytes 0) × (result ≡ Ok tt) × (new ≡ mid))
+      ⊎ (((answer ≡ Ok tt → given ≢ replicate old.engine.geometry.data_bytes 0) × AsksChange flash recorded honest calm failed n (step.Trim n) mid result new))
 
 -- or a flush
 pub record AsksFlush {N : Type 0} (flash : N → Flash) (recorded : N → Option Recording) (honest calm : N → Bool) (failed : N

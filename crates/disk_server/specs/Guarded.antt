@@ -59,11 +59,11 @@ IsRefused old result new = (result ≡ Err fault.Failed) × (new ≡ old)
 abbrev pub ReadsGuarded : {S K : Type 0} → (reads : S → S → Type 0) → (old new : GuardedSectors S K) → Type 0
 ReadsGuarded reads old new = (new ≡ old) ⊎ (reads old.sectors new.sectors × KeepsList old new)
 
--- a rest is one of the device; after a list that was not kept there is none
-abbrev pub RestsGuarded : {S K : Type 0} → (rests : S → Result (Unit {0}) DiskFault → S → Type 0) → GuardedSectors S K → Result (Unit {0}) DiskFault → GuardedSectors S K → Type 0
-RestsGuarded rests old result new =
+-- A FLUSH AND A REST ARE ONE OF THE DEVICE, as this says of such a one, and the list stays; after a list that was not kept nothing is asked
+abbrev pub PassesOn : {S K : Type 0} → (is : S → Result (Unit {0}) DiskFault → S → Type 0) → GuardedSectors S K → Result (Unit {0}) DiskFault → GuardedSectors S K → Type 0
+PassesOn is old result new =
     ((old.failed ≡ true) × IsRefused old result new)
-    ⊎ ((old.failed ≡ false) × rests old.sectors result new.sectors × KeepsList old new)
+    ⊎ ((old.failed ≡ false) × is old.sectors result new.sectors × KeepsList old new)
 
 -- SECTOR n IS TAKEN OFF THE LIST, AND THE REST OF THE LIST LASTS
 pub record Heals {S K : Type 0} (kept : K → List Bool) (n : ℕ) (old new : GuardedSectors S K) : Type 0 where

@@ -2,6 +2,8 @@
 pub mod Flat
 -- the block device as a device of sectors
 pub mod Disk
+-- what is asked of it
+pub mod Asked
 -- of which some are lost
 pub mod Guarded
 pub mod Laws

@@ -1,11 +1,16 @@
--- A DIE THAT MAY HAVE BEEN STOPPED.
-use Rattle.std.specs.Prelude.{◌≡◌, ◌≤◌, ◌⊎◌, ℕ, Bool, true}
+-- A DIE THAT MAY HAVE BEEN STOPPED: with which cache it is opened, and why it is not.
+use Rattle.std.specs.Prelude.{◌≡◌, ◌≤◌, ◌⊎◌, ℕ, Bool, true, false, Option, Some, None, Result, Ok, Err}
+use Rattle.onfi_cycles.specs.Driver.{DriverState}
+use Rattle.file_die.specs.Die.{FileState}
 use Rattle.file_die.specs.Store.{Held}
 use Rattle.image_check.specs.declared.refusal.Refusal.TheVariants.{TooStale}
 use Rattle.mount.specs.Mounted.{Refuses}
+use Rattle.nbd_stream.specs.declared.fault.DiskFault.{DiskFault}
+use Rattle.ftl_device.specs.declared.device.Device.{Device}
 use Rattle.disk_server.specs.declared.opened.OpenStoreFault.{OpenStoreFault}
-use Rattle.disk_server.specs.declared.opened.OpenStoreFault.TheVariants.{Mount}
-use Rattle.disk_server.specs.Opened.{IsUnopened}
+use Rattle.disk_server.specs.declared.opened.OpenStoreFault.TheVariants.{Flush, Mount}
+use Rattle.disk_server.specs.Disk.{AsksFlush}
+use Rattle.disk_server.specs.Opened.{HasCome, IsUnopened, flash_in, is_honest_in}
 
 -- a store was refused for its stale sectors, and a cache of so many entries would have room for them
 pub record HasRoomFor (fault : OpenStoreFault) (stale : ℕ) : Type 0 where
@@ -14,12 +19,70 @@ pub record HasRoomFor (fault : OpenStoreFault) (stale : ℕ) : Type 0 where
   pub least : 1 ≤ stale
   pub most : stale ≤ 65536
 
--- its pages have more stale sectors than the cache has room for
-abbrev pub WasStale : {S : Type 0} → (S → Held) → (honest : S → Bool) → S → (capacity : ℕ) → Type 0
-WasStale held honest store capacity = (stale asked : ℕ) × (honest store ≡ true → Refuses (held store).geometry capacity (held store).pages (TooStale stale asked))
+-- THE ENTRIES OF A CACHE THAT WOULD HAVE ROOM, where there is one
+abbrev pub IsRoomIn : (fault : OpenStoreFault) → Option ℕ → Type 0
+IsRoomIn fault (Some stale) = HasRoomFor fault stale
+IsRoomIn fault None = (stale : ℕ) → ¬ HasRoomFor fault stale
 
--- why there is none: what is told is so of the store; or it was refused for its stale sectors, and what is told came of a later attempt
+-- its pages have so many stale sectors, more than the cache has room for, and came back as they were
+pub record IsStale {S : Type 0} (held : S → Held) (honest : S → Bool) (store : S) (capacity stale : ℕ) (given : S) : Type 0 where
+  pub asked : ℕ
+  pub refuses : honest store ≡ true → Refuses (held store).geometry capacity (held store).pages (TooStale stale asked)
+  pub come : HasCome held honest store given
+  pub least : 1 ≤ stale
+  pub most : stale ≤ 65536
+
+-- a store was opened with so many entries, and its device was asked for one flush
+pub record AsksToFlush {S : Type 0} (held : S → Held) (honest : S → Bool) (entries : ℕ) (answer : Result (Unit {0}) DiskFault) (left : Device (DriverState (FileState S))) : Type 0 where
+  pub opened : Device (DriverState (FileState S))
+  pub entries_are : opened.engine.mapping.capacity ≡ entries
+  pub flush : AsksFlush (flash_in held) (λ d. None) (is_honest_in honest) (λ d. false) (λ d. d.failures) opened answer left
+
+-- ---- it is opened
+
+-- once it was flushed: with so many entries; or with as many as were stale before, where its pages still have too many stale sectors
+abbrev pub IsOpenedEither : {S : Type 0} → (S → Held) → (honest : S → Bool) → S → (capacity stale entries : ℕ) → Type 0
+IsOpenedEither {S} held honest store capacity stale entries =
+    (entries ≡ capacity) ⊎ (((again : ℕ) × (given : S) × IsStale held honest store capacity again given) × (entries ≡ stale))
+
+abbrev pub IsOpenedFlushed : {S : Type 0} → (S → Held) → (honest : S → Bool) → (capacity stale entries : ℕ) → Type 0
+IsOpenedFlushed {S} held honest capacity stale entries =
+    (left : Device (DriverState (FileState S))) × AsksToFlush held honest stale (Ok tt) left × IsOpenedEither held honest left.engine.nand.bus.store capacity stale entries
+
+abbrev pub IsOpenedBy : {S : Type 0} → (S → Held) → (honest : S → Bool) → (writes : Bool) → (capacity stale entries : ℕ) → Type 0
+IsOpenedBy held honest true capacity stale entries = IsOpenedFlushed held honest capacity stale entries
+IsOpenedBy held honest false capacity stale entries = entries ≡ stale
+
+-- WITH ITS OWN CACHE; or it has too many stale sectors, and is opened with as many entries, flushed where it is to be written, and opened again
+abbrev pub IsOpenedWith : {S : Type 0} → (S → Held) → (honest : S → Bool) → (writes : Bool) → S → (capacity entries : ℕ) → Type 0
+IsOpenedWith {S} held honest writes store capacity entries =
+    (entries ≡ capacity) ⊎ ((stale : ℕ) × (given : S) × IsStale held honest store capacity stale given × IsOpenedBy held honest writes capacity stale entries)
+
+-- ---- it is not
+
+-- what the last attempt tells
+abbrev pub IsLastFault : {S : Type 0} → (S → Held) → (honest : S → Bool) → (failed : S → ℕ) → S → (capacity : ℕ) → OpenStoreFault → Type 0
+IsLastFault {S} held honest failed store capacity fault = (given : S) × IsUnopened held honest failed store capacity given fault
+
+-- which no larger cache mends
+abbrev pub IsFault : {S : Type 0} → (S → Held) → (honest : S → Bool) → (failed : S → ℕ) → S → (capacity : ℕ) → OpenStoreFault → Type 0
+IsFault held honest failed store capacity fault = IsLastFault held honest failed store capacity fault × ((stale : ℕ) → ¬ HasRoomFor fault stale)
+
+-- once it was flushed: not with so many entries, nor with as many as were stale before
+abbrev pub IsOpenedNeither : {S : Type 0} → (S → Held) → (honest : S → Bool) → (failed : S → ℕ) → S → (capacity stale : ℕ) → OpenStoreFault → Type 0
+IsOpenedNeither {S} held honest failed store capacity stale fault =
+    IsFault held honest failed store capacity fault
+    ⊎ ((again : ℕ) × (given : S) × IsStale held honest store capacity again given × IsLastFault held honest failed given stale fault)
+
+-- A STORE WITH SO MANY STALE SECTORS is not opened with as many entries; or its device failed its flush; or it is not opened again
+abbrev pub IsUnopenedStale : {S : Type 0} → (S → Held) → (honest : S → Bool) → (failed : S → ℕ) → S → (capacity stale : ℕ) → OpenStoreFault → Type 0
+IsUnopenedStale {S} held honest failed store capacity stale fault =
+    IsLastFault held honest failed store stale fault
+    ⊎ (((e : DiskFault) × (left : Device (DriverState (FileState S))) × AsksToFlush held honest stale (Err e) left × (fault ≡ Flush))
+    ⊎ ((left : Device (DriverState (FileState S))) × AsksToFlush held honest stale (Ok tt) left × IsOpenedNeither held honest failed left.engine.nand.bus.store capacity stale fault))
+
+-- WHY IT IS NOT OPENED: what is told is so of the store, and no larger cache mends it; or it has too many stale sectors, and why it is not opened with a larger one
 abbrev pub IsUnopenedLater : {S : Type 0} → (S → Held) → (honest : S → Bool) → (failed : S → ℕ) → S → (capacity : ℕ) → OpenStoreFault → Type 0
 IsUnopenedLater {S} held honest failed store capacity fault =
-    ((given : S) × IsUnopened held honest failed store capacity given fault)
-    ⊎ WasStale held honest store capacity
+    IsFault held honest failed store capacity fault
+    ⊎ ((stale : ℕ) × (given : S) × IsStale held honest store capacity stale given × IsUnopenedStale held honest failed given capacity stale fault)

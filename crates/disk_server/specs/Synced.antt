@@ -1,10 +1,13 @@
 -- WHETHER A SYNC WAS DONE, and what a client is told of a disk.
-use Rattle.std.specs.Prelude.{◌≡◌, ◌⊎◌, ◌<◌, ◌≤◌, ◌+◌, ◌-◌, ◌^◌, ◌%◌, ◌&&◌, ℕ, Bool, true, false, min, max, Result, Ok, Err, if◌then◌else◌}
+use Rattle.std.specs.Prelude.{◌≡◌, ◌⊎◌, ◌<◌, ◌≤◌, ◌+◌, ◌-◌, ◌^◌, ◌%◌, ℕ, Bool, true, false, min, max, Result, Ok, Err, OnOk, OnErr, if◌then◌else◌}
 use Rattle.std.specs.Int.{div_ceil}
 use Rattle.page_layout.specs.Counter.{counted, HasRisen}
 use Rattle.nbd_stream.specs.declared.export.Export.{Export}
 use Rattle.nbd_stream.specs.declared.fault.DiskFault.{DiskFault}
 use Rattle.nbd_stream.specs.declared.fault.DiskFault.TheVariants as fault
+use Rattle.nbd_stream.specs.declared.task.Task.{Task}
+use Rattle.nbd_stream.specs.declared.task.Task.TheVariants.{Read, Write, Flush, Trim, WriteZeroes}
+use Rattle.nbd_stream.specs.Through.{Through}
 use Rattle.disk_server.specs.declared.mark.Mark.{Mark}
 use Rattle.disk_server.specs.declared.served.Offer.{Offer}
 use Rattle.disk_server.specs.declared.synced.SyncedDisk.{SyncedDisk}
@@ -73,13 +76,12 @@ pub record EndsSynced {D Y : Type 0} (synced : Y → ℕ) (durable : Bool) (offs
 abbrev pub after_sync : (next : ℕ) → (flushed : Bool) → Mark → Mark
 after_sync next flushed m = record { synced = next; flushed = if flushed then next else m.flushed }
 
--- WHAT IS MARKED WITH A SYNC THAT WAS DUE: all that the disk had programmed by then; and that it was flushed, where what was done is to last and the disk still takes changes. Without one,
--- and after one that failed, the mark is the one before
-abbrev pub Marks : {D Y : Type 0} → (marked : Y → Mark) → (next : D → ℕ) → (takes : D → Bool) → (durable : Bool) → (old : SyncedDisk D Y) → Result (Unit {0}) DiskFault → (new : SyncedDisk D Y) → Type 0
-Marks marked next takes durable old (Ok done) new =
-    (IsDue durable old × (marked new.syncs ≡ after_sync (next new.disk) (durable && takes new.disk) (marked old.syncs)))
+-- WHAT IS MARKED WITH A SYNC THAT WAS DUE: all that the disk had programmed by then, and no flush of it. Without one, and after one that failed, the mark is the one before
+abbrev pub Marks : {D Y : Type 0} → (marked : Y → Mark) → (next : D → ℕ) → (durable : Bool) → (old : SyncedDisk D Y) → Result (Unit {0}) DiskFault → (new : SyncedDisk D Y) → Type 0
+Marks marked next durable old (Ok done) new =
+    (IsDue durable old × (marked new.syncs ≡ after_sync (next new.disk) false (marked old.syncs)))
     ⊎ ((¬ IsDue durable old) × (marked new.syncs ≡ marked old.syncs))
-Marks marked next takes durable old (Err e) new = marked new.syncs ≡ marked old.syncs
+Marks marked next durable old (Err e) new = marked new.syncs ≡ marked old.syncs
 
 -- ---- a sync that failed
 
@@ -98,11 +100,112 @@ abbrev pub Notes : {D Y : Type 0} → (failed : Y → ℕ) → (old : SyncedDisk
 Notes failed old (Ok done) new = NoneFailed failed old new
 Notes failed old (Err e) new = NoneFailed failed old new ⊎ OneFailed failed old new
 
+-- NOTHING IS ASKED of the disk, nor of its syncs
+abbrev pub IsOver : {D Y : Type 0} → (old : SyncedDisk D Y) → Result (Unit {0}) DiskFault → (new : SyncedDisk D Y) → Type 0
+IsOver old result new = (result ≡ Err fault.Failed) × (new ≡ old)
+
 -- A REST is one of the disk; after a sync that failed there is none
 abbrev pub RestsSynced : {D Y : Type 0} → (rests : D → Result (Unit {0}) DiskFault → D → Type 0) → SyncedDisk D Y → Result (Unit {0}) DiskFault → SyncedDisk D Y → Type 0
 RestsSynced rests old result new =
-    ((old.failed ≡ true) × (result ≡ Err fault.Failed) × (new ≡ old))
+    ((old.failed ≡ true) × IsOver old result new)
     ⊎ ((old.failed ≡ false) × rests old.disk result new.disk × KeepsSyncs old new)
+
+-- ---- a task
+
+-- a disk was asked this, and answered it or failed
+abbrev pub Asks : {D : Type 0} → (does : D → Task → Result (Unit {0}) DiskFault → D → Type 0) → Task → (old new : D) → Type 0
+Asks does task old new = (answer : Result (Unit {0}) DiskFault) × does old task answer new
+
+-- A CHANGE, counted already, and the sync behind it: where one was due it was done, after all that was written before, as its mark tells; after an error there was none
+pub record EndsChange {D Y : Type 0} (synced : Y → ℕ) (marked : Y → Mark) (next : D → ℕ) (durable : Bool) (counted : SyncedDisk D Y) (result : Result (Unit {0}) DiskFault) (new : SyncedDisk D Y) : Type 0 where
+  pub synced_if_due : OnOk result (HasSynced synced durable counted new)
+  pub unsynced : OnErr result (IsUnsynced synced counted new)
+  pub marks : Marks marked next durable counted result new
+
+-- so many bytes of a range were cleared, which were not told to last
+abbrev pub ClearsPart : {D : Type 0} → (does : D → Task → Result (Unit {0}) DiskFault → D → Type 0) → (offset count : ℕ) → (old new : D) → Type 0
+ClearsPart does offset count old new = (place taken : ℕ) × (offset ≤ place) × (place + taken ≤ offset + count) × Asks does (Trim place taken false) old new
+
+-- A RANGE TO BE CLEARED, and the syncs within it and behind it; the last one, where it is to last, was done after all of it
+pub record EndsCleared {D Y : Type 0} (does : D → Task → Result (Unit {0}) DiskFault → D → Type 0) (synced : Y → ℕ) (marked : Y → Mark) (next : D → ℕ) (durable : Bool) (offset count : ℕ)
+    (old : SyncedDisk D Y) (result : Result (Unit {0}) DiskFault) (new : SyncedDisk D Y) : Type 0 where
+  pub parts : Through (ClearsPart does offset count) old.disk new.disk
+  pub ends : OnOk result (EndsSynced synced durable offset count old new)
+  pub marked_last : OnOk result (durable ≡ true → (marked new.syncs).synced ≡ next new.disk)
+  pub unflushed : (marked new.syncs).flushed ≡ (marked old.syncs).flushed
+
+-- WHAT A TASK IS TO A DISK AND ITS SYNCS, where no sync failed before: a read and a write are one of the disk, which is not told that it is to last; a flush asks nothing of the disk, and is a sync
+abbrev pub EndsTask : {D Y : Type 0} → (does : D → Task → Result (Unit {0}) DiskFault → D → Type 0) → (synced : Y → ℕ) → (marked : Y → Mark) → (next : D → ℕ)
+    → (old : SyncedDisk D Y) → Task → Result (Unit {0}) DiskFault → (new : SyncedDisk D Y) → Type 0
+EndsTask does synced marked next old (Read offset count) result new = does old.disk (Read offset count) result new.disk × KeepsSyncs old new
+EndsTask does synced marked next old (Write offset count durable) result new = Asks does (Write offset count false) old.disk new.disk × EndsChange synced marked next durable (after_change offset count old) result new
+EndsTask does synced marked next old Flush result new = (new.disk ≡ old.disk) × EndsChange synced marked next true old result new
+EndsTask does synced marked next old (Trim offset count durable) result new = EndsCleared does synced marked next durable offset count old result new
+EndsTask does synced marked next old (WriteZeroes offset count durable) result new = EndsCleared does synced marked next durable offset count old result new
+
+-- WHAT A CALL IS, beside the bytes
+pub record SyncsTask {D Y : Type 0} (does : D → Task → Result (Unit {0}) DiskFault → D → Type 0) (synced failed : Y → ℕ) (marked : Y → Mark) (next : D → ℕ)
+    (old : SyncedDisk D Y) (task : Task) (result : Result (Unit {0}) DiskFault) (new : SyncedDisk D Y) : Type 0 where
+  pub over : old.failed ≡ true → IsOver old result new
+  pub ends : old.failed ≡ false → EndsTask does synced marked next old task result new
+  pub notes : Notes failed old result new
+
+-- ---- as a session ends
+
+-- THE DISK IS KNOWN TO BE FLUSHED AND SYNCED: its mark counts, and says so up to the very page that is next. So nothing was programmed since
+abbrev pub IsKnownFlushed : {D Y : Type 0} → (marked : Y → Mark) → (next : D → ℕ) → (counts : Bool) → SyncedDisk D Y → Type 0
+IsKnownFlushed marked next counts s = (counts ≡ true) × ((marked s.syncs).flushed ≡ next s.disk)
+
+-- it was flushed, and one more sync was done behind that, with the mark of both
+pub record FlushesDisk {D Y : Type 0} (does : D → Task → Result (Unit {0}) DiskFault → D → Type 0) (synced : Y → ℕ) (marked : Y → Mark) (next : D → ℕ) (takes : D → Bool) (old new : SyncedDisk D Y) : Type 0 where
+  pub flushed : does old.disk Flush (Ok tt) new.disk
+  pub syncs : Syncs synced old new
+  pub marks : marked new.syncs ≡ after_sync (next new.disk) (takes new.disk) (marked old.syncs)
+
+-- or one of the two failed
+pub record FailsToFlush {D Y : Type 0} (does : D → Task → Result (Unit {0}) DiskFault → D → Type 0) (synced : Y → ℕ) (marked : Y → Mark) (old new : SyncedDisk D Y) : Type 0 where
+  pub answer : Result (Unit {0}) DiskFault
+  pub asked : does old.disk Flush answer new.disk
+  pub unsynced : IsUnsynced synced old new
+  pub unmarked : marked new.syncs ≡ marked old.syncs
+
+abbrev pub FlushesBy : {D Y : Type 0} → (does : D → Task → Result (Unit {0}) DiskFault → D → Type 0) → (synced : Y → ℕ) → (marked : Y → Mark) → (next : D → ℕ) → (takes : D → Bool)
+    → (old : SyncedDisk D Y) → Result (Unit {0}) DiskFault → (new : SyncedDisk D Y) → Type 0
+FlushesBy does synced marked next takes old (Ok done) new = FlushesDisk does synced marked next takes old new
+FlushesBy does synced marked next takes old (Err e) new = FailsToFlush does synced marked old new
+
+-- HOW A DISK IS CLOSED: it is flushed, unless it is known to be; after a sync that failed nothing is asked
+pub record Closes {D Y : Type 0} (does : D → Task → Result (Unit {0}) DiskFault → D → Type 0) (synced failed : Y → ℕ) (marked : Y → Mark) (next : D → ℕ) (takes : D → Bool) (counts : Bool)
+    (old : SyncedDisk D Y) (result : Result (Unit {0}) DiskFault) (new : SyncedDisk D Y) : Type 0 where
+  pub over : old.failed ≡ true → IsOver old result new
+  pub known : old.failed ≡ false → IsKnownFlushed marked next counts old → (result ≡ Ok tt) × (new ≡ old)
+  pub flushes : old.failed ≡ false → ¬ IsKnownFlushed marked next counts old → FlushesBy does synced marked next takes old result new
+  pub notes : Notes failed old result new
+
+-- ---- laws
+
+-- NO TASK MARKS MORE AS FLUSHED than was
+abbrev pub UnflushedLaw : {D Y : Type 0} → (does : D → Task → Result (Unit {0}) DiskFault → D → Type 0) → (synced failed : Y → ℕ) → (marked : Y → Mark) → (next : D → ℕ) → Type 0
+UnflushedLaw {D} {Y} does synced failed marked next = (old new : SyncedDisk D Y) (task : Task) (result : Result (Unit {0}) DiskFault) → SyncsTask does synced failed marked next old task result new
+    → (marked new.syncs).flushed ≡ (marked old.syncs).flushed
+
+-- a flush, and a change that is to last
+abbrev pub IsLasting : Task → Type 0
+IsLasting (Read offset count) = ⊥
+IsLasting (Write offset count durable) = durable ≡ true
+IsLasting Flush = Unit {0}
+IsLasting (Trim offset count durable) = durable ≡ true
+IsLasting (WriteZeroes offset count durable) = durable ≡ true
+
+-- ONE THAT IS DONE IS SYNCED LAST: the mark tells all that the disk has programmed by its end
+abbrev pub SyncedLaw : {D Y : Type 0} → (does : D → Task → Result (Unit {0}) DiskFault → D → Type 0) → (synced failed : Y → ℕ) → (marked : Y → Mark) → (next : D → ℕ) → Type 0
+SyncedLaw {D} {Y} does synced failed marked next = (old new : SyncedDisk D Y) (task : Task) → IsLasting task → SyncsTask does synced failed marked next old task (Ok tt) new
+    → (marked new.syncs).synced ≡ next new.disk
+
+-- A DISK THAT WAS CLOSED, and takes changes, is marked as flushed up to the page that is next
+abbrev pub CloseLaw : {D Y : Type 0} → (does : D → Task → Result (Unit {0}) DiskFault → D → Type 0) → (synced failed : Y → ℕ) → (marked : Y → Mark) → (next : D → ℕ) → (takes : D → Bool) → Type 0
+CloseLaw {D} {Y} does synced failed marked next takes = (counts : Bool) (old new : SyncedDisk D Y) → Closes does synced failed marked next takes counts old (Ok tt) new → takes new.disk ≡ true
+    → (marked new.syncs).flushed ≡ next new.disk
 
 -- ---- what a client is told
 

@@ -7,6 +7,7 @@ ghost use Rattle.ftl_device.specs.Device.{IsAcceptedFor};
 ghost use Rattle.disk_server.specs.Disk.{IsDisk};
 
 use crate::answer::{change_answer, flush_answer, read_answer, rest_answer};
+use crate::pieces::are_zeros;
 use crate::sectors::{Lasting, Sectors};
 use ftl_device::{Device, StartFault};
 use image_check::Accepted;
@@ -81,7 +82,8 @@ impl<N: Nand> Sectors for DeviceDisk<N> {
     ghost use Rattle.promises.specs.Step.{Write, Trim};
     ghost use Rattle.ftl_device.specs.Calls.{stop_of};
     ghost use Rattle.nbd_stream.specs.Disk.{Idles, Performs, answer_from};
-    ghost use Rattle.disk_server.specs.Disk.{contents_of, holds, takes_changes, AsksChange, AsksFlush, AsksTurn, KeepsOnError};
+    ghost use Rattle.disk_server.specs.Asked.{SparesZeros};
+    ghost use Rattle.disk_server.specs.Disk.{contents_of, holds, takes_changes, AsksChange, AsksClear, AsksFlush, AsksTurn, KeepsOnError};
 
     ghost contents = { contents_of N.flash N.honest };
 
@@ -100,6 +102,9 @@ impl<N: Nand> Sectors for DeviceDisk<N> {
     ghost count = { λ d. d.engine.geometry.sectors };
 
     ghost next = { λ d. d.engine.next };
+
+    // A flush is one of the device.
+    ghost flushes = { AsksFlush N.flash N.recorded N.honest N.calm N.failed };
 
     // It is not read-only, and its last sequence is not given out.
     ghost takes = { takes_changes };
@@ -168,6 +173,36 @@ impl<N: Nand> Sectors for DeviceDisk<N> {
         change_answer(self.device.trim(sector as u32))
     }
 
+    /// Sets the bytes of a sector to zeros. It is one `Device::read`, and where that gave no zeros, one `Device::trim`.
+    ///
+    /// # Errors
+    ///
+    /// As `write_sector`. A sector that could not be read is trimmed all the same.
+    fn clear_sector(&mut self, sector: u64, buffer: &mut [u8]) -> Result<(), DiskFault>
+        requires within { sector < self.old.engine.geometry.sectors }
+        requires whole { length buffer.old ≡ self.old.engine.geometry.data_bytes }
+        ensures size { self.new.engine.geometry.data_bytes ≡ self.old.engine.geometry.data_bytes }
+        ensures count { self.new.engine.geometry.sectors ≡ self.old.engine.geometry.sectors }
+        ensures performs { Performs (contents_of N.flash N.honest) (holds N.honest) (λ d. false)
+            (Task.Trim (sector * self.old.engine.geometry.data_bytes) self.old.engine.geometry.data_bytes false) [] self.old (answer_from result []) self.new }
+        ensures spares { SparesZeros (contents_of N.flash N.honest) (holds N.honest) (λ old new. OnlyReads N.flash N.honest N.calm N.programs N.erases N.failed old.engine.nand new.engine.nand)
+            (sector * self.old.engine.geometry.data_bytes) self.old.engine.geometry.data_bytes self.old self.new }
+
+        // Whatever the die does.
+        ensures asked { AsksClear N.flash N.recorded N.honest N.calm N.programs N.erases N.failed sector self.old result self.new }
+    {
+        let _count = self.sector_count();
+        match self.read_sector(sector, buffer) {
+            Ok(()) => {
+                if are_zeros(buffer) {
+                    return Ok(());
+                }
+                self.trim_sector(sector)
+            }
+            Err(_) => self.trim_sector(sector),
+        }
+    }
+
     /// Writes to the die what is known in memory alone, so that it may be mounted with any cache. No sector needs it to last. It is one
     /// `Device::flush`; a device that takes no change any more has nothing to write, and is answered as one that was flushed.
     ///
@@ -180,7 +215,7 @@ impl<N: Nand> Sectors for DeviceDisk<N> {
         ensures performs { Performs (contents_of N.flash N.honest) (holds N.honest) (λ d. false) Task.Flush [] self.old (answer_from result []) self.new }
 
         // Whatever the die does.
-        ensures asked { AsksFlush N.flash N.recorded N.honest N.calm N.failed self.old result self.new }
+        ensures flushes { AsksFlush N.flash N.recorded N.honest N.calm N.failed self.old result self.new }
     {
         flush_answer(self.device.flush())
     }

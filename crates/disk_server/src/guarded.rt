@@ -123,7 +123,8 @@ impl<S: Lasting, K: KeepsLost> Sectors for GuardedSectors<S, K> {
     ghost use Rattle.std.specs.Prelude.{◌≡◌, ◌⊎◌, ◌<◌, ◌*◌, false, [], length, true, OnErr, OnOk};
     ghost use Rattle.page_layout.specs.Counter.{HasRisen};
     ghost use Rattle.nbd_stream.specs.Disk.{Idles, Performs, answer_from};
-    ghost use Rattle.disk_server.specs.Guarded.{HealsIfListed, IsRefused, KeepsList, KeepsOrFails, ReadsGuarded, RestsGuarded, is_listed, shown};
+    ghost use Rattle.disk_server.specs.Asked.{SparesZeros};
+    ghost use Rattle.disk_server.specs.Guarded.{HealsIfListed, IsRefused, KeepsList, KeepsOrFails, PassesOn, ReadsGuarded, is_listed, shown};
 
     ghost contents = { shown S.contents S.size };
 
@@ -132,10 +133,13 @@ impl<S: Lasting, K: KeepsLost> Sectors for GuardedSectors<S, K> {
     ghost calm = { λ _. false };
 
     /// A rest of the device, and nothing else.
-    ghost rests = { RestsGuarded S.rests };
+    ghost rests = { PassesOn S.rests };
 
     /// A read of the device, or nothing.
     ghost reads = { ReadsGuarded S.reads };
+
+    /// A flush of the device, and nothing else.
+    ghost flushes = { PassesOn S.flushes };
 
     ghost size = { λ d. S.size d.sectors };
 
@@ -231,6 +235,36 @@ impl<S: Lasting, K: KeepsLost> Sectors for GuardedSectors<S, K> {
         }
     }
 
+    /// Sets the bytes of a sector to zeros, as the device does. **One that is on the list is trimmed, whatever it reads as**: with no newer page it would be lost again as the disk is next opened.
+    ///
+    /// # Errors
+    ///
+    /// As `write_sector`.
+    fn clear_sector(&mut self, sector: u64, buffer: &mut [u8]) -> Result<(), DiskFault>
+        requires within { sector < S.count self.old.sectors }
+        requires whole { length buffer.old ≡ S.size self.old.sectors }
+        ensures size { S.size self.new.sectors ≡ S.size self.old.sectors }
+        ensures count { S.count self.new.sectors ≡ S.count self.old.sectors }
+        ensures performs { Performs (shown S.contents S.size) (λ d. S.honest d.sectors) (λ _. false)
+            (Task.Trim (sector * S.size self.old.sectors) (S.size self.old.sectors) false) [] self.old (answer_from result []) self.new }
+        ensures spares { SparesZeros (shown S.contents S.size) (λ d. S.honest d.sectors) (ReadsGuarded S.reads) (sector * S.size self.old.sectors) (S.size self.old.sectors) self.old self.new }
+        ensures heals { OnOk result (HealsIfListed K.kept sector self.old self.new) }
+        ensures kept { OnErr result (KeepsOrFails K.failed self.old self.new) }
+        ensures over { self.old.failed ≡ true → IsRefused self.old result self.new }
+    {
+        if self.failed {
+            return Err(DiskFault::Failed);
+        }
+        self.know();
+        if self.is_listed(sector) {
+            return self.trim_sector(sector);
+        }
+        match self.sectors.clear_sector(sector, buffer) {
+            Ok(()) => self.heal(sector),
+            Err(fault) => Err(fault),
+        }
+    }
+
     /// Flushes the device. The list stays.
     ///
     /// # Errors
@@ -240,8 +274,7 @@ impl<S: Lasting, K: KeepsLost> Sectors for GuardedSectors<S, K> {
         ensures size { S.size self.new.sectors ≡ S.size self.old.sectors }
         ensures count { S.count self.new.sectors ≡ S.count self.old.sectors }
         ensures performs { Performs (shown S.contents S.size) (λ d. S.honest d.sectors) (λ _. false) Task.Flush [] self.old (answer_from result []) self.new }
-        ensures kept { KeepsList self.old self.new }
-        ensures over { self.old.failed ≡ true → IsRefused self.old result self.new }
+        ensures flushes { PassesOn S.flushes self.old result self.new }
         ensures asked { self.old.failed ≡ false → Performs S.contents S.honest S.calm Task.Flush [] self.old.sectors (answer_from result []) self.new.sectors }
     {
         if self.failed {

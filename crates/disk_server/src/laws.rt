@@ -1,10 +1,12 @@
 //! What a device of sectors is as bytes, the block device as one, and a disk in a store after a loss of power. Each function does nothing: its contract is
 //! the law.
+ghost use Rattle.disk_server.specs.Synced.{CloseLaw, SyncedLaw, UnflushedLaw};
 ghost use Rattle.disk_server.specs.Laws.{BelowLaw, ClosedLaw, HoldsLaw, LastsLaw, LengthLaw, NoSpaceLaw, ReadOnlyLaw, SectorLaw, WrittenLaw};
 ghost use Rattle.disk_server.specs.Flat.{FlatLaw};
 ghost use Rattle.disk_server.specs.Guarded.{GuardedByteLaw, GuardedReadLaw};
 ghost use Rattle.disk_server.specs.Power.{FoundLaw, LeavesLaw};
 
+use crate::synced::{LastingDisk, Sequenced, Syncs};
 use onfi_cycles::Nand;
 
 /// A sector of a list of sectors is a range of their bytes: to give it is to give that range, and to replace it is to set that range.
@@ -27,6 +29,14 @@ pub fn array_laws<N: Nand>()
 pub fn sequence_laws<N: Nand>()
     ensures below { BelowLaw N.flash N.honest }
     ensures written { WrittenLaw N.flash N.recorded N.honest N.calm N.failed }
+{}
+
+/// What a disk joined with its syncs is marked with: no task marks it as flushed; a flush and a durable change that is done are synced last; and one that was closed, and takes changes, is marked as flushed up to
+/// the page that is next. (This project's.)
+pub fn sync_laws<D: LastingDisk + Sequenced, Y: Syncs>()
+    ensures unflushed { UnflushedLaw D.does Y.synced Y.failed Y.marked D.next }
+    ensures synced { SyncedLaw D.does Y.synced Y.failed Y.marked D.next }
+    ensures closed { CloseLaw D.does Y.synced Y.failed Y.marked D.next D.takes }
 {}
 
 /// What a device shows of which some sectors are lost: each byte is the device's, and of a lost sector none is a byte. So a read is answered without an error only where no sector of its range is lost. (This

@@ -8,7 +8,8 @@
 //! - `open_stopped`: the same where the die may have been stopped, with more that is stale than the cache has room for.
 //! - `format_store`: a store of erased pages becomes a die with a device on it.
 //! - `SyncedDisk`: a disk whose flushes and durable changes end with a sync of what it is kept in, and of whose changes no more than a `SyncPace` says lack one;
-//!   `serve_synced` serves it. After a sync that failed it answers nothing but that it failed. With each sync goes a `Mark`: up to which sequence all pages were synced.
+//!   `serve_synced` serves it. A flush is that sync alone; the device is flushed as the disk is closed. After a sync that failed it answers nothing but that it failed. With each sync goes a
+//!   `Mark`: up to which sequence all pages were synced.
 //! - `GuardedSectors`: a device of sectors of which some are lost, with a list of them that lasts: these are not read until they are written or trimmed.
 //! - `ReadOnlyDisk`: a disk that asks for reads of sectors alone; `serve_reading` serves it.
 //!
@@ -45,4 +46,4 @@ pub use sector_disk::SectorDisk;
 pub use sectors::{Lasting, Sectors};
 pub use served::{Offer, serve_reading, serve_synced};
 pub use stopped::open_stopped;
-pub use synced::{Sequenced, SyncPace, SyncedDisk, Syncs};
+pub use synced::{LastingDisk, Sequenced, SyncPace, SyncedDisk, Syncs};

@@ -64,6 +64,7 @@ pub fn open_mounted<N: Nand>(
     requires least { 1 ≤ capacity }
     requires most { capacity ≤ 65536 }
     ensures geometry { IfOk result (λ d. d.engine.geometry ≡ geometry.now) }
+    ensures entries { IfOk result (λ d. d.engine.mapping.capacity ≡ capacity) }
     ensures honest { IfOk result (λ d. holds N.honest d ≡ N.honest nand) }
     ensures array { IfOk result (λ d. N.honest nand ≡ true → array_in N.flash d ≡ array_of geometry.now (N.flash nand).image) }
     ensures pages { IfOk result (λ d. N.honest nand ≡ true → N.flash d.engine.nand ≡ N.flash nand) }

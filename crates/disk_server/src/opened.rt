@@ -152,6 +152,7 @@ pub fn open_store<S: Store + Drop>(
     requires least { 1 ≤ capacity }
     requires most { capacity ≤ 65536 }
     ensures geometry { IfOk result (λ d. d.engine.geometry ≡ (S.held store).geometry) }
+    ensures entries { IfOk result (λ d. d.engine.mapping.capacity ≡ capacity) }
     ensures honest { IfOk result (λ d. holds (is_honest_in S.honest) d ≡ S.honest store) }
     ensures bytes { IfOk result (λ d. S.honest store ≡ true → (contents_of (flash_in S.held) (is_honest_in S.honest) d).bytes ≡ bytes_of (S.held store)) }
     ensures pages { IfOk result (λ d. S.honest store ≡ true → flash_in S.held d.engine.nand ≡ flash_of (S.held store)) }

@@ -1,6 +1,8 @@
 //! The bytes of a range that one sector has.
-ghost use Rattle.std.specs.Prelude.{◌≡◌, ◌<◌, ◌≤◌, ◌+◌, ◌%◌, false, [], length};
+ghost use Rattle.std.specs.Prelude.{◌≡◌, ◌<◌, ◌≤◌, ◌+◌, ◌%◌, ◌==◌, false, [], length};
+ghost use Rattle.std.specs.List.{list_all};
 ghost use Rattle.nbd_stream.specs.Disk.{Performs, answer_from};
+ghost use Rattle.disk_server.specs.Asked.{SparesZeros};
 
 use crate::sectors::Sectors;
 use nbd_stream::{DiskFault, Task};
@@ -79,7 +81,14 @@ pub(crate) fn write_piece<S: Sectors>(
     }
 }
 
-// Sets these bytes of one sector to zeros: all of it is trimmed, or else it is read, changed and written.
+// Whether all are zeros.
+pub(crate) fn are_zeros(bytes: &[u8]) -> bool
+    ensures { result ≡ list_all (λ byte. byte == 0) bytes.now }
+{
+    bytes.iter().all(|byte| *byte == 0)
+}
+
+// Sets these bytes of one sector to zeros: all of it is cleared, or else it is read, changed and written, where they are no zeros yet.
 pub(crate) fn clear_piece<S: Sectors>(
     sectors: &mut S,
     buffer: &mut [u8],
@@ -92,6 +101,7 @@ pub(crate) fn clear_piece<S: Sectors>(
     requires within { offset + taken ≤ length (S.contents sectors.old).bytes }
     ensures size { S.size sectors.new ≡ S.size sectors.old }
     ensures performs { Performs S.contents S.honest S.calm (Task.Trim offset taken false) [] sectors.old (answer_from result []) sectors.new }
+    ensures spares { SparesZeros S.contents S.honest S.reads offset taken sectors.old sectors.new }
 {
     let size = sectors.sector_bytes();
     let count = sectors.sector_count();
@@ -99,10 +109,13 @@ pub(crate) fn clear_piece<S: Sectors>(
     let start = (offset % size as u64) as usize;
     prove!(sector < count);
     if taken == size {
-        return sectors.trim_sector(sector);
+        return sectors.clear_sector(sector, buffer);
     }
     match sectors.read_sector(sector, buffer) {
         Ok(()) => {
+            if are_zeros(&buffer[start..start + taken]) {
+                return Ok(());
+            }
             buffer[start..start + taken].fill(0);
             sectors.write_sector(sector, buffer)
         }

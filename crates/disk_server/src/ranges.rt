@@ -2,6 +2,7 @@
 ghost use Rattle.std.specs.Prelude.{◌≡◌, ◌≤◌, ◌+◌, false, [], length};
 ghost use Rattle.nbd_stream.specs.Disk.{Performs, answer_from};
 ghost use Rattle.nbd_stream.specs.Through.{Through};
+ghost use Rattle.disk_server.specs.Asked.{SparesZeros};
 
 use crate::pieces::{clear_piece, piece_length, read_piece, write_piece};
 use crate::sectors::Sectors;
@@ -71,6 +72,7 @@ fn clear_pieces<S: Sectors>(
     requires within { offset + count ≤ length (S.contents sectors.old).bytes }
     ensures size { S.size sectors.new ≡ S.size sectors.old }
     ensures performs { Performs S.contents S.honest S.calm (Task.Trim offset count false) [] sectors.old (answer_from result []) sectors.new }
+    ensures spares { SparesZeros S.contents S.honest (Through S.reads) offset count sectors.old sectors.new }
 {
     let size = sectors.sector_bytes();
     let _count = sectors.sector_count();
@@ -118,6 +120,7 @@ pub(crate) fn clear_range<S: Sectors>(
     requires within { offset + count ≤ length (S.contents sectors.old).bytes }
     ensures size { S.size sectors.new ≡ S.size sectors.old }
     ensures performs { Performs S.contents S.honest S.calm (Task.Trim offset count durable) [] sectors.old (answer_from result []) sectors.new }
+    ensures spares { durable ≡ false → SparesZeros S.contents S.honest (Through S.reads) offset count sectors.old sectors.new }
 {
     match clear_pieces(sectors, buffer, offset, count) {
         Ok(()) if durable => sectors.flush(),

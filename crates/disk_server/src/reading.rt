@@ -46,13 +46,16 @@ impl<S: Sectors> Disk for ReadOnlyDisk<S> {
     ghost use Rattle.std.specs.Prelude.{◌≡◌, ◌≤◌, ◌+◌, false, [], length, Ok, Err};
     ghost use Rattle.nbd_stream.specs.Disk.{Performs, answer_from};
     ghost use Rattle.nbd_stream.specs.Through.{Through};
-    ghost use Rattle.disk_server.specs.Reading.{RestsNever};
+    ghost use Rattle.disk_server.specs.Reading.{OnlyAsksReads, RestsNever};
 
     ghost contents = { S.contents };
 
     ghost honest = { S.honest };
 
     ghost calm = { λ _. false };
+
+    // A read asks reads of sectors, and nothing else asks anything.
+    ghost does = { OnlyAsksReads S.reads };
 
     ghost rests = { RestsNever };
 
@@ -66,7 +69,7 @@ impl<S: Sectors> Disk for ReadOnlyDisk<S> {
     fn write(&mut self, offset: u64, bytes: &[u8], _durable: bool) -> Result<(), DiskFault>
         requires { offset + length bytes.now ≤ length (S.contents self.old).bytes }
         ensures performs { Performs S.contents S.honest (λ _. false) (Task.Write offset (length bytes.now) _durable) bytes.now self.old (answer_from result []) self.new }
-        ensures refused { (result ≡ Err DiskFault.ReadOnly) × (self.new ≡ self.old) }
+        ensures does { (result ≡ Err DiskFault.ReadOnly) × (self.new ≡ self.old) }
     {
         Err(DiskFault::ReadOnly)
     }
@@ -74,7 +77,7 @@ impl<S: Sectors> Disk for ReadOnlyDisk<S> {
     fn clear(&mut self, offset: u64, count: u32, _durable: bool) -> Result<(), DiskFault>
         requires { offset + count ≤ length (S.contents self.old).bytes }
         ensures performs { Performs S.contents S.honest (λ _. false) (Task.Trim offset count _durable) [] self.old (answer_from result []) self.new }
-        ensures refused { (result ≡ Err DiskFault.ReadOnly) × (self.new ≡ self.old) }
+        ensures does { (result ≡ Err DiskFault.ReadOnly) × (self.new ≡ self.old) }
     {
         Err(DiskFault::ReadOnly)
     }
@@ -82,7 +85,7 @@ impl<S: Sectors> Disk for ReadOnlyDisk<S> {
     fn flush(&mut self) -> Result<(), DiskFault>
         ensures performs { Performs S.contents S.honest (λ _. false) Task.Flush [] self.old (answer_from result []) self.new }
         ensures leaves { Through S.reads self.old self.new }
-        ensures done { (result ≡ Ok tt) × (self.new ≡ self.old) }
+        ensures does { (result ≡ Ok tt) × (self.new ≡ self.old) }
     {
         let _disk = &self.disk;
         Ok(())

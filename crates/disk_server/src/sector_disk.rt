@@ -2,8 +2,8 @@
 ghost use Rattle.std.specs.Prelude.{◌≡◌, length, MatchResult};
 
 use crate::ranges::{clear_range, read_range, write_range};
-use crate::sectors::Sectors;
-use crate::synced::Sequenced;
+use crate::sectors::{Lasting, Sectors};
+use crate::synced::{LastingDisk, Sequenced};
 use nbd_stream::{Disk, DiskFault, Task};
 use std::alloc::Global;
 use std::marker::Model;
@@ -12,7 +12,7 @@ use std::marker::Model;
 /// device. (This project's.)
 ///
 /// A request is done sector by sector, in rising order, up to the first that fails: each byte of the range then is as it was or as it was to be. A
-/// part of a sector is read, changed and written, and a whole one that is to be zeros is trimmed. What is to last is flushed after the last sector.
+/// part of a sector is read, changed and written, and a whole one that is to be zeros is trimmed; where it reads as zeros already nothing is asked but that read. What is to last is flushed after the last sector.
 #[derive(Drop)]
 pub struct SectorDisk<S: Sectors> {
     sectors: S,
@@ -64,12 +64,16 @@ impl<S: Sectors> Disk for SectorDisk<S> {
     ghost use Rattle.std.specs.Prelude.{◌≤◌, ◌+◌, [], length};
     ghost use Rattle.nbd_stream.specs.Disk.{Performs, answer_from};
     ghost use Rattle.nbd_stream.specs.Through.{Through};
+    ghost use Rattle.disk_server.specs.Asked.{AsksSectors};
 
     ghost contents = { S.contents };
 
     ghost honest = { S.honest };
 
     ghost calm = { S.calm };
+
+    // A read asks reads of sectors, a flush one flush; and nothing is asked of a sector that is to be cleared and reads as zeros.
+    ghost does = { AsksSectors S.contents S.honest S.reads S.flushes };
 
     ghost rests = { S.rests };
 
@@ -79,7 +83,7 @@ impl<S: Sectors> Disk for SectorDisk<S> {
     fn read(&mut self, offset: u64, buffer: &mut [u8]) -> Result<(), DiskFault>
         requires { offset + length buffer.old ≤ length (S.contents self.old).bytes }
         ensures performs { Performs S.contents S.honest S.calm (Task.Read offset (length buffer.old)) [] self.old (answer_from result buffer.new) self.new }
-        ensures reads { Through S.reads self.old self.new }
+        ensures does { Through S.reads self.old self.new }
     {
         read_range(&mut self.sectors, &mut self.buffer, offset, buffer)
     }
@@ -119,4 +123,8 @@ impl<S: Sectors> Sequenced for SectorDisk<S> {
     fn takes_changes(&self) -> bool {
         self.sectors.takes_changes()
     }
+}
+
+impl<S: Lasting> LastingDisk for SectorDisk<S> {
+    ghost lasts = { S.lasts };
 }

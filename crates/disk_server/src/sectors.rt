@@ -9,6 +9,7 @@ pub trait Sectors {
     ghost use Rattle.std.specs.Prelude.{◌≡◌, ◌<◌, ◌+◌, ◌*◌, ◌^◌, ℕ, Bool, false, [], length, Result};
     ghost use Rattle.nbd_stream.specs.declared.fault.DiskFault.{DiskFault};
     ghost use Rattle.nbd_stream.specs.Disk.{Contents, Idles, Performs, answer_from};
+    ghost use Rattle.disk_server.specs.Asked.{SparesZeros};
 
     /// The bytes of its sectors, and those that they will have if the power goes now.
     ghost contents: { Self → Contents };
@@ -24,6 +25,9 @@ pub trait Sectors {
 
     /// What a read of a sector leaves, beside the bytes: of the device before, and the device after.
     ghost reads: { Self → Self → Type 0 };
+
+    /// What a flush of it is, beside that it leaves the sectors: of the device before, the answer, and the device after.
+    ghost flushes: { Self → Result (Unit {0}) DiskFault → Self → Type 0 };
 
     /// Bytes of a sector.
     ghost size: { Self → ℕ };
@@ -74,6 +78,19 @@ pub trait Sectors {
         ensures count { count self.new ≡ count self.old }
         ensures performs { Performs contents honest calm (Task.Trim (sector * size self.old) (size self.old) false) [] self.old (answer_from result []) self.new };
 
+    /// Sets the bytes of a sector to zeros, as `trim_sector`. Where it has zeros already nothing is asked but a read, for which the buffer has room.
+    ///
+    /// # Errors
+    ///
+    /// As `write_sector`.
+    fn clear_sector(&mut self, sector: u64, buffer: &mut [u8]) -> Result<(), DiskFault>
+        requires within { sector < count self.old }
+        requires whole { length buffer.old ≡ size self.old }
+        ensures size { size self.new ≡ size self.old }
+        ensures count { count self.new ≡ count self.old }
+        ensures performs { Performs contents honest calm (Task.Trim (sector * size self.old) (size self.old) false) [] self.old (answer_from result []) self.new }
+        ensures spares { SparesZeros contents honest reads (sector * size self.old) (size self.old) self.old self.new };
+
     /// Makes all sectors last. A device that takes no change any more is flushed too: what it was given before is to last.
     ///
     /// # Errors
@@ -82,7 +99,8 @@ pub trait Sectors {
     fn flush(&mut self) -> Result<(), DiskFault>
         ensures size { size self.new ≡ size self.old }
         ensures count { count self.new ≡ count self.old }
-        ensures performs { Performs contents honest calm Task.Flush [] self.old (answer_from result []) self.new };
+        ensures performs { Performs contents honest calm Task.Flush [] self.old (answer_from result []) self.new }
+        ensures flushes { flushes self.old result self.new };
 
     /// An idle moment between two requests, in which the device may tidy up. The sectors stay.
     ///

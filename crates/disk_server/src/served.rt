@@ -1,13 +1,14 @@
 //! A disk is served to one client.
 ghost use Rattle.std.specs.Prelude.{◌≡◌, ◌≤◌, false, length, true};
 ghost use Rattle.nbd_stream.specs.Transmission.{Serves};
-ghost use Rattle.disk_server.specs.Synced.{RestsSynced, export_of};
-ghost use Rattle.disk_server.specs.Reading.{RestsNever};
+ghost use Rattle.disk_server.specs.Asked.{AsksSectors};
+ghost use Rattle.disk_server.specs.Synced.{RestsSynced, SyncsTask, export_of};
+ghost use Rattle.disk_server.specs.Reading.{OnlyAsksReads, RestsNever};
 ghost use Rattle.nbd_stream.specs.Through.{Through};
 
 use crate::reading::ReadOnlyDisk;
 use crate::sector_disk::SectorDisk;
-use crate::sectors::Sectors;
+use crate::sectors::{Lasting, Sectors};
 use crate::synced::{SyncedDisk, Syncs};
 use nbd_stream::{End, Export, serve};
 use request_stream::ServeFault;
@@ -37,12 +38,12 @@ fn export_of(offer: Offer, size: u64) -> Export
 }
 
 /// Serves all bytes of a disk to one client, until it goes: each request is answered by one reply, in order, and of a disk that is honest the answers are those of the array of its
-/// bytes. After each change the disk rests. Each flush and each durable change ends with a sync, and so does each change once too much was changed since the last one.
+/// bytes. After each change the disk rests. Each flush and each durable change ends with a sync, and so does each change once too much was changed since the last one (`SyncsTask`): a flush asks nothing else.
 ///
 /// # Errors
 ///
 /// As `nbd_stream::serve`. (The NBD protocol.)
-pub fn serve_synced<S: Sectors, Y: Syncs, R: Read, W: Write>(
+pub fn serve_synced<S: Lasting, Y: Syncs, R: Read, W: Write>(
     disk: &mut SyncedDisk<SectorDisk<S>, Y>,
     offer: Offer,
     buffer: &mut [u8],
@@ -50,7 +51,8 @@ pub fn serve_synced<S: Sectors, Y: Syncs, R: Read, W: Write>(
     writer: &mut W,
 ) -> Result<End, ServeFault>
     requires room { offer.maximum ≤ length buffer.old }
-    ensures { Serves (λ s. S.contents s.disk) (λ s. S.honest s.disk) (λ _. false) (RestsSynced S.rests)
+    ensures { Serves (λ s. S.contents s.disk) (λ s. S.honest s.disk) (λ _. false)
+        (SyncsTask (AsksSectors S.contents S.honest S.reads S.flushes) Y.synced Y.failed Y.marked S.next) (RestsSynced S.rests)
         (export_of offer (length (S.contents disk.old.disk).bytes)) (length buffer.new) disk.old disk.new (R.remaining reader.old) (R.remaining reader.new)
         (W.contents writer.old) (W.contents writer.new) result }
 {
@@ -73,7 +75,7 @@ pub fn serve_reading<S: Sectors, R: Read, W: Write>(
 ) -> Result<End, ServeFault>
     requires room { offer.maximum ≤ length buffer.old }
     requires read_only { offer.read_only ≡ true }
-    ensures serves { Serves S.contents S.honest (λ _. false) RestsNever
+    ensures serves { Serves S.contents S.honest (λ _. false) (OnlyAsksReads S.reads) RestsNever
         (export_of offer (length (S.contents disk.old).bytes)) (length buffer.new) disk.old disk.new (R.remaining reader.old) (R.remaining reader.new)
         (W.contents writer.old) (W.contents writer.new) result }
     ensures reads { Through S.reads disk.old disk.new }

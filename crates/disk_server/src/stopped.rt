@@ -1,13 +1,14 @@
 //! The disk of a die that may have been stopped.
-ghost use Rattle.std.specs.Prelude.{◌≡◌, ◌≤◌, true, IfOk, IfErr, IfSome};
+ghost use Rattle.std.specs.Prelude.{◌≡◌, ◌≤◌, false, true, IfOk, IfErr, OnOk};
+ghost use Rattle.nbd_stream.specs.declared.task.Task.TheVariants as task;
 ghost use Rattle.disk_server.specs.Disk.{contents_of, holds};
-ghost use Rattle.disk_server.specs.Opened.{bytes_of, flash_in, is_honest_in};
-ghost use Rattle.disk_server.specs.Stopped.{HasRoomFor, IsUnopenedLater};
+ghost use Rattle.disk_server.specs.Opened.{bytes_of, flash_in, flash_of, is_honest_in};
+ghost use Rattle.disk_server.specs.Stopped.{IsLastFault, IsOpenedEither, IsOpenedFlushed, IsOpenedNeither, IsOpenedWith, IsRoomIn, IsUnopenedLater, IsUnopenedStale};
 
 use crate::opened::{OpenStoreFault, StoreDisk, close_store, open_store};
 use file_die::{Store, SyncWhen};
 use image_check::Refusal;
-use nbd_stream::Disk;
+use nbd_stream::{Disk, DiskFault};
 use std::alloc::Global;
 
 // The most entries of a cache.
@@ -15,7 +16,7 @@ const MOST_ENTRIES: u32 = 65_536;
 
 // The entries that a cache would have to have for a store that was refused for its stale sectors, where some cache has as many.
 fn stale_in(fault: &OpenStoreFault) -> Option<u32>
-    ensures { IfSome result (HasRoomFor fault.now) }
+    ensures { IsRoomIn fault.now result }
 {
     match fault {
         OpenStoreFault::Mount(Refusal::TooStale { stale, .. })
@@ -24,19 +25,38 @@ fn stale_in(fault: &OpenStoreFault) -> Option<u32>
     }
 }
 
-// Flushes a disk, and answers whether it was done. The bytes of one that is honest after it stay.
-fn flushed<D: Disk>(disk: &mut D) -> bool
+// Flushes a disk, and answers what it answered. The bytes of one that is honest after it stay.
+fn flush<D: Disk>(disk: &mut D) -> Result<(), DiskFault>
+    ensures does { D.does disk.old task.Flush result disk.new }
     ensures back { D.honest disk.new ≡ true → D.honest disk.old ≡ true }
-    ensures kept { result ≡ true → D.honest disk.new ≡ D.honest disk.old }
+    ensures kept { OnOk result (D.honest disk.new ≡ D.honest disk.old) }
     ensures bytes { D.honest disk.new ≡ true → (D.contents disk.new).bytes ≡ (D.contents disk.old).bytes }
 {
-    match disk.flush() {
-        Ok(()) => true,
-        Err(_) => false,
+    disk.flush()
+}
+
+// The disk of a store with a cache of so many entries, at one attempt.
+fn open_once<S: Store + Drop>(
+    alloc: Global,
+    store: S,
+    capacity: u32,
+    sync_when: SyncWhen,
+) -> Result<StoreDisk<S>, OpenStoreFault>
+    requires least { 1 ≤ capacity }
+    requires most { capacity ≤ 65536 }
+    ensures honest { IfOk result (λ d. holds (is_honest_in S.honest) d ≡ S.honest store) }
+    ensures bytes { IfOk result (λ d. S.honest store ≡ true → (contents_of (flash_in S.held) (is_honest_in S.honest) d).bytes ≡ bytes_of (S.held store)) }
+    ensures pages { IfOk result (λ d. S.honest store ≡ true → flash_in S.held d.engine.nand ≡ flash_of (S.held store)) }
+    ensures entries { IfOk result (λ d. d.engine.mapping.capacity ≡ capacity) }
+    ensures fault { IfErr result (IsLastFault S.held S.honest S.failed store capacity) }
+{
+    match open_store(alloc, store, capacity, sync_when) {
+        Ok(disk) => Ok(disk),
+        Err((_, fault)) => Err(fault),
     }
 }
 
-// The disk of a store, with a cache of so many entries, or of so many as its stale sectors want.
+// The disk of a store that was flushed, with a cache of so many entries, or of so many as were stale before.
 fn open_either<S: Store + Drop>(
     alloc: Global,
     store: S,
@@ -48,21 +68,20 @@ fn open_either<S: Store + Drop>(
     requires most { (capacity ≤ 65536) × (stale ≤ 65536) }
     ensures honest { IfOk result (λ d. holds (is_honest_in S.honest) d ≡ S.honest store) }
     ensures bytes { IfOk result (λ d. S.honest store ≡ true → (contents_of (flash_in S.held) (is_honest_in S.honest) d).bytes ≡ bytes_of (S.held store)) }
+    ensures entries { IfOk result (λ d. IsOpenedEither S.held S.honest store capacity stale d.engine.mapping.capacity) }
+    ensures fault { IfErr result (IsOpenedNeither S.held S.honest S.failed store capacity stale) }
 {
     let (store, fault) = match open_store(alloc, store, capacity, sync_when) {
         Ok(disk) => return Ok(disk),
         Err(back) => back,
     };
-    if stale_in(&fault).is_none() {
-        return Err(fault);
-    }
-    match open_store(alloc, store, stale, sync_when) {
-        Ok(disk) => Ok(disk),
-        Err((_, fault)) => Err(fault),
+    match stale_in(&fault) {
+        None => Err(fault),
+        Some(_) => open_once(alloc, store, stale, sync_when),
     }
 }
 
-// The disk of a store that was refused for so many stale sectors.
+// The disk of a store that was refused for so many stale sectors: it is flushed first.
 fn open_stale<S: Store + Drop>(
     alloc: Global,
     store: S,
@@ -74,26 +93,29 @@ fn open_stale<S: Store + Drop>(
     requires most { (capacity ≤ 65536) × (stale ≤ 65536) }
     ensures honest { IfOk result (λ d. S.honest store ≡ true → holds (is_honest_in S.honest) d ≡ true) }
     ensures bytes { IfOk result (λ d. S.honest store ≡ true → (contents_of (flash_in S.held) (is_honest_in S.honest) d).bytes ≡ bytes_of (S.held store)) }
+    ensures entries { IfOk result (λ d. IsOpenedFlushed S.held S.honest capacity stale d.engine.mapping.capacity) }
+    ensures fault { IfErr result (IsUnopenedStale S.held S.honest S.failed store capacity stale) }
 {
     let mut disk = match open_store(alloc, store, stale, sync_when) {
         Ok(disk) => disk,
         Err((_, fault)) => return Err(fault),
     };
-    if !flushed(&mut disk) {
-        return Err(OpenStoreFault::Flush);
+    match flush(&mut disk) {
+        Ok(()) => open_either(alloc, close_store(disk), capacity, stale, sync_when),
+        Err(_) => Err(OpenStoreFault::Flush),
     }
-    open_either(alloc, close_store(disk), capacity, stale, sync_when)
 }
 
 /// Opens the disk of a die that may have been stopped, as `open_store` does. One that was may have more stale sectors than a cache of `capacity` entries has room for:
 /// then it is opened with as many entries as it wants, flushed, and opened again. One that takes no change any more keeps that larger cache. **Of a store that is
 /// honest the disk holds its array, and its bytes are those of the array that its pages held.**
 ///
-/// With `writes` false nothing is flushed, and the larger cache stays.
+/// With `writes` false nothing is flushed, the pages stay, and so does the larger cache.
 ///
 /// # Errors
 ///
-/// As `open_store`, of the last time that the store was opened, and `Flush` where the device failed its flush. The store is let go. (This project's.)
+/// As `open_store`, of the last time that the store was opened: not `Mount` of stale sectors at the first time, where some cache has room for them. `Flush` where the device failed its flush. The store is let go. (This
+/// project's.)
 pub fn open_stopped<S: Store + Drop>(
     alloc: Global,
     store: S,
@@ -105,18 +127,22 @@ pub fn open_stopped<S: Store + Drop>(
     requires most { capacity ≤ 65536 }
     ensures honest { IfOk result (λ d. S.honest store ≡ true → holds (is_honest_in S.honest) d ≡ true) }
     ensures bytes { IfOk result (λ d. S.honest store ≡ true → (contents_of (flash_in S.held) (is_honest_in S.honest) d).bytes ≡ bytes_of (S.held store)) }
+    ensures pages { IfOk result (λ d. writes ≡ false → S.honest store ≡ true → flash_in S.held d.engine.nand ≡ flash_of (S.held store)) }
+    ensures entries { IfOk result (λ d. IsOpenedWith S.held S.honest writes store capacity d.engine.mapping.capacity) }
     ensures fault { IfErr result (IsUnopenedLater S.held S.honest S.failed store capacity) }
 {
     let (store, fault) = match open_store(alloc, store, capacity, sync_when) {
         Ok(disk) => return Ok(disk),
         Err(back) => back,
     };
-    let Some(stale) = stale_in(&fault) else {
-        return Err(fault);
-    };
-    if writes {
-        open_stale(alloc, store, capacity, stale, sync_when)
-    } else {
-        open_either(alloc, store, stale, stale, sync_when)
+    match stale_in(&fault) {
+        None => Err(fault),
+        Some(stale) => {
+            if writes {
+                open_stale(alloc, store, capacity, stale, sync_when)
+            } else {
+                open_once(alloc, store, stale, sync_when)
+            }
+        }
     }
 }

@@ -34,6 +34,17 @@ pub trait Syncs {
         ensures settled { OnOk result (failed self.new ≡ failed self.old) }
         ensures rose { OnErr result (HasRisen (failed self.old) (failed self.new)) }
         ensures fault { IfErr result (λ e. e ≡ DiskFault.Failed) };
+
+    /// The mark.
+    fn mark(&self) -> Mark
+        ensures { result ≡ marked self.now };
+}
+
+/// A disk that keeps nothing back: what is there if the power goes now is what is there. (This project's.)
+pub trait LastingDisk: Disk {
+    ghost use Rattle.std.specs.Prelude.{◌≡◌};
+
+    ghost lasts: { (d : Self) → (Self.contents d).durable ≡ (Self.contents d).bytes };
 }
 
 /// A disk over pages that have sequences. (This project's.)
@@ -76,9 +87,10 @@ fn pieces_of(piece: u32, offset: u64, count: u64) -> u64
     (offset % piece + count).div_ceil(piece)
 }
 
-/// A disk, and a way to make last what it writes. Each flush and each durable change that is answered without an error ends with a sync, and so does each change that is
-/// answered without an error once too much was changed since the last one. With each sync goes the sequence of the disk's next page, as its mark. A range is cleared a megabyte at a time, and it is looked after each whether a sync is due. What a
-/// sync makes last no contract of the disk can say: that it is of what the disk is kept in, is for whoever joins the two.
+/// A disk that keeps nothing back, and a way to make last what it writes. Each flush and each durable change that is answered without an error ends with a sync, and so does each change that is
+/// answered without an error once too much was changed since the last one. **A flush asks nothing of the disk**: what it answered lasts in what it is kept in, once that is synced. So the disk
+/// itself is flushed as it is closed, and not before. With each sync goes the sequence of the disk's next page, as its mark. A range is cleared a megabyte at a time, and it is looked after each
+/// whether a sync is due. What a sync makes last no contract of the disk can say: that it is of what the disk is kept in, is for whoever joins the two.
 ///
 /// **After a sync that failed nothing is asked of the disk or of its syncs any more, and each call answers `Failed`**: what was written before it may be lost, and the next
 /// sync may be answered without an error all the same, as by Linux. (This project's.)
@@ -91,10 +103,11 @@ pub struct SyncedDisk<D: Disk, Y: Syncs> {
     failed: bool,
 }
 
-impl<D: Disk + Sequenced, Y: Syncs> SyncedDisk<D, Y> {
-    ghost use Rattle.std.specs.Prelude.{◌≡◌, ◌≤◌, ◌<◌, ◌+◌, false, [], length, OnOk, OnErr, IfErr};
+impl<D: LastingDisk + Sequenced, Y: Syncs> SyncedDisk<D, Y> {
+    ghost use Rattle.std.specs.Prelude.{◌≡◌, ◌≤◌, ◌<◌, ◌+◌, true, false, [], length, OnOk, OnErr, IfErr};
     ghost use Rattle.nbd_stream.specs.Disk.{Performs, answer_from};
-    ghost use Rattle.disk_server.specs.Synced.{Counts, HasSynced, IsUnsynced, KeepsCount, Marks, Notes, after_change};
+    ghost use Rattle.nbd_stream.specs.Through.{Through};
+    ghost use Rattle.disk_server.specs.Synced.{Asks, ClearsPart, Closes, Counts, HasSynced, IsKnownFlushed, IsUnsynced, KeepsCount, Marks, Notes, Syncs, after_change, after_sync};
 
     /// Joins a disk and its syncs. Nothing is asked of either, and nothing counts as changed.
     pub fn new(disk: D, syncs: Y, pace: SyncPace) -> SyncedDisk<D, Y>
@@ -129,20 +142,17 @@ impl<D: Disk + Sequenced, Y: Syncs> SyncedDisk<D, Y> {
         self.unsynced = self.unsynced.saturating_add(pieces);
     }
 
-    // Syncs, where what was done is to last or too much was changed.
-    fn settle(&mut self, durable: bool) -> Result<(), DiskFault>
+    // Syncs, and marks whether the disk was flushed before.
+    fn sync(&mut self, flushed: bool) -> Result<(), DiskFault>
         ensures disk { self.new.disk ≡ self.old.disk }
-        ensures synced { OnOk result (HasSynced Y.synced durable self.old self.new) }
+        ensures synced { OnOk result (Syncs Y.synced self.old self.new) }
         ensures unsynced { OnErr result (IsUnsynced Y.synced self.old self.new) }
         ensures notes { Notes Y.failed self.old result self.new }
-        ensures marks { Marks Y.marked D.next D.takes durable self.old result self.new }
+        ensures marked { OnOk result (Y.marked self.new.syncs ≡ after_sync (D.next self.new.disk) flushed (Y.marked self.old.syncs)) }
+        ensures unmarked { OnErr result (Y.marked self.new.syncs ≡ Y.marked self.old.syncs) }
         ensures fault { IfErr result (λ e. e ≡ DiskFault.Failed) }
     {
-        if !durable && self.unsynced <= self.pace.most {
-            return Ok(());
-        }
         let next = self.disk.next_sequence();
-        let flushed = durable && self.disk.takes_changes();
         match self.syncs.sync(next, flushed) {
             Ok(()) => {
                 self.unsynced = 0;
@@ -155,6 +165,21 @@ impl<D: Disk + Sequenced, Y: Syncs> SyncedDisk<D, Y> {
         }
     }
 
+    // Syncs, where what was done is to last or too much was changed.
+    fn settle(&mut self, durable: bool) -> Result<(), DiskFault>
+        ensures disk { self.new.disk ≡ self.old.disk }
+        ensures synced { OnOk result (HasSynced Y.synced durable self.old self.new) }
+        ensures unsynced { OnErr result (IsUnsynced Y.synced self.old self.new) }
+        ensures notes { Notes Y.failed self.old result self.new }
+        ensures marks { Marks Y.marked D.next durable self.old result self.new }
+        ensures fault { IfErr result (λ e. e ≡ DiskFault.Failed) }
+    {
+        if !durable && self.unsynced <= self.pace.most {
+            return Ok(());
+        }
+        self.sync(false)
+    }
+
     // Clears a part of a range, and syncs where that is due.
     fn clear_part(&mut self, offset: u64, count: u32) -> Result<(), DiskFault>
         requires { offset + count ≤ length (D.contents self.old.disk).bytes }
@@ -162,7 +187,8 @@ impl<D: Disk + Sequenced, Y: Syncs> SyncedDisk<D, Y> {
         ensures synced { OnOk result (HasSynced Y.synced false (after_change offset count self.old) self.new) }
         ensures unsynced { OnErr result (IsUnsynced Y.synced (after_change offset count self.old) self.new) }
         ensures notes { Notes Y.failed self.old result self.new }
-        ensures marks { Marks Y.marked D.next D.takes false (after_change offset count self.old) result self.new }
+        ensures marks { Marks Y.marked D.next false (after_change offset count self.old) result self.new }
+        ensures asked { Asks D.does (Task.Trim offset count false) self.old.disk self.new.disk }
     {
         self.count(offset, u64::from(count));
         match self.disk.clear(offset, count, false) {
@@ -178,6 +204,8 @@ impl<D: Disk + Sequenced, Y: Syncs> SyncedDisk<D, Y> {
         ensures syncs { KeepsCount Y.synced self.old self.new }
         ensures counts { OnOk result (0 < count → Counts Y.synced offset count self.old self.new) }
         ensures notes { Notes Y.failed self.old result self.new }
+        ensures parts { Through (ClearsPart D.does offset count) self.old.disk self.new.disk }
+        ensures unflushed { (Y.marked self.new.syncs).flushed ≡ (Y.marked self.old.syncs).flushed }
     {
         if offset.checked_add(u64::from(count)).is_none() {
             return self.clear_part(offset, count);
@@ -192,12 +220,45 @@ impl<D: Disk + Sequenced, Y: Syncs> SyncedDisk<D, Y> {
         }
         Ok(())
     }
+
+    // Whether the disk is known to be flushed and synced, and nothing was programmed since.
+    fn is_known_flushed(&self, counts: bool) -> bool
+        ensures known { result ≡ true → IsKnownFlushed Y.marked D.next counts self.now }
+        ensures unknown { result ≡ false → ¬ IsKnownFlushed Y.marked D.next counts self.now }
+    {
+        counts && self.syncs.mark().flushed == self.disk.next_sequence()
+    }
+
+    /// Closes the disk: it is flushed, so that it may be mounted with any cache and what is damaged later is told, and that is synced. Where its mark `counts`, and says that all was
+    /// flushed and synced up to the very page that is next, nothing was programmed since, and nothing is asked.
+    ///
+    /// # Errors
+    ///
+    /// `Failed` where the flush or the sync failed, or a sync before.
+    pub fn close(&mut self, counts: bool) -> Result<(), DiskFault>
+        ensures performs { Performs (λ s. D.contents s.disk) (λ s. D.honest s.disk) (λ _. false) Task.Flush [] self.old (answer_from result []) self.new }
+        ensures closes { Closes D.does Y.synced Y.failed Y.marked D.next D.takes counts self.old result self.new }
+    {
+        if self.failed {
+            return Err(DiskFault::Failed);
+        }
+        if self.is_known_flushed(counts) {
+            return Ok(());
+        }
+        match self.disk.flush() {
+            Ok(()) => {
+                let flushed = self.disk.takes_changes();
+                self.sync(flushed)
+            }
+            Err(fault) => Err(fault),
+        }
+    }
 }
 
-impl<D: Disk + Sequenced, Y: Syncs> Disk for SyncedDisk<D, Y> {
+impl<D: LastingDisk + Sequenced, Y: Syncs> Disk for SyncedDisk<D, Y> {
     ghost use Rattle.std.specs.Prelude.{◌≡◌, ◌≤◌, ◌+◌, true, false, [], length, Err, OnErr, OnOk};
     ghost use Rattle.nbd_stream.specs.Disk.{Performs, answer_from};
-    ghost use Rattle.disk_server.specs.Synced.{EndsSynced, HasSynced, IsUnsynced, KeepsSyncs, Marks, Notes, RestsSynced, after_change};
+    ghost use Rattle.disk_server.specs.Synced.{RestsSynced, SyncsTask};
 
     ghost contents = { λ s. D.contents s.disk };
 
@@ -205,75 +266,47 @@ impl<D: Disk + Sequenced, Y: Syncs> Disk for SyncedDisk<D, Y> {
 
     ghost calm = { λ _. false };
 
+    /// The syncs of each task, and what it asks of the disk.
+    ghost does = { SyncsTask D.does Y.synced Y.failed Y.marked D.next };
+
     /// A rest of the disk, and nothing else; after a sync that failed, nothing.
     ghost rests = { RestsSynced D.rests };
 
     ghost leaves = { λ old new. Unit {0} };
 
-    fn read(&mut self, offset: u64, buffer: &mut [u8]) -> Result<(), DiskFault>
-        requires { offset + length buffer.old ≤ length (D.contents self.old.disk).bytes }
-        ensures performs { Performs (λ s. D.contents s.disk) (λ s. D.honest s.disk) (λ _. false) (Task.Read offset (length buffer.old)) [] self.old (answer_from result buffer.new) self.new }
-        ensures unsynced { KeepsSyncs self.old self.new }
-        ensures over { self.old.failed ≡ true → (result ≡ Err DiskFault.Failed) × (self.new ≡ self.old) }
-    {
+    fn read(&mut self, offset: u64, buffer: &mut [u8]) -> Result<(), DiskFault> {
         if self.failed {
             return Err(DiskFault::Failed);
         }
         self.disk.read(offset, buffer)
     }
 
-    fn write(&mut self, offset: u64, bytes: &[u8], durable: bool) -> Result<(), DiskFault>
-        requires { offset + length bytes.now ≤ length (D.contents self.old.disk).bytes }
-        ensures performs { Performs (λ s. D.contents s.disk) (λ s. D.honest s.disk) (λ _. false) (Task.Write offset (length bytes.now) durable) bytes.now self.old (answer_from result []) self.new }
-        ensures synced { OnOk result (HasSynced Y.synced durable (after_change offset (length bytes.now) self.old) self.new) }
-        ensures unsynced { OnErr result (self.old.failed ≡ false → IsUnsynced Y.synced (after_change offset (length bytes.now) self.old) self.new) }
-        ensures notes { Notes Y.failed self.old result self.new }
-        ensures marks { Marks Y.marked D.next D.takes durable (after_change offset (length bytes.now) self.old) result self.new }
-        ensures over { self.old.failed ≡ true → (result ≡ Err DiskFault.Failed) × (self.new ≡ self.old) }
-    {
+    fn write(&mut self, offset: u64, bytes: &[u8], durable: bool) -> Result<(), DiskFault> {
         if self.failed {
             return Err(DiskFault::Failed);
         }
         self.count(offset, bytes.len() as u64);
-        match self.disk.write(offset, bytes, durable) {
+        match self.disk.write(offset, bytes, false) {
             Ok(()) => self.settle(durable),
             Err(fault) => Err(fault),
         }
     }
 
-    fn clear(&mut self, offset: u64, count: u32, durable: bool) -> Result<(), DiskFault>
-        requires { offset + count ≤ length (D.contents self.old.disk).bytes }
-        ensures performs { Performs (λ s. D.contents s.disk) (λ s. D.honest s.disk) (λ _. false) (Task.Trim offset count durable) [] self.old (answer_from result []) self.new }
-        ensures synced { OnOk result (EndsSynced Y.synced durable offset count self.old self.new) }
-        ensures notes { Notes Y.failed self.old result self.new }
-        ensures marked { OnOk result (durable ≡ true → (Y.marked self.new.syncs).synced ≡ D.next self.new.disk) }
-        ensures over { self.old.failed ≡ true → (result ≡ Err DiskFault.Failed) × (self.new ≡ self.old) }
-    {
+    fn clear(&mut self, offset: u64, count: u32, durable: bool) -> Result<(), DiskFault> {
         if self.failed {
             return Err(DiskFault::Failed);
         }
         match self.clear_parts(offset, count) {
-            Ok(()) if durable => self.flush(),
-            Ok(()) => self.settle(false),
+            Ok(()) => self.settle(durable),
             Err(fault) => Err(fault),
         }
     }
 
-    fn flush(&mut self) -> Result<(), DiskFault>
-        ensures performs { Performs (λ s. D.contents s.disk) (λ s. D.honest s.disk) (λ _. false) Task.Flush [] self.old (answer_from result []) self.new }
-        ensures synced { OnOk result (HasSynced Y.synced true self.old self.new) }
-        ensures unsynced { OnErr result (IsUnsynced Y.synced self.old self.new) }
-        ensures notes { Notes Y.failed self.old result self.new }
-        ensures marks { Marks Y.marked D.next D.takes true self.old result self.new }
-        ensures over { self.old.failed ≡ true → (result ≡ Err DiskFault.Failed) × (self.new ≡ self.old) }
-    {
+    fn flush(&mut self) -> Result<(), DiskFault> {
         if self.failed {
             return Err(DiskFault::Failed);
         }
-        match self.disk.flush() {
-            Ok(()) => self.settle(true),
-            Err(fault) => Err(fault),
-        }
+        self.settle(true)
     }
 
     fn rest(&mut self) -> Result<(), DiskFault> {

@@ -75,10 +75,10 @@ programs_synced s m t row page sync_when done w lt puts syncs =
     }
 
 -- what is held after a sync that was done
-abbrev synced : Held → Held
+abbrev pub synced : Held → Held
 synced s = record { geometry = s.geometry; pages = s.pages; durable = s.pages }
 
-synced_is : (s m : Held) → Syncs s true m → m.geometry ≡ s.geometry → m ≡ synced s
+pub synced_is : (s m : Held) → Syncs s true m → m.geometry ≡ s.geometry → m ≡ synced s
 synced_is s m syncs e = held_is m s.geometry s.pages e syncs.same (syncs.synced refl)
   where
     held_is : (h : Held) (g : Geometry) (pages : Image) → h.geometry ≡ g → h.pages ≡ pages → h.durable ≡ pages → h ≡ record { geometry = g; pages = pages; durable = pages }

@@ -5,3 +5,7 @@ pub mod DieLemmas
 pub mod ChangeLemmas
 pub mod OpenLemmas
 pub mod DieLawLemmas
+pub mod BytesLemmas
+pub mod RowLemmas
+pub mod BlankLemmas
+pub mod FileLawLemmas

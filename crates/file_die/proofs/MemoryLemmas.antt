@@ -36,7 +36,7 @@ puts g old new row page raw is = record {
 }
 
 -- a row of another block
-other_row : (pages block row : ℕ) (left : List Page) (image : Image) → length left ≡ pages → block * pages + pages ≤ length image → (row < block * pages) ⊎ (block * pages + pages ≤ row) → get_or (with_block pages block left image) row no_page ≡ get_or image row no_page
+pub other_row : (pages block row : ℕ) (left : List Page) (image : Image) → length left ≡ pages → block * pages + pages ≤ length image → (row < block * pages) ⊎ (block * pages + pages ≤ row) → get_or (with_block pages block left image) row no_page ≡ get_or image row no_page
 other_row pages block row left image size fits (inl lt) =
     let a : ℕ = block * pages in
     let l : row < length (take a image) = omega (arith, length-take a image, fits, lt) in
@@ -52,7 +52,7 @@ other_row pages block row left image size fits (inr ge) =
     ∙ (get_or-drop (a + pages) image (row - length (take a image) - length left) no_page ∙ ap (λ i. get_or image i no_page) back))
 
 -- a row is of the block just where it lies between the block's first and last
-outside : (pages block row : ℕ) → 0 < pages → row / pages ≢ block → (row < block * pages) ⊎ (block * pages + pages ≤ row)
+pub outside : (pages block row : ℕ) → 0 < pages → row / pages ≢ block → (row < block * pages) ⊎ (block * pages + pages ≤ row)
 outside pages block row some ne = elim (cases_lt row (block * pages)) [
   | inl lt ↦ inl lt
   | inr ge ↦ elim (cases_lt row (block * pages + pages)) [

@@ -10,3 +10,9 @@ pub mod DieLaws
 pub mod Open
 -- a store in memory
 pub mod Memory
+-- a file of bytes
+pub mod Bytes
+-- a file of rows
+pub mod Rows
+-- what bytes over others are, and the rows of a file
+pub mod FileLaws

@@ -1,5 +1,6 @@
 //! What the clauses of a store and of a die over one come to. Each function does nothing: its contract is the law.
 ghost use Rattle.file_die.specs.DieLaws.{AddingGoesLaw, AlwaysLaw, CopiesLaw, ImagesLaw, KeepsLaw, LandsLaw, SinceSyncLaw, WipesLaw};
+ghost use Rattle.file_die.specs.FileLaws.{OverLaw, RawLaw};
 ghost use Rattle.file_die.specs.Laws.{StaysLaw, ReadBackLaw, ClearedLaw, LoadLaw, SyncLaw, WholeLaw};
 
 /// What an honest store holds, over any calls, done or failed: what was put at a row is loaded again until it is put at or cleared, and an erased
@@ -27,4 +28,11 @@ pub fn die_laws()
     ensures images { ImagesLaw }
     ensures since_sync { SinceSyncLaw }
     ensures adding { AddingGoesLaw }
+{}
+
+/// Bytes over others stand in their place, and before them and behind them stands what stood there; and the rows of a file of pages without codes are the
+/// pages of the raw image that its bytes are. (This project's.)
+pub fn file_laws()
+    ensures over { OverLaw }
+    ensures raw { RawLaw }
 {}

@@ -1,3 +1,4 @@
+mod CallLemmas
 mod EndLemmas
 mod LineLemmas
 mod RestLemmas

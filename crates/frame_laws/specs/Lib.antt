@@ -1,3 +1,4 @@
+pub mod CallWords
 pub mod Ends
 pub mod Lines
 pub mod RestWords

@@ -1,7 +1,8 @@
-//! Laws on a stream of requests: what is said where it ends or fails; on a line of which a part was written; and on rests between requests of NBD. They stand in no crate
-//! that others rest on, so that a new one has nothing proved again.
+//! Laws on a stream of requests: what is said where it ends or fails; on a line of which a part was written; and on the calls and rests of a disk for requests of NBD. They
+//! stand in no crate that others rest on, so that a new one has nothing proved again.
 #![tactic(auto)]
 
+ghost use Rattle.frame_laws.specs.CallWords.{AskedLaw, CallWordLaw};
 ghost use Rattle.frame_laws.specs.Ends.{AtEndLaw, NoHeaderLaw, CutLaw};
 ghost use Rattle.frame_laws.specs.Lines.{PartLaw, SentLineLaw};
 ghost use Rattle.frame_laws.specs.RestWords.{RestWordLaw};
@@ -26,4 +27,11 @@ pub fn line_laws()
 /// disk is as it was. (This project.)
 pub fn rest_laws<D: Disk>()
     ensures { RestWordLaw D.contents D.honest D.calm D.rests }
+{}
+
+/// A disk is asked what a request of NBD asks, zeroes as a trim. A request that is answered without an error is a call that the disk itself says was done, and an
+/// error is the one that its call ended with. (This project.)
+pub fn call_laws<D: Disk>()
+    ensures asked { AskedLaw }
+    ensures told { CallWordLaw D.contents D.honest D.calm D.does }
 {}

@@ -1,75 +1,72 @@
--- What a call of a disk comes to, from what it comes to over the die, if there is one.
-use Rattle.std.proofs.Common.{◌≡◌, ◌≢◌, ◌⊎◌, inl, inr, ℕ, List, Option, Some, None, Result, Ok, Err, refl, sym, subst, ap, ◌∙◌}
-use Rattle.std.specs.Prelude.{IfOk, IfErr, MatchResult}
+-- What a call comes to over a die, from what was brought over it.
+use Rattle.std.proofs.Common.{◌≡◌, ◌≢◌, inl, inr, ℕ, Bool, true, List, [], length, Option, Some, None, Result, Ok, Err, sym, ◌∙◌, subst}
+use Rattle.std.specs.Prelude.{false, IfOk, IfErr}
+use Rattle.std.proofs.lemmas.Bool.{cases_eq}
+use Rattle.page_layout.specs.declared.geometry.Geometry.{Geometry}
+use Rattle.page_layout.specs.Array.{array_of}
+use Rattle.page_layout.specs.Flash.{Flash}
+use Rattle.page_layout.specs.Raw.{still}
+use Rattle.onfi_cycles.specs.Cycles.{Unreset}
 use Rattle.certificate.specs.Claim.{Claim}
+use Rattle.ftl_device.specs.declared.device.Device.{Device}
+use Rattle.ftl_device.specs.Calls.{array_in}
+use Rattle.device_slot.specs.declared.power.PowerFault.{PowerFault}
+use Rattle.device_slot.specs.Begun.{IsBegun, IsKept}
+use Rattle.device_slot.specs.Power.{IsBrought, IsUnaccepted, IsUnsettled}
 use Rattle.device_slot.specs.Slot.{SlotState}
-use Rattle.ftl_disk.specs.declared.disk.Disk.{Disk}
+use Rattle.ftl_disk.specs.declared.descriptors.Descriptors.{Descriptors}
 use Rattle.ftl_disk.specs.declared.plan.Plan.{Plan}
-use Rattle.ftl_disk.specs.Die.{Die, IsDieFor, IsUnreset, way_of, flash_in, honest_in, failed_in, programs_in}
-use Rattle.ftl_disk.specs.Dies.{CertifiesBy, IsFormattedBy, StartsBy, StartsByClaim}
-use Rattle.ftl_disk.specs.Disk.{CertifiesDisk, IsFormatting, IsStarting, IsStartingBy}
+use Rattle.ftl_disk.specs.Dies.{CertifiesBy, IsCertifiedBy, IsPut, StartsBy, StartsByClaim}
+use Rattle.ftl_disk.specs.Die.{Die, ReachesDie, stays, way_of}
+use Rattle.ftl_disk.specs.Either.{LeadsTo, Reaches}
+use Rattle.ftl_disk.specs.Measures.{certificate_bytes}
+use Rattle.ftl_disk.specs.NoLaw.{no_law}
 
--- by whether there is a die
-either : {A E Goal : Type 0} {P S : A → Type 0} {Q T : E → Type 0} (r : Result A E) → IfOk r P → IfErr r Q → MatchResult r S T → ((a : A) → P a → S a → Goal) → ((e : E) → Q e → T e → Goal) → Goal
-either (Ok a) its fault comes ok err = ok a its comes
-either (Err e) its fault comes ok err = err e fault comes
+-- descriptors are never honest
+pub leads : (p : Plan) (link : Descriptors)
+    → LeadsTo (λ (d : Descriptors). record { flash = still d.geometry []; phase = Unreset; status = 0 }) (λ d. still d.geometry []) (λ d. false) (λ d. false) p link
+leads p link = record { plain = λ none h. no_law h; raw = λ c is h. no_law h; clean = λ c is h. no_law h }
 
--- where there is one
-pub there : {A E : Type 0} (S : A → Type 0) (T : E → Type 0) (r : Result A E) (a : A) → r ≡ Ok a → S a → MatchResult r S T
-there {A} {E} S T r a is so = subst (λ (x : Result A E). MatchResult x S T) (sym is) so
+-- over the way to the die of a disk
+pub reached : (p : Plan) (way link : Descriptors) (number : ℕ) (Stays : Type 0) (Comes : Die → Type 0) → way ≡ way_of link p.geometry → Reaches stays p way number Stays Comes
+    → ReachesDie p link number Stays Comes
+reached p way link number Stays Comes is reaches = subst (λ (l : Descriptors). Reaches stays p l number Stays Comes) is reaches
 
--- a slot as it was is in a disk as it was
-as_it_was : (was : Disk) (slot : SlotState Die) → slot ≡ was.slot → record was { slot = slot } ≡ was
-as_it_was was slot same = ap (λ (s : SlotState Die). record was { slot = s }) same
+-- a device that was begun is kept
+pub begun_kept : {N : Type 0} (flash : N → Flash) (honest : N → Bool) (r : Result (Device N) (PowerFault N)) → IfOk r (IsBegun flash honest) → IfOk r (IsKept flash honest)
+begun_kept flash honest (Ok device) begun = begun.kept
+begun_kept flash honest (Err why) begun = tt
 
--- why there is no die is never told as done
-no_zero : (p : Plan) (number : ℕ) → IsUnreset p number → number ≢ 0
-no_zero p number (inl six) none = (let no : 6 ≡ 0 = sym six ∙ none in absurd (cc))
-no_zero p number (inr four) none = (let no : 4 ≡ 0 = sym four.0 ∙ none in absurd (cc))
+pub brought_kept : {N : Type 0} (flash : N → Flash) (honest : N → Bool) (failed : N → ℕ) (die : N) (g : Geometry) (cache : ℕ) (r : Result (Device N) (PowerFault N))
+    → IfOk r (IsBrought flash honest failed die g cache) → IfOk r (IsKept flash honest)
+brought_kept flash honest failed die g cache (Ok device) brings = brings.begun.kept
+brought_kept flash honest failed die g cache (Err why) brings = tt
 
-module _ (was : Disk) (made : Result Die ℕ) (number : ℕ) (its : IfOk made (IsDieFor was.plan (way_of was.link was.plan.geometry))) (fault : IfErr made (IsUnreset was.plan)) where
-  pub formats : MatchResult made (λ die. IsFormattedBy flash_in honest_in programs_in failed_in was.plan.geometry die number) (λ n. number ≡ n) → IsFormatting was number was
-  formats comes =
-      either made its fault comes
-      (λ die for formatted. record { same = refl; why = inr (record { die = die; its = for; formats = formatted }) })
-      (λ n unreset is. record { same = refl; why = inl (subst (IsUnreset was.plan) (sym is) unreset) })
+-- a certificate, put into bytes that may be as many
+pub filled : {N : Type 0} (flash : N → Flash) (honest : N → Bool) (failed : N → ℕ) (g : Geometry) (cache : ℕ) (die : N) (given out bytes : List ℕ) (number : ℕ) → IsCertifiedBy flash honest g cache die bytes
+    → (length bytes ≡ length given → (number ≡ 0) × (out ≡ bytes)) → (length bytes ≢ length given → (number ≡ 18) × (out ≡ given)) → CertifiesBy flash honest failed g cache die given number out
+filled flash honest failed g cache die given out bytes number its same other = elim (cases_eq (length bytes) (length given)) [
+  | inl e ↦ (let so = same e in record {
+    kept = λ some. absurd (some so.0);
+    why = λ some. absurd (some so.0);
+    made = λ done. subst (λ (b : List ℕ). IsCertifiedBy flash honest g cache die b) (sym so.1) its;
+  })
+  | inr ne ↦ (let so = other ne in record {
+    kept = λ some. so.1;
+    why = λ some. inl (so.0, λ (e : length given ≡ certificate_bytes g). ne (its.sized ∙ sym e));
+    made = λ done. (let no : 18 ≡ 0 = sym so.0 ∙ done in absurd (cc));
+  })
+]
 
-  pub starts : (slot : SlotState Die) → MatchResult made (λ die. StartsBy flash_in honest_in failed_in was.plan.geometry was.plan.cache die was.slot number slot) (λ n. (number ≡ n) × (slot ≡ was.slot))
-      → IsStarting was number (record was { slot = slot })
-  starts slot comes =
-      either made its fault comes
-      (λ die for started. elim started [
-        | inl put ↦ inl (put.0, record { die = die; its = for; device = put.1.device; holds = record { stands = put.1.stands; same = record { plan = refl; link = refl } }; brings = put.1.brings })
-        | inr not ↦ inr (record { same = as_it_was was slot not.0; why = inr (record { die = die; its = for; why = not.1 }) })
-      ])
-      (λ n unreset is. inr (record { same = as_it_was was slot is.1; why = inl (subst (IsUnreset was.plan) (sym is.0) unreset) }))
+module _ {N : Type 0} (flash : N → Flash) (honest : N → Bool) (failed : N → ℕ) (g : Geometry) (cache : ℕ) (die : N) (was : SlotState N) (number : ℕ) (is : SlotState N) where
+  pub starts : (r : Result (Device N) (PowerFault N)) → IfOk r (IsBrought flash honest failed die g cache) → IfErr r (IsUnsettled flash honest failed die g cache) → IsPut r was number is
+      → StartsBy flash honest failed g cache die was number is
+  starts (Ok device) brings fault put = inl (put.0, record { device = device; stands = put.1; brings = brings })
+  starts (Err why) brings fault put = inr (put.1, record { fault = why; number_is = put.0; unsettled = fault })
 
-  pub starts_by : (c : Claim) (slot : SlotState Die) → MatchResult made (λ die. StartsByClaim flash_in honest_in failed_in was.plan.geometry was.plan.cache c die was.slot number slot) (λ n. (number ≡ n) × (slot ≡ was.slot))
-      → IsStartingBy was c number (record was { slot = slot })
-  starts_by c slot comes =
-      either made its fault comes
-      (λ die for started. elim started [
-        | inl put ↦ inl (put.0, record { die = die; its = for; device = put.1.device; holds = record { stands = put.1.stands; same = record { plan = refl; link = refl } }; brings = put.1.brings })
-        | inr not ↦ inr (record { same = as_it_was was slot not.0; why = inr (record { die = die; its = for; why = not.1 }) })
-      ])
-      (λ n unreset is. inr (record { same = as_it_was was slot is.1; why = inl (subst (IsUnreset was.plan) (sym is.0) unreset) }))
-
-  pub certifies : (given out : List ℕ) → MatchResult made (λ die. CertifiesBy flash_in honest_in failed_in was.plan.geometry was.plan.cache die given number out) (λ n. (number ≡ n) × (out ≡ given))
-      → CertifiesDisk was given number out
-  certifies given out comes =
-      either made its fault comes
-      (λ die for it. record {
-        kept = it.kept;
-        why = λ some. elim (it.why some) [
-          | inl size ↦ inl size
-          | inr not ↦ inr (some, inr (record { die = die; its = for; given = not.0; why = not.1 }))
-        ];
-        made = λ done. record { die = die; its = for; certifies = it.made done };
-      })
-      (λ n unreset is.
-      let so : IsUnreset was.plan number = subst (IsUnreset was.plan) (sym is.0) unreset in
-      record {
-        kept = λ some. is.1;
-        why = λ some. inr (some, inl so);
-        made = λ done. absurd (no_zero was.plan number so done);
-      })
+  pub starts_by : (c : Claim) (r : Result (Device N) (PowerFault N)) → IfOk r (IsBegun flash honest) → IfOk r (λ d. d.engine.geometry ≡ g) → IfOk r (λ d. d.engine.mapping.capacity ≡ cache)
+      → IfOk r (λ d. honest die ≡ true → array_in flash d ≡ array_of g (flash die).image) → IfOk r (λ d. honest die ≡ true → flash d.engine.nand ≡ flash die)
+      → IfErr r (IsUnaccepted flash honest failed die g cache c) → IsPut r was number is → StartsByClaim flash honest failed g cache c die was number is
+  starts_by c (Ok device) begun sized capacity array pages fault put =
+      inl (put.0, record { device = device; stands = put.1; brings = record { begun = begun; sized = sized; cache_is = capacity; array = array; pages = pages } })
+  starts_by c (Err why) begun sized capacity array pages fault put = inr (put.1, record { fault = why; number_is = put.0; unaccepted = fault })

@@ -1,1 +1,3 @@
 mod DieLemmas
+mod ResetLemmas
+mod SizeLemmas

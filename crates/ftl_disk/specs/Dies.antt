@@ -1,5 +1,5 @@
 -- WHAT A CALL OF A DISK COMES TO OVER ANY DIE, and by which number.
-use Rattle.std.specs.Prelude.{◌≡◌, ◌≢◌, ◌⊎◌, ℕ, Bool, true, List, Some, None, Result, Err}
+use Rattle.std.specs.Prelude.{◌≡◌, ◌≢◌, ◌⊎◌, ℕ, Bool, true, List, length, Some, None, Result, Ok, Err}
 use Rattle.page_layout.specs.declared.geometry.Geometry.{Geometry}
 use Rattle.page_layout.specs.Array.{array_of}
 use Rattle.page_layout.specs.Counter.{HasRisen}
@@ -19,6 +19,7 @@ use Rattle.device_slot.specs.declared.power.PowerFault.{PowerFault}
 use Rattle.device_slot.specs.Begun.{IsBegun}
 use Rattle.device_slot.specs.Power.{IsBrought, IsUnaccepted, IsUnsettled}
 use Rattle.device_slot.specs.Slot.{SlotState}
+use Rattle.ftl_disk.specs.Measures.{certificate_bytes}
 use Rattle.ftl_disk.specs.Numbers.{of_formatting, of_power, of_refusal}
 
 -- A FORMAT: its number is that of what the format answered, which an honest die shows, and a failed bus was counted
@@ -33,6 +34,11 @@ pub record FormatsBy {N : Type 0} (flash : N → Flash) (honest : N → Bool) (p
 pub record IsFormattedBy {N : Type 0} (flash : N → Flash) (honest : N → Bool) (programs failed : N → ℕ) (g : Geometry) (die : N) (number : ℕ) : Type 0 where
   pub after : N
   pub formats : FormatsBy flash honest programs failed g die number after
+
+-- the device that was brought stands in the slot; or the number is that of why there is none, and the slot is as it was
+abbrev pub IsPut : {N : Type 0} → Result (Device N) (PowerFault N) → (was : SlotState N) → (number : ℕ) → (is : SlotState N) → Type 0
+IsPut (Ok device) was number is = (number ≡ 0) × (is ≡ record { device = Some device; shortage = None })
+IsPut (Err fault) was number is = (number ≡ of_power fault) × (is ≡ was)
 
 -- A DEVICE STANDS IN THE SLOT, which power brought over the die
 pub record IsPutBy {N : Type 0} (flash : N → Flash) (honest : N → Bool) (failed : N → ℕ) (g : Geometry) (cache : ℕ) (die : N) (slot : SlotState N) : Type 0 where
@@ -74,11 +80,12 @@ abbrev pub StartsByClaim : {N : Type 0} → (N → Flash) → (N → Bool) → (
 StartsByClaim flash honest failed g cache c die was number is =
     ((number ≡ 0) × IsPutByClaim flash honest g cache die is) ⊎ ((is ≡ was) × IsUncheckedBy flash honest failed g cache c die number)
 
--- THE BYTES OF THE CERTIFICATE of what a die holds: of an honest one it agrees with the image, and leaves no sequence out
+-- THE BYTES OF THE CERTIFICATE of what a die holds, as many as one of its geometry has: of an honest one it agrees with the image, and leaves no sequence out
 pub record IsCertifiedBy {N : Type 0} (flash : N → Flash) (honest : N → Bool) (g : Geometry) (cache : ℕ) (die : N) (bytes : List ℕ) : Type 0 where
   pub claim : Claim
   pub fits : spelling.Fits claim
   pub spelled : bytes ≡ spelling.certificate_bytes claim
+  pub sized : length bytes ≡ certificate_bytes g
   pub asked : IsAsked g cache claim
   pub mounted : honest die ≡ true → IsMounted g cache (flash die).image claim
 
@@ -94,8 +101,8 @@ pub record IsRefusedBy {N : Type 0} (flash : N → Flash) (honest : N → Bool) 
 abbrev pub IsUncertifiedBy : {N : Type 0} → (N → Flash) → (N → Bool) → (N → ℕ) → Geometry → (cache : ℕ) → N → (number : ℕ) → N → Type 0
 IsUncertifiedBy flash honest failed g cache die number given = (number ≡ 4) ⊎ IsRefusedBy flash honest failed g cache die number given
 
--- A CERTIFICATE IS MADE over a die, or the number says why not, and the bytes stay
+-- A CERTIFICATE IS MADE over a die, or the number says why not, and the bytes stay: 18 where they are not as many
 pub record CertifiesBy {N : Type 0} (flash : N → Flash) (honest : N → Bool) (failed : N → ℕ) (g : Geometry) (cache : ℕ) (die : N) (given : List ℕ) (number : ℕ) (out : List ℕ) : Type 0 where
   pub kept : number ≢ 0 → out ≡ given
-  pub why : number ≢ 0 → (number ≡ 18) ⊎ ((after : N) × IsUncertifiedBy flash honest failed g cache die number after)
+  pub why : number ≢ 0 → ((number ≡ 18) × (length given ≢ certificate_bytes g)) ⊎ ((after : N) × IsUncertifiedBy flash honest failed g cache die number after)
   pub made : number ≡ 0 → IsCertifiedBy flash honest g cache die out

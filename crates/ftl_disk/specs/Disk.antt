@@ -1,16 +1,14 @@
 -- WHAT LIES AT A HANDLE, and what each call makes of it.
-use Rattle.std.specs.Prelude.{◌≡◌, ◌≢◌, ◌⊎◌, ℕ, ℤ, Bool, true, false, List, [], length, Some, None, Result, is_some}
+use Rattle.std.specs.Prelude.{◌≡◌, ◌≢◌, ◌⊎◌, ⊤, ℕ, ℤ, Bool, true, false, List, [], length, None, Result, is_some}
 use Rattle.promises.specs.Step as step
 use Rattle.certificate.specs.Claim.{Claim}
 use Rattle.certificate.specs.Spelling as spelling
 use Rattle.certificate.specs.declared.fault.CertFault.{CertFault}
 use Rattle.certificate.specs.Faults.{IsFirstFault}
-use Rattle.ftl_device.specs.declared.device.Device.{Device}
 use Rattle.device_slot.specs.declared.slot.CallFault.{CallFault}
-use Rattle.device_slot.specs.Power.{IsBrought}
 use Rattle.device_slot.specs.Calls.{IsCall, Told, ToldSized}
-use Rattle.ftl_disk.specs.Die.{Die, IsDieFor, IsUnreset, way_of, flash_in, recorded_in, honest_in, failed_in, programs_in, erases_in}
-use Rattle.ftl_disk.specs.Dies.{IsBroughtBy, IsCertifiedBy, IsFormattedBy, IsUncertifiedBy, IsUncheckedBy, IsUnstartedBy}
+use Rattle.ftl_disk.specs.Die.{Die, ReachesDie, flash_in, recorded_in, honest_in, failed_in, programs_in, erases_in}
+use Rattle.ftl_disk.specs.Dies.{CertifiesBy, IsFormattedBy, StartsBy, StartsByClaim}
 use Rattle.ftl_disk.specs.Measures.{certificate_bytes}
 use Rattle.ftl_disk.specs.Numbers.{of_call, of_certificate}
 use Rattle.ftl_disk.specs.Plans.{IsPlanOf}
@@ -40,117 +38,55 @@ pub record IsForStopped (was : Disk) (number : ℕ) (is : Disk) (Then : Type 0) 
 
 -- ---- power
 
--- the die took the reset, and was formatted or refused
-pub record HasFormatted (was : Disk) (number : ℕ) : Type 0 where
-  pub die : Die
-  pub its : IsDieFor was.plan (way_of was.link was.plan.geometry) die
-  pub formats : IsFormattedBy flash_in honest_in programs_in failed_in was.plan.geometry die number
-
 -- A FORMAT leaves the disk as it was: with no device
 pub record IsFormatting (was : Disk) (number : ℕ) (is : Disk) : Type 0 where
   pub same : is ≡ was
-  pub why : IsUnreset was.plan number ⊎ HasFormatted was number
+  pub formats : ReachesDie was.plan was.link number ⊤ (λ die. IsFormattedBy flash_in honest_in programs_in failed_in was.plan.geometry die number)
 
 abbrev pub Formats : Disk → ℕ → Disk → Type 0
 Formats was number is = IsForStopped was number is (IsFormatting was number is)
 
--- a device stands there
-pub record Holds (was : Disk) (device : Device Die) (is : Disk) : Type 0 where
-  pub stands : is.slot ≡ record { device = Some device; shortage = None }
+-- A START: 0 with a device that power brought over the die, of the disk's geometry and with at least its cache; or the number of what kept it from one, and the slot as it was
+pub record IsStarting (was : Disk) (number : ℕ) (is : Disk) : Type 0 where
   pub same : IsSame was is
-
--- one that power brought over the die: of the disk's geometry and with at least its cache
-pub record HasBegun (was is : Disk) : Type 0 where
-  pub die : Die
-  pub its : IsDieFor was.plan (way_of was.link was.plan.geometry) die
-  pub device : Device Die
-  pub holds : Holds was device is
-  pub brings : IsBrought flash_in honest_in failed_in die was.plan.geometry was.plan.cache device
-
--- the die took the reset, and power brought no device
-pub record IsUnstarted (was : Disk) (number : ℕ) : Type 0 where
-  pub die : Die
-  pub its : IsDieFor was.plan (way_of was.link was.plan.geometry) die
-  pub why : IsUnstartedBy flash_in honest_in failed_in was.plan.geometry was.plan.cache die number
-
--- why there is none: the die took no Reset, or that; and the disk is as it was
-pub record IsStopped (was : Disk) (number : ℕ) (is : Disk) (Why : Type 0) : Type 0 where
-  pub same : is ≡ was
-  pub why : IsUnreset was.plan number ⊎ Why
-
--- A START: 0 with a device, or the number of what kept it from one, and the disk as it was
-abbrev pub IsStarting : Disk → ℕ → Disk → Type 0
-IsStarting was number is = ((number ≡ 0) × HasBegun was is) ⊎ IsStopped was number is (IsUnstarted was number)
+  pub starts : ReachesDie was.plan was.link number (is.slot ≡ was.slot) (λ die. StartsBy flash_in honest_in failed_in was.plan.geometry was.plan.cache die was.slot number is.slot)
 
 abbrev pub Starts : Disk → ℕ → Disk → Type 0
 Starts was number is = IsForStopped was number is (IsStarting was number is)
 
+-- the same by this certificate
+pub record IsStartingBy (was : Disk) (c : Claim) (number : ℕ) (is : Disk) : Type 0 where
+  pub same : IsSame was is
+  pub starts : ReachesDie was.plan was.link number (is.slot ≡ was.slot) (λ die. StartsByClaim flash_in honest_in failed_in was.plan.geometry was.plan.cache c die was.slot number is.slot)
+
 -- the bytes are none of a certificate: the first fault that stands in them
-pub record IsNoCertificateBy (bytes : List ℕ) (number : ℕ) : Type 0 where
+pub record IsNoCertificate (was : Disk) (bytes : List ℕ) (number : ℕ) (is : Disk) : Type 0 where
+  pub same : is ≡ was
   pub fault : CertFault
   pub first : IsFirstFault bytes fault
   pub number_is : number ≡ of_certificate fault
 
--- they are not as many as a certificate of this disk has, or none
-pub record IsNoCertificate (was : Disk) (bytes : List ℕ) (number : ℕ) (is : Disk) : Type 0 where
-  pub same : is ≡ was
-  pub why : ((number ≡ 18) × (length bytes ≢ certificate_bytes was.plan.geometry)) ⊎ IsNoCertificateBy bytes number
-
--- a device stands there that began from this certificate
-pub record HasBegunBy (was : Disk) (c : Claim) (is : Disk) : Type 0 where
-  pub die : Die
-  pub its : IsDieFor was.plan (way_of was.link was.plan.geometry) die
-  pub device : Device Die
-  pub holds : Holds was device is
-  pub brings : IsBroughtBy flash_in honest_in die was.plan.geometry was.plan.cache device
-
--- the die took the reset, and this certificate brought no device
-pub record IsUnstartedAt (was : Disk) (c : Claim) (number : ℕ) : Type 0 where
-  pub die : Die
-  pub its : IsDieFor was.plan (way_of was.link was.plan.geometry) die
-  pub why : IsUncheckedBy flash_in honest_in failed_in was.plan.geometry was.plan.cache c die number
-
-abbrev pub IsStartingBy : Disk → Claim → ℕ → Disk → Type 0
-IsStartingBy was c number is = ((number ≡ 0) × HasBegunBy was c is) ⊎ IsStopped was number is (IsUnstartedAt was c number)
-
--- the bytes are those of a certificate, by which it starts
+-- they are those of a certificate, by which it starts
 pub record StartsByOne (was : Disk) (bytes : List ℕ) (number : ℕ) (is : Disk) : Type 0 where
   pub claim : Claim
   pub fits : spelling.Fits claim
   pub spelled : spelling.certificate_bytes claim ≡ bytes
   pub starts : IsStartingBy was claim number is
 
--- A START BY A CERTIFICATE, which is held against the die
-abbrev pub StartsBy : Disk → List ℕ → ℕ → Disk → Type 0
-StartsBy was bytes number is = IsNoCertificate was bytes number is ⊎ StartsByOne was bytes number is
+-- A START BY A CERTIFICATE, which is held against the die: 18 just where the bytes are not as many as one of this disk has
+pub record StartsByBytes (was : Disk) (bytes : List ℕ) (number : ℕ) (is : Disk) : Type 0 where
+  pub sized : length bytes ≢ certificate_bytes was.plan.geometry → (number ≡ 18) × (is ≡ was)
+  pub starts : length bytes ≡ certificate_bytes was.plan.geometry → IsNoCertificate was bytes number is ⊎ StartsByOne was bytes number is
 
 abbrev pub StartsCertified : Disk → List ℕ → ℕ → Disk → Type 0
-StartsCertified was bytes number is = IsForStopped was number is (StartsBy was bytes number is)
+StartsCertified was bytes number is = IsForStopped was number is (StartsByBytes was bytes number is)
 
--- the bytes of a certificate of a die of this disk, for its cache
-pub record IsCertified (was : Disk) (bytes : List ℕ) : Type 0 where
-  pub die : Die
-  pub its : IsDieFor was.plan (way_of was.link was.plan.geometry) die
-  pub certifies : IsCertifiedBy flash_in honest_in was.plan.geometry was.plan.cache die bytes
+-- the die's certificate is made, into bytes that may be as many
+abbrev pub CertifiesDisk : Disk → (given : List ℕ) → ℕ → (out : List ℕ) → Type 0
+CertifiesDisk was given number out =
+    ReachesDie was.plan was.link number (out ≡ given) (λ die. CertifiesBy flash_in honest_in failed_in was.plan.geometry was.plan.cache die given number out)
 
--- the die took the reset, and has none
-pub record IsUnmountedAt (was : Disk) (number : ℕ) : Type 0 where
-  pub die : Die
-  pub its : IsDieFor was.plan (way_of was.link was.plan.geometry) die
-  pub given : Die
-  pub why : IsUncertifiedBy flash_in honest_in failed_in was.plan.geometry was.plan.cache die number given
-
--- or the number of what kept the die from one: its link, its pages, or memory
-abbrev pub IsUncertified : Disk → ℕ → Type 0
-IsUncertified was number = (number ≢ 0) × (IsUnreset was.plan number ⊎ IsUnmountedAt was number)
-
--- A CERTIFICATE IS MADE, or the number says why not, and the bytes stay
-pub record CertifiesDisk (was : Disk) (given : List ℕ) (number : ℕ) (out : List ℕ) : Type 0 where
-  pub kept : number ≢ 0 → out ≡ given
-  pub why : number ≢ 0 → (number ≡ 18) ⊎ IsUncertified was number
-  pub made : number ≡ 0 → IsCertified was out
-
--- into as many bytes as one of this disk has; and the disk stays
+-- A CERTIFICATE IS MADE, or the number says why not, and the bytes stay: 18 just where they are not as many as one of this disk has
 pub record IsCertifying (was : Disk) (given : List ℕ) (number : ℕ) (out : List ℕ) (is : Disk) : Type 0 where
   pub same : is ≡ was
   pub sized : length given ≢ certificate_bytes was.plan.geometry → (number ≡ 18) × (out ≡ given)

@@ -1,7 +1,107 @@
--- A die of one of two kinds is what the one that it holds is.
+-- A DIE OF ONE OF TWO KINDS behind a link: one whose pages read back as they were programmed, or one over a chip whose pages have codes. It is what the one that it holds is.
+use Rattle.std.specs.Prelude.{◌≡◌, ◌⊎◌, ℕ, Bool, true, List, [], Option, Some, None, IsSome, Result}
+use Rattle.page_layout.specs.declared.geometry.Geometry.{Geometry}
+use Rattle.page_layout.specs.Flash.{Flash}
+use Rattle.page_layout.specs.Recording.{Recording}
+use Rattle.onfi_cycles.specs.declared.nand.BusFault.{BusFault}
+use Rattle.onfi_cycles.specs.Cycles.{Command, DieState, IsCounted}
+use Rattle.onfi_cycles.specs.Driver.{DriverState, flash_by, seen}
+use Rattle.onfi_cycles.specs.Spelling.{done, refused}
+use Rattle.page_code.specs.declared.chip.ChipGeometry.{ChipGeometry}
+use Rattle.corrected_nand.specs.Errors.{no_errors}
+use Rattle.corrected_nand.specs.ChipBus.{ChipDriverState}
+use Rattle.corrected_nand.specs.Corrected.{CorrectedState}
+use Rattle.corrected_nand.specs.Shown.{clean_flash}
+use Rattle.stream_bus.specs.Behind.{Behind}
+use Rattle.stream_bus.specs.Carried.{Sent}
 use Rattle.ftl_disk.specs.declared.either.EitherDie.{EitherDie}
 use Rattle.ftl_disk.specs.declared.either.EitherDie.TheVariants.{Plain, Coded}
+use Rattle.ftl_disk.specs.declared.plan.Plan.{Plan}
 
-abbrev pub of_either : {P C A : Type 0} → (P → A) → (C → A) → EitherDie P C → A
+abbrev pub PlainDie : Type 0 → Type 0
+PlainDie L = DriverState (Behind L)
+
+abbrev pub CodedDie : Type 0 → Type 0
+CodedDie L = CorrectedState (ChipDriverState (Behind L))
+
+abbrev pub of_either : {L A : Type 0} → (PlainDie L → A) → (CodedDie L → A) → EitherDie L → A
 of_either plain coded (Plain die) = plain die
 of_either plain coded (Coded die) = coded die
+
+-- what stands in it, by the die at the other end of the link, or by the chip there without the codes
+abbrev pub flash_of : {L : Type 0} → (L → DieState) → (L → Flash) → EitherDie L → Flash
+flash_of die chip d = of_either (λ p. flash_by (λ b. die b.link) p) (λ c. clean_flash (seen c.nand.geometry (chip c.nand.driver.bus.link))) d
+
+-- whether it is honest, by the link's honesty, or by whether that keeps the law of such a chip
+abbrev pub honest_of : {L : Type 0} → (L → Bool) → (L → Bool) → EitherDie L → Bool
+honest_of honest keeps d = of_either (λ p. honest p.bus.link) (λ c. keeps c.nand.driver.bus.link) d
+
+-- the record that the link tells; of a chip with codes none
+abbrev pub recorded_of : {L : Type 0} → (L → Option Recording) → EitherDie L → Option Recording
+recorded_of recorded d = of_either (λ p. recorded p.bus.link) (λ c. None) d
+
+-- what it counts
+abbrev pub reads_of : {L : Type 0} → EitherDie L → ℕ
+reads_of d = of_either (λ p. p.reads) (λ c. c.reads) d
+
+abbrev pub programs_of : {L : Type 0} → EitherDie L → ℕ
+programs_of d = of_either (λ p. p.programs) (λ c. c.programs) d
+
+abbrev pub erases_of : {L : Type 0} → EitherDie L → ℕ
+erases_of d = of_either (λ p. p.erases) (λ c. c.erases) d
+
+abbrev pub failed_of : {L : Type 0} → EitherDie L → ℕ
+failed_of d = of_either (λ p. p.failures) (λ c. c.failures) d
+
+-- ---- a Reset over a link
+
+-- what a link says of one exchange
+abbrev pub Asked : Type 0 → Type 1
+Asked L = L → List ℕ → List ℕ → ℕ → List ℕ → L → Type 0
+
+-- a link to a die of this plan: to one of its geometry, or to a chip of that with codes
+pub record LeadsTo {L : Type 0} (die : L → DieState) (chip : L → Flash) (honest keeps : L → Bool) (p : Plan) (link : L) : Type 0 where
+  pub plain : p.chip ≡ None → honest link ≡ true → (die link).flash.geometry ≡ p.geometry
+  pub raw : (c : ChipGeometry) → p.chip ≡ Some c → honest link ≡ true → (die link).flash.geometry ≡ c.raw
+  pub clean : (c : ChipGeometry) → p.chip ≡ Some c → keeps link ≡ true → (chip link).geometry ≡ p.geometry
+
+-- a die whose pages read back as they were programmed: its link took Reset, and it has counted nothing
+pub record IsPlainFor {L : Type 0} (called : Asked L) (p : Plan) (link : L) (die : PlainDie L) : Type 0 where
+  pub none : p.chip ≡ None
+  pub reset : Sent called link (Command 0xFF) done [] die.bus.link
+  pub geometry : die.geometry ≡ p.geometry
+  pub fresh : die.failures ≡ 0
+
+-- one over a chip of this geometry: the same
+pub record IsCodedFor {L : Type 0} (called : Asked L) (p : Plan) (link : L) (die : CodedDie L) : Type 0 where
+  pub chip : p.chip ≡ Some (record { raw = die.nand.driver.geometry })
+  pub reset : Sent called link (Command 0xFF) done [] die.nand.driver.bus.link
+  pub geometry : die.nand.geometry ≡ p.geometry
+  pub fresh : die.failures ≡ 0
+  pub errors : die.errors ≡ no_errors p.geometry.blocks
+
+-- A DIE FOR A PLAN, after Reset: with codes or without, as the plan says
+abbrev pub IsDieFor : {L : Type 0} → Asked L → Plan → L → EitherDie L → Type 0
+IsDieFor called p link (Plain die) = IsPlainFor called p link die
+IsDieFor called p link (Coded die) = IsCodedFor called p link die
+
+-- THE LINK FAILED: Reset was asked of it and refused, by a device's failure only where that was counted
+pub record IsLinkLost {L : Type 0} (called : Asked L) (link : L) : Type 0 where
+  pub fault : BusFault
+  pub after : Behind L
+  pub reset : Sent called link (Command 0xFF) (refused fault) [] after.link
+  pub counted : IsCounted 0 after.failures fault
+
+-- why there is none: 6, where the link failed; or 4, where of a chip with codes memory was refused
+abbrev pub IsUnreset : {L : Type 0} → Asked L → Plan → L → (number : ℕ) → Type 0
+IsUnreset called p link number = ((number ≡ 6) × IsLinkLost called link) ⊎ ((number ≡ 4) × IsSome p.chip)
+
+-- a die took Reset, and this comes of it
+pub record IsReached {L : Type 0} (called : Asked L) (p : Plan) (link : L) (Comes : EitherDie L → Type 0) : Type 0 where
+  pub die : EitherDie L
+  pub its : IsDieFor called p link die
+  pub comes : Comes die
+
+-- A CALL OF THE DIE BEHIND A LINK: what comes of it once it took Reset; or the number of why there is none, and nothing else changes
+abbrev pub Reaches : {L : Type 0} → Asked L → Plan → L → (number : ℕ) → (Stays : Type 0) → (Comes : EitherDie L → Type 0) → Type 0
+Reaches called p link number Stays Comes = IsReached called p link Comes ⊎ (Stays × IsUnreset called p link number)

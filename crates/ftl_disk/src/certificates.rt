@@ -1,20 +1,20 @@
 //! Certificates of a disk, in and out.
-ghost use Rattle.std.specs.Prelude.{◌≡◌, None};
-ghost use Rattle.ftl_disk.specs.Disk.{Certifies, CertifiesDisk, IsCertifying, IsStartingBy, StartsBy, StartsCertified};
+ghost use Rattle.ftl_disk.specs.Disk.{Certifies, CertifiesDisk, IsCertifying, IsStartingBy, StartsByBytes, StartsCertified};
 
-use crate::dies::{certify_over, start_checked_over};
-use crate::disk::{Disk, reset};
+use crate::behind::{certify_behind, start_checked_behind};
+use crate::disk::{Disk, way_to};
 use crate::measures::certificate_bytes;
 use crate::number::{STARTED, WRONG_SIZE, of_certificate};
 use certificate::{Certificate, read_certificate};
 
 // The certificate of what the die holds is written to `out`.
+#[tactic(auto, using(crate::proofs::DieLemmas::leads))]
 fn certified(disk: &Disk, out: &mut [u8]) -> u32
     ensures { CertifiesDisk disk.now out.old result out.new }
 {
-    certify_over(
+    certify_behind(
         disk.alloc,
-        reset(disk.alloc, &disk.link, &disk.plan),
+        way_to(&disk.link, disk.plan.geometry),
         &disk.plan,
         out,
     )
@@ -41,13 +41,13 @@ pub fn certify(disk: &mut Disk, out: &mut [u8]) -> u32
 }
 
 // The certificate is held against the die, and the device begins.
+#[tactic(auto, using(crate::proofs::DieLemmas::leads))]
 fn begin_by(disk: &mut Disk, certificate: &Certificate) -> u32
-    requires { disk.old.slot.device ≡ None }
     ensures { IsStartingBy disk.old certificate.now result disk.new }
 {
-    start_checked_over(
+    start_checked_behind(
         disk.alloc,
-        reset(disk.alloc, &disk.link, &disk.plan),
+        way_to(&disk.link, disk.plan.geometry),
         &disk.plan,
         certificate,
         &mut disk.slot,
@@ -56,8 +56,7 @@ fn begin_by(disk: &mut Disk, certificate: &Certificate) -> u32
 
 // The bytes are read as a certificate first.
 fn begin_certified(disk: &mut Disk, bytes: &[u8]) -> u32
-    requires { disk.old.slot.device ≡ None }
-    ensures { StartsBy disk.old bytes.now result disk.new }
+    ensures { StartsByBytes disk.old bytes.now result disk.new }
 {
     if bytes.len() as u64 != certificate_bytes(&disk.plan.geometry) {
         return WRONG_SIZE;

@@ -1,52 +1,35 @@
-//! What the calls of a disk come to, over any die, or where there is none. So only these, which are told of any die, are proved over what a device has.
-ghost use Rattle.std.specs.Prelude.{◌≡◌, ◌≢◌, IfOk, IfErr, MatchResult};
-ghost use Rattle.ftl_disk.specs.Dies.{CertifiesBy, IsCertifiedBy, IsFormattedBy, IsUncertifiedBy, StartsBy, StartsByClaim};
+//! What the calls of a disk come to, over any die.
+ghost use Rattle.std.specs.Prelude.{◌≡◌, ◌≢◌, length, IfOk, IfErr};
+ghost use Rattle.device_slot.specs.Begun.{IsKept};
+ghost use Rattle.ftl_disk.specs.Dies.{CertifiesBy, IsCertifiedBy, IsFormattedBy, IsPut, IsUncertifiedBy, StartsBy, StartsByClaim};
 
 use crate::number::{DONE, WRONG_SIZE, of_certificate, of_format, of_power, of_refusal};
 use crate::plan::Plan;
 use certificate::{Certificate, write_certificate};
-use device_slot::{Slot, start, start_checked};
+use device_slot::{PowerFault, Slot, start, start_checked};
+use ftl_device::Device;
 use mount::{format, mount};
 use onfi_cycles::Nand;
 use page_layout::geometry::Geometry;
 use std::alloc::Global;
 
-/// Makes a die ready; of none the number of why comes.
-pub(crate) fn format_over<N: Nand + Drop>(
-    alloc: Global,
-    made: Result<N, u32>,
-    geometry: &Geometry,
-) -> u32
-    requires { IfOk made (λ die. (N.flash die).geometry ≡ geometry.now) }
-    ensures { MatchResult made (λ die. IsFormattedBy N.flash N.honest N.programs N.failed geometry.now die result) (λ number. result ≡ number) }
+/// Makes a die ready.
+pub(crate) fn format_over<N: Nand + Drop>(alloc: Global, mut die: N, geometry: &Geometry) -> u32
+    requires { (N.flash die).geometry ≡ geometry.now }
+    ensures { IsFormattedBy N.flash N.honest N.programs N.failed geometry.now die result }
 {
-    let mut die = match made {
-        Ok(die) => die,
-        Err(number) => return number,
-    };
     match format(alloc, &mut die, geometry) {
         Ok(_) => DONE,
         Err(fault) => of_format(fault),
     }
 }
 
-/// The device that power brings over a die stands in the slot; or the number of what kept it from one comes, and the slot is as it was.
-pub(crate) fn start_over<N: Nand + Drop>(
-    alloc: Global,
-    made: Result<N, u32>,
-    plan: &Plan,
-    slot: &mut Slot<N>,
-) -> u32
-    requires { IfOk made (λ die. (N.flash die).geometry ≡ plan.now.geometry) }
-    ensures { MatchResult made
-        (λ die. StartsBy N.flash N.honest N.failed plan.now.geometry plan.now.cache die slot.old result slot.new)
-        (λ number. (result ≡ number) × (slot.new ≡ slot.old)) }
+// The device that power brought stands in the slot; or the number of why there is none comes.
+fn put<N: Nand + Drop>(brought: Result<Device<N>, PowerFault<N>>, slot: &mut Slot<N>) -> u32
+    requires { IfOk brought (IsKept N.flash N.honest) }
+    ensures { IsPut brought slot.old result slot.new }
 {
-    let die = match made {
-        Ok(die) => die,
-        Err(number) => return number,
-    };
-    match start(alloc, die, &plan.geometry, plan.cache) {
+    match brought {
         Ok(device) => {
             slot.put(device);
             DONE
@@ -55,30 +38,35 @@ pub(crate) fn start_over<N: Nand + Drop>(
     }
 }
 
+/// The device that power brings over a die stands in the slot; or the number of what kept it from one comes, and the slot is as it was.
+#[tactic(auto, using(crate::proofs::DieLemmas::brought_kept))]
+pub(crate) fn start_over<N: Nand + Drop>(
+    alloc: Global,
+    die: N,
+    plan: &Plan,
+    slot: &mut Slot<N>,
+) -> u32
+    requires { (N.flash die).geometry ≡ plan.now.geometry }
+    ensures { StartsBy N.flash N.honest N.failed plan.now.geometry plan.now.cache die slot.old result slot.new }
+{
+    let brought = start(alloc, die, &plan.geometry, plan.cache);
+    put(brought, slot)
+}
+
 /// The same of the device that begins from a certificate over a die.
+#[tactic(auto, using(crate::proofs::DieLemmas::begun_kept))]
 pub(crate) fn start_checked_over<N: Nand + Drop>(
     alloc: Global,
-    made: Result<N, u32>,
+    die: N,
     plan: &Plan,
     certificate: &Certificate,
     slot: &mut Slot<N>,
 ) -> u32
-    requires { IfOk made (λ die. (N.flash die).geometry ≡ plan.now.geometry) }
-    ensures { MatchResult made
-        (λ die. StartsByClaim N.flash N.honest N.failed plan.now.geometry plan.now.cache certificate.now die slot.old result slot.new)
-        (λ number. (result ≡ number) × (slot.new ≡ slot.old)) }
+    requires { (N.flash die).geometry ≡ plan.now.geometry }
+    ensures { StartsByClaim N.flash N.honest N.failed plan.now.geometry plan.now.cache certificate.now die slot.old result slot.new }
 {
-    let die = match made {
-        Ok(die) => die,
-        Err(number) => return number,
-    };
-    match start_checked(alloc, die, &plan.geometry, plan.cache, certificate) {
-        Ok(device) => {
-            slot.put(device);
-            DONE
-        }
-        Err(fault) => of_power(&fault),
-    }
+    let brought = start_checked(alloc, die, &plan.geometry, plan.cache, certificate);
+    put(brought, slot)
 }
 
 // The bytes of the certificate of what a die holds, or the number of what kept it from one.
@@ -98,30 +86,30 @@ fn certificate_of<N: Nand>(alloc: Global, die: &mut N, plan: &Plan) -> Result<Ve
     }
 }
 
+// The bytes are written to `out`, which has to be as long.
+fn fill(bytes: &[u8], out: &mut [u8]) -> u32
+    ensures same { length bytes.now ≡ length out.old → (result ≡ 0) × (out.new ≡ bytes.now) }
+    ensures other { length bytes.now ≢ length out.old → (result ≡ 18) × (out.new ≡ out.old) }
+{
+    if bytes.len() != out.len() {
+        return WRONG_SIZE;
+    }
+    out.copy_from_slice(bytes);
+    DONE
+}
+
 /// The certificate of what a die holds is written to `out`; or the number of what kept it from that comes, and the bytes stay.
 pub(crate) fn certify_over<N: Nand + Drop>(
     alloc: Global,
-    made: Result<N, u32>,
+    mut die: N,
     plan: &Plan,
     out: &mut [u8],
 ) -> u32
-    requires { IfOk made (λ die. (N.flash die).geometry ≡ plan.now.geometry) }
-    ensures { MatchResult made
-        (λ die. CertifiesBy N.flash N.honest N.failed plan.now.geometry plan.now.cache die out.old result out.new)
-        (λ number. (result ≡ number) × (out.new ≡ out.old)) }
+    requires { (N.flash die).geometry ≡ plan.now.geometry }
+    ensures { CertifiesBy N.flash N.honest N.failed plan.now.geometry plan.now.cache die out.old result out.new }
 {
-    let mut die = match made {
-        Ok(die) => die,
-        Err(number) => return number,
-    };
     match certificate_of(alloc, &mut die, plan) {
-        Ok(bytes) => {
-            if bytes.len() != out.len() {
-                return WRONG_SIZE;
-            }
-            out.copy_from_slice(&bytes);
-            DONE
-        }
+        Ok(bytes) => fill(&bytes, out),
         Err(number) => number,
     }
 }

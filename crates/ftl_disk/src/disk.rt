@@ -1,30 +1,21 @@
 //! A disk, as it lies behind a handle.
-ghost use Rattle.std.specs.Prelude.{◌≡◌, None, Some, IfOk, IfErr, MatchResult};
-ghost use Rattle.page_code.specs.Chip.{IsChipOf};
-ghost use Rattle.corrected_nand.specs.Errors.{no_errors};
-ghost use Rattle.ftl_disk.specs.Die.{IsCodedFor, IsDieFor, IsPlainFor, IsUnreset, flash_in, way_of};
+ghost use Rattle.std.specs.Prelude.{◌≡◌, None, MatchResult};
+ghost use Rattle.ftl_disk.specs.Die.{way_of};
 ghost use Rattle.ftl_disk.specs.Plans.{IsUnplanned};
 ghost use Rattle.ftl_disk.specs.Disk.{Flushes, Formats, IsFormatting, IsStarting, Opens, Reads, Starts, Stops, Trims, Turns, Writes};
 
+use crate::behind::{format_behind, start_behind};
 use crate::descriptors::Descriptors;
-use crate::dies::{format_over, start_over};
 use crate::either::EitherDie;
-use crate::number::{BUS_FAULT, DONE, OUT_OF_MEMORY, STARTED, of_call};
+use crate::number::{DONE, STARTED, of_call};
 use crate::plan::Plan;
 use crate::shape::Shape;
-use corrected_nand::{ChipDriver, Corrected, ReadErrors, die_on_chip};
 use device_slot::Slot;
-use onfi_cycles::Driver;
-use page_code::chip::ChipGeometry;
 use page_layout::geometry::Geometry;
 use std::alloc::Global;
-use stream_bus::StreamBus;
 
 /// The die of a disk.
-pub(crate) type Die = EitherDie<
-    Driver<StreamBus<Descriptors>>,
-    Corrected<ChipDriver<StreamBus<Descriptors>>>,
->;
+pub(crate) type Die = EitherDie<Descriptors>;
 
 /// A disk: what it is made for, the way to its die, and the device while it is started. (This project's.)
 #[derive(Drop)]
@@ -35,59 +26,8 @@ pub struct Disk {
     pub(crate) slot: Slot<Die>,
 }
 
-// A die whose pages read back as they were programmed.
-fn plain_die(bus: StreamBus<Descriptors>, plan: &Plan) -> Result<Die, u32>
-    requires geometry { bus.link.geometry ≡ plan.now.geometry }
-    requires none { plan.now.chip ≡ None }
-    ensures die { IfOk result (IsDieFor plan.now bus.link) }
-    ensures geometry { IfOk result (λ die. (flash_in die).geometry ≡ plan.now.geometry) }
-    ensures fault { IfErr result (λ number. number ≡ 6) }
-{
-    match Driver::new(bus, plan.geometry) {
-        Ok(die) => Ok(EitherDie::Plain(die)),
-        Err(_) => Err(BUS_FAULT),
-    }
-}
-
-// A die over a chip whose pages have codes.
-fn coded_die(
-    alloc: Global,
-    bus: StreamBus<Descriptors>,
-    plan: &Plan,
-    chip: &ChipGeometry,
-) -> Result<Die, u32>
-    requires geometry { bus.link.geometry ≡ plan.now.geometry }
-    requires some { plan.now.chip ≡ Some chip.now }
-    requires pages { IsChipOf plan.now.geometry chip.now.raw }
-    ensures die { IfOk result (IsDieFor plan.now bus.link) }
-    ensures geometry { IfOk result (λ die. (flash_in die).geometry ≡ plan.now.geometry) }
-    ensures fault { IfErr result (IsUnreset plan.now) }
-{
-    let errors = match ReadErrors::new(alloc, plan.geometry.blocks()) {
-        Ok(errors) => errors,
-        Err(_) => return Err(OUT_OF_MEMORY),
-    };
-    match die_on_chip(bus, plan.geometry, chip, errors) {
-        Ok(die) => Ok(EitherDie::Coded(die)),
-        Err(_) => Err(BUS_FAULT),
-    }
-}
-
-/// The die of a disk, after Reset; or the number of the link's failure, or of want of memory.
-pub(crate) fn reset(alloc: Global, link: &Descriptors, plan: &Plan) -> Result<Die, u32>
-    ensures die { IfOk result (IsDieFor plan.now (way_of link.now plan.now.geometry)) }
-    ensures geometry { IfOk result (λ die. (flash_in die).geometry ≡ plan.now.geometry) }
-    ensures fault { IfErr result (IsUnreset plan.now) }
-{
-    let bus = StreamBus::new(way_to(link, plan.geometry));
-    match &plan.chip {
-        None => plain_die(bus, plan),
-        Some(chip) => coded_die(alloc, bus, plan, chip),
-    }
-}
-
 /// The way to the die of a disk.
-fn way_to(link: &Descriptors, geometry: Geometry) -> Descriptors
+pub(crate) fn way_to(link: &Descriptors, geometry: Geometry) -> Descriptors
     ensures { result ≡ way_of link.now geometry }
 {
     Descriptors {
@@ -120,24 +60,25 @@ pub fn open(alloc: Global, shape: &Shape, input: i32, output: i32) -> Result<Dis
 }
 
 // Makes the die ready.
+#[tactic(auto, using(crate::proofs::DieLemmas::leads))]
 fn make_ready(disk: &mut Disk) -> u32
     ensures { IsFormatting disk.old result disk.new }
 {
-    format_over(
+    format_behind(
         disk.alloc,
-        reset(disk.alloc, &disk.link, &disk.plan),
-        &disk.plan.geometry,
+        way_to(&disk.link, disk.plan.geometry),
+        &disk.plan,
     )
 }
 
 // Mounts the die, and begins.
+#[tactic(auto, using(crate::proofs::DieLemmas::leads))]
 fn begin(disk: &mut Disk) -> u32
-    requires { disk.old.slot.device ≡ None }
     ensures { IsStarting disk.old result disk.new }
 {
-    start_over(
+    start_behind(
         disk.alloc,
-        reset(disk.alloc, &disk.link, &disk.plan),
+        way_to(&disk.link, disk.plan.geometry),
         &disk.plan,
         &mut disk.slot,
     )

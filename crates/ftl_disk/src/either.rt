@@ -1,35 +1,35 @@
 //! A die of one of two kinds.
-ghost use Rattle.ftl_disk.specs.Either.{of_either};
+ghost use Rattle.ftl_disk.specs.Either.{erases_of, failed_of, flash_of, honest_of, programs_of, reads_of, recorded_of};
 
-use onfi_cycles::{BusFault, Nand, Outcome};
+use corrected_nand::{ChipDriver, Corrected};
+use onfi_cycles::{BusFault, Driver, Nand, Outcome};
 use page_layout::source::{PageSource, SourceFault};
+use stream_bus::{ChipLink, StreamBus};
 
-/// A die whose pages read back as they were programmed, or one over a chip whose reads have wrong bits. It is what the one that it holds is, and honest
-/// where that is. (This project's.)
+/// A die behind a link whose pages read back as they were programmed, or one over a chip there whose reads have wrong bits. It is what the one that
+/// it holds is, and honest where that is. (This project's.)
 #[derive(Drop)]
-pub enum EitherDie<P: Nand, C: Nand> {
+pub enum EitherDie<L: ChipLink> {
     /// The first kind.
-    Plain(P),
+    Plain(Driver<StreamBus<L>>),
     /// The second.
-    Coded(C),
+    Coded(Corrected<ChipDriver<StreamBus<L>>>),
 }
 
-impl<P: Nand, C: Nand> PageSource for EitherDie<P, C> {
-    ghost flash = { λ d. of_either P.flash C.flash d };
+impl<L: ChipLink> PageSource for EitherDie<L> {
+    ghost flash = { λ d. flash_of L.die L.chip d };
 
-    ghost honest = { λ d. of_either P.honest C.honest d };
+    ghost honest = { λ d. honest_of L.honest L.keeps d };
 
-    ghost reads = { λ d. of_either P.reads C.reads d };
+    ghost reads = { λ d. reads_of d };
 
-    ghost programs = { λ d. of_either P.programs C.programs d };
+    ghost programs = { λ d. programs_of d };
 
-    ghost erases = { λ d. of_either P.erases C.erases d };
+    ghost erases = { λ d. erases_of d };
 
-    ghost failed = { λ d. of_either P.failed C.failed d };
+    ghost failed = { λ d. failed_of d };
 
-    ghost calm = { λ d. of_either P.calm C.calm d };
-
-    ghost recorded = { λ d. of_either P.recorded C.recorded d };
+    ghost recorded = { λ d. recorded_of L.recorded d };
 
     fn read_page(
         &mut self,
@@ -51,7 +51,7 @@ impl<P: Nand, C: Nand> PageSource for EitherDie<P, C> {
     }
 }
 
-impl<P: Nand, C: Nand> Nand for EitherDie<P, C> {
+impl<L: ChipLink> Nand for EitherDie<L> {
     fn program(&mut self, row: u32, body: &[u8], spare: &[u8]) -> Result<Outcome, BusFault> {
         match self {
             EitherDie::Plain(die) => die.program(row, body, spare),

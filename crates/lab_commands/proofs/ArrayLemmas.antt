@@ -4,11 +4,13 @@ use Rattle.std.specs.Prelude.{IsSomeAnd}
 use Rattle.std.specs.Borrow.{Bor}
 use Rattle.page_layout.specs.declared.geometry.Geometry.{Geometry}
 use Rattle.lab_commands.specs.declared.words.ArrayWords.{ArrayWords}
+use Rattle.lab_commands.specs.declared.words.UntilWords.{UntilWords}
 use Rattle.lab_commands.specs.declared.files.Standing.{Standing}
 use Rattle.lab_commands.specs.declared.files.Standing.TheVariants as standing
 use Rattle.lab_commands.specs.declared.text.LabFault.{LabFault}
 use Rattle.lab_commands.specs.declared.text.LabFault.TheVariants as fault
 use Rattle.lab_commands.specs.Files.{Answers, AnswersNoMore, Store}
+use Rattle.lab_commands.specs.Numbers.{IsLastAt, IsNoLast}
 use Rattle.lab_commands.specs.Undone.{IsGeometryAt, IsNoGeometry, IsKeptThere, IsMapUnplaced, IsUnread, IsUnwritten}
 use Rattle.lab_commands.specs.Array.{AreAllowed, AreNotAllowed, IsArrayFault, IsMapNotAllowed, IsUnmapped, IsUnput, as_map}
 use Rattle.lab_commands.proofs.UndoneLemmas.{left_all, map_unplaced_before}
@@ -48,12 +50,18 @@ map_kept_there a words file what _ said some other k = absurd k
 
 -- ---- the command
 
-pub no_geometry : (a : Answers) (words : ArrayWords) (k : Option Store) (opens opened : Option ℕ) (broke : Bool) (out : Option (List ℕ)) (told : LabFault) → IsNoGeometry words.geometry.now told → IsArrayFault a words k k opens opened broke out out told
+pub no_geometry : (a : Answers) (words : UntilWords) (k : Option Store) (opens opened : Option ℕ) (broke : Bool) (out : Option (List ℕ)) (told : LabFault) → IsNoGeometry words.array.geometry.now told → IsArrayFault a words k k opens opened broke out out told
 no_geometry a words k opens opened broke out told h = inl (left_all k k out refl, inl h)
 
-pub not_allowed : (a : Answers) (words : ArrayWords) (g : Geometry) (k after : Option Store) (opens opened : Option ℕ) (broke : Bool) (out : Option (List ℕ)) (told : LabFault) → IsGeometryAt words.geometry.now g → after ≡ k → AreNotAllowed a words told → IsArrayFault a words k after opens opened broke out out told
-not_allowed a words g k after opens opened broke out told is same h = inl (left_all k after out same, inr (g, is, inl h))
+pub no_last : (a : Answers) (words : UntilWords) (g : Geometry) (k : Option Store) (opens opened : Option ℕ) (broke : Bool) (out : Option (List ℕ)) (told : LabFault) → IsGeometryAt words.array.geometry.now g → IsNoLast words.until told
+    → IsArrayFault a words k k opens opened broke out out told
+no_last a words g k opens opened broke out told is h = inl (left_all k k out refl, inr (g, is, inl h))
 
-pub not_put : (a : Answers) (words : ArrayWords) (g : Geometry) (k after : Option Store) (opens opened : Option ℕ) (broke : Bool) (out : Option (List ℕ)) (told : LabFault) → IsGeometryAt words.geometry.now g → AreAllowed a words → after ≡ k → IsUnput a g words opens opened told
+pub not_allowed : (a : Answers) (words : UntilWords) (g : Geometry) (last : Option ℕ) (k after : Option Store) (opens opened : Option ℕ) (broke : Bool) (out : Option (List ℕ)) (told : LabFault) → IsGeometryAt words.array.geometry.now g → IsLastAt words.until last → after ≡ k → AreNotAllowed a words.array told
     → IsArrayFault a words k after opens opened broke out out told
-not_put a words g k after opens opened broke out told is allowed same h = inl (left_all k after out same, inr (g, is, inr (allowed, h)))
+not_allowed a words g last k after opens opened broke out told is at same h = inl (left_all k after out same, inr (g, is, inr (last, at, inl h)))
+
+pub not_put : (a : Answers) (words : UntilWords) (g : Geometry) (last : Option ℕ) (k after : Option Store) (opens opened : Option ℕ) (broke : Bool) (out : Option (List ℕ)) (told : LabFault) → IsGeometryAt words.array.geometry.now g → IsLastAt words.until last → AreAllowed a words.array → after ≡ k
+    → IsUnput a g words.array opens opened told
+    → IsArrayFault a words k after opens opened broke out out told
+not_put a words g last k after opens opened broke out told is at allowed same h = inl (left_all k after out same, inr (g, is, inr (last, at, inr (allowed, h))))

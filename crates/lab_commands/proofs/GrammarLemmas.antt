@@ -23,11 +23,13 @@ simple_here g same = ap is_simple_and_free same ∙ simple_grammar
 command_by : (found : Asked) (g : App) (words : List (List ℕ)) (name : Bor (List ℕ)) (given : CommandWords) → g ≡ grammar → IsMet g words (met.Command name given) → IsAt name.now (entries_of given) found → IsAsked words found
 command_by (asked.Geometry read) g words name given same is at = asked_by IsAt g grammar words name given (asked.Geometry read) same is at
 command_by (asked.Array read) g words name given same is at = asked_by IsAt g grammar words name given (asked.Array read) same is at
+command_by (asked.History read) g words name given same is at = asked_by IsAt g grammar words name given (asked.History read) same is at
 command_by (asked.Survey read) g words name given same is at = asked_by IsAt g grammar words name given (asked.Survey read) same is at
 command_by (asked.Compare read) g words name given same is at = asked_by IsAt g grammar words name given (asked.Compare read) same is at
 command_by (asked.Merge read) g words name given same is at = asked_by IsAt g grammar words name given (asked.Merge read) same is at
 command_by (asked.Repair read) g words name given same is at = asked_by IsAt g grammar words name given (asked.Repair read) same is at
 command_by (asked.Correct read) g words name given same is at = asked_by IsAt g grammar words name given (asked.Correct read) same is at
+command_by (asked.Arrange read) g words name given same is at = asked_by IsAt g grammar words name given (asked.Arrange read) same is at
 command_by (asked.Text text) g words name given same is at = absurd at
 
 -- of all that a command with these words may ask for

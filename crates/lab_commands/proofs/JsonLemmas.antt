@@ -8,10 +8,13 @@ use Rattle.lab_correct.specs.declared.found.FoundFit.{FoundFit}
 use Rattle.lab_correct.specs.Coded.{found_as}
 use Rattle.lab_dump.specs.declared.doubts.Doubts.{Doubts}
 use Rattle.lab_dump.specs.declared.rows.Rows.{Rows}
+use Rattle.lab_dump.specs.declared.history.SectorPage.{SectorPage}
+use Rattle.lab_dump.specs.declared.history.Wrote.{Wrote}
+use Rattle.lab_dump.specs.declared.history.Wrote.TheVariants as wrote
 use Rattle.lab_dump.specs.Doubts.{most_older}
 use Rattle.lab_mend.specs.declared.merging.Tally.{Tally}
-use Rattle.lab_commands.specs.Values.{age_data, block_data, corrected_data, doubt_data, fit_members, found_data, front_words, head_data, key_data, lost_data, lost_row_data, mended_count_data, mended_data, merged_data, pages_data}
-use Rattle.lab_commands.specs.Values.{plain_block_data, reason_pages_data, reason_table_data, repeated_data, row_data, rows_age_data, rows_data}
+use Rattle.lab_commands.specs.Values.{age_data, age_until_data, arranged_data, block_data, corrected_data, doubt_data, fit_members, found_data, front_words, head_data, history_data, key_data, lost_data, lost_row_data}
+use Rattle.lab_commands.specs.Values.{mended_count_data, mended_data, merged_data, page_data, pages_data, plain_block_data, reason_pages_data, reason_table_data, repeated_data, row_data, rows_age_data, rows_data}
 use Rattle.std.specs.Prelude.{codes, ◌==◌, if◌then◌else◌}
 use Rattle.json.specs.Print.{escape, escape_byte, quoted}
 use Rattle.lab_dump.specs.declared.fit.TableSays.{TableSays}
@@ -25,7 +28,7 @@ use Rattle.lab_commands.specs.declared.lines.Sort.TheVariants as sort
 use Rattle.lab_commands.specs.declared.document.Report.{Report}
 use Rattle.lab_commands.specs.declared.document.Report.TheVariants as report
 use Rattle.lab_commands.specs.Document.{report_words}
-use Rattle.lab_commands.specs.Lines.{class_words, label_words, made_words, says_words, sort_words}
+use Rattle.lab_commands.specs.Lines.{class_words, label_words, made_words, says_words, sort_words, wrote_words}
 
 -- what stands between the quotes, and what follows
 pub quoted_in : (w rest : List ℕ) → escape w ≡ w → quoted w ++ rest ≡ 34 ∷ (w ++ 34 ∷ rest)
@@ -77,15 +80,22 @@ unfolding escape_byte
 plain_made made.Sound = refl
 plain_made made.Erased = refl
 
+pub plain_wrote : (w : Wrote) → escape (wrote_words w) ≡ wrote_words w
+unfolding escape_byte
+plain_wrote wrote.Data = refl
+plain_wrote wrote.Trim = refl
+
 pub plain_report : (r : Report) → escape (report_words r) ≡ report_words r
 unfolding escape_byte
 plain_report report.Geometry = refl
 plain_report report.Survey = refl
 plain_report report.Array = refl
+plain_report report.History = refl
 plain_report report.Compare = refl
 plain_report report.Merge = refl
 plain_report report.Repair = refl
 plain_report report.Correct = refl
+plain_report report.Arrange = refl
 
 -- the numbers of a list, and what follows it
 pub list_of_two : (a b rest : List ℕ) → (a ++ 44 ∷ (b ++ 93 ∷ [])) ++ rest ≡ a ++ 44 ∷ (b ++ 93 ∷ rest)
@@ -177,6 +187,10 @@ pub corrected_json : (bits : ℕ) (rows : ℕ) (lost : ℕ) (r1 : ℕ) → r1 �
 unfolding escape_byte
 corrected_json bits rows lost r1 e1 = rw (e1) (refl)
 
+pub arranged_json : (rows : ℕ) (r1 : ℕ) → r1 ≡ rows → codes "{\"line\":\"arranged\",\"rows\":" ++ (decimal r1 ++ codes "}") ≡ compact_text (arranged_data rows)
+unfolding escape_byte
+arranged_json rows r1 e1 = rw (e1) (refl)
+
 pub differ_json : (row : ℕ) (r1 : ℕ) → r1 ≡ row → codes "{\"line\":\"differ\",\"row\":" ++ (decimal r1 ++ codes "}") ≡ compact_text (row_data (codes "differ") row)
 unfolding escape_byte
 differ_json row r1 e1 = rw (e1) (refl)
@@ -192,6 +206,18 @@ merged_json differ tally r1 r2 r3 r4 e1 e2 e3 e4 = rw (e1, e2, e3, e4) (refl)
 pub age_json : (doubts : Doubts) (m : ℕ) (r1 : ℕ) → m ≡ most_older doubts → r1 ≡ doubts.unsound → codes "{\"line\":\"age\",\"older\":" ++ (decimal m ++ (codes ",\"unsound\":" ++ (decimal r1 ++ codes "}"))) ≡ compact_text (age_data doubts)
 unfolding escape_byte
 age_json doubts m r1 em e1 = rw (em, e1) (refl)
+
+pub until_json : (last : ℕ) (unsound : ℕ) (r1 : ℕ) → r1 ≡ unsound → codes "{\"line\":\"until\",\"sequence\":" ++ (decimal last ++ (codes ",\"unsound\":" ++ (decimal r1 ++ codes "}"))) ≡ compact_text (age_until_data last unsound)
+unfolding escape_byte
+until_json last unsound r1 e1 = rw (e1) (refl)
+
+pub page_json : (page : SectorPage) (block : ℕ) (r1 : ℕ) (w : List ℕ) (r2 : ℕ) (r3 : ℕ) → r1 ≡ block → w ≡ wrote_words page.wrote → r2 ≡ page.row → r3 ≡ page.version → codes "{\"block\":" ++ (decimal r1 ++ (codes ",\"kind\":\"" ++ (w ++ (codes "\",\"line\":\"page\",\"row\":" ++ (decimal r2 ++ (codes ",\"sequence\":" ++ (decimal page.sequence.0 ++ (codes ",\"version\":" ++ (decimal r3 ++ codes "}"))))))))) ≡ compact_text (page_data page block)
+unfolding escape_byte
+page_json page block r1 w r2 r3 e1 ew e2 e3 = rw (e1, ew, e2, e3) (ap (λ t. codes "{\"block\":" ++ (decimal block ++ (codes ",\"kind\":" ++ t))) (sym (quoted_in (wrote_words page.wrote) (codes ",\"line\":\"page\",\"row\":" ++ (decimal page.row ++ (codes ",\"sequence\":" ++ (decimal page.sequence.0 ++ (codes ",\"version\":" ++ (decimal page.version ++ codes "}")))))) (plain_wrote page.wrote))))
+
+pub history_json : (pages : ℕ) (unsound : ℕ) (r1 : ℕ) → r1 ≡ unsound → codes "{\"line\":\"history\",\"pages\":" ++ (decimal pages ++ (codes ",\"unsound\":" ++ (decimal r1 ++ codes "}"))) ≡ compact_text (history_data pages unsound)
+unfolding escape_byte
+history_json pages unsound r1 e1 = rw (e1) (refl)
 
 pub age_of_rows_json : (unsound : ℕ) (r1 : ℕ) → r1 ≡ unsound → codes "{\"line\":\"rows_age\",\"unsound\":" ++ (decimal r1 ++ codes "}") ≡ compact_text (rows_age_data unsound)
 unfolding escape_byte

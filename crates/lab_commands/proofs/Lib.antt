@@ -11,6 +11,8 @@ pub mod CompareLemmas
 pub mod GeometryLemmas
 pub mod RepairLemmas
 pub mod CorrectLemmas
+pub mod ArrangeLemmas
 pub mod MergeLemmas
 pub mod NameLemmas
 pub mod NameLaws
+mod HistoryLemmas

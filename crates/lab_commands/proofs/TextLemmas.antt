@@ -1,10 +1,13 @@
 -- Parts of a line, one after another.
-use Rattle.std.proofs.Common.{ℕ, List, ◌++◌, Option, Result, Ok, Err, refl}
+use Rattle.std.proofs.Common.{◌≡◌, Bool, true, ℕ, List, ◌++◌, Option, Result, Ok, Err, refl}
 use Rattle.std.specs.Result.{IsErrAnd}
 use Rattle.std.specs.Io.KnownBytes.{Appends}
 use Rattle.std.proofs.KnownBytes.{Appends-trans}
 use Rattle.request_stream.specs.Frames.{AppendsPart}
 use Rattle.request_stream.proofs.Writing.{part_more, part_stop}
+use Rattle.std.specs.Prelude.{OnErr}
+use Rattle.lab_commands.specs.declared.output.OutputFault.{OutputFault}
+use Rattle.lab_commands.specs.Document.{Prints}
 use Rattle.lab_commands.specs.Output.{Puts}
 
 -- what was put after something else
@@ -23,3 +26,12 @@ part_after a b d xs ys first part = part_more a b d xs ys (xs ++ ys) refl first 
 pub put_failed : {T E : Type 0} (P : E → Type 0) (r : Result T E) (a b : Option (List ℕ)) (due : List ℕ) → IsErrAnd r P → AppendsPart a b due → Puts a b due r
 put_failed P (Ok x) a b due h part = absurd h
 put_failed P (Err e) a b due h part = part
+
+-- a document that was printed or stopped is bytes that were put or not
+pub prints_puts : {T : Type 0} (broke : Bool) (a b : Option (List ℕ)) (due : List ℕ) (r : Result T OutputFault) → Prints broke a b due r → Puts a b due r
+prints_puts broke a b due (Ok x) printed = printed
+prints_puts broke a b due (Err e) stops = stops.1
+
+pub prints_fail : {T : Type 0} (broke : Bool) (a b : Option (List ℕ)) (due : List ℕ) (r : Result T OutputFault) → Prints broke a b due r → OnErr r (broke ≡ true)
+prints_fail broke a b due (Ok x) printed = tt
+prints_fail broke a b due (Err e) stops = stops.0

@@ -10,9 +10,11 @@ use Rattle.lab_dump.specs.Written.{IsWritten}
 use Rattle.lab_dump.specs.Map.{map_text}
 use Rattle.lab_commands.specs.Reports.{array_text}
 use Rattle.lab_commands.specs.declared.words.ArrayWords.{ArrayWords}
+use Rattle.lab_commands.specs.declared.words.UntilWords.{UntilWords}
 use Rattle.lab_commands.specs.declared.text.LabFault.{LabFault}
 use Rattle.lab_commands.specs.declared.text.LabFault.TheVariants as fault
 use Rattle.lab_commands.specs.Files.{Answers, IsOpened, Store, with_kept}
+use Rattle.lab_commands.specs.Numbers.{IsLastAt, IsNoLast}
 use Rattle.lab_commands.specs.Undone.{IsGeometryAt, IsHalfPrinted, IsNoGeometry, IsMapUnplaced, IsUnmade, IsUnplaced, IsUnread, IsUnroomed, IsUnwritten, LeavesAll, MayNotWrite, MayWrite, form_of}
 
 -- ---- done
@@ -28,36 +30,38 @@ AllowsMap a words = IfSome words.map (λ file. a.says_same words.out.now file.no
 abbrev pub AreAllowed : Answers → ArrayWords → Type 0
 AreAllowed a words = IsAllowed a words × AllowsMap a words
 
--- the pieces are made of a dump that reads so: where its bytes are known the pieces, the states and the doubts are those of the image that
--- they are
-pub record IsMade (a : Answers) (path : List ℕ) (g : Geometry) (pieces : Option (List (List ℕ))) (held : List Held) (doubts : Doubts) : Type 0 where
+-- the pieces are made of a dump that reads so: where its bytes are known the pieces and the states are those of the image that they are, as of a
+-- sequence where one is said, and the doubts are that image's
+pub record IsMade (a : Answers) (path : List ℕ) (g : Geometry) (last : Option ℕ) (pieces : Option (List (List ℕ))) (held : List Held) (doubts : Doubts) : Type 0 where
   pub known : Option (List ℕ)
   pub opened : IsOpened a path known
-  pub made : IfSome known (IsWritten g pieces held doubts)
+  pub made : IfSome known (IsWritten g last pieces held doubts)
 
 -- the array was made beside OUT, with these states and doubts
-pub record MadeArray (a : Answers) (words : ArrayWords) (g : Geometry) (pieces : Option (List (List ℕ))) (held : List Held) (doubts : Doubts) : Type 0 where
-  pub geometry_is : IsGeometryAt words.geometry.now g
-  pub allowed : AreAllowed a words
-  pub made : IsMade a words.dump.now g pieces held doubts
+pub record MadeArray (a : Answers) (words : UntilWords) (g : Geometry) (last : Option ℕ) (pieces : Option (List (List ℕ))) (held : List Held) (doubts : Doubts) : Type 0 where
+  pub geometry_is : IsGeometryAt words.array.geometry.now g
+  pub last_is : IsLastAt words.until last
+  pub allowed : AreAllowed a words.array
+  pub made : IsMade a words.array.dump.now g last pieces held doubts
 
 -- the files once a map was put in the place of FILE, where one is wanted
 abbrev pub with_map : Option Store → ArrayWords → List ℕ → Option Store
 with_map kept words text = option_map_or (λ file. with_kept kept file.now (Some (text ∷ [])) words.force) words.map kept
 
 -- it was put in the place of OUT, and its map in that of FILE, where one is wanted
-pub record PutArray (a : Answers) (words : ArrayWords) (before after : Option Store) (g : Geometry) (held : List Held) (doubts : Doubts) : Type 0 where
+pub record PutArray (a : Answers) (words : UntilWords) (before after : Option Store) (g : Geometry) (last : Option ℕ) (held : List Held) (doubts : Doubts) : Type 0 where
   pub pieces : Option (List (List ℕ))
-  pub made : MadeArray a words g pieces held doubts
-  pub put : after ≡ with_map (with_kept before words.out.now pieces words.force) words (map_text g (map state_in held))
+  pub made : MadeArray a words g last pieces held doubts
+  pub put : after ≡ with_map (with_kept before words.array.out.now pieces words.array.force) words.array (map_text g (map state_in held))
 
 -- and the report printed
-pub record WroteArray (a : Answers) (words : ArrayWords) (before after : Option Store) (out printed : Option (List ℕ)) : Type 0 where
+pub record WroteArray (a : Answers) (words : UntilWords) (before after : Option Store) (out printed : Option (List ℕ)) : Type 0 where
   pub g : Geometry
+  pub last : Option ℕ
   pub held : List Held
   pub doubts : Doubts
-  pub put : PutArray a words before after g held doubts
-  pub told : Appends out printed (array_text (form_of words.showing) g (map state_in held) doubts)
+  pub put : PutArray a words before after g last held doubts
+  pub told : Appends out printed (array_text (form_of words.array.showing) g last (map state_in held) doubts)
 
 -- ---- not done
 
@@ -95,28 +99,30 @@ IsUnmapped a words told = IsSomeAnd words.map (λ file. IsMapUnplaced a file.now
 abbrev pub IsUnput : Answers → Geometry → ArrayWords → (opens opened : Option ℕ) → LabFault → Type 0
 IsUnput a g words opens opened told = IsUnroomed opens opened told ⊎ IsUnmade a g words.dump.now words.out.now told ⊎ IsUnplaced a words.out.now words.force told
 
--- The first of this order: the geometry; whether OUT may be written, and FILE; memory; the dump and OUT.
-abbrev pub IsUndone : Answers → ArrayWords → (opens opened : Option ℕ) → LabFault → Type 0
+-- The first of this order: the geometry; the sequence; whether OUT may be written, and FILE; memory; the dump and OUT.
+abbrev pub IsUndone : Answers → UntilWords → (opens opened : Option ℕ) → LabFault → Type 0
 IsUndone a words opens opened told =
-    IsNoGeometry words.geometry.now told
-    ⊎ ((g : Geometry) × IsGeometryAt words.geometry.now g × (AreNotAllowed a words told ⊎ (AreAllowed a words × IsUnput a g words opens opened told)))
+    IsNoGeometry words.array.geometry.now told
+    ⊎ ((g : Geometry) × IsGeometryAt words.array.geometry.now g × (IsNoLast words.until told
+    ⊎ ((last : Option ℕ) × IsLastAt words.until last × (AreNotAllowed a words.array told ⊎ (AreAllowed a words.array × IsUnput a g words.array opens opened told)))))
 
 -- The array was put in place and nothing printed, but its map was not put in its.
-pub record PutUnmapped (a : Answers) (words : ArrayWords) (before after : Option Store) (out printed : Option (List ℕ)) (told : LabFault) : Type 0 where
+pub record PutUnmapped (a : Answers) (words : UntilWords) (before after : Option Store) (out printed : Option (List ℕ)) (told : LabFault) : Type 0 where
   pub g : Geometry
+  pub last : Option ℕ
   pub pieces : Option (List (List ℕ))
   pub held : List Held
   pub doubts : Doubts
-  pub made : MadeArray a words g pieces held doubts
-  pub put : after ≡ with_kept before words.out.now pieces words.force
+  pub made : MadeArray a words g last pieces held doubts
+  pub put : after ≡ with_kept before words.array.out.now pieces words.array.force
   pub silent : Keeps out printed
-  pub unmapped : IsUnmapped a words told
+  pub unmapped : IsUnmapped a words.array told
 
 -- No array was put in place and nothing printed, for one of these reasons; or it was, and no map; or both were, and a
 -- beginning of the report printed.
-abbrev pub IsArrayFault : Answers → ArrayWords → Option Store → Option Store → (opens opened : Option ℕ) → (broke : Bool) → Option (List ℕ) → Option (List ℕ) → LabFault → Type 0
+abbrev pub IsArrayFault : Answers → UntilWords → Option Store → Option Store → (opens opened : Option ℕ) → (broke : Bool) → Option (List ℕ) → Option (List ℕ) → LabFault → Type 0
 IsArrayFault a words before after opens opened broke out printed told =
     (LeavesAll before after out printed × IsUndone a words opens opened told)
     ⊎ PutUnmapped a words before after out printed told
-    ⊎ ((g : Geometry) × (held : List Held) × (doubts : Doubts) × PutArray a words before after g held doubts
-    × IsHalfPrinted broke out printed (array_text (form_of words.showing) g (map state_in held) doubts) told)
+    ⊎ ((g : Geometry) × (last : Option ℕ) × (held : List Held) × (doubts : Doubts) × PutArray a words before after g last held doubts
+    × IsHalfPrinted broke out printed (array_text (form_of words.array.showing) g last (map state_in held) doubts) told)

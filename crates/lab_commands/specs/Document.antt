@@ -23,10 +23,12 @@ abbrev pub report_words : Report → List ℕ
 report_words report.Geometry = codes "geometry"
 report_words report.Survey = codes "survey"
 report_words report.Array = codes "array"
+report_words report.History = codes "history"
 report_words report.Compare = codes "compare"
 report_words report.Merge = codes "merge"
 report_words report.Repair = codes "repair"
 report_words report.Correct = codes "correct"
+report_words report.Arrange = codes "arrange"
 
 -- what a document of this command begins with
 unfoldable pub head_text : Form → List ℕ → List ℕ

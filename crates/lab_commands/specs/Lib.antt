@@ -19,13 +19,16 @@ pub mod Output
 -- where a command ends before its work
 pub mod Undone
 pub mod Rows
+pub mod Numbers
 pub mod Array
 pub mod Survey
+pub mod History
 pub mod Compare
 pub mod Geometry
 pub mod Repair
 pub mod Merge
 pub mod Correct
+pub mod Arrange
 pub mod Program
 -- a text that is printed piece by piece
 pub mod Pieces

@@ -1,5 +1,5 @@
 -- The lines of the reports, in words.
-use Rattle.std.specs.Prelude.{ℕ, zero, suc, ◌==◌, if◌then◌else◌, Bool, true, false, List, [], ◌++◌, codes, Option, Some, None, option_map}
+use Rattle.std.specs.Prelude.{ℕ, zero, suc, ◌/◌, ◌==◌, if◌then◌else◌, Bool, true, false, List, [], ◌++◌, codes, Option, Some, None, option_map}
 use Rattle.std.specs.Fmt.{decimal}
 use Rattle.certificate.specs.declared.block_state.BlockState.{BlockState}
 use Rattle.lab_dump.specs.declared.held.State.{State}
@@ -9,6 +9,10 @@ use Rattle.lab_dump.specs.declared.fit.TableSays.{TableSays}
 use Rattle.lab_dump.specs.declared.fit.TableSays.TheVariants.{Agrees, Short, Silent, Differs}
 use Rattle.lab_dump.specs.declared.doubts.Doubts.{Doubts}
 use Rattle.lab_dump.specs.declared.rows.Rows.{Rows}
+use Rattle.lab_dump.specs.declared.history.SectorPage.{SectorPage}
+use Rattle.lab_dump.specs.declared.history.Wrote.{Wrote}
+use Rattle.lab_dump.specs.declared.history.Wrote.TheVariants as wrote
+use Rattle.page_layout.specs.declared.geometry.Geometry.{Geometry}
 use Rattle.lab_dump.specs.Doubts.{most_older}
 use Rattle.lab_correct.specs.declared.found.FoundFit.{FoundFit}
 use Rattle.lab_mend.specs.declared.mending.Made.{Made}
@@ -21,7 +25,7 @@ use Rattle.lab_commands.specs.declared.lines.Sort.TheVariants as sort
 use Rattle.lab_commands.specs.declared.lines.Line.{Line}
 use Rattle.lab_commands.specs.declared.lines.Line.TheVariants.{Pages, NumberRange, Repeated, NotFormatted, TableDamaged, LastSequence, Tied, Missing, Block, PlainBlock, Lost}
 use Rattle.lab_commands.specs.declared.lines.Line.TheVariants.{OfRows, Factory, Rewritten, Holes, Outside, Mended, MendedCount, Differ, Unsound, Merged, Age, AgeOfRows}
-use Rattle.lab_commands.specs.declared.lines.Line.TheVariants.{LostRow, Corrected}
+use Rattle.lab_commands.specs.declared.lines.Line.TheVariants.{LostRow, Corrected, Arranged}
 use Rattle.lab_commands.specs.declared.lines.Line.TheVariants as line
 
 -- ---- words
@@ -119,6 +123,25 @@ moved_words n = if n == 0 then [] else codes ", nor a newest one in a rewritten 
 abbrev pub age_words : Doubts → List ℕ
 age_words d = codes "unsound " ++ (decimal d.unsound ++ (claim_words d ++ (codes ", if no page was lost behind the last one of its block" ++ moved_words d.rewritten)))
 
+-- what an array as of a sequence is
+abbrev pub until_words : ℕ → ℕ → List ℕ
+until_words last unsound = codes "unsound " ++ (decimal unsound ++ (codes ": as of sequence " ++ (decimal last ++ codes ", the newest of what is still there")))
+
+-- what a page of a sector does
+abbrev pub wrote_words : Wrote → List ℕ
+wrote_words wrote.Data = codes "data"
+wrote_words wrote.Trim = codes "trim"
+
+-- a sound page of a sector, in its block
+abbrev pub page_words : SectorPage → ℕ → List ℕ
+page_words page block =
+    codes "page row " ++ (decimal page.row ++ (codes " block " ++ (decimal block ++ (codes " sequence " ++ (decimal page.sequence.0 ++ (
+    codes " version " ++ (decimal page.version ++ (codes " " ++ wrote_words page.wrote))))))))
+
+-- how many pages of a sector are still there, and how many pages are neither erased nor sound
+abbrev pub history_words : ℕ → ℕ → List ℕ
+history_words pages unsound = codes "history " ++ (decimal pages ++ (codes " unsound " ++ (decimal unsound ++ codes ": of what is still there, newest first")))
+
 -- a line, without its line feed
 unfoldable pub line_words : Line → List ℕ
 line_words (Pages sort count) = codes "pages " ++ (sort_words sort ++ (codes " " ++ decimal count))
@@ -137,10 +160,14 @@ line_words (Mended how row bit) = made_words how ++ (codes " row " ++ (decimal r
 line_words (MendedCount n) = codes "mended " ++ decimal n
 line_words (LostRow row chunks) = codes "lost row " ++ (decimal row ++ (codes " chunks " ++ decimal chunks))
 line_words (Corrected bits rows lost) = corrected_words bits rows lost
+line_words (Arranged rows) = codes "arranged " ++ decimal rows
 line_words (Differ row) = codes "differ row " ++ decimal row
 line_words (Unsound row) = codes "unsound row " ++ decimal row
 line_words (Merged differ t) = tally_words differ t
 line_words (Age d) = age_words d
+line_words (line.AgeUntil last n) = until_words last n
+line_words (line.Page page block) = page_words page block
+line_words (line.History pages n) = history_words pages n
 line_words (AgeOfRows n) = codes "unsound " ++ (decimal n ++ codes ": of these rows alone, of others nothing is told")
 line_words (OfRows rows) = codes "rows " ++ (decimal rows.first ++ (codes ".." ++ decimal rows.end))
 line_words (Factory n) = codes "factory " ++ decimal n
@@ -176,6 +203,15 @@ hole_line (suc n) = Some (Holes (suc n))
 abbrev pub past_line : ℕ → Option Line
 past_line zero = None
 past_line (suc n) = Some (Outside (suc n))
+
+-- how far the array is from the last write, or what it is as of a sequence
+abbrev pub age_line : Option ℕ → Doubts → Line
+age_line None d = Age d
+age_line (Some last) d = line.AgeUntil last d.unsound
+
+-- a page of a sector, with its block
+abbrev pub page_line : Geometry → SectorPage → Line
+page_line g page = line.Page page (page.row / g.pages)
 
 -- the rows that were asked for, where not all are
 abbrev pub rows_line : Option Rows → Option Line

@@ -9,25 +9,29 @@ use Rattle.lab_commands.specs.declared.text.LabFault.TheVariants.{NoSuchCommand,
 use Rattle.lab_commands.specs.Files.{Answers, Store}
 use Rattle.lab_commands.specs.Text.{IsTold}
 use Rattle.lab_commands.specs.Array.{WroteArray, IsArrayFault}
+use Rattle.lab_commands.specs.History.{ToldHistory, IsHistoryFault}
 use Rattle.lab_commands.specs.Survey.{ToldSurvey, IsSurveyFault}
 use Rattle.lab_commands.specs.Compare.{ToldCompared, IsCompareFault}
 use Rattle.lab_commands.specs.Geometry.{ToldFits, IsGeometryFault}
 use Rattle.lab_commands.specs.Repair.{WroteRepair, IsRepairFault}
 use Rattle.lab_commands.specs.Correct.{WroteCorrected, IsCorrectFault}
+use Rattle.lab_commands.specs.Arrange.{WroteArranged, IsArrangeFault}
 use Rattle.lab_commands.specs.Merge.{WroteMerge, IsMergeFault}
 use Rattle.lab_commands.specs.Undone.{IsHalfPrinted, LeavesAll}
 
 -- ---- done
 
--- the words asked for an array, a merge, a repair or a correction, which was written, or for geometries, a survey, a comparison or a text, which was printed
+-- the words asked for an array, a merge, a repair, a correction or a dump in order, which was written, or for geometries, a survey, a history, a comparison or a text, which was printed
 abbrev pub DoesAsked : Answers → Asked → Option Store → Option Store → Option (List ℕ) → Option (List ℕ) → Type 0
 DoesAsked a (asked.Geometry read) before after out printed = (after ≡ before) × ToldFits a read out printed
 DoesAsked a (asked.Array read) before after out printed = WroteArray a read before after out printed
+DoesAsked a (asked.History read) before after out printed = (after ≡ before) × ToldHistory a read out printed
 DoesAsked a (asked.Survey read) before after out printed = (after ≡ before) × ToldSurvey a read out printed
 DoesAsked a (asked.Compare read) before after out printed = (after ≡ before) × ToldCompared a read out printed
 DoesAsked a (asked.Merge read) before after out printed = WroteMerge a read before after out printed
 DoesAsked a (asked.Repair read) before after out printed = WroteRepair a read before after out printed
 DoesAsked a (asked.Correct read) before after out printed = WroteCorrected a read before after out printed
+DoesAsked a (asked.Arrange read) before after out printed = WroteArranged a read before after out printed
 DoesAsked a (asked.Text text) before after out printed = (after ≡ before) × Appends out printed (string_bytes text)
 
 abbrev pub Obeyed : Answers → List (List ℕ) → Option Store → Option Store → Option (List ℕ) → Option (List ℕ) → Type 0
@@ -39,11 +43,13 @@ Obeyed a words before after out printed = (found : Asked) × IsAsked words found
 abbrev pub IsFaultOf : Answers → Asked → Option Store → Option Store → (opens opened : Option ℕ) → (broke : Bool) → Option (List ℕ) → Option (List ℕ) → LabFault → Type 0
 IsFaultOf a (asked.Geometry read) before after opens opened broke out printed told = IsGeometryFault a read before after opens opened broke out printed told
 IsFaultOf a (asked.Array read) before after opens opened broke out printed told = IsArrayFault a read before after opens opened broke out printed told
+IsFaultOf a (asked.History read) before after opens opened broke out printed told = IsHistoryFault a read before after opens opened broke out printed told
 IsFaultOf a (asked.Survey read) before after opens opened broke out printed told = IsSurveyFault a read before after opens opened broke out printed told
 IsFaultOf a (asked.Compare read) before after opens opened broke out printed told = IsCompareFault a read before after opens opened broke out printed told
 IsFaultOf a (asked.Merge read) before after opens opened broke out printed told = IsMergeFault a read before after opens opened broke out printed told
 IsFaultOf a (asked.Repair read) before after opens opened broke out printed told = IsRepairFault a read before after opens opened broke out printed told
 IsFaultOf a (asked.Correct read) before after opens opened broke out printed told = IsCorrectFault a read before after opens opened broke out printed told
+IsFaultOf a (asked.Arrange read) before after opens opened broke out printed told = IsArrangeFault a read before after opens opened broke out printed told
 IsFaultOf a (asked.Text text) before after opens opened broke out printed told = (after ≡ before) × IsHalfPrinted broke out printed (string_bytes text) told
 
 -- the words are no command, or memory for them was refused, before any file was opened

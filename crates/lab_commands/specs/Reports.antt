@@ -14,6 +14,7 @@ use Rattle.lab_mend.specs.declared.repairing.Mend.{Mend}
 use Rattle.lab_dump.specs.declared.survey.DieSurvey.{DieSurvey}
 use Rattle.lab_dump.specs.declared.doubts.Doubts.{Doubts}
 use Rattle.lab_dump.specs.declared.rows.Rows.{Rows}
+use Rattle.lab_dump.specs.declared.history.SectorPage.{SectorPage}
 use Rattle.lab_commands.specs.declared.lines.Label.{Label}
 use Rattle.lab_commands.specs.declared.lines.Label.TheVariants as label
 use Rattle.lab_commands.specs.declared.lines.Sort.TheVariants as sort
@@ -23,7 +24,7 @@ use Rattle.lab_commands.specs.declared.lists.Lines.TheVariants as lists
 use Rattle.lab_commands.specs.declared.lines.Line.TheVariants as line
 use Rattle.lab_commands.specs.declared.document.Form.{Form}
 use Rattle.lab_commands.specs.Document.{head_text, if_text, line_text, tail_text, text_below}
-use Rattle.lab_commands.specs.Lines.{block_line, factory_line, hole_line, key_line, last_line, lost_line, outside_line, past_line, repeated_line, rewritten_line, rows_line, table_line, tie_line}
+use Rattle.lab_commands.specs.Lines.{age_line, block_line, factory_line, hole_line, key_line, last_line, lost_line, outside_line, page_line, past_line, repeated_line, rewritten_line, rows_line, table_line, tie_line}
 
 -- ---- lists
 
@@ -46,6 +47,9 @@ lost_at lost n = lost_line n (get_or lost n false)
 
 abbrev pub tie_at : List State → ℕ → Option Line
 tie_at states n = tie_line n (get_or states n state.Absent)
+
+abbrev pub page_at : Geometry → List SectorPage → ℕ → Option Line
+page_at g pages n = option_map (page_line g) (slice_get pages n)
 
 abbrev pub fit_at : List FoundFit → ℕ → Option Line
 fit_at fits n = option_map line.Fit (slice_get fits n)
@@ -74,6 +78,7 @@ line_at (lists.Tables states from formed count) = table_at states.now from forme
 line_at (lists.Blocks survey count) = block_at (option_map (λ states. states.items) survey.now.blocks) survey.now.unsound.items
 line_at (lists.Losses lost count) = lost_at lost.now
 line_at (lists.Ties held count) = tie_at (map state_in held.now)
+line_at (lists.Pages g pages) = page_at g.now pages.now
 line_at (lists.Fits fits) = fit_at fits.now
 line_at (lists.Mends mends) = mend_at mends.now
 line_at (lists.LostRows losses) = loss_at losses.now
@@ -88,6 +93,7 @@ size_of (lists.Tables states from formed count) = count
 size_of (lists.Blocks survey count) = count
 size_of (lists.Losses lost count) = count
 size_of (lists.Ties held count) = count
+size_of (lists.Pages g pages) = length pages.now
 size_of (lists.Fits fits) = length fits.now
 size_of (lists.Mends mends) = length mends.now
 size_of (lists.LostRows losses) = length losses.now
@@ -100,12 +106,12 @@ some_text form lines = text_below form (some_at lines) (length lines)
 -- ---- what a dump leaves open
 
 -- the pages of bad blocks that leave nothing open, those that were lost, those of a sector past the last one, and how far the array may be from the
--- last write
-abbrev pub doubt_lines : Doubts → List (Option Line)
-doubt_lines d = factory_line d.factory ∷ rewritten_line d.rewritten ∷ hole_line d.holes ∷ past_line d.outside ∷ Some (line.Age d) ∷ []
+-- last write, or what it is as of a sequence
+abbrev pub doubt_lines : Option ℕ → Doubts → List (Option Line)
+doubt_lines last d = factory_line d.factory ∷ rewritten_line d.rewritten ∷ hole_line d.holes ∷ past_line d.outside ∷ Some (age_line last d) ∷ []
 
-abbrev pub doubts_text : Form → Doubts → List ℕ
-doubts_text form d = some_text form (doubt_lines d)
+abbrev pub doubts_text : Form → Option ℕ → Doubts → List ℕ
+doubts_text form last d = some_text form (doubt_lines last d)
 
 -- ---- survey
 
@@ -132,7 +138,7 @@ blocks_text form g s = text_below form (block_at (option_map (λ states. states.
 
 -- what a survey ends with: what the dump leaves open, or where some rows alone were looked at, how many of them are neither erased nor sound
 abbrev pub ending_text : Form → Option Rows → DieSurvey → List ℕ
-ending_text form None s = doubts_text form s.doubts
+ending_text form None s = doubts_text form None s.doubts
 ending_text form (Some rows) s = line_text form (line.AgeOfRows s.counts.unsound)
 
 -- all lines of a survey
@@ -150,14 +156,20 @@ abbrev pub losses_text : Form → Geometry → List Bool → List ℕ
 losses_text form g lost = text_below form (lost_at lost) g.sectors
 
 abbrev pub compare_text : Form → Geometry → Compared → List ℕ
-compare_text form g told = head_text form (codes "compare") ++ (losses_text form g told.lost.items ++ (doubts_text form told.doubts ++ tail_text form))
+compare_text form g told = head_text form (codes "compare") ++ (losses_text form g told.lost.items ++ (doubts_text form None told.doubts ++ tail_text form))
 
 -- the sectors that are tied, by how all sectors stand
 abbrev pub ties_text : Form → Geometry → List State → List ℕ
 ties_text form g states = text_below form (tie_at states) g.sectors
 
-abbrev pub array_text : Form → Geometry → List State → Doubts → List ℕ
-array_text form g states doubts = head_text form (codes "array") ++ (ties_text form g states ++ (doubts_text form doubts ++ tail_text form))
+-- of an array, as of a sequence where one is said
+abbrev pub array_text : Form → Geometry → Option ℕ → List State → Doubts → List ℕ
+array_text form g last states doubts = head_text form (codes "array") ++ (ties_text form g states ++ (doubts_text form last doubts ++ tail_text form))
+
+-- of the sound pages of a sector, beside so many pages that are neither erased nor sound
+abbrev pub history_text : Form → Geometry → List SectorPage → ℕ → List ℕ
+history_text form g pages unsound =
+    head_text form (codes "history") ++ (text_below form (page_at g pages) (length pages) ++ (line_text form (line.History (length pages) unsound) ++ tail_text form))
 
 abbrev pub fits_text : Form → List FoundFit → List ℕ
 fits_text form fits = head_text form (codes "geometry") ++ (text_below form (fit_at fits) (length fits) ++ tail_text form)
@@ -174,3 +186,7 @@ abbrev pub merge_text : Form → List ℕ → List ℕ → Tally → List ℕ
 merge_text form conflicts unsound t =
     head_text form (codes "merge") ++ (text_below form (differ_at conflicts) (length conflicts)
     ++ (text_below form (unsound_at unsound) (length unsound) ++ (line_text form (line.Merged (length conflicts) t) ++ tail_text form)))
+
+-- how many pages were put in order
+abbrev pub arrange_text : Form → ℕ → List ℕ
+arrange_text form rows = head_text form (codes "arrange") ++ (line_text form (line.Arranged rows) ++ tail_text form)

@@ -4,13 +4,17 @@ use Rattle.std.specs.Io.KnownBytes.{Appends}
 use Rattle.request_stream.specs.Frames.{AppendsPart}
 use Rattle.page_layout.specs.declared.geometry.GeometryFault.{GeometryFault}
 use Rattle.page_layout.specs.declared.geometry.GeometryFault.TheVariants as geometry
+use Rattle.std.specs.Fmt.{decimal}
+use Rattle.lab_arrange.specs.declared.fitting.UnfitFault.{UnfitFault}
+use Rattle.lab_arrange.specs.declared.fitting.UnfitFault.TheVariants as unfit
 use Rattle.certificate.specs.declared.fault.CertFault.{CertFault}
 use Rattle.certificate.specs.declared.fault.CertFault.TheVariants as certificate
 use Rattle.lab_commands.specs.declared.text.LabFault.{LabFault}
-use Rattle.lab_commands.specs.declared.text.LabFault.TheVariants.{NoSuchCommand, BadNumber, Geometry, NoneFits, RowRange, WrongLength, DumpLength, OutOfMemory, Certificate, GeometryDiffers}
+use Rattle.lab_commands.specs.declared.text.LabFault.TheVariants.{NoSuchCommand, BadNumber, Geometry, NoneFits, RowRange, SectorRange, WrongLength, DumpLength, OutOfMemory, Certificate, GeometryDiffers, BadArrangement, Unfit}
+use Rattle.lab_commands.specs.declared.text.LabFault.TheVariants.{ArrangedLength}
 use Rattle.lab_commands.specs.declared.text.LabFault.TheVariants.{IsDump, Exists, NoFile, MapIsOut, MapIsDump, MapExists, MapNoFile, Read, Write}
 use Rattle.lab_commands.specs.declared.text.Rest.{Rest}
-use Rattle.lab_commands.specs.declared.text.Rest.TheVariants.{Words, Name}
+use Rattle.lab_commands.specs.declared.text.Rest.TheVariants.{Words, Name, Lengths}
 use Rattle.lab_commands.specs.Names.{shown}
 
 -- the number and the name of a limit that is broken
@@ -31,10 +35,20 @@ certificate_words certificate.RowRange = codes "5 RowRange"
 certificate_words certificate.ClassRange = codes "6 ClassRange"
 certificate_words certificate.OutOfMemory = codes "7 OutOfMemory"
 
+-- the number and the name of why no die stands in an arrangement
+abbrev pub unfit_words : UnfitFault → List ℕ
+unfit_words unfit.OddBlocks = codes "2 OddBlocks"
+unfit_words unfit.CutRange = codes "3 CutRange"
+
+-- how many bytes were wanted, and how many were found
+abbrev pub lengths_words : ℕ → ℕ → List ℕ
+lengths_words wanted found = codes "wanted " ++ (decimal wanted ++ (codes " found " ++ decimal found))
+
 -- what a line ends with
 abbrev pub rest_words : Rest → List ℕ
 rest_words (Words words) = words.now
 rest_words (Name name) = shown name.now
+rest_words (Lengths wanted found) = lengths_words wanted found
 
 -- the line, without its line feed; a name in it is as it is printed
 abbrev pub line_of : LabFault → List ℕ
@@ -43,6 +57,7 @@ line_of (BadNumber word) = codes "usage: bad number " ++ shown word.now
 line_of (Geometry fault) = codes "refused geometry " ++ limit_words fault
 line_of NoneFits = codes "refused geometry 6 NoneFits"
 line_of RowRange = codes "refused rows 1 RowRange"
+line_of SectorRange = codes "refused sector 1 OutOfRange"
 line_of IsDump = codes "refused out 1 IsDump"
 line_of Exists = codes "refused out 2 Exists"
 line_of NoFile = codes "refused out 3 NoFile"
@@ -55,6 +70,9 @@ line_of (DumpLength path) = codes "refused merge 1 DumpLength " ++ shown path.no
 line_of OutOfMemory = codes "refused image 3 OutOfMemory"
 line_of (Certificate broken) = codes "refused certificate " ++ certificate_words broken
 line_of GeometryDiffers = codes "refused compare 1 GeometryDiffers"
+line_of (BadArrangement word) = codes "usage: bad arrangement " ++ shown word.now
+line_of (Unfit broken) = codes "refused arrange " ++ unfit_words broken
+line_of (ArrangedLength wanted found) = codes "refused arrange 1 WrongLength " ++ lengths_words wanted found
 line_of (Read path) = codes "fault read " ++ shown path.now
 line_of (Write path) = codes "fault write " ++ shown path.now
 
@@ -65,6 +83,7 @@ status_of (BadNumber word) = 2
 status_of (Geometry fault) = 1
 status_of NoneFits = 1
 status_of RowRange = 1
+status_of SectorRange = 1
 status_of IsDump = 1
 status_of Exists = 1
 status_of NoFile = 1
@@ -77,6 +96,9 @@ status_of (DumpLength path) = 1
 status_of OutOfMemory = 1
 status_of (Certificate broken) = 1
 status_of GeometryDiffers = 1
+status_of (BadArrangement word) = 2
+status_of (Unfit broken) = 1
+status_of (ArrangedLength wanted found) = 1
 status_of (Read path) = 3
 status_of (Write path) = 3
 

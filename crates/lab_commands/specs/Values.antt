@@ -5,6 +5,7 @@ use Rattle.certificate.specs.declared.block_state.BlockState.{BlockState}
 use Rattle.lab_dump.specs.declared.fit.Fit.{Fit}
 use Rattle.lab_dump.specs.declared.doubts.Doubts.{Doubts}
 use Rattle.lab_dump.specs.declared.rows.Rows.{Rows}
+use Rattle.lab_dump.specs.declared.history.SectorPage.{SectorPage}
 use Rattle.lab_dump.specs.Doubts.{most_older}
 use Rattle.lab_correct.specs.declared.found.FoundFit.{FoundFit}
 use Rattle.lab_mend.specs.declared.merging.Tally.{Tally}
@@ -14,9 +15,9 @@ use Rattle.lab_commands.specs.declared.lines.Sort.{Sort}
 use Rattle.lab_commands.specs.declared.lines.Line.{Line}
 use Rattle.lab_commands.specs.declared.lines.Line.TheVariants.{Pages, NumberRange, Repeated, NotFormatted, TableDamaged, LastSequence, Tied, Missing, Block, PlainBlock, Lost}
 use Rattle.lab_commands.specs.declared.lines.Line.TheVariants.{OfRows, Factory, Rewritten, Holes, Outside, Mended, MendedCount, Differ, Unsound, Merged, Age, AgeOfRows}
-use Rattle.lab_commands.specs.declared.lines.Line.TheVariants.{LostRow, Corrected}
+use Rattle.lab_commands.specs.declared.lines.Line.TheVariants.{LostRow, Corrected, Arranged}
 use Rattle.lab_commands.specs.declared.lines.Line.TheVariants as line
-use Rattle.lab_commands.specs.Lines.{class_words, label_words, made_words, says_words, sort_words}
+use Rattle.lab_commands.specs.Lines.{class_words, label_words, made_words, says_words, sort_words, wrote_words}
 
 abbrev pub count : ℕ → Data
 count n = number (unsigned n)
@@ -105,6 +106,10 @@ mended_count_data n = object (member (codes "line") (text (codes "repaired")) (m
 abbrev pub lost_row_data : ℕ → ℕ → Data
 lost_row_data row chunks = object (member (codes "chunks") (count chunks) (member (codes "line") (text (codes "lost_row")) (member (codes "row") (count row) no_members)))
 
+-- how many pages were put in order
+abbrev pub arranged_data : ℕ → Data
+arranged_data rows = object (member (codes "line") (text (codes "arranged")) (member (codes "rows") (count rows) no_members))
+
 -- how many bits were turned back, in how many rows, and how many rows have lost chunks
 abbrev pub corrected_data : ℕ → ℕ → ℕ → Data
 corrected_data bits rows lost =
@@ -123,6 +128,20 @@ merged_data differ t =
 abbrev pub age_data : Doubts → Data
 age_data d =
     object (member (codes "line") (text (codes "age")) (member (codes "older") (count (most_older d)) (member (codes "unsound") (count d.unsound) no_members)))
+
+-- of the array as of this sequence, where so many pages are neither erased nor sound
+abbrev pub age_until_data : ℕ → ℕ → Data
+age_until_data last n = object (member (codes "line") (text (codes "until")) (member (codes "sequence") (count last) (member (codes "unsound") (count n) no_members)))
+
+-- a sound page of a sector, in its block
+abbrev pub page_data : SectorPage → ℕ → Data
+page_data page block =
+    object (member (codes "block") (count block) (member (codes "kind") (text (wrote_words page.wrote)) (member (codes "line") (text (codes "page")) (
+    member (codes "row") (count page.row) (member (codes "sequence") (count page.sequence.0) (member (codes "version") (count page.version) no_members))))))
+
+-- how many pages of a sector are still there, and how many pages are neither erased nor sound
+abbrev pub history_data : ℕ → ℕ → Data
+history_data pages n = object (member (codes "line") (text (codes "history")) (member (codes "pages") (count pages) (member (codes "unsound") (count n) no_members)))
 
 abbrev pub rows_age_data : ℕ → Data
 rows_age_data n = object (member (codes "line") (text (codes "rows_age")) (member (codes "unsound") (count n) no_members))
@@ -151,10 +170,14 @@ line_data (Mended how row bit) = mended_data how row bit
 line_data (MendedCount n) = mended_count_data n
 line_data (LostRow row chunks) = lost_row_data row chunks
 line_data (Corrected bits rows lost) = corrected_data bits rows lost
+line_data (Arranged rows) = arranged_data rows
 line_data (Differ row) = row_data (codes "differ") row
 line_data (Unsound row) = row_data (codes "unsound") row
 line_data (Merged differ t) = merged_data differ t
 line_data (Age d) = age_data d
+line_data (line.AgeUntil last n) = age_until_data last n
+line_data (line.Page page block) = page_data page block
+line_data (line.History pages n) = history_data pages n
 line_data (AgeOfRows n) = rows_age_data n
 line_data (OfRows rows) = rows_data rows
 line_data (Factory n) = doubt_data (codes "factory") n

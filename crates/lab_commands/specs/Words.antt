@@ -6,13 +6,16 @@ use Rattle.clap.specs.Words.{App, Row, Rule, Shape, all_of, first_of, count_of}
 use Rattle.program_words.specs.Grammar.{command_of, flag, option, place, place_of, program_of}
 use Rattle.program_words.specs.Met.{AsksText, NamesCommand, stood, texts}
 use Rattle.program_words.specs.Met as met
+use Rattle.lab_commands.specs.declared.arrange_words.ArrangeWords.{ArrangeWords}
 use Rattle.lab_commands.specs.declared.words.ArrayWords.{ArrayWords}
 use Rattle.lab_commands.specs.declared.words.CompareWords.{CompareWords}
 use Rattle.lab_commands.specs.declared.words.GeometryWords.{GeometryWords}
+use Rattle.lab_commands.specs.declared.words.HistoryWords.{HistoryWords}
 use Rattle.lab_commands.specs.declared.words.MergeWords.{MergeWords}
 use Rattle.lab_commands.specs.declared.words.RepairWords.{RepairWords}
 use Rattle.lab_commands.specs.declared.words.Showing.{Showing}
 use Rattle.lab_commands.specs.declared.words.SurveyWords.{SurveyWords}
+use Rattle.lab_commands.specs.declared.words.UntilWords.{UntilWords}
 use Rattle.lab_commands.specs.declared.words.Asked.{Asked}
 use Rattle.lab_commands.specs.declared.words.Asked.TheVariants as asked
 
@@ -29,7 +32,10 @@ abbrev pub survey : Shape
 survey = command_of (codes "survey") (place (codes "GEOM") ∷ place (codes "DUMP") ∷ option (codes "rows") ∷ showing)
 
 abbrev pub array : Shape
-array = command_of (codes "array") (place (codes "GEOM") ∷ place (codes "DUMP") ∷ place (codes "OUT") ∷ flag (codes "force") ∷ option (codes "map") ∷ showing)
+array = command_of (codes "array") (place (codes "GEOM") ∷ place (codes "DUMP") ∷ place (codes "OUT") ∷ flag (codes "force") ∷ option (codes "map") ∷ option (codes "until") ∷ showing)
+
+abbrev pub history : Shape
+history = command_of (codes "history") (place (codes "GEOM") ∷ place (codes "DUMP") ∷ place (codes "SECTOR") ∷ showing)
 
 abbrev pub compare : Shape
 compare = command_of (codes "compare") (place (codes "GEOM") ∷ place (codes "CERT") ∷ place (codes "DUMP") ∷ showing)
@@ -43,9 +49,12 @@ repair = command_of (codes "repair") (place (codes "GEOM") ∷ place (codes "DUM
 abbrev pub correct : Shape
 correct = command_of (codes "correct") (place (codes "GEOM") ∷ place (codes "DUMP") ∷ place (codes "OUT") ∷ flag (codes "force") ∷ option (codes "map") ∷ showing)
 
+abbrev pub arrange : Shape
+arrange = command_of (codes "arrange") (place (codes "GEOM") ∷ place (codes "DUMP") ∷ place (codes "OUT") ∷ flag (codes "force") ∷ option (codes "from") ∷ showing)
+
 -- the commands that the program has
 abbrev pub grammar : App
-grammar = program_of (codes "nandlab") (geometry ∷ survey ∷ array ∷ compare ∷ merge ∷ repair ∷ correct ∷ [])
+grammar = program_of (codes "nandlab") (geometry ∷ survey ∷ array ∷ history ∷ compare ∷ merge ∷ repair ∷ correct ∷ arrange ∷ [])
 
 -- ---- what the words ask for
 
@@ -59,13 +68,25 @@ pub record IsGeometryAt (rows : List Row) (read : GeometryWords) : Type 0 where
   pub dump_is : first_of (codes "DUMP") rows ≡ Some read.dump.now
   pub showing : IsShowingAt rows read.showing
 
--- the entries of the words of `array`, or of `correct`, are these
+-- the entries of the words of `correct`, which `array` has too, are these
 pub record IsArrayAt (rows : List Row) (read : ArrayWords) : Type 0 where
   pub geometry_is : first_of (codes "GEOM") rows ≡ Some read.geometry.now
   pub dump_is : first_of (codes "DUMP") rows ≡ Some read.dump.now
   pub out_is : first_of (codes "OUT") rows ≡ Some read.out.now
   pub forced : stood (count_of (codes "force") rows) ≡ read.force
   pub map_is : first_of (codes "map") rows ≡ option_map (λ word. word.now) read.map
+  pub showing : IsShowingAt rows read.showing
+
+-- those of the words of `array` are these
+pub record IsUntilAt (rows : List Row) (read : UntilWords) : Type 0 where
+  pub array : IsArrayAt rows read.array
+  pub until_is : first_of (codes "until") rows ≡ option_map (λ word. word.now) read.until
+
+-- those of the words of `history` are these
+pub record IsHistoryAt (rows : List Row) (read : HistoryWords) : Type 0 where
+  pub geometry_is : first_of (codes "GEOM") rows ≡ Some read.geometry.now
+  pub dump_is : first_of (codes "DUMP") rows ≡ Some read.dump.now
+  pub sector_is : first_of (codes "SECTOR") rows ≡ Some read.sector.now
   pub showing : IsShowingAt rows read.showing
 
 -- those of the words of `survey` are these
@@ -104,26 +125,39 @@ pub record IsRepairAt (rows : List Row) (read : RepairWords) : Type 0 where
   pub rows_are : first_of (codes "rows") rows ≡ option_map (λ word. word.now) read.rows
   pub showing : IsShowingAt rows read.showing
 
+-- those of the words of `arrange` are these
+pub record IsArrangeAt (rows : List Row) (read : ArrangeWords) : Type 0 where
+  pub geometry_is : first_of (codes "GEOM") rows ≡ Some read.geometry.now
+  pub dump_is : first_of (codes "DUMP") rows ≡ Some read.dump.now
+  pub out_is : first_of (codes "OUT") rows ≡ Some read.out.now
+  pub forced : stood (count_of (codes "force") rows) ≡ read.force
+  pub from_is : first_of (codes "from") rows ≡ option_map (λ word. word.now) read.from
+  pub showing : IsShowingAt rows read.showing
+
 -- the command of this name with these entries asks for that
 abbrev pub IsAt : List ℕ → List Row → Asked → Type 0
 IsAt name rows (asked.Geometry read) = (name ≡ codes "geometry") × IsGeometryAt rows read
-IsAt name rows (asked.Array read) = (name ≡ codes "array") × IsArrayAt rows read
+IsAt name rows (asked.Array read) = (name ≡ codes "array") × IsUntilAt rows read
+IsAt name rows (asked.History read) = (name ≡ codes "history") × IsHistoryAt rows read
 IsAt name rows (asked.Survey read) = (name ≡ codes "survey") × IsSurveyAt rows read
 IsAt name rows (asked.Compare read) = (name ≡ codes "compare") × IsCompareAt rows read
 IsAt name rows (asked.Merge read) = (name ≡ codes "merge") × IsMergeAt rows read
 IsAt name rows (asked.Repair read) = (name ≡ codes "repair") × IsRepairAt rows read
 IsAt name rows (asked.Correct read) = (name ≡ codes "correct") × IsArrayAt rows read
+IsAt name rows (asked.Arrange read) = (name ≡ codes "arrange") × IsArrangeAt rows read
 IsAt name rows (asked.Text text) = ⊥
 
 -- Of the words as `clap` reads them: they name a command, with these words, or they ask for help or for the version.
 abbrev pub IsAsked : List (List ℕ) → Asked → Type 0
 IsAsked words (asked.Geometry read) = NamesCommand IsAt grammar words (asked.Geometry read)
 IsAsked words (asked.Array read) = NamesCommand IsAt grammar words (asked.Array read)
+IsAsked words (asked.History read) = NamesCommand IsAt grammar words (asked.History read)
 IsAsked words (asked.Survey read) = NamesCommand IsAt grammar words (asked.Survey read)
 IsAsked words (asked.Compare read) = NamesCommand IsAt grammar words (asked.Compare read)
 IsAsked words (asked.Merge read) = NamesCommand IsAt grammar words (asked.Merge read)
 IsAsked words (asked.Repair read) = NamesCommand IsAt grammar words (asked.Repair read)
 IsAsked words (asked.Correct read) = NamesCommand IsAt grammar words (asked.Correct read)
+IsAsked words (asked.Arrange read) = NamesCommand IsAt grammar words (asked.Arrange read)
 IsAsked words (asked.Text text) = AsksText grammar words
 
 -- `clap` finds another fault in them, or they name no command with its words

@@ -1,4 +1,4 @@
-//! The command `array GEOM DUMP OUT [--map FILE]`.
+//! The command `array GEOM DUMP OUT [--map FILE] [--until SEQUENCE]`.
 ghost use Rattle.std.specs.Prelude.{◌≡◌, OnOk, OnErr, IfOk, IfErr, false, length, map};
 ghost use Rattle.lab_dump.specs.Held.{state_in};
 ghost use Rattle.lab_dump.specs.Map.{map_text};
@@ -9,6 +9,7 @@ ghost use Rattle.lab_commands.specs.Array.{AreAllowed, AreNotAllowed, IsArrayFau
 
 use crate::files::{LabFiles, Standing};
 use crate::maps::ArrayMap;
+use crate::numbers::last_at;
 use crate::opening::{
     allow, create_beside, geometry_at, is_dump, is_out, keep, may_replace, open_file, progress_of,
     standing, store_map, unmade_as,
@@ -17,7 +18,7 @@ use crate::output::Output;
 use crate::printing::{printer, unprinted};
 use crate::reports::print_array;
 use crate::text::LabFault;
-use crate::words::ArrayWords;
+use crate::words::{ArrayWords, UntilWords};
 use lab_dump::{ArrayRoom, Held, Written, write_array};
 use page_layout::geometry::Geometry;
 use std::alloc::Global;
@@ -91,15 +92,16 @@ fn put_map<'a, F: LabFiles>(
     store_map(files, file, &ArrayMap { geometry, held }, words.force)
 }
 
-// Makes the array beside its place.
+// Makes the array beside its place, as of a sequence where one is said.
 fn make<'a, F: LabFiles>(
     room: ArrayRoom,
     words: &ArrayWords<'a>,
     geometry: &Geometry,
+    last: Option<u64>,
     files: &mut F,
 ) -> Result<Written<F::Target>, LabFault<'a>>
     requires { IsArrayRoom geometry.now room }
-    ensures made { IfOk result (λ written. IsMade (F.answers files.old) words.now.dump.now geometry.now (F.Target.pieces written.target) written.held.items written.doubts) }
+    ensures made { IfOk result (λ written. IsMade (F.answers files.old) words.now.dump.now geometry.now last (F.Target.pieces written.target) written.held.items written.doubts) }
     ensures sized { IfOk result (λ written. length written.held.items ≡ geometry.now.sectors) }
     ensures fault { IfErr result (IsUnmade (F.answers files.old) geometry.now words.now.dump.now words.now.out.now) }
     ensures no_more { AnswersNoMore (F.answers files.old) (F.answers files.new) }
@@ -108,7 +110,7 @@ fn make<'a, F: LabFiles>(
 {
     let mut dump = open_file(files, words.dump, progress_of(words.showing))?;
     let target = create_beside(files, words.out, geometry.sectors(), geometry.data_bytes())?;
-    match write_array(room, &mut dump, geometry, target) {
+    match write_array(room, &mut dump, geometry, last, target) {
         Ok(written) => Ok(written),
         Err(unwritten) => {
             files.discard(unwritten.target);
@@ -117,12 +119,12 @@ fn make<'a, F: LabFiles>(
     }
 }
 
-/// The command `array`: writes every sector of the dump DUMP, of the geometry GEOM, to the file OUT, and where that is wanted the map of it to
-/// FILE, and prints which sectors are tied, and how far the array may be from the last write.
+/// The command `array`: writes every sector of the dump DUMP, of the geometry GEOM, to the file OUT, as of the sequence SEQUENCE where that is said:
+/// just the pages of this sequence or an earlier one count then. It writes the map of OUT, where that is wanted, to FILE, and prints which sectors are tied, and how far the array may be from the last write.
 ///
 /// # Errors
 ///
-/// The first of this order: `BadNumber` where GEOM writes no numbers, `Geometry` where they are no geometry, `IsDump` where OUT is the dump,
+/// The first of this order: `BadNumber` where GEOM writes no numbers, `Geometry` where they are no geometry, `BadNumber` where SEQUENCE is no number, `IsDump` where OUT is the dump,
 /// `Exists` where something stands at OUT and is not to be replaced, `NoFile` where that is neither a file nor a link to one, `MapIsOut`,
 /// `MapIsDump`, `MapExists` or `MapNoFile` where FILE is OUT or the dump, or so, `OutOfMemory` where a growth was refused, `Read` where DUMP cannot be
 /// opened, `Write` where no file can be made beside OUT; then each when it happens: `Read` where a read of DUMP fails, `WrongLength` where it has not as many bytes as the
@@ -134,21 +136,26 @@ fn make<'a, F: LabFiles>(
 /// (This project's.)
 pub(crate) fn array_command<'a, F: LabFiles, W: Output>(
     alloc: Global,
-    words: ArrayWords<'a>,
+    words: UntilWords<'a>,
     files: &mut F,
     out: &mut W,
 ) -> Result<(), LabFault<'a>>
     ensures ok { OnOk result (WroteArray (F.answers files.old) words.entry (F.kept files.old) (F.kept files.new) (W.contents out.old) (W.contents out.new)) }
     ensures fault { IfErr result (IsArrayFault (F.answers files.old) words.entry (F.kept files.old) (F.kept files.new) (F.opened files.old) (F.opened files.new) (W.failed out.new) (W.contents out.old) (W.contents out.new)) }
 {
+    let UntilWords {
+        array: words,
+        until,
+    } = words;
     let geometry = geometry_at(words.geometry)?;
+    let last = last_at(until)?;
     allow_both(files, &words)?;
     let room = ArrayRoom::new(alloc, &geometry)?;
-    let written = make(room, &words, &geometry, files)?;
+    let written = make(room, &words, &geometry, last, files)?;
     keep(files, words.out, written.target, words.force)?;
     put_map(&words, &geometry, &written.held, files)?;
     let printer = printer(alloc, words.showing);
-    match print_array(printer, out, &geometry, &written.held, written.doubts) {
+    match print_array(printer, out, &geometry, last, &written.held, written.doubts) {
         Ok(()) => Ok(()),
         Err(fault) => Err(unprinted(fault)),
     }

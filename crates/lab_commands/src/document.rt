@@ -28,10 +28,12 @@ pub(crate) enum Report {
     Geometry,
     Survey,
     Array,
+    History,
     Compare,
     Merge,
     Repair,
     Correct,
+    Arrange,
 }
 
 impl Report {
@@ -46,10 +48,12 @@ impl Report {
             Report::Geometry => "geometry",
             Report::Survey => "survey",
             Report::Array => "array",
+            Report::History => "history",
             Report::Compare => "compare",
             Report::Merge => "merge",
             Report::Repair => "repair",
             Report::Correct => "correct",
+            Report::Arrange => "arrange",
         }
     }
 }

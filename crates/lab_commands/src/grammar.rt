@@ -65,6 +65,18 @@ const MAP: WordRule<'static> = WordRule {
     help: "Writes how each part of OUT stands to FILE, as the mapfile of GNU ddrescue",
 };
 
+const UNTIL: WordRule<'static> = WordRule {
+    id: "until",
+    kind: WordKind::Valued("SEQUENCE"),
+    help: "Takes the pages of this sequence or an earlier one alone: the newest of what is still there",
+};
+
+const SECTOR: WordRule<'static> = WordRule {
+    id: "SECTOR",
+    kind: WordKind::Place,
+    help: "The number of the sector",
+};
+
 const SURVEY_ROWS: WordRule<'static> = WordRule {
     id: "rows",
     kind: WordKind::Valued("A..B"),
@@ -92,7 +104,13 @@ const SURVEY: CommandRule<'static> = CommandRule {
 const ARRAY: CommandRule<'static> = CommandRule {
     name: "array",
     about: "Writes every sector of a dump, as a disk image",
-    words: &[GEOM, DUMP, IMAGE_OUT, FORCE, MAP, JSON, PROGRESS],
+    words: &[GEOM, DUMP, IMAGE_OUT, FORCE, MAP, UNTIL, JSON, PROGRESS],
+};
+
+const HISTORY: CommandRule<'static> = CommandRule {
+    name: "history",
+    about: "Tells each sound page of a sector that is still there, newest first",
+    words: &[GEOM, DUMP, SECTOR, JSON, PROGRESS],
 };
 
 const COMPARE: CommandRule<'static> = CommandRule {
@@ -119,10 +137,30 @@ const CORRECT: CommandRule<'static> = CommandRule {
     words: &[GEOM, DUMP, DUMP_OUT, FORCE, MAP, JSON, PROGRESS],
 };
 
+const FROM: WordRule<'static> = WordRule {
+    id: "from",
+    kind: WordKind::Valued("WORDS"),
+    help: "How the dump stands: header=N, tail=N or cut=N, spares=block or spares=die, spare-first, swapped, inverted, planes=2, with commas between",
+};
+
+const ANY_DUMP: WordRule<'static> = WordRule {
+    id: "DUMP",
+    kind: WordKind::Place,
+    help: "The dump, as WORDS say",
+};
+
+const ARRANGE: CommandRule<'static> = CommandRule {
+    name: "arrange",
+    about: "Writes a dump in another arrangement as pages in order",
+    words: &[GEOM, ANY_DUMP, DUMP_OUT, FORCE, FROM, JSON, PROGRESS],
+};
+
 static GRAMMAR: Grammar<'static> = Grammar {
     name: "nandlab",
     about: "Tools for recovery laboratories, on dumps of one NAND die",
-    commands: &[GEOMETRY, SURVEY, ARRAY, COMPARE, MERGE, REPAIR, CORRECT],
+    commands: &[
+        GEOMETRY, SURVEY, ARRAY, HISTORY, COMPARE, MERGE, REPAIR, CORRECT, ARRANGE,
+    ],
 };
 
 /// The commands that the program has.

@@ -2,6 +2,8 @@
 //! prints, as lines or as one JSON document, and the line and the exit status of each refusal. The caller gives the files and the writers.
 #![tactic(auto)]
 
+mod arrange;
+mod arrange_words;
 mod array;
 mod compare;
 mod correct;
@@ -9,11 +11,13 @@ mod document;
 mod files;
 mod geometry;
 mod grammar;
+mod history;
 mod lines;
 mod lists;
 mod maps;
 mod merge;
 mod names;
+mod numbers;
 mod opening;
 mod output;
 mod pieces;

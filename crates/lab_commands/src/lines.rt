@@ -4,15 +4,16 @@ ghost use Rattle.std.specs.Fmt.{decimal};
 ghost use Rattle.lab_commands.specs.Document.{Prints};
 ghost use Rattle.lab_commands.specs.Lines.{block_line, class_words, factory_line, hole_line, key_line, label_words, last_line, lost_line, made_words, outside_line, past_line, repeated_line, rewritten_line};
 ghost use Rattle.lab_commands.specs.Lines.{rows_line, says_words, sort_words, table_line, tie_line};
-ghost use Rattle.lab_commands.specs.Lines.{age_words, block_words, corrected_words, first_words, fit_words, found_words, line_words, moved_words, tally_words, whole_words};
+ghost use Rattle.lab_commands.specs.Lines.{age_line, age_words, block_words, corrected_words, first_words, fit_words, found_words, history_words, line_words, moved_words, page_line, page_words, tally_words, until_words, whole_words, wrote_words};
 
 use crate::output::{Output, OutputFault};
 use crate::pieces::Piece::{Number, Words};
 use crate::pieces::put_pieces;
 use certificate::BlockState;
 use lab_correct::FoundFit;
-use lab_dump::{Doubts, Fit, Rows, State, TableSays};
+use lab_dump::{Doubts, Fit, Rows, SectorPage, State, TableSays, Wrote};
 use lab_mend::{Made, Tally};
+use page_layout::geometry::Geometry;
 
 /// What a page is of.
 #[derive(Clone, Copy)]
@@ -68,6 +69,8 @@ pub enum Line {
     LostRow(u32, u32),
     /// So many bits were turned back, in so many rows, and so many rows have lost chunks.
     Corrected(u64, u32, u64),
+    /// So many pages were put in order.
+    Arranged(u32),
     /// Two sound pages of a row differ.
     Differ(u32),
     /// No page of a row is sound or erased, nor the majority sound.
@@ -76,6 +79,12 @@ pub enum Line {
     Merged(u64, Tally),
     /// So far the array may be from the last write.
     Age(Doubts),
+    /// Of the array as of this sequence, where so many pages are neither erased nor sound.
+    AgeUntil(u64, u32),
+    /// A sound page of a sector, and its block.
+    Page(SectorPage, u32),
+    /// So many pages of a sector are still there, and so many pages are neither erased nor sound.
+    History(u64, u32),
     /// So many pages of the rows that were asked for are neither erased nor sound.
     AgeOfRows(u32),
     /// These rows alone were looked at.
@@ -158,6 +167,16 @@ pub(crate) fn made_text(made: Made) -> &'static str
     match made {
         Made::Sound => "mended",
         Made::Erased => "erased",
+    }
+}
+
+/// What a page of a sector does, in words.
+pub(crate) fn wrote_text(wrote: Wrote) -> &'static str
+    ensures { result.now ≡ wrote_words wrote }
+{
+    match wrote {
+        Wrote::Data => "data",
+        Wrote::Trim => "trim",
     }
 }
 
@@ -382,6 +401,59 @@ fn put_age<W: Output>(out: &mut W, doubts: Doubts) -> Result<(), OutputFault>
     )
 }
 
+// What an array as of a sequence is.
+fn put_until<W: Output>(out: &mut W, last: u64, unsound: u32) -> Result<(), OutputFault>
+    ensures { Prints (W.failed out.new) (W.contents out.old) (W.contents out.new) (until_words last unsound) result }
+{
+    put_pieces(
+        out,
+        &[
+            Words("unsound "),
+            Number(u64::from(unsound)),
+            Words(": as of sequence "),
+            Number(last),
+            Words(", the newest of what is still there"),
+        ],
+    )
+}
+
+// A sound page of a sector.
+fn put_page<W: Output>(out: &mut W, page: SectorPage, block: u32) -> Result<(), OutputFault>
+    ensures { Prints (W.failed out.new) (W.contents out.old) (W.contents out.new) (page_words page block) result }
+{
+    put_pieces(
+        out,
+        &[
+            Words("page row "),
+            Number(u64::from(page.row)),
+            Words(" block "),
+            Number(u64::from(block)),
+            Words(" sequence "),
+            Number(page.sequence.0),
+            Words(" version "),
+            Number(u64::from(page.version)),
+            Words(" "),
+            Words(wrote_text(page.wrote)),
+        ],
+    )
+}
+
+// How many pages of a sector are still there.
+fn put_history<W: Output>(out: &mut W, pages: u64, unsound: u32) -> Result<(), OutputFault>
+    ensures { Prints (W.failed out.new) (W.contents out.old) (W.contents out.new) (history_words pages unsound) result }
+{
+    put_pieces(
+        out,
+        &[
+            Words("history "),
+            Number(pages),
+            Words(" unsound "),
+            Number(u64::from(unsound)),
+            Words(": of what is still there, newest first"),
+        ],
+    )
+}
+
 // How many pages of some rows are neither erased nor sound.
 fn put_age_of_rows<W: Output>(out: &mut W, unsound: u32) -> Result<(), OutputFault>
     ensures { Prints (W.failed out.new) (W.contents out.old) (W.contents out.new) (codes "unsound " ++ (decimal unsound ++ codes ": of these rows alone, of others nothing is told")) result }
@@ -453,10 +525,14 @@ pub(crate) fn put_words<W: Output>(out: &mut W, line: Line) -> Result<(), Output
         Line::MendedCount(count) => put_one(out, "mended ", count),
         Line::LostRow(row, chunks) => put_two(out, "lost row ", row, " chunks ", chunks),
         Line::Corrected(bits, rows, lost) => put_corrected(out, bits, rows, lost),
+        Line::Arranged(rows) => put_one(out, "arranged ", u64::from(rows)),
         Line::Differ(row) => put_one(out, "differ row ", u64::from(row)),
         Line::Unsound(row) => put_one(out, "unsound row ", u64::from(row)),
         Line::Merged(differ, tally) => put_tally(out, differ, tally),
         Line::Age(doubts) => put_age(out, doubts),
+        Line::AgeUntil(last, unsound) => put_until(out, last, unsound),
+        Line::Page(page, block) => put_page(out, page, block),
+        Line::History(pages, unsound) => put_history(out, pages, unsound),
         Line::AgeOfRows(unsound) => put_age_of_rows(out, unsound),
         Line::OfRows(rows) => put_two(out, "rows ", rows.first, "..", rows.end),
         Line::Factory(pages) => put_one(out, "factory ", u64::from(pages)),
@@ -530,6 +606,23 @@ pub(crate) fn past_line(pages: u32) -> Option<Line>
     } else {
         Some(Line::Outside(pages))
     }
+}
+
+/// How far an array is from the last write, or what it is as of a sequence.
+pub(crate) fn age_line(last: Option<u64>, doubts: Doubts) -> Line
+    ensures { result ≡ age_line last doubts }
+{
+    match last {
+        Some(last) => Line::AgeUntil(last, doubts.unsound),
+        None => Line::Age(doubts),
+    }
+}
+
+/// The line of a page of a sector.
+pub(crate) fn page_line(geometry: &Geometry, page: SectorPage) -> Line
+    ensures { result ≡ page_line geometry.now page }
+{
+    Line::Page(page, page.row / geometry.pages())
 }
 
 /// The line of the rows that were asked for, where not all were.

@@ -2,13 +2,14 @@
 ghost use Rattle.std.specs.Prelude.{◌≡◌, ◌<◌, get_or, map, option_map};
 ghost use Rattle.lab_dump.specs.declared.held.State.TheVariants.{Absent};
 ghost use Rattle.lab_dump.specs.Held.{state_in};
-ghost use Rattle.lab_commands.specs.Reports.{differ_at, fit_at, loss_at, mend_at, some_at, state_at, unsound_at};
+ghost use Rattle.lab_commands.specs.Reports.{differ_at, fit_at, loss_at, mend_at, page_at, some_at, state_at, unsound_at};
 
-use crate::lines::{Label, Line, block_line, key_line, lost_line, table_line, tie_line};
+use crate::lines::{Label, Line, block_line, key_line, lost_line, page_line, table_line, tie_line};
 use certificate::BlockState;
 use lab_correct::{FoundFit, Loss};
-use lab_dump::{DieSurvey, Held, State};
+use lab_dump::{DieSurvey, Held, SectorPage, State};
 use lab_mend::Mend;
+use page_layout::geometry::Geometry;
 
 /// Lines, one for each number below their count, or none for a number that has nothing to say.
 #[derive(Drop)]
@@ -25,6 +26,8 @@ pub(crate) enum Lines<'a> {
     Losses(&'a [bool], u32),
     /// Those of so many sectors of which two pages share the greatest sequence.
     Ties(&'a [Held], u32),
+    /// The sound pages of a sector.
+    Pages(&'a Geometry, &'a [SectorPage]),
     /// The geometries that fit.
     Fits(&'a [FoundFit]),
     /// The pages that were mended.
@@ -92,6 +95,13 @@ fn fixed_line(lines: &[Option<Line>], number: usize) -> Option<Line>
     lines.get(number).copied().unwrap_or(None)
 }
 
+fn sector_page(geometry: &Geometry, pages: &[SectorPage], number: usize) -> Option<Line>
+    ensures { result ≡ page_at geometry.now pages.now number }
+{
+    let page = *pages.get(number)?;
+    Some(page_line(geometry, page))
+}
+
 fn fit_line(fits: &[FoundFit], number: usize) -> Option<Line>
     ensures { result ≡ fit_at fits.now number }
 {
@@ -142,6 +152,7 @@ impl Lines<'_> {
             | Lines::Blocks(_, count)
             | Lines::Losses(_, count)
             | Lines::Ties(_, count) => count as usize,
+            Lines::Pages(_, pages) => pages.len(),
             Lines::Fits(fits) => fits.len(),
             Lines::Mends(mends) => mends.len(),
             Lines::LostRows(losses) => losses.len(),
@@ -172,6 +183,7 @@ impl Lines<'_> {
             Lines::Ties(held, count) => {
                 tie_line(narrow(number, count), sector_state(held, number))
             }
+            Lines::Pages(geometry, pages) => sector_page(geometry, pages, number),
             Lines::Fits(fits) => fit_line(fits, number),
             Lines::Mends(mends) => mend_line(mends, number),
             Lines::LostRows(losses) => loss_line(losses, number),

@@ -68,6 +68,7 @@ pub(crate) fn open_dump<'a, F: LabFiles>(
     ensures bytes { IfOk result (λ dump. IsOpened (F.answers files.old) path.now (F.Dump.bytes dump)) }
     ensures fails { (dump : F.Dump) → F.Dump.failed dump ≡ true → (F.answers files.old).reads_fail }
     ensures fault { IfErr result (IsUnread (F.answers files.old) path.now) }
+    ensures no_more { AnswersNoMore (F.answers files.old) (F.answers files.new) }
     ensures kept { F.kept files.new ≡ F.kept files.old }
 {
     match files.open_dump(path, progress) {

@@ -3,11 +3,13 @@ ghost use Rattle.std.specs.Prelude.{OnOk, IfErr};
 ghost use Rattle.program_words.specs.Met.{texts};
 ghost use Rattle.lab_commands.specs.Program.{IsRefused, Obeyed, Runs, Written};
 
+use crate::arrange::arrange_command;
 use crate::array::array_command;
 use crate::compare::compare_command;
 use crate::correct::correct_command;
 use crate::files::LabFiles;
 use crate::geometry::geometry_command;
+use crate::history::history_command;
 use crate::merge::merge_command;
 use crate::output::Output;
 use crate::repair::repair_command;
@@ -30,11 +32,13 @@ fn obey<'a, F: LabFiles, W: Output>(
     match parse(alloc, words) {
         Ok(Asked::Geometry(read)) => geometry_command(alloc, read, files, out),
         Ok(Asked::Array(read)) => array_command(alloc, read, files, out),
+        Ok(Asked::History(read)) => history_command(alloc, read, files, out),
         Ok(Asked::Survey(read)) => survey_command(alloc, read, files, out),
         Ok(Asked::Compare(read)) => compare_command(alloc, read, files, out),
         Ok(Asked::Merge(read)) => merge_command(alloc, read, files, out),
         Ok(Asked::Repair(read)) => repair_command(alloc, read, files, out),
         Ok(Asked::Correct(read)) => correct_command(alloc, read, files, out),
+        Ok(Asked::Arrange(read)) => arrange_command(alloc, read, files, out),
         Ok(Asked::Text(text)) => match out.put(text.as_bytes()) {
             Ok(()) => Ok(()),
             Err(_) => Err(LabFault::Write("-")),

@@ -2,17 +2,18 @@
 ghost use Rattle.std.specs.Prelude.{◌≡◌, option_map, map};
 ghost use Rattle.lab_dump.specs.Held.{state_in};
 ghost use Rattle.lab_commands.specs.Document.{Prints, text_below};
-ghost use Rattle.lab_commands.specs.Reports.{array_text, blocks_text, compare_text, correct_text, count_lines, doubts_text, ending_text, fits_text, key_at, keys_text, losses_text, merge_text, repair_text, some_text, survey_lines, survey_text, table_at, ties_text};
+ghost use Rattle.lab_commands.specs.Reports.{arrange_text, array_text, blocks_text, compare_text, correct_text, count_lines, doubts_text, ending_text, fits_text, history_text, key_at, keys_text, losses_text, merge_text};
+ghost use Rattle.lab_commands.specs.Reports.{repair_text, some_text, survey_lines, survey_text, table_at, ties_text};
 
 use crate::document::{Printer, Report};
 use crate::lines::{
-    Label, Line, Sort, factory_line, hole_line, last_line, outside_line, past_line, repeated_line,
-    rewritten_line, rows_line,
+    Label, Line, Sort, age_line, factory_line, hole_line, last_line, outside_line, past_line,
+    repeated_line, rewritten_line, rows_line,
 };
 use crate::lists::Lines;
 use crate::output::{Output, OutputFault};
 use lab_correct::{FoundFit, Loss};
-use lab_dump::{Compared, DieSurvey, Doubts, Held, Rows, State};
+use lab_dump::{Compared, DieSurvey, Doubts, Held, Rows, SectorPage, State};
 use lab_mend::{Mend, Tally};
 use page_layout::geometry::Geometry;
 
@@ -107,9 +108,14 @@ fn print_blocks<W: Output>(
     printer.list(out, &Lines::Blocks(survey, count))
 }
 
-// What a dump leaves open, and how far the array may be from the last write.
-fn print_doubts<W: Output>(printer: Printer, out: &mut W, doubts: Doubts) -> Result<(), OutputFault>
-    ensures { Prints (W.failed out.new) (W.contents out.old) (W.contents out.new) (doubts_text printer.form doubts) result }
+// What a dump leaves open, and how far the array may be from the last write, or what it is as of a sequence.
+fn print_doubts<W: Output>(
+    printer: Printer,
+    out: &mut W,
+    last: Option<u64>,
+    doubts: Doubts,
+) -> Result<(), OutputFault>
+    ensures { Prints (W.failed out.new) (W.contents out.old) (W.contents out.new) (doubts_text printer.form last doubts) result }
 {
     printer.list(
         out,
@@ -118,7 +124,7 @@ fn print_doubts<W: Output>(printer: Printer, out: &mut W, doubts: Doubts) -> Res
             rewritten_line(doubts.rewritten),
             hole_line(doubts.holes),
             past_line(doubts.outside),
-            Some(Line::Age(doubts)),
+            Some(age_line(last, doubts)),
         ]),
     )
 }
@@ -134,7 +140,7 @@ fn print_ending<W: Output>(
 {
     match rows {
         Some(_) => printer.line(out, Some(Line::AgeOfRows(survey.counts.unsound))),
-        None => print_doubts(printer, out, survey.doubts),
+        None => print_doubts(printer, out, None, survey.doubts),
     }
 }
 
@@ -203,7 +209,7 @@ pub fn print_compared<W: Output>(
 {
     printer.begin(out, Report::Compare)?;
     print_losses(printer, out, geometry, &told.lost)?;
-    print_doubts(printer, out, told.doubts)?;
+    print_doubts(printer, out, None, told.doubts)?;
     printer.end(out)
 }
 
@@ -220,7 +226,7 @@ fn print_ties<W: Output>(
     printer.list(out, &Lines::Ties(held, count))
 }
 
-/// Prints which sectors are tied, by what is held of each, and what the dump leaves open.
+/// Prints which sectors are tied, by what is held of each, and what the dump leaves open, of the array as of a sequence where one is said.
 ///
 /// # Errors
 ///
@@ -229,14 +235,35 @@ pub fn print_array<W: Output>(
     printer: Printer,
     out: &mut W,
     geometry: &Geometry,
+    last: Option<u64>,
     held: &[Held],
     doubts: Doubts,
 ) -> Result<(), OutputFault>
-    ensures { Prints (W.failed out.new) (W.contents out.old) (W.contents out.new) (array_text printer.form geometry.now (map state_in held.now) doubts) result }
+    ensures { Prints (W.failed out.new) (W.contents out.old) (W.contents out.new) (array_text printer.form geometry.now last (map state_in held.now) doubts) result }
 {
     printer.begin(out, Report::Array)?;
     print_ties(printer, out, geometry, held)?;
-    print_doubts(printer, out, doubts)?;
+    print_doubts(printer, out, last, doubts)?;
+    printer.end(out)
+}
+
+/// Prints the sound pages of a sector, in their order, how many there are, and how many pages are neither erased nor sound.
+///
+/// # Errors
+///
+/// As of `print_survey`. (This project's.)
+pub fn print_history<W: Output>(
+    printer: Printer,
+    out: &mut W,
+    geometry: &Geometry,
+    pages: &[SectorPage],
+    unsound: u32,
+) -> Result<(), OutputFault>
+    ensures { Prints (W.failed out.new) (W.contents out.old) (W.contents out.new) (history_text printer.form geometry.now pages.now unsound) result }
+{
+    printer.begin(out, Report::History)?;
+    printer.list(out, &Lines::Pages(geometry, pages))?;
+    printer.line(out, Some(Line::History(pages.len() as u64, unsound)))?;
     printer.end(out)
 }
 
@@ -295,6 +322,23 @@ pub fn print_corrected<W: Output>(
         out,
         Some(Line::Corrected(turned, touched, losses.len() as u64)),
     )?;
+    printer.end(out)
+}
+
+/// Prints how many pages were put in order.
+///
+/// # Errors
+///
+/// As of `print_survey`. (This project's.)
+pub fn print_arranged<W: Output>(
+    printer: Printer,
+    out: &mut W,
+    rows: u32,
+) -> Result<(), OutputFault>
+    ensures { Prints (W.failed out.new) (W.contents out.old) (W.contents out.new) (arrange_text printer.form rows) result }
+{
+    printer.begin(out, Report::Arrange)?;
+    printer.line(out, Some(Line::Arranged(rows)))?;
     printer.end(out)
 }
 

@@ -1,11 +1,13 @@
 //! What the program says when a command ends before it is done: one line, and the exit status.
 ghost use Rattle.std.specs.Prelude.{◌≡◌, ◌∷◌, [], ◌++◌, true, OnErr};
 ghost use Rattle.lab_commands.specs.Output.{Puts};
-ghost use Rattle.lab_commands.specs.Text.{IsTold, line_of, rest_words, status_of, told_line};
+ghost use Rattle.lab_commands.specs.Text.{IsTold, lengths_words, line_of, rest_words, status_of, told_line};
 
 use crate::names::put_name;
 use crate::output::{Output, OutputFault};
+use crate::pieces::{Piece, put_pieces};
 use certificate::CertFault;
+use lab_arrange::UnfitFault;
 use page_layout::geometry::GeometryFault;
 use std::alloc::{AllocError, Global};
 
@@ -23,7 +25,7 @@ const IO: u8 = 3;
 pub enum LabFault<'a> {
     /// The words are no command that the program has.
     NoSuchCommand,
-    /// The word is not the numbers that are wanted: five with four commas, or two with two dots.
+    /// The word is not the numbers that are wanted: five with four commas, two with two dots, or one.
     BadNumber(&'a str),
     /// The numbers are no geometry.
     Geometry(GeometryFault),
@@ -31,6 +33,8 @@ pub enum LabFault<'a> {
     NoneFits,
     /// The numbers are no rows of the die.
     RowRange,
+    /// The die has no sector of this number.
+    SectorRange,
     /// The file to be written is a dump that is read.
     IsDump,
     /// There is a file of that path already.
@@ -55,6 +59,12 @@ pub enum LabFault<'a> {
     Certificate(CertFault),
     /// The certificate is of another geometry.
     GeometryDiffers,
+    /// A word of an arrangement is none, or says what another one before it has said.
+    BadArrangement(&'a str),
+    /// No die of the geometry stands in the arrangement.
+    Unfit(UnfitFault),
+    /// The dump has not as many bytes as the arrangement and the geometry say: how many were wanted, and how many there are.
+    ArrangedLength { wanted: u64, found: u64 },
     /// The file of this path could not be read.
     Read(&'a str),
     /// The file of this path, or standard output where it is `-`, could not be written.
@@ -81,10 +91,11 @@ impl LabFault<'_> {
         ensures { result ≡ status_of self.now }
     {
         match self {
-            LabFault::NoSuchCommand | LabFault::BadNumber(_) => USAGE,
+            LabFault::NoSuchCommand | LabFault::BadNumber(_) | LabFault::BadArrangement(_) => USAGE,
             LabFault::Geometry(_)
             | LabFault::NoneFits
             | LabFault::RowRange
+            | LabFault::SectorRange
             | LabFault::IsDump
             | LabFault::Exists
             | LabFault::NoFile
@@ -96,7 +107,9 @@ impl LabFault<'_> {
             | LabFault::DumpLength(_)
             | LabFault::OutOfMemory
             | LabFault::Certificate(_)
-            | LabFault::GeometryDiffers => REFUSED,
+            | LabFault::GeometryDiffers
+            | LabFault::Unfit(_)
+            | LabFault::ArrangedLength { .. } => REFUSED,
             LabFault::Read(_) | LabFault::Write(_) => IO,
         }
     }
@@ -130,6 +143,16 @@ fn certificate_text(broken: CertFault) -> &'static str
     }
 }
 
+// Why no die stands in an arrangement, by its number and its name.
+fn unfit_text(unfit: UnfitFault) -> &'static str
+    ensures { result.now ≡ Rattle.lab_commands.specs.Text.unfit_words unfit }
+{
+    match unfit {
+        UnfitFault::OddBlocks => "2 OddBlocks",
+        UnfitFault::CutRange => "3 CutRange",
+    }
+}
+
 // What a line ends with, behind its first words.
 #[derive(Clone, Copy)]
 enum Rest<'a> {
@@ -137,6 +160,8 @@ enum Rest<'a> {
     Words(&'static str),
     // A name, or another word of the command line, as it is printed.
     Name(&'a str),
+    // How many bytes were wanted, and how many were found.
+    Lengths(u64, u64),
 }
 
 // The line of a fault, without its line feed: its first words, and the rest.
@@ -152,6 +177,7 @@ fn line<'a>(fault: &LabFault<'a>) -> (&'static str, Rest<'a>)
         LabFault::Geometry(broken) => ("refused geometry ", Rest::Words(limit(broken))),
         LabFault::NoneFits => ("refused geometry ", Rest::Words("6 NoneFits")),
         LabFault::RowRange => ("refused rows ", Rest::Words("1 RowRange")),
+        LabFault::SectorRange => ("refused sector ", Rest::Words("1 OutOfRange")),
         LabFault::IsDump => ("refused out ", Rest::Words("1 IsDump")),
         LabFault::Exists => ("refused out ", Rest::Words("2 Exists")),
         LabFault::NoFile => ("refused out ", Rest::Words("3 NoFile")),
@@ -167,9 +193,31 @@ fn line<'a>(fault: &LabFault<'a>) -> (&'static str, Rest<'a>)
             Rest::Words(certificate_text(broken)),
         ),
         LabFault::GeometryDiffers => ("refused compare ", Rest::Words("1 GeometryDiffers")),
+        LabFault::BadArrangement(word) => ("usage: bad arrangement ", Rest::Name(word)),
+        LabFault::Unfit(unfit) => ("refused arrange ", Rest::Words(unfit_text(unfit))),
+        LabFault::ArrangedLength { wanted, found } => (
+            "refused arrange 1 WrongLength ",
+            Rest::Lengths(wanted, found),
+        ),
         LabFault::Read(path) => ("fault read ", Rest::Name(path)),
         LabFault::Write(path) => ("fault write ", Rest::Name(path)),
     }
+}
+
+// Writes how many bytes were wanted, and how many were found.
+fn put_lengths<W: Output>(out: &mut W, wanted: u64, found: u64) -> Result<(), OutputFault>
+    ensures bytes { Puts (W.contents out.old) (W.contents out.new) (lengths_words wanted found) result }
+    ensures failed { OnErr result (W.failed out.new ≡ true) }
+{
+    put_pieces(
+        out,
+        &[
+            Piece::Words("wanted "),
+            Piece::Number(wanted),
+            Piece::Words(" found "),
+            Piece::Number(found),
+        ],
+    )
 }
 
 // Writes the rest of a line.
@@ -180,6 +228,7 @@ fn put_rest<W: Output>(out: &mut W, rest: Rest<'_>) -> Result<(), OutputFault>
     match rest {
         Rest::Words(words) => out.put(words.as_bytes()),
         Rest::Name(name) => put_name(out, name),
+        Rest::Lengths(wanted, found) => put_lengths(out, wanted, found),
     }
 }
 

@@ -3,16 +3,16 @@ ghost use Rattle.std.specs.Prelude.{◌≡◌, codes};
 ghost use Rattle.serde_json.specs.Written.{compact_text};
 ghost use Rattle.lab_commands.specs.Document.{Prints};
 ghost use Rattle.lab_commands.specs.Lines.{label_words};
-ghost use Rattle.lab_commands.specs.Values.{age_data, block_data, corrected_data, doubt_data, found_data, front_words, head_data, key_data, line_data, lost_data, lost_row_data, mended_count_data, mended_data, merged_data, pages_data};
-ghost use Rattle.lab_commands.specs.Values.{plain_block_data, reason_pages_data, reason_table_data, repeated_data, row_data, rows_age_data, rows_data};
+ghost use Rattle.lab_commands.specs.Values.{age_data, age_until_data, arranged_data, block_data, corrected_data, doubt_data, found_data, front_words, head_data, history_data, key_data, line_data, lost_data, lost_row_data};
+ghost use Rattle.lab_commands.specs.Values.{mended_count_data, mended_data, merged_data, page_data, pages_data, plain_block_data, reason_pages_data, reason_table_data, repeated_data, row_data, rows_age_data, rows_data};
 
-use crate::lines::{Label, Line, Sort, class_text, made_text, says_text};
+use crate::lines::{Label, Line, Sort, class_text, made_text, says_text, wrote_text};
 use crate::output::{Output, OutputFault};
 use crate::pieces::Piece::{Number, Words};
 use crate::pieces::put_pieces;
 use certificate::BlockState;
 use lab_correct::FoundFit;
-use lab_dump::{Doubts, Rows};
+use lab_dump::{Doubts, Rows, SectorPage};
 use lab_mend::{Made, Tally};
 
 // So many pages are of a sort.
@@ -322,6 +322,21 @@ fn put_corrected<W: Output>(out: &mut W, bits: u64, rows: u32, lost: u64) -> Res
     )
 }
 
+// How many pages were put in order.
+#[tactic(auto, unfolding(json::specs::Print::escape_byte))]
+fn put_arranged<W: Output>(out: &mut W, rows: u32) -> Result<(), OutputFault>
+    ensures { Prints (W.failed out.new) (W.contents out.old) (W.contents out.new) (compact_text (arranged_data rows)) result }
+{
+    put_pieces(
+        out,
+        &[
+            Words("{\"line\":\"arranged\",\"rows\":"),
+            Number(u64::from(rows)),
+            Words("}"),
+        ],
+    )
+}
+
 // A row of which two sound pages differ.
 #[tactic(auto, unfolding(json::specs::Print::escape_byte))]
 fn put_differ<W: Output>(out: &mut W, row: u32) -> Result<(), OutputFault>
@@ -392,7 +407,64 @@ fn put_age<W: Output>(out: &mut W, doubts: Doubts) -> Result<(), OutputFault>
     )
 }
 
-// The same of some rows alone.
+// What an array as of a sequence is.
+#[tactic(auto, unfolding(json::specs::Print::escape_byte))]
+fn put_until<W: Output>(out: &mut W, last: u64, unsound: u32) -> Result<(), OutputFault>
+    ensures { Prints (W.failed out.new) (W.contents out.old) (W.contents out.new) (compact_text (age_until_data last unsound)) result }
+{
+    put_pieces(
+        out,
+        &[
+            Words("{\"line\":\"until\",\"sequence\":"),
+            Number(last),
+            Words(",\"unsound\":"),
+            Number(u64::from(unsound)),
+            Words("}"),
+        ],
+    )
+}
+
+// A sound page of a sector.
+#[tactic(auto, unfolding(json::specs::Print::escape_byte))]
+fn put_page<W: Output>(out: &mut W, page: SectorPage, block: u32) -> Result<(), OutputFault>
+    ensures { Prints (W.failed out.new) (W.contents out.old) (W.contents out.new) (compact_text (page_data page block)) result }
+{
+    put_pieces(
+        out,
+        &[
+            Words("{\"block\":"),
+            Number(u64::from(block)),
+            Words(",\"kind\":\""),
+            Words(wrote_text(page.wrote)),
+            Words("\",\"line\":\"page\",\"row\":"),
+            Number(u64::from(page.row)),
+            Words(",\"sequence\":"),
+            Number(page.sequence.0),
+            Words(",\"version\":"),
+            Number(u64::from(page.version)),
+            Words("}"),
+        ],
+    )
+}
+
+// How many pages of a sector are still there.
+#[tactic(auto, unfolding(json::specs::Print::escape_byte))]
+fn put_history<W: Output>(out: &mut W, pages: u64, unsound: u32) -> Result<(), OutputFault>
+    ensures { Prints (W.failed out.new) (W.contents out.old) (W.contents out.new) (compact_text (history_data pages unsound)) result }
+{
+    put_pieces(
+        out,
+        &[
+            Words("{\"line\":\"history\",\"pages\":"),
+            Number(pages),
+            Words(",\"unsound\":"),
+            Number(u64::from(unsound)),
+            Words("}"),
+        ],
+    )
+}
+
+// How many pages of some rows alone are neither erased nor sound.
 #[tactic(auto, unfolding(json::specs::Print::escape_byte))]
 fn put_age_of_rows<W: Output>(out: &mut W, unsound: u32) -> Result<(), OutputFault>
     ensures { Prints (W.failed out.new) (W.contents out.old) (W.contents out.new) (compact_text (rows_age_data unsound)) result }
@@ -506,10 +578,14 @@ pub(crate) fn put_object<W: Output>(out: &mut W, line: Line) -> Result<(), Outpu
         Line::MendedCount(count) => put_mended_count(out, count),
         Line::LostRow(row, chunks) => put_lost_row(out, row, chunks),
         Line::Corrected(bits, rows, lost) => put_corrected(out, bits, rows, lost),
+        Line::Arranged(rows) => put_arranged(out, rows),
         Line::Differ(row) => put_differ(out, row),
         Line::Unsound(row) => put_unsound(out, row),
         Line::Merged(differ, tally) => put_merged(out, differ, tally),
         Line::Age(doubts) => put_age(out, doubts),
+        Line::AgeUntil(last, unsound) => put_until(out, last, unsound),
+        Line::Page(page, block) => put_page(out, page, block),
+        Line::History(pages, unsound) => put_history(out, pages, unsound),
         Line::AgeOfRows(unsound) => put_age_of_rows(out, unsound),
         Line::OfRows(rows) => put_rows(out, rows),
         Line::Factory(pages) => put_factory(out, pages),

@@ -5,13 +5,16 @@ ghost use Rattle.program_words.specs.Met.{entries_of, texts};
 ghost use Rattle.lab_commands.specs.declared.words.ArrayWords.{ArrayWords};
 ghost use Rattle.lab_commands.specs.declared.words.CompareWords.{CompareWords};
 ghost use Rattle.lab_commands.specs.declared.words.GeometryWords.{GeometryWords};
+ghost use Rattle.lab_commands.specs.declared.words.HistoryWords.{HistoryWords};
 ghost use Rattle.lab_commands.specs.declared.words.MergeWords.{MergeWords};
 ghost use Rattle.lab_commands.specs.declared.words.RepairWords.{RepairWords};
 ghost use Rattle.lab_commands.specs.declared.words.Showing.{Showing};
 ghost use Rattle.lab_commands.specs.declared.words.SurveyWords.{SurveyWords};
+ghost use Rattle.lab_commands.specs.declared.words.UntilWords.{UntilWords};
 ghost use Rattle.lab_commands.specs.declared.words.Asked.{Asked};
-ghost use Rattle.lab_commands.specs.Words.{AreDumpsAt, IsArrayAt, IsAsked, IsAt, IsCompareAt, IsGeometryAt, IsMergeAt, IsNoCommand, IsRepairAt, IsShowingAt, IsSurveyAt};
+ghost use Rattle.lab_commands.specs.Words.{AreDumpsAt, IsArrayAt, IsAsked, IsAt, IsCompareAt, IsGeometryAt, IsHistoryAt, IsMergeAt, IsNoCommand, IsRepairAt, IsShowingAt, IsSurveyAt, IsUntilAt};
 
+use crate::arrange_words::{ArrangeWords, arrange_words};
 use crate::grammar::grammar;
 use program_words::{CommandWords, Met, WordsFault, read_words};
 use std::alloc::Global;
@@ -32,7 +35,7 @@ pub struct GeometryWords<'a> {
     pub showing: Showing,
 }
 
-/// The words of `array GEOM DUMP OUT [--map FILE]`, and of `correct`, which has the same.
+/// The words of `correct GEOM DUMP OUT [--map FILE]`, which `array` has too.
 #[derive(Clone, Copy)]
 pub struct ArrayWords<'a> {
     pub geometry: &'a str,
@@ -42,6 +45,24 @@ pub struct ArrayWords<'a> {
     pub force: bool,
     /// FILE, where the map of OUT is wanted.
     pub map: Option<&'a str>,
+    pub showing: Showing,
+}
+
+/// The words of `array GEOM DUMP OUT [--map FILE] [--until SEQUENCE]`.
+#[derive(Clone, Copy)]
+pub struct UntilWords<'a> {
+    /// All but the last.
+    pub array: ArrayWords<'a>,
+    /// SEQUENCE, where the array as of a sequence is wanted.
+    pub until: Option<&'a str>,
+}
+
+/// The words of `history GEOM DUMP SECTOR`.
+#[derive(Clone, Copy)]
+pub struct HistoryWords<'a> {
+    pub geometry: &'a str,
+    pub dump: &'a str,
+    pub sector: &'a str,
     pub showing: Showing,
 }
 
@@ -95,7 +116,9 @@ pub enum Asked<'a> {
     /// Which geometries fit a dump.
     Geometry(GeometryWords<'a>),
     /// The array of a dump.
-    Array(ArrayWords<'a>),
+    Array(UntilWords<'a>),
+    /// The pages of a sector.
+    History(HistoryWords<'a>),
     /// What a dump tells of its die.
     Survey(SurveyWords<'a>),
     /// Which sectors have lost a page since a certificate was made.
@@ -106,12 +129,14 @@ pub enum Asked<'a> {
     Repair(RepairWords<'a>),
     /// The dump of a chip's dump with codes.
     Correct(ArrayWords<'a>),
+    /// The dump of one in another arrangement.
+    Arrange(ArrangeWords<'a>),
     /// This text, of help or of the version.
     Text(String),
 }
 
-// How a command tells what it does.
-fn showing_words(found: &CommandWords<'_>) -> Showing
+/// How a command tells what it does.
+pub(crate) fn showing_words(found: &CommandWords<'_>) -> Showing
     ensures { IsShowingAt (entries_of found.now) result }
 {
     Showing {
@@ -131,7 +156,7 @@ fn geometry_words<'a>(found: &CommandWords<'a>) -> Option<GeometryWords<'a>>
     })
 }
 
-// The words of the command `array`, where they are given.
+// The words of the command `correct`, where they are given.
 fn array_words<'a>(found: &CommandWords<'a>) -> Option<ArrayWords<'a>>
     ensures some { IfSome result (IsArrayAt (entries_of found.now)) }
     ensures none { result ≡ None → (read : ArrayWords) → ¬ IsArrayAt (entries_of found.now) read }
@@ -142,6 +167,30 @@ fn array_words<'a>(found: &CommandWords<'a>) -> Option<ArrayWords<'a>>
         out: found.word("OUT")?,
         force: found.stands("force"),
         map: found.word("map"),
+        showing: showing_words(found),
+    })
+}
+
+// The words of the command `array`, where they are given.
+fn until_words<'a>(found: &CommandWords<'a>) -> Option<UntilWords<'a>>
+    ensures some { IfSome result (IsUntilAt (entries_of found.now)) }
+    ensures none { result ≡ None → (read : UntilWords) → ¬ IsUntilAt (entries_of found.now) read }
+{
+    Some(UntilWords {
+        array: array_words(found)?,
+        until: found.word("until"),
+    })
+}
+
+// The words of the command `history`, where they are given.
+fn history_words<'a>(found: &CommandWords<'a>) -> Option<HistoryWords<'a>>
+    ensures some { IfSome result (IsHistoryAt (entries_of found.now)) }
+    ensures none { result ≡ None → (read : HistoryWords) → ¬ IsHistoryAt (entries_of found.now) read }
+{
+    Some(HistoryWords {
+        geometry: found.word("GEOM")?,
+        dump: found.word("DUMP")?,
+        sector: found.word("SECTOR")?,
         showing: showing_words(found),
     })
 }
@@ -234,11 +283,13 @@ fn other_asked<'a>(name: &str, found: &CommandWords<'a>) -> Option<Asked<'a>>
 {
     match name {
         "geometry" => geometry_words(found).map(Asked::Geometry),
-        "array" => array_words(found).map(Asked::Array),
+        "array" => until_words(found).map(Asked::Array),
+        "history" => history_words(found).map(Asked::History),
         "survey" => survey_words(found).map(Asked::Survey),
         "compare" => compare_words(found).map(Asked::Compare),
         "repair" => repair_words(found).map(Asked::Repair),
         "correct" => array_words(found).map(Asked::Correct),
+        "arrange" => arrange_words(found).map(Asked::Arrange),
         _ => None,
     }
 }

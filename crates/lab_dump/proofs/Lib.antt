@@ -23,3 +23,5 @@ pub mod RankLemmas
 pub mod FitLawLemmas
 pub mod MemberLemmas
 pub mod OnceLemmas
+mod UntilLemmas
+mod HistoryLemmas

@@ -27,8 +27,10 @@ use Rattle.lab_dump.specs.declared.doubting.Doubting.{Doubting}
 use Rattle.lab_dump.specs.declared.doubts.Doubts.{Doubts}
 use Rattle.lab_dump.specs.Doubts.{doubts_of}
 use Rattle.lab_dump.specs.Doubting.{IsDoubting}
+use Rattle.lab_dump.specs.Until.{until}
 use Rattle.lab_dump.specs.Writing.{content_below, AreSized, ReadBelow, Stands, Shows}
 use Rattle.lab_dump.specs.Written.{state_of, states_of, IsWritten, TiedLaw}
+use Rattle.lab_dump.proofs.UntilLemmas.{until_size}
 
 -- ---- the pieces
 
@@ -74,18 +76,20 @@ states_told g image hs size few told =
 
 -- ---- all of it
 
-pub written : (g : Geometry) (hs : List Held) (blank : List ℕ) (d : Doubting) (told : Doubts) (pieces : Option (List (List ℕ))) (bytes : List ℕ) → Stands g hs blank pieces
+pub written : (g : Geometry) (last : Option ℕ) (hs : List Held) (blank : List ℕ) (d : Doubting) (told : Doubts) (pieces : Option (List (List ℕ))) (bytes : List ℕ) → Stands g hs blank pieces
     → ((image : Image) → length image ≡ row_count g → IsDoubting g (row_count g) image d → told ≡ doubts_of g image)
-    → IsTaken g (λ image. Shows g (row_count g) image hs pieces × IsDoubting g (row_count g) image d) bytes → IsWritten g pieces hs told bytes
-written g hs blank d told pieces bytes stands concluded taken =
-    let image : Image = raw_image g bytes in
-    let size : length image ≡ row_count g = length-raw_image g bytes in
+    → IsTaken g (λ image. Shows g (row_count g) (until g last image) hs pieces × IsDoubting g (row_count g) image d) bytes → IsWritten g last pieces hs told bytes
+written g last hs blank d told pieces bytes stands concluded taken =
+    let raw : Image = raw_image g bytes in
+    let whole : length raw ≡ row_count g = length-raw_image g bytes in
+    let image : Image = until g last raw in
+    let size : length image ≡ row_count g = until_size g last raw ∙ whole in
     let shown : Shows g (row_count g) image hs pieces = taken.shown.0 in
     record {
       whole = taken.whole;
       array = if_both pieces (AreSized g) (ReadBelow g image (row_count g)) (λ ps. ps ≡ array_of g image) stands.sized shown.pieces_are (λ ps sized read. array_read g image ps size sized read);
       states = states_told g image hs size stands.size shown.held_of;
-      doubts_is = concluded image size taken.shown.1;
+      doubts_is = concluded raw whole taken.shown.1;
     }
 
 -- ---- ties

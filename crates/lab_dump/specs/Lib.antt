@@ -12,6 +12,10 @@ pub mod Held
 pub mod Writing
 -- what they are in the end
 pub mod Written
+-- the image as of a sequence
+pub mod Until
+-- the pages of a sector, newest first
+pub mod History
 -- why no file was made of a dump
 pub mod Unmade
 -- bad blocks whose pages leave nothing open

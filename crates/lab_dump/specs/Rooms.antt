@@ -2,12 +2,14 @@
 use Rattle.std.specs.Prelude.{◌≡◌, ◌≤◌, ℕ, List, [], length, replicate}
 use Rattle.std.specs.Vec.{vec_capacity}
 use Rattle.page_layout.specs.declared.geometry.Geometry.{Geometry}
+use Rattle.page_layout.specs.Geometry.{row_count}
 use Rattle.page_layout.specs.Page.{Image}
 use Rattle.page_layout.specs.Array.{zeros}
 use Rattle.lab_dump.specs.declared.held.Held.TheVariants.{Never}
 use Rattle.lab_dump.specs.declared.array.ArrayRoom.{ArrayRoom}
 use Rattle.lab_dump.specs.declared.compare.CompareRoom.{CompareRoom}
 use Rattle.lab_dump.specs.declared.find.FitRoom.{FitRoom}
+use Rattle.lab_dump.specs.declared.history.HistoryRoom.{HistoryRoom}
 use Rattle.lab_dump.specs.declared.survey.SurveyRoom.{SurveyRoom}
 use Rattle.lab_dump.specs.Doubting as doubting
 use Rattle.lab_dump.specs.Doubting.{IsDoubting}
@@ -31,6 +33,12 @@ pub record IsArrayRoom (g : Geometry) (room : ArrayRoom) : Type 0 where
   pub blank : room.zeros.items ≡ zeros g
   pub stands : doubting.Stands g 0 room.doubting
   pub shows : (image : Image) → IsDoubting g 0 image room.doubting
+
+-- no page is listed, and each row has room in the list
+pub record IsHistoryRoom (g : Geometry) (room : HistoryRoom) : Type 0 where
+  pub page : HasPage g room.body.items room.spare.items
+  pub none : room.pages.items ≡ []
+  pub places : row_count g ≤ vec_capacity room.pages
 
 -- no page has passed, and there is a place for each sector
 pub record IsCompareRoom (g : Geometry) (room : CompareRoom) : Type 0 where

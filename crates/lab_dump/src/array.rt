@@ -79,10 +79,10 @@ pub fn tied_law()
 
 /// Writes each sector of a dump to a target, in one pass over the dump: the data area of the sector's newest page, or zeros where that page
 /// is a trim, the sector has none, or two of its pages share its greatest sequence. The target has a piece of zeros for each sector at
-/// first. The newest page of a sector is its sound page of greatest sequence, over all blocks, bad ones included. It takes no memory but that of the
-/// room.
+/// first. The newest page of a sector is its sound page of greatest sequence, over all blocks, bad ones included. Where a sequence `until` is said,
+/// just the pages of this sequence or an earlier one count. It takes no memory but that of the room.
 ///
-/// For a reader that tells its bytes, and a target that tells its pieces, these are the array of the image that the bytes are. Whatever the
+/// For a reader that tells its bytes, and a target that tells its pieces, these are the array of the image that the bytes are, as of that sequence. Whatever the
 /// reader does, the target is handed zeros alone, or a page that is sound and holds that sector.
 ///
 /// # Errors
@@ -95,11 +95,12 @@ pub fn write_array<R: DumpReader, T: Target + Drop>(
     room: ArrayRoom,
     reader: &mut R,
     geometry: &Geometry,
+    until: Option<u64>,
     target: T,
 ) -> Result<Written<T>, Unwritten<T>>
     requires room { IsArrayRoom geometry.now room }
     requires pieces { IfSome (T.pieces target) (λ ps. ps ≡ replicate geometry.now.sectors (zeros geometry.now)) }
-    ensures ok { IfOk result (λ written. IfSome (R.remaining reader.old) (IsWritten geometry.now (T.pieces written.target) written.held.items written.doubts)) }
+    ensures ok { IfOk result (λ written. IfSome (R.remaining reader.old) (IsWritten geometry.now until (T.pieces written.target) written.held.items written.doubts)) }
     ensures sized { IfOk result (λ written. length written.held.items ≡ geometry.now.sectors) }
     ensures err { IfErr result (λ unwritten. IfSome (R.remaining reader.old) (IsUnmade geometry.now unwritten.fault)) }
     // Whatever the reader and the target do.
@@ -108,6 +109,7 @@ pub fn write_array<R: DumpReader, T: Target + Drop>(
 {
     let (mut body, mut spare) = (room.body, room.spare);
     let mut writing = Writing {
+        until,
         held: room.held,
         zeros: room.zeros,
         doubting: room.doubting,

@@ -1,16 +1,17 @@
 //! What a dump tells, a raw image of one NAND die that a reader gives. The dump is never held: one page is.
 //!
 //! - `scan`: one pass over its pages, in row order: what each page is, handed to a taker.
-//! - `write_array`: every sector. Each page that is newer than what was seen of its sector is put in the sector's place of a target, so
+//! - `write_array`: every sector, as of a sequence where one is said. Each page that is newer than what was seen of its sector is put in the sector's place of a target, so
 //!   that in the end the target holds the array of the image, sector by sector. And the map of the array: how each part of it stands, as
 //!   the mapfile of GNU ddrescue says it, so that tools that read such maps can tell a sector that was found from one that was not.
+//! - `survey_sector`: the history of a sector, the sound pages of it that the dump still has, newest first.
 //! - `compare_dump`: which sectors have lost a page since a certificate was made of its die.
 //! - `survey_dump`: how many pages are of each sort, how the keys stand, the state of each block, and each reason why the die would not
 //!   mount.
 //! - `find_geometries`: which geometries fit a dump of unknown shape, best first, each with what the dump says for it. It reads page by
 //!   page, at whatever place.
 //!
-//! Each of the last four takes no memory but that of its room (`ArrayRoom`, ..), which is made before the dump is opened: so no refusal for memory
+//! Each of the last five takes no memory but that of its room (`ArrayRoom`, ..), which is made before the dump is opened: so no refusal for memory
 //! depends on what a dump holds.
 #![tactic(auto)]
 
@@ -25,6 +26,7 @@ mod dump;
 mod find;
 mod fit;
 mod held;
+mod history;
 mod keys;
 mod laws;
 mod look;
@@ -43,6 +45,7 @@ mod survey;
 mod target;
 mod told;
 mod trace;
+mod until;
 mod writing;
 
 pub use array::{ArrayRoom, Unwritten, Written, write_array};
@@ -53,6 +56,7 @@ pub use dump::{Dump, DumpFault, DumpReader};
 pub use find::{FitRoom, add_shapes, find_geometries};
 pub use fit::{Fit, TableSays};
 pub use held::{Held, State};
+pub use history::{History, HistoryRoom, SectorPage, Wrote, history_laws, survey_sector};
 pub use laws::{
     areas_law, bad_block_laws, bound_laws, fit_laws, hole_laws, looked_laws, lost_law,
     none_lost_law, short_laws, told_laws,
@@ -70,4 +74,5 @@ pub use shape::{data_sizes, first_shape};
 pub use survey::{DieSurvey, SurveyFault, SurveyRoom, mounts_law, survey_dump};
 pub use target::{PageTarget, Pieces, Target, TargetFault};
 pub use told::Told;
+pub use until::until_laws;
 pub use writing::Writing;

@@ -53,6 +53,9 @@ pub trait Taker {
     /// The rows that are asked of it, where it makes a difference between rows. They stay the same.
     ghost asked: { Self → Option Rows } = { λ _. None };
 
+    /// The number that it was made with, where it makes a difference: a sector, or the last sequence that counts. It stays the same.
+    ghost fixed: { Self → Option ℕ } = { λ _. None };
+
     /// What holds of it once it took so many pages of a die of this geometry, whatever they were.
     ghost stands: { Self → Geometry → ℕ → Type 0 };
 
@@ -79,6 +82,7 @@ pub trait Taker {
         requires spare_whole { length spare.now ≡ geometry.now.spare_bytes }
         requires stands { stands self.old geometry.now row }
         ensures asked { OnOk result (asked self.new ≡ asked self.old) }
+        ensures fixed { OnOk result (fixed self.new ≡ fixed self.old) }
         ensures stands { OnOk result (stands self.new geometry.now (row + 1)) }
         ensures shows { OnOk result ((image : Image) → shows self.old geometry.now row image → slice_get image row ≡ Some (page body.now spare.now) → shows self.new geometry.now (row + 1) image) }
         ensures stopped { OnErr result (stopped self.new) };
@@ -152,6 +156,7 @@ fn take_pages<R: DumpReader, T: Taker>(
     requires body_whole { length body.old ≡ geometry.now.data_bytes }
     requires spare_whole { length spare.old ≡ geometry.now.spare_bytes }
     ensures asked { OnOk result (T.asked taker.new ≡ T.asked taker.old) }
+    ensures fixed { OnOk result (T.fixed taker.new ≡ T.fixed taker.old) }
     ensures stands { OnOk result (T.stands taker.new geometry.now (row_count geometry.now)) }
     ensures read { OnOk result (IsReadTo geometry.now (row_count geometry.now) (R.remaining reader.old) (R.remaining reader.new) (λ image. T.shows taker.new geometry.now (row_count geometry.now) (within geometry.now rows image))) }
     ensures untaken { IfErr result (λ fault. IfSome (R.remaining reader.old) (IsUntaken geometry.now fault)) }
@@ -205,6 +210,7 @@ pub fn scan<R: DumpReader, T: Taker>(
     requires body_whole { length body.old ≡ geometry.now.data_bytes }
     requires spare_whole { length spare.old ≡ geometry.now.spare_bytes }
     ensures asked { OnOk result (T.asked taker.new ≡ T.asked taker.old) }
+    ensures fixed { OnOk result (T.fixed taker.new ≡ T.fixed taker.old) }
     ensures stands { OnOk result (T.stands taker.new geometry.now (row_count geometry.now)) }
     ensures taken { OnOk result (IfSome (R.remaining reader.old) (IsTaken geometry.now (T.shows taker.new geometry.now (row_count geometry.now)))) }
     ensures untaken { IfErr result (λ fault. IfSome (R.remaining reader.old) (IsUntaken geometry.now fault)) }
@@ -234,6 +240,7 @@ pub fn scan_rows<R: DumpReader, T: Taker>(
     requires body_whole { length body.old ≡ geometry.now.data_bytes }
     requires spare_whole { length spare.old ≡ geometry.now.spare_bytes }
     ensures asked { OnOk result (T.asked taker.new ≡ T.asked taker.old) }
+    ensures fixed { OnOk result (T.fixed taker.new ≡ T.fixed taker.old) }
     ensures stands { OnOk result (T.stands taker.new geometry.now (row_count geometry.now)) }
     ensures taken { OnOk result (IfSome (R.remaining reader.old) (IsTaken geometry.now (λ image. T.shows taker.new geometry.now (row_count geometry.now) (within geometry.now rows image)))) }
     ensures untaken { IfErr result (λ fault. IfSome (R.remaining reader.old) (IsUntaken geometry.now fault)) }

@@ -12,12 +12,15 @@ use crate::doubting::Doubting;
 use crate::held::{Change, Held};
 use crate::pass::{Stopped, Taker};
 use crate::target::{Target, TargetFault};
+use crate::until::counted;
 use page_layout::geometry::Geometry;
 use page_layout::record::{Key, Kind, Record, read_record};
 
 /// The sectors of an image as they are written: what is held of each, and the file that they go to.
 #[derive(Drop)]
 pub struct Writing<T> {
+    // the last sequence that counts, where not all do
+    pub(crate) until: Option<u64>,
     pub(crate) held: Vec<Held>,
     // a sector's bytes where it has none
     pub(crate) zeros: Vec<u8>,
@@ -63,6 +66,7 @@ impl<T: Target> Writing<T> {
         ensures stands { OnOk result (Stands geometry.now self.new.held.items self.new.zeros.items (T.pieces self.new.target)) }
         ensures shows { OnOk result ((image : Image) (p : Page) → Shows geometry.now row image self.old.held.items (T.pieces self.old.target) → slice_get image row ≡ Some p → body.now ≡ p.body → record_of p ≡ Some found.now
             → Shows geometry.now (row + 1) image self.new.held.items (T.pieces self.new.target)) }
+        ensures until { self.new.until ≡ self.old.until }
         ensures doubting { self.new.doubting ≡ self.old.doubting }
         ensures failed { OnErr result (T.failed self.new.target ≡ true) }
     {
@@ -95,11 +99,14 @@ impl<T: Target> Taker for Writing<T> {
     ghost use Rattle.page_layout.specs.Page.{Image, page};
     ghost use Rattle.lab_dump.specs.Doubting as doubting;
     ghost use Rattle.lab_dump.specs.Doubting.{IsDoubting};
+    ghost use Rattle.lab_dump.specs.Until.{until};
     ghost use Rattle.lab_dump.specs.Writing.{Stands, Shows};
 
     ghost stands = { λ s g rows. Stands g s.held.items s.zeros.items (T.pieces s.target) × doubting.Stands g rows s.doubting };
 
-    ghost shows = { λ s g rows image. Shows g rows image s.held.items (T.pieces s.target) × IsDoubting g rows image s.doubting };
+    ghost fixed = { λ s. s.until };
+
+    ghost shows = { λ s g rows image. Shows g rows (until g s.until image) s.held.items (T.pieces s.target) × IsDoubting g rows image s.doubting };
 
     ghost stopped = { λ s. T.failed s.target ≡ true };
 
@@ -112,7 +119,7 @@ impl<T: Target> Taker for Writing<T> {
     ) -> Result<(), Stopped> {
         let found = read_record(geometry, body, spare);
         self.doubting.step(geometry, row, found, body, spare);
-        match found {
+        match counted(self.until, found) {
             Some(found) => self.take_sound(geometry, row, &found, body, spare),
             None => Ok(()),
         }

@@ -1,2 +1,4 @@
 -- the stores of dies in files of the system
 pub mod Stores
+-- and how its file is locked
+pub mod Locks

@@ -1,35 +1,17 @@
 //! The die of a disk, a file that is opened.
-ghost use Rattle.std.specs.Prelude.{IfOk};
+ghost use Rattle.std.specs.Prelude.{◌≡◌, ℕ, IfOk};
 ghost use Rattle.nanddisk.specs.Stores.{IsStoreOf};
 
-use crate::fault::unread;
+use crate::fault::{unread, unwritten};
 use coded_store::{CodedStore, MaybeCoded, SystemPages};
 use disk_commands::{Code, FileFault, Shape, die_bytes};
-use file_die::FileStore;
+use file_die::{ByteFault, FileStore, RowFault};
 use page_layout::geometry::Geometry;
 use std::alloc::Global;
-use std::fs::{File, OpenOptions, TryLockError};
-use std::rt::Files;
-
-/// The file of the die at a path, locked, so that other programs of this kind keep out.
-pub fn lock_die<R: Files<File = File>>(
-    rt: &R,
-    path: &str,
-    writes: bool,
-) -> Result<File, FileFault> {
-    let file = match OpenOptions::new().read(true).write(writes).open(rt, path) {
-        Ok(file) => file,
-        Err(error) => return Err(unread(error)),
-    };
-    match file.try_lock() {
-        Ok(()) => Ok(file),
-        Err(TryLockError::WouldBlock) => Err(FileFault::InUse),
-        Err(TryLockError::Error(error)) => Err(unread(error)),
-    }
-}
+use std::fs::File;
 
 /// The pages of a die in a file of the system: with their codes, or without.
-pub type DieStore = MaybeCoded<FileStore, SystemPages>;
+pub type DieStore = MaybeCoded<FileStore<File>, SystemPages>;
 
 /// The same file, if it is as long as a shape says.
 pub fn as_long(file: File, shape: &Shape) -> Result<File, FileFault> {
@@ -52,13 +34,26 @@ pub fn second_handle(file: &File) -> Result<File, FileFault> {
     }
 }
 
+// Why a file was not taken for the pages of a die.
+fn untaken(fault: RowFault) -> FileFault
+    ensures memory { fault ≡ RowFault.OutOfMemory → result ≡ FileFault.OutOfMemory }
+    ensures length { (n : ℕ) → fault ≡ RowFault.Length n → result ≡ FileFault.Length n }
+    ensures other { (why : ByteFault) → fault ≡ RowFault.File why → result ≡ FileFault.Read }
+{
+    match fault {
+        RowFault::OutOfMemory => FileFault::OutOfMemory,
+        RowFault::Length(found) => FileFault::Length(found),
+        RowFault::File(_) => FileFault::Read,
+    }
+}
+
 // A store of pages without codes.
 fn plain_store(alloc: Global, geometry: &Geometry, file: File) -> Result<DieStore, FileFault>
     ensures { IfOk result (IsStoreOf geometry.now) }
 {
     match FileStore::new(alloc, *geometry, file) {
         Ok(store) => Ok(MaybeCoded::Plain(store)),
-        Err(_) => Err(FileFault::OutOfMemory),
+        Err(fault) => Err(untaken(fault)),
     }
 }
 
@@ -75,12 +70,22 @@ fn coded_store(alloc: Global, geometry: &Geometry, file: File) -> Result<DieStor
     }
 }
 
-/// The store over a file, of the pages of a shape.
+/// The store over a file, of the pages of a shape. Of one without codes another length is told.
 pub fn store_over(alloc: Global, shape: &Shape, file: File) -> Result<DieStore, FileFault>
     ensures { IfOk result (IsStoreOf shape.now.geometry) }
 {
     match shape.code {
         Code::Plain => plain_store(alloc, &shape.geometry, file),
         Code::Hamming => coded_store(alloc, &shape.geometry, file),
+    }
+}
+
+/// The store over an empty file, which is made as long as the pages of a shape are.
+pub fn store_in(alloc: Global, shape: &Shape, file: File) -> Result<DieStore, FileFault>
+    ensures { IfOk result (IsStoreOf shape.now.geometry) }
+{
+    match file.set_len(die_bytes(shape)) {
+        Ok(()) => store_over(alloc, shape, file),
+        Err(error) => Err(unwritten(error)),
     }
 }

@@ -6,6 +6,7 @@ ghost use Rattle.std.specs.Prelude.{◌≡◌};
 mod die;
 mod fault;
 mod lists;
+mod lock;
 mod mark;
 mod part;
 mod syncs;
@@ -17,7 +18,7 @@ use std::env;
 use std::fs::File;
 use std::io::{BufReader, BufWriter, Read, Write};
 use std::process::ExitCode;
-use std::rt::{Env, Files};
+use std::rt::{Clock, Env, Files};
 use system::SystemFiles;
 
 // The bytes that are read or printed at once.
@@ -35,7 +36,7 @@ fn words_fault(fault: WordsFault) -> DiskFault<'static>
 }
 
 // Does what the words say, over the system's files. What is read and printed goes through buffers, so that a request and a reply are one call of the system each.
-fn run_over<S: Files<File = File> + AllocGlobal, I: Read + Drop, O: Write + Drop, E: Write>(
+fn run_over<S: Files<File = File> + AllocGlobal + Clock, I: Read + Drop, O: Write + Drop, E: Write>(
     system: &S,
     words: &[&str],
     input: I,
@@ -64,12 +65,12 @@ fn run_over<S: Files<File = File> + AllocGlobal, I: Read + Drop, O: Write + Drop
 }
 
 // The exit status of the program.
-fn status_of<S: Env + Files<File = File> + AllocGlobal, I: Read + Drop, O: Write + Drop, E: Write>(
-    system: &S,
-    input: I,
-    out: O,
-    err: &mut E,
-) -> u8 {
+fn status_of<
+    S: Env + Files<File = File> + AllocGlobal + Clock,
+    I: Read + Drop,
+    O: Write + Drop,
+    E: Write,
+>(system: &S, input: I, out: O, err: &mut E) -> u8 {
     let kept = match words_found(system.alloc(), env::args(system)) {
         Ok(kept) => kept,
         Err(fault) => return tell(&words_fault(fault), err),

@@ -15,22 +15,6 @@ use std::fs::{self, File};
 use std::io::{self, BufReader, Read, Seek, SeekFrom, Write};
 use std::rt::Files;
 
-/// Erases all blocks of a store, and has them last.
-pub fn erase_all(store: &mut DieStore) -> Result<(), FileFault> {
-    for block in 0..store.geometry().blocks() {
-        if block >= store.geometry().blocks() {
-            break;
-        }
-        if store.clear(block).is_err() {
-            return Err(FileFault::Write);
-        }
-    }
-    match store.sync() {
-        Ok(()) => Ok(()),
-        Err(_) => Err(FileFault::Write),
-    }
-}
-
 // The bytes of a file, which is left at its first one.
 fn length_of(file: &mut File) -> io::Result<u64> {
     let found = file.seek(SeekFrom::End(0))?;

@@ -91,4 +91,8 @@ impl Syncs for FileSyncs {
             Err(DiskFault::Failed)
         }
     }
+
+    fn mark(&self) -> Mark {
+        self.mark
+    }
 }

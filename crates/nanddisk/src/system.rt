@@ -2,18 +2,20 @@
 ghost use Rattle.nanddisk.specs.Stores.{IsStoreOf};
 ghost use Rattle.std.specs.Prelude.{◌≡◌, IfOk, Ok};
 
-use crate::die::{DieStore, as_long, lock_die, second_handle, store_over};
+use crate::die::{DieStore, as_long, second_handle, store_in, store_over};
 use crate::fault::{unmade, unread, unseen, unwritten};
 use crate::lists::{FileLists, ListNames};
+use crate::lock::{LockedFile, lock_die};
 use crate::mark::{MarkFile, put_blank};
-use crate::part::{copy_file, erase_all, is_taken, new_die, open_dump, publish, put_dump};
+use crate::part::{copy_file, is_taken, new_die, open_dump, publish, put_dump};
 use crate::syncs::FileSyncs;
-use disk_commands::{Code, DiskFiles, FileFault, FoundMark, MARK_BYTES, Shape, dump_bytes};
+use disk_commands::{Access, Code, DiskFiles, FileFault, FoundMark, MARK_BYTES, Shape, dump_bytes};
+use file_die::erase_all;
 use part_files::{Names, Pair, SystemNames, discard, new_part, part_name, publish_new};
 use std::alloc::{AllocError, Global};
 use std::fs::{self, File, OpenOptions};
 use std::io::{self, ErrorKind, Read};
-use std::rt::Files;
+use std::rt::{Clock, Files};
 
 // The word of this program in the names of its parts.
 const PROGRAM: &str = "nanddisk";
@@ -190,13 +192,13 @@ fn open_mark<R: Files<File = File>>(rt: &R, names: &PathNames) -> Result<Option<
 
 // A store of erased pages over an empty file.
 fn new_store(alloc: Global, shape: &Shape, file: File) -> Result<DieStore, FileFault> {
-    let mut store = match store_over(alloc, shape, file) {
+    let mut store = match store_in(alloc, shape, file) {
         Ok(store) => store,
         Err(fault) => return Err(fault),
     };
     match erase_all(&mut store) {
         Ok(()) => Ok(store),
-        Err(fault) => Err(fault),
+        Err(_) => Err(FileFault::Write),
     }
 }
 
@@ -209,18 +211,18 @@ fn copied(alloc: Global, shape: &Shape, mut from: File, file: File) -> Result<Di
             Ok(()) => store_over(alloc, shape, file),
             Err(error) => Err(unwritten(error)),
         },
-        Code::Hamming => match store_over(alloc, shape, file) {
+        Code::Hamming => match store_in(alloc, shape, file) {
             Ok(store) => put_dump(alloc, &shape.geometry, from, store),
             Err(fault) => Err(fault),
         },
     }
 }
 
-impl<'a, R: Files<File = File> + AllocGlobal> DiskFiles for SystemFiles<'a, R> {
+impl<'a, R: Files<File = File> + AllocGlobal + Clock> DiskFiles for SystemFiles<'a, R> {
     ghost use Rattle.std.specs.Prelude.{None};
     ghost use Rattle.disk_commands.specs.Files.{unknown};
 
-    type Locked = File;
+    type Locked = LockedFile;
 
     type Store = DieStore;
 
@@ -248,15 +250,15 @@ impl<'a, R: Files<File = File> + AllocGlobal> DiskFiles for SystemFiles<'a, R> {
         }
     }
 
-    fn lock(&mut self, path: &str, writes: bool) -> Result<File, FileFault> {
-        lock_die(self.rt, path, writes)
+    fn lock(&mut self, path: &str, access: Access) -> Result<LockedFile, FileFault> {
+        lock_die(self.rt, path, access)
     }
 
     fn shape_text(
         &mut self,
         alloc: Global,
         path: &str,
-        _locked: &File,
+        _locked: &LockedFile,
     ) -> Result<Vec<u8>, FileFault> {
         let names = match path_names(alloc, path) {
             Ok(names) => names,
@@ -279,10 +281,10 @@ impl<'a, R: Files<File = File> + AllocGlobal> DiskFiles for SystemFiles<'a, R> {
         &mut self,
         alloc: Global,
         _path: &str,
-        locked: File,
+        locked: LockedFile,
         shape: &Shape,
     ) -> Result<(DieStore, FileSyncs), FileFault> {
-        let file = match as_long(locked, shape) {
+        let file = match as_long(locked.into_file(), shape) {
             Ok(file) => file,
             Err(fault) => return Err(fault),
         };
@@ -315,6 +317,7 @@ impl<'a, R: Files<File = File> + AllocGlobal> DiskFiles for SystemFiles<'a, R> {
         Ok(syncs.with_mark(kept, found.mark))
     }
 
+    #[tactic(auto, unfolding(file_die::specs::Rows::is_kept))]
     fn create(&mut self, alloc: Global, path: &str, shape: &Shape) -> Result<DieStore, FileFault> {
         let names = match path_names(alloc, path) {
             Ok(names) => names,
@@ -329,6 +332,7 @@ impl<'a, R: Files<File = File> + AllocGlobal> DiskFiles for SystemFiles<'a, R> {
         self.keep_part(&names, own, made)
     }
 
+    #[tactic(auto, unfolding(file_die::specs::Rows::is_kept))]
     fn copy(
         &mut self,
         alloc: Global,

@@ -59,7 +59,7 @@ module _ (s m t : Contents) (bytes : t.bytes ≡ m.bytes)
 
 -- ---- rounds
 
-module _ {D : Type 0} (contents : D → Contents) (honest calm : D → Bool) (rests : D → Result (Unit {0}) DiskFault → D → Type 0) (e : Export) where
+module _ {D : Type 0} (contents : D → Contents) (honest calm : D → Bool) (does : D → Task → Result (Unit {0}) DiskFault → D → Type 0) (rests : D → Result (Unit {0}) DiskFault → D → Type 0) (e : Export) where
   rest_sized : (k : Result Task RequestError) (old new : D) (rested : Option (Result (Unit {0}) DiskFault)) → RestsBy contents honest calm rests k old rested new → length (contents new).bytes ≡ length (contents old).bytes
   rest_sized k old new None same = ap (λ (d : D). length (contents d).bytes) same
   rest_sized k old new (Some result) (is, idles, more) = idles.sized
@@ -76,37 +76,37 @@ module _ {D : Type 0} (contents : D → Contents) (honest calm : D → Bool) (re
   rest_done k old new None same h = tt
   rest_done k old new (Some result) (is, idles, more) h = idles.calmly h
 
-  pub one_sized : (k : Result Task RequestError) (old new : D) (x : Exchange) → TellsBy contents honest calm k old x new → length (contents new).bytes ≡ length (contents old).bytes
+  pub one_sized : (k : Result Task RequestError) (old new : D) (x : Exchange) → TellsBy contents honest calm does k old x new → length (contents new).bytes ≡ length (contents old).bytes
   one_sized (Err error) old new x (is, same) = ap (λ (d : D). length (contents d).bytes) same
-  one_sized (Ok task) old new x tells = tells.sized
+  one_sized (Ok task) old new x (performs, done) = performs.sized
 
-  one_back : (k : Result Task RequestError) (old new : D) (x : Exchange) → TellsBy contents honest calm k old x new → honest new ≡ true → honest old ≡ true
+  one_back : (k : Result Task RequestError) (old new : D) (x : Exchange) → TellsBy contents honest calm does k old x new → honest new ≡ true → honest old ≡ true
   one_back (Err error) old new x (is, same) h = sym (ap honest same) ∙ h
-  one_back (Ok task) old new x tells h = tells.back h
+  one_back (Ok task) old new x (performs, done) h = performs.back h
 
-  one_calm : (k : Result Task RequestError) (old new : D) (x : Exchange) → TellsBy contents honest calm k old x new → calm new ≡ calm old
+  one_calm : (k : Result Task RequestError) (old new : D) (x : Exchange) → TellsBy contents honest calm does k old x new → calm new ≡ calm old
   one_calm (Err error) old new x (is, same) = ap calm same
-  one_calm (Ok task) old new x tells = tells.calm_is
+  one_calm (Ok task) old new x (performs, done) = performs.calm_is
 
-  one_done : (k : Result Task RequestError) (old new : D) (x : Exchange) → TellsBy contents honest calm k old x new → calm old ≡ true → (task : Task) → k ≡ Ok task → IsOk x.answer
+  one_done : (k : Result Task RequestError) (old new : D) (x : Exchange) → TellsBy contents honest calm does k old x new → calm old ≡ true → (task : Task) → k ≡ Ok task → IsOk x.answer
   one_done (Err error) old new x tells h task is = (let no : ⊥ = cc in absurd no)
-  one_done (Ok task') old new x tells h task is = tells.calmly h
+  one_done (Ok task') old new x (performs, done) h task is = performs.calmly h
 
   -- the answer, by the disk that was asked
-  pub one_answers : (k : Result Task RequestError) (old new : D) (x : Exchange) → TellsBy contents honest calm k old x new → honest new ≡ true → AnswersBy k (contents old) x (contents new)
+  pub one_answers : (k : Result Task RequestError) (old new : D) (x : Exchange) → TellsBy contents honest calm does k old x new → honest new ≡ true → AnswersBy k (contents old) x (contents new)
   one_answers (Err error) old new x (is, same) h = (is, ap contents same)
-  one_answers (Ok task) old new x tells h = (tells.sized, tells.steps h)
+  one_answers (Ok task) old new x (performs, done) h = (performs.sized, performs.steps h)
 
   -- and by the one that rested
   rested_answers : (k : Result Task RequestError) (old mid new : D) (x : Exchange) (rested : Option (Result (Unit {0}) DiskFault))
-      → TellsBy contents honest calm k old x mid → RestsBy contents honest calm rests k mid rested new → honest new ≡ true → AnswersBy k (contents old) x (contents new)
+      → TellsBy contents honest calm does k old x mid → RestsBy contents honest calm rests k mid rested new → honest new ≡ true → AnswersBy k (contents old) x (contents new)
   rested_answers k old mid new x None tells same h =
       subst (λ (d : D). AnswersBy k (contents old) x (contents d)) (sym same) (one_answers k old mid x tells (sym (ap honest same) ∙ h))
   rested_answers (Err error) old mid new x (Some result) tells (is, idles, more) h = (let no : ⊥ = cc in absurd no)
-  rested_answers (Ok task) old mid new x (Some result) tells (is, idles, more) h =
-      (idles.sized ∙ tells.sized, steps_rested (contents old) (contents mid) (contents new) (idles.bytes h) (idles.stays h) task x.request.body x.answer (tells.steps (idles.was_honest h)))
+  rested_answers (Ok task) old mid new x (Some result) (performs, done) (is, idles, more) h =
+      (idles.sized ∙ performs.sized, steps_rested (contents old) (contents mid) (contents new) (idles.bytes h) (idles.stays h) task x.request.body x.answer (performs.steps (idles.was_honest h)))
 
-  module _ (old new : D) (x : Round) (round : TellsRound contents honest calm rests e old x new) where
+  module _ (old new : D) (x : Round) (round : TellsRound contents honest calm does rests e old x new) where
     pub round_sized : length (contents new).bytes ≡ length (contents old).bytes
     round_sized = rest_sized (task_of e x.exchange.request) round.mid new x.rested round.rest ∙ one_sized (task_of e x.exchange.request) old round.mid x.exchange round.tells
 
@@ -127,18 +127,18 @@ module _ {D : Type 0} (contents : D → Contents) (honest calm : D → Bool) (re
 
   -- ---- a chain of disks is a run
 
-  pub back_of : (old new : D) (xs : List Round) → ToldEach contents honest calm rests e old xs new → honest new ≡ true → honest old ≡ true
+  pub back_of : (old new : D) (xs : List Round) → ToldEach contents honest calm does rests e old xs new → honest new ≡ true → honest old ≡ true
   back_of old new [] same h = sym (ap honest same) ∙ h
   back_of old new (x ∷ xs) (next, one, more) h = round_back old next x one (back_of next new xs more h)
 
-  pub runs_of : (old new : D) (xs : List Round) → ToldEach contents honest calm rests e old xs new → honest new ≡ true → Runs e (contents old) (exchanges_in xs) (contents new)
+  pub runs_of : (old new : D) (xs : List Round) → ToldEach contents honest calm does rests e old xs new → honest new ≡ true → Runs e (contents old) (exchanges_in xs) (contents new)
   runs_of old new [] same h = ap contents same
   runs_of old new (x ∷ xs) (next, one, more) h = (contents next, round_answers old next x one (back_of next new xs more h), runs_of next new xs more h)
 
-  pub done_of : (old new : D) (xs : List Round) → ToldEach contents honest calm rests e old xs new → calm old ≡ true → AreDone e (exchanges_in xs)
+  pub done_of : (old new : D) (xs : List Round) → ToldEach contents honest calm does rests e old xs new → calm old ≡ true → AreDone e (exchanges_in xs)
   done_of old new [] same h = tt
   done_of old new (x ∷ xs) (next, one, more) h = (round_done old next x one h, done_of next new xs more (round_calm old next x one ∙ h))
 
-  pub rests_done_of : (old new : D) (xs : List Round) → ToldEach contents honest calm rests e old xs new → calm old ≡ true → AreRestsDone xs
+  pub rests_done_of : (old new : D) (xs : List Round) → ToldEach contents honest calm does rests e old xs new → calm old ≡ true → AreRestsDone xs
   rests_done_of old new [] same h = tt
   rests_done_of old new (x ∷ xs) (next, one, more) h = (round_rest_done old next x one h, rests_done_of next new xs more (round_calm old next x one ∙ h))

@@ -19,8 +19,8 @@ use Rattle.nbd_stream.specs.declared.request.Next.TheVariants as next
 use Rattle.nbd_stream.specs.declared.task.Task.{Task}
 use Rattle.nbd_stream.specs.Frames.{Request, IsRequest, IsRest, ReadsRequest, Rests, Splits, is_header, is_end, reply_bytes, reply_header_bytes, request_at, request_bytes}
 use Rattle.nbd_stream.specs.Tasks.{admitted, asks_change}
-use Rattle.nbd_stream.specs.Disk.{Contents, Performs, answer_from, count_given, count_taken, error_for}
-use Rattle.nbd_stream.specs.Exchanges.{Exchange, Round, RestsAfter, RestsBy, TellsBy, TellsRound, ToldEach, AreRested, IsRested, bytes_in, exchanges_in, reply_in, requests_in, task_of}
+use Rattle.nbd_stream.specs.Disk.{Contents, Performs, answer_from, asked_as, count_given, count_taken, error_for}
+use Rattle.nbd_stream.specs.Exchanges.{Exchange, HasDone, Round, RestsAfter, RestsBy, TellsBy, TellsRound, ToldEach, AreRested, IsRested, bytes_in, exchanges_in, reply_in, requests_in, task_of}
 use Rattle.nbd_stream.specs.Runs.{Runs}
 use Rattle.nbd_stream.specs.Until.{Until}
 use Rattle.nbd_stream.specs.Transmission.{Carries, HasServed, Reads, Replies, Rested, ServesNext, Transmits, left_of}
@@ -33,15 +33,15 @@ use Rattle.nbd_stream.proofs.UntilLemmas.{until_of}
 abbrev pub refusal : RequestError → Result (Unit {0}) RequestError
 refusal error = Err error
 
-module _ {D : Type 0} (contents : D → Contents) (honest calm : D → Bool) (e : Export) where
+module _ {D : Type 0} (contents : D → Contents) (honest calm : D → Bool) (does : D → Task → Result (Unit {0}) DiskFault → D → Type 0) (e : Export) where
   -- ---- one request
 
   asked_of : Result Task RequestError → (old new : D) → Exchange → Type 0
-  asked_of k old new x = TellsBy contents honest calm k old x new
+  asked_of k old new x = TellsBy contents honest calm does k old x new
 
   -- it was refused
   pub refused : (old : D) (h : Header) (body : List ℕ) (error : RequestError) (b a : Option (List ℕ)) (result : Result (Unit {0}) ServeFault) → admitted e h ≡ Err error
-      → Sends b a (reply_bytes h.cookie (refusal error) []) result → Replies contents honest calm e old (request_at h body) old b a result
+      → Sends b a (reply_bytes h.cookie (refusal error) []) result → Replies contents honest calm does e old (request_at h body) old b a result
   unfolding asked_of
   refused old h body error b a result is sends =
       let x : Exchange = record { request = request_at h body; answer = Err error } in
@@ -57,35 +57,37 @@ module _ {D : Type 0} (contents : D → Contents) (honest calm : D → Bool) (e 
         ap (λ (n : ℕ). take n buffer) (sym long) ∙ sym (stands (omega arith))
 
     -- it was asked of the disk
-    performed : (answer : Result (List ℕ) RequestError) → Performs contents honest calm task (take (count_taken task) buffer) old answer new → Sends b a (reply_bytes h.cookie answer (bytes_in answer)) result → Replies contents honest calm e old (request_at h body) new b a result
+    performed : (answer : Result (List ℕ) RequestError) → Performs contents honest calm task (take (count_taken task) buffer) old answer new → HasDone does task old answer new → Sends b a (reply_bytes h.cookie answer (bytes_in answer)) result → Replies contents honest calm does e old (request_at h body) new b a result
     unfolding asked_of
-    performed answer performs sends =
+    performed answer performs done sends =
         let x : Exchange = record { request = request_at h body; answer = answer } in
         record {
           exchange = x;
           request_is = refl;
-          tells = subst (λ k. asked_of k old new x) (sym is) (subst (λ (l : List ℕ). Performs contents honest calm task l old answer new) body_is performs);
+          tells = subst (λ k. asked_of k old new x) (sym is) (subst (λ (l : List ℕ). Performs contents honest calm task l old answer new) body_is performs, done);
           sends = sends;
         }
 
-    pub performed_ok : (done : Result (Unit {0}) DiskFault) (x : Unit {0}) (gave bytes : List ℕ) → done ≡ Ok x → bytes ≡ gave → Performs contents honest calm task (take (count_taken task) buffer) old (answer_from done gave) new
-        → Sends b a (reply_header_bytes 0 h.cookie ++ bytes) result → Replies contents honest calm e old (request_at h body) new b a result
-    performed_ok done x gave bytes ok same performs sends =
+    pub performed_ok : (done : Result (Unit {0}) DiskFault) (x : Unit {0}) (gave bytes : List ℕ) → done ≡ Ok x → bytes ≡ gave → Performs contents honest calm task (take (count_taken task) buffer) old (answer_from done gave) new → does old (asked_as task) done new
+        → Sends b a (reply_header_bytes 0 h.cookie ++ bytes) result → Replies contents honest calm does e old (request_at h body) new b a result
+    performed_ok done x gave bytes ok same performs does_so sends =
         performed (Ok gave) (subst (λ (r : Result (Unit {0}) DiskFault). Performs contents honest calm task (take (count_taken task) buffer) old (answer_from r gave) new) ok performs)
+        (record { done = done; told = sym (ap (λ r. answer_from r gave) ok); does_so = does_so })
         (subst (λ (l : List ℕ). Sends b a (reply_header_bytes 0 h.cookie ++ l) result) same sends)
 
-    pub performed_err : (done : Result (Unit {0}) DiskFault) (f : DiskFault) (gave : List ℕ) (error : RequestError) → done ≡ Err f → error ≡ error_for f → Performs contents honest calm task (take (count_taken task) buffer) old (answer_from done gave) new
-        → Sends b a (reply_bytes h.cookie (refusal error) []) result → Replies contents honest calm e old (request_at h body) new b a result
-    performed_err done f gave error err same performs sends =
+    pub performed_err : (done : Result (Unit {0}) DiskFault) (f : DiskFault) (gave : List ℕ) (error : RequestError) → done ≡ Err f → error ≡ error_for f → Performs contents honest calm task (take (count_taken task) buffer) old (answer_from done gave) new → does old (asked_as task) done new
+        → Sends b a (reply_bytes h.cookie (refusal error) []) result → Replies contents honest calm does e old (request_at h body) new b a result
+    performed_err done f gave error err same performs does_so sends =
         performed (Err (error_for f)) (subst (λ (r : Result (Unit {0}) DiskFault). Performs contents honest calm task (take (count_taken task) buffer) old (answer_from r gave) new) err performs)
+        (record { done = done; told = sym (ap (λ r. answer_from r []) err); does_so = does_so })
         (subst (λ (k : RequestError). Sends b a (reply_bytes h.cookie (refusal k) []) result) same sends)
 
-module _ {D : Type 0} (contents : D → Contents) (honest calm : D → Bool) (rests : D → Result (Unit {0}) DiskFault → D → Type 0) (e : Export) where
+module _ {D : Type 0} (contents : D → Contents) (honest calm : D → Bool) (does : D → Task → Result (Unit {0}) DiskFault → D → Type 0) (rests : D → Result (Unit {0}) DiskFault → D → Type 0) (e : Export) where
   -- ---- the next request
 
   module _ (old new : D) (u v b a : Option (List ℕ)) (h : Header) (body : List ℕ) (is : IsRequest (request_at h body)) (read : Consumes u v (request_bytes (request_at h body))) where
-    served : (writes : List ℕ → Type 0) (rested : Round → Type 0) (x : Round) → x.exchange.request ≡ request_at h body → TellsRound contents honest calm rests e old x new → writes (reply_in x.exchange) → rested x
-        → HasServed contents honest calm rests e old new u v writes rested
+    served : (writes : List ℕ → Type 0) (rested : Round → Type 0) (x : Round) → x.exchange.request ≡ request_at h body → TellsRound contents honest calm does rests e old x new → writes (reply_in x.exchange) → rested x
+        → HasServed contents honest calm does rests e old new u v writes rested
     served writes rested x same tells wrote is_rested = record {
       round = x;
       whole = subst IsRequest (sym same) is;
@@ -95,11 +97,11 @@ module _ {D : Type 0} (contents : D → Contents) (honest calm : D → Bool) (re
       has_rested = is_rested;
     }
 
-    pub next_served : (mid : D) (done : Unit {0}) → Replies contents honest calm e old (request_at h body) mid b a (Ok done) → RestsAfter contents honest calm rests (admitted e h) mid new
-        → ServesNext contents honest calm rests e old new u v b a (Ok None)
+    pub next_served : (mid : D) (done : Unit {0}) → Replies contents honest calm does e old (request_at h body) mid b a (Ok done) → RestsAfter contents honest calm rests (admitted e h) mid new
+        → ServesNext contents honest calm does rests e old new u v b a (Ok None)
     next_served mid done replies (rested, some, rest) =
         let x : Round = record { exchange = replies.exchange; rested = rested } in
-        let tells : TellsRound contents honest calm rests e old x new = record {
+        let tells : TellsRound contents honest calm does rests e old x new = record {
           mid = mid;
           tells = replies.tells;
           rest = subst (λ (r : Request). RestsBy contents honest calm rests (task_of e r) mid rested new) (sym replies.request_is) rest;
@@ -107,31 +109,31 @@ module _ {D : Type 0} (contents : D → Contents) (honest calm : D → Bool) (re
         served (Appends b a) (IsRested e) x replies.request_is tells replies.sends
         (λ asks. some (subst (λ (r : Request). asks_change (task_of e r) ≡ true) replies.request_is asks))
 
-    pub next_unsent : (f : ServeFault) → Replies contents honest calm e old (request_at h body) new b a (Err f) → ServesNext contents honest calm rests e old new u v b a (Err f)
+    pub next_unsent : (f : ServeFault) → Replies contents honest calm does e old (request_at h body) new b a (Err f) → ServesNext contents honest calm does rests e old new u v b a (Err f)
     next_unsent f replies =
         let x : Round = record { exchange = replies.exchange; rested = None } in
-        let tells : TellsRound contents honest calm rests e old x new = record { mid = new; tells = replies.tells; rest = refl } in
-        subst (λ (k : ServeFault). ServesNext contents honest calm rests e old new u v b a (Err k)) (sym replies.sends.0)
+        let tells : TellsRound contents honest calm does rests e old x new = record { mid = new; tells = replies.tells; rest = refl } in
+        subst (λ (k : ServeFault). ServesNext contents honest calm does rests e old new u v b a (Err k)) (sym replies.sends.0)
         (served (AppendsFront b a) (λ (y : Round). y.rested ≡ None) x replies.request_is tells replies.sends.1 refl)
 
   module _ (old : D) (u v b : Option (List ℕ)) (buffer : List ℕ) where
-    pub next_ended : (end : End) → ReadsRequest u v buffer (Ok (next.Ended end)) → ServesNext contents honest calm rests e old old u v b b (Ok (Some end))
+    pub next_ended : (end : End) → ReadsRequest u v buffer (Ok (next.Ended end)) → ServesNext contents honest calm does rests e old old u v b b (Ok (Some end))
     next_ended end (tail, rests, read) = record { tail = tail; is = rests; read = read; same = refl; kept = refl }
 
-    pub next_unread : (f : ServeFault) → ReadsRequest u v buffer (Err f) → ServesNext contents honest calm rests e old old u v b b (Err f)
+    pub next_unread : (f : ServeFault) → ReadsRequest u v buffer (Err f) → ServesNext contents honest calm does rests e old old u v b b (Err f)
     next_unread f (is, tail, begins, read) =
-        subst (λ (k : ServeFault). ServesNext contents honest calm rests e old old u v b b (Err k)) (sym is) (record { tail = tail; is = begins; read = read; same = refl; kept = refl })
+        subst (λ (k : ServeFault). ServesNext contents honest calm does rests e old old u v b b (Err k)) (sym is) (record { tail = tail; is = begins; read = read; same = refl; kept = refl })
 
   -- ---- many
 
-  told_more : (old mid new : D) (xs : List Round) (x : Round) → ToldEach contents honest calm rests e old xs mid → TellsRound contents honest calm rests e mid x new → ToldEach contents honest calm rests e old (xs ++ x ∷ []) new
-  told_more old mid new [] x same one = (new, subst (λ (d : D). TellsRound contents honest calm rests e d x new) same one, refl)
+  told_more : (old mid new : D) (xs : List Round) (x : Round) → ToldEach contents honest calm does rests e old xs mid → TellsRound contents honest calm does rests e mid x new → ToldEach contents honest calm does rests e old (xs ++ x ∷ []) new
+  told_more old mid new [] x same one = (new, subst (λ (d : D). TellsRound contents honest calm does rests e d x new) same one, refl)
   told_more old mid new (y ∷ xs) x (next, first, more) one = (next, first, told_more next mid new xs x more one)
 
   -- so many requests were read and answered, of their replies so much was written, and the disk rested so
   pub record IsServing (old now : D) (unread left : Option (List ℕ)) (writes : List ℕ → Type 0) (rested : List Round → Type 0) : Type 0 where
     pub rounds : List Round
-    pub each : ToldEach contents honest calm rests e old rounds now
+    pub each : ToldEach contents honest calm does rests e old rounds now
     pub sized : length (contents now).bytes ≡ length (contents old).bytes
     pub calm_is : calm now ≡ calm old
     pub read : Reads unread left (requests_in (exchanges_in rounds)) []
@@ -157,7 +159,7 @@ module _ {D : Type 0} (contents : D → Contents) (honest calm : D → Bool) (re
         record { each = so_far.read.each; bytes = Consumes-trans u v w all tail (subst (Consumes u v) (append-nil all) so_far.read.bytes) more }
 
     -- one request more, whose reply is sent whole or in part, and after which the disk rested or not
-    serving_more : (new : D) (w : Option (List ℕ)) (writes sends : List ℕ → Type 0) (rested : Round → Type 0) (are_rested : List Round → Type 0) → HasServed contents honest calm rests e mid new v w writes rested
+    serving_more : (new : D) (w : Option (List ℕ)) (writes sends : List ℕ → Type 0) (rested : Round → Type 0) (are_rested : List Round → Type 0) → HasServed contents honest calm does rests e mid new v w writes rested
         → ((front bytes : List ℕ) → Appends b c front → writes bytes → sends (front ++ bytes)) → ((front : List Round) (x : Round) → AreRested e front → rested x → are_rested (front ++ x ∷ []))
         → IsServing old new u w sends are_rested
     serving_more new w writes sends rested are_rested one joins rests_join =
@@ -174,8 +176,8 @@ module _ {D : Type 0} (contents : D → Contents) (honest calm : D → Bool) (re
         record {
           rounds = rounds ++ one.round ∷ [];
           each = told_more old mid new rounds one.round so_far.each one.tells;
-          sized = round_sized contents honest calm rests e mid new one.round one.tells ∙ so_far.sized;
-          calm_is = round_calm contents honest calm rests e mid new one.round one.tells ∙ so_far.calm_is;
+          sized = round_sized contents honest calm does rests e mid new one.round one.tells ∙ so_far.sized;
+          calm_is = round_calm contents honest calm does rests e mid new one.round one.tells ∙ so_far.calm_is;
           read = record {
             each = subst (AllByRecursion IsRequest) (sym requests) (all_more IsRequest (requests_in xs) x.request so_far.read.each one.whole);
             bytes = subst (Consumes u w) (sym (append-nil (flat_map request_bytes (requests_in (exchanges_in (rounds ++ one.round ∷ [])))) ∙ bytes)) later.bytes;
@@ -184,7 +186,7 @@ module _ {D : Type 0} (contents : D → Contents) (honest calm : D → Bool) (re
           have_rested = rests_join rounds one.round so_far.have_rested one.has_rested;
         }
 
-    pub serving_on : (new : D) (w a : Option (List ℕ)) → ServesNext contents honest calm rests e mid new v w c a (Ok None) → IsServing old new u w (Appends b a) (AreRested e)
+    pub serving_on : (new : D) (w a : Option (List ℕ)) → ServesNext contents honest calm does rests e mid new v w c a (Ok None) → IsServing old new u w (Appends b a) (AreRested e)
     serving_on new w a one =
         serving_more new w (Appends c a) (Appends b a) (IsRested e) (AreRested e) one (λ front bytes wrote more. Appends-trans b c a front bytes wrote more) (λ front x are is. all_more (IsRested e) front x are is)
 
@@ -193,23 +195,23 @@ module _ {D : Type 0} (contents : D → Contents) (honest calm : D → Bool) (re
   module _ (old now : D) (u v : Option (List ℕ)) (writes : List ℕ → Type 0) (rested : List Round → Type 0) (so_far : IsServing old now u v writes rested) where
     -- what was served until now, with these bytes read and written
     pub transmitted : (new : D) (w b a : Option (List ℕ)) (result : Result End ServeFault) → new ≡ now → Rested e so_far.rounds result → Carries u w b a (exchanges_in so_far.rounds) result
-        → Transmits contents honest calm rests e old new u w b a result
+        → Transmits contents honest calm does rests e old new u w b a result
     transmitted new w b a result same has_rested stream = record {
       rounds = so_far.rounds;
-      each = subst (λ (d : D). ToldEach contents honest calm rests e old so_far.rounds d) (sym same) so_far.each;
+      each = subst (λ (d : D). ToldEach contents honest calm does rests e old so_far.rounds d) (sym same) so_far.each;
       rested = has_rested;
       sized = ap (λ (d : D). length (contents d).bytes) same ∙ so_far.sized;
-      back = λ h. back_of contents honest calm rests e old now so_far.rounds so_far.each (sym (ap honest same) ∙ h);
+      back = λ h. back_of contents honest calm does rests e old now so_far.rounds so_far.each (sym (ap honest same) ∙ h);
       calm_is = ap calm same ∙ so_far.calm_is;
-      until = λ h. subst (λ (d : D). Until contents honest calm rests e old so_far.rounds d) (sym same) (until_of contents honest calm rests e old now so_far.rounds so_far.each h);
+      until = λ h. subst (λ (d : D). Until contents honest calm does rests e old so_far.rounds d) (sym same) (until_of contents honest calm does rests e old now so_far.rounds so_far.each h);
       run = λ h. subst (λ (d : D). Runs e (contents old) (exchanges_in so_far.rounds) (contents d)) (sym same)
-          (runs_of contents honest calm rests e old now so_far.rounds so_far.each (sym (ap honest same) ∙ h));
-      done = λ h. (done_of contents honest calm rests e old now so_far.rounds so_far.each h, rests_done_of contents honest calm rests e old now so_far.rounds so_far.each h);
+          (runs_of contents honest calm does rests e old now so_far.rounds so_far.each (sym (ap honest same) ∙ h));
+      done = λ h. (done_of contents honest calm does rests e old now so_far.rounds so_far.each h, rests_done_of contents honest calm does rests e old now so_far.rounds so_far.each h);
       stream = stream;
     }
 
   module _ (old mid : D) (u v b c : Option (List ℕ)) (so_far : IsServing old mid u v (Appends b c) (AreRested e)) where
-    pub stopped : (new : D) (w a : Option (List ℕ)) (f : ServeFault) → ServesNext contents honest calm rests e mid new v w c a (Err f) → Transmits contents honest calm rests e old new u w b a (Err f)
+    pub stopped : (new : D) (w a : Option (List ℕ)) (f : ServeFault) → ServesNext contents honest calm does rests e mid new v w c a (Err f) → Transmits contents honest calm does rests e old new u w b a (Err f)
     stopped new w a fault.Read one =
         transmitted old mid u v (Appends b c) (AreRested e) so_far new w b a (Err fault.Read) one.same so_far.have_rested
         (one.tail, reads_then old mid u v b c so_far w one.tail one.read, one.is, subst (λ (k : Option (List ℕ)). Appends b k (flat_map reply_in (exchanges_in so_far.rounds))) (sym one.kept) so_far.written)
@@ -220,7 +222,7 @@ module _ {D : Type 0} (contents : D → Contents) (honest calm : D → Bool) (re
     stopped new w a fault.OutOfMemory one = absurd one
 
     -- as many requests were answered as can be counted
-    pub counted_out : Transmits contents honest calm rests e old mid u v b c (Err fault.Read)
+    pub counted_out : Transmits contents honest calm does rests e old mid u v b c (Err fault.Read)
     counted_out = transmitted old mid u v (Appends b c) (AreRested e) so_far mid v b c (Err fault.Read) refl so_far.have_rested ([], so_far.read, inl (lit< tt), so_far.written)
 
     ends_so : (end : End) (tail left : List ℕ) → Rests end tail (Some left) → IsRest end (tail ++ left)
@@ -239,7 +241,7 @@ module _ {D : Type 0} (contents : D → Contents) (honest calm : D → Bool) (re
       ends = ends_so end tail left rest;
     }
 
-    pub finished : (new : D) (w a : Option (List ℕ)) (end : End) → ServesNext contents honest calm rests e mid new v w c a (Ok (Some end)) → Transmits contents honest calm rests e old new u w b a (Ok end)
+    pub finished : (new : D) (w a : Option (List ℕ)) (end : End) → ServesNext contents honest calm does rests e mid new v w c a (Ok (Some end)) → Transmits contents honest calm does rests e old new u w b a (Ok end)
     finished new w a end one =
         let reads = reads_then old mid u v b c so_far w one.tail one.read in
         transmitted old mid u v (Appends b c) (AreRested e) so_far new w b a (Ok end) one.same so_far.have_rested (

@@ -93,6 +93,14 @@ abbrev pub answer_from : Result (Unit {0}) DiskFault → List ℕ → Result (Li
 answer_from (Ok done) bytes = Ok bytes
 answer_from (Err e) bytes = Err (error_for e)
 
+-- WHAT THE DISK ITSELF IS ASKED: zeroes as a trim, and anything else as it is
+abbrev pub asked_as : Task → Task
+asked_as (Read offset count) = Read offset count
+asked_as (Write offset count durable) = Write offset count durable
+asked_as Flush = Flush
+asked_as (Trim offset count durable) = Trim offset count durable
+asked_as (WriteZeroes offset count durable) = Trim offset count durable
+
 -- the errors that a change may have: it failed; no change is taken any more; there is no room for it
 abbrev pub IsOfChange : RequestError → Type 0
 IsOfChange e = (e ≡ InputOutput) ⊎ (e ≡ NotPermitted) ⊎ (e ≡ NoSpace)

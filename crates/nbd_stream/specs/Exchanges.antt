@@ -8,7 +8,7 @@ use Rattle.nbd_stream.specs.declared.request.Header.{Header}
 use Rattle.nbd_stream.specs.declared.task.Task.{Task}
 use Rattle.nbd_stream.specs.Frames.{Request, reply_bytes}
 use Rattle.nbd_stream.specs.Tasks.{admitted, asks_change}
-use Rattle.nbd_stream.specs.Disk.{Contents, Idles, Performs}
+use Rattle.nbd_stream.specs.Disk.{Contents, Idles, Performs, answer_from, asked_as}
 
 -- AN EXCHANGE: a request, and the bytes that answer it, or an error
 pub record Exchange : Type 0 where
@@ -35,13 +35,23 @@ header_of r = record { flags = r.flags; code = r.code; cookie = r.cookie; offset
 abbrev pub task_of : Export → Request → Result Task RequestError
 task_of e r = admitted e (header_of r)
 
--- ONE EXCHANGE, by what was asked: a request that is refused is answered its error, and the disk is as it was; else the disk was asked
-abbrev pub TellsBy : {D : Type 0} → (D → Contents) → (honest calm : D → Bool) → Result Task RequestError → D → Exchange → D → Type 0
-TellsBy contents honest calm (Err e) old x new = (x.answer ≡ Err e) × (new ≡ old)
-TellsBy contents honest calm (Ok task) old x new = Performs contents honest calm task x.request.body old x.answer new
+-- THE CALL THAT ANSWERED: the disk was asked the task itself, the answer is made of the one that it gave, and the call is what the disk says of such a one
+pub record HasDone {D : Type 0} (does : D → Task → Result (Unit {0}) DiskFault → D → Type 0) (task : Task)
+    (old : D) (answer : Result (List ℕ) RequestError) (new : D) : Type 0 where
+  pub done : Result (Unit {0}) DiskFault
+  pub told : answer ≡ answer_from done (bytes_in answer)
+  pub does_so : does old (asked_as task) done new
 
-abbrev pub Tells : {D : Type 0} → (D → Contents) → (honest calm : D → Bool) → Export → D → Exchange → D → Type 0
-Tells contents honest calm e old x new = TellsBy contents honest calm (task_of e x.request) old x new
+-- ONE EXCHANGE, by what was asked: a request that is refused is answered its error, and the disk is as it was; else the disk was asked
+abbrev pub TellsBy : {D : Type 0} → (D → Contents) → (honest calm : D → Bool) → (does : D → Task → Result (Unit {0}) DiskFault → D → Type 0)
+    → Result Task RequestError → D → Exchange → D → Type 0
+TellsBy contents honest calm does (Err e) old x new = (x.answer ≡ Err e) × (new ≡ old)
+TellsBy contents honest calm does (Ok task) old x new =
+    Performs contents honest calm task x.request.body old x.answer new × HasDone does task old x.answer new
+
+abbrev pub Tells : {D : Type 0} → (D → Contents) → (honest calm : D → Bool) → (does : D → Task → Result (Unit {0}) DiskFault → D → Type 0)
+    → Export → D → Exchange → D → Type 0
+Tells contents honest calm does e old x new = TellsBy contents honest calm does (task_of e x.request) old x new
 
 -- ---- rests
 
@@ -69,18 +79,20 @@ RestsAfter contents honest calm rests asked old new =
     × RestsBy contents honest calm rests asked old rested new
 
 -- ONE ROUND: from a disk to the one that was asked, and from that one to the one that rested
-pub record TellsRound {D : Type 0} (contents : D → Contents) (honest calm : D → Bool) (rests : D → Result (Unit {0}) DiskFault → D → Type 0)
+pub record TellsRound {D : Type 0} (contents : D → Contents) (honest calm : D → Bool)
+    (does : D → Task → Result (Unit {0}) DiskFault → D → Type 0) (rests : D → Result (Unit {0}) DiskFault → D → Type 0)
     (e : Export) (old : D) (x : Round) (new : D) : Type 0 where
   pub mid : D
-  pub tells : Tells contents honest calm e old x.exchange mid
+  pub tells : Tells contents honest calm does e old x.exchange mid
   pub rest : RestsBy contents honest calm rests (task_of e x.exchange.request) mid x.rested new
 
 -- EACH ROUND, from a disk to the next: a chain of disks, from the one to the other
-abbrev pub ToldEach : {D : Type 0} → (D → Contents) → (honest calm : D → Bool) → (rests : D → Result (Unit {0}) DiskFault → D → Type 0)
+abbrev pub ToldEach : {D : Type 0} → (D → Contents) → (honest calm : D → Bool)
+    → (does : D → Task → Result (Unit {0}) DiskFault → D → Type 0) → (rests : D → Result (Unit {0}) DiskFault → D → Type 0)
     → Export → D → List Round → D → Type 0
-ToldEach contents honest calm rests e old [] new = new ≡ old
-ToldEach {D} contents honest calm rests e old (x ∷ xs) new =
-    (next : D) × TellsRound contents honest calm rests e old x next × ToldEach contents honest calm rests e next xs new
+ToldEach contents honest calm does rests e old [] new = new ≡ old
+ToldEach {D} contents honest calm does rests e old (x ∷ xs) new =
+    (next : D) × TellsRound contents honest calm does rests e old x next × ToldEach contents honest calm does rests e next xs new
 
 -- a change that the disk was asked is followed by a rest
 abbrev pub IsRested : Export → Round → Type 0

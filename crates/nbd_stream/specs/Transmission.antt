@@ -10,6 +10,7 @@ use Rattle.nbd_stream.specs.declared.fault.DiskFault.{DiskFault}
 use Rattle.nbd_stream.specs.declared.request.End.{End}
 use Rattle.nbd_stream.specs.declared.negotiation.Negotiated.{Negotiated}
 use Rattle.nbd_stream.specs.declared.negotiation.Negotiated.TheVariants.{Transmission, Ended}
+use Rattle.nbd_stream.specs.declared.task.Task.{Task}
 use Rattle.nbd_stream.specs.Frames.{Request, IsRequest, IsBeginning, Rests, Splits, request_bytes}
 use Rattle.nbd_stream.specs.Negotiation.{Negotiates}
 use Rattle.nbd_stream.specs.Disk.{Contents}
@@ -54,15 +55,16 @@ Rested e xs (Err fault.OutOfMemory) = ⊥
 -- THE TRANSMISSION: each request was read, asked of the disk, and answered, and after a change the disk rested. Of an honest disk the answers are a run
 -- of its array: up to the first round that ended its honesty, and all of them where it is honest at the end. One that is calm did all that it
 -- was asked.
-pub record Transmits {D : Type 0} (contents : D → Contents) (honest calm : D → Bool) (rests : D → Result (Unit {0}) DiskFault → D → Type 0)
+pub record Transmits {D : Type 0} (contents : D → Contents) (honest calm : D → Bool)
+    (does : D → Task → Result (Unit {0}) DiskFault → D → Type 0) (rests : D → Result (Unit {0}) DiskFault → D → Type 0)
     (e : Export) (old new : D) (unread left before after : Option (List ℕ)) (result : Result End ServeFault) : Type 0 where
   pub rounds : List Round
-  pub each : ToldEach contents honest calm rests e old rounds new
+  pub each : ToldEach contents honest calm does rests e old rounds new
   pub rested : Rested e rounds result
   pub sized : length (contents new).bytes ≡ length (contents old).bytes
   pub back : honest new ≡ true → honest old ≡ true
   pub calm_is : calm new ≡ calm old
-  pub until : honest old ≡ true → Until contents honest calm rests e old rounds new
+  pub until : honest old ≡ true → Until contents honest calm does rests e old rounds new
   pub run : honest new ≡ true → Runs e (contents old) (exchanges_in rounds) (contents new)
   pub done : calm old ≡ true → AreDone e (exchanges_in rounds) × AreRestsDone rounds
   pub stream : Carries unread left before after (exchanges_in rounds) result
@@ -70,20 +72,22 @@ pub record Transmits {D : Type 0} (contents : D → Contents) (honest calm : D �
 -- ---- one request
 
 -- the disk was asked a request, and the reply was written, or a beginning of it
-pub record Replies {D : Type 0} (contents : D → Contents) (honest calm : D → Bool) (e : Export) (old : D) (r : Request) (new : D)
+pub record Replies {D : Type 0} (contents : D → Contents) (honest calm : D → Bool) (does : D → Task → Result (Unit {0}) DiskFault → D → Type 0)
+    (e : Export) (old : D) (r : Request) (new : D)
     (before after : Option (List ℕ)) (result : Result (Unit {0}) ServeFault) : Type 0 where
   pub exchange : Exchange
   pub request_is : exchange.request ≡ r
-  pub tells : Tells contents honest calm e old exchange new
+  pub tells : Tells contents honest calm does e old exchange new
   pub sends : Sends before after (reply_in exchange) result
 
 -- a request was read, the disk was asked it, its reply was written as this says, and the disk rested as that says
-pub record HasServed {D : Type 0} (contents : D → Contents) (honest calm : D → Bool) (rests : D → Result (Unit {0}) DiskFault → D → Type 0)
+pub record HasServed {D : Type 0} (contents : D → Contents) (honest calm : D → Bool)
+    (does : D → Task → Result (Unit {0}) DiskFault → D → Type 0) (rests : D → Result (Unit {0}) DiskFault → D → Type 0)
     (e : Export) (old new : D) (unread left : Option (List ℕ)) (writes : List ℕ → Type 0) (rested : Round → Type 0) : Type 0 where
   pub round : Round
   pub whole : IsRequest round.exchange.request
   pub read : Consumes unread left (request_bytes round.exchange.request)
-  pub tells : TellsRound contents honest calm rests e old round new
+  pub tells : TellsRound contents honest calm does rests e old round new
   pub written : writes (reply_in round.exchange)
   pub has_rested : rested round
 
@@ -95,16 +99,17 @@ pub record HasEnded {D : Type 0} (old new : D) (unread left before after : Optio
   pub same : new ≡ old
   pub kept : after ≡ before
 
-abbrev pub ServesNext : {D : Type 0} → (D → Contents) → (honest calm : D → Bool) → (rests : D → Result (Unit {0}) DiskFault → D → Type 0) → Export
+abbrev pub ServesNext : {D : Type 0} → (D → Contents) → (honest calm : D → Bool)
+    → (does : D → Task → Result (Unit {0}) DiskFault → D → Type 0) → (rests : D → Result (Unit {0}) DiskFault → D → Type 0) → Export
     → (old new : D) → (unread left before after : Option (List ℕ)) → Result (Option End) ServeFault → Type 0
-ServesNext contents honest calm rests e old new unread left before after (Ok None) =
-    HasServed contents honest calm rests e old new unread left (Appends before after) (IsRested e)
-ServesNext contents honest calm rests e old new unread left before after (Ok (Some end)) =
+ServesNext contents honest calm does rests e old new unread left before after (Ok None) =
+    HasServed contents honest calm does rests e old new unread left (Appends before after) (IsRested e)
+ServesNext contents honest calm does rests e old new unread left before after (Ok (Some end)) =
     HasEnded old new unread left before after (λ tail. Rests end tail left)
-ServesNext contents honest calm rests e old new unread left before after (Err fault.Read) = HasEnded old new unread left before after IsBeginning
-ServesNext contents honest calm rests e old new unread left before after (Err fault.Write) =
-    HasServed contents honest calm rests e old new unread left (AppendsFront before after) (λ round. round.rested ≡ None)
-ServesNext contents honest calm rests e old new unread left before after (Err fault.OutOfMemory) = ⊥
+ServesNext contents honest calm does rests e old new unread left before after (Err fault.Read) = HasEnded old new unread left before after IsBeginning
+ServesNext contents honest calm does rests e old new unread left before after (Err fault.Write) =
+    HasServed contents honest calm does rests e old new unread left (AppendsFront before after) (λ round. round.rested ≡ None)
+ServesNext contents honest calm does rests e old new unread left before after (Err fault.OutOfMemory) = ⊥
 
 -- ---- a whole session
 
@@ -114,16 +119,18 @@ negotiated_as (Ok end) = Ok (Ended end)
 negotiated_as (Err e) = Err e
 
 -- A NEGOTIATION AND A TRANSMISSION: of the bytes between, so many were read and written by the one
-pub record Begins {D : Type 0} (contents : D → Contents) (honest calm : D → Bool) (rests : D → Result (Unit {0}) DiskFault → D → Type 0)
+pub record Begins {D : Type 0} (contents : D → Contents) (honest calm : D → Bool)
+    (does : D → Task → Result (Unit {0}) DiskFault → D → Type 0) (rests : D → Result (Unit {0}) DiskFault → D → Type 0)
     (e : Export) (limit : ℕ) (old new : D) (unread left before after : Option (List ℕ)) (result : Result End ServeFault) : Type 0 where
   pub unread' : Option (List ℕ)
   pub before' : Option (List ℕ)
   pub negotiated : Negotiates e limit unread unread' before before' (Ok Transmission)
-  pub transmits : Transmits contents honest calm rests e old new unread' left before' after result
+  pub transmits : Transmits contents honest calm does rests e old new unread' left before' after result
 
 -- A SESSION: a negotiation that came to no transmission, and the disk is as it was; or one that did, and the transmission
-abbrev pub Serves : {D : Type 0} → (D → Contents) → (honest calm : D → Bool) → (rests : D → Result (Unit {0}) DiskFault → D → Type 0) → Export
+abbrev pub Serves : {D : Type 0} → (D → Contents) → (honest calm : D → Bool)
+    → (does : D → Task → Result (Unit {0}) DiskFault → D → Type 0) → (rests : D → Result (Unit {0}) DiskFault → D → Type 0) → Export
     → (limit : ℕ) → (old new : D) → (unread left before after : Option (List ℕ)) → Result End ServeFault → Type 0
-Serves contents honest calm rests e limit old new unread left before after result =
+Serves contents honest calm does rests e limit old new unread left before after result =
     ((new ≡ old) × Negotiates e limit unread left before after (negotiated_as result))
-    ⊎ Begins contents honest calm rests e limit old new unread left before after result
+    ⊎ Begins contents honest calm does rests e limit old new unread left before after result

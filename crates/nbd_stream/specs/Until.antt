@@ -9,31 +9,34 @@ use Rattle.nbd_stream.specs.Exchanges.{Round, TellsRound, ToldEach, AreRestsDone
 use Rattle.nbd_stream.specs.Runs.{Runs, AreDone, bytes_left, exchanges_of}
 
 -- nothing more was asked; or the next round left a disk that is not honest, and of that one the others were asked
-abbrev pub BreaksBy : {D : Type 0} → (D → Contents) → (honest calm : D → Bool) → (rests : D → Result (Unit {0}) DiskFault → D → Type 0)
+abbrev pub BreaksBy : {D : Type 0} → (D → Contents) → (honest calm : D → Bool)
+    → (does : D → Task → Result (Unit {0}) DiskFault → D → Type 0) → (rests : D → Result (Unit {0}) DiskFault → D → Type 0)
     → Export → D → List Round → D → Type 0
-BreaksBy contents honest calm rests e mid [] new = new ≡ mid
-BreaksBy {D} contents honest calm rests e mid (x ∷ xs) new =
-    (next : D) × TellsRound contents honest calm rests e mid x next × (honest next ≡ false) × ToldEach contents honest calm rests e next xs new
+BreaksBy contents honest calm does rests e mid [] new = new ≡ mid
+BreaksBy {D} contents honest calm does rests e mid (x ∷ xs) new =
+    (next : D) × TellsRound contents honest calm does rests e mid x next × (honest next ≡ false) × ToldEach contents honest calm does rests e next xs new
 
 -- THE LONGEST FRONT of the rounds that an honest disk came through honest: over it the answers are a run of its array. After it nothing was
 -- asked, or the next round ended it.
-pub record Until {D : Type 0} (contents : D → Contents) (honest calm : D → Bool) (rests : D → Result (Unit {0}) DiskFault → D → Type 0)
+pub record Until {D : Type 0} (contents : D → Contents) (honest calm : D → Bool)
+    (does : D → Task → Result (Unit {0}) DiskFault → D → Type 0) (rests : D → Result (Unit {0}) DiskFault → D → Type 0)
     (e : Export) (old : D) (xs : List Round) (new : D) : Type 0 where
   pub before : List Round
   pub after : List Round
   pub joined : xs ≡ before ++ after
   pub mid : D
-  pub each : ToldEach contents honest calm rests e old before mid
+  pub each : ToldEach contents honest calm does rests e old before mid
   pub held : honest mid ≡ true
   pub runs : Runs e (contents old) (exchanges_in before) (contents mid)
-  pub breaks : BreaksBy contents honest calm rests e mid after new
+  pub breaks : BreaksBy contents honest calm does rests e mid after new
 
 -- ---- laws
 
 -- A DISK THAT IS HONEST NO MORE is never again, whatever it is asked
-abbrev pub BackLaw : {D : Type 0} → (D → Contents) → (honest calm : D → Bool) → (rests : D → Result (Unit {0}) DiskFault → D → Type 0) → Type 0
-BackLaw {D} contents honest calm rests =
-    (e : Export) (old new : D) (xs : List Round) → ToldEach contents honest calm rests e old xs new → honest old ≡ false → honest new ≡ false
+abbrev pub BackLaw : {D : Type 0} → (D → Contents) → (honest calm : D → Bool)
+    → (does : D → Task → Result (Unit {0}) DiskFault → D → Type 0) → (rests : D → Result (Unit {0}) DiskFault → D → Type 0) → Type 0
+BackLaw {D} contents honest calm does rests =
+    (e : Export) (old new : D) (xs : List Round) → ToldEach contents honest calm does rests e old xs new → honest old ≡ false → honest new ≡ false
 
 -- a round that was asked of the disk and failed, or whose rest failed
 abbrev pub IsFailed : Export → Round → Type 0
@@ -50,9 +53,10 @@ IsFirstOfRun e s before (x ∷ xs) = IsOk x.exchange.answer → (t : Contents) �
 
 -- WHERE IT ENDED: not while the disk is honest, and in no round but one that was asked of the disk and failed, or whose rest failed. What was answered
 -- without an error until then is the array's. Where no task before it failed, the exchanges before it are those of the array.
-abbrev pub UntilLaw : {D : Type 0} → (D → Contents) → (honest calm : D → Bool) → (rests : D → Result (Unit {0}) DiskFault → D → Type 0) → Type 0
-UntilLaw {D} contents honest calm rests =
-    (e : Export) (old new : D) (xs : List Round) (until : Until contents honest calm rests e old xs new)
+abbrev pub UntilLaw : {D : Type 0} → (D → Contents) → (honest calm : D → Bool)
+    → (does : D → Task → Result (Unit {0}) DiskFault → D → Type 0) → (rests : D → Result (Unit {0}) DiskFault → D → Type 0) → Type 0
+UntilLaw {D} contents honest calm does rests =
+    (e : Export) (old new : D) (xs : List Round) (until : Until contents honest calm does rests e old xs new)
     → (honest new ≡ true → (until.before ≡ xs) × (new ≡ until.mid))
     × IsFirstFailed e until.after
     × IsFirstOfRun e (contents old) until.before until.after
@@ -61,7 +65,8 @@ UntilLaw {D} contents honest calm rests =
     × ((contents until.mid).bytes ≡ bytes_left e (contents old).bytes (requests_in (exchanges_in until.before))))
 
 -- where no task and no rest fails, an honest disk stays so
-abbrev pub StaysLaw : {D : Type 0} → (D → Contents) → (honest calm : D → Bool) → (rests : D → Result (Unit {0}) DiskFault → D → Type 0) → Type 0
-StaysLaw {D} contents honest calm rests =
-    (e : Export) (old new : D) (xs : List Round) → ToldEach contents honest calm rests e old xs new
+abbrev pub StaysLaw : {D : Type 0} → (D → Contents) → (honest calm : D → Bool)
+    → (does : D → Task → Result (Unit {0}) DiskFault → D → Type 0) → (rests : D → Result (Unit {0}) DiskFault → D → Type 0) → Type 0
+StaysLaw {D} contents honest calm does rests =
+    (e : Export) (old new : D) (xs : List Round) → ToldEach contents honest calm does rests e old xs new
     → AreDone e (exchanges_in xs) → AreRestsDone xs → honest new ≡ honest old

@@ -1,14 +1,15 @@
 //! What an option is answered.
-ghost use Rattle.std.specs.Prelude.{◌≡◌, ◌≤◌, ℕ, Bool, List, length, take, false, true, IfSome, IsNone};
+ghost use Rattle.nbd_stream.specs.Streams.{EndsBy};
+ghost use Rattle.std.specs.Prelude.{◌≡◌, ◌≢◌, OnErr, OnOk, ◌≤◌, ℕ, Bool, List, length, take, false, true, IfSome, IsNone};
 ghost use Rattle.request_stream.specs.Frames.{Sends};
 ghost use Rattle.nbd_stream.specs.Options.{IsData, option_from, answer_of, question_answer, is_question, name_length, step_after, answer_bytes, asked, option_reply_header, transmission_flags, export_bytes, export_info, block_info};
 
 use crate::export::Export;
 use crate::option::OptionHeader;
 use crate::reply::send_parts;
+use crate::streams::Outgoing;
 use byteorder::{BigEndian, ByteOrder};
 use request_stream::ServeFault;
-use std::io::Write;
 
 /// The options that are answered with more than that they are not supported. (The NBD protocol, "Option types".)
 #[derive(Clone, Copy)]
@@ -200,8 +201,10 @@ fn block_info(export: &Export) -> [u8; 14]
 }
 
 // Writes what the export is.
-fn send_told<W: Write>(writer: &mut W, export: &Export, code: u32) -> Result<(), ServeFault>
-    ensures { (no_zeroes : Bool) → Sends (W.contents writer.old) (W.contents writer.new) (answer_bytes export.now no_zeroes code Answer.Told) result }
+fn send_told<W: Outgoing>(writer: &mut W, export: &Export, code: u32) -> Result<(), ServeFault>
+    ensures sends { (no_zeroes : Bool) → Sends (W.contents writer.old) (W.contents writer.new) (answer_bytes export.now no_zeroes code Answer.Told) result }
+    ensures fails { OnErr result (EndsBy W.fails writer.new) }
+    ensures hands { OnOk result (EndsBy W.hands writer.new) }
 {
     send_parts(
         writer,
@@ -221,14 +224,16 @@ fn send_told<W: Write>(writer: &mut W, export: &Export, code: u32) -> Result<(),
 ///
 /// `Write` where a write or the handing on failed, was interrupted or took nothing: a beginning of the answer is out. (The NBD
 /// protocol, "Option haggling".)
-pub(crate) fn send_answer<W: Write>(
+pub(crate) fn send_answer<W: Outgoing>(
     writer: &mut W,
     export: &Export,
     no_zeroes: bool,
     code: u32,
     answer: Answer,
 ) -> Result<(), ServeFault>
-    ensures { Sends (W.contents writer.old) (W.contents writer.new) (answer_bytes export.now no_zeroes code answer) result }
+    ensures sends { Sends (W.contents writer.old) (W.contents writer.new) (answer_bytes export.now no_zeroes code answer) result }
+    ensures fails { OnErr result (EndsBy W.fails writer.new) }
+    ensures hands { OnOk result (answer ≢ Answer.Silent → EndsBy W.hands writer.new) }
 {
     match answer {
         Answer::Short(kind) => send_parts(writer, &[&reply_header(code, kind, 0)]),

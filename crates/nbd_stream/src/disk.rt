@@ -16,6 +16,7 @@ use crate::task::Task;
 pub trait Disk {
     ghost use Rattle.std.specs.Prelude.{◌≤◌, ◌+◌, Bool, [], length, Result};
     ghost use Rattle.nbd_stream.specs.declared.fault.DiskFault.{DiskFault};
+    ghost use Rattle.nbd_stream.specs.declared.task.Task.{Task};
     ghost use Rattle.nbd_stream.specs.Disk.{Contents, Idles, Performs, answer_from};
 
     /// The bytes that it stands for, and those that it will stand for if the power goes now.
@@ -26,6 +27,9 @@ pub trait Disk {
 
     /// Whether it does whatever it is asked, without an error.
     ghost calm: { Self → Bool };
+
+    /// What a call of it is, beside the bytes: of the disk before, the task that it was asked, the answer, and the disk after.
+    ghost does: { Self → Task → Result (Unit {0}) DiskFault → Self → Type 0 };
 
     /// What a rest of it is, beside that it leaves the bytes: of the disk before, the answer, and the disk after.
     ghost rests: { Self → Result (Unit {0}) DiskFault → Self → Type 0 };
@@ -42,6 +46,7 @@ pub trait Disk {
     fn read(&mut self, offset: u64, buffer: &mut [u8]) -> Result<(), DiskFault>
         requires { offset + length buffer.old ≤ length (contents self.old).bytes }
         ensures performs { Performs contents honest calm (Task.Read offset (length buffer.old)) [] self.old (answer_from result buffer.new) self.new }
+        ensures does { does self.old (Task.Read offset (length buffer.old)) result self.new }
         ensures leaves { leaves self.old self.new };
 
     /// Sets the bytes from an offset on.
@@ -52,7 +57,8 @@ pub trait Disk {
     /// still honest, each byte of the range is as it was or as it was to be.
     fn write(&mut self, offset: u64, bytes: &[u8], durable: bool) -> Result<(), DiskFault>
         requires { offset + length bytes.now ≤ length (contents self.old).bytes }
-        ensures { Performs contents honest calm (Task.Write offset (length bytes.now) durable) bytes.now self.old (answer_from result []) self.new };
+        ensures performs { Performs contents honest calm (Task.Write offset (length bytes.now) durable) bytes.now self.old (answer_from result []) self.new }
+        ensures does { does self.old (Task.Write offset (length bytes.now) durable) result self.new };
 
     /// Sets so many bytes to zeros, from an offset on.
     ///
@@ -61,7 +67,8 @@ pub trait Disk {
     /// As `write`.
     fn clear(&mut self, offset: u64, count: u32, durable: bool) -> Result<(), DiskFault>
         requires { offset + count ≤ length (contents self.old).bytes }
-        ensures { Performs contents honest calm (Task.Trim offset count durable) [] self.old (answer_from result []) self.new };
+        ensures performs { Performs contents honest calm (Task.Trim offset count durable) [] self.old (answer_from result []) self.new }
+        ensures does { does self.old (Task.Trim offset count durable) result self.new };
 
     /// Makes all bytes last. A disk that takes no change any more is flushed too: what it was given before is to last.
     ///
@@ -70,6 +77,7 @@ pub trait Disk {
     /// `Failed` where the disk failed: of one that is still honest, the bytes are as they were, and may not all last.
     fn flush(&mut self) -> Result<(), DiskFault>
         ensures performs { Performs contents honest calm Task.Flush [] self.old (answer_from result []) self.new }
+        ensures does { does self.old Task.Flush result self.new }
         ensures leaves { leaves self.old self.new };
 
     /// An idle moment between two requests, in which the disk may tidy up: one over flash frees blocks for later changes. Nothing that a client

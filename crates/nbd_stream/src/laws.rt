@@ -35,7 +35,7 @@ pub fn disk_laws()
 /// ends with an exchange that was asked of the disk and failed, or whose rest failed, and not before: up to that one the answers are the array's, one
 /// before such a rest too, and where none of them failed they are what it gives. (This project's.)
 pub fn honesty_laws<D: Disk>()
-    ensures back { BackLaw D.contents D.honest D.calm D.rests }
-    ensures stays { StaysLaw D.contents D.honest D.calm D.rests }
-    ensures until { UntilLaw D.contents D.honest D.calm D.rests }
+    ensures back { BackLaw D.contents D.honest D.calm D.does D.rests }
+    ensures stays { StaysLaw D.contents D.honest D.calm D.does D.rests }
+    ensures until { UntilLaw D.contents D.honest D.calm D.does D.rests }
 {}

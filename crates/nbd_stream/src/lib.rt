@@ -13,6 +13,7 @@ mod negotiation;
 mod option;
 mod reply;
 mod request;
+mod streams;
 mod task;
 mod transmission;
 
@@ -24,5 +25,6 @@ pub use negotiation::{Negotiated, negotiate};
 pub use option::{NextOption, OptionHeader, read_option};
 pub use reply::{RequestError, send_reply};
 pub use request::{End, Header, Next, read_request};
+pub use streams::{Incoming, Outgoing};
 pub use task::{Command, Task, admit};
 pub use transmission::{serve, transmit};

@@ -7,9 +7,9 @@ use crate::disk::Disk;
 use crate::export::Export;
 use crate::fault::DiskFault;
 use crate::request::End;
+use crate::streams::{Incoming, Outgoing};
 use crate::transmission::serve;
 use request_stream::ServeFault;
-use std::io::{Read, Write};
 
 /// A disk whose bytes stand in memory. It holds what it is given and does what it is asked. There is no power stop that it outlives: what
 /// lasts is what stands.
@@ -59,13 +59,16 @@ impl MemoryDisk {
 }
 
 impl Disk for MemoryDisk {
-    ghost use Rattle.std.specs.Prelude.{◌≡◌, true, Ok};
+    ghost use Rattle.std.specs.Prelude.{◌≡◌, false, true, Ok};
+    ghost use Rattle.nbd_stream.specs.Tasks.{is_change};
 
     ghost contents = { λ disk. record { bytes = disk.bytes.items; durable = disk.bytes.items } };
 
     ghost honest = { λ disk. true };
 
     ghost calm = { λ disk. true };
+
+    ghost does = { λ old task result new. (result ≡ Ok tt) × (is_change task ≡ false → new ≡ old) };
 
     ghost rests = { λ old result new. (result ≡ Ok tt) × (new ≡ old) };
 
@@ -102,7 +105,7 @@ impl Disk for MemoryDisk {
 /// # Errors
 ///
 /// As of `serve`. (This project's.)
-pub fn serve_memory<R: Read, W: Write>(
+pub fn serve_memory<R: Incoming, W: Outgoing>(
     reader: &mut R,
     writer: &mut W,
     disk: &mut MemoryDisk,

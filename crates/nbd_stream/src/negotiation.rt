@@ -1,5 +1,6 @@
 //! The negotiation: a greeting, and answers to options until one of them begins the transmission.
-ghost use Rattle.std.specs.Prelude.{length};
+ghost use Rattle.std.specs.Prelude.{IfErr, OnErr, length};
+ghost use Rattle.nbd_stream.specs.Streams.{EndsBy, HasFailed, HasStopped};
 ghost use Rattle.nbd_stream.specs.Negotiation.{AnswersNext, AnswersOptions, Negotiates, ReadsFlags};
 
 use crate::answer::{Step, answer_to, send_answer, step_after};
@@ -7,8 +8,8 @@ use crate::export::Export;
 use crate::option::{NextOption, read_option};
 use crate::reply::send_parts;
 use crate::request::End;
-use request_stream::{ServeFault, fill};
-use std::io::{Read, Write};
+use crate::streams::{Incoming, Outgoing};
+use request_stream::ServeFault;
 
 /// How a negotiation ended. (This project's.)
 #[derive(Clone, Copy, Debug, PartialEq, Eq)]
@@ -31,14 +32,15 @@ enum ClientFlags {
 const GREETING: [u8; 18] = *b"NBDMAGICIHAVEOPT\x00\x03";
 
 // Answers the next option, and tells how the negotiation ended, if it did.
-fn answer_next<R: Read, W: Write>(
+fn answer_next<R: Incoming, W: Outgoing>(
     reader: &mut R,
     writer: &mut W,
     export: &Export,
     no_zeroes: bool,
     body: &mut [u8],
 ) -> Result<Option<Negotiated>, ServeFault>
-    ensures { AnswersNext export.now no_zeroes (length body.new) (R.remaining reader.old) (R.remaining reader.new) (W.contents writer.old) (W.contents writer.new) result }
+    ensures answers { AnswersNext export.now no_zeroes (length body.new) (R.remaining reader.old) (R.remaining reader.new) (W.contents writer.old) (W.contents writer.new) result }
+    ensures fails { IfErr result (HasFailed R.fails W.fails reader.new writer.new) }
 {
     let header = match read_option(reader, body)? {
         NextOption::Whole(header) => header,
@@ -54,14 +56,15 @@ fn answer_next<R: Read, W: Write>(
 }
 
 // Answers options until one ends the negotiation.
-fn answer_options<R: Read, W: Write>(
+fn answer_options<R: Incoming, W: Outgoing>(
     reader: &mut R,
     writer: &mut W,
     export: &Export,
     no_zeroes: bool,
     body: &mut [u8],
 ) -> Result<Negotiated, ServeFault>
-    ensures { AnswersOptions export.now no_zeroes (length body.new) (R.remaining reader.old) (R.remaining reader.new) (W.contents writer.old) (W.contents writer.new) result }
+    ensures answers { AnswersOptions export.now no_zeroes (length body.new) (R.remaining reader.old) (R.remaining reader.new) (W.contents writer.old) (W.contents writer.new) result }
+    ensures stops { IfErr result (HasStopped R.fails W.fails (R.remaining reader.old) (R.remaining reader.new) reader.new writer.new) }
 {
     for _ in 0..u64::MAX {
         match answer_next(reader, writer, export, no_zeroes, body)? {
@@ -73,11 +76,12 @@ fn answer_options<R: Read, W: Write>(
 }
 
 // The client's flags: fixed newstyle, which each client of today has, and whether it wants no zeros after an export.
-fn read_flags<R: Read>(reader: &mut R) -> Result<ClientFlags, ServeFault>
-    ensures { ReadsFlags (R.remaining reader.old) (R.remaining reader.new) result }
+fn read_flags<R: Incoming>(reader: &mut R) -> Result<ClientFlags, ServeFault>
+    ensures reads { ReadsFlags (R.remaining reader.old) (R.remaining reader.new) result }
+    ensures fails { OnErr result (EndsBy R.fails reader.new) }
 {
     let mut flags = [0; 4];
-    let filled = fill(reader, &mut flags);
+    let filled = reader.receive(&mut flags);
     if filled.failed {
         return Err(ServeFault::Read);
     }
@@ -100,13 +104,14 @@ fn read_flags<R: Read>(reader: &mut R) -> Result<ClientFlags, ServeFault>
 /// - `Write` where a write failed, was interrupted or took nothing: a beginning of the greeting and the answers is out.
 ///
 /// (The NBD protocol, "Fixed newstyle negotiation".)
-pub fn negotiate<R: Read, W: Write>(
+pub fn negotiate<R: Incoming, W: Outgoing>(
     reader: &mut R,
     writer: &mut W,
     export: &Export,
     body: &mut [u8],
 ) -> Result<Negotiated, ServeFault>
-    ensures { Negotiates export.now (length body.new) (R.remaining reader.old) (R.remaining reader.new) (W.contents writer.old) (W.contents writer.new) result }
+    ensures negotiates { Negotiates export.now (length body.new) (R.remaining reader.old) (R.remaining reader.new) (W.contents writer.old) (W.contents writer.new) result }
+    ensures stops { IfErr result (HasStopped R.fails W.fails (R.remaining reader.old) (R.remaining reader.new) reader.new writer.new) }
 {
     send_parts(writer, &[&GREETING])?;
     match read_flags(reader)? {

@@ -1,12 +1,13 @@
 //! The next option of a negotiation.
-ghost use Rattle.std.specs.Prelude.{◌≡◌, length};
+ghost use Rattle.nbd_stream.specs.Streams.{EndsBy};
+ghost use Rattle.std.specs.Prelude.{◌≡◌, OnErr, length};
 ghost use Rattle.nbd_stream.specs.Options.{ReadsOption, ReadsOptionRest};
 
 use crate::body::read_body;
 use crate::request::End;
+use crate::streams::Incoming;
 use byteorder::{BigEndian, ByteOrder};
-use request_stream::{ServeFault, fill};
-use std::io::Read;
+use request_stream::ServeFault;
 
 /// The header of an option: its number, and how many bytes of data follow. (The NBD protocol, "Option haggling".)
 #[derive(Clone, Copy, Debug, PartialEq, Eq)]
@@ -45,12 +46,13 @@ pub enum NextOption {
 }
 
 // Reads what follows a header that was read.
-fn read_rest<R: Read>(
+fn read_rest<R: Incoming>(
     reader: &mut R,
     header: OptionHeader,
     body: &mut [u8],
 ) -> Result<NextOption, ServeFault>
-    ensures { ReadsOptionRest header (R.remaining reader.old) (R.remaining reader.new) body.new result }
+    ensures reads { ReadsOptionRest header (R.remaining reader.old) (R.remaining reader.new) body.new result }
+    ensures fails { OnErr result (EndsBy R.fails reader.new) }
 {
     match read_body(reader, header.count, body) {
         Ok(true) => Ok(NextOption::Whole(header)),
@@ -64,11 +66,12 @@ fn read_rest<R: Read>(
 /// # Errors
 ///
 /// `Read` where a read failed or was interrupted: what was read of an option is lost. (This project's.)
-pub fn read_option<R: Read>(reader: &mut R, body: &mut [u8]) -> Result<NextOption, ServeFault>
-    ensures { ReadsOption (R.remaining reader.old) (R.remaining reader.new) body.new result }
+pub fn read_option<R: Incoming>(reader: &mut R, body: &mut [u8]) -> Result<NextOption, ServeFault>
+    ensures reads { ReadsOption (R.remaining reader.old) (R.remaining reader.new) body.new result }
+    ensures fails { OnErr result (EndsBy R.fails reader.new) }
 {
     let mut bytes = [0; 16];
-    let filled = fill(reader, &mut bytes);
+    let filled = reader.receive(&mut bytes);
     if filled.failed {
         return Err(ServeFault::Read);
     }

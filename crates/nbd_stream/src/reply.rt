@@ -1,11 +1,12 @@
 //! Replies to requests.
-ghost use Rattle.std.specs.Prelude.{◌≡◌, []};
+ghost use Rattle.nbd_stream.specs.Streams.{EndsBy};
+ghost use Rattle.std.specs.Prelude.{◌≡◌, OnErr, OnOk};
 ghost use Rattle.std.specs.List.{flat_map};
 ghost use Rattle.request_stream.specs.Frames.{Sends};
 ghost use Rattle.nbd_stream.specs.Frames.{reply_bytes, reply_header_bytes, error_number_of};
 
-use request_stream::{ServeFault, send};
-use std::io::Write;
+use crate::streams::Outgoing;
+use request_stream::ServeFault;
 use thiserror::Error;
 
 /// Why a request was not done, under the protocol's numbers. (The NBD protocol, "Error values".)
@@ -50,28 +51,20 @@ fn reply_header(error: u32, cookie: u64) -> [u8; 16]
     ]
 }
 
-// Has the writer hand on what it took.
-fn hand_on<W: Write>(writer: &mut W) -> Result<(), ServeFault>
-    ensures { Sends (W.contents writer.old) (W.contents writer.new) [] result }
-{
-    match writer.flush() {
-        Ok(()) => Ok(()),
-        Err(_) => Err(ServeFault::Write),
-    }
-}
-
 /// Writes these parts one after another, and has the writer hand them on, so that no reply waits in a buffer.
 ///
 /// # Errors
 ///
 /// `Write` where a write or the handing on failed, was interrupted or took nothing: a beginning is out.
-pub(crate) fn send_parts<W: Write>(writer: &mut W, parts: &[&[u8]]) -> Result<(), ServeFault>
-    ensures { Sends (W.contents writer.old) (W.contents writer.new) (flat_map (λ part. part.now) parts.now) result }
+pub(crate) fn send_parts<W: Outgoing>(writer: &mut W, parts: &[&[u8]]) -> Result<(), ServeFault>
+    ensures sends { Sends (W.contents writer.old) (W.contents writer.new) (flat_map (λ part. part.now) parts.now) result }
+    ensures fails { OnErr result (EndsBy W.fails writer.new) }
+    ensures hands { OnOk result (EndsBy W.hands writer.new) }
 {
     for part in parts {
-        send(writer, part)?;
+        writer.put(part)?;
     }
-    hand_on(writer)
+    writer.hand_on()
 }
 
 /// Writes the simple reply to the request of this cookie, with the bytes that a read gave, or none, and has the writer hand it on.
@@ -81,13 +74,15 @@ pub(crate) fn send_parts<W: Write>(writer: &mut W, parts: &[&[u8]]) -> Result<()
 ///
 /// `Write` where a write or the handing on failed, was interrupted or took nothing: a beginning of the reply is out. (The NBD
 /// protocol, "Simple reply message".)
-pub fn send_reply<W: Write>(
+pub fn send_reply<W: Outgoing>(
     writer: &mut W,
     cookie: u64,
     done: Result<(), RequestError>,
     bytes: &[u8],
 ) -> Result<(), ServeFault>
-    ensures { Sends (W.contents writer.old) (W.contents writer.new) (reply_bytes cookie done bytes.now) result }
+    ensures sends { Sends (W.contents writer.old) (W.contents writer.new) (reply_bytes cookie done bytes.now) result }
+    ensures fails { OnErr result (EndsBy W.fails writer.new) }
+    ensures hands { OnOk result (EndsBy W.hands writer.new) }
 {
     let header = reply_header(error_number(done), cookie);
     match done {

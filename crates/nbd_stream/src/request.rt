@@ -1,11 +1,12 @@
 //! The next request of a transmission.
-ghost use Rattle.std.specs.Prelude.{◌≡◌, length};
+ghost use Rattle.nbd_stream.specs.Streams.{EndsBy};
+ghost use Rattle.std.specs.Prelude.{◌≡◌, OnErr, length};
 ghost use Rattle.nbd_stream.specs.Frames.{ReadsRequest, ReadsRest};
 
 use crate::body::read_body;
+use crate::streams::Incoming;
 use byteorder::{BigEndian, ByteOrder};
-use request_stream::{ServeFault, fill};
-use std::io::Read;
+use request_stream::ServeFault;
 
 /// The header of a request: its flags and the number of its command, the cookie that its reply carries, and the range of bytes
 /// that it speaks of. (The NBD protocol, "Request message".)
@@ -76,8 +77,13 @@ pub enum Next {
 }
 
 // Reads what follows a header that was read.
-fn read_rest<R: Read>(reader: &mut R, header: Header, body: &mut [u8]) -> Result<Next, ServeFault>
-    ensures { ReadsRest header (R.remaining reader.old) (R.remaining reader.new) body.new result }
+fn read_rest<R: Incoming>(
+    reader: &mut R,
+    header: Header,
+    body: &mut [u8],
+) -> Result<Next, ServeFault>
+    ensures reads { ReadsRest header (R.remaining reader.old) (R.remaining reader.new) body.new result }
+    ensures fails { OnErr result (EndsBy R.fails reader.new) }
 {
     if header.code == DISCONNECT {
         return Ok(Next::Ended(End::Disconnected));
@@ -95,11 +101,12 @@ fn read_rest<R: Read>(reader: &mut R, header: Header, body: &mut [u8]) -> Result
 /// # Errors
 ///
 /// `Read` where a read failed or was interrupted: what was read of a request is lost. (This project's.)
-pub fn read_request<R: Read>(reader: &mut R, body: &mut [u8]) -> Result<Next, ServeFault>
-    ensures { ReadsRequest (R.remaining reader.old) (R.remaining reader.new) body.new result }
+pub fn read_request<R: Incoming>(reader: &mut R, body: &mut [u8]) -> Result<Next, ServeFault>
+    ensures reads { ReadsRequest (R.remaining reader.old) (R.remaining reader.new) body.new result }
+    ensures fails { OnErr result (EndsBy R.fails reader.new) }
 {
     let mut bytes = [0; 28];
-    let filled = fill(reader, &mut bytes);
+    let filled = reader.receive(&mut bytes);
     if filled.failed {
         return Err(ServeFault::Read);
     }

@@ -1,6 +1,7 @@
 //! Requests are asked of a disk and answered, one after another.
-ghost use Rattle.std.specs.Prelude.{◌≡◌, ◌≤◌, ◌+◌, ℕ, List, false, length, take, true};
-ghost use Rattle.nbd_stream.specs.Disk.{IsInside, Performs, answer_from, count_given, count_taken};
+ghost use Rattle.std.specs.Prelude.{◌≡◌, ◌≤◌, ◌+◌, ℕ, List, None, Ok, IfErr, OnErr, OnOk, false, length, take, true};
+ghost use Rattle.nbd_stream.specs.Streams.{EndsBy, HasFailed, HasStopped};
+ghost use Rattle.nbd_stream.specs.Disk.{IsInside, Performs, answer_from, asked_as, count_given, count_taken};
 ghost use Rattle.nbd_stream.specs.Exchanges.{RestsAfter};
 ghost use Rattle.nbd_stream.specs.Frames.{IsRequest, request_at};
 ghost use Rattle.nbd_stream.specs.Tasks.{admitted, asks_change, is_change};
@@ -13,9 +14,9 @@ use crate::fault::{DiskFault, error_for};
 use crate::negotiation::{Negotiated, negotiate};
 use crate::reply::{RequestError, send_reply};
 use crate::request::{End, Header, Next, read_request};
+use crate::streams::{Incoming, Outgoing};
 use crate::task::{Task, admit};
 use request_stream::ServeFault;
-use std::io::{Read, Write};
 
 // Has the disk do a task. The buffer has at its front the bytes of a write, and takes there those of a read.
 fn perform<D: Disk>(disk: &mut D, task: Task, buffer: &mut [u8]) -> Result<(), DiskFault>
@@ -23,6 +24,7 @@ fn perform<D: Disk>(disk: &mut D, task: Task, buffer: &mut [u8]) -> Result<(), D
     requires room { count_taken task + count_given task ≤ length buffer.old }
     ensures performs { Performs D.contents D.honest D.calm task (take (count_taken task) buffer.old) disk.old
         (answer_from result (take (count_given task) buffer.new)) disk.new }
+    ensures does { D.does disk.old (asked_as task) result disk.new }
     ensures leaves { is_change task ≡ false → D.leaves disk.old disk.new }
 {
     match task {
@@ -58,7 +60,7 @@ fn given_bytes(task: Task, buffer: &[u8]) -> &[u8]
 }
 
 // Asks the disk what a request asks, and writes the reply. The bytes of a write stand at the front of the buffer.
-fn answer<W: Write, D: Disk>(
+fn answer<W: Outgoing, D: Disk>(
     writer: &mut W,
     disk: &mut D,
     export: &Export,
@@ -71,9 +73,11 @@ fn answer<W: Write, D: Disk>(
     requires room { export.now.maximum ≤ length buffer.old }
     ensures replies { (body : List ℕ) → IsRequest (request_at header.now body) →
         (length body ≤ length buffer.old → body ≡ take (length body) buffer.old) →
-        Replies D.contents D.honest D.calm export.now disk.old (request_at header.now body) disk.new
+        Replies D.contents D.honest D.calm D.does export.now disk.old (request_at header.now body) disk.new
         (W.contents writer.old) (W.contents writer.new) result }
     ensures leaves { asks_change asked ≡ false → Through D.leaves disk.old disk.new }
+    ensures fails { OnErr result (EndsBy W.fails writer.new) }
+    ensures hands { OnOk result (EndsBy W.hands writer.new) }
 {
     let task = match asked {
         Ok(task) => task,
@@ -96,7 +100,7 @@ fn rest_after<D: Disk>(disk: &mut D, asked: Result<Task, RequestError>)
 }
 
 // Answers the next request, or tells why there is none. Once its reply is handed on, the disk rests after a change.
-fn serve_next<R: Read, W: Write, D: Disk>(
+fn serve_next<R: Incoming, W: Outgoing, D: Disk>(
     reader: &mut R,
     writer: &mut W,
     disk: &mut D,
@@ -105,9 +109,11 @@ fn serve_next<R: Read, W: Write, D: Disk>(
 ) -> Result<Option<End>, ServeFault>
     requires size { length (D.contents disk.old).bytes ≡ export.now.size }
     requires room { export.now.maximum ≤ length buffer.old }
-    ensures serves { ServesNext D.contents D.honest D.calm D.rests export.now disk.old disk.new (R.remaining reader.old) (R.remaining reader.new)
+    ensures serves { ServesNext D.contents D.honest D.calm D.does D.rests export.now disk.old disk.new (R.remaining reader.old) (R.remaining reader.new)
         (W.contents writer.old) (W.contents writer.new) result }
     ensures leaves { export.now.read_only ≡ true → Through D.leaves disk.old disk.new }
+    ensures fails { IfErr result (HasFailed R.fails W.fails reader.new writer.new) }
+    ensures hands { result ≡ Ok None → EndsBy W.hands writer.new }
 {
     match read_request(reader, buffer)? {
         Next::Ended(end) => Ok(Some(end)),
@@ -147,7 +153,7 @@ fn serve_next<R: Read, W: Write, D: Disk>(
 ///   did not rest.
 ///
 /// (The NBD protocol, "Transmission".)
-pub fn transmit<R: Read, W: Write, D: Disk>(
+pub fn transmit<R: Incoming, W: Outgoing, D: Disk>(
     reader: &mut R,
     writer: &mut W,
     disk: &mut D,
@@ -156,9 +162,10 @@ pub fn transmit<R: Read, W: Write, D: Disk>(
 ) -> Result<End, ServeFault>
     requires size { length (D.contents disk.old).bytes ≡ export.now.size }
     requires room { export.now.maximum ≤ length buffer.old }
-    ensures transmits { Transmits D.contents D.honest D.calm D.rests export.now disk.old disk.new (R.remaining reader.old) (R.remaining reader.new)
+    ensures transmits { Transmits D.contents D.honest D.calm D.does D.rests export.now disk.old disk.new (R.remaining reader.old) (R.remaining reader.new)
         (W.contents writer.old) (W.contents writer.new) result }
     ensures leaves { export.now.read_only ≡ true → Through D.leaves disk.old disk.new }
+    ensures stops { IfErr result (HasStopped R.fails W.fails (R.remaining reader.old) (R.remaining reader.new) reader.new writer.new) }
 {
     for _ in 0..u64::MAX {
         match serve_next(reader, writer, disk, export, buffer)? {
@@ -174,7 +181,7 @@ pub fn transmit<R: Read, W: Write, D: Disk>(
 /// # Errors
 ///
 /// As `negotiate`, and the disk is as it was; or as `transmit`. (The NBD protocol.)
-pub fn serve<R: Read, W: Write, D: Disk>(
+pub fn serve<R: Incoming, W: Outgoing, D: Disk>(
     reader: &mut R,
     writer: &mut W,
     disk: &mut D,
@@ -183,9 +190,10 @@ pub fn serve<R: Read, W: Write, D: Disk>(
 ) -> Result<End, ServeFault>
     requires size { length (D.contents disk.old).bytes ≡ export.now.size }
     requires room { export.now.maximum ≤ length buffer.old }
-    ensures serves { Serves D.contents D.honest D.calm D.rests export.now (length buffer.new) disk.old disk.new (R.remaining reader.old) (R.remaining reader.new)
+    ensures serves { Serves D.contents D.honest D.calm D.does D.rests export.now (length buffer.new) disk.old disk.new (R.remaining reader.old) (R.remaining reader.new)
         (W.contents writer.old) (W.contents writer.new) result }
     ensures leaves { export.now.read_only ≡ true → Through D.leaves disk.old disk.new }
+    ensures stops { IfErr result (HasStopped R.fails W.fails (R.remaining reader.old) (R.remaining reader.new) reader.new writer.new) }
 {
     match negotiate(reader, writer, export, buffer)? {
         Negotiated::Ended(end) => Ok(end),

@@ -1,4 +1,5 @@
 //! Dumps, certificates and disk images of a small die: pages of 64 data bytes and 32 spare bytes, 8 pages a block, 32 blocks, 32 sectors.
+use super::arranged::{Stands, arranged};
 use page_code::{encode_page, outer_bytes};
 use page_layout::geometry::Geometry;
 use std::alloc::{AllocError, Global};
@@ -29,6 +30,8 @@ pub enum Made {
     Coded(&'static [Written], Changes),
     /// The same, with the page of this row of 00h bytes.
     Zeroed(&'static [Written], usize, Changes),
+    /// The dump of these pages in another arrangement.
+    Arranged(&'static [Written], Stands),
     /// The dump of these pages cut, or made longer by 00h bytes, to so many bytes.
     Cut(&'static [Written], usize),
     /// The disk image of 32 sectors of zeros, but for these, each filled with one byte.
@@ -146,6 +149,10 @@ pub fn bytes_of(alloc: Global, made: &Made) -> Result<Vec<u8>, Fail> {
         Made::Changed(pages, changes) => changed(alloc, &geometry, pages, changes)?,
         Made::Coded(pages, changes) => coded(alloc, &geometry, pages, changes)?,
         Made::Zeroed(pages, row, changes) => zeroed(alloc, &geometry, pages, *row, changes)?,
+        Made::Arranged(pages, stands) => {
+            let plain = image_of(alloc, &geometry, pages)?;
+            arranged(alloc, &plain, stands)?
+        }
         Made::Cut(pages, length) => cut(alloc, &geometry, pages, *length)?,
         Made::Disk(sectors) => disk(alloc, sectors)?,
         Made::Certificate(claimed) => certificate(alloc, claimed)?,

@@ -44,22 +44,22 @@ returns-in-Err-keep_mark_of-clause-fault g c =
 
 pub returns-in-Err-keep_mark_of-clause-opened : goal.returns-in-Err-keep_mark_of-clause-opened
 returns-in-Err-keep_mark_of-clause-opened g c =
-    marks_then c.args.words.now.disk.now (not c.args.words.now.read_only) (g.F.DiskFiles.opened c.args.files.now) (g.F.DiskFiles.opened c.keeper_at.new.files) (g.F.DiskFiles.opened c.keep_mark_of.new.files)
+    marks_then c.args.words.now c.access_of.result (g.F.DiskFiles.opened c.args.files.now) (g.F.DiskFiles.opened c.keeper_at.new.files) (g.F.DiskFiles.opened c.keep_mark_of.new.files) c.access_of.ensures
     (ap g.F.DiskFiles.opened c.in-Ok-keeper_at.ensures.same ∙ c.in-Ok.ensures.opened) c.in-Err-keep_mark_of.ensures.opened
 
 pub returns-in-Err-name_all-clause-opened : goal.returns-in-Err-name_all-clause-opened
 returns-in-Err-name_all-clause-opened g c =
-    marks_then c.args.words.now.disk.now (not c.args.words.now.read_only) (g.F.DiskFiles.opened c.args.files.now) (g.F.DiskFiles.opened c.keeper_at.new.files) (g.F.DiskFiles.opened c.keep_mark_of.new.files)
+    marks_then c.args.words.now c.access_of.result (g.F.DiskFiles.opened c.args.files.now) (g.F.DiskFiles.opened c.keeper_at.new.files) (g.F.DiskFiles.opened c.keep_mark_of.new.files) c.access_of.ensures
     (ap g.F.DiskFiles.opened c.in-Ok-keeper_at.ensures.same ∙ c.in-Ok.ensures.opened) c.in-Ok-keep_mark_of.ensures.opened
 
 pub returns-in-Ok-guarded-clause-opened : goal.returns-in-Ok-guarded-clause-opened
 returns-in-Ok-guarded-clause-opened g c =
-    marks_then c.args.words.now.disk.now (not c.args.words.now.read_only) (g.F.DiskFiles.opened c.args.files.now) (g.F.DiskFiles.opened c.keeper_at.new.files) (g.F.DiskFiles.opened c.keep_mark_of.new.files)
+    marks_then c.args.words.now c.access_of.result (g.F.DiskFiles.opened c.args.files.now) (g.F.DiskFiles.opened c.keeper_at.new.files) (g.F.DiskFiles.opened c.keep_mark_of.new.files) c.access_of.ensures
     (ap g.F.DiskFiles.opened c.in-Ok-keeper_at.ensures.same ∙ c.in-Ok.ensures.opened) c.in-Ok-keep_mark_of.ensures.opened
 
 pub returns-clause-opened : goal.returns-clause-opened
 returns-clause-opened g c =
-    marks_then c.args.words.now.disk.now (not c.args.words.now.read_only) (g.F.DiskFiles.opened c.args.files.now) (g.F.DiskFiles.opened c.keeper_at.new.files) (g.F.DiskFiles.opened c.keep_mark_of.new.files)
+    marks_then c.args.words.now c.access_of.result (g.F.DiskFiles.opened c.args.files.now) (g.F.DiskFiles.opened c.keeper_at.new.files) (g.F.DiskFiles.opened c.keep_mark_of.new.files) c.access_of.ensures
     (ap g.F.DiskFiles.opened c.in-Ok-keeper_at.ensures.same ∙ c.in-Ok.ensures.opened) c.in-Ok-keep_mark_of.ensures.opened
 
 pub returns-in-Ok-guarded-clause-ok : goal.returns-in-Ok-guarded-clause-ok

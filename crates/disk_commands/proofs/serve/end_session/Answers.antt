@@ -1,13 +1,16 @@
 use Rattle.std.proofs.Common.{refl}
-use Rattle.disk_commands.proofs.ServeLemmas.{flushed}
+use Rattle.disk_server.specs.Asked.{AsksSectors}
+use Rattle.disk_commands.proofs.ServeLemmas.{closed}
 use Rattle.disk_commands.proofs.serve.end_session.Goals as goal
 
 pub returns-in-Ok : goal.returns-in-Ok
 returns-in-Ok g c =
-    flushed g.S.Sectors.contents g.S.Sectors.honest g.S.Sectors.next g.S.Sectors.takes g.Y.Syncs.synced g.Y.Syncs.marked c.args.path c.args.disk.now c.flush.new.self c.args.served c.flush.result _ c.end_of.result
-    c.flush.ensures.performs c.flush.ensures.synced c.flush.ensures.marks c.in-Ok.is c.end_of.ensures
+    closed g.S.Sectors.contents g.S.Sectors.honest (AsksSectors g.S.Sectors.contents g.S.Sectors.honest g.S.Sectors.reads g.S.Sectors.flushes) g.S.Sectors.next g.S.Sectors.takes
+    g.Y.Syncs.synced g.Y.Syncs.failed g.Y.Syncs.marked c.args.marked c.args.path c.args.disk.now c.close.new.self c.args.served c.close.result _ c.end_of.result
+    c.close.ensures.performs c.close.ensures.closes c.in-Ok.is c.end_of.ensures
 
 pub returns-in-Err : goal.returns-in-Err
 returns-in-Err g c =
-    flushed g.S.Sectors.contents g.S.Sectors.honest g.S.Sectors.next g.S.Sectors.takes g.Y.Syncs.synced g.Y.Syncs.marked c.args.path c.args.disk.now c.flush.new.self c.args.served c.flush.result _ _
-    c.flush.ensures.performs c.flush.ensures.synced c.flush.ensures.marks c.in-Err.is refl
+    closed g.S.Sectors.contents g.S.Sectors.honest (AsksSectors g.S.Sectors.contents g.S.Sectors.honest g.S.Sectors.reads g.S.Sectors.flushes) g.S.Sectors.next g.S.Sectors.takes
+    g.Y.Syncs.synced g.Y.Syncs.failed g.Y.Syncs.marked c.args.marked c.args.path c.args.disk.now c.close.new.self c.args.served c.close.result _ _
+    c.close.ensures.performs c.close.ensures.closes c.in-Err.is refl

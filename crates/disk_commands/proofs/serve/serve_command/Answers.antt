@@ -1,6 +1,6 @@
 use Rattle.std.proofs.Common.{inr, refl}
 use Rattle.std.proofs.KnownBytes.{Keeps-refl}
-use Rattle.disk_commands.proofs.ReadyLemmas.{served_at}
+use Rattle.disk_commands.proofs.ServeLemmas.{served_at}
 use Rattle.disk_commands.proofs.serve.serve_command.Goals as goal
 
 pub returns-in-Err-clause-served : goal.returns-in-Err-clause-served

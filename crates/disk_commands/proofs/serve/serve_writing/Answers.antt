@@ -12,6 +12,6 @@ returns g c = record {
   none_failed = c.new-disk.ensures.failed;
   last = c.serve_synced-served.new.disk;
   answer = c.serve_synced-served.result;
-  serves = limited _ _ _ _ _ _ _ _ _ _ _ _ _ c.serve_synced-served.result (c.serve_synced-served.auto.buffer ∙ c.requires) c.serve_synced-served.ensures;
+  serves = limited _ _ _ _ _ _ _ _ _ _ _ _ _ _ c.serve_synced-served.result (c.serve_synced-served.auto.buffer ∙ c.requires) c.serve_synced-served.ensures;
   ends = c.end_session.ensures;
 }

@@ -1,8 +1,14 @@
-use Rattle.std.proofs.Common.{◌≡◌, ◌≤◌, ◌+◌, ◌∙◌, ℕ, Err, false, length, rules, arith}
+use Rattle.std.proofs.Common.{◌≡◌, ◌≤◌, ◌+◌, ◌∙◌, ℕ, Err, false, length, refl, rules, arith}
 use Rattle.nbd_stream.specs.Disk.{error_for}
+use Rattle.nbd_stream.proofs.ThroughLemmas.{joined, none, once}
+use Rattle.disk_server.proofs.ClearLemmas.{zeros_left}
 use Rattle.disk_server.proofs.Joining.{writes_trim}
-use Rattle.disk_server.proofs.Fronts.{zeros_stopped, zeros_written}
+use Rattle.disk_server.proofs.Fronts.{nothing_set, zeros_stopped, zeros_written}
 use Rattle.disk_server.proofs.ranges.clear_pieces.Goals as goal
+
+pub loop-done-init : goal.loop-done-init
+loop-done-init g c =
+    (omega arith, refl, refl, nothing_set g.S.Sectors.contents g.S.Sectors.honest g.S.Sectors.calm c.args.offset c.args.sectors.now, λ h zeros. none g.S.Sectors.reads c.args.sectors.now c.args.sectors.now refl)
 
 pub loop-done-preserved : goal.loop-done-preserved
 loop-done-preserved g c =
@@ -16,6 +22,10 @@ loop-done-preserved g c =
       c.in-Ok.ensures.size ∙ inv.2,
       zeros_written g.S.Sectors.contents g.S.Sectors.honest g.S.Sectors.calm c.args.count c.args.offset k m
           c.args.sectors.now c.loop-done.sectors c.clear_piece.new.sectors within c.requires.within inv.3 c.in-Ok.ensures.performs,
+      λ h zeros. (let before = c.in-Ok.ensures.performs.back h in
+          joined g.S.Sectors.reads c.args.sectors.now c.loop-done.sectors c.clear_piece.new.sectors (inv.4 before zeros)
+          (once g.S.Sectors.reads c.loop-done.sectors c.clear_piece.new.sectors (c.in-Ok.ensures.spares h
+          (zeros_left g.S.Sectors.contents g.S.Sectors.honest g.S.Sectors.calm c.args.offset c.args.count k m c.args.sectors.now c.loop-done.sectors within c.requires.within inv.3 before zeros)))),
     )
 
 pub returns-in-Err-clause-performs : goal.returns-in-Err-clause-performs
@@ -28,3 +38,14 @@ returns-in-Err-clause-performs g c =
     zeros_stopped g.S.Sectors.contents g.S.Sectors.honest g.S.Sectors.calm c.args.count c.args.offset k m
     c.args.sectors.now c.loop-done.sectors c.clear_piece.new.sectors within c.requires.within inv.3 (error_for c.in-Err.fault) c.in-Err.ensures.performs
     )
+
+pub returns-in-Err-clause-spares : goal.returns-in-Err-clause-spares
+returns-in-Err-clause-spares g c = λ h zeros.
+    let inv = c.loop-done.invariant in
+    let k : ℕ = c.loop-done.done in
+    let m : ℕ = c.piece_length-taken.result in
+    let within : k + m ≤ c.args.count = omega (arith, inv.0, c.piece_length-taken.ensures.few) in
+    let before = c.in-Err.ensures.performs.back h in
+    joined g.S.Sectors.reads c.args.sectors.now c.loop-done.sectors c.clear_piece.new.sectors (inv.4 before zeros)
+    (once g.S.Sectors.reads c.loop-done.sectors c.clear_piece.new.sectors (c.in-Err.ensures.spares h
+    (zeros_left g.S.Sectors.contents g.S.Sectors.honest g.S.Sectors.calm c.args.offset c.args.count k m c.args.sectors.now c.loop-done.sectors within c.requires.within inv.3 before zeros)))

@@ -1,16 +1,36 @@
 use Rattle.std.proofs.Common.{inl}
-use Rattle.disk_server.proofs.StoppedLemmas.{later, was_stale}
+use Rattle.disk_server.proofs.StoppedLemmas.{by_reads, by_writes, last_fault, later, opened_later, unwritten, was_stale}
 use Rattle.disk_server.proofs.stopped.open_stopped.Goals as goal
 
-pub returns-in_default-clause-fault : goal.returns-in_default-clause-fault
-returns-in_default-clause-fault g c = inl (c.in-Err.back.0, c.in-Err.ensures.fault)
+pub returns-in-Ok-clause-entries : goal.returns-in-Ok-clause-entries
+returns-in-Ok-clause-entries g c = inl c.in-Ok.ensures.entries
+
+pub returns-in-None-clause-fault : goal.returns-in-None-clause-fault
+returns-in-None-clause-fault g c = inl ((c.in-Err.back.0, c.in-Err.ensures.fault), c.in-None.ensures)
 
 pub returns-then-writes-clause-fault : goal.returns-then-writes-clause-fault
 returns-then-writes-clause-fault g c =
-    later g.S.Store.held g.S.Store.honest g.S.Store.failed c.args.store c.args.capacity c.open_stale.result
-    (was_stale g.S.Store.held g.S.Store.honest g.S.Store.failed c.args.store c.in-Err.back.0 c.args.capacity c.in-Some.stale c.in-Err.back.1 c.in-Some.ensures c.in-Err.ensures.fault)
+    later g.S.Store.held g.S.Store.honest g.S.Store.failed c.args.store c.in-Err.back.0 c.args.capacity c.in-Some.stale c.open_stale.result
+    (was_stale g.S.Store.held g.S.Store.honest g.S.Store.failed c.args.store c.in-Err.back.0 c.args.capacity c.in-Some.stale c.in-Err.back.1 c.in-Some.ensures c.in-Err.ensures.fault c.in-Err.ensures.given)
+    c.open_stale.ensures.fault
+
+pub returns-then-writes-clause-entries : goal.returns-then-writes-clause-entries
+returns-then-writes-clause-entries g c =
+    opened_later g.S.Store.held g.S.Store.honest (λ d. d.engine.mapping.capacity) c.args.writes c.args.store c.in-Err.back.0 c.args.capacity c.in-Some.stale c.open_stale.result
+    (was_stale g.S.Store.held g.S.Store.honest g.S.Store.failed c.args.store c.in-Err.back.0 c.args.capacity c.in-Some.stale c.in-Err.back.1 c.in-Some.ensures c.in-Err.ensures.fault c.in-Err.ensures.given)
+    (by_writes g.S.Store.held g.S.Store.honest (λ d. d.engine.mapping.capacity) c.args.writes c.args.capacity c.in-Some.stale c.open_stale.result c.if-writes.true c.open_stale.ensures.entries)
+
+pub returns-then-writes-clause-pages : goal.returns-then-writes-clause-pages
+returns-then-writes-clause-pages g c = unwritten _ _ c.args.writes c.open_stale.result c.if-writes.true
 
 pub returns-else-writes-clause-fault : goal.returns-else-writes-clause-fault
 returns-else-writes-clause-fault g c =
-    later g.S.Store.held g.S.Store.honest g.S.Store.failed c.args.store c.args.capacity c.open_either.result
-    (was_stale g.S.Store.held g.S.Store.honest g.S.Store.failed c.args.store c.in-Err.back.0 c.args.capacity c.in-Some.stale c.in-Err.back.1 c.in-Some.ensures c.in-Err.ensures.fault)
+    later g.S.Store.held g.S.Store.honest g.S.Store.failed c.args.store c.in-Err.back.0 c.args.capacity c.in-Some.stale c.open_once.result
+    (was_stale g.S.Store.held g.S.Store.honest g.S.Store.failed c.args.store c.in-Err.back.0 c.args.capacity c.in-Some.stale c.in-Err.back.1 c.in-Some.ensures c.in-Err.ensures.fault c.in-Err.ensures.given)
+    (last_fault g.S.Store.held g.S.Store.honest g.S.Store.failed c.in-Err.back.0 c.args.capacity c.in-Some.stale c.open_once.result c.open_once.ensures.fault)
+
+pub returns-else-writes-clause-entries : goal.returns-else-writes-clause-entries
+returns-else-writes-clause-entries g c =
+    opened_later g.S.Store.held g.S.Store.honest (λ d. d.engine.mapping.capacity) c.args.writes c.args.store c.in-Err.back.0 c.args.capacity c.in-Some.stale c.open_once.result
+    (was_stale g.S.Store.held g.S.Store.honest g.S.Store.failed c.args.store c.in-Err.back.0 c.args.capacity c.in-Some.stale c.in-Err.back.1 c.in-Some.ensures c.in-Err.ensures.fault c.in-Err.ensures.given)
+    (by_reads g.S.Store.held g.S.Store.honest (λ d. d.engine.mapping.capacity) c.args.writes c.args.capacity c.in-Some.stale c.open_once.result c.if-writes.false c.open_once.ensures.entries)

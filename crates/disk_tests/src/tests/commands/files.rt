@@ -3,7 +3,9 @@ ghost use Rattle.std.specs.Prelude.{◌≡◌, ◌<◌, [], IfOk};
 ghost use Rattle.page_layout.specs.Geometry.{row_count};
 ghost use Rattle.page_layout.specs.Raw.{raw_image};
 
-use disk_commands::{DiskFiles, FileFault, FoundMark, Shape, dump_bytes as raw_bytes, none_found};
+use disk_commands::{
+    Access, DiskFiles, FileFault, FoundMark, LockedDie, Shape, dump_bytes as raw_bytes, none_found,
+};
 use disk_server::{KeepsLost, Mark, Syncs};
 use file_die::{MemoryStore, Store};
 use nbd_stream::DiskFault;
@@ -51,7 +53,13 @@ pub struct MemoryFiles {
 
 /// A disk that is locked.
 #[derive(Drop)]
-pub struct MemoryLock;
+pub struct MemoryLock {
+    writes: bool,
+}
+
+impl LockedDie for MemoryLock {
+    ghost writes = { λ l. l.writes };
+}
 
 /// Syncs of what is in memory.
 #[derive(Drop)]
@@ -71,6 +79,10 @@ impl Syncs for MemorySyncs {
         self.done = self.done.saturating_add(1);
         self.mark = self.mark.after_sync(next, flushed);
         Ok(())
+    }
+
+    fn mark(&self) -> Mark {
+        self.mark
     }
 }
 
@@ -229,12 +241,14 @@ impl DiskFiles for MemoryFiles {
         Ok(self.find(path).is_some())
     }
 
-    fn lock(&mut self, path: &str, _writes: bool) -> Result<MemoryLock, FileFault> {
+    fn lock(&mut self, path: &str, access: Access) -> Result<MemoryLock, FileFault> {
         if matches!(self.trouble, Trouble::Busy) {
             return Err(FileFault::InUse);
         }
         match self.find(path) {
-            Some(_) => Ok(MemoryLock),
+            Some(_) => Ok(MemoryLock {
+                writes: access.writes,
+            }),
             None => Err(FileFault::Read),
         }
     }

@@ -41,7 +41,11 @@ pub const DONE: &[Step] = &[
 
 /// What the words ask for cannot be done.
 pub const REFUSED: &[Step] = &[
-    Run("nanddisk", 2, "usage: no such command\n"),
+    Run(
+        "nanddisk",
+        2,
+        "usage: no such command, see nanddisk --help\n",
+    ),
     Run("nanddisk info d", 3, "fault read d\n"),
     Run("nanddisk serve d", 3, "fault read d\n"),
     Run("nanddisk create --size 1X d", 2, "usage: bad size 1X\n"),

@@ -49,6 +49,8 @@ impl Disk for NotingDisk<'_> {
 
     ghost calm = { λ disk. false };
 
+    ghost does = { λ old task result new. Unit {0} };
+
     ghost rests = { λ old result new. new ≡ old };
 
     ghost leaves = { λ old new. Unit {0} };

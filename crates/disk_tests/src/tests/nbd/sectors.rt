@@ -13,7 +13,7 @@ const SECTOR: usize = 4;
 
 // A device that holds what it is given, and fails its call of this number, from 1; 0 for none. A sector that is to be written then is as it was.
 #[derive(Drop)]
-pub struct CachedSectors {
+struct CachedSectors {
     bytes: [u8; SIZE],
     kept: [u8; SIZE],
     failing: usize,
@@ -22,19 +22,6 @@ pub struct CachedSectors {
 }
 
 impl CachedSectors {
-    // Zeros, and no call fails.
-    pub fn zeros() -> CachedSectors
-        ensures { length result.bytes ≡ 16 }
-    {
-        CachedSectors {
-            bytes: [0; SIZE],
-            kept: [0; SIZE],
-            failing: 0,
-            fault: DiskFault::Failed,
-            asked: 0,
-        }
-    }
-
     // Counts a call, and tells whether it fails.
     fn fails(&mut self) -> bool
         ensures bytes { self.new.bytes ≡ self.old.bytes }
@@ -56,7 +43,9 @@ impl Sectors for CachedSectors {
 
     ghost rests = { λ old result new. new.bytes ≡ old.bytes };
 
-    ghost reads = { λ old new. (new.bytes ≡ old.bytes) × (new.kept ≡ old.kept) };
+    ghost reads = { λ old new. Unit {0} };
+
+    ghost flushes = { λ old result new. new.bytes ≡ old.bytes };
 
     ghost size = { λ device. 4 };
 
@@ -92,6 +81,11 @@ impl Sectors for CachedSectors {
         let start = sector as usize * SECTOR;
         self.bytes[start..start + SECTOR].fill(0);
         Ok(())
+    }
+
+    // Zeros are set to zeros too.
+    fn clear_sector(&mut self, sector: u64, _buffer: &mut [u8]) -> Result<(), DiskFault> {
+        self.trim_sector(sector)
     }
 
     fn flush(&mut self) -> Result<(), DiskFault> {

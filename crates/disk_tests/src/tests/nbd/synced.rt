@@ -1,13 +1,116 @@
-// When a disk is synced beside its flushes: pieces of four bytes, of which two may be changed between two syncs. The calls of its device stand for sequences.
-use crate::tests::nbd::sectors::CachedSectors;
+// When a disk is synced: pieces of four bytes, of which two may be changed between two syncs. The calls of its device stand for sequences.
+ghost use Rattle.std.specs.Prelude.{◌≡◌, length};
+
 use crate::tests::steps::{Step, does_all};
-use disk_server::{Mark, SectorDisk, SyncPace, SyncedDisk, Syncs};
+use disk_server::{Lasting, Mark, SectorDisk, Sectors, SyncPace, SyncedDisk, Syncs};
 use nbd_stream::DiskFault;
 use std::alloc::Global;
 use std::cell::Cell;
 use std::test::Fail;
 
 const SIZE: u64 = 16;
+
+const SECTOR: usize = 4;
+
+// Four sectors of four bytes, of which none is kept back. What they are asked is counted.
+#[derive(Drop)]
+struct PlainSectors {
+    bytes: [u8; 16],
+    asked: u64,
+}
+
+impl PlainSectors {
+    // Zeros.
+    fn zeros() -> PlainSectors
+        ensures { length result.bytes ≡ 16 }
+    {
+        PlainSectors {
+            bytes: [0; 16],
+            asked: 0,
+        }
+    }
+}
+
+impl Sectors for PlainSectors {
+    ghost use Rattle.std.specs.Prelude.{◌≡◌, true, false};
+
+    ghost contents = { λ device. record { bytes = device.bytes; durable = device.bytes } };
+
+    ghost honest = { λ device. true };
+
+    ghost calm = { λ device. false };
+
+    ghost rests = { λ old result new. new.bytes ≡ old.bytes };
+
+    ghost reads = { λ old new. Unit {0} };
+
+    ghost flushes = { λ old result new. new.bytes ≡ old.bytes };
+
+    ghost size = { λ device. 4 };
+
+    ghost count = { λ device. 4 };
+
+    ghost next = { λ device. device.asked };
+
+    ghost takes = { λ device. true };
+
+    fn read_sector(&mut self, sector: u64, buffer: &mut [u8]) -> Result<(), DiskFault> {
+        self.asked = self.asked.saturating_add(1);
+        let start = sector as usize * SECTOR;
+        buffer.copy_from_slice(&self.bytes[start..start + SECTOR]);
+        Ok(())
+    }
+
+    fn write_sector(&mut self, sector: u64, bytes: &[u8]) -> Result<(), DiskFault> {
+        self.asked = self.asked.saturating_add(1);
+        let start = sector as usize * SECTOR;
+        self.bytes[start..start + SECTOR].copy_from_slice(bytes);
+        Ok(())
+    }
+
+    fn trim_sector(&mut self, sector: u64) -> Result<(), DiskFault> {
+        self.asked = self.asked.saturating_add(1);
+        let start = sector as usize * SECTOR;
+        self.bytes[start..start + SECTOR].fill(0);
+        Ok(())
+    }
+
+    fn clear_sector(&mut self, sector: u64, _buffer: &mut [u8]) -> Result<(), DiskFault> {
+        self.trim_sector(sector)
+    }
+
+    fn flush(&mut self) -> Result<(), DiskFault> {
+        self.asked = self.asked.saturating_add(1);
+        Ok(())
+    }
+
+    fn rest(&mut self) -> Result<(), DiskFault> {
+        self.asked = self.asked.saturating_add(1);
+        Ok(())
+    }
+
+    fn sector_bytes(&self) -> usize {
+        SECTOR
+    }
+
+    fn sector_count(&self) -> u64 {
+        4
+    }
+
+    fn next_sequence(&self) -> u64 {
+        self.asked
+    }
+
+    fn takes_changes(&self) -> bool {
+        true
+    }
+}
+
+impl Lasting for PlainSectors {
+    ghost use Rattle.std.specs.Prelude.{refl};
+
+    ghost lasts = { λ device. refl };
+}
 
 const PACE: SyncPace = SyncPace { piece: 4, most: 2 };
 
@@ -40,6 +143,10 @@ impl Syncs for CountingSyncs<'_> {
         self.mark = self.mark.after_sync(next, flushed);
         self.told.set(self.mark);
         Ok(())
+    }
+
+    fn mark(&self) -> Mark {
+        self.mark
     }
 }
 
@@ -99,7 +206,7 @@ const ROWS: &[Row] = &[
             Step::Write(15, b"z", false, Ok(())),
         ],
         syncs: 3,
-        mark: (11, 11),
+        mark: (8, 0),
     },
     Row {
         name: "a sync that fails, after which nothing is done",
@@ -126,7 +233,7 @@ const ROWS: &[Row] = &[
             Step::Flush(Err(DiskFault::Failed)),
         ],
         syncs: 2,
-        mark: (2, 2),
+        mark: (1, 0),
     },
 ];
 
@@ -146,7 +253,7 @@ fn holds(alloc: Global, row: &Row) -> Result<bool, Fail> {
         failed: 0,
         failing: row.failing,
     };
-    let Ok(disk) = SectorDisk::new(alloc, CachedSectors::zeros()) else {
+    let Ok(disk) = SectorDisk::new(alloc, PlainSectors::zeros()) else {
         return Err("no memory")?;
     };
     let mut disk = SyncedDisk::new(disk, syncs, PACE);
@@ -162,5 +269,47 @@ fn syncs_between_flushes(rt: HostRuntime) -> Result<(), Fail> {
         let name = row.name;
         assert!(rt; holds, "{name}");
     }
+    Ok(())
+}
+
+// What a disk that was written with four bytes is marked with once it is closed so often, by whether its mark counts.
+fn closed(alloc: Global, times: u64, counts: bool) -> Result<(u64, u64, u64), Fail> {
+    let asked = Cell::new(0);
+    let mark = Mark {
+        synced: 0,
+        flushed: 0,
+    };
+    let told = Cell::new(mark);
+    let syncs = CountingSyncs {
+        asked: &asked,
+        told: &told,
+        mark,
+        done: 0,
+        failed: 0,
+        failing: 0,
+    };
+    let Ok(disk) = SectorDisk::new(alloc, PlainSectors::zeros()) else {
+        return Err("no memory")?;
+    };
+    let mut disk = SyncedDisk::new(disk, syncs, PACE);
+    if !does_all(&mut disk, SIZE, &[Step::Write(0, b"abcd", true, Ok(()))]) {
+        return Err("not written")?;
+    }
+    for _ in 0..times {
+        if disk.close(counts).is_err() {
+            return Err("not closed")?;
+        }
+    }
+    let last = told.get();
+    Ok((asked.get(), last.synced, last.flushed))
+}
+
+// A write is marked as synced; a disk that is closed is flushed, and marked so, once where its mark counts, and else each time.
+#[test]
+fn closes_once(rt: HostRuntime) -> Result<(), Fail> {
+    assert!(rt; closed(rt.alloc(), 0, true)? == (1, 1, 0));
+    assert!(rt; closed(rt.alloc(), 1, true)? == (2, 2, 2));
+    assert!(rt; closed(rt.alloc(), 2, true)? == (2, 2, 2));
+    assert!(rt; closed(rt.alloc(), 2, false)? == (3, 3, 3));
     Ok(())
 }

@@ -7,7 +7,7 @@ use std::process::Abort;
 use std::test::*;
 
 // Words, and what they ask for, word by word; of a text how it begins. The disk is `d`.
-const ROWS: [(&[&str], &[&str]); 36] = [
+const ROWS: [(&[&str], &[&str]); 39] = [
     (
         &["create", "--size", "64M", "d"],
         &["size", "64M", "-", "-"],
@@ -69,6 +69,12 @@ const ROWS: [(&[&str], &[&str]); 36] = [
         &["serve", "d", "--sync=always", "--read-only"],
         &["serve", "read-only", "always"],
     ),
+    (
+        &["serve", "--wait", "9", "d"],
+        &["serve", "-", "erases", "9"],
+    ),
+    (&["serve", "--wait", "soon", "d"], &["nothing"]),
+    (&["serve", "--wait=-1", "d"], &["nothing"]),
     (&["serve", "--sync", "never", "d"], &["nothing"]),
     (&["serve", "--sync", "", "d"], &["nothing"]),
     (&["serve", "--read-only", "--read-only", "d"], &["nothing"]),
@@ -110,7 +116,13 @@ fn is_serve(words: ServeWords<'_>, told: &[&str]) -> bool {
     } else {
         "erases"
     };
-    words.disk == "d" && told == ["serve", opened, synced].as_slice()
+    let all = ["serve", opened, synced, "9"];
+    let kept = match words.wait {
+        0 => 3,
+        9 => 4,
+        _ => 0,
+    };
+    words.disk == "d" && told == &all[..kept]
 }
 
 fn is_info(words: InfoWords<'_>, name: &str, told: &[&str]) -> bool {

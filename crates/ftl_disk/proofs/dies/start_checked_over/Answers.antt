@@ -1,19 +1,8 @@
-use Rattle.std.proofs.Common.{inl, inr, refl}
-use Rattle.ftl_disk.proofs.DieLemmas.{there}
+use Rattle.ftl_disk.proofs.DieLemmas.{starts_by}
 use Rattle.ftl_disk.proofs.dies.start_checked_over.Goals as goal
 
-pub returns-in-Ok-start_checked : goal.returns-in-Ok-start_checked
-returns-in-Ok-start_checked g c =
-    let its = c.in-Ok-start_checked.ensures in
-    there _ _ c.args.made c.in-Ok.die c.in-Ok.is (inl (
-      refl,
-      record {
-        device = c.in-Ok-start_checked.device;
-        stands = c.put.ensures;
-        brings = record { begun = its.begun; sized = its.geometry; cache_is = its.capacity; array = its.array; pages = its.pages };
-      },
-    ))
-
-pub returns-in-Err-start_checked : goal.returns-in-Err-start_checked
-returns-in-Err-start_checked g c =
-    there _ _ c.args.made c.in-Ok.die c.in-Ok.is (inr (refl, record { fault = c.in-Err-start_checked.fault; number_is = c.of_power.ensures; unaccepted = c.in-Err-start_checked.ensures.fault }))
+pub returns : goal.returns
+returns g c =
+    let its = c.start_checked-brought.ensures in
+    starts_by g.N.PageSource.flash g.N.PageSource.honest g.N.PageSource.failed c.args.plan.now.geometry c.args.plan.now.cache c.args.die c.args.slot.now c.put.result c.put.new.slot c.args.certificate.now c.start_checked-brought.result
+    its.begun its.geometry its.capacity its.array its.pages its.fault c.put.ensures

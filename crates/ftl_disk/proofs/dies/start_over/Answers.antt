@@ -1,10 +1,6 @@
-use Rattle.std.proofs.Common.{inl, inr, refl}
-use Rattle.ftl_disk.proofs.DieLemmas.{there}
+use Rattle.ftl_disk.proofs.DieLemmas.{starts}
 use Rattle.ftl_disk.proofs.dies.start_over.Goals as goal
 
-pub returns-in-Ok-start : goal.returns-in-Ok-start
-returns-in-Ok-start g c = there _ _ c.args.made c.in-Ok.die c.in-Ok.is (inl (refl, record { device = c.in-Ok-start.device; stands = c.put.ensures; brings = c.in-Ok-start.ensures.brings }))
-
-pub returns-in-Err-start : goal.returns-in-Err-start
-returns-in-Err-start g c =
-    there _ _ c.args.made c.in-Ok.die c.in-Ok.is (inr (refl, record { fault = c.in-Err-start.fault; number_is = c.of_power.ensures; unsettled = c.in-Err-start.ensures.fault }))
+pub returns : goal.returns
+returns g c =
+    starts g.N.PageSource.flash g.N.PageSource.honest g.N.PageSource.failed c.args.plan.now.geometry c.args.plan.now.cache c.args.die c.args.slot.now c.put.result c.put.new.slot c.start-brought.result c.start-brought.ensures.brings c.start-brought.ensures.fault c.put.ensures

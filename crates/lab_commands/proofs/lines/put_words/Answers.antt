@@ -39,6 +39,12 @@ returns-in-Lost g c =
     subst (λ l. Prints (g.W.Output.failed c.put_one-in-Lost.new.out) (g.W.Output.contents c.args.out.now) (g.W.Output.contents c.put_one-in-Lost.new.out) (line_words l) c.put_one-in-Lost.result) (sym c.in-Lost.is)
     (subst (λ (n : ℕ). Prints (g.W.Output.failed c.put_one-in-Lost.new.out) (g.W.Output.contents c.args.out.now) (g.W.Output.contents c.put_one-in-Lost.new.out) (codes "lost sector " ++ decimal n) c.put_one-in-Lost.result) c.from-in-Lost.ensures c.put_one-in-Lost.ensures)
 
+pub returns-in-Arranged : goal.returns-in-Arranged
+unfolding line_words
+returns-in-Arranged g c =
+    subst (λ l. Prints (g.W.Output.failed c.put_one-in-Arranged.new.out) (g.W.Output.contents c.args.out.now) (g.W.Output.contents c.put_one-in-Arranged.new.out) (line_words l) c.put_one-in-Arranged.result) (sym c.in-Arranged.is)
+    (subst (λ (n : ℕ). Prints (g.W.Output.failed c.put_one-in-Arranged.new.out) (g.W.Output.contents c.args.out.now) (g.W.Output.contents c.put_one-in-Arranged.new.out) (codes "arranged " ++ decimal n) c.put_one-in-Arranged.result) c.from-in-Arranged.ensures c.put_one-in-Arranged.ensures)
+
 pub returns-in-Differ : goal.returns-in-Differ
 unfolding line_words
 returns-in-Differ g c =

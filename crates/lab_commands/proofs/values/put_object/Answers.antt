@@ -68,6 +68,10 @@ pub returns-in-Corrected : goal.returns-in-Corrected
 unfolding line_data
 returns-in-Corrected g c = subst (λ l. Prints (g.W.Output.failed c.put_corrected.new.out) (g.W.Output.contents c.args.out.now) (g.W.Output.contents c.put_corrected.new.out) (compact_text (line_data l)) c.put_corrected.result) (sym c.in-Corrected.is) c.put_corrected.ensures
 
+pub returns-in-Arranged : goal.returns-in-Arranged
+unfolding line_data
+returns-in-Arranged g c = subst (λ l. Prints (g.W.Output.failed c.put_arranged.new.out) (g.W.Output.contents c.args.out.now) (g.W.Output.contents c.put_arranged.new.out) (compact_text (line_data l)) c.put_arranged.result) (sym c.in-Arranged.is) c.put_arranged.ensures
+
 pub returns-in-Differ : goal.returns-in-Differ
 unfolding line_data
 returns-in-Differ g c = subst (λ l. Prints (g.W.Output.failed c.put_differ.new.out) (g.W.Output.contents c.args.out.now) (g.W.Output.contents c.put_differ.new.out) (compact_text (line_data l)) c.put_differ.result) (sym c.in-Differ.is) c.put_differ.ensures
@@ -107,3 +111,15 @@ returns-in-Holes g c = subst (λ l. Prints (g.W.Output.failed c.put_holes.new.ou
 pub returns-in-Outside : goal.returns-in-Outside
 unfolding line_data
 returns-in-Outside g c = subst (λ l. Prints (g.W.Output.failed c.put_outside.new.out) (g.W.Output.contents c.args.out.now) (g.W.Output.contents c.put_outside.new.out) (compact_text (line_data l)) c.put_outside.result) (sym c.in-Outside.is) c.put_outside.ensures
+
+pub returns-in-AgeUntil : goal.returns-in-AgeUntil
+unfolding line_data
+returns-in-AgeUntil g c = subst (λ l. Prints (g.W.Output.failed c.put_until.new.out) (g.W.Output.contents c.args.out.now) (g.W.Output.contents c.put_until.new.out) (compact_text (line_data l)) c.put_until.result) (sym c.in-AgeUntil.is) c.put_until.ensures
+
+pub returns-in-Page : goal.returns-in-Page
+unfolding line_data
+returns-in-Page g c = subst (λ l. Prints (g.W.Output.failed c.put_page.new.out) (g.W.Output.contents c.args.out.now) (g.W.Output.contents c.put_page.new.out) (compact_text (line_data l)) c.put_page.result) (sym c.in-Page.is) c.put_page.ensures
+
+pub returns-in-History : goal.returns-in-History
+unfolding line_data
+returns-in-History g c = subst (λ l. Prints (g.W.Output.failed c.put_history.new.out) (g.W.Output.contents c.args.out.now) (g.W.Output.contents c.put_history.new.out) (compact_text (line_data l)) c.put_history.result) (sym c.in-History.is) c.put_history.ensures

@@ -1,8 +1,9 @@
-use Rattle.std.proofs.Common.{List, sym, subst}
+use Rattle.std.proofs.Common.{◌≡◌, ℕ, List, Option, IfSome, sym, subst}
 use Rattle.page_layout.specs.Geometry.{row_count}
 use Rattle.lab_dump.specs.Scan.{IsTaken}
 use Rattle.lab_dump.specs.declared.held.Held.{Held}
 use Rattle.lab_dump.specs.Doubting.{IsDoubting}
+use Rattle.lab_dump.specs.Until.{until}
 use Rattle.lab_dump.specs.Writing.{Shows}
 use Rattle.lab_dump.specs.Written.{IsWritten}
 use Rattle.lab_dump.proofs.WritingLemmas.{nothing_yet, if_more}
@@ -13,13 +14,18 @@ pub scan-requires-clause-shows : goal.scan-requires-clause-shows
 scan-requires-clause-shows g c = λ image.
     let geo = c.args.geometry.now in
     let pieces = g.T.Pieces.pieces c.args.target in
-    (subst (λ (hs : List Held). Shows geo 0 image hs pieces) (sym c.requires.room.held) (nothing_yet geo image pieces c.requires.pieces), c.requires.room.shows image)
+    let shown = until geo c.args.until image in
+    (subst (λ (hs : List Held). Shows geo 0 shown hs pieces) (sym c.requires.room.held) (nothing_yet geo shown pieces c.requires.pieces), c.requires.room.shows image)
 
 pub returns-in-Ok-clause-ok : goal.returns-in-Ok-clause-ok
 returns-in-Ok-clause-ok g c =
     let geo = c.args.geometry.now in
     let taker = c.scan.new.taker in
     let pieces = g.T.Pieces.pieces taker.target in
-    if_more (g.R.DumpReader.remaining c.args.reader.now) (IsTaken geo (λ image. Shows geo (row_count geo) image taker.held.items pieces × IsDoubting geo (row_count geo) image taker.doubting))
-    (IsWritten geo pieces taker.held.items c.conclude.result) c.in-Ok.ensures.taken
-    (λ bytes taken. written geo taker.held.items taker.zeros.items taker.doubting c.conclude.result pieces bytes c.in-Ok.ensures.stands.0 c.conclude.ensures.is taken)
+    let last = c.args.until in
+    let remaining = g.R.DumpReader.remaining c.args.reader.now in
+    let same : taker.until ≡ last = c.in-Ok.ensures.fixed in
+    let taken = subst (λ (u : Option ℕ). IfSome remaining (IsTaken geo (λ image. Shows geo (row_count geo) (until geo u image) taker.held.items pieces × IsDoubting geo (row_count geo) image taker.doubting))) same c.in-Ok.ensures.taken in
+    if_more remaining (IsTaken geo (λ image. Shows geo (row_count geo) (until geo last image) taker.held.items pieces × IsDoubting geo (row_count geo) image taker.doubting))
+    (IsWritten geo last pieces taker.held.items c.conclude.result) taken
+    (λ bytes taken. written geo last taker.held.items taker.zeros.items taker.doubting c.conclude.result pieces bytes c.in-Ok.ensures.stands.0 c.conclude.ensures.is taken)

@@ -12,6 +12,7 @@ loop-row-init g c =
     let shows : Image → Type 0 = λ image. g.T.Taker.shows c.args.taker.now geo 0 (within geo c.args.rows image) in
     record {
       asked = refl;
+      fixed = refl;
       stands = c.requires.stands;
       body_whole = c.requires.body_whole;
       spare_whole = c.requires.spare_whole;
@@ -28,6 +29,7 @@ loop-row-preserved g c =
     let after : Image → Type 0 = λ image. g.T.Taker.shows c.take.new.self geo (row + 1) (within geo rows image) in
     record {
       asked = c.in_ok-take.ensures.asked ∙ inv.asked;
+      fixed = c.in_ok-take.ensures.fixed ∙ inv.fixed;
       stands = c.in_ok-take.ensures.stands;
       body_whole = omega arith;
       spare_whole = omega arith;

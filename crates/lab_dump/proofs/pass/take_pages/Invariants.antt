@@ -7,6 +7,7 @@ abbrev pub invariant-loop-row : goal.invariant-loop-row
 invariant-loop-row g l =
     record {
       asked : g.T.Taker.asked l.taker ≡ g.T.Taker.asked l.fn.taker;
+      fixed : g.T.Taker.fixed l.taker ≡ g.T.Taker.fixed l.fn.taker;
       stands : g.T.Taker.stands l.taker l.geometry l.row;
       body_whole : length l.body ≡ l.geometry.data_bytes;
       spare_whole : length l.spare ≡ l.geometry.spare_bytes;

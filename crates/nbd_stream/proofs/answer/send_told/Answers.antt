@@ -18,8 +18,8 @@ told_bytes x no_zeroes code a b c d e pa pb pc pd pe =
     ∙ ap (λ (l : List ℕ). (option_reply_header code 3 12 ++ export_info x) ++ ((option_reply_header code 3 14 ++ l) ++ (e ++ []))) pd
     ∙ ap (λ (l : List ℕ). (option_reply_header code 3 12 ++ export_info x) ++ ((option_reply_header code 3 14 ++ block_info x) ++ (l ++ []))) pe
 
-pub returns : goal.returns
-returns g c = λ no_zeroes.
+pub returns-clause-sends : goal.returns-clause-sends
+returns-clause-sends g c = λ no_zeroes.
     subst (λ (l : List ℕ). Sends (g.W.Write.contents c.args.writer.now) (g.W.Write.contents c.send_parts.new.writer) l c.send_parts.result)
     (told_bytes c.args.export.now no_zeroes c.args.code c.reply_header.result c.export_info.result c.reply_header-2.result c.block_info.result c.reply_header-3.result
-    c.reply_header.ensures c.export_info.ensures c.reply_header-2.ensures c.block_info.ensures c.reply_header-3.ensures) c.send_parts.ensures
+    c.reply_header.ensures c.export_info.ensures c.reply_header-2.ensures c.block_info.ensures c.reply_header-3.ensures) c.send_parts.ensures.sends

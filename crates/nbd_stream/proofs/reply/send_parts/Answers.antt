@@ -4,6 +4,7 @@ use Rattle.std.specs.Io.KnownBytes.{Appends}
 use Rattle.std.proofs.lemmas.List.{take_all}
 use Rattle.std.proofs.lemmas.Result.{err_from_is_err_and}
 use Rattle.request_stream.proofs.Writing.{front_more, front_stop, part_front, sends_then}
+use Rattle.nbd_stream.proofs.StreamEnds.{on_err, on_ok}
 use Rattle.nbd_stream.proofs.reply.send_parts.Goals as goal
 
 -- the parts before one, it, and those after it
@@ -16,10 +17,10 @@ parts_split f (p ∷ ps) (suc i) d h =
     let after : List ℕ = flat_map f (drop (suc i) ps) in
     ap (λ (l : List ℕ). l ++ after) (append_assoc (f p) before one) ∙ append_assoc (f p) (before ++ one) after ∙ ap (λ (l : List ℕ). f p ++ l) (parts_split f ps i d (omega arith))
 
-pub returns-in_err-send : goal.returns-in_err-send
-returns-in_err-send g c =
+pub returns-in_err-put-clause-sends : goal.returns-in_err-put-clause-sends
+returns-in_err-put-clause-sends g c =
     let p = err_from_is_err_and c.from_residual.result c.from_residual.ensures.1 in
-    let stopped = c.in_err-send.ensures in
+    let stopped = c.in_err-put.ensures.sends in
     let i = c.loop-part.part-index in
     let parts = c.args.parts.now in
     let inside : i < length parts = omega arith in
@@ -29,10 +30,26 @@ returns-in_err-send g c =
           (front_more _ _ _ (flat_map (λ part. part.now) (take i parts)) _ _ refl c.loop-part.invariant (part_front _ _ _ stopped.1)),
     )
 
-pub returns : goal.returns
-returns g c =
+pub returns-clause-sends : goal.returns-clause-sends
+returns-clause-sends g c =
     let i = c.loop-part.part-index in
     let parts = c.args.parts.now in
     let past : length parts ≤ i = omega arith in
     let all : List ℕ = flat_map (λ part. part.now) parts in
-    sends_then _ _ _ all [] _ c.hand_on.result (append-nil all) (subst (λ ps. Appends (g.W.Write.contents c.args.writer.now) (g.W.Write.contents c.loop-part.writer) (flat_map (λ part. part.now) ps)) (take_all i parts past) c.loop-part.invariant) c.hand_on.ensures
+    sends_then _ _ _ all [] _ c.hand_on.result (append-nil all) (subst (λ ps. Appends (g.W.Write.contents c.args.writer.now) (g.W.Write.contents c.loop-part.writer) (flat_map (λ part. part.now) ps)) (take_all i parts past) c.loop-part.invariant) c.hand_on.ensures.sends
+
+pub returns-in_err-put-clause-fails : goal.returns-in_err-put-clause-fails
+returns-in_err-put-clause-fails g c =
+    let p = err_from_is_err_and c.from_residual.result c.from_residual.ensures.1 in
+    rw p.1 (c.loop-part.writer, c.in_err-put.ensures.fails)
+
+pub returns-in_err-put-clause-hands : goal.returns-in_err-put-clause-hands
+returns-in_err-put-clause-hands g c =
+    let p = err_from_is_err_and c.from_residual.result c.from_residual.ensures.1 in
+    rw p.1 tt
+
+pub returns-clause-fails : goal.returns-clause-fails
+returns-clause-fails g c = on_err c.hand_on.result (λ failed. (c.loop-part.writer, failed)) c.hand_on.ensures.fails
+
+pub returns-clause-hands : goal.returns-clause-hands
+returns-clause-hands g c = on_ok c.hand_on.result (λ done. (c.loop-part.writer, done)) c.hand_on.ensures.hands

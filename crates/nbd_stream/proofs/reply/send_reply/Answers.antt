@@ -12,14 +12,14 @@ refused_bytes : (cookie : ℕ) (done : Result (Unit {0}) RequestError) (e : Requ
 refused_bytes cookie (Ok y) e header bytes is head = (let no : ⊥ = cc in absurd no)
 refused_bytes cookie (Err f) e header bytes is head = append-nil header ∙ head
 
-pub returns-in-Ok : goal.returns-in-Ok
-returns-in-Ok g c =
+pub returns-in-Ok-clause-sends : goal.returns-in-Ok-clause-sends
+returns-in-Ok-clause-sends g c =
     let head = c.reply_header-header.ensures ∙ ap (λ (n : ℕ). reply_header_bytes n c.args.cookie) c.error_number.ensures in
     subst (λ (l : List ℕ). Sends (g.W.Write.contents c.args.writer.now) (g.W.Write.contents c.send_parts.new.writer) l c.send_parts.result)
-    (done_bytes c.args.cookie c.args.done _ c.reply_header-header.result c.args.bytes.now c.in-Ok.is head) c.send_parts.ensures
+    (done_bytes c.args.cookie c.args.done _ c.reply_header-header.result c.args.bytes.now c.in-Ok.is head) c.send_parts.ensures.sends
 
-pub returns-in-Err : goal.returns-in-Err
-returns-in-Err g c =
+pub returns-in-Err-clause-sends : goal.returns-in-Err-clause-sends
+returns-in-Err-clause-sends g c =
     let head = c.reply_header-header.ensures ∙ ap (λ (n : ℕ). reply_header_bytes n c.args.cookie) c.error_number.ensures in
     subst (λ (l : List ℕ). Sends (g.W.Write.contents c.args.writer.now) (g.W.Write.contents c.send_parts-in-Err.new.writer) l c.send_parts-in-Err.result)
-    (refused_bytes c.args.cookie c.args.done _ c.reply_header-header.result c.args.bytes.now c.in-Err.is head) c.send_parts-in-Err.ensures
+    (refused_bytes c.args.cookie c.args.done _ c.reply_header-header.result c.args.bytes.now c.in-Err.is head) c.send_parts-in-Err.ensures.sends

@@ -4,10 +4,10 @@ use Rattle.std.specs.Io.KnownBytes.{Consumes}
 use Rattle.nbd_stream.proofs.Reading.{after_header}
 use Rattle.nbd_stream.proofs.request.read_request.Goals as goal
 
-pub returns-in-Some : goal.returns-in-Some
-returns-in-Some g c =
-    let bytes = c.fill-filled.new.buffer in
+pub returns-in-Some-clause-reads : goal.returns-in-Some-clause-reads
+returns-in-Some-clause-reads g c =
+    let bytes = c.receive-filled.new.buffer in
     let whole : length bytes ≡ 28 = search rules in
-    let full : length bytes ≤ c.fill-filled.result.count = omega arith in
+    let full : length bytes ≤ c.receive-filled.result.count = omega arith in
     after_header c.in-Some.header _ _ _ _ bytes c.read_rest.result whole c.in-Some.ensures.spelled
-    (subst (Consumes _ _) (take_all c.fill-filled.result.count bytes full) c.fill-filled.ensures.read) c.read_rest.ensures
+    (subst (Consumes _ _) (take_all c.receive-filled.result.count bytes full) c.receive-filled.ensures.read) c.read_rest.ensures.reads

@@ -1,21 +1,22 @@
-use Rattle.std.proofs.Common.{refl}
+use Rattle.std.proofs.Common.{refl, subst, sym}
 use Rattle.std.proofs.lemmas.Result.{err_from_is_err_and}
+use Rattle.nbd_stream.specs.Streams.{HasFailed}
 use Rattle.nbd_stream.proofs.ThroughLemmas.{joined, no_change, none}
 use Rattle.nbd_stream.proofs.Serving.{next_served, next_unsent}
 use Rattle.nbd_stream.proofs.transmission.serve_next.Goals as goal
 
 pub returns-in_ok-answer-in-Whole-clause-serves : goal.returns-in_ok-answer-in-Whole-clause-serves
 returns-in_ok-answer-in-Whole-clause-serves g c =
-    let whole = rw c.in-Whole.is at c.in_ok-end.ensures in
+    let whole = rw c.in-Whole.is at c.in_ok-end.ensures.reads in
     let rest = rw c.admit-asked.ensures at c.rest_after.ensures.rests in
-    next_served g.D.Disk.contents g.D.Disk.honest g.D.Disk.calm g.D.Disk.rests c.args.export.now c.args.disk.now c.rest_after.new.disk _ _ _ _ c.in-Whole.header whole.0 whole.1 whole.2
+    next_served g.D.Disk.contents g.D.Disk.honest g.D.Disk.calm g.D.Disk.does g.D.Disk.rests c.args.export.now c.args.disk.now c.rest_after.new.disk _ _ _ _ c.in-Whole.header whole.0 whole.1 whole.2
     c.answer.new.disk c.in_ok-answer-in-Whole.field-0 (c.in_ok-answer-in-Whole.ensures.replies whole.0 whole.1 whole.3) rest
 
 pub returns-in_err-answer-in-Whole-clause-serves : goal.returns-in_err-answer-in-Whole-clause-serves
 returns-in_err-answer-in-Whole-clause-serves g c =
-    let whole = rw c.in-Whole.is at c.in_ok-end.ensures in
+    let whole = rw c.in-Whole.is at c.in_ok-end.ensures.reads in
     let p = err_from_is_err_and c.from_residual-in_err-answer-in-Whole.result c.from_residual-in_err-answer-in-Whole.ensures.1 in
-    rw (p.1, p.2) (next_unsent g.D.Disk.contents g.D.Disk.honest g.D.Disk.calm g.D.Disk.rests c.args.export.now c.args.disk.now c.answer.new.disk _ _ _ _ c.in-Whole.header whole.0 whole.1 whole.2
+    rw (p.1, p.2) (next_unsent g.D.Disk.contents g.D.Disk.honest g.D.Disk.calm g.D.Disk.does g.D.Disk.rests c.args.export.now c.args.disk.now c.answer.new.disk _ _ _ _ c.in-Whole.header whole.0 whole.1 whole.2
     c.in_err-answer-in-Whole.field-0.0 (c.in_err-answer-in-Whole.ensures.replies whole.0 whole.1 whole.3))
 
 pub returns-in_ok-answer-in-Whole-clause-leaves : goal.returns-in_ok-answer-in-Whole-clause-leaves
@@ -33,3 +34,17 @@ returns-in_err-end-clause-leaves g c = λ reads. none g.D.Disk.leaves c.args.dis
 
 pub returns-in-Ended-clause-leaves : goal.returns-in-Ended-clause-leaves
 returns-in-Ended-clause-leaves g c = λ reads. none g.D.Disk.leaves c.args.disk.now c.args.disk.now refl
+
+pub returns-in_err-end-clause-fails : goal.returns-in_err-end-clause-fails
+returns-in_err-end-clause-fails g c =
+    let p = err_from_is_err_and c.from_residual.result c.from_residual.ensures.1 in
+    let unread = c.in_err-end.ensures.reads in
+    rw (p.1, p.2) (subst (λ f. HasFailed g.R.Incoming.fails g.W.Outgoing.fails c.read_request.new.reader c.args.writer.now f) (sym unread.0) c.in_err-end.ensures.fails)
+
+pub returns-in_err-answer-in-Whole-clause-fails : goal.returns-in_err-answer-in-Whole-clause-fails
+returns-in_err-answer-in-Whole-clause-fails g c =
+    let whole = rw c.in-Whole.is at c.in_ok-end.ensures.reads in
+    let p = err_from_is_err_and c.from_residual-in_err-answer-in-Whole.result c.from_residual-in_err-answer-in-Whole.ensures.1 in
+    let unsent = c.in_err-answer-in-Whole.ensures.replies whole.0 whole.1 whole.3 in
+    let is = unsent.sends in
+    rw (p.1, p.2) (subst (λ f. HasFailed g.R.Incoming.fails g.W.Outgoing.fails c.read_request.new.reader c.answer.new.writer f) (sym is.0) c.in_err-answer-in-Whole.ensures.fails)

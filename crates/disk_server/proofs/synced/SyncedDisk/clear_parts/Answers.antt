@@ -1,10 +1,11 @@
-use Rattle.std.proofs.Common.{rules, ◌≡◌, ◌≤◌, ◌+◌, ℕ, Ok, Err, [], false, subst, arith}
+use Rattle.std.proofs.Common.{rules, ◌≡◌, ◌∙◌, ◌≤◌, ◌+◌, inl, inr, ℕ, Ok, Err, [], false, ap, add-zero, refl, subst, zero-add, arith}
 use Rattle.nbd_stream.specs.declared.task.Task.TheVariants.{Trim}
 use Rattle.nbd_stream.specs.Disk.{Performs, error_for}
 use Rattle.disk_server.proofs.Joining.{writes_trim}
-use Rattle.disk_server.proofs.Fronts.{zeros_stopped, zeros_written}
-use Rattle.disk_server.specs.Synced.{HasSynced, after_change}
-use Rattle.disk_server.proofs.SyncLemmas.{none_then, one_part, part_counted, part_failed, then_failed}
+use Rattle.disk_server.proofs.Fronts.{nothing_set, zeros_stopped, zeros_written}
+use Rattle.nbd_stream.proofs.ThroughLemmas.{joined, none, once}
+use Rattle.disk_server.specs.Synced.{ClearsPart, HasSynced, after_change, touched}
+use Rattle.disk_server.proofs.SyncLemmas.{none_then, one_part, part_counted, part_failed, then_failed, unflushed}
 use Rattle.disk_server.proofs.synced.SyncedDisk.clear_parts.Goals as goal
 
 pub loop-done-preserved : goal.loop-done-preserved
@@ -23,6 +24,10 @@ loop-done-preserved g c =
       zeros_written (λ s. g.D.Disk.contents s.disk) (λ s. g.D.Disk.honest s.disk) (λ _. false) c.args.count c.args.offset k m
           c.args.self.now c.loop-done.self c.clear_part-in-loop-done.new.self within c.requires inv.3 part,
       none_then g.Y.Syncs.failed c.args.self.now c.loop-done.self c.clear_part-in-loop-done.new.self inv.4 c.in-Ok.ensures.notes,
+      joined (ClearsPart g.D.Disk.does c.args.offset c.args.count) c.args.self.now.disk c.loop-done.self.disk c.clear_part-in-loop-done.new.self.disk inv.5
+          (once (ClearsPart g.D.Disk.does c.args.offset c.args.count) c.loop-done.self.disk c.clear_part-in-loop-done.new.self.disk
+          (c.args.offset + c.from-in-loop-done.result, m, omega arith, omega (arith, within, place), c.in-Ok.ensures.asked)),
+      unflushed g.Y.Syncs.marked g.D.Sequenced.next false (after_change (c.args.offset + c.from-in-loop-done.result) m c.loop-done.self) c.clear_part-in-loop-done.new.self (Ok tt) c.in-Ok.ensures.marks ∙ inv.6,
     )
 
 pub returns-in-Err-clause-performs : goal.returns-in-Err-clause-performs
@@ -46,3 +51,48 @@ returns-in-Err-clause-notes g c = then_failed g.Y.Syncs.failed c.args.self.now c
 
 pub returns-clause-notes : goal.returns-clause-notes
 returns-clause-notes g c = c.loop-done.invariant.4
+
+pub returns-clause-parts : goal.returns-clause-parts
+returns-clause-parts g c = c.loop-done.invariant.5
+
+pub returns-in-Err-clause-parts : goal.returns-in-Err-clause-parts
+returns-in-Err-clause-parts g c =
+    let inv = c.loop-done.invariant in
+    let k : ℕ = c.loop-done.done in
+    let m : ℕ = c.min-taken.result in
+    let within : k + m ≤ c.args.count = omega (arith, inv.0, c.min-taken.ensures) in
+    let place : c.from-in-loop-done.result ≡ k = search rules in
+    joined (ClearsPart g.D.Disk.does c.args.offset c.args.count) c.args.self.now.disk c.loop-done.self.disk c.clear_part-in-loop-done.new.self.disk inv.5
+    (once (ClearsPart g.D.Disk.does c.args.offset c.args.count) c.loop-done.self.disk c.clear_part-in-loop-done.new.self.disk
+    (c.args.offset + c.from-in-loop-done.result, m, omega arith, omega (arith, within, place), c.in-Err.ensures.asked))
+
+pub returns-then-is_none-clause-parts : goal.returns-then-is_none-clause-parts
+returns-then-is_none-clause-parts g c =
+    once (ClearsPart g.D.Disk.does c.args.offset c.args.count) c.args.self.now.disk c.clear_part.new.self.disk (c.args.offset, c.args.count, omega arith, omega arith, c.clear_part.ensures.asked)
+
+pub returns-clause-unflushed : goal.returns-clause-unflushed
+returns-clause-unflushed g c = c.loop-done.invariant.6
+
+pub returns-in-Err-clause-unflushed : goal.returns-in-Err-clause-unflushed
+returns-in-Err-clause-unflushed g c =
+    let m : ℕ = c.min-taken.result in
+    unflushed g.Y.Syncs.marked g.D.Sequenced.next false (after_change (c.args.offset + c.from-in-loop-done.result) m c.loop-done.self) c.clear_part-in-loop-done.new.self (Err c.in-Err.fault) c.in-Err.ensures.marks ∙ c.loop-done.invariant.6
+
+pub returns-then-is_none-clause-unflushed : goal.returns-then-is_none-clause-unflushed
+returns-then-is_none-clause-unflushed g c = unflushed g.Y.Syncs.marked g.D.Sequenced.next false (after_change c.args.offset c.args.count c.args.self.now) c.clear_part.new.self c.clear_part.result c.clear_part.ensures.marks
+
+pub loop-done-init : goal.loop-done-init
+loop-done-init g c = (
+  omega arith,
+  record { syncs = inl (omega arith); pace_same = refl },
+  record {
+    pieces = 0;
+    low = inr (omega arith);
+    more = λ m. omega (arith, ap (touched c.args.self.now.pace.piece c.args.offset) (zero-add m), ap (λ x. touched c.args.self.now.pace.piece x m) (add-zero c.args.offset));
+    all = λ some. absurd (omega (arith, some));
+  },
+  nothing_set (λ s. g.D.Disk.contents s.disk) (λ s. g.D.Disk.honest s.disk) (λ _. false) c.args.offset c.args.self.now,
+  record { same = refl; count_same = refl },
+  none (ClearsPart g.D.Disk.does c.args.offset c.args.count) c.args.self.now.disk c.args.self.now.disk refl,
+  refl,
+)

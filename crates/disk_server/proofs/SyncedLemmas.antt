@@ -1,0 +1,221 @@
+-- A change of a disk that keeps nothing back, and the sync behind it.
+use Rattle.std.proofs.Common.{◌≡◌, ◌&&◌, ◌<◌, arith, inl, inr, ℕ, Bool, true, false, List, [], Result, Ok, Err, refl, sym, ap, ◌∙◌, subst}
+use Rattle.std.specs.Prelude.{slice_index, IfErr, OnOk}
+use Rattle.nbd_stream.specs.declared.fault.DiskFault.{DiskFault}
+use Rattle.nbd_stream.specs.declared.fault.DiskFault.TheVariants as fault
+use Rattle.nbd_stream.specs.declared.reply.RequestError.{RequestError}
+use Rattle.nbd_stream.specs.declared.reply.RequestError.TheVariants.{InputOutput}
+use Rattle.nbd_stream.specs.declared.task.Task.{Task}
+use Rattle.nbd_stream.specs.declared.task.Task.TheVariants.{Flush, Read, Trim, Write, WriteZeroes}
+use Rattle.nbd_stream.specs.Disk.{Contents, MayAnswer, Performs, answer_from, error_for, is_in}
+use Rattle.std.proofs.lemmas.Bool.{cases_lt}
+use Rattle.page_layout.specs.Counter.{HasRisen}
+use Rattle.disk_server.specs.declared.mark.Mark.{Mark}
+use Rattle.disk_server.specs.Synced.{CloseLaw, Closes, Counts, EndsChange, EndsSynced, EndsTask, HasSynced, IsKnownFlushed, IsLasting, IsOver, KeepsCount, Marks, NoneFailed, Notes, SyncedLaw, SyncsTask, UnflushedLaw, after_change, after_sync}
+use Rattle.disk_server.proofs.ReadingLemmas.{flushed}
+use Rattle.disk_server.proofs.SyncLemmas.{no_less, none_then, then_failed, unflushed}
+use Rattle.disk_server.specs.declared.synced.SyncedDisk.{SyncedDisk}
+
+abbrev pub Lasts : {D : Type 0} → (D → Contents) → Type 0
+Lasts {D} contents = (d : D) → (contents d).durable ≡ (contents d).bytes
+
+-- a call of the disk, of the joined one
+pub joined_call : {D Y : Type 0} (contents : D → Contents) (honest calm : D → Bool) (task : Task) (body : List ℕ) (old new : SyncedDisk D Y) (answer : Result (List ℕ) RequestError)
+    → Performs contents honest calm task body old.disk answer new.disk → Performs (λ s. contents s.disk) (λ s. honest s.disk) (λ _. false) task body old answer new
+joined_call contents honest calm task body old new answer p = record {
+  sized = p.sized;
+  kept = p.kept;
+  back = p.back;
+  calm_is = refl;
+  fault = p.fault;
+  given = p.given;
+  calmly = λ never. (let no : ⊥ = cc in absurd no);
+  steps = p.steps;
+}
+
+module _ {D : Type 0} (contents : D → Contents) (honest calm : D → Bool) (lasts : Lasts contents) (o n : ℕ) (durable : Bool) (old : D) where
+  -- a trim that is done lasts, and one that failed is one that was to last
+  pub lasting_trim : (mid : D) (answer : Result (List ℕ) RequestError) → Performs contents honest calm (Trim o n false) [] old answer mid → Performs contents honest calm (Trim o n durable) [] old answer mid
+  lasting_trim mid answer p = record {
+    sized = p.sized;
+    kept = p.kept;
+    back = p.back;
+    calm_is = p.calm_is;
+    fault = p.fault;
+    given = p.given;
+    calmly = p.calmly;
+    steps = λ h. let its = p.steps h in record { done = its.done; gave = its.gave; torn = its.torn; stays = its.stays; lasts = all answer mid };
+  }
+    where
+      all : (answer : Result (List ℕ) RequestError) (mid : D) → OnOk answer ((place : ℕ) → (durable && is_in o n place) ≡ true → slice_index (contents mid).durable place ≡ slice_index (contents mid).bytes place)
+      all (Ok bytes) mid = λ place makes. ap (λ l. slice_index l place) (lasts mid)
+      all (Err e) mid = tt
+
+-- what was done, and then failed to be synced
+failed_then : {D : Type 0} (contents : D → Contents) (honest calm : D → Bool) (task : Task) (body : List ℕ) (old new : D) (e : DiskFault) → e ≡ fault.Failed → MayAnswer task InputOutput → calm old ≡ false
+    → Performs contents honest calm task body old (Ok []) new → Performs contents honest calm task body old (Err (error_for e)) new
+failed_then contents honest calm task body old new e is may never p = record {
+  sized = p.sized;
+  kept = tt;
+  back = p.back;
+  calm_is = p.calm_is;
+  fault = subst (λ x. MayAnswer task (error_for x)) (sym is) may;
+  given = tt;
+  calmly = λ is_calm. (let no : true ≡ false = sym is_calm ∙ never in (let never' : ⊥ = cc in absurd never'));
+  steps = λ h. let its = p.steps h in record {
+    done = tt;
+    gave = tt;
+    torn = λ place. inr (ap (λ l. slice_index l place) its.done);
+    stays = its.stays;
+    lasts = tt;
+  };
+}
+
+pub and_synced : {D : Type 0} (contents : D → Contents) (honest calm : D → Bool) (task : Task) (body : List ℕ) (old new : D) (result : Result (Unit {0}) DiskFault) → IfErr result (λ e. e ≡ fault.Failed)
+    → MayAnswer task InputOutput → calm old ≡ false → Performs contents honest calm task body old (Ok []) new → Performs contents honest calm task body old (answer_from result []) new
+and_synced contents honest calm task body old new (Ok done) is may never p = p
+and_synced contents honest calm task body old new (Err e) is may never p = failed_then contents honest calm task body old new e is may never p
+
+pub as_disk : {D Y : Type 0} (contents : D → Contents) (honest : D → Bool) (task : Task) (body : List ℕ) (old new : SyncedDisk D Y) (answer : Result (List ℕ) RequestError)
+    → Performs (λ s. contents s.disk) (λ s. honest s.disk) (λ _. false) task body old answer new → Performs contents honest (λ _. false) task body old.disk answer new.disk
+as_disk contents honest task body old new answer p = record {
+  sized = p.sized;
+  kept = p.kept;
+  back = p.back;
+  calm_is = refl;
+  fault = p.fault;
+  given = p.given;
+  calmly = p.calmly;
+  steps = p.steps;
+}
+
+-- ---- a task
+
+module _ {D Y : Type 0} (does : D → Task → Result (Unit {0}) DiskFault → D → Type 0) (synced failed : Y → ℕ) (marked : Y → Mark) (next : D → ℕ) (old : SyncedDisk D Y) (task : Task) where
+  -- after a sync that failed
+  pub refused : old.failed ≡ true → SyncsTask does synced failed marked next old task (Err fault.Failed) old
+  refused over = record {
+    over = λ _. (refl, refl);
+    ends = λ going. (let no : true ≡ false = sym over ∙ going in (let never : ⊥ = cc in absurd never));
+    notes = inl (record { same = refl; count_same = refl });
+  }
+
+  -- and before
+  pub goes : (new : SyncedDisk D Y) (result : Result (Unit {0}) DiskFault) → old.failed ≡ false → EndsTask does synced marked next old task result new → Notes failed old result new
+      → SyncsTask does synced failed marked next old task result new
+  goes new result going ends notes = record {
+    over = λ over. (let no : true ≡ false = sym over ∙ going in (let never : ⊥ = cc in absurd never));
+    ends = λ _. ends;
+    notes = notes;
+  }
+
+-- ---- a range to be cleared
+
+module _ {D Y : Type 0} (synced : Y → ℕ) (marked : Y → Mark) (next : D → ℕ) (durable : Bool) (offset count : ℕ) (old mid new : SyncedDisk D Y) (kept : KeepsCount synced old mid)
+    (counts : 0 < count → Counts synced offset count old mid) where
+  counts_then : Counts synced offset count old mid → HasSynced synced durable mid new → Counts synced offset count old new
+  counts_then is (inl due) = inl (no_less (synced old.syncs) (synced mid.syncs) (synced new.syncs) kept.syncs due.1.one)
+  counts_then (inl risen) (inr none) = inl (subst (λ y. HasRisen (synced old.syncs) (synced y)) (sym none.1.syncs_same) risen)
+  counts_then (inr low) (inr none) = inr (omega (arith, low, none.1.unsynced_same))
+
+  pub ends_synced : HasSynced synced durable mid new → EndsSynced synced durable offset count old new
+  ends_synced (inl due) = record {
+    few = omega (arith, due.1.all);
+    counts = λ some. counts_then (counts some) (inl due);
+    pace_same = due.1.pace_same ∙ kept.pace_same;
+    all = λ _. due.1.all;
+    one_more = λ _. no_less (synced old.syncs) (synced mid.syncs) (synced new.syncs) kept.syncs due.1.one;
+  }
+  ends_synced (inr none) = record {
+    few = elim (cases_lt mid.pace.most mid.unsynced) [
+      | inl many ↦ absurd (none.0 (inr many))
+      | inr few ↦ omega (arith, few, none.1.unsynced_same, ap (λ p. p.most) kept.pace_same)
+    ];
+    counts = λ some. counts_then (counts some) (inr none);
+    pace_same = none.1.pace_same ∙ kept.pace_same;
+    all = λ lasts. absurd (none.0 (inl lasts));
+    one_more = λ lasts. absurd (none.0 (inl lasts));
+  }
+
+  pub ends_all : (result : Result (Unit {0}) DiskFault) → OnOk result (HasSynced synced durable mid new) → OnOk result (EndsSynced synced durable offset count old new)
+  ends_all (Ok done) is = ends_synced is
+  ends_all (Err e) is = tt
+
+pub marked_last : {D Y : Type 0} (marked : Y → Mark) (next : D → ℕ) (durable : Bool) (old new : SyncedDisk D Y) (result : Result (Unit {0}) DiskFault)
+    → Marks marked next durable old result new → OnOk result (durable ≡ true → (marked new.syncs).synced ≡ next new.disk)
+marked_last marked next durable old new (Ok done) (inl due) = λ lasts. ap (λ m. m.synced) due.1
+marked_last marked next durable old new (Ok done) (inr none) = λ lasts. absurd (none.0 (inl lasts))
+marked_last marked next durable old new (Err e) is = tt
+
+pub notes_then : {D Y : Type 0} (failed : Y → ℕ) (old mid new : SyncedDisk D Y) (result : Result (Unit {0}) DiskFault) → NoneFailed failed old mid → Notes failed mid result new → Notes failed old result new
+notes_then failed old mid new (Ok done) before more = none_then failed old mid new before more
+notes_then failed old mid new (Err e) before more = then_failed failed old mid new before more
+
+-- ---- laws
+
+module _ {D Y : Type 0} (does : D → Task → Result (Unit {0}) DiskFault → D → Type 0) (synced failed : Y → ℕ) (marked : Y → Mark) (next : D → ℕ) where
+  change_unflushed : (durable : Bool) (offset count : ℕ) (old new : SyncedDisk D Y) (result : Result (Unit {0}) DiskFault) → EndsChange synced marked next durable (after_change offset count old) result new
+      → (marked new.syncs).flushed ≡ (marked old.syncs).flushed
+  change_unflushed durable offset count old new result ends = unflushed marked next durable (after_change offset count old) new result ends.marks
+
+  ends_unflushed : (old new : SyncedDisk D Y) (task : Task) (result : Result (Unit {0}) DiskFault) → EndsTask does synced marked next old task result new → (marked new.syncs).flushed ≡ (marked old.syncs).flushed
+  ends_unflushed old new (Read offset count) result ends = ap (λ y. (marked y).flushed) ends.1.syncs_same
+  ends_unflushed old new (Write offset count durable) result ends = change_unflushed durable offset count old new result ends.1
+  ends_unflushed old new Flush result ends = unflushed marked next true old new result ends.1.marks
+  ends_unflushed old new (Trim offset count durable) result ends = ends.unflushed
+  ends_unflushed old new (WriteZeroes offset count durable) result ends = ends.unflushed
+
+  unflushed_by : (old new : SyncedDisk D Y) (task : Task) (result : Result (Unit {0}) DiskFault) → SyncsTask does synced failed marked next old task result new → (b : Bool) → old.failed ≡ b
+      → (marked new.syncs).flushed ≡ (marked old.syncs).flushed
+  unflushed_by old new task result is true over = ap (λ s. (marked s.syncs).flushed) (is.over over).1
+  unflushed_by old new task result is false going = ends_unflushed old new task result (is.ends going)
+
+  pub unflushed_law : UnflushedLaw does synced failed marked next
+  unflushed_law old new task result is = unflushed_by old new task result is old.failed refl
+
+  -- a sync that was due
+  due_marked : (durable : Bool) (old new : SyncedDisk D Y) → durable ≡ true → Marks marked next durable old (Ok tt) new → (marked new.syncs).synced ≡ next new.disk
+  due_marked durable old new lasts marks = marked_last marked next durable old new (Ok tt) marks lasts
+
+  ends_marked : (old new : SyncedDisk D Y) (task : Task) → IsLasting task → EndsTask does synced marked next old task (Ok tt) new → (marked new.syncs).synced ≡ next new.disk
+  ends_marked old new (Read offset count) lasts ends = absurd lasts
+  ends_marked old new (Write offset count durable) lasts ends = due_marked durable (after_change offset count old) new lasts ends.1.marks
+  ends_marked old new Flush lasts ends = due_marked true old new refl ends.1.marks
+  ends_marked old new (Trim offset count durable) lasts ends = ends.marked_last lasts
+  ends_marked old new (WriteZeroes offset count durable) lasts ends = ends.marked_last lasts
+
+  -- what was done was not refused
+  was_going : (old new : SyncedDisk D Y) → (old.failed ≡ true → IsOver old (Ok tt) new) → (b : Bool) → old.failed ≡ b → old.failed ≡ false
+  was_going old new over true is = (let no = (over is).0 in let never : ⊥ = cc in absurd never)
+  was_going old new over false is = is
+
+  pub synced_law : SyncedLaw does synced failed marked next
+  synced_law old new task lasts is = ends_marked old new task lasts (is.ends (was_going old new is.over old.failed refl))
+
+  module _ (takes : D → Bool) (counts : Bool) (old new : SyncedDisk D Y) (is : Closes does synced failed marked next takes counts old (Ok tt) new) (taking : takes new.disk ≡ true) where
+    going : old.failed ≡ false
+    going = was_going old new is.over old.failed refl
+
+    by_flush : ¬ IsKnownFlushed marked next counts old → (marked new.syncs).flushed ≡ next new.disk
+    by_flush unknown =
+        let flushed = is.flushes going unknown in
+        ap (λ m. m.flushed) flushed.marks ∙ ap (λ b. (after_sync (next new.disk) b (marked old.syncs)).flushed) taking
+
+    by_mark : IsKnownFlushed marked next counts old → (marked new.syncs).flushed ≡ next new.disk
+    by_mark known = ap (λ s. (marked s.syncs).flushed) (is.known going known).1 ∙ known.1 ∙ ap (λ s. next s.disk) (sym (is.known going known).1)
+
+    by_order : counts ≡ true → (marked new.syncs).flushed ≡ next new.disk
+    by_order is_counted = elim (cases_lt (marked old.syncs).flushed (next old.disk)) [
+      | inl less ↦ by_flush (λ known. omega (arith, less, known.1))
+      | inr least ↦ elim (cases_lt (next old.disk) (marked old.syncs).flushed) [
+        | inl more ↦ by_flush (λ known. omega (arith, more, known.1))
+        | inr most ↦ by_mark (is_counted, omega (arith, least, most))
+      ]
+    ]
+
+    pub closed_by : (b : Bool) → counts ≡ b → (marked new.syncs).flushed ≡ next new.disk
+    closed_by true is_counted = by_order is_counted
+    closed_by false is_not = by_flush (λ known. (let no : true ≡ false = sym known.0 ∙ is_not in (let never : ⊥ = cc in never)))
+
+pub close_law : {D Y : Type 0} (does : D → Task → Result (Unit {0}) DiskFault → D → Type 0) (synced failed : Y → ℕ) (marked : Y → Mark) (next : D → ℕ) (takes : D → Bool) → CloseLaw does synced failed marked next takes
+close_law does synced failed marked next takes counts old new is taking = closed_by does synced failed marked next takes counts old new is taking counts refl

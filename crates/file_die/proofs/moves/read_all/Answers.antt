@@ -1,0 +1,14 @@
+use Rattle.std.proofs.Common.{arith, refl}
+use Rattle.file_die.specs.Bytes.{NoRead}
+use Rattle.file_die.proofs.moves.read_all.Goals as goal
+
+pub loop-init : goal.loop-init
+loop-init g c = record {
+  long = refl;
+  most = omega arith;
+  honest = refl;
+  tells = λ size reads. refl;
+  gave = NoRead;
+  same = λ h. refl;
+  reads = λ h i lt. absurd (omega (arith, lt));
+}

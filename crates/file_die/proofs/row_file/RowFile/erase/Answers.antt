@@ -1,0 +1,48 @@
+use Rattle.std.proofs.Common.{◌≡◌, ◌∙◌, ◌*◌, ◌+◌, ◌<◌, ap, sym, subst, arith, ℕ, List, Bool, ◌≤◌, length, replicate}
+use Rattle.std.specs.Prelude.{slice_index}
+use Rattle.std.specs.Result.{is_ok}
+use Rattle.file_die.specs.Store.{Held, Clears}
+use Rattle.file_die.specs.Rows.{held_in}
+use Rattle.file_die.proofs.RowLemmas.{rows_held, clears, rows_of, kept_of, kept_settled, held_is, parts_written, block_within_rows, fits_blank}
+use Rattle.file_die.proofs.row_file.RowFile.erase.Goals as goal
+
+pub invariant_of-self : goal.invariant_of-self
+invariant_of-self g c =
+    let i = c.self.inside in
+    let zero_at : c.args.block * i.geometry.pages + 0 ≡ c.args.block * i.geometry.pages = omega arith in
+    let at_is = (rw (← c.self.view_is) at c.offset-start.ensures) ∙ ap (λ n. n * i.size) (c.row.ensures.is ∙ zero_at) in
+    let blank = c.deref.ensures.value ∙ c.self.invariant.blank in
+    parts_written (g.F.ByteFile.honest i.file) _ (g.F.ByteFile.held i.file) (g.F.ByteFile.held c.write_all-answer.new.file) i.geometry i.size c.offset-start.result c.deref.result.now i.erased.items (is_ok c.write_all-answer.result) i.failures i.fault i.sync_failed
+    c.write_all-answer.ensures.honest c.self.invariant (block_within_rows i.geometry i.size c.args.block c.offset-start.result c.deref.result.now (rw (← c.self.view_is) at c.requires.in_range) at_is blank)
+    (subst (λ (xs : List ℕ). (k : ℕ) → slice_index xs k < 256) (sym blank) (λ k. fits_blank (i.geometry.pages * i.size) k)) c.write_all-answer.ensures.writes
+
+pub returns-clause-clears : goal.returns-clause-clears
+returns-clause-clears g c reads r e =
+    let i = c.self.inside in
+    let held = g.F.ByteFile.held in
+    let s = held i.file in
+    let t = held c.write_all-answer.new.file in
+    let given : List ℕ = c.deref.result.now in
+    let done = is_ok c.write_all-answer.result in
+    let kept = kept_of held g.F.ByteFile.honest g.F.ByteFile.tells reads _ (rw (← c.self.view_is) at e) in
+    let rows = rows_of held g.F.ByteFile.honest g.F.ByteFile.tells reads _ i.erased.items c.self.invariant (rw (← c.self.view_is) at e) in
+    let lt = rw (← c.self.view_is) at c.requires.in_range in
+    let zero_at : c.args.block * i.geometry.pages + 0 ≡ c.args.block * i.geometry.pages = omega arith in
+    let at_is = (rw (← c.self.view_is) at c.offset-start.ensures) ∙ ap (λ n. n * i.size) (c.row.ensures.is ∙ zero_at) in
+    let blank = c.deref.ensures.value ∙ c.self.invariant.blank in
+    let l = block_within_rows i.geometry i.size c.args.block c.offset-start.result given lt at_is blank in
+    let start : c.offset-start.result ≤ length s.bytes = omega (arith, l, rows.whole) in
+    let all = clears reads i.geometry i.size c.args.block c.offset-start.result given done s t (rw (← c.self.view_is) at r) rows lt at_is blank
+    (c.write_all-answer.ensures.writes kept.0 start) (c.write_all-answer.ensures.told kept.0 start i.size reads kept.1 s) in
+    let settled = subst (λ (h : Held). Clears (rows_held reads i.geometry i.size s) c.args.block done h) (held_is held reads c.settle.new.self c.write_all-answer.new.file i.geometry i.size c.settle.ensures.file c.settle.ensures.geometry c.settle.ensures.size) all in
+    rw (← c.self.view_is) (subst (λ (d : Bool). Clears (rows_held reads i.geometry i.size s) c.args.block d (held_in held reads c.settle.new.self)) (sym c.settle.ensures.answer) settled)
+
+pub returns-clause-kept : goal.returns-clause-kept
+returns-clause-kept g c reads =
+    let i = c.self.inside in
+    let zero_at : c.args.block * i.geometry.pages + 0 ≡ c.args.block * i.geometry.pages = omega arith in
+    let at_is = (rw (← c.self.view_is) at c.offset-start.ensures) ∙ ap (λ n. n * i.size) (c.row.ensures.is ∙ zero_at) in
+    let blank = c.deref.ensures.value ∙ c.self.invariant.blank in
+    let l = block_within_rows i.geometry i.size c.args.block c.offset-start.result c.deref.result.now (rw (← c.self.view_is) at c.requires.in_range) at_is blank in
+    rw (← c.self.view_is) (kept_settled g.F.ByteFile.held g.F.ByteFile.honest g.F.ByteFile.tells _ c.settle.new.self c.write_all-answer.new.file c.settle.ensures.file c.write_all-answer.ensures.honest c.write_all-answer.ensures.tells c.settle.ensures.size c.settle.ensures.sync_failed
+    (λ h. (c.write_all-answer.ensures.writes h (omega (arith, l, c.self.invariant.whole h))).syncs) reads)

@@ -1,0 +1,95 @@
+-- A FILE OF ROWS: bytes of one size for each row of a die, one row behind another, read as pages.
+use Rattle.std.specs.Prelude.{◌≡◌, ℕ, ◌*◌, ◌<◌, ◌≤◌, slice_index, ◌==◌, ◌&&◌, Bool, true, false, List, length, map, replicate, Option, Some, None, Result, Ok, Err, OnOk, OnErr, slice_get, ◌+◌}
+use Rattle.std.specs.List.{range_with_len}
+use Rattle.page_layout.specs.declared.geometry.Geometry.{Geometry}
+use Rattle.page_layout.specs.Geometry.{row_count}
+use Rattle.page_layout.specs.Page.{Page, Image, IsPage}
+use Rattle.page_layout.specs.Change.{erased_page}
+use Rattle.page_layout.specs.Counter.{HasRisen}
+use Rattle.file_die.specs.declared.bytes.ByteFault.{ByteFault}
+use Rattle.file_die.specs.declared.store.StoreFault.{StoreFault}
+use Rattle.file_die.specs.Bytes.{Bytes, AreBytes, Mixes, LastsMixed, AreAlike, over, piece}
+use Rattle.file_die.specs.Store.{Held}
+
+-- ---- a write of all bytes
+
+-- one that is done leaves them in their place and no other byte changed; one that fails leaves each place as it was or as it was to be
+pub record WritesAll (s : Bytes) (at : ℕ) (given : List ℕ) (done : Bool) (t : Bytes) : Type 0 where
+  pub mixes : Mixes s.bytes (over at given s.bytes) t.bytes
+  pub written : done ≡ true → t.bytes ≡ over at given s.bytes
+  pub lasts : LastsMixed s.durable s.bytes t.bytes t.durable
+  pub syncs : t.failed_syncs ≡ s.failed_syncs
+
+-- WHERE SUCH A WRITE STANDS, once the first bytes are written
+pub record Going (s : Bytes) (at : ℕ) (given : List ℕ) (done : ℕ) (t : Bytes) : Type 0 where
+  pub mixes : Mixes s.bytes (over at given s.bytes) t.bytes
+  pub alike : AreAlike (at + done) t.bytes (over at given s.bytes)
+  pub lasts : LastsMixed s.durable s.bytes t.bytes t.durable
+  pub syncs : t.failed_syncs ≡ s.failed_syncs
+  pub reaches : at + done ≤ length t.bytes
+
+-- how many bytes have been moved, where a call that failed has moved none
+abbrev pub moved_by : ℕ → Result ℕ ByteFault → ℕ
+moved_by done (Ok next) = next
+moved_by done (Err fault) = done
+
+-- the first bytes of a buffer are those of a file from a place on
+abbrev pub IsFilled : List ℕ → ℕ → ℕ → List ℕ → Type 0
+IsFilled bytes at done buffer = (i : ℕ) → i < done → slice_get buffer i ≡ slice_get bytes (at + i)
+
+-- ---- the rows
+
+-- its file; the die, and how many bytes a row has; the failures so far, the first fault, and whether a sync has failed
+pub record Rows (F : Type 0) : Type 0 where
+  pub file : F
+  pub geometry : Geometry
+  pub size : ℕ
+  pub failures : ℕ
+  pub fault : Option ByteFault
+  pub sync_failed : Bool
+
+-- THE PAGES THAT BYTES ARE, a row behind the other, each read so
+unfoldable pub read_rows : (List ℕ → Page) → ℕ → ℕ → List ℕ → Image
+read_rows reads size rows bytes = map (λ row. reads (piece size row bytes)) (range_with_len 0 rows)
+
+-- as a store holds them
+abbrev pub held_in : {F : Type 0} → (F → Bytes) → (List ℕ → Page) → Rows F → Held
+held_in held reads r = record {
+  geometry = r.geometry;
+  pages = read_rows reads r.size (row_count r.geometry) (held r.file).bytes;
+  durable = read_rows reads r.size (row_count r.geometry) (held r.file).durable;
+}
+
+-- how many syncs have failed
+abbrev pub syncs_lost : Bool → ℕ
+syncs_lost false = 0
+syncs_lost true = 1
+
+-- WHETHER THEY ARE KEPT, where they are read so: the file is honest and rows that were torn tell themselves, and no sync of it has failed but one of ours,
+-- after which none is asked for
+unfoldable pub is_kept : {F : Type 0} → (F → Bytes) → (F → Bool) → (F → ℕ → (List ℕ → Page) → Bool) → (List ℕ → Page) → Rows F → Bool
+is_kept held honest tells reads r = honest r.file && (tells r.file r.size reads && ((held r.file).failed_syncs == syncs_lost r.sync_failed))
+
+-- what is true of its parts: it has the bytes of all rows, and would have so many if the power went
+pub record AreRows (honest : Bool) (s : Bytes) (g : Geometry) (size : ℕ) (erased : List ℕ) (failures : ℕ) (fault : Option ByteFault) (sync_failed : Bool) : Type 0 where
+  pub whole : honest ≡ true → length s.bytes ≡ row_count g * size
+  pub lasts : honest ≡ true → s.failed_syncs ≡ syncs_lost sync_failed → length s.durable ≡ row_count g * size
+  pub fit : honest ≡ true → AreBytes s
+  pub blank : erased ≡ replicate (g.pages * size) 255
+  pub told : (failures ≡ 0 → fault ≡ None) × (fault ≡ None → failures ≡ 0)
+
+-- bytes of a row are read as a page of the die, and bytes FFh as an erased one
+pub record IsReading (g : Geometry) (size : ℕ) (reads : List ℕ → Page) : Type 0 where
+  pub pages : (bytes : List ℕ) → length bytes ≡ size → ((i : ℕ) → slice_index bytes i < 256) → IsPage g (reads bytes)
+  pub erased : reads (replicate size 255) ≡ erased_page g
+
+-- ---- a call
+
+-- WHAT STAYS in any call, and what is counted: a failure is, and the first one's fault is remembered
+pub record Counts {F : Type 0} (old new : Rows F) (result : Result (Unit {0}) StoreFault) : Type 0 where
+  pub geometry : new.geometry ≡ old.geometry
+  pub size : new.size ≡ old.size
+  pub rising : old.failures ≤ new.failures
+  pub settled : OnOk result ((new.failures ≡ old.failures) × (new.fault ≡ old.fault))
+  pub rose : OnErr result (HasRisen old.failures new.failures)
+  pub first : (fault : ByteFault) → old.fault ≡ Some fault → new.fault ≡ Some fault

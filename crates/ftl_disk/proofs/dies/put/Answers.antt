@@ -1,0 +1,8 @@
+use Rattle.std.proofs.Common.{refl}
+use Rattle.ftl_disk.proofs.dies.put.Goals as goal
+
+pub returns-in-Ok : goal.returns-in-Ok
+returns-in-Ok g c = rw c.in-Ok.is (refl, c.put.ensures)
+
+pub returns-in-Err : goal.returns-in-Err
+returns-in-Err g c = rw c.in-Err.is (c.of_power.ensures, refl)

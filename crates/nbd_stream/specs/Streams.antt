@@ -1,0 +1,23 @@
+-- HOW THE LAST CALL OF A STREAM WENT.
+use Rattle.std.specs.Prelude.{◌≡◌, ◌≤◌, ◌⊎◌, ◌*◌, ◌-◌, ◌^◌, ℕ, List, length, Option}
+use Rattle.std.specs.Io.KnownBytes.{Consumes}
+use Rattle.request_stream.specs.declared.reply.ServeFault.{ServeFault}
+use Rattle.request_stream.specs.declared.reply.ServeFault.TheVariants as fault
+
+-- a stream is as such a call left it
+abbrev pub EndsBy : {S : Type 0} → (call : S → S → Type 0) → S → Type 0
+EndsBy {S} call new = (old : S) × call old new
+
+-- WHAT A FAULT TELLS: the last call of the reader or of the writer failed
+abbrev pub HasFailed : {R W : Type 0} → (reads : R → R → Type 0) → (writes : W → W → Type 0) → R → W → ServeFault → Type 0
+HasFailed reads writes reader writer fault.Read = EndsBy reads reader
+HasFailed reads writes reader writer fault.Write = EndsBy writes writer
+HasFailed reads writes reader writer fault.OutOfMemory = ⊥
+
+-- as many requests or options were read as can be counted, each of 16 bytes at least
+abbrev pub IsSpent : (unread left : Option (List ℕ)) → Type 0
+IsSpent unread left = (bytes : List ℕ) × (16 * (2 ^ 64 - 1) ≤ length bytes) × Consumes unread left bytes
+
+-- WHY A SESSION STOPPED: its last call failed, or `Read` tells that no more can be counted
+abbrev pub HasStopped : {R W : Type 0} → (reads : R → R → Type 0) → (writes : W → W → Type 0) → (unread left : Option (List ℕ)) → R → W → ServeFault → Type 0
+HasStopped reads writes unread left reader writer e = HasFailed reads writes reader writer e ⊎ ((e ≡ fault.Read) × IsSpent unread left)
