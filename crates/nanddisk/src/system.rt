@@ -277,6 +277,7 @@ impl<'a, R: Files<File = File> + AllocGlobal + Clock> DiskFiles for SystemFiles<
         }
     }
 
+    #[tactic(auto, unfolding(file_die::specs::Rows::is_kept))]
     fn open(
         &mut self,
         alloc: Global,
