@@ -1,14 +1,14 @@
 -- What any bytes of a page with its codes read as.
-use Rattle.std.proofs.Common.{◌≡◌, ◌⊎◌, inl, inr, ℕ, ◌+◌, ◌-◌, ◌*◌, ◌<◌, ◌≤◌, zero, suc, min, List, ◌++◌, length, take, drop, Option, Some, None, refl, sym, ap, subst, arith, length-take, length-drop}
+use Rattle.std.proofs.Common.{◌≡◌, ◌⊎◌, inl, inr, ℕ, ◌+◌, ◌*◌, ◌≤◌, zero, suc, min, List, length, take, drop, Option, Some, None, refl, sym, ap, subst, arith, length-take, length-drop}
 use Rattle.std.specs.Option.{unwrap_or}
 use Rattle.error_correction.specs.Bits.{AreBytes}
 use Rattle.error_correction.specs.Correct.{IsChunk, wrong_bits}
 use Rattle.page_layout.specs.declared.geometry.Geometry.{Geometry}
-use Rattle.page_layout.specs.Page.{Page, IsPage}
+use Rattle.page_layout.specs.Page.{Page}
 use Rattle.page_code.specs.Layout.{chunk_count}
 use Rattle.page_code.specs.Near.{AreNear, IsNear}
 use Rattle.page_code.specs.Corrected.{stored, lost_if, lost_in, corrected, corrected_chunks, corrected_areas, corrected_page, sum_chunks, lost_areas, lost_chunks, plain_of, plain_code, body_codes}
-use Rattle.page_code.proofs.Parts.{Parts, parts, take_bytes, drop_bytes}
+use Rattle.page_code.proofs.Parts.{parts, take_bytes, drop_bytes}
 use Rattle.page_code.proofs.Pages.{enough}
 use Rattle.page_code.proofs.Puts.{put_right_law}
 use Rattle.page_code.proofs.Rights.{stored_law}

@@ -2,5 +2,4 @@ pub mod ReadLemmas
 pub mod LawLemmas
 pub mod ShowLemmas
 pub mod StoreLemmas
-pub mod MemoryLemmas
 pub mod AnyLemmas

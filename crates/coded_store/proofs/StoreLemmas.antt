@@ -1,130 +1,84 @@
--- A file of pages with their codes is, as it reads, a store.
-use Rattle.std.proofs.Common.{◌≡◌, inl, inr, ℕ, ◌+◌, ◌*◌, ◌/◌, ◌<◌, zero, suc, Bool, true, List, [], ◌∷◌, ◌++◌, length, take, drop, map, replicate, Option, Some, None, refl, sym, ap, ◌∙◌, subst, arith}
-use Rattle.std.specs.Prelude.{slice_get, slice_set, option_map}
-use Rattle.std.proofs.lemmas.Bool.{cases_lt}
-use Rattle.std.proofs.lemmas.List.{get_or-map, get_or_past, length-map, map-append, map-set, take-map, drop-map}
-use Rattle.std.proofs.lemmas.Option.{slice_get-map}
+-- Rows of pages with their codes are, as they read, those of a store.
+use Rattle.std.proofs.Common.{◌≡◌, ℕ, ◌+◌, ◌-◌, ◌*◌, ◌<◌, ◌≤◌, zero, suc, Bool, List, [], ◌∷◌, take, drop, map, replicate, refl, sym, ap, ◌∙◌, subst, arith}
+use Rattle.std.specs.List.{range_with_len}
+use Rattle.std.proofs.Math.Nat.{mul-le-mul_right}
+use Rattle.std.proofs.lemmas.List.{ext_get_or, get_or-replicate, length-replicate, take-replicate, drop-replicate}
 use Rattle.page_layout.specs.declared.geometry.Geometry.{Geometry}
 use Rattle.page_layout.specs.Geometry.{row_count}
-use Rattle.page_layout.specs.Page.{Page, Image, IsPage, IsImage}
-use Rattle.page_layout.specs.Flash.{no_page, with_block}
-use Rattle.page_layout.proofs.FlashLemmas.{inside}
-use Rattle.nand_die.proofs.PagesLemmas.{block_within}
-use Rattle.file_die.specs.Store.{Held, AreImages, MayBeLeft, Loads, Puts, Clears, Syncs, page_in}
-use Rattle.coded_store.specs.Reading.{read_as, read_image, reading, erased_with_codes}
-use Rattle.coded_store.specs.File.{IsWithCodes, IsImageWithCodes, AreWithCodes, Writes, Erases, Keeps}
-use Rattle.coded_store.specs.Laws.{BlankLaw}
+use Rattle.page_layout.specs.Page.{Page, page}
+use Rattle.page_layout.specs.Flash.{no_page}
+use Rattle.onfi_cycles.specs.Cycles.{page_of}
+use Rattle.page_code.specs.Layout.{outer_bytes}
+use Rattle.file_die.specs.Bytes.{Bytes, piece}
+use Rattle.file_die.specs.Rows.{Rows, IsReading, read_rows, held_in}
+use Rattle.file_die.specs.Store.{Puts, page_in}
+use Rattle.file_die.proofs.RowLemmas.{rows_length, row_is}
+use Rattle.coded_store.specs.Reading.{coded_bytes, read_as, shown_by, erased_with_codes}
+use Rattle.coded_store.specs.File.{image_with_codes}
+use Rattle.coded_store.specs.Laws.{BlankLaw, BlankFileLaw, RowsLaw}
 use Rattle.coded_store.proofs.ReadLemmas.{read_sized}
 use Rattle.coded_store.proofs.LawLemmas.{erased_reads}
+use Rattle.coded_store.proofs.ShowLemmas.{stands_with_codes}
 
--- ---- images
+-- ---- how rows are read
 
-pub row_reads : (g : Geometry) (image : Image) (row : ℕ) → row < length image → page_in (read_image g image) row ≡ read_as g (page_in image row)
-row_reads g image row l = get_or-map (read_as g) image row no_page no_page l
+blank_page : (g : Geometry) (size : ℕ) → size ≡ coded_bytes g → page_of g (replicate size 255) ≡ erased_with_codes g
+blank_page g size e =
+    let d = g.data_bytes in
+    let rest : size - d ≡ outer_bytes g = omega arith in
+    ap (λ z. page z (drop d (replicate size 255))) (take-replicate d size 255 (omega arith)) ∙ ap (λ z. page (replicate d 255) z) (drop-replicate d size 255 ∙ ap (λ k. replicate k 255) rest)
 
--- a row that stays, one past the images too
-row_stays : (g : Geometry) (old new : Image) (row : ℕ) → length old ≡ length new → page_in new row ≡ page_in old row → page_in (read_image g new) row ≡ page_in (read_image g old) row
-row_stays g old new row same e = elim (cases_lt row (length old)) [
-  | inl l ↦ row_reads g new row (omega arith) ∙ (ap (read_as g) e ∙ sym (row_reads g old row l))
-  | inr past ↦
-      get_or_past (read_image g new) row no_page (omega (arith, length-map new (read_as g)))
-      ∙ sym (get_or_past (read_image g old) row no_page (omega (arith, length-map old (read_as g))))
-]
-
-found_sized : (g : Geometry) (found : Option Page) (q : Page) → ((r : Page) → found ≡ Some r → IsWithCodes g r) → option_map (read_as g) found ≡ Some q → IsPage g q
-found_sized g None q all e = absurd (let clash : None ≡ Some q = e in cc)
-found_sized g (Some r) q all e = let is : read_as g r ≡ q = cc in subst (λ p. IsPage g p) is (read_sized g r (all r refl))
-
-image_reads : (g : Geometry) (image : Image) → IsImageWithCodes g image → IsImage g (read_image g image)
-image_reads g image h = record {
-  rows = length-map image (read_as g) ∙ h.rows;
-  pages = λ row q e. found_sized g (slice_get image row) q (λ r f. h.pages row r f) (sym (slice_get-map (read_as g) image row) ∙ e);
+-- each row reads as a page of the die, and erased bytes as an erased one
+pub coded_reading : (g : Geometry) (size : ℕ) → size ≡ coded_bytes g → IsReading g size (shown_by g)
+coded_reading g size e = record {
+  pages = λ bytes l fits. read_sized g (page_of g bytes) (stands_with_codes g bytes (l ∙ e) fits);
+  erased = ap (read_as g) (blank_page g size e) ∙ erased_reads g;
 }
 
-pub images_read : (s : Held) → AreWithCodes s → AreImages (reading s)
-images_read s h = record { pages_whole = image_reads s.geometry s.pages h.pages_whole; durable_whole = image_reads s.geometry s.durable h.durable_whole }
+-- ---- what stands in a file
 
--- the images of both are as long
-same_rows : (s t : Held) → t.geometry ≡ s.geometry → AreWithCodes s → AreWithCodes t → length s.pages ≡ length t.pages
-same_rows s t e a b = a.pages_whole.rows ∙ (ap row_count (sym e) ∙ sym b.pages_whole.rows)
+map_twice : (f : Page → Page) (h : ℕ → Page) (xs : List ℕ) → map (λ x. f (h x)) xs ≡ map f (map h xs)
+map_twice f h [] = refl
+map_twice f h (x ∷ xs) = ap (λ z. f (h x) ∷ z) (map_twice f h xs)
 
-left_at : (was was' is is' left left' : Page) → was ≡ was' → is ≡ is' → left ≡ left' → MayBeLeft (was ∷ is ∷ []) left → MayBeLeft (was' ∷ is' ∷ []) left'
-left_at was was' is is' left left' e f h m =
-    subst (λ p. MayBeLeft (was' ∷ is' ∷ []) p) h (subst (λ p. MayBeLeft (was' ∷ p ∷ []) left) f (subst (λ p. MayBeLeft (p ∷ is ∷ []) left) e m))
+pub rows_law : RowsLaw
+unfolding read_rows
+rows_law g bytes = map_twice (read_as g) (λ row. page_of g (piece (coded_bytes g) row bytes)) (range_with_len 0 (row_count g))
+
+-- the bytes of a row are the page that stands there
+pub stood_at : (g : Geometry) (size row : ℕ) (given bytes : List ℕ) → size ≡ coded_bytes g → row < row_count g → given ≡ piece size row bytes → page_of g given ≡ page_in (image_with_codes g bytes) row
+stood_at g size row given bytes is lt e = ap (page_of g) (e ∙ ap (λ n. piece n row bytes) is) ∙ sym (row_is (page_of g) (coded_bytes g) (row_count g) row bytes lt)
 
 -- ---- calls
 
-pub loads_read : (s t : Held) (row : ℕ) (stands page : Page) (done : Bool) → AreWithCodes s → row < row_count s.geometry → Loads s row stands done t → (done ≡ true → page ≡ read_as s.geometry stands) → Loads (reading s) row page done (reading t)
-loads_read s t row stands page done a l loads shows = record {
-  gave = λ e. shows e ∙ (ap (read_as s.geometry) (loads.gave e) ∙ sym (row_reads s.geometry s.pages row (subst (λ n. row < n) (sym a.pages_whole.rows) l)));
-  same = ap reading loads.same;
-}
+-- a put is of what was given, which is what is shown of its codes and it
+pub puts_shown : {F : Type 0} → (held : F → Bytes) (old new : Rows F) (row : ℕ) (bytes : List ℕ) (p : Page) (done : Bool) → new.geometry ≡ old.geometry → shown_by old.geometry bytes ≡ p
+    → Puts (held_in held (shown_by old.geometry) old) row (shown_by old.geometry bytes) done (held_in held (shown_by old.geometry) new) → Puts (held_in held (shown_by old.geometry) old) row p done (held_in held (shown_by new.geometry) new)
+puts_shown held old new row bytes p done e is w =
+    subst (λ (z : Geometry). Puts (held_in held (shown_by old.geometry) old) row p done (held_in held (shown_by z) new)) (sym e)
+    (subst (λ (q : Page). Puts (held_in held (shown_by old.geometry) old) row q done (held_in held (shown_by old.geometry) new)) is w)
 
-pub puts_read : (s t : Held) (row : ℕ) (stands page : Page) (done : Bool) → AreWithCodes s → t.geometry ≡ s.geometry → row < row_count s.geometry → read_as s.geometry stands ≡ page → Writes s row stands done t
-    → Puts (reading s) row page done (reading t)
-puts_read s t row stands page done a g l reads writes =
-    let b = writes.whole a in
-    let same = same_rows s t g a b in
-    let f = s.geometry in
-    let in_old : row < length s.pages = subst (λ n. row < n) (sym a.pages_whole.rows) l in
-    let in_new : row < length t.pages = subst (λ n. row < n) same in_old in
-    let here : read_image t.geometry t.pages ≡ read_image f t.pages = ap (λ z. read_image z t.pages) g in
-    record {
-      put = λ e. here ∙ (ap (read_image f) (writes.written e) ∙ (map-set (read_as f) s.pages row stands ∙ ap (λ p. slice_set (read_image f s.pages) row p) reads));
-      torn = λ e. left_at _ _ _ _ _ _ (sym (row_reads f s.pages row in_old)) reads (sym (ap (λ z. page_in z row) here ∙ row_reads f t.pages row in_new)) (writes.torn e);
-      others = λ other ne. ap (λ z. page_in z other) here ∙ row_stays f s.pages t.pages other same (writes.others other ne);
-      lasts = writes.lasts;
-      whole = λ _. images_read t b;
-    }
+-- ---- erased pages
 
 fill_reads : (f : Page → Page) (n : ℕ) (p : Page) → map f (replicate n p) ≡ replicate n (f p)
 fill_reads f zero p = refl
 fill_reads f (suc n) p = ap (λ z. f p ∷ z) (fill_reads f n p)
 
-block_reads : (f : Page → Page) (pages block : ℕ) (left : List Page) (image : Image) → map f (with_block pages block left image) ≡ with_block pages block (map f left) (map f image)
-block_reads f pages block left image =
-    map-append f (take (block * pages) image) (left ++ drop (block * pages + pages) image)
-    ∙ (ap (λ z. z ++ map f (left ++ drop (block * pages + pages) image)) (sym (take-map f (block * pages) image))
-    ∙ ap (λ z. take (block * pages) (map f image) ++ z) (map-append f left (drop (block * pages + pages) image)
-    ∙ ap (λ z. map f left ++ z) (sym (drop-map f (block * pages + pages) image))))
-
-pub clears_read : (s t : Held) (block : ℕ) (done : Bool) → AreWithCodes s → t.geometry ≡ s.geometry → ((row : ℕ) → row / s.geometry.pages ≡ block → row < row_count s.geometry) → Erases s block done t → Clears (reading s) block done (reading t)
-clears_read s t block done a g inside erases =
-    let b = erases.whole a in
-    let same = same_rows s t g a b in
-    let f = s.geometry in
-    let here : read_image t.geometry t.pages ≡ read_image f t.pages = ap (λ z. read_image z t.pages) g in
-    record {
-      cleared = λ e. here ∙ (ap (read_image f) (erases.erased e) ∙ (block_reads (read_as f) f.pages block (replicate f.pages (erased_with_codes f)) s.pages
-          ∙ ap (λ z. with_block f.pages block z (read_image f s.pages)) (fill_reads (read_as f) f.pages (erased_with_codes f) ∙ ap (replicate f.pages) (erased_reads f))));
-      torn = λ e row is.
-          let in_old : row < length s.pages = subst (λ n. row < n) (sym a.pages_whole.rows) (inside row is) in
-          let in_new : row < length t.pages = subst (λ n. row < n) same in_old in
-          left_at _ _ _ _ _ _ (sym (row_reads f s.pages row in_old)) refl (sym (ap (λ z. page_in z row) here ∙ row_reads f t.pages row in_new)) (erases.torn e row is);
-      others = λ row ne. ap (λ z. page_in z row) here ∙ row_stays f s.pages t.pages row same (erases.others row ne);
-      lasts = erases.lasts;
-      whole = λ _. images_read t b;
-    }
-
-pub syncs_read : (s t : Held) (done : Bool) → AreWithCodes s → t.geometry ≡ s.geometry → Keeps s done t → Syncs (reading s) done (reading t)
-syncs_read s t done a g keeps =
-    let f = s.geometry in
-    record {
-      same = ap (λ z. read_image z t.pages) g ∙ ap (read_image f) keeps.same;
-      synced = λ e. ap (λ z. read_image z t.durable) g ∙ ap (read_image f) (keeps.synced e);
-      lasts = keeps.lasts;
-      whole = λ _. images_read t (keeps.whole a);
-    }
-
--- the rows of a block
-pub block_rows : (g : Geometry) (block row : ℕ) → block < g.blocks → row / g.pages ≡ block → row < row_count g
-block_rows g block row l e =
-    let some : 0 < g.pages = omega (arith, g.limits.page_count.least) in
-    let k = inside g.pages block row some e in
-    let within = block_within g block l in
-    let low = k.1 in
-    let is = k.2 in
-    omega arith
-
 pub blank_law : BlankLaw
 blank_law g = fill_reads (read_as g) (row_count g) (erased_with_codes g) ∙ ap (replicate (row_count g)) (erased_reads g)
+
+erased_piece : (size n row : ℕ) → row < n → piece size row (replicate (n * size) 255) ≡ replicate size 255
+erased_piece size n row lt =
+    let m : suc row * size ≤ n * size = mul-le-mul_right size lt in
+    let e : suc row * size ≡ row * size + size = omega arith in
+    ap (take size) (drop-replicate (row * size) (n * size) 255) ∙ take-replicate size (n * size - row * size) 255 (omega (arith, m, e))
+
+pub blank_file_law : BlankFileLaw
+blank_file_law g =
+    let n : ℕ = row_count g in
+    let size : ℕ = coded_bytes g in
+    let bytes : List ℕ = replicate (n * size) 255 in
+    let is_long = rows_length (page_of g) size n bytes in
+    ext_get_or no_page (image_with_codes g bytes) (replicate n (erased_with_codes g)) (is_long ∙ sym (length-replicate n (erased_with_codes g))) (λ row l.
+    let lt : row < n = subst (λ k. row < k) is_long l in
+    row_is (page_of g) size n row bytes lt ∙ (ap (page_of g) (erased_piece size n row lt) ∙ (blank_page g size refl ∙ sym (get_or-replicate n row (erased_with_codes g) no_page lt))))

@@ -1,48 +1,56 @@
 -- THE STORE OVER A FILE OF PAGES WITH THEIR CODES: its file, and what was wrong with each row as it was last read.
-use Rattle.std.specs.Prelude.{◌≡◌, ℕ, Bool, true, false, List, length, replicate, slice_set, sum_by, count_by, Result, Ok, Err}
+use Rattle.std.specs.Prelude.{◌≡◌, ℕ, ◌*◌, Bool, true, false, List, length, replicate, slice_set, sum_by, count_by}
 use Rattle.page_layout.specs.declared.geometry.Geometry.{Geometry}
 use Rattle.page_layout.specs.Geometry.{row_count}
-use Rattle.page_layout.specs.Page.{Page}
+use Rattle.page_layout.specs.Page.{Page, Image}
 use Rattle.onfi_cycles.specs.Cycles.{page_of}
-use Rattle.file_die.specs.declared.store.StoreFault.{StoreFault}
 use Rattle.file_die.specs.Store.{Held}
+use Rattle.file_die.specs.Bytes.{Bytes, Gives}
+use Rattle.file_die.specs.Rows.{Rows, held_in, is_kept}
 use Rattle.coded_store.specs.declared.wrong.Wrong.{Wrong}
 use Rattle.coded_store.specs.declared.wrong.Wrong.TheVariants.{Turned, Lost}
 use Rattle.coded_store.specs.declared.coded.Mended.{Mended}
-use Rattle.coded_store.specs.Reading.{coded_bytes, read_as, wrong_with}
-use Rattle.coded_store.specs.File.{IsWithCodes, AreWithCodes}
+use Rattle.coded_store.specs.Reading.{coded_bytes, read_as, shown_by, wrong_with}
+use Rattle.coded_store.specs.File.{IsWithCodes, image_with_codes}
 
 pub record Coded (F : Type 0) : Type 0 where
-  pub file : F
+  pub rows : Rows F
   pub wrong : List Wrong
 
--- nothing was read yet
-abbrev pub unread : {F : Type 0} → F → Geometry → Coded F
-unread file g = record { file = file; wrong = replicate (row_count g) (Turned 0) }
+-- nothing was wrong, since nothing was read
+abbrev pub none_read : Geometry → List Wrong
+none_read g = replicate (row_count g) (Turned 0)
 
--- what is true of its parts
-pub record AreCodedParts (s : Held) (honest : Bool) (g : Geometry) (buffer : List ℕ) (wrong : List Wrong) : Type 0 where
-  pub same : s.geometry ≡ g
-  pub whole : honest ≡ true → AreWithCodes s
+-- what is true of its parts: a row has the bytes of a page with its codes
+pub record AreCodedParts (g : Geometry) (size : ℕ) (buffer : List ℕ) (wrong : List Wrong) : Type 0 where
+  pub sized : size ≡ coded_bytes g
   pub buffer_whole : length buffer ≡ coded_bytes g
   pub rows : length wrong ≡ row_count g
 
+-- ---- what it holds
+
+-- WHAT STANDS IN ITS FILE: the pages with their codes
+abbrev pub standing : {F : Type 0} → (F → Bytes) → Coded F → Image
+standing held s = image_with_codes s.rows.geometry (held s.rows.file).bytes
+
+-- THE PAGES THAT IT HOLDS: what stands there, as it reads
+abbrev pub reading : {F : Type 0} → (F → Bytes) → Coded F → Held
+reading held s = held_in held (shown_by s.rows.geometry) s.rows
+
+-- whether these are kept
+abbrev pub is_honest : {F : Type 0} → (F → Bytes) → (F → Bool) → (F → ℕ → (List ℕ → Page) → Bool) → Coded F → Bool
+is_honest held honest tells s = is_kept held honest tells (shown_by s.rows.geometry) s.rows
+
 -- ---- a load
 
--- A LOAD OF A ROW, whatever the file does: it was read once, and of just the bytes that it gave the page is shown, and what is wrong with them is remembered
--- of the row. `gave` is the file's own word for one read.
-pub record ShowsRow {F : Type 0} (gave : F → ℕ → Result (Unit {0}) StoreFault → List ℕ → F → Type 0) (g : Geometry) (old new : Coded F) (row : ℕ) (shown : Page) : Type 0 where
+-- A LOAD OF A ROW, whatever the file does: of just the bytes that its reads gave, from the first of the row on, the page is shown, and what is wrong with
+-- them is remembered of the row. `gave` is the file's own word for one read.
+pub record ShowsRow {F : Type 0} (gave : F → ℕ → List ℕ → F → Type 0) (g : Geometry) (old new : Coded F) (row : ℕ) (shown : Page) : Type 0 where
   pub bytes : List ℕ
-  pub once : gave old.file row (Ok tt) bytes new.file
+  pub once : Gives gave old.rows.file (row * coded_bytes g) bytes new.rows.file
   pub whole : IsWithCodes g (page_of g bytes)
   pub shows : shown ≡ read_as g (page_of g bytes)
   pub tells : new.wrong ≡ slice_set old.wrong row (wrong_with g (page_of g bytes))
-
--- One that failed: the file was read once, and what is remembered stays.
-pub record FailsRow {F : Type 0} (gave : F → ℕ → Result (Unit {0}) StoreFault → List ℕ → F → Type 0) (old new : Coded F) (row : ℕ) (fault : StoreFault) : Type 0 where
-  pub bytes : List ℕ
-  pub once : gave old.file row (Err fault) bytes new.file
-  pub tells : new.wrong ≡ old.wrong
 
 -- ---- in all
 

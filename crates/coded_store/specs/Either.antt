@@ -1,23 +1,24 @@
 -- A STORE WITH CODES, OR ONE WITHOUT: what it is, by which of them it is.
-use Rattle.std.specs.Prelude.{ℕ, Bool}
+use Rattle.std.specs.Prelude.{ℕ, Bool, List}
+use Rattle.page_layout.specs.Page.{Page}
 use Rattle.file_die.specs.Store.{Held}
+use Rattle.file_die.specs.Bytes.{Bytes}
 use Rattle.coded_store.specs.declared.either.MaybeCoded.{MaybeCoded}
 use Rattle.coded_store.specs.declared.either.MaybeCoded.TheVariants.{Plain, Coded}
 use Rattle.coded_store.specs.declared.coded.Mended.{Mended}
-use Rattle.coded_store.specs.Reading.{reading}
-use Rattle.coded_store.specs.Coded.{mended_of, nothing_wrong}
+use Rattle.coded_store.specs.Coded.{reading, is_honest, mended_of, nothing_wrong}
 
-abbrev pub held_of : {S F : Type 0} → (S → Held) → (F → Held) → MaybeCoded S F → Held
-held_of plain coded (Plain s) = plain s
-held_of plain coded (Coded s) = reading (coded s.file)
+abbrev pub held_of : {S F : Type 0} → (S → Held) → (F → Bytes) → MaybeCoded S F → Held
+held_of plain held (Plain s) = plain s
+held_of plain held (Coded s) = reading held s
 
-abbrev pub honest_of : {S F : Type 0} → (S → Bool) → (F → Bool) → MaybeCoded S F → Bool
-honest_of plain coded (Plain s) = plain s
-honest_of plain coded (Coded s) = coded s.file
+abbrev pub honest_of : {S F : Type 0} → (S → Bool) → (F → Bytes) → (F → Bool) → (F → ℕ → (List ℕ → Page) → Bool) → MaybeCoded S F → Bool
+honest_of plain held honest tells (Plain s) = plain s
+honest_of plain held honest tells (Coded s) = is_honest held honest tells s
 
-abbrev pub failed_of : {S F : Type 0} → (S → ℕ) → (F → ℕ) → MaybeCoded S F → ℕ
-failed_of plain coded (Plain s) = plain s
-failed_of plain coded (Coded s) = coded s.file
+abbrev pub failed_of : {S F : Type 0} → (S → ℕ) → MaybeCoded S F → ℕ
+failed_of plain (Plain s) = plain s
+failed_of plain (Coded s) = s.rows.failures
 
 -- what was wrong with its pages as each was last read, where they have codes
 abbrev pub mended_in : {S F : Type 0} → MaybeCoded S F → Mended

@@ -1,5 +1,5 @@
 -- WHAT A FILE WITH CODES COMES TO: pages with wrong bits read as they were written.
-use Rattle.std.specs.Prelude.{◌≡◌, ◌<◌, ◌+◌, ℕ, zero, suc, ◌⊎◌, false, None, List, take, drop, length, replicate}
+use Rattle.std.specs.Prelude.{◌≡◌, ◌<◌, ◌+◌, ◌*◌, ℕ, zero, suc, ◌⊎◌, false, None, List, take, drop, length, replicate}
 use Rattle.page_layout.specs.declared.geometry.Geometry.{Geometry}
 use Rattle.page_layout.specs.Geometry.{row_count}
 use Rattle.page_layout.specs.Page.{Page, Image, IsPage, IsImage}
@@ -13,8 +13,9 @@ use Rattle.corrected_nand.specs.Shown.{lost_page}
 use Rattle.file_die.specs.Store.{page_in}
 use Rattle.coded_store.specs.declared.wrong.Wrong.{Wrong}
 use Rattle.coded_store.specs.declared.wrong.Wrong.TheVariants.{Turned, Lost}
-use Rattle.coded_store.specs.Reading.{read_as, wrong_with, read_image, erased_with_codes}
-use Rattle.coded_store.specs.File.{IsWithCodes}
+use Rattle.file_die.specs.Rows.{read_rows}
+use Rattle.coded_store.specs.Reading.{coded_bytes, read_as, shown_by, wrong_with, read_image, erased_with_codes}
+use Rattle.coded_store.specs.File.{IsWithCodes, image_with_codes}
 
 -- the page is shown, and this is told of it
 pub record Reads (g : Geometry) (stands page : Page) (wrong : Wrong) : Type 0 where
@@ -75,6 +76,14 @@ ErasedLaw = (g : Geometry) → coded g (erased_page g) ≡ erased_with_codes g
 -- a file of erased pages reads as a store of such
 abbrev pub BlankLaw : Type 0
 BlankLaw = (g : Geometry) → read_image g (replicate (row_count g) (erased_with_codes g)) ≡ replicate (row_count g) (erased_page g)
+
+-- as one of FFh bytes is
+abbrev pub BlankFileLaw : Type 0
+BlankFileLaw = (g : Geometry) → image_with_codes g (replicate (row_count g * coded_bytes g) 255) ≡ replicate (row_count g) (erased_with_codes g)
+
+-- the pages that a store holds are what stands in its file, as that reads
+abbrev pub RowsLaw : Type 0
+RowsLaw = (g : Geometry) (bytes : List ℕ) → read_rows (shown_by g) (coded_bytes g) (row_count g) bytes ≡ read_image g (image_with_codes g bytes)
 
 -- each row is near to that of an image
 pub record AreNearTo (g : Geometry) (image stand : Image) : Type 0 where

@@ -1,8 +1,8 @@
 -- A PAGE AS IT READS, by the bytes that stand for it with their codes, and what is wrong with it.
-use Rattle.std.specs.Prelude.{ℕ, ◌+◌, ◌==◌, if◌then◌else◌, map, replicate}
+use Rattle.std.specs.Prelude.{ℕ, ◌+◌, ◌==◌, if◌then◌else◌, List, map, replicate}
 use Rattle.page_layout.specs.declared.geometry.Geometry.{Geometry}
 use Rattle.page_layout.specs.Page.{Page, Image, page}
-use Rattle.file_die.specs.Store.{Held}
+use Rattle.onfi_cycles.specs.Cycles.{page_of}
 use Rattle.page_code.specs.Layout.{outer_bytes}
 use Rattle.page_code.specs.Corrected.{corrected_page, turned_bits, lost_chunks}
 use Rattle.corrected_nand.specs.Shown.{lost_page}
@@ -21,6 +21,10 @@ erased_with_codes g = page (replicate g.data_bytes 255) (replicate (outer_bytes 
 unfoldable pub read_as : Geometry → Page → Page
 read_as g r = if lost_chunks g r == 0 then corrected_page g r else lost_page g
 
+-- the page that bytes read as, its data area standing before its spare area with the codes
+abbrev pub shown_by : Geometry → List ℕ → Page
+shown_by g bytes = read_as g (page_of g bytes)
+
 -- WHAT IS WRONG WITH A PAGE: so many bits, which are turned back, or a chunk is lost
 unfoldable pub wrong_with : Geometry → Page → Wrong
 wrong_with g r = if lost_chunks g r == 0 then Turned (turned_bits g r) else Lost
@@ -28,7 +32,3 @@ wrong_with g r = if lost_chunks g r == 0 then Turned (turned_bits g r) else Lost
 -- pages as they read
 abbrev pub read_image : Geometry → Image → Image
 read_image g pages = map (read_as g) pages
-
--- what stands in a file, as it reads
-abbrev pub reading : Held → Held
-reading s = record { geometry = s.geometry; pages = read_image s.geometry s.pages; durable = read_image s.geometry s.durable }

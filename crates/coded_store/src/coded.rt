@@ -1,17 +1,16 @@
 //! The store over a file of pages with their codes.
-ghost use Rattle.std.specs.Prelude.{◌≡◌, ◌<◌, ◌≤◌, ◌^◌, true, length, slice_set, OnErr, OnOk, IfOk, MatchResult, is_ok};
+ghost use Rattle.std.specs.Prelude.{◌≡◌, ◌≢◌, ◌<◌, ◌≤◌, ◌^◌, ℕ, ◌*◌, ◌&&◌, ◌==◌, true, length, replicate, slice_set, None, OnErr, OnOk, OnSome, IfOk, IfErr, IfNone, is_ok};
 ghost use Rattle.page_layout.specs.Counter.{HasRisen};
 ghost use Rattle.page_layout.specs.Geometry.{row_count, page_bytes};
 ghost use Rattle.onfi_cycles.specs.Cycles.{page_of};
 ghost use Rattle.page_code.specs.Layout.{coded};
-ghost use Rattle.file_die.specs.Store.{AreImages, Loads, Puts, Clears, Syncs, page_in};
-ghost use Rattle.coded_store.specs.Reading.{reading, wrong_with};
-ghost use Rattle.coded_store.specs.Coded.{unread, turned_of, mended_of, ShowsRow, FailsRow};
+ghost use Rattle.file_die.specs.Store.{Loads, Puts, Clears, Syncs, page_in};
+ghost use Rattle.coded_store.specs.Reading.{coded_bytes, shown_by, wrong_with};
+ghost use Rattle.coded_store.specs.Coded.{none_read, turned_of, mended_of, reading, standing, is_honest, ShowsRow};
 
-use crate::file::PageFile;
 use crate::show::{coded_length, show, spell};
 use crate::wrong::Wrong;
-use file_die::{Store, StoreFault};
+use file_die::{ByteFault, ByteFile, RowFault, RowFile, Store, StoreFault};
 use page_layout::geometry::Geometry;
 use std::alloc::{AllocError, Global};
 use std::marker::Model;
@@ -25,25 +24,25 @@ pub struct Mended {
     pub lost: u64,
 }
 
-/// A store over a file of pages with their codes. A page of which each chunk with its code has at most one wrong bit is loaded as it was put; one of which a
-/// chunk has more is loaded as a page of 00h bytes, which is neither erased nor sound. It remembers what was wrong with each row as it was last read.
+/// The pages of a die in a file, each with its codes, one behind another in row order: its data area, and then its spare area as on a chip. A page of which
+/// each chunk with its code has at most one wrong bit is loaded as it was put; one of which a chunk has more is loaded as a page of 00h bytes, which is neither
+/// erased nor sound. It keeps its pages just where the file keeps its bytes, and remembers what was wrong with each row as it was last read.
 /// (This project's.)
 #[derive(Drop)]
-pub struct CodedStore<F: PageFile> {
-    file: F,
-    geometry: Geometry,
+pub struct CodedStore<F: ByteFile> {
+    rows: RowFile<F>,
     stands: Vec<u8>,
     wrong: Vec<Wrong>,
 }
 
-impl<F: PageFile> Model for CodedStore<F> {
+impl<F: ByteFile> Model for CodedStore<F> {
     ghost use Rattle.coded_store.specs.Coded.{Coded, AreCodedParts};
 
     ghost Value = { Coded F };
 
-    ghost view = { λ s. record { file = s.file; wrong = s.wrong.items } };
+    ghost view = { λ s. record { rows = s.rows; wrong = s.wrong.items } };
 
-    ghost invariant = { λ s. AreCodedParts (F.held s.file) (F.honest s.file) s.geometry s.stands.items s.wrong.items };
+    ghost invariant = { λ s. AreCodedParts s.rows.geometry s.rows.size s.stands.items s.wrong.items };
 }
 
 // The bits that were turned back of a row.
@@ -90,23 +89,40 @@ fn tally(wrong: &[Wrong]) -> Mended
     }
 }
 
-impl<F: PageFile> CodedStore<F> {
-    /// A store over this file. It takes memory for a page and two bytes for each row; no call of it takes more. Nothing is read.
+// Room for a page with its codes, and for what was wrong with each row.
+fn room_for(alloc: Global, geometry: &Geometry) -> Result<(Vec<u8>, Vec<Wrong>), AllocError>
+    ensures stands { IfOk result (λ room. length room.0.items ≡ coded_bytes geometry.now) }
+    ensures wrong { IfOk result (λ room. room.1.items ≡ none_read geometry.now) }
+{
+    let stands = vec![in alloc; 0u8; coded_length(geometry)]?;
+    let wrong = vec![in alloc; Wrong::Turned(0); geometry.rows() as usize]?;
+    Ok((stands, wrong))
+}
+
+impl<F: ByteFile> CodedStore<F> {
+    /// A store over a file that is open for reading and writing, in which what stands is made to last first. It takes memory for an erased block, a page and
+    /// two bytes for each row; no call of it takes more. No page is read.
     ///
     /// # Errors
     ///
-    /// `AllocError` where there is no memory for these.
-    pub fn new(alloc: Global, file: F) -> Result<CodedStore<F>, AllocError>
+    /// - `OutOfMemory` where there is no memory for these.
+    /// - `Length` where the file has not as many bytes as all pages with their codes.
+    /// - `File` where the file did not tell its length, or the sync failed.
+    pub fn new(alloc: Global, geometry: Geometry, file: F) -> Result<CodedStore<F>, RowFault>
     where
         F: Drop,
-        ensures { IfOk result (λ store. store ≡ unread file (F.held file).geometry) }
+        ensures made { IfOk result (λ store. (store.rows.geometry ≡ geometry) × (store.rows.failures ≡ 0) × (store.rows.fault ≡ None) × (store.wrong ≡ none_read geometry)) }
+        ensures honest { IfOk result (λ store. is_honest F.held F.honest F.tells store ≡ (F.honest file && (F.tells file (coded_bytes geometry) (shown_by geometry) && ((F.held file).failed_syncs == 0)))) }
+        ensures bytes { IfOk result (λ store. F.honest file ≡ true → (F.held store.rows.file).bytes ≡ (F.held file).bytes) }
+        ensures whole { IfOk result (λ store. F.honest file ≡ true → length (F.held file).bytes ≡ row_count geometry * coded_bytes geometry) }
+        ensures length { IfErr result (λ fault. (n : ℕ) → fault ≡ RowFault.Length n → F.honest file ≡ true → (n ≡ length (F.held file).bytes) × (n ≢ row_count geometry * coded_bytes geometry)) }
     {
-        let geometry = file.geometry();
-        let stands = vec![in alloc; 0u8; coded_length(&geometry)]?;
-        let wrong = vec![in alloc; Wrong::Turned(0); geometry.rows() as usize]?;
+        let Ok((stands, wrong)) = room_for(alloc, &geometry) else {
+            return Err(RowFault::OutOfMemory);
+        };
+        let rows = RowFile::new(alloc, geometry, coded_length(&geometry) as u32, file)?;
         Ok(CodedStore {
-            file,
-            geometry,
+            rows,
             stands,
             wrong,
         })
@@ -119,108 +135,116 @@ impl<F: PageFile> CodedStore<F> {
         tally(&self.wrong)
     }
 
+    /// Why the first call failed that did. `None` just where none has.
+    pub fn first_fault(&self) -> Option<ByteFault>
+        ensures fault { result ≡ self.now.rows.fault }
+        ensures none { IfNone result (self.now.rows.failures ≡ 0) }
+        ensures some { OnSome result (self.now.rows.failures ≡ 0 → ⊥) }
+    {
+        self.rows.first_fault()
+    }
+
     /// The file.
     pub fn into_file(self) -> F
-        ensures { result ≡ self.file }
+        ensures { result ≡ self.rows.file }
     {
         let CodedStore {
-            file,
-            geometry: _,
+            rows,
             stands: _,
             wrong: _,
         } = self;
-        file
+        rows.into_file()
     }
 }
 
-impl<F: PageFile> Store for CodedStore<F> {
-    ghost held = { λ s. reading (F.held s.file) };
+impl<F: ByteFile> Store for CodedStore<F> {
+    ghost held = { reading F.held };
 
-    ghost honest = { λ s. F.honest s.file };
+    ghost honest = { is_honest F.held F.honest F.tells };
 
-    ghost failed = { λ s. F.failed s.file };
+    ghost failed = { λ s. s.rows.failures };
 
     /// Loads the page of a row as it reads.
     fn load(&mut self, row: u32, page: &mut [u8]) -> Result<(), StoreFault>
-        requires in_range { row < row_count (F.held self.old.file).geometry }
-        requires room { length page.old ≡ page_bytes (F.held self.old.file).geometry }
+        requires in_range { row < row_count self.old.rows.geometry }
+        requires room { length page.old ≡ page_bytes self.old.rows.geometry }
 
         // What every store promises.
-        ensures loads { F.honest self.old.file ≡ true → Loads (reading (F.held self.old.file)) row (page_of (F.held self.old.file).geometry page.new) (is_ok result) (reading (F.held self.new.file)) }
-        ensures geometry { (F.held self.new.file).geometry ≡ (F.held self.old.file).geometry }
-        ensures honest { F.honest self.new.file ≡ F.honest self.old.file }
-        ensures failed { F.failed self.old.file ≤ F.failed self.new.file }
-        ensures settled { OnOk result (F.failed self.new.file ≡ F.failed self.old.file) }
-        ensures rose { OnErr result (HasRisen (F.failed self.old.file) (F.failed self.new.file)) }
+        ensures loads { is_honest F.held F.honest F.tells self.old ≡ true → Loads (reading F.held self.old) row (page_of self.old.rows.geometry page.new) (is_ok result) (reading F.held self.new) }
+        ensures geometry { self.new.rows.geometry ≡ self.old.rows.geometry }
+        ensures honest { is_honest F.held F.honest F.tells self.new ≡ is_honest F.held F.honest F.tells self.old }
+        ensures failed { self.old.rows.failures ≤ self.new.rows.failures }
+        ensures settled { OnOk result (self.new.rows.failures ≡ self.old.rows.failures) }
+        ensures rose { OnErr result (HasRisen self.old.rows.failures self.new.rows.failures) }
 
-        // Whatever the file does, honest or not: it is read once, and of just the bytes that it gave the page is shown, and what is wrong with them
-        // is remembered of the row, and of no other. A load that fails changes nothing of that.
-        ensures told_of { MatchResult result (λ _. ShowsRow F.gave (F.held self.old.file).geometry self.old self.new row (page_of (F.held self.old.file).geometry page.new)) (λ fault. FailsRow F.gave self.old self.new row fault) }
-
-        // Where it is honest these are the bytes that stand there.
-        ensures told { OnOk result (F.honest self.old.file ≡ true → self.new.wrong ≡ slice_set self.old.wrong row (wrong_with (F.held self.old.file).geometry (page_in (F.held self.old.file).pages row))) }
+        // Whatever the file does, honest or not: of just the bytes that its reads gave, one behind the other from the row's first on, the page is shown, and
+        // what is wrong with them is remembered of the row, and of no other. A load that fails changes nothing of that.
+        ensures told_of { OnOk result (ShowsRow F.gave self.old.rows.geometry self.old self.new row (page_of self.old.rows.geometry page.new)) }
         ensures untold { OnErr result (self.new.wrong ≡ self.old.wrong) }
+
+        // Where the file is honest these are the bytes that stand there.
+        ensures told { OnOk result (F.honest self.old.rows.file ≡ true → self.new.wrong ≡ slice_set self.old.wrong row (wrong_with self.old.rows.geometry (page_in (standing F.held self.old) row))) }
     {
-        self.file.read(row, &mut self.stands)?;
-        self.wrong[row as usize] = show(&self.geometry, &self.stands, page);
+        self.rows.read(row, &mut self.stands)?;
+        self.wrong[row as usize] = show(&self.rows.geometry(), &self.stands, page);
         Ok(())
     }
 
     /// Puts a page at a row, with its codes.
     fn put(&mut self, row: u32, page: &[u8]) -> Result<(), StoreFault>
-        requires in_range { row < row_count (F.held self.old.file).geometry }
-        requires whole { length page.now ≡ page_bytes (F.held self.old.file).geometry }
+        requires in_range { row < row_count self.old.rows.geometry }
+        requires whole { length page.now ≡ page_bytes self.old.rows.geometry }
 
         // What every store promises.
-        ensures puts { F.honest self.old.file ≡ true → Puts (reading (F.held self.old.file)) row (page_of (F.held self.old.file).geometry page.now) (is_ok result) (reading (F.held self.new.file)) }
-        ensures geometry { (F.held self.new.file).geometry ≡ (F.held self.old.file).geometry }
-        ensures honest { F.honest self.new.file ≡ F.honest self.old.file }
-        ensures failed { F.failed self.old.file ≤ F.failed self.new.file }
-        ensures settled { OnOk result (F.failed self.new.file ≡ F.failed self.old.file) }
-        ensures rose { OnErr result (HasRisen (F.failed self.old.file) (F.failed self.new.file)) }
+        ensures puts { is_honest F.held F.honest F.tells self.old ≡ true → Puts (reading F.held self.old) row (page_of self.old.rows.geometry page.now) (is_ok result) (reading F.held self.new) }
+        ensures geometry { self.new.rows.geometry ≡ self.old.rows.geometry }
+        ensures honest { is_honest F.held F.honest F.tells self.new ≡ is_honest F.held F.honest F.tells self.old }
+        ensures failed { self.old.rows.failures ≤ self.new.rows.failures }
+        ensures settled { OnOk result (self.new.rows.failures ≡ self.old.rows.failures) }
+        ensures rose { OnErr result (HasRisen self.old.rows.failures self.new.rows.failures) }
 
         // It stands there with its codes. What was wrong as rows were last read stays.
-        ensures stands { OnOk result (F.honest self.old.file ≡ true → (F.held self.new.file).pages ≡ slice_set (F.held self.old.file).pages row (coded (F.held self.old.file).geometry (page_of (F.held self.old.file).geometry page.now))) }
+        ensures stands { OnOk result (F.honest self.old.rows.file ≡ true → standing F.held self.new ≡ slice_set (standing F.held self.old) row (coded self.old.rows.geometry (page_of self.old.rows.geometry page.now))) }
         ensures untold { self.new.wrong ≡ self.old.wrong }
     {
-        spell(&self.geometry, page, &mut self.stands);
-        self.file.write(row, &self.stands)
+        spell(&self.rows.geometry(), page, &mut self.stands);
+        self.rows.write(row, &self.stands)
     }
 
     /// Puts erased pages at the rows of a block, whose codes are erased too.
     fn clear(&mut self, block: u32) -> Result<(), StoreFault>
-        requires in_range { block < (F.held self.old.file).geometry.blocks }
+        requires in_range { block < self.old.rows.geometry.blocks }
 
         // What every store promises.
-        ensures clears { F.honest self.old.file ≡ true → Clears (reading (F.held self.old.file)) block (is_ok result) (reading (F.held self.new.file)) }
-        ensures geometry { (F.held self.new.file).geometry ≡ (F.held self.old.file).geometry }
-        ensures honest { F.honest self.new.file ≡ F.honest self.old.file }
-        ensures failed { F.failed self.old.file ≤ F.failed self.new.file }
-        ensures settled { OnOk result (F.failed self.new.file ≡ F.failed self.old.file) }
-        ensures rose { OnErr result (HasRisen (F.failed self.old.file) (F.failed self.new.file)) }
+        ensures clears { is_honest F.held F.honest F.tells self.old ≡ true → Clears (reading F.held self.old) block (is_ok result) (reading F.held self.new) }
+        ensures geometry { self.new.rows.geometry ≡ self.old.rows.geometry }
+        ensures honest { is_honest F.held F.honest F.tells self.new ≡ is_honest F.held F.honest F.tells self.old }
+        ensures failed { self.old.rows.failures ≤ self.new.rows.failures }
+        ensures settled { OnOk result (self.new.rows.failures ≡ self.old.rows.failures) }
+        ensures rose { OnErr result (HasRisen self.old.rows.failures self.new.rows.failures) }
         ensures untold { self.new.wrong ≡ self.old.wrong }
     {
-        self.file.erase(block)
+        self.rows.erase(block)
     }
 
     fn sync(&mut self) -> Result<(), StoreFault>
         // What every store promises.
-        ensures syncs { F.honest self.old.file ≡ true → Syncs (reading (F.held self.old.file)) (is_ok result) (reading (F.held self.new.file)) }
-        ensures geometry { (F.held self.new.file).geometry ≡ (F.held self.old.file).geometry }
-        ensures honest { F.honest self.new.file ≡ F.honest self.old.file }
-        ensures failed { F.failed self.old.file ≤ F.failed self.new.file }
-        ensures settled { OnOk result (F.failed self.new.file ≡ F.failed self.old.file) }
-        ensures rose { OnErr result (HasRisen (F.failed self.old.file) (F.failed self.new.file)) }
+        ensures syncs { is_honest F.held F.honest F.tells self.old ≡ true → Syncs (reading F.held self.old) (is_ok result) (reading F.held self.new) }
+        ensures geometry { self.new.rows.geometry ≡ self.old.rows.geometry }
+        ensures honest { is_honest F.held F.honest F.tells self.new ≡ is_honest F.held F.honest F.tells self.old }
+        ensures failed { self.old.rows.failures ≤ self.new.rows.failures }
+        ensures settled { OnOk result (self.new.rows.failures ≡ self.old.rows.failures) }
+        ensures rose { OnErr result (HasRisen self.old.rows.failures self.new.rows.failures) }
         ensures untold { self.new.wrong ≡ self.old.wrong }
     {
-        self.file.sync()
+        self.rows.sync()
     }
 
     fn geometry(&self) -> Geometry {
-        self.geometry
+        self.rows.geometry()
     }
 
     fn failures(&self) -> u64 {
-        self.file.failures()
+        self.rows.failures()
     }
 }

@@ -3,7 +3,6 @@ ghost use Rattle.std.specs.Prelude.{◌≡◌};
 ghost use Rattle.coded_store.specs.Coded.{nothing_wrong};
 
 use crate::coded::{CodedStore, Mended};
-use crate::file::PageFile;
 use file_die::{ByteFile, FileStore, MemoryStore, Store, StoreFault};
 use page_layout::geometry::Geometry;
 
@@ -43,7 +42,7 @@ impl TellsMended for MemoryStore {
     }
 }
 
-impl<F: PageFile> TellsMended for CodedStore<F> {
+impl<F: ByteFile> TellsMended for CodedStore<F> {
     ghost use Rattle.coded_store.specs.Coded.{mended_of};
 
     ghost mended = { λ s. mended_of s.wrong };
@@ -55,21 +54,21 @@ impl<F: PageFile> TellsMended for CodedStore<F> {
 
 /// A store whose pages stand with their codes in a file, or one without. (This project's.)
 #[derive(Drop)]
-pub enum MaybeCoded<S: Store + Drop, F: PageFile + Drop> {
+pub enum MaybeCoded<S: Store + Drop, F: ByteFile + Drop> {
     /// Without codes.
     Plain(S),
     /// With codes.
     Coded(CodedStore<F>),
 }
 
-impl<S: Store + Drop, F: PageFile + Drop> Store for MaybeCoded<S, F> {
+impl<S: Store + Drop, F: ByteFile + Drop> Store for MaybeCoded<S, F> {
     ghost use Rattle.coded_store.specs.Either.{held_of, honest_of, failed_of};
 
     ghost held = { held_of S.held F.held };
 
-    ghost honest = { honest_of S.honest F.honest };
+    ghost honest = { honest_of S.honest F.held F.honest F.tells };
 
-    ghost failed = { failed_of S.failed F.failed };
+    ghost failed = { failed_of S.failed };
 
     fn load(&mut self, row: u32, page: &mut [u8]) -> Result<(), StoreFault> {
         match self {
@@ -114,7 +113,7 @@ impl<S: Store + Drop, F: PageFile + Drop> Store for MaybeCoded<S, F> {
     }
 }
 
-impl<S: Store + Drop, F: PageFile + Drop> TellsMended for MaybeCoded<S, F> {
+impl<S: Store + Drop, F: ByteFile + Drop> TellsMended for MaybeCoded<S, F> {
     ghost use Rattle.coded_store.specs.Either.{mended_in};
 
     ghost mended = { mended_in };

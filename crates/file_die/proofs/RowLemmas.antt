@@ -175,16 +175,60 @@ settled_rows g size done s t is settles =
 
 -- ---- calls of a store
 
+-- the bytes of a row that was read
+pub piece_read : (size row at : ℕ) (given bytes : List ℕ) → at ≡ row * size → length given ≡ size → ((i : ℕ) → i < size → slice_get given i ≡ slice_get bytes (at + i)) → given ≡ piece size row bytes
+piece_read size row at given bytes a l gave =
+    let is : take size given ≡ piece size row bytes = take_alike size given (drop (row * size) bytes)
+    (λ i small. gave i small ∙ (ap (λ k. slice_get bytes (k + i)) a ∙ sym (get_drop (row * size) bytes i))) in
+    let all : take size given ≡ given = ap (λ k. take k given) (sym l) ∙ take-length given in
+    sym all ∙ is
+
 pub loads : (reads : List ℕ → Page) (g : Geometry) (size row at : ℕ) (given : List ℕ) (done : Bool) (s t : Bytes) → row < row_count g → at ≡ row * size → length s.bytes ≡ row_count g * size → length given ≡ size
     → (done ≡ true → (i : ℕ) → i < size → slice_get given i ≡ slice_get s.bytes (at + i)) → t ≡ s → Loads (rows_held reads g size s) row (reads given) done (rows_held reads g size t)
 loads reads g size row at given done s t lt a e l gave same = record {
-  gave = λ d.
-      let is : take size given ≡ piece size row s.bytes = take_alike size given (drop (row * size) s.bytes)
-      (λ i small. gave d i small ∙ (ap (λ k. slice_get s.bytes (k + i)) a ∙ sym (get_drop (row * size) s.bytes i))) in
-      let all : take size given ≡ given = ap (λ k. take k given) (sym l) ∙ take-length given in
-      ap reads (sym all ∙ is) ∙ sym (row_is reads size (row_count g) row s.bytes lt);
+  gave = λ d. ap reads (piece_read size row at given s.bytes a l (gave d)) ∙ sym (row_is reads size (row_count g) row s.bytes lt);
   same = ap (rows_held reads g size) same;
 }
+
+-- one row of them as it was to be
+one_wanted : (size row at : ℕ) (given bytes : List ℕ) → at ≡ row * size → length given ≡ size → at ≤ length bytes → piece size row (over at given bytes) ≡ given
+one_wanted size row at given bytes a l start =
+    let one : length given ≡ 1 * size = omega (arith, l) in
+    let first : row + 0 ≡ row = omega arith in
+    let zero_at : 0 * size ≡ 0 = omega arith in
+    let all : piece size 0 given ≡ given = ap (λ k. take size (drop k given)) zero_at ∙ (ap (λ k. take k given) (sym l) ∙ take-length given) in
+    ap (λ k. piece size k (over at given bytes)) (sym first) ∙ (row_wanted size row 1 at 0 given bytes a one start (omega arith) ∙ all)
+
+-- and all others
+others_stay : (reads : List ℕ → Page) (size n row at : ℕ) (given : List ℕ) (done : Bool) (s t : Bytes) → at ≡ row * size → length given ≡ size → at ≤ length s.bytes → WritesAll s at given done t
+    → (other : ℕ) → other ≢ row → page_in (read_rows reads size n t.bytes) other ≡ page_in (read_rows reads size n s.bytes) other
+others_stay reads size n row at given done s t a l start w other ne =
+    let one : length given ≡ 1 * size = omega (arith, l) in
+    let out : (other < row) ⊎ (row + 1 ≤ other) = elim (cases_lt other row) [
+      | inl lower ↦ inl lower
+      | inr ge ↦ elim (cases_lt row other) [ inl more ↦ inr (omega (arith, more)) | inr le ↦ absurd (ne (omega (arith, ge, le))) ]
+    ] in
+    same_row reads size n other t.bytes s.bytes (rows_stay size row 1 at other given done s t a one start out w)
+
+-- A ROW THAT WAS WRITTEN: it is read as what was given, and each other row as before, however rows are read
+pub rows_set : (reads : List ℕ → Page) (size n row at : ℕ) (given : List ℕ) (s t : Bytes) → row < n → at ≡ row * size → length given ≡ size → at ≤ length s.bytes → WritesAll s at given true t
+    → read_rows reads size n t.bytes ≡ slice_set (read_rows reads size n s.bytes) row (reads given)
+rows_set reads size n row at given s t lt a l start w =
+    let others = others_stay reads size n row at given true s t a l start w in
+    let here : piece size row (over at given s.bytes) ≡ given = one_wanted size row at given s.bytes a l start in
+    let there : page_in (read_rows reads size n t.bytes) row ≡ reads given = row_is reads size n row t.bytes lt ∙ ap reads (ap (piece size row) (w.written refl) ∙ here) in
+    let long : length (read_rows reads size n t.bytes) ≡ length (slice_set (read_rows reads size n s.bytes) row (reads given)) =
+    rows_length reads size n t.bytes ∙ sym (length-set (read_rows reads size n s.bytes) row (reads given) ∙ rows_length reads size n s.bytes) in
+    ext_get_or no_page _ _ long (λ other small. elim (cases_lt other row) [
+      | inl lower ↦ others other (λ z. omega (arith, z, lower)) ∙ sym (get_or-set_other (read_rows reads size n s.bytes) row other (reads given) no_page (λ z. omega (arith, z, lower)))
+      | inr ge ↦ elim (cases_lt row other) [
+        | inl more ↦ others other (λ z. omega (arith, z, more)) ∙ sym (get_or-set_other (read_rows reads size n s.bytes) row other (reads given) no_page (λ z. omega (arith, z, more)))
+        | inr le ↦
+            let same : other ≡ row = omega (arith, ge, le) in
+            ap (page_in (read_rows reads size n t.bytes)) same ∙ (there ∙ (sym (get_or-set_same (read_rows reads size n s.bytes) row (reads given) no_page (omega (arith, rows_length reads size n s.bytes, lt)))
+            ∙ ap (page_in (slice_set (read_rows reads size n s.bytes) row (reads given))) (sym same)))
+      ]
+    ])
 
 pub puts : (reads : List ℕ → Page) (g : Geometry) (size row at : ℕ) (given : List ℕ) (done : Bool) (s t : Bytes) → IsReading g size reads → IsOfRows g size s → row < row_count g → at ≡ row * size → length given ≡ size → ((i : ℕ) → slice_index given i < 256)
     → WritesAll s at given done t → (IsTold size reads s (over at given s.bytes) s → IsTold size reads s (over at given s.bytes) t) → Puts (rows_held reads g size s) row (reads given) done (rows_held reads g size t)
@@ -194,38 +238,14 @@ puts reads g size row at given done s t r is lt a l fits w tells =
     let last : suc row * size ≡ row * size + size = omega arith in
     let within : at + length given ≤ n * size = omega (arith, end, last, a, l) in
     let start : at ≤ length s.bytes = omega (arith, within, is.whole) in
-    let one : length given ≡ 1 * size = omega (arith, l) in
     let told = tells (told_first size reads (over at given s.bytes) s) in
-    let after = still_rows g size at given done s t is within fits w in
-    let first : row + 0 ≡ row = omega arith in
-    let zero_at : 0 * size ≡ 0 = omega arith in
-    let all : piece size 0 given ≡ given = ap (λ k. take size (drop k given)) zero_at ∙ (ap (λ k. take k given) (sym l) ∙ take-length given) in
-    let here : piece size row (over at given s.bytes) ≡ given = ap (λ k. piece size k (over at given s.bytes)) (sym first) ∙ (row_wanted size row 1 at 0 given s.bytes a one start (omega arith) ∙ all) in
-    let others : (other : ℕ) → other ≢ row → page_in (read_rows reads size n t.bytes) other ≡ page_in (read_rows reads size n s.bytes) other = λ other ne.
-    let out : (other < row) ⊎ (row + 1 ≤ other) = elim (cases_lt other row) [
-      | inl lower ↦ inl lower
-      | inr ge ↦ elim (cases_lt row other) [ inl more ↦ inr (omega (arith, more)) | inr le ↦ absurd (ne (omega (arith, ge, le))) ]
-    ] in
-    same_row reads size n other t.bytes s.bytes (rows_stay size row 1 at other given done s t a one start out w) in
+    let here : piece size row (over at given s.bytes) ≡ given = one_wanted size row at given s.bytes a l start in
     record {
-      put = λ e.
-          let there : page_in (read_rows reads size n t.bytes) row ≡ reads given = row_is reads size n row t.bytes lt ∙ ap reads (ap (piece size row) (w.written e) ∙ here) in
-          let long : length (read_rows reads size n t.bytes) ≡ length (slice_set (read_rows reads size n s.bytes) row (reads given)) =
-          rows_length reads size n t.bytes ∙ sym (length-set (read_rows reads size n s.bytes) row (reads given) ∙ rows_length reads size n s.bytes) in
-          ext_get_or no_page _ _ long (λ other small. elim (cases_lt other row) [
-            | inl lower ↦ others other (λ z. omega (arith, z, lower)) ∙ sym (get_or-set_other (read_rows reads size n s.bytes) row other (reads given) no_page (λ z. omega (arith, z, lower)))
-            | inr ge ↦ elim (cases_lt row other) [
-              | inl more ↦ others other (λ z. omega (arith, z, more)) ∙ sym (get_or-set_other (read_rows reads size n s.bytes) row other (reads given) no_page (λ z. omega (arith, z, more)))
-              | inr le ↦
-                  let same : other ≡ row = omega (arith, ge, le) in
-                  ap (page_in (read_rows reads size n t.bytes)) same ∙ (there ∙ (sym (get_or-set_same (read_rows reads size n s.bytes) row (reads given) no_page (omega (arith, rows_length reads size n s.bytes, lt)))
-                  ∙ ap (page_in (slice_set (read_rows reads size n s.bytes) row (reads given))) (sym same)))
-            ]
-          ]);
+      put = λ e. rows_set reads size n row at given s t lt a l start (subst (λ (d : Bool). WritesAll s at given d t) e w);
       torn = λ e. left_as _ _ _ _ _ _ (row_is reads size n row s.bytes lt) (ap reads here) (row_is reads size n row t.bytes lt) (told.stands row);
-      others = others;
+      others = others_stay reads size n row at given done s t a l start w;
       lasts = lasts_rows reads g size s t told.lasts;
-      whole = λ _. images_of reads g size t r after;
+      whole = λ _. images_of reads g size t r (still_rows g size at given done s t is within fits w);
     }
 
 -- the bytes of a block that is erased

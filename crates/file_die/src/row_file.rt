@@ -1,9 +1,9 @@
 //! The rows of a die in a file of bytes.
-ghost use Rattle.std.specs.Prelude.{◌≡◌, ◌≢◌, ◌<◌, ◌≤◌, ◌==◌, ◌&&◌, ℕ, ◌*◌, ◌^◌, true, false, List, length, None, Some, OnOk, OnErr, OnSome, IfOk, IfErr, IfNone, is_ok};
+ghost use Rattle.std.specs.Prelude.{◌≡◌, ◌≢◌, ◌<◌, ◌≤◌, ◌==◌, ◌&&◌, ℕ, ◌*◌, ◌^◌, true, false, List, length, None, Some, OnOk, OnErr, OnSome, IfOk, IfErr, IfNone, is_ok, slice_set};
 ghost use Rattle.page_layout.specs.Page.{Page};
 ghost use Rattle.page_layout.specs.Geometry.{row_count};
 ghost use Rattle.page_layout.specs.Counter.{counted, HasRisen};
-ghost use Rattle.file_die.specs.Bytes.{Gives};
+ghost use Rattle.file_die.specs.Bytes.{Gives, piece};
 ghost use Rattle.file_die.specs.Store.{AreImages, Loads, Puts, Clears, Syncs};
 ghost use Rattle.file_die.specs.Rows.{Counts, IsReading, held_in, is_kept};
 
@@ -149,6 +149,7 @@ impl<F: ByteFile> RowFile<F> {
         requires in_range { row < row_count self.old.geometry }
         requires room { length to.old ≡ self.old.size }
         ensures gave { is_ok result ≡ true → Gives F.gave self.old.file (row * self.old.size) to.new self.new.file }
+        ensures bytes { is_ok result ≡ true → F.honest self.old.file ≡ true → to.new ≡ piece self.old.size row (F.held self.old.file).bytes }
         ensures loads { (reads : List ℕ → Page) → is_kept F.held F.honest F.tells reads self.old ≡ true → Loads (held_in F.held reads self.old) row (reads to.new) (is_ok result) (held_in F.held reads self.new) }
         ensures kept { (reads : List ℕ → Page) → is_kept F.held F.honest F.tells reads self.new ≡ is_kept F.held F.honest F.tells reads self.old }
         ensures counts { Counts self.old self.new result }
@@ -166,6 +167,7 @@ impl<F: ByteFile> RowFile<F> {
     pub fn write(&mut self, row: u32, bytes: &[u8]) -> Result<(), StoreFault>
         requires in_range { row < row_count self.old.geometry }
         requires whole { length bytes.now ≡ self.old.size }
+        ensures written { is_ok result ≡ true → F.honest self.old.file ≡ true → (reads : List ℕ → Page) → (held_in F.held reads self.new).pages ≡ slice_set (held_in F.held reads self.old).pages row (reads bytes.now) }
         ensures puts { (reads : List ℕ → Page) → IsReading self.old.geometry self.old.size reads → is_kept F.held F.honest F.tells reads self.old ≡ true →
             Puts (held_in F.held reads self.old) row (reads bytes.now) (is_ok result) (held_in F.held reads self.new) }
         ensures kept { (reads : List ℕ → Page) → is_kept F.held F.honest F.tells reads self.new ≡ is_kept F.held F.honest F.tells reads self.old }

@@ -6,14 +6,12 @@ use Rattle.file_die.specs.declared.file_store.FileStore.{FileStore}
 use Rattle.file_die.specs.declared.bytes.ByteFile.{Ghosts}
 use Rattle.file_die.specs.Bytes.{Bytes}
 use Rattle.file_die.specs.Rows.{held_in}
-use Rattle.file_die.specs.Store.{blank}
 use Rattle.coded_store.specs.declared.either.MaybeCoded.{MaybeCoded}
-use Rattle.coded_store.specs.declared.system.SystemPages.{SystemPages}
 use Rattle.coded_store.specs.Either.{held_of}
 
 -- what is known of the bytes of such a file
 abbrev pub no_bytes : {F : Type 0} → F → Bytes
 no_bytes file = record { bytes = []; durable = []; failed_syncs = 0 }
 
-abbrev pub IsStoreOf : {F : Type 0} {G : Ghosts F} → Geometry → MaybeCoded (FileStore F G) SystemPages → Type 0
-IsStoreOf g store = (held_of (λ s. held_in no_bytes (page_of s.rows.geometry) s.rows) (λ s. blank s.geometry) store).geometry ≡ g
+abbrev pub IsStoreOf : {F : Type 0} {G : Ghosts F} → Geometry → MaybeCoded (FileStore F G) F → Type 0
+IsStoreOf g store = (held_of (λ s. held_in no_bytes (page_of s.rows.geometry) s.rows) no_bytes store).geometry ≡ g

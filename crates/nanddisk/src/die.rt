@@ -3,7 +3,7 @@ ghost use Rattle.std.specs.Prelude.{◌≡◌, ℕ, IfOk};
 ghost use Rattle.nanddisk.specs.Stores.{IsStoreOf};
 
 use crate::fault::{unread, unwritten};
-use coded_store::{CodedStore, MaybeCoded, SystemPages};
+use coded_store::{CodedStore, MaybeCoded};
 use disk_commands::{Code, FileFault, Shape, die_bytes};
 use file_die::{ByteFault, FileStore, RowFault};
 use page_layout::geometry::Geometry;
@@ -11,7 +11,7 @@ use std::alloc::Global;
 use std::fs::File;
 
 /// The pages of a die in a file of the system: with their codes, or without.
-pub type DieStore = MaybeCoded<FileStore<File>, SystemPages>;
+pub type DieStore = MaybeCoded<FileStore<File>, File>;
 
 /// The same file, if it is as long as a shape says.
 pub fn as_long(file: File, shape: &Shape) -> Result<File, FileFault> {
@@ -61,16 +61,13 @@ fn plain_store(alloc: Global, geometry: &Geometry, file: File) -> Result<DieStor
 fn coded_store(alloc: Global, geometry: &Geometry, file: File) -> Result<DieStore, FileFault>
     ensures { IfOk result (IsStoreOf geometry.now) }
 {
-    let Ok(pages) = SystemPages::new(alloc, *geometry, file) else {
-        return Err(FileFault::OutOfMemory);
-    };
-    match CodedStore::new(alloc, pages) {
+    match CodedStore::new(alloc, *geometry, file) {
         Ok(store) => Ok(MaybeCoded::Coded(store)),
-        Err(_) => Err(FileFault::OutOfMemory),
+        Err(fault) => Err(untaken(fault)),
     }
 }
 
-/// The store over a file, of the pages of a shape. Of one without codes another length is told.
+/// The store over a file, of the pages of a shape, in which what stands is made to last first.
 pub fn store_over(alloc: Global, shape: &Shape, file: File) -> Result<DieStore, FileFault>
     ensures { IfOk result (IsStoreOf shape.now.geometry) }
 {

@@ -1,8 +1,8 @@
 //! A store whose pages stand with their codes: a page is put, bits turn in its file, and it is loaded.
 ghost use Rattle.std.specs.Prelude.{◌≡◌};
 
-use coded_store::{CodedStore, MemoryPages, Mended};
-use file_die::Store;
+use coded_store::{CodedStore, Mended};
+use file_die::{MemoryBytes, Store};
 use page_layout::geometry::Geometry;
 use std::alloc::Global;
 use std::process::Abort;
@@ -12,6 +12,9 @@ use std::test::Fail;
 const PAGE: usize = 96;
 
 const STANDS: usize = 102;
+
+// Bytes of the file: 256 rows.
+const FILE: usize = 256 * STANDS;
 
 // The row that is put and loaded.
 const ROW: u32 = 9;
@@ -71,7 +74,7 @@ fn page() -> [u8; PAGE] {
 }
 
 // Whether a store gives this page of the row.
-fn gives(store: &mut CodedStore<MemoryPages>, wanted: &[u8; PAGE]) -> bool {
+fn gives(store: &mut CodedStore<MemoryBytes>, wanted: &[u8; PAGE]) -> bool {
     let geometry = store.geometry();
     let mut page = [1; PAGE];
     ROW < geometry.rows()
@@ -81,7 +84,7 @@ fn gives(store: &mut CodedStore<MemoryPages>, wanted: &[u8; PAGE]) -> bool {
 }
 
 // Whether a store takes this page at the row.
-fn takes(store: &mut CodedStore<MemoryPages>, page: &[u8; PAGE]) -> bool {
+fn takes(store: &mut CodedStore<MemoryBytes>, page: &[u8; PAGE]) -> bool {
     let geometry = store.geometry();
     ROW < geometry.rows()
         && geometry.data_bytes() + geometry.spare_bytes() == PAGE
@@ -97,24 +100,28 @@ fn turn(bytes: &mut [u8], turned: &[(usize, u32)]) {
     }
 }
 
-// A store over a file.
-fn store_of(alloc: Global, pages: Option<MemoryPages>) -> Result<CodedStore<MemoryPages>, Fail> {
-    match pages {
-        Some(pages) => Ok(CodedStore::new(alloc, pages)?),
-        None => Err("no file")?,
+// A store over a file of these bytes.
+fn store_of(
+    alloc: Global,
+    geometry: Geometry,
+    bytes: Vec<u8>,
+) -> Result<CodedStore<MemoryBytes>, Fail> {
+    match CodedStore::new(alloc, geometry, MemoryBytes::new(bytes)) {
+        Ok(store) => Ok(store),
+        Err(_) => Err("no store")?,
     }
 }
 
 // Whether a row comes to what it says.
 fn holds_row(rt: &impl Abort, alloc: Global, row: &Row) -> Result<bool, Fail> {
     let small = Geometry::new(64, 32, 8, 32, 32).expect(rt, "a geometry within the limits");
-    let mut store = store_of(alloc, MemoryPages::erased(alloc, small)?)?;
+    let mut store = store_of(alloc, small, vec![in alloc; 0xFF; FILE]?)?;
     let put = gives(&mut store, &[0xFF; PAGE])
         && takes(&mut store, &page())
         && gives(&mut store, &page());
     let mut bytes = store.into_file().into_bytes();
     turn(&mut bytes, row.turned);
-    let mut store = store_of(alloc, MemoryPages::new(small, bytes))?;
+    let mut store = store_of(alloc, small, bytes)?;
     let wanted = if row.mended.lost == 0 {
         page()
     } else {

@@ -2,7 +2,8 @@
 use super::lives::{Between, Life, QUIET, born, live};
 use super::small;
 use crate::tests::steps::Step;
-use coded_store::{CodedStore, MemoryPages};
+use coded_store::CodedStore;
+use file_die::MemoryBytes;
 use nbd_stream::DiskFault;
 use std::alloc::Global;
 use std::process::Abort;
@@ -176,10 +177,10 @@ fn store_of(
     rt: &impl Abort,
     alloc: Global,
     bytes: Vec<u8>,
-) -> Result<CodedStore<MemoryPages>, Fail> {
-    match MemoryPages::new(small(rt), bytes) {
-        Some(pages) => Ok(CodedStore::new(alloc, pages)?),
-        None => Err("no file")?,
+) -> Result<CodedStore<MemoryBytes>, Fail> {
+    match CodedStore::new(alloc, small(rt), MemoryBytes::new(bytes)) {
+        Ok(store) => Ok(store),
+        Err(_) => Err("no store")?,
     }
 }
 
@@ -187,9 +188,9 @@ fn store_of(
 fn turned(
     rt: &impl Abort,
     alloc: Global,
-    store: CodedStore<MemoryPages>,
+    store: CodedStore<MemoryBytes>,
     turn: Turn,
-) -> Result<CodedStore<MemoryPages>, Fail> {
+) -> Result<CodedStore<MemoryBytes>, Fail> {
     let mut bytes = store.into_file().into_bytes();
     turn_file(&mut bytes, turn);
     store_of(rt, alloc, bytes)
@@ -199,7 +200,7 @@ fn turned(
 fn hold_row(rt: &impl Abort, alloc: Global, row: &Row) -> Result<(), Fail> {
     let name = row.name;
     let blank = store_of(rt, alloc, vec![in alloc; 0xFF; FILE]?)?;
-    let mut disk: Between<CodedStore<MemoryPages>> = born(alloc, blank, BEFORE)?;
+    let mut disk: Between<CodedStore<MemoryBytes>> = born(alloc, blank, BEFORE)?;
     for (at, (turn, life)) in row.lives.iter().enumerate() {
         let Between {
             store,

@@ -1,8 +1,15 @@
-use Rattle.coded_store.proofs.StoreLemmas.{clears_read, block_rows}
+use Rattle.std.proofs.Common.{sym, subst}
+use Rattle.std.specs.Result.{is_ok}
+use Rattle.page_layout.specs.declared.geometry.Geometry.{Geometry}
+use Rattle.file_die.specs.Store.{Clears}
+use Rattle.file_die.specs.Rows.{held_in}
+use Rattle.coded_store.specs.Reading.{shown_by}
+use Rattle.coded_store.proofs.StoreLemmas.{coded_reading}
 use Rattle.coded_store.proofs.coded.CodedStoreStore.clear.Goals as goal
 
 pub returns-clause-clears : goal.returns-clause-clears
 returns-clause-clears g c e =
-    let old = g.F.PageFile.held c.self.inside.file in
-    rw (← c.self.view_is) (clears_read _ _ _ _ (c.self.invariant.whole (rw (← c.self.view_is) at e)) c.erase.ensures.geometry
-    (λ row is. block_rows old.geometry c.args.block row (rw (← c.self.view_is) at c.requires.in_range) is) (c.erase.ensures.erases (rw (← c.self.view_is) at e)))
+    let old = c.self.inside.rows in
+    let held = g.F.ByteFile.held in
+    rw (← c.self.view_is) (subst (λ (z : Geometry). Clears (held_in held (shown_by old.geometry) old) c.args.block (is_ok c.erase.result) (held_in held (shown_by z) c.erase.new.self)) (sym c.erase.ensures.counts.geometry)
+    (c.erase.ensures.clears (shown_by old.geometry) (coded_reading old.geometry old.size c.self.invariant.sized) (rw (← c.self.view_is) at e)))

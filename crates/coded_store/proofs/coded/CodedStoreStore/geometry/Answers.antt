@@ -1,5 +1,8 @@
-use Rattle.coded_store.proofs.StoreLemmas.{images_read}
+use Rattle.coded_store.specs.Reading.{shown_by}
+use Rattle.coded_store.proofs.StoreLemmas.{coded_reading}
 use Rattle.coded_store.proofs.coded.CodedStoreStore.geometry.Goals as goal
 
 pub returns-clause-whole : goal.returns-clause-whole
-returns-clause-whole g c e = rw (← c.self.view_is) (images_read _ (c.self.invariant.whole (rw (← c.self.view_is) at e)))
+returns-clause-whole g c e =
+    let rows = c.self.inside.rows in
+    rw (← c.self.view_is) (c.geometry.ensures.images (shown_by rows.geometry) (coded_reading rows.geometry rows.size c.self.invariant.sized) (rw (← c.self.view_is) at e))

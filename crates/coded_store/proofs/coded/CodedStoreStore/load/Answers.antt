@@ -1,26 +1,42 @@
-use Rattle.std.proofs.Common.{◌≡◌, ℕ, List, ◌∙◌, ap, sym, subst}
+use Rattle.std.proofs.Common.{rules, ◌≡◌, true, ℕ, List, ◌∙◌, ◌*◌, ap, subst}
 use Rattle.std.specs.Prelude.{slice_set}
+use Rattle.std.specs.Result.{is_ok}
 use Rattle.std.proofs.lemmas.List.{with_items_is}
 use Rattle.page_layout.specs.declared.geometry.Geometry.{Geometry}
 use Rattle.onfi_cycles.specs.Cycles.{page_of}
+use Rattle.file_die.specs.Bytes.{Gives}
 use Rattle.coded_store.specs.Reading.{read_as, wrong_with}
 use Rattle.coded_store.specs.declared.wrong.Wrong.{Wrong}
 use Rattle.coded_store.specs.File.{IsWithCodes}
+use Rattle.coded_store.proofs.StoreLemmas.{stood_at}
 use Rattle.coded_store.proofs.coded.CodedStoreStore.load.Goals as goal
 
 pub returns-clause-told_of : goal.returns-clause-told_of
 returns-clause-told_of g c =
     let i = c.self.inside in
-    let old = g.F.PageFile.held i.file in
-    let bytes = c.read.new.stands in
-    let same : i.geometry ≡ old.geometry = sym c.self.invariant.same in
-    let stood = c.deref.ensures.value ∙ with_items_is i.stands bytes (c.read.auto.stands ∙ c.deref_mut.ensures.len) in
-    let shown = c.show.ensures.page ∙ ap (λ z. read_as i.geometry (page_of i.geometry z)) stood in
-    let told = c.show.ensures.wrong ∙ ap (λ z. wrong_with i.geometry (page_of i.geometry z)) stood in
+    let old = i.rows in
+    let bytes = c.read.new.to in
+    let done : is_ok c.read.result ≡ true = search rules in
+    let same = c.geometry.ensures.geometry ∙ c.read.ensures.counts.geometry in
+    let stood = c.deref.ensures.value ∙ with_items_is i.stands bytes (c.read.auto.to ∙ c.deref_mut.ensures.len) in
+    let shown = c.show.ensures.page ∙ ap (λ z. read_as c.geometry.result (page_of c.geometry.result z)) stood in
+    let told = c.show.ensures.wrong ∙ ap (λ z. wrong_with c.geometry.result (page_of c.geometry.result z)) stood in
     rw (← c.self.view_is) (record {
       bytes = bytes;
-      once = c.in_ok-read.ensures.gave;
-      whole = subst (λ (z : Geometry). IsWithCodes z (page_of z bytes)) same (subst (λ (xs : List ℕ). IsWithCodes i.geometry (page_of i.geometry xs)) stood c.show.ensures.bytes);
+      once = subst (λ n. Gives g.F.ByteFile.gave old.file (c.args.row * n) bytes c.read.new.self.file) c.self.invariant.sized (c.read.ensures.gave done);
+      whole = subst (λ (z : Geometry). IsWithCodes z (page_of z bytes)) same (subst (λ (xs : List ℕ). IsWithCodes c.geometry.result (page_of c.geometry.result xs)) stood c.show.ensures.bytes);
       shows = subst (λ (z : Geometry). page_of z c.show.new.page ≡ read_as z (page_of z bytes)) same shown;
       tells = ap (λ (w : Wrong). slice_set i.wrong.items c.args.row w) (told ∙ ap (λ (z : Geometry). wrong_with z (page_of z bytes)) same);
     })
+
+pub returns-clause-told : goal.returns-clause-told
+returns-clause-told g c h =
+    let i = c.self.inside in
+    let old = i.rows in
+    let bytes = c.read.new.to in
+    let done : is_ok c.read.result ≡ true = search rules in
+    let same = c.geometry.ensures.geometry ∙ c.read.ensures.counts.geometry in
+    let stood = c.deref.ensures.value ∙ with_items_is i.stands bytes (c.read.auto.to ∙ c.deref_mut.ensures.len) in
+    let told = c.show.ensures.wrong ∙ (ap (λ z. wrong_with c.geometry.result (page_of c.geometry.result z)) stood ∙ ap (λ (z : Geometry). wrong_with z (page_of z bytes)) same) in
+    let stands = stood_at old.geometry old.size c.args.row bytes (g.F.ByteFile.held old.file).bytes c.self.invariant.sized (rw (← c.self.view_is) at c.requires.in_range) (c.read.ensures.bytes done (rw (← c.self.view_is) at h)) in
+    rw (← c.self.view_is) (ap (λ (w : Wrong). slice_set i.wrong.items c.args.row w) (told ∙ ap (wrong_with old.geometry) stands))

@@ -1,5 +1,15 @@
-use Rattle.coded_store.proofs.StoreLemmas.{syncs_read}
+use Rattle.std.proofs.Common.{sym, subst}
+use Rattle.std.specs.Result.{is_ok}
+use Rattle.page_layout.specs.declared.geometry.Geometry.{Geometry}
+use Rattle.file_die.specs.Store.{Syncs}
+use Rattle.file_die.specs.Rows.{held_in}
+use Rattle.coded_store.specs.Reading.{shown_by}
+use Rattle.coded_store.proofs.StoreLemmas.{coded_reading}
 use Rattle.coded_store.proofs.coded.CodedStoreStore.sync.Goals as goal
 
 pub returns-clause-syncs : goal.returns-clause-syncs
-returns-clause-syncs g c e = rw (← c.self.view_is) (syncs_read _ _ _ (c.self.invariant.whole (rw (← c.self.view_is) at e)) c.sync.ensures.geometry (c.sync.ensures.keeps (rw (← c.self.view_is) at e)))
+returns-clause-syncs g c e =
+    let old = c.self.inside.rows in
+    let held = g.F.ByteFile.held in
+    rw (← c.self.view_is) (subst (λ (z : Geometry). Syncs (held_in held (shown_by old.geometry) old) (is_ok c.sync.result) (held_in held (shown_by z) c.sync.new.self)) (sym c.sync.ensures.counts.geometry)
+    (c.sync.ensures.syncs (shown_by old.geometry) (coded_reading old.geometry old.size c.self.invariant.sized) (rw (← c.self.view_is) at e)))

@@ -4,7 +4,7 @@ use Rattle.std.specs.Result.{is_ok}
 use Rattle.file_die.specs.Bytes.{Bytes}
 use Rattle.file_die.specs.Store.{Held, Loads}
 use Rattle.file_die.specs.Rows.{held_in}
-use Rattle.file_die.proofs.RowLemmas.{rows_held, loads, rows_of, kept_of, kept_settled, held_is, parts_read, gives_at}
+use Rattle.file_die.proofs.RowLemmas.{rows_held, loads, piece_read, rows_of, kept_of, kept_settled, held_is, parts_read, gives_at}
 use Rattle.file_die.proofs.row_file.RowFile.read.Goals as goal
 
 pub invariant_of-self : goal.invariant_of-self
@@ -36,3 +36,12 @@ pub returns-clause-gave : goal.returns-clause-gave
 returns-clause-gave g c d =
     let gives = c.read_all-answer.ensures.gave (sym c.settle.ensures.answer ∙ d) in
     rw (← c.self.view_is) (gives_at g.F.ByteFile.gave c.self.inside.file _ _ c.read_all-answer.new.to c.read_all-answer.new.file c.settle.new.self.file (rw (← c.self.view_is) at c.offset-start.ensures) (sym c.settle.ensures.file) gives)
+
+pub returns-clause-bytes : goal.returns-clause-bytes
+returns-clause-bytes g c d h =
+    let i = c.self.inside in
+    let given : List ℕ = c.read_all-answer.new.to in
+    let room : length c.args.to.now ≡ i.size = rw (← c.self.view_is) at c.requires.room in
+    let filled : (k : ℕ) → k < i.size → slice_get given k ≡ slice_get (g.F.ByteFile.held i.file).bytes (c.offset-start.result + k) =
+    λ k lt. c.read_all-answer.ensures.reads (sym c.settle.ensures.answer ∙ d) (rw (← c.self.view_is) at h) k (subst (λ n. k < n) (sym room) lt) in
+    rw (← c.self.view_is) (piece_read i.size c.args.row c.offset-start.result given (g.F.ByteFile.held i.file).bytes (rw (← c.self.view_is) at c.offset-start.ensures) (c.read_all-answer.auto.to ∙ room) filled)
