@@ -4,7 +4,7 @@ use Rattle.commands.specs.declared.files.FileFault.{FileFault}
 use Rattle.command_laws.specs.Loads.{KnownLaw, InputLaw}
 use Rattle.image_check.specs.declared.refusal.Refusal.{Refusal}
 use Rattle.image_check.specs.declared.refusal.Refusal.TheVariants as refusals
-use Rattle.command_laws.specs.Images.{HeldLaw, OtherGeometryLaw, AcceptedLaw, SpelledLaw, FormattedLaw, ServedLaw}
+use Rattle.command_laws.specs.Images.{HeldLaw, OtherGeometryLaw, OnlyOtherLaw, AcceptedLaw, SpelledLaw, FormattedLaw, ServedLaw}
 use Rattle.request_stream.proofs.Writing.{never_all}
 use Rattle.commands.specs.declared.text.CommandFault.TheVariants as fault
 use Rattle.commands.specs.Text.{told_line}
@@ -36,6 +36,9 @@ other_geometry g capacity path known c (fault.Check refusal) unheld unasked = el
   | inr not ↦ absurd (unasked (unheld.0.same not))
 ]
 other_geometry g capacity path known c _ unheld unasked = absurd unheld
+
+pub only_other : OnlyOtherLaw
+only_other g capacity path known c unheld = unheld.0.other refl
 
 pub accepted : AcceptedLaw
 accepted g capacity known c is = is.asked

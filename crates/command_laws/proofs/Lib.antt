@@ -1,3 +1,4 @@
 mod CommandLemmas
 mod RescueLemmas
 mod MigrationLemmas
+mod QueueLemmas

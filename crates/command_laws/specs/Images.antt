@@ -29,6 +29,10 @@ abbrev pub OtherGeometryLaw : Type 0
 OtherGeometryLaw = (g : Geometry) (capacity : ℕ) (path : List ℕ) (known : Option (List ℕ)) (c : Claim) (stop : CommandFault) → IsUnheld g capacity path known c stop
     → ¬ IsAsked g capacity c → stop ≡ Check GeometryDiffers
 
+-- and it tells that of no other
+abbrev pub OnlyOtherLaw : Type 0
+OnlyOtherLaw = (g : Geometry) (capacity : ℕ) (path : List ℕ) (known : Option (List ℕ)) (c : Claim) → IsUnheld g capacity path known c (Check GeometryDiffers) → ¬ IsAsked g capacity c
+
 -- ONE THAT WAS ACCEPTED is of the geometry and the capacity, whatever is known of the image's bytes
 abbrev pub AcceptedLaw : Type 0
 AcceptedLaw = (g : Geometry) (capacity : ℕ) (known : Option (List ℕ)) (c : Claim) → IsHeldAs g capacity known c → IsAsked g capacity c

@@ -4,3 +4,4 @@ pub mod Lines
 pub mod Rescues
 pub mod Migrations
 pub mod Records
+pub mod Queued

@@ -3,9 +3,10 @@
 #![tactic(auto)]
 
 ghost use Rattle.command_laws.specs.Records.{SteadyTellsLaw};
-ghost use Rattle.command_laws.specs.Rescues.{NoGainLaw, NoneAilsLaw};
+ghost use Rattle.command_laws.specs.Rescues.{NoGainLaw, NoneAilsLaw, RescuedEventLaw};
+ghost use Rattle.command_laws.specs.Queued.{RefusedBytesLaw, OtherBytesLaw};
 ghost use Rattle.command_laws.specs.Loads.{KnownLaw, InputLaw};
-ghost use Rattle.command_laws.specs.Images.{HeldLaw, OtherGeometryLaw, AcceptedLaw, SpelledLaw, FormattedLaw, ServedLaw};
+ghost use Rattle.command_laws.specs.Images.{HeldLaw, OtherGeometryLaw, OnlyOtherLaw, AcceptedLaw, SpelledLaw, FormattedLaw, ServedLaw};
 ghost use Rattle.commands.specs.Serve.{flash_behind, recorded_of, is_honest, is_calm_as, programs_of, erases_of, failures_of};
 ghost use Rattle.command_laws.specs.Migrations.{CallsCountedLaw, MigratedLaw, FirstPageLaw, NumberLaw, SettledLaw, ShortLaw, MigrateDoneLaw, MigrateStopsLaw};
 ghost use Rattle.command_laws.specs.Lines.{ToldLaw, WholeLineLaw, UnprintedLaw, FailedStoreLaw, StoresInOrderLaw, UnstoredLaw};
@@ -19,11 +20,12 @@ pub fn file_laws<F: FileStore>()
     ensures input { InputLaw F.gives }
 {}
 
-/// A certificate that was held against an image agrees with it, and the image is whole; of one of another geometry that alone is told; its claim spells the bytes that were read; and what a
+/// A certificate that was held against an image agrees with it, and the image is whole; of one of another geometry that alone is told, and of no other; its claim spells the bytes that were read; and what a
 /// format or a server stores are the bytes of its die's pages. (This project.)
 pub fn image_laws()
     ensures held { HeldLaw }
     ensures other { OtherGeometryLaw }
+    ensures only { OnlyOtherLaw }
     ensures accepted { AcceptedLaw }
     ensures spelled { SpelledLaw }
     ensures formatted { FormattedLaw }
@@ -60,11 +62,18 @@ pub fn migrate_laws<F: FileStore>()
     ensures stops { MigrateStopsLaw F.gives }
 {}
 
-/// What a turn does for bad blocks: none of them gains a newest page, and one that programs and erases nothing found none in them. (This
-/// project.)
+/// What a turn does for bad blocks: none of them gains a newest page, and one that programs and erases nothing found none in them; so of each turn in
+/// a run. (This project.)
 pub fn rescue_laws()
     ensures gain { NoGainLaw }
     ensures ails { NoneAilsLaw }
+    ensures run { RescuedEventLaw }
+{}
+
+/// What a call of a queue leaves of the bytes that it was handed: only a read that is done changes them. (This project.)
+pub fn queue_laws()
+    ensures refused { RefusedBytesLaw }
+    ensures other { OtherBytesLaw }
 {}
 
 /// What the program's server tells by the die that it serves is the record which that die keeps. (This project.)

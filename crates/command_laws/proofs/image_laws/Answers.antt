@@ -1,4 +1,4 @@
-use Rattle.command_laws.proofs.CommandLemmas.{held, other_geometry, accepted, spelled, formatted, served}
+use Rattle.command_laws.proofs.CommandLemmas.{held, other_geometry, only_other, accepted, spelled, formatted, served}
 use Rattle.command_laws.proofs.image_laws.Goals as goal
 
 pub returns-clause-held : goal.returns-clause-held
@@ -6,6 +6,9 @@ returns-clause-held c = held
 
 pub returns-clause-other : goal.returns-clause-other
 returns-clause-other c = other_geometry
+
+pub returns-clause-only : goal.returns-clause-only
+returns-clause-only c = only_other
 
 pub returns-clause-accepted : goal.returns-clause-accepted
 returns-clause-accepted c = accepted
