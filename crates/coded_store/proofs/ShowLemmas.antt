@@ -14,7 +14,6 @@ use Rattle.coded_store.specs.declared.wrong.Wrong.TheVariants.{Turned, Lost}
 use Rattle.coded_store.specs.Reading.{coded_bytes, read_as, wrong_with}
 use Rattle.coded_store.specs.File.{IsWithCodes}
 use Rattle.page_code.specs.Layout.{coded}
-use Rattle.coded_store.specs.declared.wrong.Wrong.{Wrong}
 use Rattle.coded_store.proofs.LawLemmas.{own_law}
 use Rattle.coded_store.proofs.ReadLemmas.{corrected_sized, reads_right, reads_lost, tells_right, tells_lost}
 
@@ -69,11 +68,3 @@ spelled_at g h bytes stands e s = subst (λ x. page_of x stands ≡ coded x (pag
 
 pub spelled_reads : (g h : Geometry) (bytes stands : List ℕ) → h ≡ g → length bytes ≡ page_bytes h → AreBytes bytes → page_of g stands ≡ coded g (page_of g bytes) → read_as h (page_of h stands) ≡ page_of h bytes
 spelled_reads g h bytes stands e size b s = ap (read_as h) (spelled_at g h bytes stands e s) ∙ (own_law h (page_of h bytes) (page_is h bytes size b)).shows
-
--- ---- as it is shown
-
-pub shown_at : (g h : Geometry) (bytes stands : List ℕ) → h ≡ g → page_of g bytes ≡ read_as g (page_of g stands) → page_of h bytes ≡ read_as h (page_of h stands)
-shown_at g h bytes stands e s = subst (λ x. page_of x bytes ≡ read_as x (page_of x stands)) (sym e) s
-
-pub told_at : (g h : Geometry) (stands : List ℕ) (wrong : Wrong) → h ≡ g → wrong ≡ wrong_with g (page_of g stands) → wrong ≡ wrong_with h (page_of h stands)
-told_at g h stands wrong e s = subst (λ x. wrong ≡ wrong_with x (page_of x stands)) (sym e) s

@@ -1,5 +1,5 @@
 //! The store over a file of pages with their codes.
-ghost use Rattle.std.specs.Prelude.{◌≡◌, ◌≢◌, ◌<◌, ◌≤◌, ◌^◌, ℕ, ◌*◌, ◌&&◌, ◌==◌, true, length, replicate, slice_set, None, OnErr, OnOk, OnSome, IfOk, IfErr, IfNone, is_ok};
+ghost use Rattle.std.specs.Prelude.{◌≡◌, ◌≢◌, ◌<◌, ◌≤◌, ◌^◌, ℕ, ◌*◌, ◌&&◌, ◌==◌, true, false, length, replicate, slice_set, None, OnErr, OnOk, OnSome, IfOk, IfErr, IfNone, is_ok};
 ghost use Rattle.page_layout.specs.Counter.{HasRisen};
 ghost use Rattle.page_layout.specs.Geometry.{row_count, page_bytes};
 ghost use Rattle.onfi_cycles.specs.Cycles.{page_of};
@@ -236,6 +236,9 @@ impl<F: ByteFile> Store for CodedStore<F> {
         ensures settled { OnOk result (self.new.rows.failures ≡ self.old.rows.failures) }
         ensures rose { OnErr result (HasRisen self.old.rows.failures self.new.rows.failures) }
         ensures untold { self.new.wrong ≡ self.old.wrong }
+
+        // After one that failed none is asked for.
+        ensures once { self.old.rows.sync_failed ≡ true → (is_ok result ≡ false) × (self.new.rows.file ≡ self.old.rows.file) }
     {
         self.rows.sync()
     }
