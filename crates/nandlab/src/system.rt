@@ -31,6 +31,8 @@ pub struct SystemFiles<'a, R, E> {
     screen: Option<E>,
     // whether somebody looks at it
     is_watched: bool,
+    // the files that were read: no part that is made anew takes the name of one
+    held: Vec<File>,
 }
 
 /// A file of the system that is read at whatever place.
@@ -57,6 +59,20 @@ impl<'a, R: Files<File = File> + AllocGlobal, E: Write> SystemFiles<'a, R, E> {
             rt,
             screen: Some(screen),
             is_watched,
+            held: Vec::new(rt.alloc()),
+        }
+    }
+
+    // A file that is read. As long as the program runs it is held with whoever else reads it, where the file system has locks.
+    fn open_held(&mut self, path: &str) -> Result<File, FileFault> {
+        let file = fs::open(self.rt, path).map_err(fault_of)?;
+        let _ = file.try_lock_shared();
+        match file.try_clone() {
+            Ok(same) => match self.held.push(same) {
+                Ok(()) => Ok(file),
+                Err(_) => Err(FileFault::OutOfMemory),
+            },
+            Err(_) => Ok(file),
         }
     }
 
@@ -349,14 +365,14 @@ impl<R: Files<File = File> + AllocGlobal, E: Write + Drop> LabFiles for SystemFi
         path: &str,
         progress: Progress,
     ) -> Result<Metered<BufReader<File>, E>, FileFault> {
-        let mut file = fs::open(self.rt, path).map_err(fault_of)?;
+        let mut file = self.open_held(path)?;
         let meter = self.meter(&mut file, progress);
         let reader = BufReader::with_capacity(self.rt.alloc(), READ_AHEAD, file).map_err(fault_of)?;
         Ok(Metered::new(reader, meter))
     }
 
     fn load(&mut self, path: &str, most: u64) -> Result<Vec<u8>, FileFault> {
-        let file = fs::open(self.rt, path).map_err(fault_of)?;
+        let file = self.open_held(path)?;
         let mut bytes = Vec::new(self.rt.alloc());
         match file.take(most).read_to_end(&mut bytes) {
             Ok(_) => Ok(bytes),
@@ -369,7 +385,7 @@ impl<R: Files<File = File> + AllocGlobal, E: Write + Drop> LabFiles for SystemFi
         path: &str,
         progress: Progress,
     ) -> Result<DumpFile<File, E>, FileFault> {
-        let mut file = fs::open(self.rt, path).map_err(fault_of)?;
+        let mut file = self.open_held(path)?;
         let meter = self.meter(&mut file, progress);
         Ok(DumpFile { file, meter })
     }
