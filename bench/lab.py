@@ -87,6 +87,10 @@ def line_of(told, outside, rewritten):
         return "page row {row} block {block} sequence {sequence} version {version} {kind}".format(**told)
     if kind == "history":
         return history_text(told["pages"], told["unsound"])
+    if kind == "legible":
+        return legible_text(told["legible"], told["others"])
+    if kind == "says":
+        return says_text(told["row"], told["kind"], told["number"], told["sequence"], told["newer"])
     if kind == "age":
         return age_text(told["unsound"], told["older"], outside, rewritten)
     ((of, number),) = told.items()
@@ -134,6 +138,14 @@ def history_text(pages, unsound):
     return f"history {pages} unsound {unsound}: of what is still there, newest first"
 
 
+def says_text(row, kind, number, sequence, newer):
+    return f"unsound row {row} says {kind} {number} sequence {sequence} {'newer' if newer else 'not newer'}"
+
+
+def legible_text(legible, others):
+    return f"legible {legible}: if what these pages say is so, at most {others} sectors may be older that are not said newer here"
+
+
 def rows_age_text(unsound):
     return f"unsound {unsound}: of these rows alone, of others nothing is told"
 
@@ -142,6 +154,35 @@ def unsound_of(image, block):
     """How many pages of a block are neither erased nor sound."""
     rows = range(block * image.g.pages, (block + 1) * image.g.pages)
     return sum(image.records[row] is None and not image.erased[row] for row in rows)
+
+
+def said_by(image, row):
+    """What a page says that is neither erased nor sound: the record of a sound page with all its bytes but those of the data area and the seal,
+    where the die has that sector, translation page or table page."""
+    g, spare = image.g, image.spare[row]
+    if image.records[row] is not None or image.erased[row] or spare[2] not in ref.SEALS or spare[3] not in ref.KINDS:
+        return None
+    if spare[2] == 2 and g.spare < 40:
+        return None
+    says = ref.Record(spare[3], *(int.from_bytes(spare[a:b], "little") for a, b in [(4, 8), (8, 16), (16, 20)]))
+    made = ref.spare_of(g, says, image.data[row], spare[2])
+    end = 24 + ref.SEALS[spare[2]]
+    kind, number = says.key()
+    limit = {"sector": g.sectors, "translation": g.translation, "table": g.tables}[kind]
+    return says if made[:24] + made[end:] == spare[:24] + spare[end:] and number < limit else None
+
+
+def said_lines(image, newer_alone=False):
+    """What the pages say that are neither erased nor sound, or those alone that say something newer than each sound page of the same."""
+    told = ""
+    for row in range(image.g.rows):
+        says = said_by(image, row)
+        if says is not None:
+            newer = all(image.records[r].sequence < says.sequence for r in image.of_key(*says.key()))
+            SEEN.add("newer" if newer else "not newer")
+            kind = ["sector", "trim", "translation", "table"][says.kind - 1]
+            told += (says_text(row, kind, says.number, says.sequence, newer) + "\n") * (newer or not newer_alone)
+    return told
 
 
 def holes_of(image, block):
@@ -163,8 +204,10 @@ def age_lines(image, last=None):
     outside = sum(x is not None and x.key()[0] == "sector" and x.number >= image.g.sectors for x in image.records)
     named = {"factory": marks, "rewritten": moved, "holes": holes, "outside": outside}
     SEEN.update({name for name, count in named.items() if count > 0} | {"none" for _ in [0] if unsound + holes == 0 and marks > 0})
+    legible = sum(said_by(image, row) is not None and row // image.g.pages in others for row in range(image.g.rows))
     claim = age_text(unsound, unsound + holes, outside, moved) if last is None else until_text(unsound, last)
-    return "".join(f"{name} {count}\n" for name, count in named.items() if count > 0) + claim + "\n"
+    told = legible_text(legible, unsound - legible + holes) + "\n" if legible > 0 and last is None else ""
+    return "".join(f"{name} {count}\n" for name, count in named.items() if count > 0) + told + claim + "\n"
 
 
 def some_rows(rng, g):
@@ -202,7 +245,7 @@ def array_of(image, last=None):
         except ref.Refused:
             sectors.append(bytes(g.data))
             told += f"tied sector {n}\n"
-    told += age_lines(whole, last)
+    told += said_lines(whole, True) * (last is None) + age_lines(whole, last)
     return b"".join(sectors), told
 
 
@@ -272,7 +315,7 @@ def survey_of(image, asked):
         else:
             kind, pointer, live, wear = shown.blocks[b]
             lines.append(f"block {b} class {CLASSES[kind]} pointer {pointer} live {live} wear {wear} unsound {unsound}")
-    text = "".join(line + "\n" for line in lines)
+    text = "".join(line + "\n" for line in lines) + said_lines(image)
     if asked:
         return f"rows {asked[1]}\n" + text + rows_age_text(len(broken)) + "\n", shown
     return text + age_lines(image), shown
@@ -359,7 +402,8 @@ def lose(rng, image):
         sound = [r for r, x in enumerate(image.records) if x is not None]
         if sound:
             row = rng.choice(sound)
-            compare.spoil(image, row, image.data[row], rng.choice([b"\xff" * g.spare, rng.randbytes(g.spare)]))
+            data, spare = rng.choice([(image.data[row], b"\xff" * g.spare), (image.data[row], rng.randbytes(g.spare)), (rng.randbytes(g.data), image.spare[row])])
+            compare.spoil(image, row, data, spare)
     if sound and rng.random() < 0.3:
         made = image.records[rng.choice(sound)]
         if made is not None:
@@ -417,7 +461,7 @@ def compare_case(rng, folder):
             want = (1, "", "refused image 1 WrongLength\n")
         else:
             told = "".join(f"lost sector {n}\n" for n in lost_of(image, certificate))
-            want = (0, told + age_lines(image), "")
+            want = (0, told + said_lines(image, True) + age_lines(image), "")
     except ref.Refused as refused:
         want = (1, "", refused.line)
     assert answer == want, (asked.words(), answer, want)
@@ -458,6 +502,17 @@ def grow_bad(rng, image):
         name_grown(rng, image, block, sequence)
 
 
+def wear_out(rng, image):
+    """Some bits of some pages are turned, mostly of the data area."""
+    g = image.g
+    for row in rng.sample(range(g.rows), rng.choice([1, 2, 5])):
+        data, spare = bytearray(image.data[row]), bytearray(image.spare[row])
+        for _ in range(rng.choice([1, 2, 3])):
+            area = rng.choice([data, data, data, spare])
+            area[rng.randrange(len(area))] ^= 1 << rng.randrange(8)
+        compare.spoil(image, row, bytes(data), bytes(spare))
+
+
 def dump_for(rng):
     g = ref.Geometry(*rng.choice(compare.GEOMETRIES))
     image = compare.fresh(rng, g) if rng.random() < 0.5 else ref.Image(g, b"\xff" * (g.rows * g.page))
@@ -473,6 +528,8 @@ def dump_for(rng):
         row, other = rng.choice(rows), rng.randrange(g.rows)
         made = image.records[row]
         image.put(other, ref.Record(1, made.number, made.sequence, 0), bytes([rng.randrange(256)]) * g.data)
+    if rng.random() < 0.5:
+        wear_out(rng, image)
     return g, image
 
 
@@ -922,7 +979,7 @@ def main():
             repair_case(random.Random(f"repair {seed}.{i}"), folder)
             merge_case(random.Random(f"merge {seed}.{i}"), folder)
             correct_case(random.Random(f"correct {seed}.{i}"), folder)
-        assert cases < 100 or SEEN == {"factory", "rewritten", "holes", "outside", "none"}, SEEN
+        assert cases < 100 or SEEN == {"factory", "rewritten", "holes", "outside", "none", "newer", "not newer"}, SEEN
         assert cases < 100 or set(FITTED) == {"plain", "coded", "coded+plain", "none"}, FITTED
         assert cases < 100 or set(FOUND) == {0, 1, 2, 3}, FOUND
         print(f"each of the eight commands over {cases} dumps agrees with the reference, and the refusals; geometry over {dict(FITTED)}")

@@ -11,10 +11,14 @@ use Rattle.lab_dump.specs.declared.rows.Rows.{Rows}
 use Rattle.lab_dump.specs.declared.history.SectorPage.{SectorPage}
 use Rattle.lab_dump.specs.declared.history.Wrote.{Wrote}
 use Rattle.lab_dump.specs.declared.history.Wrote.TheVariants as wrote
+use Rattle.page_layout.specs.declared.record.Kind.{Kind}
+use Rattle.page_layout.specs.declared.record.Kind.TheVariants as kind
+use Rattle.serde_json.specs.Data.{boolean}
+use Rattle.lab_dump.specs.declared.said.SaidPage.{SaidPage}
 use Rattle.lab_dump.specs.Doubts.{most_older}
 use Rattle.lab_mend.specs.declared.merging.Tally.{Tally}
-use Rattle.lab_commands.specs.Values.{age_data, age_until_data, arranged_data, block_data, corrected_data, doubt_data, fit_members, found_data, front_words, head_data, history_data, key_data, lost_data, lost_row_data}
-use Rattle.lab_commands.specs.Values.{mended_count_data, mended_data, merged_data, page_data, pages_data, plain_block_data, reason_pages_data, reason_table_data, repeated_data, row_data, rows_age_data, rows_data}
+use Rattle.lab_commands.specs.Values.{age_data, age_until_data, arranged_data, block_data, corrected_data, doubt_data, fit_members, found_data, front_words, head_data, history_data, key_data, legible_data, lost_data, lost_row_data}
+use Rattle.lab_commands.specs.Values.{mended_count_data, mended_data, merged_data, page_data, pages_data, plain_block_data, reason_pages_data, reason_table_data, repeated_data, row_data, rows_age_data, rows_data, said_data, truth_words}
 use Rattle.std.specs.Prelude.{codes, ◌==◌, if◌then◌else◌}
 use Rattle.json.specs.Print.{escape, escape_byte, quoted}
 use Rattle.lab_dump.specs.declared.fit.TableSays.{TableSays}
@@ -28,7 +32,7 @@ use Rattle.lab_commands.specs.declared.lines.Sort.TheVariants as sort
 use Rattle.lab_commands.specs.declared.document.Report.{Report}
 use Rattle.lab_commands.specs.declared.document.Report.TheVariants as report
 use Rattle.lab_commands.specs.Document.{report_words}
-use Rattle.lab_commands.specs.Lines.{class_words, label_words, made_words, says_words, sort_words, wrote_words}
+use Rattle.lab_commands.specs.Lines.{class_words, kind_words, label_words, made_words, says_words, sort_words, wrote_words}
 
 -- what stands between the quotes, and what follows
 pub quoted_in : (w rest : List ℕ) → escape w ≡ w → quoted w ++ rest ≡ 34 ∷ (w ++ 34 ∷ rest)
@@ -218,6 +222,26 @@ page_json page block r1 w r2 r3 e1 ew e2 e3 = rw (e1, ew, e2, e3) (ap (λ t. cod
 pub history_json : (pages : ℕ) (unsound : ℕ) (r1 : ℕ) → r1 ≡ unsound → codes "{\"line\":\"history\",\"pages\":" ++ (decimal pages ++ (codes ",\"unsound\":" ++ (decimal r1 ++ codes "}"))) ≡ compact_text (history_data pages unsound)
 unfolding escape_byte
 history_json pages unsound r1 e1 = rw (e1) (refl)
+
+pub plain_kind : (k : Kind) → escape (kind_words k) ≡ kind_words k
+unfolding escape_byte
+plain_kind kind.Sector = refl
+plain_kind kind.Trim = refl
+plain_kind kind.Translation = refl
+plain_kind kind.Table = refl
+
+pub truth_is : (b : Bool) → truth_words b ≡ compact_text (boolean b)
+truth_is true = refl
+truth_is false = refl
+
+pub said_json : (page : SaidPage) (k t : List ℕ) (r1 r2 : ℕ) → k ≡ kind_words page.says.kind → t ≡ truth_words page.newer → r1 ≡ page.says.number → r2 ≡ page.row
+    → codes "{\"kind\":\"" ++ (k ++ (codes "\",\"line\":\"says\",\"newer\":" ++ (t ++ (codes ",\"number\":" ++ (decimal r1 ++ (codes ",\"row\":" ++ (decimal r2 ++ (codes ",\"sequence\":" ++ (decimal page.says.sequence ++ codes "}"))))))))) ≡ compact_text (said_data page)
+unfolding escape_byte
+said_json page k t r1 r2 ek et e1 e2 = rw (ek, et, e1, e2, truth_is page.newer) (ap (λ u. codes "{\"kind\":" ++ u) (sym (quoted_in (kind_words page.says.kind) (codes ",\"line\":\"says\",\"newer\":" ++ (compact_text (boolean page.newer) ++ (codes ",\"number\":" ++ (decimal page.says.number ++ (codes ",\"row\":" ++ (decimal page.row ++ (codes ",\"sequence\":" ++ (decimal page.says.sequence ++ codes "}")))))))) (plain_kind page.says.kind))))
+
+pub legible_json : (legible others r1 : ℕ) → r1 ≡ legible → codes "{\"legible\":" ++ (decimal r1 ++ (codes ",\"line\":\"legible\",\"others\":" ++ (decimal others ++ codes "}"))) ≡ compact_text (legible_data legible others)
+unfolding escape_byte
+legible_json legible others r1 e1 = rw (e1) (refl)
 
 pub age_of_rows_json : (unsound : ℕ) (r1 : ℕ) → r1 ≡ unsound → codes "{\"line\":\"rows_age\",\"unsound\":" ++ (decimal r1 ++ codes "}") ≡ compact_text (rows_age_data unsound)
 unfolding escape_byte

@@ -3,7 +3,7 @@ use Rattle.std.specs.Prelude.{◌≡◌, ◌⊎◌, ℕ, true, false, List, [], 
 use Rattle.std.specs.Option.{option_map_or}
 use Rattle.std.specs.Io.KnownBytes.{Appends, Keeps}
 use Rattle.page_layout.specs.declared.geometry.Geometry.{Geometry}
-use Rattle.lab_dump.specs.declared.doubts.Doubts.{Doubts}
+use Rattle.lab_dump.specs.declared.doubts.Unsettled.{Unsettled}
 use Rattle.lab_dump.specs.declared.held.Held.{Held}
 use Rattle.lab_dump.specs.Held.{state_in}
 use Rattle.lab_dump.specs.Written.{IsWritten}
@@ -31,27 +31,27 @@ abbrev pub AreAllowed : Answers → ArrayWords → Type 0
 AreAllowed a words = IsAllowed a words × AllowsMap a words
 
 -- the pieces are made of a dump that reads so: where its bytes are known the pieces and the states are those of the image that they are, as of a
--- sequence where one is said, and the doubts are that image's
-pub record IsMade (a : Answers) (path : List ℕ) (g : Geometry) (last : Option ℕ) (pieces : Option (List (List ℕ))) (held : List Held) (doubts : Doubts) : Type 0 where
+-- sequence where one is said, and what is left open is that image's
+pub record IsMade (a : Answers) (path : List ℕ) (g : Geometry) (last : Option ℕ) (pieces : Option (List (List ℕ))) (held : List Held) (left : Unsettled) : Type 0 where
   pub known : Option (List ℕ)
   pub opened : IsOpened a path known
-  pub made : IfSome known (IsWritten g last pieces held doubts)
+  pub made : IfSome known (IsWritten g last pieces held left)
 
--- the array was made beside OUT, with these states and doubts
-pub record MadeArray (a : Answers) (words : UntilWords) (g : Geometry) (last : Option ℕ) (pieces : Option (List (List ℕ))) (held : List Held) (doubts : Doubts) : Type 0 where
+-- the array was made beside OUT, with these states and what is left open
+pub record MadeArray (a : Answers) (words : UntilWords) (g : Geometry) (last : Option ℕ) (pieces : Option (List (List ℕ))) (held : List Held) (left : Unsettled) : Type 0 where
   pub geometry_is : IsGeometryAt words.array.geometry.now g
   pub last_is : IsLastAt words.until last
   pub allowed : AreAllowed a words.array
-  pub made : IsMade a words.array.dump.now g last pieces held doubts
+  pub made : IsMade a words.array.dump.now g last pieces held left
 
 -- the files once a map was put in the place of FILE, where one is wanted
 abbrev pub with_map : Option Store → ArrayWords → List ℕ → Option Store
 with_map kept words text = option_map_or (λ file. with_kept kept file.now (Some (text ∷ [])) words.force) words.map kept
 
 -- it was put in the place of OUT, and its map in that of FILE, where one is wanted
-pub record PutArray (a : Answers) (words : UntilWords) (before after : Option Store) (g : Geometry) (last : Option ℕ) (held : List Held) (doubts : Doubts) : Type 0 where
+pub record PutArray (a : Answers) (words : UntilWords) (before after : Option Store) (g : Geometry) (last : Option ℕ) (held : List Held) (left : Unsettled) : Type 0 where
   pub pieces : Option (List (List ℕ))
-  pub made : MadeArray a words g last pieces held doubts
+  pub made : MadeArray a words g last pieces held left
   pub put : after ≡ with_map (with_kept before words.array.out.now pieces words.array.force) words.array (map_text g (map state_in held))
 
 -- and the report printed
@@ -59,9 +59,9 @@ pub record WroteArray (a : Answers) (words : UntilWords) (before after : Option 
   pub g : Geometry
   pub last : Option ℕ
   pub held : List Held
-  pub doubts : Doubts
-  pub put : PutArray a words before after g last held doubts
-  pub told : Appends out printed (array_text (form_of words.array.showing) g last (map state_in held) doubts)
+  pub left : Unsettled
+  pub put : PutArray a words before after g last held left
+  pub told : Appends out printed (array_text (form_of words.array.showing) g last (map state_in held) left)
 
 -- ---- not done
 
@@ -112,8 +112,8 @@ pub record PutUnmapped (a : Answers) (words : UntilWords) (before after : Option
   pub last : Option ℕ
   pub pieces : Option (List (List ℕ))
   pub held : List Held
-  pub doubts : Doubts
-  pub made : MadeArray a words g last pieces held doubts
+  pub left : Unsettled
+  pub made : MadeArray a words g last pieces held left
   pub put : after ≡ with_kept before words.array.out.now pieces words.array.force
   pub silent : Keeps out printed
   pub unmapped : IsUnmapped a words.array told
@@ -124,5 +124,5 @@ abbrev pub IsArrayFault : Answers → UntilWords → Option Store → Option Sto
 IsArrayFault a words before after opens opened broke out printed told =
     (LeavesAll before after out printed × IsUndone a words opens opened told)
     ⊎ PutUnmapped a words before after out printed told
-    ⊎ ((g : Geometry) × (last : Option ℕ) × (held : List Held) × (doubts : Doubts) × PutArray a words before after g last held doubts
-    × IsHalfPrinted broke out printed (array_text (form_of words.array.showing) g last (map state_in held) doubts) told)
+    ⊎ ((g : Geometry) × (last : Option ℕ) × (held : List Held) × (left : Unsettled) × PutArray a words before after g last held left
+    × IsHalfPrinted broke out printed (array_text (form_of words.array.showing) g last (map state_in held) left) told)

@@ -1,6 +1,7 @@
 -- The lines of the reports, in words.
-use Rattle.std.specs.Prelude.{ℕ, zero, suc, ◌/◌, ◌==◌, if◌then◌else◌, Bool, true, false, List, [], ◌++◌, codes, Option, Some, None, option_map}
+use Rattle.std.specs.Prelude.{ℕ, zero, suc, ◌/◌, ◌==◌, ◌&&◌, not, if◌then◌else◌, Bool, true, false, List, [], ◌++◌, codes, Option, Some, None, option_map}
 use Rattle.std.specs.Fmt.{decimal}
+use Rattle.std.specs.Option.{is_none}
 use Rattle.certificate.specs.declared.block_state.BlockState.{BlockState}
 use Rattle.lab_dump.specs.declared.held.State.{State}
 use Rattle.lab_dump.specs.declared.held.State.TheVariants as state
@@ -13,6 +14,9 @@ use Rattle.lab_dump.specs.declared.history.SectorPage.{SectorPage}
 use Rattle.lab_dump.specs.declared.history.Wrote.{Wrote}
 use Rattle.lab_dump.specs.declared.history.Wrote.TheVariants as wrote
 use Rattle.page_layout.specs.declared.geometry.Geometry.{Geometry}
+use Rattle.page_layout.specs.declared.record.Kind.{Kind}
+use Rattle.page_layout.specs.declared.record.Kind.TheVariants as kind
+use Rattle.lab_dump.specs.declared.said.SaidPage.{SaidPage}
 use Rattle.lab_dump.specs.Doubts.{most_older}
 use Rattle.lab_correct.specs.declared.found.FoundFit.{FoundFit}
 use Rattle.lab_mend.specs.declared.mending.Made.{Made}
@@ -138,6 +142,28 @@ page_words page block =
     codes "page row " ++ (decimal page.row ++ (codes " block " ++ (decimal block ++ (codes " sequence " ++ (decimal page.sequence.0 ++ (
     codes " version " ++ (decimal page.version ++ (codes " " ++ wrote_words page.wrote))))))))
 
+-- what a page is of, by its record
+abbrev pub kind_words : Kind → List ℕ
+kind_words kind.Sector = codes "sector"
+kind_words kind.Trim = codes "trim"
+kind_words kind.Translation = codes "translation"
+kind_words kind.Table = codes "table"
+
+-- whether what a page says is newer than what is shown
+abbrev pub newer_words : Bool → List ℕ
+newer_words newer = if newer then codes " newer" else codes " not newer"
+
+-- what a page says that is neither erased nor sound
+abbrev pub said_words : SaidPage → List ℕ
+said_words page =
+    codes "unsound row " ++ (decimal page.row ++ (codes " says " ++ (kind_words page.says.kind ++ (codes " " ++ (decimal page.says.number ++ (
+    codes " sequence " ++ (decimal page.says.sequence ++ newer_words page.newer)))))))
+
+-- how many such pages say something that count as unsound, and at most how many sectors may be older, if that is so, of which none says something newer
+abbrev pub legible_words : ℕ → ℕ → List ℕ
+legible_words legible others =
+    codes "legible " ++ (decimal legible ++ (codes ": if what these pages say is so, at most " ++ (decimal others ++ codes " sectors may be older that are not said newer here")))
+
 -- how many pages of a sector are still there, and how many pages are neither erased nor sound
 abbrev pub history_words : ℕ → ℕ → List ℕ
 history_words pages unsound = codes "history " ++ (decimal pages ++ (codes " unsound " ++ (decimal unsound ++ codes ": of what is still there, newest first")))
@@ -174,6 +200,8 @@ line_words (Factory n) = codes "factory " ++ decimal n
 line_words (Rewritten n) = codes "rewritten " ++ decimal n
 line_words (Holes n) = codes "holes " ++ decimal n
 line_words (Outside n) = codes "outside " ++ decimal n
+line_words (line.Says page) = said_words page
+line_words (line.Legible legible others) = legible_words legible others
 
 -- ---- which lines there are
 
@@ -212,6 +240,14 @@ age_line (Some last) d = line.AgeUntil last d.unsound
 -- a page of a sector, with its block
 abbrev pub page_line : Geometry → SectorPage → Line
 page_line g page = line.Page page (page.row / g.pages)
+
+-- a page that says something newer than what is shown, of the whole array alone
+abbrev pub newer_line : Option ℕ → SaidPage → Option Line
+newer_line last page = if page.newer && is_none last then Some (line.Says page) else None
+
+-- the pages that say something, if there are some, of the whole array alone
+abbrev pub legible_line : Option ℕ → ℕ → ℕ → Option Line
+legible_line last legible others = if is_none last && not (legible == 0) then Some (line.Legible legible others) else None
 
 -- the rows that were asked for, where not all are
 abbrev pub rows_line : Option Rows → Option Line

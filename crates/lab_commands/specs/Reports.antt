@@ -1,5 +1,5 @@
 -- What each command says.
-use Rattle.std.specs.Prelude.{ℕ, ◌+◌, Bool, false, List, [], ◌∷◌, ◌++◌, length, get_or, map, slice_get, codes, Option, Some, None, option_map}
+use Rattle.std.specs.Prelude.{ℕ, ◌+◌, Bool, false, List, [], ◌∷◌, ◌++◌, length, get_or, map, slice_get, codes, Option, Some, None, option_map, option_and_then}
 use Rattle.page_layout.specs.declared.geometry.Geometry.{Geometry}
 use Rattle.page_layout.specs.Geometry.{translation_pages, table_pages}
 use Rattle.certificate.specs.declared.block_state.BlockState.{BlockState}
@@ -12,7 +12,9 @@ use Rattle.lab_correct.specs.declared.correcting.Loss.{Loss}
 use Rattle.lab_correct.specs.declared.found.FoundFit.{FoundFit}
 use Rattle.lab_mend.specs.declared.repairing.Mend.{Mend}
 use Rattle.lab_dump.specs.declared.survey.DieSurvey.{DieSurvey}
-use Rattle.lab_dump.specs.declared.doubts.Doubts.{Doubts}
+use Rattle.lab_dump.specs.Doubts.{most_others}
+use Rattle.lab_dump.specs.declared.doubts.Unsettled.{Unsettled}
+use Rattle.lab_dump.specs.declared.said.SaidPage.{SaidPage}
 use Rattle.lab_dump.specs.declared.rows.Rows.{Rows}
 use Rattle.lab_dump.specs.declared.history.SectorPage.{SectorPage}
 use Rattle.lab_commands.specs.declared.lines.Label.{Label}
@@ -24,7 +26,7 @@ use Rattle.lab_commands.specs.declared.lists.Lines.TheVariants as lists
 use Rattle.lab_commands.specs.declared.lines.Line.TheVariants as line
 use Rattle.lab_commands.specs.declared.document.Form.{Form}
 use Rattle.lab_commands.specs.Document.{head_text, if_text, line_text, tail_text, text_below}
-use Rattle.lab_commands.specs.Lines.{age_line, block_line, factory_line, hole_line, key_line, last_line, lost_line, outside_line, page_line, past_line, repeated_line, rewritten_line, rows_line, table_line, tie_line}
+use Rattle.lab_commands.specs.Lines.{age_line, block_line, factory_line, hole_line, key_line, last_line, legible_line, lost_line, newer_line, outside_line, page_line, past_line, repeated_line, rewritten_line, rows_line, table_line, tie_line}
 
 -- ---- lists
 
@@ -66,6 +68,13 @@ differ_at rows n = option_map line.Differ (slice_get rows n)
 abbrev pub unsound_at : List ℕ → ℕ → Option Line
 unsound_at rows n = option_map line.Unsound (slice_get rows n)
 
+abbrev pub said_at : List SaidPage → ℕ → Option Line
+said_at pages n = option_map line.Says (slice_get pages n)
+
+-- the line of one that says something newer than what is shown, of the whole array alone
+abbrev pub newer_at : Option ℕ → List SaidPage → ℕ → Option Line
+newer_at last pages n = option_and_then (newer_line last) (slice_get pages n)
+
 -- lines that may be there, in their order
 abbrev pub some_at : List (Option Line) → ℕ → Option Line
 some_at lines n = get_or lines n None
@@ -84,6 +93,8 @@ line_at (lists.Mends mends) = mend_at mends.now
 line_at (lists.LostRows losses) = loss_at losses.now
 line_at (lists.Conflicts rows) = differ_at rows.now
 line_at (lists.Unsound rows) = unsound_at rows.now
+line_at (lists.Said pages) = said_at pages.now
+line_at (lists.Newer last pages) = newer_at last pages.now
 
 -- how many numbers there are
 abbrev pub size_of : Lines → ℕ
@@ -99,19 +110,27 @@ size_of (lists.Mends mends) = length mends.now
 size_of (lists.LostRows losses) = length losses.now
 size_of (lists.Conflicts rows) = length rows.now
 size_of (lists.Unsound rows) = length rows.now
+size_of (lists.Said pages) = length pages.now
+size_of (lists.Newer last pages) = length pages.now
 
 abbrev pub some_text : Form → List (Option Line) → List ℕ
 some_text form lines = text_below form (some_at lines) (length lines)
 
 -- ---- what a dump leaves open
 
--- the pages of bad blocks that leave nothing open, those that were lost, those of a sector past the last one, and how far the array may be from the
+-- the pages of bad blocks that leave nothing open, those that were lost, those of a sector past the last one, those that say something, and how far the array may be from the
 -- last write, or what it is as of a sequence
-abbrev pub doubt_lines : Option ℕ → Doubts → List (Option Line)
-doubt_lines last d = factory_line d.factory ∷ rewritten_line d.rewritten ∷ hole_line d.holes ∷ past_line d.outside ∷ Some (age_line last d) ∷ []
+abbrev pub doubt_lines : Option ℕ → Unsettled → List (Option Line)
+doubt_lines last left =
+    factory_line left.doubts.factory ∷ rewritten_line left.doubts.rewritten ∷ hole_line left.doubts.holes ∷ past_line left.doubts.outside
+    ∷ legible_line last left.legible (most_others left.doubts left.legible) ∷ Some (age_line last left.doubts) ∷ []
 
-abbrev pub doubts_text : Form → Option ℕ → Doubts → List ℕ
-doubts_text form last d = some_text form (doubt_lines last d)
+abbrev pub doubts_text : Form → Option ℕ → Unsettled → List ℕ
+doubts_text form last left = some_text form (doubt_lines last left)
+
+-- the same behind the pages that say something newer than what is shown, where the array is the whole one
+abbrev pub left_text : Form → Option ℕ → Unsettled → List ℕ
+left_text form last left = text_below form (newer_at last left.said.items) (length left.said.items) ++ doubts_text form last left
 
 -- ---- survey
 
@@ -136,10 +155,14 @@ keys_text form g states formed =
 abbrev pub blocks_text : Form → Geometry → DieSurvey → List ℕ
 blocks_text form g s = text_below form (block_at (option_map (λ states. states.items) s.blocks) s.unsound.items) g.blocks
 
--- what a survey ends with: what the dump leaves open, or where some rows alone were looked at, how many of them are neither erased nor sound
+-- its last lines: what the dump leaves open, or where some rows alone were looked at, how many of them are neither erased nor sound
+abbrev pub age_text : Form → Option Rows → DieSurvey → List ℕ
+age_text form None s = doubts_text form None s.left
+age_text form (Some rows) s = line_text form (line.AgeOfRows s.counts.unsound)
+
+-- what a survey ends with: what pages say that are neither erased nor sound, and the last lines
 abbrev pub ending_text : Form → Option Rows → DieSurvey → List ℕ
-ending_text form None s = doubts_text form None s.doubts
-ending_text form (Some rows) s = line_text form (line.AgeOfRows s.counts.unsound)
+ending_text form rows s = text_below form (said_at s.left.said.items) (length s.left.said.items) ++ age_text form rows s
 
 -- all lines of a survey
 unfoldable pub survey_lines : Form → Geometry → Option Rows → DieSurvey → List ℕ
@@ -156,15 +179,15 @@ abbrev pub losses_text : Form → Geometry → List Bool → List ℕ
 losses_text form g lost = text_below form (lost_at lost) g.sectors
 
 abbrev pub compare_text : Form → Geometry → Compared → List ℕ
-compare_text form g told = head_text form (codes "compare") ++ (losses_text form g told.lost.items ++ (doubts_text form None told.doubts ++ tail_text form))
+compare_text form g told = head_text form (codes "compare") ++ (losses_text form g told.lost.items ++ (left_text form None told.left ++ tail_text form))
 
 -- the sectors that are tied, by how all sectors stand
 abbrev pub ties_text : Form → Geometry → List State → List ℕ
 ties_text form g states = text_below form (tie_at states) g.sectors
 
 -- of an array, as of a sequence where one is said
-abbrev pub array_text : Form → Geometry → Option ℕ → List State → Doubts → List ℕ
-array_text form g last states doubts = head_text form (codes "array") ++ (ties_text form g states ++ (doubts_text form last doubts ++ tail_text form))
+abbrev pub array_text : Form → Geometry → Option ℕ → List State → Unsettled → List ℕ
+array_text form g last states left = head_text form (codes "array") ++ (ties_text form g states ++ (left_text form last left ++ tail_text form))
 
 -- of the sound pages of a sector, beside so many pages that are neither erased nor sound
 abbrev pub history_text : Form → Geometry → List SectorPage → ℕ → List ℕ

@@ -1,11 +1,12 @@
 -- The lines of the reports, as JSON values: objects, each with its members by rising name. `line` says which line it is.
 use Rattle.std.specs.Prelude.{ℕ, List, codes, Bool, true, false, if◌then◌else◌}
-use Rattle.serde_json.specs.Data.{Data, Members, number, unsigned, string, array, object, item, no_items, member, no_members}
+use Rattle.serde_json.specs.Data.{Data, Members, boolean, number, unsigned, string, array, object, item, no_items, member, no_members}
 use Rattle.certificate.specs.declared.block_state.BlockState.{BlockState}
 use Rattle.lab_dump.specs.declared.fit.Fit.{Fit}
 use Rattle.lab_dump.specs.declared.doubts.Doubts.{Doubts}
 use Rattle.lab_dump.specs.declared.rows.Rows.{Rows}
 use Rattle.lab_dump.specs.declared.history.SectorPage.{SectorPage}
+use Rattle.lab_dump.specs.declared.said.SaidPage.{SaidPage}
 use Rattle.lab_dump.specs.Doubts.{most_older}
 use Rattle.lab_correct.specs.declared.found.FoundFit.{FoundFit}
 use Rattle.lab_mend.specs.declared.merging.Tally.{Tally}
@@ -17,7 +18,7 @@ use Rattle.lab_commands.specs.declared.lines.Line.TheVariants.{Pages, NumberRang
 use Rattle.lab_commands.specs.declared.lines.Line.TheVariants.{OfRows, Factory, Rewritten, Holes, Outside, Mended, MendedCount, Differ, Unsound, Merged, Age, AgeOfRows}
 use Rattle.lab_commands.specs.declared.lines.Line.TheVariants.{LostRow, Corrected, Arranged}
 use Rattle.lab_commands.specs.declared.lines.Line.TheVariants as line
-use Rattle.lab_commands.specs.Lines.{class_words, label_words, made_words, says_words, sort_words, wrote_words}
+use Rattle.lab_commands.specs.Lines.{class_words, kind_words, label_words, made_words, says_words, sort_words, wrote_words}
 
 abbrev pub count : ℕ → Data
 count n = number (unsigned n)
@@ -143,6 +144,20 @@ page_data page block =
 abbrev pub history_data : ℕ → ℕ → Data
 history_data pages n = object (member (codes "line") (text (codes "history")) (member (codes "pages") (count pages) (member (codes "unsound") (count n) no_members)))
 
+-- what a page says that is neither erased nor sound
+abbrev pub said_data : SaidPage → Data
+said_data page =
+    object (member (codes "kind") (text (kind_words page.says.kind)) (member (codes "line") (text (codes "says")) (member (codes "newer") (boolean page.newer) (
+    member (codes "number") (count page.says.number) (member (codes "row") (count page.row) (member (codes "sequence") (count page.says.sequence) no_members))))))
+
+-- how many pages say something, and at most how many others may be older if that is so
+abbrev pub legible_data : ℕ → ℕ → Data
+legible_data legible others = object (member (codes "legible") (count legible) (member (codes "line") (text (codes "legible")) (member (codes "others") (count others) no_members)))
+
+-- how JSON writes a truth
+abbrev pub truth_words : Bool → List ℕ
+truth_words is = if is then codes "true" else codes "false"
+
 abbrev pub rows_age_data : ℕ → Data
 rows_age_data n = object (member (codes "line") (text (codes "rows_age")) (member (codes "unsound") (count n) no_members))
 
@@ -184,3 +199,5 @@ line_data (Factory n) = doubt_data (codes "factory") n
 line_data (Rewritten n) = doubt_data (codes "rewritten") n
 line_data (Holes n) = doubt_data (codes "holes") n
 line_data (Outside n) = doubt_data (codes "outside") n
+line_data (line.Says page) = said_data page
+line_data (line.Legible legible others) = legible_data legible others

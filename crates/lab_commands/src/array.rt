@@ -101,7 +101,7 @@ fn make<'a, F: LabFiles>(
     files: &mut F,
 ) -> Result<Written<F::Target>, LabFault<'a>>
     requires { IsArrayRoom geometry.now room }
-    ensures made { IfOk result (λ written. IsMade (F.answers files.old) words.now.dump.now geometry.now last (F.Target.pieces written.target) written.held.items written.doubts) }
+    ensures made { IfOk result (λ written. IsMade (F.answers files.old) words.now.dump.now geometry.now last (F.Target.pieces written.target) written.held.items written.left) }
     ensures sized { IfOk result (λ written. length written.held.items ≡ geometry.now.sectors) }
     ensures fault { IfErr result (IsUnmade (F.answers files.old) geometry.now words.now.dump.now words.now.out.now) }
     ensures no_more { AnswersNoMore (F.answers files.old) (F.answers files.new) }
@@ -155,7 +155,7 @@ pub(crate) fn array_command<'a, F: LabFiles, W: Output>(
     keep(files, words.out, written.target, words.force)?;
     put_map(&words, &geometry, &written.held, files)?;
     let printer = printer(alloc, words.showing);
-    match print_array(printer, out, &geometry, last, &written.held, written.doubts) {
+    match print_array(printer, out, &geometry, last, &written.held, &written.left) {
         Ok(()) => Ok(()),
         Err(fault) => Err(unprinted(fault)),
     }

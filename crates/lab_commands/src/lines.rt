@@ -4,16 +4,17 @@ ghost use Rattle.std.specs.Fmt.{decimal};
 ghost use Rattle.lab_commands.specs.Document.{Prints};
 ghost use Rattle.lab_commands.specs.Lines.{block_line, class_words, factory_line, hole_line, key_line, label_words, last_line, lost_line, made_words, outside_line, past_line, repeated_line, rewritten_line};
 ghost use Rattle.lab_commands.specs.Lines.{rows_line, says_words, sort_words, table_line, tie_line};
-ghost use Rattle.lab_commands.specs.Lines.{age_line, age_words, block_words, corrected_words, first_words, fit_words, found_words, history_words, line_words, moved_words, page_line, page_words, tally_words, until_words, whole_words, wrote_words};
+ghost use Rattle.lab_commands.specs.Lines.{age_line, age_words, block_words, corrected_words, first_words, fit_words, found_words, history_words, kind_words, legible_line, legible_words, line_words, moved_words, newer_line, newer_words, page_line, page_words, said_words, tally_words, until_words, whole_words, wrote_words};
 
 use crate::output::{Output, OutputFault};
 use crate::pieces::Piece::{Number, Words};
 use crate::pieces::put_pieces;
 use certificate::BlockState;
 use lab_correct::FoundFit;
-use lab_dump::{Doubts, Fit, Rows, SectorPage, State, TableSays, Wrote};
+use lab_dump::{Doubts, Fit, Rows, SaidPage, SectorPage, State, TableSays, Wrote};
 use lab_mend::{Made, Tally};
 use page_layout::geometry::Geometry;
+use page_layout::record::Kind;
 
 /// What a page is of.
 #[derive(Clone, Copy)]
@@ -97,6 +98,10 @@ pub enum Line {
     Holes(u32),
     /// So many sound pages are of a sector past the last one.
     Outside(u32),
+    /// What a page says that is neither erased nor sound.
+    Says(SaidPage),
+    /// So many such pages that count as unsound say something, and if that is so, so many sectors may be older of which none says something newer.
+    Legible(u32, u64),
 }
 
 impl Label {
@@ -178,6 +183,25 @@ pub(crate) fn wrote_text(wrote: Wrote) -> &'static str
         Wrote::Data => "data",
         Wrote::Trim => "trim",
     }
+}
+
+/// What a page is of, by its record, in words.
+pub(crate) fn kind_text(kind: Kind) -> &'static str
+    ensures { result.now ≡ kind_words kind }
+{
+    match kind {
+        Kind::Sector => "sector",
+        Kind::Trim => "trim",
+        Kind::Translation => "translation",
+        Kind::Table => "table",
+    }
+}
+
+// Whether what a page says is newer than what is shown, in words.
+fn newer_text(newer: bool) -> &'static str
+    ensures { result.now ≡ newer_words newer }
+{
+    if newer { " newer" } else { " not newer" }
 }
 
 // A line of words and a number.
@@ -454,6 +478,42 @@ fn put_history<W: Output>(out: &mut W, pages: u64, unsound: u32) -> Result<(), O
     )
 }
 
+// What a page says that is neither erased nor sound.
+fn put_says<W: Output>(out: &mut W, page: SaidPage) -> Result<(), OutputFault>
+    ensures { Prints (W.failed out.new) (W.contents out.old) (W.contents out.new) (said_words page) result }
+{
+    put_pieces(
+        out,
+        &[
+            Words("unsound row "),
+            Number(u64::from(page.row)),
+            Words(" says "),
+            Words(kind_text(page.says.kind)),
+            Words(" "),
+            Number(u64::from(page.says.number)),
+            Words(" sequence "),
+            Number(page.says.sequence),
+            Words(newer_text(page.newer)),
+        ],
+    )
+}
+
+// How many pages say something, and at most how many others may be older if that is so.
+fn put_legible<W: Output>(out: &mut W, legible: u32, others: u64) -> Result<(), OutputFault>
+    ensures { Prints (W.failed out.new) (W.contents out.old) (W.contents out.new) (legible_words legible others) result }
+{
+    put_pieces(
+        out,
+        &[
+            Words("legible "),
+            Number(u64::from(legible)),
+            Words(": if what these pages say is so, at most "),
+            Number(others),
+            Words(" sectors may be older that are not said newer here"),
+        ],
+    )
+}
+
 // How many pages of some rows are neither erased nor sound.
 fn put_age_of_rows<W: Output>(out: &mut W, unsound: u32) -> Result<(), OutputFault>
     ensures { Prints (W.failed out.new) (W.contents out.old) (W.contents out.new) (codes "unsound " ++ (decimal unsound ++ codes ": of these rows alone, of others nothing is told")) result }
@@ -539,6 +599,8 @@ pub(crate) fn put_words<W: Output>(out: &mut W, line: Line) -> Result<(), Output
         Line::Rewritten(pages) => put_one(out, "rewritten ", u64::from(pages)),
         Line::Holes(pages) => put_one(out, "holes ", u64::from(pages)),
         Line::Outside(pages) => put_one(out, "outside ", u64::from(pages)),
+        Line::Says(page) => put_says(out, page),
+        Line::Legible(legible, others) => put_legible(out, legible, others),
     }
 }
 
@@ -608,6 +670,17 @@ pub(crate) fn past_line(pages: u32) -> Option<Line>
     }
 }
 
+/// The line of the pages that say something, if there are some, of the whole array alone.
+pub(crate) fn legible_line(last: Option<u64>, legible: u32, others: u64) -> Option<Line>
+    ensures { result ≡ legible_line last legible others }
+{
+    if last.is_none() && legible != 0 {
+        Some(Line::Legible(legible, others))
+    } else {
+        None
+    }
+}
+
 /// How far an array is from the last write, or what it is as of a sequence.
 pub(crate) fn age_line(last: Option<u64>, doubts: Doubts) -> Line
     ensures { result ≡ age_line last doubts }
@@ -623,6 +696,17 @@ pub(crate) fn page_line(geometry: &Geometry, page: SectorPage) -> Line
     ensures { result ≡ page_line geometry.now page }
 {
     Line::Page(page, page.row / geometry.pages())
+}
+
+/// The line of a page that says something newer than what is shown, of the whole array alone.
+pub(crate) fn newer_line(last: Option<u64>, page: SaidPage) -> Option<Line>
+    ensures { result ≡ newer_line last page }
+{
+    if page.newer && last.is_none() {
+        Some(Line::Says(page))
+    } else {
+        None
+    }
 }
 
 /// The line of the rows that were asked for, where not all were.

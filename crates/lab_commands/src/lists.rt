@@ -2,12 +2,14 @@
 ghost use Rattle.std.specs.Prelude.{◌≡◌, ◌<◌, get_or, map, option_map};
 ghost use Rattle.lab_dump.specs.declared.held.State.TheVariants.{Absent};
 ghost use Rattle.lab_dump.specs.Held.{state_in};
-ghost use Rattle.lab_commands.specs.Reports.{differ_at, fit_at, loss_at, mend_at, page_at, some_at, state_at, unsound_at};
+ghost use Rattle.lab_commands.specs.Reports.{differ_at, fit_at, loss_at, mend_at, newer_at, page_at, said_at, some_at, state_at, unsound_at};
 
-use crate::lines::{Label, Line, block_line, key_line, lost_line, page_line, table_line, tie_line};
+use crate::lines::{
+    Label, Line, block_line, key_line, lost_line, newer_line, page_line, table_line, tie_line,
+};
 use certificate::BlockState;
 use lab_correct::{FoundFit, Loss};
-use lab_dump::{DieSurvey, Held, SectorPage, State};
+use lab_dump::{DieSurvey, Held, SaidPage, SectorPage, State};
 use lab_mend::Mend;
 use page_layout::geometry::Geometry;
 
@@ -38,6 +40,10 @@ pub(crate) enum Lines<'a> {
     Conflicts(&'a [u32]),
     /// The rows of which no page is sound or erased, nor the majority sound.
     Unsound(&'a [u32]),
+    /// What pages say that are neither erased nor sound.
+    Said(&'a [SaidPage]),
+    /// Those that say something newer than what is shown, of the whole array alone.
+    Newer(Option<u64>, &'a [SaidPage]),
 }
 
 // A number below a count, in as many bits.
@@ -137,6 +143,20 @@ fn unsound_line(rows: &[u32], number: usize) -> Option<Line>
     Some(Line::Unsound(row))
 }
 
+fn said_line(pages: &[SaidPage], number: usize) -> Option<Line>
+    ensures { result ≡ said_at pages.now number }
+{
+    let page = *pages.get(number)?;
+    Some(Line::Says(page))
+}
+
+fn newer_page(last: Option<u64>, pages: &[SaidPage], number: usize) -> Option<Line>
+    ensures { result ≡ newer_at last pages.now number }
+{
+    let page = *pages.get(number)?;
+    newer_line(last, page)
+}
+
 impl Lines<'_> {
     ghost use Rattle.std.specs.Prelude.{◌≡◌, ◌<◌};
     ghost use Rattle.lab_commands.specs.Reports.{line_at, size_of};
@@ -157,6 +177,7 @@ impl Lines<'_> {
             Lines::Mends(mends) => mends.len(),
             Lines::LostRows(losses) => losses.len(),
             Lines::Conflicts(rows) | Lines::Unsound(rows) => rows.len(),
+            Lines::Said(pages) | Lines::Newer(_, pages) => pages.len(),
         }
     }
 
@@ -189,6 +210,8 @@ impl Lines<'_> {
             Lines::LostRows(losses) => loss_line(losses, number),
             Lines::Conflicts(rows) => differ_line(rows, number),
             Lines::Unsound(rows) => unsound_line(rows, number),
+            Lines::Said(pages) => said_line(pages, number),
+            Lines::Newer(last, pages) => newer_page(last, pages, number),
         }
     }
 }

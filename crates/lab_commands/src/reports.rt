@@ -2,18 +2,18 @@
 ghost use Rattle.std.specs.Prelude.{◌≡◌, option_map, map};
 ghost use Rattle.lab_dump.specs.Held.{state_in};
 ghost use Rattle.lab_commands.specs.Document.{Prints, text_below};
-ghost use Rattle.lab_commands.specs.Reports.{arrange_text, array_text, blocks_text, compare_text, correct_text, count_lines, doubts_text, ending_text, fits_text, history_text, key_at, keys_text, losses_text, merge_text};
+ghost use Rattle.lab_commands.specs.Reports.{age_text, arrange_text, array_text, blocks_text, compare_text, correct_text, count_lines, doubts_text, ending_text, fits_text, history_text, key_at, keys_text, left_text, losses_text, merge_text};
 ghost use Rattle.lab_commands.specs.Reports.{repair_text, some_text, survey_lines, survey_text, table_at, ties_text};
 
 use crate::document::{Printer, Report};
 use crate::lines::{
-    Label, Line, Sort, age_line, factory_line, hole_line, last_line, outside_line, past_line,
-    repeated_line, rewritten_line, rows_line,
+    Label, Line, Sort, age_line, factory_line, hole_line, last_line, legible_line, outside_line,
+    past_line, repeated_line, rewritten_line, rows_line,
 };
 use crate::lists::Lines;
 use crate::output::{Output, OutputFault};
 use lab_correct::{FoundFit, Loss};
-use lab_dump::{Compared, DieSurvey, Doubts, Held, Rows, SectorPage, State};
+use lab_dump::{Compared, DieSurvey, Held, Rows, SectorPage, State, Unsettled};
 use lab_mend::{Mend, Tally};
 use page_layout::geometry::Geometry;
 
@@ -113,10 +113,11 @@ fn print_doubts<W: Output>(
     printer: Printer,
     out: &mut W,
     last: Option<u64>,
-    doubts: Doubts,
+    left: &Unsettled,
 ) -> Result<(), OutputFault>
-    ensures { Prints (W.failed out.new) (W.contents out.old) (W.contents out.new) (doubts_text printer.form last doubts) result }
+    ensures { Prints (W.failed out.new) (W.contents out.old) (W.contents out.new) (doubts_text printer.form last left.now) result }
 {
+    let (doubts, legible) = (left.doubts, left.legible);
     printer.list(
         out,
         &Lines::Fixed(&[
@@ -124,9 +125,25 @@ fn print_doubts<W: Output>(
             rewritten_line(doubts.rewritten),
             hole_line(doubts.holes),
             past_line(doubts.outside),
+            legible_line(last, legible, doubts.most_others(legible)),
             Some(age_line(last, doubts)),
         ]),
     )
+}
+
+// The last lines of a survey.
+fn print_age<W: Output>(
+    printer: Printer,
+    out: &mut W,
+    rows: Option<Rows>,
+    survey: &DieSurvey,
+) -> Result<(), OutputFault>
+    ensures { Prints (W.failed out.new) (W.contents out.old) (W.contents out.new) (age_text printer.form rows survey.now) result }
+{
+    match rows {
+        Some(_) => printer.line(out, Some(Line::AgeOfRows(survey.counts.unsound))),
+        None => print_doubts(printer, out, None, &survey.left),
+    }
 }
 
 // What a survey ends with.
@@ -138,10 +155,21 @@ fn print_ending<W: Output>(
 ) -> Result<(), OutputFault>
     ensures { Prints (W.failed out.new) (W.contents out.old) (W.contents out.new) (ending_text printer.form rows survey.now) result }
 {
-    match rows {
-        Some(_) => printer.line(out, Some(Line::AgeOfRows(survey.counts.unsound))),
-        None => print_doubts(printer, out, None, survey.doubts),
-    }
+    printer.list(out, &Lines::Said(&survey.left.said))?;
+    print_age(printer, out, rows, survey)
+}
+
+// What a dump leaves open of its array, as of a sequence where one is said.
+fn print_left<W: Output>(
+    printer: Printer,
+    out: &mut W,
+    last: Option<u64>,
+    left: &Unsettled,
+) -> Result<(), OutputFault>
+    ensures { Prints (W.failed out.new) (W.contents out.old) (W.contents out.new) (left_text printer.form last left.now) result }
+{
+    printer.list(out, &Lines::Newer(last, &left.said))?;
+    print_doubts(printer, out, last, left)
 }
 
 // The lines of a survey.
@@ -209,7 +237,7 @@ pub fn print_compared<W: Output>(
 {
     printer.begin(out, Report::Compare)?;
     print_losses(printer, out, geometry, &told.lost)?;
-    print_doubts(printer, out, None, told.doubts)?;
+    print_left(printer, out, None, &told.left)?;
     printer.end(out)
 }
 
@@ -237,13 +265,13 @@ pub fn print_array<W: Output>(
     geometry: &Geometry,
     last: Option<u64>,
     held: &[Held],
-    doubts: Doubts,
+    left: &Unsettled,
 ) -> Result<(), OutputFault>
-    ensures { Prints (W.failed out.new) (W.contents out.old) (W.contents out.new) (array_text printer.form geometry.now last (map state_in held.now) doubts) result }
+    ensures { Prints (W.failed out.new) (W.contents out.old) (W.contents out.new) (array_text printer.form geometry.now last (map state_in held.now) left.now) result }
 {
     printer.begin(out, Report::Array)?;
     print_ties(printer, out, geometry, held)?;
-    print_doubts(printer, out, last, doubts)?;
+    print_left(printer, out, last, left)?;
     printer.end(out)
 }
 

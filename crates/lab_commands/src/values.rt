@@ -3,16 +3,16 @@ ghost use Rattle.std.specs.Prelude.{◌≡◌, codes};
 ghost use Rattle.serde_json.specs.Written.{compact_text};
 ghost use Rattle.lab_commands.specs.Document.{Prints};
 ghost use Rattle.lab_commands.specs.Lines.{label_words};
-ghost use Rattle.lab_commands.specs.Values.{age_data, age_until_data, arranged_data, block_data, corrected_data, doubt_data, found_data, front_words, head_data, history_data, key_data, line_data, lost_data, lost_row_data};
-ghost use Rattle.lab_commands.specs.Values.{mended_count_data, mended_data, merged_data, page_data, pages_data, plain_block_data, reason_pages_data, reason_table_data, repeated_data, row_data, rows_age_data, rows_data};
+ghost use Rattle.lab_commands.specs.Values.{age_data, age_until_data, arranged_data, block_data, corrected_data, doubt_data, found_data, front_words, head_data, history_data, key_data, legible_data, line_data, lost_data, lost_row_data};
+ghost use Rattle.lab_commands.specs.Values.{mended_count_data, mended_data, merged_data, page_data, pages_data, plain_block_data, reason_pages_data, reason_table_data, repeated_data, row_data, rows_age_data, rows_data, said_data, truth_words};
 
-use crate::lines::{Label, Line, Sort, class_text, made_text, says_text, wrote_text};
+use crate::lines::{Label, Line, Sort, class_text, kind_text, made_text, says_text, wrote_text};
 use crate::output::{Output, OutputFault};
 use crate::pieces::Piece::{Number, Words};
 use crate::pieces::put_pieces;
 use certificate::BlockState;
 use lab_correct::FoundFit;
-use lab_dump::{Doubts, Rows, SectorPage};
+use lab_dump::{Doubts, Rows, SaidPage, SectorPage};
 use lab_mend::{Made, Tally};
 
 // So many pages are of a sort.
@@ -464,6 +464,53 @@ fn put_history<W: Output>(out: &mut W, pages: u64, unsound: u32) -> Result<(), O
     )
 }
 
+// A truth, as JSON writes it.
+fn truth_text(is: bool) -> &'static str
+    ensures { result.now ≡ truth_words is }
+{
+    if is { "true" } else { "false" }
+}
+
+// What a page says that is neither erased nor sound.
+#[tactic(auto, unfolding(json::specs::Print::escape_byte))]
+fn put_says<W: Output>(out: &mut W, page: SaidPage) -> Result<(), OutputFault>
+    ensures { Prints (W.failed out.new) (W.contents out.old) (W.contents out.new) (compact_text (said_data page)) result }
+{
+    put_pieces(
+        out,
+        &[
+            Words("{\"kind\":\""),
+            Words(kind_text(page.says.kind)),
+            Words("\",\"line\":\"says\",\"newer\":"),
+            Words(truth_text(page.newer)),
+            Words(",\"number\":"),
+            Number(u64::from(page.says.number)),
+            Words(",\"row\":"),
+            Number(u64::from(page.row)),
+            Words(",\"sequence\":"),
+            Number(page.says.sequence),
+            Words("}"),
+        ],
+    )
+}
+
+// How many pages say something, and at most how many others may be older if that is so.
+#[tactic(auto, unfolding(json::specs::Print::escape_byte))]
+fn put_legible<W: Output>(out: &mut W, legible: u32, others: u64) -> Result<(), OutputFault>
+    ensures { Prints (W.failed out.new) (W.contents out.old) (W.contents out.new) (compact_text (legible_data legible others)) result }
+{
+    put_pieces(
+        out,
+        &[
+            Words("{\"legible\":"),
+            Number(u64::from(legible)),
+            Words(",\"line\":\"legible\",\"others\":"),
+            Number(others),
+            Words("}"),
+        ],
+    )
+}
+
 // How many pages of some rows alone are neither erased nor sound.
 #[tactic(auto, unfolding(json::specs::Print::escape_byte))]
 fn put_age_of_rows<W: Output>(out: &mut W, unsound: u32) -> Result<(), OutputFault>
@@ -592,5 +639,7 @@ pub(crate) fn put_object<W: Output>(out: &mut W, line: Line) -> Result<(), Outpu
         Line::Rewritten(pages) => put_rewritten(out, pages),
         Line::Holes(pages) => put_holes(out, pages),
         Line::Outside(pages) => put_outside(out, pages),
+        Line::Says(page) => put_says(out, page),
+        Line::Legible(legible, others) => put_legible(out, legible, others),
     }
 }

@@ -72,7 +72,7 @@ any_by f (suc n) e = by (any_by f n) (list_any f (range_with_len 0 n)) refl
 
 -- ---- keys of the die
 
-in_range : (g : Geometry) (r : Record) → is_outside g (Some r) ≡ false → IsKeyOf g (key_of r)
+pub in_range : (g : Geometry) (r : Record) → is_outside g (Some r) ≡ false → IsKeyOf g (key_of r)
 in_range g r e = by (key_of r) e
   where
     unset : (b : Bool) → not b ≡ false → b ≡ true
@@ -84,7 +84,7 @@ in_range g r e = by (key_of r) e
     by (Translation t) h = ltb-true t (translation_pages g) (unset (nat_lt t (translation_pages g)) h)
     by (Table u) h = ltb-true u (table_pages g) (unset (nat_lt u (table_pages g)) h)
 
-within_range : (g : Geometry) (r : Record) → IsKeyOf g (key_of r) → is_outside g (Some r) ≡ false
+pub within_range : (g : Geometry) (r : Record) → IsKeyOf g (key_of r) → is_outside g (Some r) ≡ false
 within_range g r h = by (key_of r) h
   where
     by : (key : Key) → IsKeyOf g key → not (is_in_range g key) ≡ false

@@ -1,8 +1,10 @@
 -- How many sectors of a dump may be older than the last write.
-use Rattle.std.proofs.Common.{◌≡◌, ◌⊎◌, inl, inr, ℕ, zero, suc, ◌+◌, ◌/◌, ◌<◌, ◌≤◌, [], ◌∷◌, length, get_or, Option, Some, None}
+use Rattle.std.proofs.Common.{◌≡◌, ◌⊎◌, inl, inr, ℕ, zero, suc, ◌+◌, ◌/◌, ◌<◌, ◌≤◌, List, [], ◌∷◌, ◌++◌, append-nil, cond, count_by, subst, length, get_or, Option, Some, None}
 use Rattle.std.proofs.Common.{Bool, true, false, refl, sym, ap, ◌∙◌, arith, slice_get}
 use Rattle.std.specs.Prelude.{◌&&◌, ◌||◌, not, nat_lt, is_some}
-use Rattle.std.proofs.lemmas.Bool.{cases_Bool, cases_lt, lt-ltb, le-ltb, ltb-true, and_from, and_parts, true≢false}
+use Rattle.std.specs.List.{list_any}
+use Rattle.std.proofs.lemmas.List.Sums.{sum_by_push}
+use Rattle.std.proofs.lemmas.Bool.{cases_Bool, cases_eq, cases_lt, lt-ltb, le-ltb, ltb-true, and_from, and_parts, true≢false}
 use Rattle.std.proofs.lemmas.List.{get_or_past}
 use Rattle.page_layout.specs.declared.geometry.Geometry.{Geometry}
 use Rattle.page_layout.specs.declared.record.Record.{Record}
@@ -10,12 +12,13 @@ use Rattle.page_layout.specs.declared.record.Key.{Key}
 use Rattle.page_layout.specs.declared.record.Key.TheVariants.{Sector, Translation, Table}
 use Rattle.page_layout.specs.Page.{Page, Image}
 use Rattle.page_layout.specs.Sound.{record_of, is_erased_page}
-use Rattle.page_layout.specs.Key.{key_of}
-use Rattle.page_layout.specs.Newest.{newest}
+use Rattle.page_layout.specs.Key.{key_eq, key_of}
+use Rattle.page_layout.specs.Newest.{newest, sequence_at}
+use Rattle.page_layout.proofs.KeyLemmas.{key_eq-same}
 use Rattle.page_layout.specs.Array.{marks}
 use Rattle.page_layout.specs.Block.{is_broken, is_programmed}
 use Rattle.page_layout.proofs.RecordLemmas.{erased_no_record}
-use Rattle.page_layout.proofs.NewestLemmas.{Forgets, newest_forgets, newest-record, newest-within}
+use Rattle.page_layout.proofs.NewestLemmas.{Forgets, newest-is, newest_forgets, newest-record, newest-within, sequence_at-key, sequence_at-none, sequence_at-same}
 use Rattle.page_layout.proofs.ArrayLemmas.{length-marks, mark-page, mark-same, sector-same}
 use Rattle.lab_dump.specs.Count.{one}
 use Rattle.image_check.specs.Blocks.{is_factory}
@@ -23,7 +26,13 @@ use Rattle.lab_dump.specs.Bad.{is_excused, is_rewritten}
 use Rattle.lab_dump.specs.Doubts.{has_page, is_programmed_at, is_unsound_at, is_hole, rows_of, doubts_of}
 use Rattle.lab_dump.specs.Bound.{IsDumpOf, is_gone_from, is_gone, OwnRowLaw, BoundLaw, KeptLaw, HoleLostLaw}
 use Rattle.lab_dump.proofs.CountLemmas.{broken_of}
-use Rattle.lab_dump.proofs.DoubtLemmas.{upto, upto_more, upto_none, hole_law, sorted}
+use Rattle.lab_dump.specs.declared.said.SaidPage.{SaidPage}
+use Rattle.lab_dump.specs.Doubts.{legible_of}
+use Rattle.lab_dump.specs.Named.{OthersLaw, SaysTrue, is_named, names}
+use Rattle.lab_dump.specs.Said.{is_newer, said_below, said_by, said_in_row, said_of, says}
+use Rattle.lab_dump.proofs.ConcludeLemmas.{is_open_page}
+use Rattle.lab_dump.proofs.SaidLemmas.{newer_law, said_law, says_is}
+use Rattle.lab_dump.proofs.DoubtLemmas.{upto, upto_more, upto_none, upto_sum, hole_law, sorted}
 
 -- ---- pages of rows
 
@@ -151,9 +160,9 @@ abbrev row_below : ℕ → Option ℕ → Bool
 row_below rows None = false
 row_below rows (Some row) = nat_lt row rows
 
--- the sector's newest page is gone, and stood in one of the first rows
-abbrev is_lost_below : Image → Image → ℕ → ℕ → Bool
-is_lost_below die dump rows n = is_gone die dump n && row_below rows (newest (marks die) (Sector n))
+-- the sector passes, and its newest page stood in one of the first rows
+abbrev passes_below : (ℕ → Bool) → Image → ℕ → ℕ → Bool
+passes_below test die rows n = test n && row_below rows (newest (marks die) (Sector n))
 
 abbrev is_open : Geometry → Image → ℕ → Bool
 is_open g dump row = not (is_excused g dump (row / g.pages))
@@ -175,9 +184,10 @@ below_last rows (Some row) e = elim (cases_lt row rows) [
   | inr more ↦ (let l = ltb-true row (suc rows) e in inr (ap Some (let same : row ≡ rows = omega arith in same)))
 ]
 
-bounded : (g : Geometry) (die dump : Image) (sectors rows : ℕ) → IsDumpOf g die dump → upto (is_lost_below die dump rows) sectors ≤ upto (is_told g dump) rows
-bounded g die dump sectors zero of =
-    let none : upto (is_lost_below die dump 0) sectors ≡ 0 = upto_none (is_lost_below die dump 0) sectors (λ n l. no_rows (is_gone die dump n) (newest (marks die) (Sector n))) in
+-- where the row of the newest page of each sector that passes is told, at most as many pass as rows are told
+bounded : (die : Image) (test told : ℕ → Bool) (sectors rows : ℕ) → ((n row : ℕ) → test n ≡ true → newest (marks die) (Sector n) ≡ Some row → told row ≡ true) → upto (passes_below test die rows) sectors ≤ upto told rows
+bounded die test told sectors zero own =
+    let none : upto (passes_below test die 0) sectors ≡ 0 = upto_none (passes_below test die 0) sectors (λ n l. no_rows (test n) (newest (marks die) (Sector n))) in
     omega arith
   where
     never : (a : Bool) → (a && false) ≡ false
@@ -187,52 +197,55 @@ bounded g die dump sectors zero of =
     no_rows : (a : Bool) (o : Option ℕ) → (a && row_below 0 o) ≡ false
     no_rows a None = never a
     no_rows a (Some row) = ap (λ b. a && b) (le-ltb row 0 (omega arith)) ∙ never a
-bounded g die dump sectors (suc rows) of = by (bounded g die dump sectors rows of) (is_told g dump rows) refl
+bounded die test told sectors (suc rows) own = by (bounded die test told sectors rows own) (told rows) refl
   where
     -- it stood in an earlier row, or in the last of them
-    earlier : (n : ℕ) → is_lost_below die dump (suc rows) n ≡ true → (is_lost_below die dump rows n ≡ true) ⊎ ((is_gone die dump n ≡ true) × (newest (marks die) (Sector n) ≡ Some rows))
+    earlier : (n : ℕ) → passes_below test die (suc rows) n ≡ true → (passes_below test die rows n ≡ true) ⊎ ((test n ≡ true) × (newest (marks die) (Sector n) ≡ Some rows))
     earlier n e =
-        let both = and_parts (is_gone die dump n) (row_below (suc rows) (newest (marks die) (Sector n))) e in
+        let both = and_parts (test n) (row_below (suc rows) (newest (marks die) (Sector n))) e in
         elim (below_last rows (newest (marks die) (Sector n)) both.1) [
-          | inl less ↦ inl (and_from (is_gone die dump n) (row_below rows (newest (marks die) (Sector n))) both.0 less)
+          | inl less ↦ inl (and_from (test n) (row_below rows (newest (marks die) (Sector n))) both.0 less)
           | inr last ↦ inr (both.0, last)
         ]
 
-    by : upto (is_lost_below die dump rows) sectors ≤ upto (is_told g dump) rows → (b : Bool) → is_told g dump rows ≡ b → upto (is_lost_below die dump (suc rows)) sectors ≤ upto (is_told g dump) (suc rows)
+    by : upto (passes_below test die rows) sectors ≤ upto told rows → (b : Bool) → told rows ≡ b → upto (passes_below test die (suc rows)) sectors ≤ upto told (suc rows)
     by before true e =
-        let more : upto (is_lost_below die dump (suc rows)) sectors ≤ upto (is_lost_below die dump rows) sectors + 1 =
-        upto_but (is_lost_below die dump (suc rows)) (is_lost_below die dump rows) (owner_of (get_or (marks die) rows None)) sectors
+        let more : upto (passes_below test die (suc rows)) sectors ≤ upto (passes_below test die rows) sectors + 1 =
+        upto_but (passes_below test die (suc rows)) (passes_below test die rows) (owner_of (get_or (marks die) rows None)) sectors
         (λ n l is. elim (earlier n is) [ inl less ↦ inl less | inr last ↦ inr (sym (owner_is die n rows last.1)) ]) in
-        let a = upto_more (is_told g dump) rows in
-        let x : one (is_told g dump rows) ≡ 1 = ap one e in
+        let a = upto_more told rows in
+        let x : one (told rows) ≡ 1 = ap one e in
         omega arith
     by before false e =
-        let same : upto (is_lost_below die dump (suc rows)) sectors ≤ upto (is_lost_below die dump rows) sectors =
-        upto_le (is_lost_below die dump (suc rows)) (is_lost_below die dump rows) sectors (λ n l is. elim (earlier n is) [
+        let same : upto (passes_below test die (suc rows)) sectors ≤ upto (passes_below test die rows) sectors =
+        upto_le (passes_below test die (suc rows)) (passes_below test die rows) sectors (λ n l is. elim (earlier n is) [
           | inl less ↦ less
-          | inr last ↦
-              (let own = own_row_law g die dump n of last.0 in
-              let at : own.row ≡ rows = row_same own.row rows (sym own.newest_is ∙ last.1) in
-              let told : is_told g dump own.row ≡ true = told_by (is_unsound_at dump own.row) (is_hole g dump own.row) (is_open g dump own.row) own.broken (ap not own.stays_open) in
-              absurd (true≢false (sym told ∙ (ap (is_told g dump) at ∙ e))))
+          | inr last ↦ absurd (true≢false (sym (own n rows last.0 last.1) ∙ e))
         ]) in
-        let a = upto_more (is_told g dump) rows in
-        let x : one (is_told g dump rows) ≡ 0 = ap one e in
+        let a = upto_more told rows in
+        let x : one (told rows) ≡ 0 = ap one e in
         omega arith
-      where
-        row_same : (a b : ℕ) → Some a ≡ Some b → a ≡ b
-        row_same a b s = cc
+
+same_row : (a b : ℕ) → Some a ≡ Some b → a ≡ b
+same_row a b s = cc
+
+-- the sectors that pass, whose newest pages are gone, are those with a row below the last one
+all_below : (die dump : Image) (test : ℕ → Bool) (sectors : ℕ) → length dump ≡ length die → ((n : ℕ) → test n ≡ true → is_gone die dump n ≡ true) → upto test sectors ≤ upto (passes_below test die (length dump)) sectors
+all_below die dump test sectors size gone = upto_le test (passes_below test die (length dump)) sectors (λ n l e.
+    let lost = lost_in die dump n (gone n e) in
+    let within = newest-within (marks die) (Sector n) lost.row lost.newest_is in
+    and_from (test n) (row_below (length dump) (newest (marks die) (Sector n))) e (ap (row_below (length dump)) lost.newest_is ∙ lt-ltb lost.row (length dump) (omega (arith, length-marks die))))
 
 pub bound_law : BoundLaw
 unfolding doubts_of rows_of
 bound_law g die dump sectors of =
     let rows = length dump in
-    let gone : upto (is_gone die dump) sectors ≤ upto (is_lost_below die dump rows) sectors = upto_le (is_gone die dump) (is_lost_below die dump rows) sectors (λ n l e.
-    let lost = lost_in die dump n e in
-    let within = newest-within (marks die) (Sector n) lost.row lost.newest_is in
-    let size = of.size in
-    and_from (is_gone die dump n) (row_below rows (newest (marks die) (Sector n))) e (ap (row_below rows) lost.newest_is ∙ lt-ltb lost.row rows (omega (arith, length-marks die)))) in
-    let told = bounded g die dump sectors rows of in
+    let own : (n row : ℕ) → is_gone die dump n ≡ true → newest (marks die) (Sector n) ≡ Some row → is_told g dump row ≡ true = λ n row e newest_is.
+    let found = own_row_law g die dump n of e in
+    let at : found.row ≡ row = same_row found.row row (sym found.newest_is ∙ newest_is) in
+    subst (λ r. is_told g dump r ≡ true) at (told_by (is_unsound_at dump found.row) (is_hole g dump found.row) (is_open g dump found.row) found.broken (ap not found.stays_open)) in
+    let gone = all_below die dump (is_gone die dump) sectors of.size (λ n e. e) in
+    let told = bounded die (is_gone die dump) (is_told g dump) sectors rows own in
     let apart = upto_either (λ row. is_unsound_at dump row && is_open g dump row) (λ row. is_hole g dump row && is_open g dump row) rows in
     omega arith
 
@@ -284,3 +297,138 @@ hole_lost_law g die dump row size ordered programmed hole =
     within [] r e = absurd (true≢false (sym e))
     within (p ∷ ps) zero e = omega arith
     within (p ∷ ps) (suc r) e = let l = within ps r e in omega arith
+
+-- ---- those that no page names
+
+abbrev says_of : Geometry → Option Page → Option Record
+says_of g None = None
+says_of g (Some p) = says g p
+
+abbrev is_legible : Geometry → Image → ℕ → Bool
+is_legible g image row = is_some (says_of g (slice_get image row))
+
+legible_upto : (g : Geometry) (image : Image) (n : ℕ) → count_by (is_open_page g image) (said_below g image n) ≡ upto (λ row. is_legible g image row && is_open g image row) n
+unfolding said_below
+legible_upto g image zero = refl
+legible_upto g image (suc n) =
+    in_row (said_below g image n) (slice_get image n) ∙ (ap (λ k. k + one (is_legible g image n && is_open g image n)) (legible_upto g image n) ∙ sym (upto_more (λ row. is_legible g image row && is_open g image row) n))
+  where
+    nothing_more : (xs : List SaidPage) → count_by (is_open_page g image) (xs ++ []) ≡ count_by (is_open_page g image) xs + 0
+    nothing_more xs = let same = ap (count_by (is_open_page g image)) (append-nil xs) in omega arith
+
+    in_page : (xs : List SaidPage) (o : Option Record) → count_by (is_open_page g image) (xs ++ said_by n o) ≡ count_by (is_open_page g image) xs + one (is_some o && is_open g image n)
+    in_page xs None = nothing_more xs
+    in_page xs (Some r) = sum_by_push (λ y. cond (is_open_page g image y) 1 0) xs (record { row = n; says = r; newer = false })
+
+    in_row : (xs : List SaidPage) (o : Option Page) → count_by (is_open_page g image) (xs ++ said_in_row g n o) ≡ count_by (is_open_page g image) xs + one (is_some (says_of g o) && is_open g image n)
+    in_row xs None = nothing_more xs
+    in_row xs (Some p) = in_page xs (says g p)
+
+-- a page that says something is neither erased nor sound
+legible_unsound : (g : Geometry) (o : Option Page) → is_some (says_of g o) ≡ true → has_page is_broken o ≡ true
+legible_unsound g None e = absurd (true≢false (sym e))
+legible_unsound g (Some p) e = by (says g p) refl e
+  where
+    by : (o : Option Record) → says g p ≡ o → is_some o ≡ true → is_broken p ≡ true
+    by None is h = absurd (true≢false (sym h))
+    by (Some r) is h = (says_is g p r is).broken
+
+record SaysHere (g : Geometry) (image : Image) (row : ℕ) : Type 0 where
+  page : Page
+  its : Record
+  at : slice_get image row ≡ Some page
+  is : says g page ≡ Some its
+
+says_here : (g : Geometry) (image : Image) (row : ℕ) (o : Option Page) → slice_get image row ≡ o → is_some (says_of g o) ≡ true → SaysHere g image row
+says_here g image row None at e = absurd (true≢false (sym e))
+says_here g image row (Some p) at e = by (says g p) refl e
+  where
+    by : (o : Option Record) → says g p ≡ o → is_some o ≡ true → SaysHere g image row
+    by None is h = absurd (true≢false (sym h))
+    by (Some r) is h = record { page = p; its = r; at = at; is = is }
+
+no_record : (p : Page) → is_broken p ≡ true → record_of p ≡ None
+no_record p e = unsound_of (record_of p) (unset (is_some (record_of p)) (and_parts (not (is_erased_page p)) (not (is_some (record_of p))) e).1)
+  where
+    unset : (b : Bool) → not b ≡ true → b ≡ false
+    unset true h = absurd (true≢false (sym h))
+    unset false h = refl
+
+any_get : (f : SaidPage → Bool) (xs : List SaidPage) (k : ℕ) (x : SaidPage) → k < length xs → f (get_or xs k x) ≡ true → list_any f xs ≡ true
+any_get f [] k x l e = absurd (omega arith)
+any_get f (y ∷ ys) zero x l e = ap (λ b. b || list_any f ys) e
+any_get f (y ∷ ys) (suc k) x l e = right (f y) (any_get f ys k x (omega arith) e)
+  where
+    right : (a : Bool) → list_any f ys ≡ true → (a || list_any f ys) ≡ true
+    right true h = refl
+    right false h = h
+
+some_same : {A : Type 0} {x y : A} → Some x ≡ Some y → x ≡ y
+some_same e = cc
+
+-- a page that says what its row had names the sector whose newest page that was
+names_it : (g : Geometry) (die dump : Image) (n row : ℕ) → IsDumpOf g die dump → SaysTrue g die dump → newest (marks die) (Sector n) ≡ Some row → SaysHere g dump row → is_named g dump n ≡ true
+unfolding is_named
+names_it g die dump n row of true_is newest_is here =
+    let r = here.its in
+    let mark : get_or (marks die) row None ≡ Some r = true_is row here.page r here.at here.is in
+    let found = newest-record (marks die) (Sector n) row newest_is in
+    let same : r ≡ found.0 = some_same (sym mark ∙ found.1) in
+    let key_is : key_of r ≡ Sector n = ap key_of same ∙ found.2 in
+    let top = newest-is (marks die) (Sector n) row newest_is in
+    let value : top.value ≡ r.sequence = some_same (sym top.here ∙ (ap (λ k. sequence_at (marks die) k row) (sym key_is) ∙ sequence_at-key (marks die) row r mark)) in
+    let none : get_or (marks dump) row None ≡ None = mark-page dump row here.page here.at ∙ no_record here.page (says_is g here.page r here.is).broken in
+    let newer : is_newer dump r ≡ true = (newer_law dump r).1 (λ q s at. elim ((forgets g die dump of).at q) [
+      | inr gone ↦ absurd (let clash : None ≡ Some s = sym (sequence_at-none (marks dump) (key_of r) q gone) ∙ at in cc)
+      | inl kept ↦
+          (let in_die : sequence_at (marks die) (Sector n) q ≡ Some s = ap (λ k. sequence_at (marks die) k q) (sym key_is) ∙ (sym (sequence_at-same (marks dump) (marks die) (key_of r) q kept) ∙ at) in
+          elim (cases_eq q row) [
+            | inl at_row ↦ absurd (let clash : None ≡ Some s = sym (sequence_at-none (marks dump) (key_of r) row none) ∙ (ap (sequence_at (marks dump) (key_of r)) (sym at_row) ∙ at) in cc)
+            | inr other ↦ (let less = top.others q s other in_die in omega arith)
+          ])
+    ]) in
+    let x : SaidPage = record { row = row; says = r; newer = is_newer dump r } in
+    let place = (said_law g dump x).1 (record { page = here.page; at = here.at; says_is = here.is; newer_is = refl }) in
+    let passes : names n x ≡ true = and_from (is_newer dump r) (key_eq (key_of r) (Sector n)) newer (ap (λ k. key_eq k (Sector n)) key_is ∙ key_eq-same (Sector n)) in
+    any_get (names n) (said_of g dump) place.0 x place.1 (ap (names n) place.2 ∙ passes)
+
+abbrev is_silent : Geometry → Image → ℕ → Bool
+is_silent g dump row = is_unsound_at dump row && not (is_legible g dump row)
+
+abbrev is_other : Geometry → Image → ℕ → Bool
+is_other g dump row = (is_silent g dump row && is_open g dump row) || (is_hole g dump row && is_open g dump row)
+
+pub others_law : OthersLaw
+unfolding doubts_of rows_of legible_of
+others_law g die dump sectors of true_is =
+    let rows = length dump in
+    let test : ℕ → Bool = λ n. is_gone die dump n && not (is_named g dump n) in
+    let own : (n row : ℕ) → test n ≡ true → newest (marks die) (Sector n) ≡ Some row → is_other g dump row ≡ true = λ n row e newest_is.
+    let both = and_parts (is_gone die dump n) (not (is_named g dump n)) e in
+    let found = own_row_law g die dump n of both.0 in
+    let at : found.row ≡ row = same_row found.row row (sym found.newest_is ∙ newest_is) in
+    let silent : (is_silent g dump found.row ≡ true) ⊎ (is_hole g dump found.row ≡ true) = elim found.broken [
+      | inl unsound ↦ elim (cases_Bool (is_legible g dump found.row)) [
+        | inl legible ↦
+            absurd (true≢false (sym both.1 ∙ ap not (names_it g die dump n found.row of true_is found.newest_is (says_here g dump found.row (slice_get dump found.row) refl legible))))
+        | inr not_so ↦ inl (and_from (is_unsound_at dump found.row) (not (is_legible g dump found.row)) unsound (ap not not_so))
+      ]
+      | inr hole ↦ inr hole
+    ] in
+    subst (λ r. is_other g dump r ≡ true) at (told_by (is_silent g dump found.row) (is_hole g dump found.row) (is_open g dump found.row) silent (ap not found.stays_open)) in
+    let gone = all_below die dump test sectors of.size (λ n e. (and_parts (is_gone die dump n) (not (is_named g dump n)) e).0) in
+    let told = bounded die test (is_other g dump) sectors rows own in
+    let apart = upto_either (λ row. is_silent g dump row && is_open g dump row) (λ row. is_hole g dump row && is_open g dump row) rows in
+    let split : upto (λ row. is_unsound_at dump row && is_open g dump row) rows ≡ upto (λ row. is_silent g dump row && is_open g dump row) rows + upto (λ row. is_legible g dump row && is_open g dump row) rows =
+    upto_sum (λ row. is_silent g dump row && is_open g dump row) (λ row. is_legible g dump row && is_open g dump row) (λ row. is_unsound_at dump row && is_open g dump row) rows
+    (λ row l. pairs (is_unsound_at dump row) (is_legible g dump row) (is_open g dump row) (legible_unsound g (slice_get dump row))) in
+    let legible = legible_upto g dump rows in
+    omega arith
+  where
+    pairs : (u l o : Bool) → (l ≡ true → u ≡ true) → one (u && o) ≡ one ((u && not l) && o) + one (l && o)
+    pairs true true true h = refl
+    pairs true true false h = refl
+    pairs true false true h = refl
+    pairs true false false h = refl
+    pairs false true o h = absurd (true≢false (sym (h refl)))
+    pairs false false o h = refl

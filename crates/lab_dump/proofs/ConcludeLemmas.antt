@@ -6,7 +6,8 @@ use Rattle.std.specs.Global.{Vec}
 use Rattle.std.proofs.Math.Seq.{take-length}
 use Rattle.std.proofs.Math.Nat.{mul-le-mul_right, mod-lt, div-lt_iff_lt-mul}
 use Rattle.std.proofs.lemmas.Bool.{cases_eq, cases_order, eq-eqb, ne_eqb, eqb-true, lt-ltb, le-ltb, true≢false}
-use Rattle.std.proofs.lemmas.List.{places, get_or-set_same, get_or-set_other, get_or_default}
+use Rattle.std.proofs.lemmas.List.Sums.{sum_by_push}
+use Rattle.std.proofs.lemmas.List.{places, take_all, take_more, get_or-set_same, get_or-set_other, get_or_default}
 use Rattle.page_layout.specs.declared.geometry.Geometry.{Geometry}
 use Rattle.page_layout.specs.declared.record.Key.TheVariants.{Table}
 use Rattle.page_layout.specs.Geometry.{entries, key_count, row_count, table_pages}
@@ -31,9 +32,11 @@ use Rattle.lab_dump.specs.Trace.{is_tied_in, place_in}
 use Rattle.lab_dump.specs.Count as sorts
 use Rattle.lab_dump.specs.Count.{HasUnsound, one, is_unsound_in, unsound_below}
 use Rattle.lab_dump.specs.Bad.{is_excused, is_plain, is_rewritten, is_tied, keeps_below, latest_at, strange_of, ties_below}
-use Rattle.lab_dump.specs.Doubts.{doubtful_of, doubts_of, has_page, holes_of, is_hole, is_hole_below, is_outside, is_unsound_at, rows_of, ToldOnceLaw}
+use Rattle.lab_dump.specs.Doubts.{doubtful_of, doubts_of, has_page, holes_of, legible_of, is_hole, is_hole_below, is_outside, is_unsound_at, rows_of, ToldOnceLaw}
 use Rattle.lab_dump.specs.Doubting.{HasHoles, HasTraces, IsDoubting, holes_below}
-use Rattle.lab_dump.specs.Concluding.{IsSeen, added, capped, excuse_by, excuse_of, keeps_in, ties_in}
+use Rattle.lab_dump.specs.declared.said.SaidPage.{SaidPage}
+use Rattle.lab_dump.specs.Said.{said_below}
+use Rattle.lab_dump.specs.Concluding.{IsSeen, added, capped, excuse_by, excuse_of, keeps_in, one_open, ties_in}
 use Rattle.lab_dump.proofs.DoubtLemmas.{upto, upto_more, upto_none, upto_same, upto_sum, upto_pages, some_pages}
 use Rattle.lab_dump.proofs.TraceLemmas.{held_at, tells_place, tells_tied}
 use Rattle.lab_dump.proofs.BadLemmas.{any_at, any_more, any_same}
@@ -360,14 +363,42 @@ strange_is g image d size h = h.strange_is ∙ ap (count_by (λ p. sorts.is_outs
 pub outside_are : (g : Geometry) (image : Image) (d : Doubting) → length image ≡ row_count g → IsDoubting g (row_count g) image d → d.outside ≡ count_by (λ p. is_outside g (record_of p)) image
 outside_are g image d size h = h.outside_is ∙ ap (count_by (λ p. is_outside g (record_of p))) (ap (λ n. take n image) (sym size) ∙ take-length image)
 
+-- why a block leaves nothing open, by what was seen
+pub excuse_seen : (g : Geometry) (image : Image) (dt : Doubting) (plain : Bool) (n class : ℕ) (kept : Bool) (x : Excuse) → IsSeen g image dt plain → n < g.blocks → class ≡ table_class g image n → kept ≡ get_or dt.kept.items n false → x ≡ excuse_by class plain kept → x ≡ excuse_of g image n
+excuse_seen g image dt plain n class kept x h within class_is kept_is x_is = excuse_is g image n class plain kept x x_is class_is h.plain_is (kept_is ∙ h.kept_is n within)
+
 -- all was seen, and summed up
-pub summed_block : (g : Geometry) (image : Image) (dt : Doubting) (plain : Bool) (n class unsound holes : ℕ) (kept : Bool) (d new : Doubts) (x : Excuse) → length image ≡ row_count g → IsSeen g image dt plain → n < g.blocks → AreSummed g image n d
-    → class ≡ table_class g image n → kept ≡ get_or dt.kept.items n false → x ≡ excuse_by class plain kept → unsound ≡ get_or dt.unsound.items n 0 → holes ≡ get_or dt.holes.items n 0 → new ≡ added d x unsound holes → AreSummed g image (n + 1) new
-summed_block g image dt plain n class unsound holes kept d new x size h within old class_is kept_is x_is unsound_at holes_at e =
+pub summed_block : (g : Geometry) (image : Image) (dt : Doubting) (plain : Bool) (n unsound holes : ℕ) (d new : Doubts) (x : Excuse) → length image ≡ row_count g → IsSeen g image dt plain → n < g.blocks → AreSummed g image n d
+    → x ≡ excuse_of g image n → unsound ≡ get_or dt.unsound.items n 0 → holes ≡ get_or dt.holes.items n 0 → new ≡ added d x unsound holes → AreSummed g image (n + 1) new
+summed_block g image dt plain n unsound holes d new x size h within old excuse unsound_at holes_at e =
     let few = few_rows g in
-    summed_more g image n unsound holes d new x old (omega arith)
-    (excuse_is g image n class plain kept x x_is class_is h.plain_is (kept_is ∙ h.kept_is n within))
+    summed_more g image n unsound holes d new x old (omega arith) excuse
     (unsound_at ∙ (h.unsound.at n within ∙ unsound_is g image n size)) (holes_at ∙ (h.holes.at n within ∙ holes_are g image n size)) e
+
+-- ---- pages that say something
+
+abbrev pub is_open_page : Geometry → Image → SaidPage → Bool
+is_open_page g image x = not (is_excused g image (x.row / g.pages))
+
+open_excuse : (f r : Bool) → one_open (cond f Factory (cond r Rewritten Open)) ≡ one (not (f || r))
+open_excuse true r = refl
+open_excuse false true = refl
+open_excuse false false = refl
+
+pub legible_more : (g : Geometry) (image : Image) (said : List SaidPage) (i : ℕ) (d : SaidPage) (block : ℕ) (x : Excuse) (n : ℕ) → i < length said → block ≡ (get_or said i d).row / g.pages → x ≡ excuse_of g image block
+    → n ≡ count_by (is_open_page g image) (take i said) → n + one_open x ≡ count_by (is_open_page g image) (take (i + 1) said)
+legible_more g image said i d block x n within at is before =
+    let y = get_or said i d in
+    let more : count_by (is_open_page g image) (take (i + 1) said) ≡ count_by (is_open_page g image) (take i said) + one (is_open_page g image y) =
+    ap (count_by (is_open_page g image)) (take_more said i d within) ∙ sum_by_push (λ z. cond (is_open_page g image z) 1 0) (take i said) y in
+    let here : one_open x ≡ one (is_open_page g image y) =
+    ap one_open (is ∙ ap (excuse_of g image) at) ∙ open_excuse (is_factory g image (y.row / g.pages)) (is_rewritten g image (y.row / g.pages)) in
+    omega arith
+
+pub legible_all : (g : Geometry) (image : Image) (said : List SaidPage) (i n : ℕ) → length image ≡ row_count g → length said ≤ i → said ≡ said_below g image (row_count g) → n ≡ count_by (is_open_page g image) (take i said) → n ≡ legible_of g image
+unfolding legible_of
+legible_all g image said i n size all is counted =
+    counted ∙ (ap (count_by (is_open_page g image)) (take_all i said all ∙ (is ∙ ap (said_below g image) (sym size))))
 
 pub seen_all : (g : Geometry) (image : Image) (dt new : Doubting) (plain : Bool) → length image ≡ row_count g → IsDoubting g (row_count g) image dt → plain ≡ ((dt.strange == 0) && not (ties_in dt.traces.items (length dt.traces.items)))
     → ((b : ℕ) → b < g.blocks → get_or new.kept.items b false ≡ keeps_in g.pages dt.traces.items (length dt.traces.items) b)

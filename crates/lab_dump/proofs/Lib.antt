@@ -10,6 +10,7 @@ pub mod CountLemmas
 pub mod DoubtLemmas
 pub mod TraceLemmas
 pub mod BadLemmas
+pub mod SaidLemmas
 pub mod ConcludeLemmas
 pub mod BoundLemmas
 pub mod KeyLemmas

@@ -24,8 +24,9 @@ use Rattle.lab_dump.specs.declared.held.State.{State}
 use Rattle.lab_dump.specs.declared.held.State.TheVariants as state
 use Rattle.lab_dump.specs.Held.{Tells, state_in, state_by}
 use Rattle.lab_dump.specs.declared.doubting.Doubting.{Doubting}
-use Rattle.lab_dump.specs.declared.doubts.Doubts.{Doubts}
-use Rattle.lab_dump.specs.Doubts.{doubts_of}
+use Rattle.lab_dump.specs.declared.doubts.Unsettled.{Unsettled}
+use Rattle.lab_dump.specs.Said.{said_of}
+use Rattle.lab_dump.specs.Doubts.{doubts_of, legible_of}
 use Rattle.lab_dump.specs.Doubting.{IsDoubting}
 use Rattle.lab_dump.specs.Until.{until}
 use Rattle.lab_dump.specs.Writing.{content_below, AreSized, ReadBelow, Stands, Shows}
@@ -76,10 +77,12 @@ states_told g image hs size few told =
 
 -- ---- all of it
 
-pub written : (g : Geometry) (last : Option ℕ) (hs : List Held) (blank : List ℕ) (d : Doubting) (told : Doubts) (pieces : Option (List (List ℕ))) (bytes : List ℕ) → Stands g hs blank pieces
-    → ((image : Image) → length image ≡ row_count g → IsDoubting g (row_count g) image d → told ≡ doubts_of g image)
-    → IsTaken g (λ image. Shows g (row_count g) (until g last image) hs pieces × IsDoubting g (row_count g) image d) bytes → IsWritten g last pieces hs told bytes
-written g last hs blank d told pieces bytes stands concluded taken =
+pub written : (g : Geometry) (last : Option ℕ) (hs : List Held) (blank : List ℕ) (d : Doubting) (left : Unsettled) (pieces : Option (List (List ℕ))) (bytes : List ℕ) → Stands g hs blank pieces
+    → ((image : Image) → length image ≡ row_count g → IsDoubting g (row_count g) image d → left.doubts ≡ doubts_of g image)
+    → ((image : Image) → length image ≡ row_count g → IsDoubting g (row_count g) image d → left.said.items ≡ said_of g image)
+    → ((image : Image) → length image ≡ row_count g → IsDoubting g (row_count g) image d → left.legible ≡ legible_of g image)
+    → IsTaken g (λ image. Shows g (row_count g) (until g last image) hs pieces × IsDoubting g (row_count g) image d) bytes → IsWritten g last pieces hs left bytes
+written g last hs blank d left pieces bytes stands concluded said legible taken =
     let raw : Image = raw_image g bytes in
     let whole : length raw ≡ row_count g = length-raw_image g bytes in
     let image : Image = until g last raw in
@@ -89,6 +92,8 @@ written g last hs blank d told pieces bytes stands concluded taken =
       whole = taken.whole;
       array = if_both pieces (AreSized g) (ReadBelow g image (row_count g)) (λ ps. ps ≡ array_of g image) stands.sized shown.pieces_are (λ ps sized read. array_read g image ps size sized read);
       states = states_told g image hs size stands.size shown.held_of;
+      said_is = said raw whole taken.shown.1;
+      legible_is = legible raw whole taken.shown.1;
       doubts_is = concluded raw whole taken.shown.1;
     }
 

@@ -29,6 +29,12 @@ excuse_by class plain kept = if class == 1 then Factory else (if (class == 2) &&
 abbrev pub excuse_of : Geometry → Image → ℕ → Excuse
 excuse_of g image block = if is_factory g image block then Factory else (if is_rewritten g image block then Rewritten else Open)
 
+-- 1 where the pages of a block may leave something open
+abbrev pub one_open : Excuse → ℕ
+one_open Open = 1
+one_open Factory = 0
+one_open Rewritten = 0
+
 -- as many as a word has room for
 abbrev pub capped : ℕ → ℕ
 capped n = min n (2 ^ 32 - 1)

@@ -1,10 +1,11 @@
 -- What a pass over the pages notes of what they leave open.
 use Rattle.std.specs.Prelude.{◌≡◌, ℕ, zero, suc, ◌+◌, ◌*◌, ◌/◌, ◌%◌, ◌<◌, ◌≤◌, ◌==◌, ◌&&◌, if◌then◌else◌, false, All, List, length, get_or, count_by, take, replicate, Option}
 use Rattle.std.specs.List.{range_with_len}
+use Rattle.std.specs.Vec.{vec_capacity}
 use Rattle.page_layout.specs.declared.geometry.Geometry.{Geometry}
 use Rattle.page_layout.specs.declared.record.Record.{Record}
 use Rattle.page_layout.specs.declared.record.Key.{Key}
-use Rattle.page_layout.specs.Geometry.{key_count, table_pages}
+use Rattle.page_layout.specs.Geometry.{key_count, row_count, table_pages}
 use Rattle.page_layout.specs.Page.{Image}
 use Rattle.page_layout.specs.Sound.{record_of}
 use Rattle.page_layout.specs.Newest.{latest_below}
@@ -17,6 +18,7 @@ use Rattle.lab_dump.specs.declared.doubting.Doubting.{Doubting}
 use Rattle.lab_dump.specs.Trace.{Tells}
 use Rattle.lab_dump.specs.Count as count
 use Rattle.lab_dump.specs.Count.{HasUnsound}
+use Rattle.lab_dump.specs.Said.{said_below}
 use Rattle.lab_dump.specs.Doubts.{is_erased_at, is_hole_below, is_outside}
 
 -- ---- keys
@@ -57,6 +59,9 @@ pub record Stands (g : Geometry) (rows : ℕ) (d : Doubting) : Type 0 where
   pub holes : length d.holes.items ≡ g.blocks
   pub few_holes : All (λ n. n + d.ending ≤ rows) d.holes.items
   pub ending : d.ending ≤ rows
+  pub said : length d.said.items ≤ rows
+  pub said_rows : All (λ x. x.row < rows) d.said.items
+  pub said_room : row_count g ≤ vec_capacity d.said
   pub outside : d.outside ≤ rows
   pub strange : d.strange ≤ rows
   pub kept : d.kept.items ≡ replicate g.blocks false
@@ -68,5 +73,6 @@ pub record IsDoubting (g : Geometry) (rows : ℕ) (image : Image) (d : Doubting)
   pub unsound : HasUnsound g image rows d.unsound.items
   pub holes : HasHoles g image rows d.holes.items
   pub ending_is : d.ending ≡ ending g image rows
+  pub said_is : d.said.items ≡ said_below g image rows
   pub outside_is : d.outside ≡ count_by (λ p. is_outside g (record_of p)) (take rows image)
   pub strange_is : d.strange ≡ count_by (λ p. count.is_outside g (record_of p)) (take rows image)

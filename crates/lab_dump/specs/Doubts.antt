@@ -1,5 +1,5 @@
 -- What a dump leaves open of its array: the pages that may have been the newest of a sector, and the sectors that the geometry leaves out.
-use Rattle.std.specs.Prelude.{◌≡◌, ◌↔◌, ℕ, ◌+◌, ◌/◌, ◌<◌, ◌==◌, ◌&&◌, nat_lt, not, Bool, true, false, length, count_by, slice_get, Option, Some, None}
+use Rattle.std.specs.Prelude.{◌≡◌, ◌↔◌, ℕ, ◌+◌, ◌-◌, ◌/◌, ◌<◌, ◌==◌, ◌&&◌, nat_lt, not, Bool, true, false, length, count_by, slice_get, Option, Some, None}
 use Rattle.std.specs.List.{list_any, range_with_len}
 use Rattle.page_layout.specs.declared.geometry.Geometry.{Geometry}
 use Rattle.page_layout.specs.declared.record.Record.{Record}
@@ -11,6 +11,7 @@ use Rattle.page_layout.specs.Key.{key_of}
 use Rattle.page_layout.specs.Block.{is_broken, is_programmed}
 use Rattle.lab_dump.specs.declared.doubts.Doubts.{Doubts}
 use Rattle.image_check.specs.Blocks.{is_factory}
+use Rattle.lab_dump.specs.Said.{said_below}
 use Rattle.lab_dump.specs.Bad.{is_excused, is_rewritten}
 
 -- ---- holes
@@ -94,6 +95,14 @@ doubts_of g image = record {
 -- the pages that may each have been the newest of one sector
 abbrev pub most_older : Doubts → ℕ
 most_older d = d.unsound + d.holes
+
+-- how many of the pages counted as unsound say something
+unfoldable pub legible_of : Geometry → Image → ℕ
+legible_of g image = count_by (λ x. not (is_excused g image (x.row / g.pages))) (said_below g image (length image))
+
+-- those of them that say nothing, where so many do, and the holes
+abbrev pub most_others : Doubts → ℕ → ℕ
+most_others d legible = d.unsound - legible + d.holes
 
 -- ---- law
 

@@ -22,12 +22,16 @@ pub mod Unmade
 pub mod Bad
 -- what a dump leaves open of its array
 pub mod Doubts
+-- what pages say that are neither erased nor sound
+pub mod Said
 -- what a pass notes of that
 pub mod Doubting
 -- what all of it comes to
 pub mod Concluding
 -- how many of its sectors may be older
 pub mod Bound
+-- how many of them besides those that pages name
+pub mod Named
 -- the map of the array
 pub mod Map
 -- which sectors have lost a page, and which never have

@@ -28,7 +28,8 @@ use Rattle.lab_dump.specs.declared.survey.SurveyFault.{SurveyFault}
 use Rattle.lab_dump.specs.declared.survey.SurveyFault.TheVariants as fault
 use Rattle.lab_dump.specs.declared.survey.DieSurvey.{DieSurvey}
 use Rattle.lab_dump.specs.Count.{counts_of, unsound_in}
-use Rattle.lab_dump.specs.Doubts.{doubts_of}
+use Rattle.lab_dump.specs.Said.{said_of}
+use Rattle.lab_dump.specs.Doubts.{doubts_of, legible_of}
 use Rattle.lab_dump.specs.Keys.{key_state}
 
 -- ---- its parts
@@ -63,7 +64,9 @@ pub record IsSurveyed (g : Geometry) (image : Image) (s : DieSurvey) : Type 0 wh
   pub formed : FormedAs g image s.formed.items
   pub unsound : (b : ℕ) → b < g.blocks → get_or s.unsound.items b 0 ≡ unsound_in g image b
   pub blocks : BlocksAs g image (option_map (λ states. states.items) s.blocks)
-  pub doubts_is : s.doubts ≡ doubts_of g image
+  pub said_is : s.left.said.items ≡ said_of g image
+  pub legible_is : s.left.legible ≡ legible_of g image
+  pub doubts_is : s.left.doubts ≡ doubts_of g image
 
 -- The bytes are as many as an image has, and the survey is of the image that they are, in which every page of a row that isn't asked for is erased.
 pub record IsSurveyOf (g : Geometry) (rows : Option Rows) (s : DieSurvey) (bytes : List ℕ) : Type 0 where

@@ -22,6 +22,12 @@ lost_in said next Never = is_some said
 lost_in said next (Once at kept) = not (is_there said at) && nat_lt (from_le_bytes w64 kept) next
 lost_in said next (Tied kept) = true
 
+-- whether a page of this sequence is newer than all that are known
+abbrev pub is_before : Trace → ℕ → Bool
+is_before Never s = true
+is_before (Once row kept) s = nat_lt (from_le_bytes w64 kept) s
+is_before (Tied kept) s = nat_lt (from_le_bytes w64 kept) s
+
 -- the row of the newest page, or none
 abbrev pub place_in : Trace → Option ℕ
 place_in Never = None

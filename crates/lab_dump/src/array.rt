@@ -6,7 +6,7 @@ ghost use Rattle.lab_dump.specs.Unmade.{IsUnmade};
 ghost use Rattle.lab_dump.specs.Written.{IsWritten, TiedLaw};
 
 use crate::doubting::Doubting;
-use crate::doubts::Doubts;
+use crate::doubts::Unsettled;
 use crate::dump::DumpReader;
 use crate::held::Held;
 use crate::make_fault::MakeFault;
@@ -21,8 +21,8 @@ use std::alloc::{AllocError, Global};
 pub struct Written<T> {
     /// What is held of each sector.
     pub held: Vec<Held>,
-    /// What the dump leaves open.
-    pub doubts: Doubts,
+    /// What the dump leaves open, over all sequences.
+    pub left: Unsettled,
     /// The file.
     pub target: T,
 }
@@ -100,7 +100,7 @@ pub fn write_array<R: DumpReader, T: Target + Drop>(
 ) -> Result<Written<T>, Unwritten<T>>
     requires room { IsArrayRoom geometry.now room }
     requires pieces { IfSome (T.pieces target) (λ ps. ps ≡ replicate geometry.now.sectors (zeros geometry.now)) }
-    ensures ok { IfOk result (λ written. IfSome (R.remaining reader.old) (IsWritten geometry.now until (T.pieces written.target) written.held.items written.doubts)) }
+    ensures ok { IfOk result (λ written. IfSome (R.remaining reader.old) (IsWritten geometry.now until (T.pieces written.target) written.held.items written.left)) }
     ensures sized { IfOk result (λ written. length written.held.items ≡ geometry.now.sectors) }
     ensures err { IfErr result (λ unwritten. IfSome (R.remaining reader.old) (IsUnmade geometry.now unwritten.fault)) }
     // Whatever the reader and the target do.
@@ -116,11 +116,20 @@ pub fn write_array<R: DumpReader, T: Target + Drop>(
         target,
     };
     match scan(reader, geometry, &mut writing, &mut body, &mut spare) {
-        Ok(()) => Ok(Written {
-            doubts: writing.doubting.conclude(geometry),
-            held: writing.held,
-            target: writing.target,
-        }),
+        Ok(()) => {
+            let mut doubting = writing.doubting;
+            let doubts = doubting.conclude(geometry);
+            let left = Unsettled {
+                doubts,
+                legible: doubting.legible,
+                said: doubting.said,
+            };
+            Ok(Written {
+                held: writing.held,
+                left,
+                target: writing.target,
+            })
+        }
         Err(fault) => Err(Unwritten {
             fault: MakeFault::from(fault),
             target: writing.target,

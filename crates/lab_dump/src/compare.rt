@@ -7,7 +7,7 @@ ghost use Rattle.lab_dump.specs.Compared.{IsComparedTo, IsUncompared};
 ghost use Rattle.lab_dump.specs.Rooms.{IsCompareRoom};
 
 use crate::doubting::Doubting;
-use crate::doubts::Doubts;
+use crate::doubts::Unsettled;
 use crate::dump::DumpReader;
 use crate::pass::{ScanFault, scan};
 use crate::trace::Trace;
@@ -49,7 +49,7 @@ pub struct Compared {
     /// Of each sector whether it has lost a page.
     pub lost: Vec<bool>,
     /// What the dump leaves open.
-    pub doubts: Doubts,
+    pub left: Unsettled,
 }
 
 // Whether the certificate is of this geometry.
@@ -141,8 +141,11 @@ pub fn compare_dump<R: DumpReader>(
     let (mut doubting, mut lost) = (room.doubting, room.lost);
     scan(reader, geometry, &mut doubting, &mut body, &mut spare)?;
     note_lost(certificate, &doubting.traces, &mut lost);
-    Ok(Compared {
-        lost,
-        doubts: doubting.conclude(geometry),
-    })
+    let doubts = doubting.conclude(geometry);
+    let left = Unsettled {
+        doubts,
+        legible: doubting.legible,
+        said: doubting.said,
+    };
+    Ok(Compared { lost, left })
 }

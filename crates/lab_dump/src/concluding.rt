@@ -1,18 +1,20 @@
 //! What a dump leaves open, by what all its pages have shown.
-ghost use Rattle.std.specs.Prelude.{◌≡◌, ◌+◌, ◌*◌, ◌<◌, ◌==◌, ◌&&◌, ◌||◌, not, false, ℕ, length, get_or, slice_range};
+ghost use Rattle.std.specs.Prelude.{◌≡◌, ◌+◌, ◌*◌, ◌<◌, ◌==◌, ◌&&◌, ◌||◌, not, false, ℕ, ◌≤◌, All, length, get_or, slice_range};
 ghost use Rattle.page_layout.specs.Geometry.{key_count, row_count, table_pages};
 ghost use Rattle.page_layout.specs.Live.{is_in_block};
 ghost use Rattle.page_layout.specs.Page.{Image};
 ghost use Rattle.page_layout.specs.Array.{marks};
 ghost use Rattle.image_check.specs.Blocks.{table_class};
 ghost use Rattle.image_check.specs.Survey.{HasTableBytes};
-ghost use Rattle.lab_dump.specs.Doubts.{doubts_of};
+ghost use Rattle.lab_dump.specs.Doubts.{doubts_of, legible_of};
 ghost use Rattle.lab_dump.specs.Doubting.{HasTraces, IsDoubting, Stands};
+ghost use Rattle.lab_dump.specs.Said.{said_below, said_of};
 ghost use Rattle.lab_dump.specs.Concluding;
-ghost use Rattle.lab_dump.specs.Concluding.{IsSeen, IsSized, keeps_in, ties_in};
+ghost use Rattle.lab_dump.specs.Concluding.{IsSeen, IsSized, excuse_of, keeps_in, ties_in};
 
 use crate::doubting::Doubting;
 use crate::doubts::Doubts;
+use crate::said::judge;
 use crate::trace::Trace;
 use page_layout::geometry::Geometry;
 use page_layout::word::read_word;
@@ -132,6 +134,43 @@ fn class_of(geometry: &Geometry, traces: &[Trace], tables: &[u8], block: u32) ->
     }
 }
 
+// Why the pages of a block leave nothing open, if they do.
+fn excuse_at(geometry: &Geometry, doubting: &Doubting, plain: bool, block: u32) -> Excuse
+    requires sized { IsSized geometry.now doubting.now }
+    requires within { block < geometry.now.blocks }
+    ensures { (image : Image) → length image ≡ row_count geometry.now → IsSeen geometry.now image doubting.now plain → result ≡ excuse_of geometry.now image block }
+{
+    let class = class_of(geometry, &doubting.traces, &doubting.tables, block);
+    excuse_by(class, plain, doubting.kept[block as usize])
+}
+
+// 1 where the pages of a block may leave something open, else 0.
+fn one_open(excuse: Excuse) -> u32
+    ensures is { result ≡ Rattle.lab_dump.specs.Concluding.one_open excuse }
+    ensures small { result ≤ 1 }
+{
+    match excuse {
+        Excuse::Open => 1,
+        Excuse::Factory | Excuse::Rewritten => 0,
+    }
+}
+
+// How many of the pages that say something are of blocks whose pages may leave something open.
+fn count_legible(geometry: &Geometry, doubting: &Doubting, plain: bool) -> u32
+    requires sized { IsSized geometry.now doubting.now }
+    requires rows { All (λ x. x.row < row_count geometry.now) doubting.now.said.items }
+    requires few { length doubting.now.said.items ≤ row_count geometry.now }
+    ensures { (image : Image) → length image ≡ row_count geometry.now → IsSeen geometry.now image doubting.now plain → doubting.now.said.items ≡ said_below geometry.now image (row_count geometry.now)
+        → result ≡ legible_of geometry.now image }
+{
+    let mut legible = 0;
+    for i in 0..doubting.said.len() {
+        let (block, _page) = geometry.split_row(doubting.said[i].row);
+        legible += one_open(excuse_at(geometry, doubting, plain, block));
+    }
+    legible
+}
+
 // Whether each sound page is of a key of the die, and no two share the greatest sequence of theirs.
 fn is_plain(strange: u32, traces: &[Trace]) -> bool
     ensures { result ≡ ((strange == 0) && not (ties_in traces.now (length traces.now))) }
@@ -152,26 +191,28 @@ fn sum_blocks(geometry: &Geometry, doubting: &Doubting, plain: bool) -> Doubts
         outside: doubting.outside,
     };
     for block in 0..geometry.blocks() {
-        let class = class_of(geometry, &doubting.traces, &doubting.tables, block);
-        let kept = doubting.kept[block as usize];
+        let excuse = excuse_at(geometry, doubting, plain, block);
         let unsound = doubting.unsound[block as usize];
         let holes = doubting.holes[block as usize];
-        let excuse = excuse_by(class, plain, kept);
         doubts = added(doubts, excuse, unsound, holes);
     }
     doubts
 }
 
 impl Doubting {
-    // What is left open in the end.
+    // What is left open in the end; and of each page that says something whether that is newer.
     pub(crate) fn conclude(&mut self, geometry: &Geometry) -> Doubts
         requires stands { Stands geometry.now (row_count geometry.now) self.old }
         ensures is { (image : Image) → length image ≡ row_count geometry.now → IsDoubting geometry.now (row_count geometry.now) image self.old → result ≡ doubts_of geometry.now image }
+        ensures legible { (image : Image) → length image ≡ row_count geometry.now → IsDoubting geometry.now (row_count geometry.now) image self.old → self.new.legible ≡ legible_of geometry.now image }
+        ensures said { (image : Image) → length image ≡ row_count geometry.now → IsDoubting geometry.now (row_count geometry.now) image self.old → self.new.said.items ≡ said_of geometry.now image }
         ensures unsound { self.new.unsound ≡ self.old.unsound }
         ensures traces { self.new.traces ≡ self.old.traces }
     {
         let plain = is_plain(self.strange, &self.traces);
         mark_kept(&self.traces, geometry.pages(), &mut self.kept);
+        self.legible = count_legible(geometry, self, plain);
+        judge(geometry, &self.traces, &mut self.said);
         sum_blocks(geometry, self, plain)
     }
 }

@@ -45,7 +45,7 @@ fn is_of_kind(found: Option<Record>, kind: Kind) -> bool
 }
 
 // Whether there is a record whose number is out of range.
-fn is_outside(geometry: &Geometry, found: Option<Record>) -> bool
+pub(crate) fn is_outside(geometry: &Geometry, found: Option<Record>) -> bool
     ensures { result ≡ is_outside geometry.now found }
 {
     let Some(found) = found else {

@@ -14,6 +14,7 @@ ghost use Rattle.lab_dump.specs.Trace.{place_in};
 use crate::counts::{note_unsound, one_strange};
 use crate::keys::index_of;
 use crate::pass::{Stopped, Taker};
+use crate::said::{SaidPage, note_said};
 use crate::trace::Trace;
 use page_layout::geometry::Geometry;
 use page_layout::record::{Key, Record, is_erased, read_record};
@@ -32,10 +33,14 @@ pub(crate) struct Doubting {
     pub(crate) holes: Vec<u32>,
     // the erased pages behind the last one that is not, in the block of the last page
     pub(crate) ending: u32,
+    // what the pages say that are neither erased nor sound
+    pub(crate) said: Vec<SaidPage>,
     // the sound pages of a sector at or past the number of sectors
     pub(crate) outside: u32,
     // the sound pages of a key that the die has not
     pub(crate) strange: u32,
+    // known in the end: how many of the pages that say something are counted as unsound
+    pub(crate) legible: u32,
     // room for the end: of each block whether some key has its newest page in it
     pub(crate) kept: Vec<bool>,
 }
@@ -160,8 +165,10 @@ impl Doubting {
             unsound: vec![in alloc; 0; blocks]?,
             holes: vec![in alloc; 0; blocks]?,
             ending: 0,
+            said: Vec::with_capacity(alloc, geometry.rows() as usize)?,
             outside: 0,
             strange: 0,
+            legible: 0,
             kept: vec![in alloc; false; blocks]?,
         })
     }
@@ -177,6 +184,7 @@ impl Doubting {
     )
         requires row_in { row < row_count geometry.now }
         requires body_whole { length body.now ≡ geometry.now.data_bytes }
+        requires spare_whole { length spare.now ≡ geometry.now.spare_bytes }
         requires found { found ≡ record_of (page body.now spare.now) }
         requires stands { Stands geometry.now row self.old }
         ensures stands { Stands geometry.now (row + 1) self.new }
@@ -185,6 +193,7 @@ impl Doubting {
         let erased = is_erased(body, spare);
         note_unsound(geometry, &mut self.unsound, row, found, erased);
         self.ending = note_holes(geometry, &mut self.holes, row, erased, self.ending);
+        note_said(geometry, &mut self.said, row, found, erased, spare);
         self.outside += one_outside(geometry, found);
         self.strange += one_strange(geometry, found);
         note_trace(geometry, &mut self.traces, row, found);

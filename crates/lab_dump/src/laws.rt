@@ -3,6 +3,7 @@ ghost use Rattle.lab_dump.specs.Bound.{BoundLaw, HoleLostLaw, KeptLaw, OwnRowLaw
 ghost use Rattle.lab_dump.specs.Bad.{RewrittenLaw, RewrittenToldLaw};
 ghost use Rattle.lab_dump.specs.Doubts.{HoleLaw, ToldOnceLaw};
 ghost use Rattle.lab_dump.specs.Lost.{LostLaw, NoneLostLaw};
+ghost use Rattle.lab_dump.specs.Named.{OthersLaw};
 ghost use Rattle.lab_dump.specs.Map.{AreasLaw};
 ghost use Rattle.lab_dump.specs.FitLaws.{FewerLaw, FitLaw, OnceLaw, OwnLaw, ShortLaw, PageLaw, LookedLaw, LookedRiseLaw, LookedAllLaw, GreatestLaw, WithinLaw, LowerLaw, TableLaw};
 
@@ -44,11 +45,13 @@ pub fn bad_block_laws()
 /// that reads as erased and stands behind the last one of its block that does not, the die has no sound page in a block that the newest table names
 /// factory, and none that was the newest of its sector is gone from a block that was written again: each sector whose newest page is gone has a row of
 /// its own that is neither erased nor sound, or a hole; so there are at most as many of them as `Doubts::most_older` says; and every other one reads as
-/// it did.
+/// it did. And where what pages say is so that are neither erased nor sound, at most as many of those sectors as `Doubts::most_others` says are not among those
+/// of which some page says something newer.
 pub fn bound_laws()
     ensures own { OwnRowLaw }
     ensures bound { BoundLaw }
     ensures kept { KeptLaw }
+    ensures others { OthersLaw }
 {}
 
 /// Which geometries fit a dump: those within a die's limits that come to its bytes and of which some page that is looked at is sound, each

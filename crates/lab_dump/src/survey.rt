@@ -12,7 +12,7 @@ ghost use Rattle.lab_dump.specs.Surveyed.{BlocksAs, IsSurveyed, IsSurveyOf, IsWh
 ghost use Rattle.lab_dump.specs.Trace.{state_in};
 
 use crate::counts::PageCounts;
-use crate::doubts::Doubts;
+use crate::doubts::Unsettled;
 use crate::dump::DumpReader;
 use crate::held::State;
 use crate::pass::{ScanFault, scan_rows};
@@ -67,7 +67,7 @@ pub struct DieSurvey {
     /// which is well formed.
     pub blocks: Option<Vec<BlockState>>,
     /// What the dump leaves open.
-    pub doubts: Doubts,
+    pub left: Unsettled,
 }
 
 /// A die mounts for a cache of at least as many entries as there are stale sectors, and of 1 to 65,536, just where its survey has no reason
@@ -111,12 +111,18 @@ fn conclude(geometry: &Geometry, seeing: Seeing) -> DieSurvey
     note_keys(&doubting.traces, &mut keys);
     let blocks = blocks_of(&mut survey, seeing.desk);
     let repeated = first_repeated(&mut survey.pairs);
+    let doubts = doubting.conclude(geometry);
+    let left = Unsettled {
+        doubts,
+        legible: doubting.legible,
+        said: doubting.said,
+    };
     DieSurvey {
         counts: seeing.counts,
         repeated,
         keys,
         formed: seeing.formed,
-        doubts: doubting.conclude(geometry),
+        left,
         unsound: doubting.unsound,
         blocks,
     }

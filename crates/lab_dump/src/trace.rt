@@ -3,7 +3,7 @@ ghost use Rattle.std.specs.Prelude.{◌≡◌, Some};
 ghost use Rattle.page_layout.specs.Greatest.{step};
 ghost use Rattle.page_layout.specs.declared.newest.Latest.{Latest};
 ghost use Rattle.lab_dump.specs.Lost;
-ghost use Rattle.lab_dump.specs.Trace.{Tells, lost_in, place_in, is_tied_in, state_in};
+ghost use Rattle.lab_dump.specs.Trace.{Tells, is_before, lost_in, place_in, is_tied_in, state_in};
 
 use crate::held::State;
 
@@ -74,6 +74,16 @@ impl Trace {
         ensures { result ≡ is_tied_in self }
     {
         matches!(self, Trace::Tied(_))
+    }
+
+    // Whether a page of this sequence is newer than all that are known.
+    pub(crate) fn is_before(self, sequence: u64) -> bool
+        ensures { result ≡ is_before self sequence }
+    {
+        match self {
+            Trace::Never => true,
+            Trace::Once(_, kept) | Trace::Tied(kept) => u64::from_le_bytes(kept) < sequence,
+        }
     }
 
     // Whether the sector has lost a page, by the row that is said of it and the sequence that was next.

@@ -217,7 +217,7 @@ const CASES: [Case; 13] = [
             Step::Run(
                 ARRAY,
                 0,
-                "holes 11\nunsound 2: at most 13 sectors may be older than the last write, if no page was lost behind the last one of its block\n",
+                "unsound row 8 says sector 3 sequence 9 newer\nholes 11\nlegible 1: if what these pages say is so, at most 12 sectors may be older that are not said newer here\nunsound 2: at most 13 sectors may be older than the last write, if no page was lost behind the last one of its block\n",
             ),
             Step::Holds("out.bin", Made::Disk(&[(3, 0x31), (31, 0x99)])),
         ],

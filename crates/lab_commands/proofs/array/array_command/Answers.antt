@@ -79,13 +79,13 @@ returns-in_err-put_map-clause-fault g c =
     let last = c.in_ok-last.last in
     let pieces = g.F.Target.Pieces.pieces c.in_ok-written.written.target in
     let held = c.in_ok-written.written.held.items in
-    let doubts = c.in_ok-written.written.doubts in
+    let left = c.in_ok-written.written.left in
     let first : AnswersNoMore a b = subst (λ f. AnswersNoMore (g.F.LabFiles.answers f) b) same c.in_ok-written.ensures.no_more in
-    let made : MadeArray a c.args.words geometry last pieces held doubts = record {
+    let made : MadeArray a c.args.words geometry last pieces held left = record {
       geometry_is = c.in_ok-geometry.ensures.ok;
       last_is = c.in_ok-last.ensures.ok;
       allowed = c.in_ok-allow_both.ensures.ok;
-      made = subst (λ f. IsMade (g.F.LabFiles.answers f) words.dump.now geometry last pieces held doubts) same c.in_ok-written.ensures.made;
+      made = subst (λ f. IsMade (g.F.LabFiles.answers f) words.dump.now geometry last pieces held left) same c.in_ok-written.ensures.made;
     } in
     handed_on (IsArrayFault a c.args.words k (g.F.LabFiles.kept c.put_map.new.files) (g.F.LabFiles.opened c.args.files.now) (g.F.LabFiles.opened c.put_map.new.files) broke o o) _ _ c.from_residual-in_err-put_map.ensures.1
     (inr (inl (record {
@@ -93,7 +93,7 @@ returns-in_err-put_map-clause-fault g c =
       last = last;
       pieces = pieces;
       held = held;
-      doubts = doubts;
+      left = left;
       made = made;
       put = c.in_err-put_map.ensures.kept ∙ (c.in_ok-keep.ensures.ok ∙ ap (λ x. with_kept x words.out.now pieces words.force) (c.in_ok-written.ensures.beside ∙ ap g.F.LabFiles.kept same));
       silent = Keeps-refl o;
@@ -118,26 +118,26 @@ returns-in-Ok-clause-ok g c =
     let last = c.in_ok-last.last in
     let pieces = g.F.Target.Pieces.pieces c.in_ok-written.written.target in
     let held = c.in_ok-written.written.held.items in
-    let doubts = c.in_ok-written.written.doubts in
+    let left = c.in_ok-written.written.left in
     record {
       g = geometry;
       last = last;
       held = held;
-      doubts = doubts;
+      left = left;
       put = record {
         pieces = pieces;
         made = record {
           geometry_is = c.in_ok-geometry.ensures.ok;
           last_is = c.in_ok-last.ensures.ok;
           allowed = c.in_ok-allow_both.ensures.ok;
-          made = subst (λ f. IsMade (g.F.LabFiles.answers f) words.dump.now geometry last pieces held doubts) same c.in_ok-written.ensures.made;
+          made = subst (λ f. IsMade (g.F.LabFiles.answers f) words.dump.now geometry last pieces held left) same c.in_ok-written.ensures.made;
         };
         put = c.in_ok-put_map.ensures.ok
             ∙ (ap (λ (hs : List Held). with_map (g.F.LabFiles.kept c.keep.new.files) words (map_text geometry (map state_in hs))) c.deref.ensures.value
             ∙ ap (λ x. with_map x words (map_text geometry (map state_in held))) (c.in_ok-keep.ensures.ok ∙ ap (λ x. with_kept x words.out.now pieces words.force) (c.in_ok-written.ensures.beside ∙ ap g.F.LabFiles.kept same)));
       };
-      told = subst (λ f. Appends (g.W.Output.contents c.args.out.now) (g.W.Output.contents c.print_array.new.out) (array_text f geometry last (map state_in held) doubts)) c.printer-printer.ensures
-          (subst (λ (hs : List Held). Appends (g.W.Output.contents c.args.out.now) (g.W.Output.contents c.print_array.new.out) (array_text c.printer-printer.result.form geometry last (map state_in hs) doubts)) c.deref-2.ensures.value c.in-Ok.ensures);
+      told = subst (λ f. Appends (g.W.Output.contents c.args.out.now) (g.W.Output.contents c.print_array.new.out) (array_text f geometry last (map state_in held) left)) c.printer-printer.ensures
+          (subst (λ (hs : List Held). Appends (g.W.Output.contents c.args.out.now) (g.W.Output.contents c.print_array.new.out) (array_text c.printer-printer.result.form geometry last (map state_in hs) left)) c.deref-2.ensures.value c.in-Ok.ensures);
     }
 
 pub returns-clause-fault : goal.returns-clause-fault
@@ -149,14 +149,14 @@ returns-clause-fault g c =
     let last = c.in_ok-last.last in
     let pieces = g.F.Target.Pieces.pieces c.in_ok-written.written.target in
     let held = c.in_ok-written.written.held.items in
-    let doubts = c.in_ok-written.written.doubts in
-    let put : PutArray a c.args.words (g.F.LabFiles.kept c.args.files.now) (g.F.LabFiles.kept c.put_map.new.files) geometry last held doubts = record {
+    let left = c.in_ok-written.written.left in
+    let put : PutArray a c.args.words (g.F.LabFiles.kept c.args.files.now) (g.F.LabFiles.kept c.put_map.new.files) geometry last held left = record {
       pieces = pieces;
       made = record {
         geometry_is = c.in_ok-geometry.ensures.ok;
         last_is = c.in_ok-last.ensures.ok;
         allowed = c.in_ok-allow_both.ensures.ok;
-        made = subst (λ f. IsMade (g.F.LabFiles.answers f) words.dump.now geometry last pieces held doubts) same c.in_ok-written.ensures.made;
+        made = subst (λ f. IsMade (g.F.LabFiles.answers f) words.dump.now geometry last pieces held left) same c.in_ok-written.ensures.made;
       };
       put = c.in_ok-put_map.ensures.ok
           ∙ (ap (λ (hs : List Held). with_map (g.F.LabFiles.kept c.keep.new.files) words (map_text geometry (map state_in hs))) c.deref.ensures.value
@@ -166,9 +166,9 @@ returns-clause-fault g c =
       geometry,
       last,
       held,
-      doubts,
+      left,
       put,
       half_printed c.in-Err.fault _ _ _ _ _ c.unprinted.ensures
-          (subst (λ f. Stops c.in-Err.fault (g.W.Output.failed c.print_array.new.out) (g.W.Output.contents c.args.out.now) (g.W.Output.contents c.print_array.new.out) (array_text f geometry last (map state_in held) doubts)) c.printer-printer.ensures
-          (subst (λ (hs : List Held). Stops c.in-Err.fault (g.W.Output.failed c.print_array.new.out) (g.W.Output.contents c.args.out.now) (g.W.Output.contents c.print_array.new.out) (array_text c.printer-printer.result.form geometry last (map state_in hs) doubts)) c.deref-2.ensures.value c.in-Err.ensures)),
+          (subst (λ f. Stops c.in-Err.fault (g.W.Output.failed c.print_array.new.out) (g.W.Output.contents c.args.out.now) (g.W.Output.contents c.print_array.new.out) (array_text f geometry last (map state_in held) left)) c.printer-printer.ensures
+          (subst (λ (hs : List Held). Stops c.in-Err.fault (g.W.Output.failed c.print_array.new.out) (g.W.Output.contents c.args.out.now) (g.W.Output.contents c.print_array.new.out) (array_text c.printer-printer.result.form geometry last (map state_in hs) left)) c.deref-2.ensures.value c.in-Err.ensures)),
     ))

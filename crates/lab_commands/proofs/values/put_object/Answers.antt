@@ -123,3 +123,11 @@ returns-in-Page g c = subst (λ l. Prints (g.W.Output.failed c.put_page.new.out)
 pub returns-in-History : goal.returns-in-History
 unfolding line_data
 returns-in-History g c = subst (λ l. Prints (g.W.Output.failed c.put_history.new.out) (g.W.Output.contents c.args.out.now) (g.W.Output.contents c.put_history.new.out) (compact_text (line_data l)) c.put_history.result) (sym c.in-History.is) c.put_history.ensures
+
+pub returns-in-Says : goal.returns-in-Says
+unfolding line_data
+returns-in-Says g c = subst (λ l. Prints (g.W.Output.failed c.put_says.new.out) (g.W.Output.contents c.args.out.now) (g.W.Output.contents c.put_says.new.out) (compact_text (line_data l)) c.put_says.result) (sym c.in-Says.is) c.put_says.ensures
+
+pub returns-in-Legible : goal.returns-in-Legible
+unfolding line_data
+returns-in-Legible g c = subst (λ l. Prints (g.W.Output.failed c.put_legible.new.out) (g.W.Output.contents c.args.out.now) (g.W.Output.contents c.put_legible.new.out) (compact_text (line_data l)) c.put_legible.result) (sym c.in-Legible.is) c.put_legible.ensures

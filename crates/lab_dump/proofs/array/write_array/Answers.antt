@@ -2,6 +2,7 @@ use Rattle.std.proofs.Common.{◌≡◌, ℕ, List, Option, IfSome, sym, subst}
 use Rattle.page_layout.specs.Geometry.{row_count}
 use Rattle.lab_dump.specs.Scan.{IsTaken}
 use Rattle.lab_dump.specs.declared.held.Held.{Held}
+use Rattle.lab_dump.specs.declared.doubts.Unsettled.{Unsettled}
 use Rattle.lab_dump.specs.Doubting.{IsDoubting}
 use Rattle.lab_dump.specs.Until.{until}
 use Rattle.lab_dump.specs.Writing.{Shows}
@@ -23,9 +24,10 @@ returns-in-Ok-clause-ok g c =
     let taker = c.scan.new.taker in
     let pieces = g.T.Pieces.pieces taker.target in
     let last = c.args.until in
+    let left : Unsettled = record { doubts = c.conclude-doubts.result; legible = c.conclude-doubts.new.self.legible; said = c.conclude-doubts.new.self.said } in
     let remaining = g.R.DumpReader.remaining c.args.reader.now in
     let same : taker.until ≡ last = c.in-Ok.ensures.fixed in
     let taken = subst (λ (u : Option ℕ). IfSome remaining (IsTaken geo (λ image. Shows geo (row_count geo) (until geo u image) taker.held.items pieces × IsDoubting geo (row_count geo) image taker.doubting))) same c.in-Ok.ensures.taken in
     if_more remaining (IsTaken geo (λ image. Shows geo (row_count geo) (until geo last image) taker.held.items pieces × IsDoubting geo (row_count geo) image taker.doubting))
-    (IsWritten geo last pieces taker.held.items c.conclude.result) taken
-    (λ bytes taken. written geo last taker.held.items taker.zeros.items taker.doubting c.conclude.result pieces bytes c.in-Ok.ensures.stands.0 c.conclude.ensures.is taken)
+    (IsWritten geo last pieces taker.held.items left) taken
+    (λ bytes taken. written geo last taker.held.items taker.zeros.items taker.doubting left pieces bytes c.in-Ok.ensures.stands.0 c.conclude-doubts.ensures.is c.conclude-doubts.ensures.said c.conclude-doubts.ensures.legible taken)

@@ -26,5 +26,7 @@ returns-clause-ok g c =
       whole = taken.whole;
       lost_are = lost_is ∙ lost_told geo claim image taker.traces.items c.note_lost.new.lost size (omega (arith, c.note_lost.ensures.size, c.deref_mut-3.ensures.len, c.requires.lost))
           (λ n l. rw (← traces_is) (c.note_lost.ensures.each n (omega (arith, l, c.note_lost.ensures.size)))) taken.shown.traces;
-      doubts_is = c.conclude.ensures.is image size taken.shown;
+      said_is = c.conclude-doubts.ensures.said image size taken.shown;
+      legible_is = c.conclude-doubts.ensures.legible image size taken.shown;
+      doubts_is = c.conclude-doubts.ensures.is image size taken.shown;
     })

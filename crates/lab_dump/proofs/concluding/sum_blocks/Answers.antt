@@ -11,11 +11,9 @@ loop-block-preserved c = λ image size seen.
     let g = c.args.geometry.now in
     let dt = c.args.doubting.now in
     let n = c.loop-block.block in
-    summed_block g image dt c.args.plain n c.class_of-class.result c.index-unsound.result.now c.index-holes.result.now c.index-kept.result.now c.loop-block.doubts c.added-doubts.result c.excuse_by-excuse.result size seen (omega arith)
+    summed_block g image dt c.args.plain n c.index-unsound.result.now c.index-holes.result.now c.loop-block.doubts c.added-doubts.result c.excuse_at-excuse.result size seen (omega arith)
     (c.loop-block.invariant image size seen)
-    (c.class_of-class.ensures image size (rw c.deref.ensures.value seen.traces) (rw c.deref-in-loop-block.ensures.value seen.tables))
-    (c.index-kept.ensures ∙ get_or_default dt.kept.items n c.index-kept.result.now false (omega arith))
-    c.excuse_by-excuse.ensures
+    (c.excuse_at-excuse.ensures image size seen)
     (c.index-unsound.ensures ∙ get_or_default dt.unsound.items n c.index-unsound.result.now 0 (omega arith))
     (c.index-holes.ensures ∙ get_or_default dt.holes.items n c.index-holes.result.now 0 (omega arith))
     c.added-doubts.ensures

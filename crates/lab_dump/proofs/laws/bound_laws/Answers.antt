@@ -1,4 +1,4 @@
-use Rattle.lab_dump.proofs.BoundLemmas.{own_row_law, bound_law, kept_law}
+use Rattle.lab_dump.proofs.BoundLemmas.{own_row_law, bound_law, kept_law, others_law}
 use Rattle.lab_dump.proofs.laws.bound_laws.Goals as goal
 
 pub returns-clause-own : goal.returns-clause-own
@@ -9,3 +9,6 @@ returns-clause-bound c = bound_law
 
 pub returns-clause-kept : goal.returns-clause-kept
 returns-clause-kept c = kept_law
+
+pub returns-clause-others : goal.returns-clause-others
+returns-clause-others c = others_law

@@ -20,7 +20,7 @@ returns-clause-whole c =
     record {
       keys = ap (λ (xs : List State). length xs) keys_is ∙ (c.note_keys.ensures.size ∙ (ap (λ (xs : List Trace). length xs) c.deref.ensures.value ∙ c.requires.doubting.traces));
       formed = c.requires.formed;
-      unsound = ap (λ (v : Vec ℕ). length v.items) c.conclude.ensures.unsound ∙ c.requires.doubting.unsound;
+      unsound = ap (λ (v : Vec ℕ). length v.items) c.conclude-doubts.ensures.unsound ∙ c.requires.doubting.unsound;
       blocks = subst (λ k. IfSome c.blocks_of-blocks.result (λ states. length states.items ≡ k.blocks)) c.requires.geometry_is c.blocks_of-blocks.ensures.size;
     }
 
@@ -35,7 +35,9 @@ returns-clause-survey c = λ image whole h.
       repeated = c.first_repeated-repeated.ensures geo image s.survey.pairs.items whole h.survey.pairs (rw c.deref_mut-2.ensures.value c.blocks_of-blocks.ensures.permutation);
       keys = rw keys_is stand;
       formed = formed_all geo image s.formed.items whole h.formed;
-      unsound = λ b l. ap (λ (v : Vec ℕ). get_or v.items b 0) c.conclude.ensures.unsound ∙ (h.doubting.unsound.at b l ∙ ap (λ n. unsound_below geo image n b) (sym whole));
+      unsound = λ b l. ap (λ (v : Vec ℕ). get_or v.items b 0) c.conclude-doubts.ensures.unsound ∙ (h.doubting.unsound.at b l ∙ ap (λ n. unsound_below geo image n b) (sym whole));
       blocks = subst (λ k. Surveys k image s.survey → BlocksAs k image (option_map (λ (v : Vec BlockState). v.items) c.blocks_of-blocks.result)) c.requires.geometry_is (c.blocks_of-blocks.ensures.blocks image) (record { whole = whole; survey = h.survey });
-      doubts_is = c.conclude.ensures.is image whole h.doubting;
+      said_is = c.conclude-doubts.ensures.said image whole h.doubting;
+      legible_is = c.conclude-doubts.ensures.legible image whole h.doubting;
+      doubts_is = c.conclude-doubts.ensures.is image whole h.doubting;
     }

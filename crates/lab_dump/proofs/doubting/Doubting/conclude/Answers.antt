@@ -32,3 +32,14 @@ returns-clause-is c = λ image size h.
     c.sum_blocks.ensures image size (seen_all g image self _ c.is_plain-plain.result size h (rw (← c.deref.ensures.value) c.is_plain-plain.ensures)
     (λ b l. ap (λ (xs : List Bool). get_or xs b false) kept_is ∙ rw (← c.deref-2.ensures.value, ← c.pages.ensures) (c.mark_kept.ensures.each b (rw blocks l)))
     refl refl refl refl refl)
+
+pub returns-clause-legible : goal.returns-clause-legible
+returns-clause-legible c = λ image size h.
+    let g = c.args.geometry.now in
+    let self = c.args.self.now in
+    let kept_is : (with_items self.kept c.mark_kept.new.kept).items ≡ c.mark_kept.new.kept = with_items_is self.kept c.mark_kept.new.kept (c.mark_kept.auto.kept ∙ c.deref_mut.ensures.len) in
+    let before : length self.kept.items ≡ g.blocks = ap (λ (xs : List Bool). length xs) c.requires.stands.kept ∙ length-replicate g.blocks false in
+    let blocks : length c.mark_kept.new.kept ≡ g.blocks = omega (arith, c.mark_kept.auto.kept, c.deref_mut.ensures.len, before) in
+    c.count_legible-self.ensures image size (seen_all g image self _ c.is_plain-plain.result size h (rw (← c.deref.ensures.value) c.is_plain-plain.ensures)
+    (λ b l. ap (λ (xs : List Bool). get_or xs b false) kept_is ∙ rw (← c.deref-2.ensures.value, ← c.pages.ensures) (c.mark_kept.ensures.each b (rw blocks l)))
+    refl refl refl refl refl) h.said_is

@@ -1,4 +1,4 @@
-use Rattle.std.proofs.Common.{◌≡◌, ◌∙◌, ap, sym, refl}
+use Rattle.std.proofs.Common.{◌≡◌, ◌∙◌, ◌+◌, ◌≤◌, ℕ, All, List, ap, arith, length, sym, subst, refl}
 use Rattle.std.specs.Vec.{with_items}
 use Rattle.std.proofs.lemmas.List.{with_items_is}
 use Rattle.page_layout.specs.Page.{page}
@@ -7,6 +7,7 @@ use Rattle.page_layout.specs.Sound.{record_of}
 use Rattle.page_layout.proofs.ArrayLemmas.{mark-page}
 use Rattle.lab_dump.specs.Count as sorts
 use Rattle.lab_dump.specs.Doubts.{is_outside}
+use Rattle.lab_dump.specs.declared.trace.Trace.{Trace}
 use Rattle.lab_dump.proofs.CountLemmas.{counted_more}
 use Rattle.lab_dump.proofs.doubting.Doubting.step.Goals as goal
 
@@ -29,6 +30,32 @@ returns-clause-is c = λ image h at.
       unsound = rw unsound_is (c.note_unsound.ensures.noted image p (rw c.deref_mut.ensures.value h.unsound) at erased found);
       holes = rw holes_is (c.note_holes-self.ensures.noted image p (rw c.deref_mut-2.ensures.value h.holes) h.ending_is at erased);
       ending_is = c.note_holes-self.ensures.ending image p h.ending_is at erased;
+      said_is = c.note_said.ensures.noted image p h.said_is at erased found refl;
       outside_is = counted_more (λ q. is_outside g (record_of q)) image row p self.outside _ at h.outside_is (c.one_outside.ensures.is ∙ ap (λ o. sorts.one (is_outside g o)) found);
       strange_is = counted_more (λ q. sorts.is_outside g (record_of q)) image row p self.strange _ at h.strange_is (c.one_strange.ensures.is ∙ ap (λ o. sorts.one (sorts.is_outside g o)) found);
+    }
+
+pub returns-clause-stands : goal.returns-clause-stands
+returns-clause-stands c =
+    let self = c.args.self.now in
+    let row = c.args.row in
+    let stands = c.requires.stands in
+    let unsound_is : (with_items self.unsound c.note_unsound.new.unsound).items ≡ c.note_unsound.new.unsound = with_items_is self.unsound c.note_unsound.new.unsound (c.note_unsound.auto.unsound ∙ c.deref_mut.ensures.len) in
+    let holes_is : (with_items self.holes c.note_holes-self.new.holes).items ≡ c.note_holes-self.new.holes = with_items_is self.holes c.note_holes-self.new.holes (c.note_holes-self.auto.holes ∙ c.deref_mut-2.ensures.len) in
+    let traces_is : (with_items self.traces c.note_trace.new.traces).items ≡ c.note_trace.new.traces = with_items_is self.traces c.note_trace.new.traces (c.note_trace.auto.traces ∙ c.deref_mut-3.ensures.len) in
+    let tables_is : (with_items self.tables c.note_table.new.tables).items ≡ c.note_table.new.tables = with_items_is self.tables c.note_table.new.tables (c.note_table.auto.tables ∙ c.deref_mut-4.ensures.len) in
+    record {
+      traces = ap (λ (xs : List Trace). length xs) traces_is ∙ omega (arith, c.note_trace.auto.traces, c.deref_mut-3.ensures.len, stands.traces);
+      tables = ap (λ (xs : List ℕ). length xs) tables_is ∙ omega (arith, c.note_table.auto.tables, c.deref_mut-4.ensures.len, stands.tables);
+      unsound = ap (λ (xs : List ℕ). length xs) unsound_is ∙ omega (arith, c.note_unsound.auto.unsound, c.deref_mut.ensures.len, stands.unsound);
+      few = subst (λ (xs : List ℕ). All (λ n. n ≤ row + 1) xs) (sym unsound_is) c.note_unsound.ensures.few;
+      holes = ap (λ (xs : List ℕ). length xs) holes_is ∙ omega (arith, c.note_holes-self.auto.holes, c.deref_mut-2.ensures.len, stands.holes);
+      few_holes = subst (λ (xs : List ℕ). All (λ n. n + c.note_holes-self.result ≤ row + 1) xs) (sym holes_is) c.note_holes-self.ensures.few;
+      ending = c.note_holes-self.ensures.end;
+      said = omega (arith, c.note_said.ensures.few, stands.said);
+      said_rows = c.note_said.ensures.rows stands.said_rows;
+      said_room = omega (arith, c.note_said.ensures.room, stands.said_room);
+      outside = omega (arith, c.one_outside.ensures.small, stands.outside);
+      strange = omega (arith, c.one_strange.ensures.small, stands.strange);
+      kept = stands.kept;
     }

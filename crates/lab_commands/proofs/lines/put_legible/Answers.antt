@@ -1,0 +1,8 @@
+use Rattle.std.proofs.Common.{ℕ, subst}
+use Rattle.lab_commands.specs.Document.{Prints}
+use Rattle.lab_commands.specs.Lines.{legible_words}
+use Rattle.lab_commands.proofs.lines.put_legible.Goals as goal
+
+pub returns : goal.returns
+returns g c =
+    subst (λ (n : ℕ). Prints (g.W.Output.failed c.put_pieces.new.out) (g.W.Output.contents c.args.out.now) (g.W.Output.contents c.put_pieces.new.out) (legible_words n c.args.others) c.put_pieces.result) c.from.ensures c.put_pieces.ensures
