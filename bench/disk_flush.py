@@ -60,14 +60,13 @@ def flushed_writes(client, seed):
 
 
 def during(program, disk, work, before=()):
-    """What a client's work programs, less what a server that is asked nothing does, and what the work answers."""
-    first = programmed(program, disk)
+    """What a client's work and the end of its session program, and what the work answers. A new disk's first client flushes it, so there was one before."""
     stop(*start([program, "serve", disk]))
-    idle = programmed(program, disk) - first
+    first = programmed(program, disk)
     client, server = start([*before, program, "serve", disk])
     answer = work(client)
     stop(client, server)
-    return programmed(program, disk) - first - 2 * idle, answer
+    return programmed(program, disk) - first, answer
 
 
 def syncs(program, folder, disk):
