@@ -38,7 +38,6 @@ ok_by : (word : List ℕ) (d places u : ℕ) (r : Result ℕ SizeWordFault) → 
 ok_by word d places u (Ok bytes) says are = record { digits = d; places = places; unit = u; says = says; product = are.0; least = are.1; most = are.2 }
 ok_by word d places u (Err e) says are = are
 
--- IsAmount, as the clauses of a call say it
 all_by : (d places u bytes : ℕ) (r : Result ℕ SizeWordFault)
     → IfOk r (λ b. (b * 10 ^ places ≡ d * u) × (1 ≤ b) × (b ≤ 2 ^ 63))
     → (r ≡ Err fault.PartOfByte → (b : ℕ) → b * 10 ^ places ≡ d * u → ⊥)
