@@ -7,7 +7,7 @@ use Rattle.disk_commands.specs.declared.shapes.Code.TheVariants.{Plain}
 use Rattle.disk_commands.specs.declared.shapes.Shape.{Shape}
 use Rattle.disk_commands.specs.declared.shape_words.GeometryWordFault.TheVariants as word
 use Rattle.disk_commands.specs.Shapes.{IsNoSize, IsShapeFor, cache_of}
-use Rattle.disk_commands.specs.Sizes.{SpellsSize}
+use Rattle.disk_commands.specs.Sizes.{SpellsPart, SpellsSize}
 use Rattle.disk_commands.specs.ShapeText.{IsWithin}
 use Rattle.disk_commands.specs.ShapeWords.{SaysGeometry, SaysNone}
 use Rattle.disk_commands.specs.declared.words.CreateWords.{CreateWords}
@@ -49,7 +49,8 @@ IsNoGeometryAt said (fault.Geometry broken) = SaysNone said (word.Limit broken)
 IsNoGeometryAt said _ = ⊥
 
 abbrev pub IsNoGeometryFor : List ℕ → DiskFault → Type 0
-IsNoGeometryFor said (fault.BadSize told) = (told.now ≡ said) × ((bytes : ℕ) → ¬ SpellsSize said bytes)
+IsNoGeometryFor said (fault.BadSize told) = (told.now ≡ said) × ((bytes : ℕ) → ¬ SpellsSize said bytes) × (¬ SpellsPart said)
+IsNoGeometryFor said (fault.PartOfByte told) = (told.now ≡ said) × SpellsPart said
 IsNoGeometryFor said (fault.Size why) = (bytes : ℕ) × SpellsSize said bytes × IsNoSize bytes why
 IsNoGeometryFor said _ = ⊥
 

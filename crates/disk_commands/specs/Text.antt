@@ -46,6 +46,7 @@ shape_words shape.OutOfMemory = codes "out of memory"
 unfoldable pub line_of : DiskFault → List ℕ
 line_of fault.NoSuchCommand = codes "usage: no such command, see nanddisk --help"
 line_of (fault.BadSize word) = codes "usage: bad size " ++ word.now
+line_of (fault.PartOfByte word) = codes "usage: part of a byte " ++ word.now
 line_of (fault.BadNumber word) = codes "usage: bad number " ++ word.now
 line_of (fault.Size why) = codes "refused size: " ++ size_words why
 line_of (fault.Geometry why) = codes "refused geometry " ++ limit_words why
@@ -70,6 +71,7 @@ line_of (fault.Device path) = codes "fault serve: " ++ (path.now ++ codes " fail
 abbrev pub status_of : DiskFault → ℕ
 status_of fault.NoSuchCommand = 2
 status_of (fault.BadSize word) = 2
+status_of (fault.PartOfByte word) = 2
 status_of (fault.BadNumber word) = 2
 status_of (fault.Size why) = 1
 status_of (fault.Geometry why) = 1

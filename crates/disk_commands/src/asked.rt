@@ -6,7 +6,7 @@ ghost use Rattle.disk_commands.specs.Asked.{IsCacheAsked, IsCacheAt, IsGeometryA
 
 use crate::shape_words::{GeometryWordFault, geometry_from};
 use crate::shapes::{MOST_ENTRIES, Shape, cache_for, shape_for};
-use crate::sizes::size_from;
+use crate::sizes::{SizeWordFault, size_from};
 use crate::text::DiskFault;
 use crate::words::{CreateWords, MakeWords};
 use command_words::number;
@@ -29,8 +29,10 @@ fn geometry_for<'a>(word: &'a str) -> Result<Geometry, DiskFault<'a>>
     ensures ok { IfOk result (IsGeometryFor word.now) }
     ensures fault { IfErr result (IsNoGeometryFor word.now) }
 {
-    let Some(bytes) = size_from(word) else {
-        return Err(DiskFault::BadSize(word));
+    let bytes = match size_from(word) {
+        Ok(bytes) => bytes,
+        Err(SizeWordFault::NoSize) => return Err(DiskFault::BadSize(word)),
+        Err(SizeWordFault::PartOfByte) => return Err(DiskFault::PartOfByte(word)),
     };
     match shape_for(bytes) {
         Ok(shape) => Ok(shape.geometry),
@@ -68,7 +70,7 @@ fn cache_asked<'a>(word: Option<&'a str>, geometry: &Geometry) -> Result<u32, Di
 ///
 /// # Errors
 ///
-/// The first of this order: `BadSize`, or `Size` where no die is of the size; `BadNumber` where the geometry is not five numbers, or `Geometry` with the first
+/// The first of this order: `BadSize` or `PartOfByte`, or `Size` where no die is of the size; `BadNumber` where the geometry is not five numbers, or `Geometry` with the first
 /// limit that they break; `BadNumber` where the cache is no number from 1 to 65,536. (This project's.)
 pub fn shape_of<'a>(words: CreateWords<'a>) -> Result<Shape, DiskFault<'a>>
     ensures ok { IfOk result (IsShapeAsked words.entry) }

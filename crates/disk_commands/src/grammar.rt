@@ -14,7 +14,7 @@ const DISK: WordRule<'static> = WordRule {
 const SIZE: WordRule<'static> = WordRule {
     id: "size",
     kind: WordKind::Valued("SIZE"),
-    help: "So many bytes, or with K, M, G or T behind the number",
+    help: "So many bytes, or K, M, G or T of 1024, as 64M, 1.5G or 64MiB; MB is of 1000",
 };
 
 const GEOMETRY: WordRule<'static> = WordRule {

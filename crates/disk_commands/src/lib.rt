@@ -42,6 +42,6 @@ pub use program_words::WordsFault;
 pub use shape_text::{DiskText, Member, ShapeFault, read_shape, write_listed_shape, write_shape};
 pub use shape_words::{GeometryWordFault, geometry_from};
 pub use shapes::{Code, Shape, SizeFault, cache_for, shape_for};
-pub use sizes::size_from;
+pub use sizes::{SizeWordFault, size_from, size_laws};
 pub use text::{DiskFault, tell};
 pub use words::{CreateWords, DiskWords, InfoWords, MakeWords, ServeWords, parse};

@@ -25,6 +25,8 @@ pub enum DiskFault<'a> {
     NoSuchCommand,
     /// The word is no size.
     BadSize(&'a str),
+    /// The size of the word is no whole number of bytes.
+    PartOfByte(&'a str),
     /// The word is not the numbers that are wanted.
     BadNumber(&'a str),
     /// No die is of this size.
@@ -76,7 +78,10 @@ impl DiskFault<'_> {
         ensures { result ≡ status_of self.now }
     {
         match self {
-            DiskFault::NoSuchCommand | DiskFault::BadSize(_) | DiskFault::BadNumber(_) => USAGE,
+            DiskFault::NoSuchCommand
+            | DiskFault::BadSize(_)
+            | DiskFault::PartOfByte(_)
+            | DiskFault::BadNumber(_) => USAGE,
             DiskFault::Size(_)
             | DiskFault::Geometry(_)
             | DiskFault::Exists(_)
@@ -143,6 +148,7 @@ impl fmt::Display for DiskFault<'_> {
         match *self {
             DiskFault::NoSuchCommand => f.write_str("usage: no such command, see nanddisk --help"),
             DiskFault::BadSize(word) => told(f, "usage: bad size ", word),
+            DiskFault::PartOfByte(word) => told(f, "usage: part of a byte ", word),
             DiskFault::BadNumber(word) => told(f, "usage: bad number ", word),
             DiskFault::Size(fault) => write!(f, "refused size: {fault}"),
             DiskFault::Geometry(fault) => told(f, "refused geometry ", limit(fault)),

@@ -1,40 +1,83 @@
 //! Sizes as words write them, and the shapes for them.
-use disk_commands::{Shape, SizeFault, shape_for, size_from};
+use disk_commands::{Shape, SizeFault, SizeWordFault, shape_for, size_from};
 use std::process::Abort;
 use std::test::*;
 
 // A word, and the bytes that it says.
-const SIZES: &[(&str, Option<u64>)] = &[
-    ("1", Some(1)),
-    ("4096", Some(4096)),
-    ("007", Some(7)),
-    ("1K", Some(1024)),
-    ("64M", Some(67_108_864)),
-    ("1G", Some(1_073_741_824)),
-    ("2T", Some(2_199_023_255_552)),
-    ("9223372036854775808", Some(9_223_372_036_854_775_808)),
-    ("9223372036854775809", None),
-    ("8388608T", Some(9_223_372_036_854_775_808)),
-    ("8388609T", None),
-    ("18446744073709551615", None),
-    ("18446744073709551616", None),
-    ("18446744073709551615T", None),
-    ("", None),
-    ("0", None),
-    ("0K", None),
-    ("K", None),
-    ("1k", None),
-    ("1KK", None),
-    ("K1", None),
-    ("-1", None),
-    ("+1", None),
-    ("1 M", None),
+const SIZES: &[(&str, u64)] = &[
+    ("1", 1),
+    ("4096", 4096),
+    ("007", 7),
+    ("1K", 1024),
+    ("1k", 1024),
+    ("64M", 67_108_864),
+    ("64m", 67_108_864),
+    ("64MiB", 67_108_864),
+    ("64mB", 64_000_000),
+    ("64MB", 64_000_000),
+    ("1G", 1_073_741_824),
+    ("1.5G", 1_610_612_736),
+    ("1.5GiB", 1_610_612_736),
+    ("1.5GB", 1_500_000_000),
+    ("0.25K", 256),
+    ("1.0", 1),
+    ("1.50000M", 1_572_864),
+    ("0.000001MB", 1),
+    ("2T", 2_199_023_255_552),
+    ("1TB", 1_000_000_000_000),
+    ("9223372036854775808", 9_223_372_036_854_775_808),
+    ("8388608T", 9_223_372_036_854_775_808),
+    ("1.000000000000000000", 1),
+];
+
+// Words that say a part of a byte.
+const PARTS: &[&str] = &["1.5", "0.1K", "1.1G", "0.0001KB", "0.000000000000000001T"];
+
+// Words that say no size.
+const NO_SIZES: &[&str] = &[
+    "9223372036854775809",
+    "8388609T",
+    "18446744073709551615",
+    "18446744073709551616",
+    "18446744073709551615T",
+    "1.0000000000000000000",
+    "",
+    "0",
+    "0K",
+    "0.0M",
+    "K",
+    "1KK",
+    "K1",
+    "-1",
+    "+1",
+    "1 M",
+    "1.",
+    "1.M",
+    ".5M",
+    "1..5M",
+    "1.5.5M",
+    "1MIB",
+    "1Mib",
+    "1Mb",
+    "1B",
+    "1iB",
+    "1P",
+    "1MiBs",
+    "1,5G",
+    "0x10",
+    "1e3",
 ];
 
 #[test]
 fn sizes_are_read(rt: HostRuntime) {
     for (word, bytes) in SIZES {
-        assert!(rt; size_from(word) == *bytes, "{word}");
+        assert!(rt; size_from(word) == Ok(*bytes), "{word}");
+    }
+    for word in PARTS {
+        assert!(rt; size_from(word) == Err(SizeWordFault::PartOfByte), "{word}");
+    }
+    for word in NO_SIZES {
+        assert!(rt; size_from(word) == Err(SizeWordFault::NoSize), "{word}");
     }
 }
 
