@@ -51,7 +51,11 @@ pub const REFUSED: &[Step] = &[
     Run("nanddisk create --size 1X d", 2, "usage: bad size 1X\n"),
     Run("nanddisk create --size 0 d", 2, "usage: bad size 0\n"),
     Run("nanddisk create --size 1MIB d", 2, "usage: bad size 1MIB\n"),
-    Run("nanddisk create --size 0.1K d", 2, "usage: part of a byte 0.1K\n"),
+    Run(
+        "nanddisk create --size 0.1K d",
+        2,
+        "usage: part of a byte 0.1K\n",
+    ),
     Run(
         "nanddisk create --size 2G d",
         1,
