@@ -197,15 +197,27 @@ def copy_crates(room, kept):
             subprocess.run(["cp", "-a", TOP / "crates" / name / "out", room / "crates" / name], check=True)
 
 
+def strange(words):
+    """The words that are none of this script's: an option that it has not, or the name of nothing that is planted."""
+    if words[:1] == ["--bends"]:
+        return words[1:2] if len(words) < 3 or not pathlib.Path(words[1]).is_file() else [word for word in words[2:] if word.startswith("-")]
+    if words[:1] == ["--must-fail"]:
+        return [word for word in words[1:] if not (TOP / "crates" / word / "must-fail").is_dir()]
+    return [word for word in words if not (TOP / "planted" / (word + (".edit" if "/" in word else ""))).exists()]
+
+
 def main():
     counts, news = {}, {}
     first, words = None, sys.argv[1:]
     if words == ["--table"]:
         write_table(news)
         return 0
-    room = pathlib.Path(tempfile.mkdtemp())
     if words[:1] == ["--first"]:
-        first, words = words[1], words[2:]
+        first, words = words[1] if words[1:] else None, words[2:]
+    if strange(words):
+        print(f"not known: {' '.join(strange(words))}\n\n{__doc__.strip()}", file=sys.stderr)
+        return 2
+    room = pathlib.Path(tempfile.mkdtemp())
     sort = {"--bends": "bend/", "--must-fail": "must-fail/"}.get(words[0] if words else "", "")
     try:
         for file in ("crates.txt", "HANDLES"):
@@ -223,7 +235,8 @@ def main():
                 print(f"{verdict:8} {name}/{file.stem}  {why[:200]}", flush=True)
     finally:
         shutil.rmtree(room)
-        write_table(news)
+        if news:
+            write_table(news)
     print(", ".join(f"{count} {verdict}" for verdict, count in sorted(counts.items())))
     return 0 if set(counts) == {"refused"} else 1
 

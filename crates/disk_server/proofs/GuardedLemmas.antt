@@ -15,7 +15,7 @@ use Rattle.nbd_stream.specs.Disk.{Contents, Idles, IsEither, MayAnswer, Performs
 use Rattle.nbd_stream.proofs.DiskLemmas.{before_it, inside_it, length-with_bytes, past_it}
 use Rattle.disk_server.specs.declared.guarded.GuardedSectors.{GuardedSectors}
 use Rattle.disk_server.specs.Asked.{HasZeros}
-use Rattle.disk_server.specs.Guarded.{GuardedByteLaw, GuardedReadLaw, HealsIfListed, guarded_byte, guarded_from, is_listed, no_byte, shown}
+use Rattle.disk_server.specs.Guarded.{GuardedByteLaw, GuardedReadLaw, HealedLaw, HealsIfListed, UnkeptLaw, guarded_byte, guarded_from, is_listed, no_byte, shown}
 use Rattle.disk_server.proofs.Tasks.{Answer, lasting}
 
 -- ---- a byte
@@ -341,3 +341,20 @@ module _ {S K : Type 0} (contents : S → Contents) (size : S → ℕ) (honest :
       call_shown task body old (Err e) new same p.sized tt p.back p.fault tt
       (λ h. subst (λ l. Steps task body (lasting (guarded_from (size old.sectors) old.lost.items 0 (contents old.sectors).bytes)) (Err e) (lasting (guarded_from (size old.sectors) l 0 (contents new.sectors).bytes))) (sym lost)
       (failed_steps (size old.sectors) n task body set leaves gives some long old.lost.items (contents old.sectors) (contents new.sectors) fits e p.sized (p.steps h)))
+
+-- ---- laws of its list
+
+pub healed_law : (S : Type 0) {K : Type 0} (kept : K → List Bool) → HealedLaw S kept
+healed_law S kept n m old new (inl same) = (
+  ap (λ l. get_or l.items n false) same.1.lost_same ∙ same.0,
+  λ other. ap (λ l. get_or l.items m false) same.1.lost_same,
+  λ was. absurd (let no : false ≡ true = sym same.0 ∙ was in (let never : ⊥ = cc in never)),
+)
+healed_law S kept n m old new (inr heals) =
+    let cleared = taken n old.lost.items new.lost.items heals.was heals.taken in
+    (cleared.here, λ other. cleared.others m other, λ was. heals.lasts)
+
+pub unkept_law : {S K : Type 0} (failed : K → ℕ) (is : S → Result (Unit {0}) DiskFault → S → Type 0) → UnkeptLaw failed is
+unkept_law failed is old mid new result less (inl same) passed = absurd (let count : failed mid.keeper ≡ failed old.keeper = ap failed same.keeper_same in omega (arith, less, count))
+unkept_law failed is old mid new result less (inr fails) (inl over) = over.1
+unkept_law failed is old mid new result less (inr fails) (inr going) = absurd (let no : true ≡ false = sym fails.0 ∙ going.0 in (let never : ⊥ = cc in never))

@@ -3,11 +3,12 @@ use Rattle.std.proofs.Common.{◌≡◌, ◌⊎◌, inl, inr, ℕ, suc, zero, Bo
 use Rattle.std.specs.Prelude.{slice_index}
 use Rattle.nbd_stream.specs.declared.reply.RequestError.{RequestError}
 use Rattle.nbd_stream.specs.declared.task.Task.{Task}
-use Rattle.nbd_stream.specs.declared.task.Task.TheVariants.{Read, Flush}
+use Rattle.nbd_stream.specs.declared.fault.DiskFault.{DiskFault}
+use Rattle.nbd_stream.specs.declared.task.Task.TheVariants.{Read, Write, Flush, Trim, WriteZeroes}
 use Rattle.nbd_stream.specs.Disk.{Contents, IsEither, MayAnswer, Performs, Steps}
 use Rattle.nbd_stream.specs.Through.{Times, Through}
 use Rattle.nbd_stream.proofs.ThroughLemmas.{joined, none}
-use Rattle.disk_server.specs.Reading.{AllLasts}
+use Rattle.disk_server.specs.Reading.{AllLasts, OnlyAsksReads, OnlyReadsLaw}
 
 not : false ≡ true → ⊥
 not e = cc
@@ -103,3 +104,15 @@ flat R (suc n) old new more = joined R old more.0 new (flat R n old more.0 more.
 
 pub flattened : {D : Type 0} (R : D → D → Type 0) (old new : D) → Through (Through R) old new → Through R old new
 flattened R old new through = flat R through.0 old new through.1
+
+-- ---- the law
+
+asked_reads : {D : Type 0} (reads : D → D → Type 0) (old mid : D) (task : Task) (answer : Result (Unit {0}) DiskFault) → OnlyAsksReads reads old task answer mid → Through reads old mid
+asked_reads reads old mid (Read offset count) answer is = is
+asked_reads reads old mid (Write offset count durable) answer is = none reads old mid is.1
+asked_reads reads old mid Flush answer is = none reads old mid is.1
+asked_reads reads old mid (Trim offset count durable) answer is = none reads old mid is.1
+asked_reads reads old mid (WriteZeroes offset count durable) answer is = none reads old mid is.1
+
+pub only_reads : {D : Type 0} (reads : D → D → Type 0) → OnlyReadsLaw reads
+only_reads reads old mid new task answer result is rests = joined reads old mid new (asked_reads reads old mid task answer is) (none reads mid new rests.1)

@@ -4,11 +4,12 @@ use Rattle.onfi_cycles.specs.Driver.{DriverState}
 use Rattle.file_die.specs.Die.{FileState}
 use Rattle.file_die.specs.Store.{Held}
 use Rattle.image_check.specs.declared.refusal.Refusal.TheVariants.{Source, TooStale}
+use Rattle.mount.specs.Mounted.{Refuses}
 use Rattle.ftl_device.specs.declared.device.Device.{Device}
 use Rattle.disk_server.specs.declared.opened.OpenStoreFault.{OpenStoreFault}
 use Rattle.disk_server.specs.declared.opened.OpenStoreFault.TheVariants as why
 use Rattle.disk_server.specs.Opened.{ComesBack, IsUnopened}
-use Rattle.disk_server.specs.Stopped.{AsksToFlush, HasRoomFor, IsLastFault, IsOpenedBy, IsOpenedEither, IsOpenedFlushed, IsOpenedNeither, IsOpenedWith, IsStale, IsUnopenedLater, IsUnopenedStale}
+use Rattle.disk_server.specs.Stopped.{AsksToFlush, HasRoomFor, IsLastFault, IsOpenedBy, IsOpenedEither, IsOpenedFlushed, IsOpenedNeither, IsOpenedWith, IsStale, IsUnopenedLater, IsUnopenedStale, OwnCacheLaw, UnwrittenCacheLaw}
 
 -- with H for an honest store, A for a disk that held its array once it was flushed, G for the store that came of it, honest; and the bytes of each
 pub reopened : {D E : Type 0} (bytes : D → List ℕ) (H A G : Type 0) (was back : List ℕ)
@@ -101,3 +102,14 @@ last_fault held honest failed store capacity stale (Err e) is = inl is
 pub unwritten : {A : Type 0} (P Q : A → Type 0) (writes : Bool) (result : Result A OpenStoreFault) → writes ≡ true → IfOk result (λ d. writes ≡ false → P d → Q d)
 unwritten P Q writes (Ok d) write = λ read. (let both : true ≡ false = sym write ∙ read in (let never : ⊥ = cc in absurd never))
 unwritten P Q writes (Err e) write = tt
+
+-- ---- laws
+
+pub own_cache : {S : Type 0} (held : S → Held) (honest : S → Bool) → OwnCacheLaw held honest
+own_cache held honest writes store capacity entries h room (inl own) = own
+own_cache held honest writes store capacity entries h room (inr larger) = absurd (room larger.0 larger.2.asked (larger.2.refuses h))
+
+pub unwritten_cache : {S : Type 0} (held : S → Held) (honest : S → Bool) → UnwrittenCacheLaw held honest
+unwritten_cache held honest store capacity entries h (inl own) = inl own
+unwritten_cache held honest store capacity entries h (inr larger) =
+    inr (larger.2.asked, subst (λ n. Refuses (held store).geometry capacity (held store).pages (TooStale n larger.2.asked)) (sym larger.3) (larger.2.refuses h))

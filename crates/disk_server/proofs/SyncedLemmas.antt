@@ -1,5 +1,5 @@
 -- A change of a disk that keeps nothing back, and the sync behind it.
-use Rattle.std.proofs.Common.{◌≡◌, ◌&&◌, ◌<◌, arith, inl, inr, ℕ, Bool, true, false, List, [], Result, Ok, Err, refl, sym, ap, ◌∙◌, subst}
+use Rattle.std.proofs.Common.{◌≡◌, ◌⊎◌, ◌&&◌, ◌<◌, ◌≤◌, arith, inl, inr, ℕ, Bool, true, false, List, [], Result, Ok, Err, refl, sym, ap, ◌∙◌, subst}
 use Rattle.std.specs.Prelude.{slice_index, IfErr, OnOk}
 use Rattle.nbd_stream.specs.declared.fault.DiskFault.{DiskFault}
 use Rattle.nbd_stream.specs.declared.fault.DiskFault.TheVariants as fault
@@ -9,9 +9,9 @@ use Rattle.nbd_stream.specs.declared.task.Task.{Task}
 use Rattle.nbd_stream.specs.declared.task.Task.TheVariants.{Flush, Read, Trim, Write, WriteZeroes}
 use Rattle.nbd_stream.specs.Disk.{Contents, MayAnswer, Performs, answer_from, error_for, is_in}
 use Rattle.std.proofs.lemmas.Bool.{cases_lt}
-use Rattle.page_layout.specs.Counter.{HasRisen}
+use Rattle.page_layout.specs.Counter.{HasRisen, counted}
 use Rattle.disk_server.specs.declared.mark.Mark.{Mark}
-use Rattle.disk_server.specs.Synced.{CloseLaw, Closes, Counts, EndsChange, EndsSynced, EndsTask, HasSynced, IsKnownFlushed, IsLasting, IsOver, KeepsCount, Marks, NoneFailed, Notes, SyncedLaw, SyncsTask, UnflushedLaw, after_change, after_sync}
+use Rattle.disk_server.specs.Synced.{CloseLaw, Closes, Counts, EndsChange, EndsSynced, EndsTask, FlushLaw, HasSynced, IsKnownFlushed, IsLasting, IsOver, KeepsCount, Marks, NoneFailed, Notes, OverLaw, SyncedLaw, SyncsTask, UnflushedLaw, WriteLaw, after_change, after_sync}
 use Rattle.disk_server.proofs.ReadingLemmas.{flushed}
 use Rattle.disk_server.proofs.SyncLemmas.{no_less, none_then, then_failed, unflushed}
 use Rattle.disk_server.specs.declared.synced.SyncedDisk.{SyncedDisk}
@@ -191,6 +191,46 @@ module _ {D Y : Type 0} (does : D → Task → Result (Unit {0}) DiskFault → D
 
   pub synced_law : SyncedLaw does synced failed marked next
   synced_law old new task lasts is = ends_marked old new task lasts (is.ends (was_going old new is.over old.failed refl))
+
+  -- a sync that failed is kept
+  kept_of : (old mid : SyncedDisk D Y) (answer : Result (Unit {0}) DiskFault) → failed old.syncs < failed mid.syncs → Notes failed old answer mid → mid.failed ≡ true
+  kept_of old mid (Ok done) less notes = absurd (omega (arith, less, notes.count_same))
+  kept_of old mid (Err e) less (inl none) = absurd (omega (arith, less, none.count_same))
+  kept_of old mid (Err e) less (inr one) = one.kept
+
+  pub over_law : OverLaw does synced failed marked next
+  over_law old mid new task later answer result less before after = after.over (kept_of old mid answer less before.notes)
+
+  -- one that was due was done
+  due_done : (old new : SyncedDisk D Y) → HasSynced synced true old new → (synced new.syncs ≡ counted (synced old.syncs)) × (new.unsynced ≡ 0)
+  due_done old new (inl due) = (due.1.one, due.1.all)
+  due_done old new (inr undue) = absurd (undue.0 (inl refl))
+
+  pub flush_law : FlushLaw does synced failed marked next
+  flush_law old new is = let ends = is.ends (was_going old new is.over old.failed refl) in (let done = due_done old new ends.1.synced_if_due in (ends.0, done.0, done.1))
+
+  -- one that was not due
+  unlasting : (durable : Bool) → ¬ (durable ≡ true) → durable ≡ false
+  unlasting true is = absurd (is refl)
+  unlasting false is = refl
+
+  few : (old : SyncedDisk D Y) → ¬ (old.pace.most < old.unsynced) → old.unsynced ≤ old.pace.most
+  few old is = elim (cases_lt old.pace.most old.unsynced) [
+    | inl more ↦ absurd (is more)
+    | inr most ↦ most
+  ]
+
+  synced_or_few : (durable : Bool) (old new : SyncedDisk D Y) → HasSynced synced durable old new
+      → ((synced new.syncs ≡ counted (synced old.syncs)) × (new.unsynced ≡ 0)) ⊎ ((durable ≡ false) × (new.syncs ≡ old.syncs) × (new.unsynced ≡ old.unsynced) × (new.unsynced ≤ old.pace.most))
+  synced_or_few durable old new (inl due) = inl (due.1.one, due.1.all)
+  synced_or_few durable old new (inr undue) =
+      let same = undue.1.unsynced_same in
+      inr (unlasting durable (λ e. undue.0 (inl e)), undue.1.syncs_same, same, subst (λ k. k ≤ old.pace.most) (sym same) (few old (λ more. undue.0 (inr more))))
+
+  pub write_law : WriteLaw does synced failed marked next
+  write_law old new offset count durable is =
+      let ends = is.ends (was_going old new is.over old.failed refl) in
+      (ends.0, synced_or_few durable (after_change offset count old) new ends.1.synced_if_due)
 
   module _ (takes : D → Bool) (counts : Bool) (old new : SyncedDisk D Y) (is : Closes does synced failed marked next takes counts old (Ok tt) new) (taking : takes new.disk ≡ true) where
     going : old.failed ≡ false

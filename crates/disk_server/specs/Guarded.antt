@@ -1,5 +1,5 @@
 -- A DEVICE OF WHICH SOME SECTORS ARE LOST: they are not read until they are written again, or trimmed.
-use Rattle.std.specs.Prelude.{◌≡◌, ◌⊎◌, ◌≤◌, ◌<◌, ◌+◌, ◌-◌, ◌/◌, ℕ, Bool, true, false, List, [], ◌∷◌, get_or, length, slice_index, slice_set, Result, Err, if◌then◌else◌}
+use Rattle.std.specs.Prelude.{◌≡◌, ◌≢◌, ◌⊎◌, ◌≤◌, ◌<◌, ◌+◌, ◌-◌, ◌/◌, ℕ, Bool, true, false, List, [], ◌∷◌, get_or, length, slice_index, slice_set, Result, Err, if◌then◌else◌}
 use Rattle.page_layout.specs.Counter.{HasRisen}
 use Rattle.nbd_stream.specs.declared.task.Task.TheVariants.{Read}
 use Rattle.nbd_stream.specs.Disk.{Contents, bytes_given}
@@ -79,3 +79,15 @@ HealsIfListed kept n old new = ((is_listed old n ≡ false) × KeepsList old new
 -- AFTER ONE THAT FAILED the list is as it was; or it was not kept, which was counted, and nothing is asked any more
 abbrev pub KeepsOrFails : {S K : Type 0} → (failed : K → ℕ) → (old new : GuardedSectors S K) → Type 0
 KeepsOrFails failed old new = KeepsList old new ⊎ ((new.failed ≡ true) × HasRisen (failed old.keeper) (failed new.keeper))
+
+-- ---- laws of its list
+
+-- A SECTOR THAT WAS WRITTEN IS NOT LOST, AND NO OTHER LEAVES THE LIST OR COMES ONTO IT; where it was on the list, the list without it lasts
+abbrev pub HealedLaw : (S : Type 0) → {K : Type 0} → (kept : K → List Bool) → Type 0
+HealedLaw S {K} kept = (n m : ℕ) (old new : GuardedSectors S K) → HealsIfListed kept n old new
+    → (is_listed new n ≡ false) × (m ≢ n → is_listed new m ≡ is_listed old m) × (is_listed old n ≡ true → kept new.keeper ≡ new.lost.items)
+
+-- ONCE A LIST WAS NOT KEPT NOTHING IS ASKED of the device: a sector that its list names no more would be lost again as the disk is next opened
+abbrev pub UnkeptLaw : {S K : Type 0} → (failed : K → ℕ) → (is : S → Result (Unit {0}) DiskFault → S → Type 0) → Type 0
+UnkeptLaw {S} {K} failed is = (old mid new : GuardedSectors S K) (result : Result (Unit {0}) DiskFault) → failed old.keeper < failed mid.keeper
+    → KeepsOrFails failed old mid → PassesOn is mid result new → (result ≡ Err fault.Failed) × (new ≡ mid)

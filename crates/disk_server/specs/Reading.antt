@@ -22,3 +22,7 @@ OnlyAsksReads reads old (WriteZeroes offset count durable) result new = (result 
 -- a rest asks nothing of it
 abbrev pub RestsNever : {D : Type 0} → D → Result (Unit {0}) DiskFault → D → Type 0
 RestsNever old result new = (result ≡ Ok tt) × (new ≡ old)
+
+-- SO NOTHING BUT READS IS ASKED of what stands under it, whatever its task and the rest behind it
+abbrev pub OnlyReadsLaw : {D : Type 0} → (reads : D → D → Type 0) → Type 0
+OnlyReadsLaw {D} reads = (old mid new : D) (task : Task) (answer result : Result (Unit {0}) DiskFault) → OnlyAsksReads reads old task answer mid → RestsNever mid result new → Through reads old new

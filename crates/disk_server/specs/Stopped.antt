@@ -86,3 +86,15 @@ abbrev pub IsUnopenedLater : {S : Type 0} → (S → Held) → (honest : S → B
 IsUnopenedLater {S} held honest failed store capacity fault =
     IsFault held honest failed store capacity fault
     ⊎ ((stale : ℕ) × (given : S) × IsStale held honest store capacity stale given × IsUnopenedStale held honest failed given capacity stale fault)
+
+-- ---- laws
+
+-- AN HONEST STORE WHOSE STALE SECTORS HAVE ROOM IS OPENED WITH ITS OWN CACHE
+abbrev pub OwnCacheLaw : {S : Type 0} → (S → Held) → (honest : S → Bool) → Type 0
+OwnCacheLaw {S} held honest = (writes : Bool) (store : S) (capacity entries : ℕ) → honest store ≡ true
+    → ((stale asked : ℕ) → ¬ Refuses (held store).geometry capacity (held store).pages (TooStale stale asked)) → IsOpenedWith held honest writes store capacity entries → entries ≡ capacity
+
+-- ONE THAT IS NOT TO BE WRITTEN IS OPENED WITH ITS OWN CACHE, or with just as many entries as it was refused for
+abbrev pub UnwrittenCacheLaw : {S : Type 0} → (S → Held) → (honest : S → Bool) → Type 0
+UnwrittenCacheLaw {S} held honest = (store : S) (capacity entries : ℕ) → honest store ≡ true → IsOpenedWith held honest false store capacity entries
+    → (entries ≡ capacity) ⊎ ((asked : ℕ) × Refuses (held store).geometry capacity (held store).pages (TooStale entries asked))

@@ -207,6 +207,24 @@ abbrev pub CloseLaw : {D Y : Type 0} → (does : D → Task → Result (Unit {0}
 CloseLaw {D} {Y} does synced failed marked next takes = (counts : Bool) (old new : SyncedDisk D Y) → Closes does synced failed marked next takes counts old (Ok tt) new → takes new.disk ≡ true
     → (marked new.syncs).flushed ≡ next new.disk
 
+-- ONCE A SYNC FAILED NOTHING IS ASKED, and each task is answered `Failed`: what was written before may be lost, and the next sync may answer that all is well
+abbrev pub OverLaw : {D Y : Type 0} → (does : D → Task → Result (Unit {0}) DiskFault → D → Type 0) → (synced failed : Y → ℕ) → (marked : Y → Mark) → (next : D → ℕ) → Type 0
+OverLaw {D} {Y} does synced failed marked next = (old mid new : SyncedDisk D Y) (task later : Task) (answer result : Result (Unit {0}) DiskFault) → failed old.syncs < failed mid.syncs
+    → SyncsTask does synced failed marked next old task answer mid → SyncsTask does synced failed marked next mid later result new → (result ≡ Err fault.Failed) × (new ≡ mid)
+
+-- A FLUSH THAT IS DONE IS ONE SYNC, and asks nothing of the disk
+abbrev pub FlushLaw : {D Y : Type 0} → (does : D → Task → Result (Unit {0}) DiskFault → D → Type 0) → (synced failed : Y → ℕ) → (marked : Y → Mark) → (next : D → ℕ) → Type 0
+FlushLaw {D} {Y} does synced failed marked next = (old new : SyncedDisk D Y) → SyncsTask does synced failed marked next old Flush (Ok tt) new
+    → (new.disk ≡ old.disk) × (synced new.syncs ≡ counted (synced old.syncs)) × (new.unsynced ≡ 0)
+
+-- A WRITE THAT IS DONE was one of the disk, which was not told that it is to last; and no sync was done of it only where it need not last and each piece that it touched counts as changed, with
+-- those before not more than may be
+abbrev pub WriteLaw : {D Y : Type 0} → (does : D → Task → Result (Unit {0}) DiskFault → D → Type 0) → (synced failed : Y → ℕ) → (marked : Y → Mark) → (next : D → ℕ) → Type 0
+WriteLaw {D} {Y} does synced failed marked next = (old new : SyncedDisk D Y) (offset count : ℕ) (durable : Bool) → SyncsTask does synced failed marked next old (Write offset count durable) (Ok tt) new
+    → Asks does (Write offset count false) old.disk new.disk
+    × (((synced new.syncs ≡ counted (synced old.syncs)) × (new.unsynced ≡ 0))
+    ⊎ ((durable ≡ false) × (new.syncs ≡ old.syncs) × (new.unsynced ≡ min (old.unsynced + touched old.pace.piece offset count) (2 ^ 64 - 1)) × (new.unsynced ≤ old.pace.most)))
+
 -- ---- what a client is told
 
 -- so many bytes, on these terms

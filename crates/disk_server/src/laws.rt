@@ -1,12 +1,17 @@
 //! What a device of sectors is as bytes, the block device as one, and a disk in a store after a loss of power. Each function does nothing: its contract is
 //! the law.
-ghost use Rattle.disk_server.specs.Synced.{CloseLaw, SyncedLaw, UnflushedLaw};
+ghost use Rattle.disk_server.specs.Synced.{CloseLaw, FlushLaw, OverLaw, SyncedLaw, UnflushedLaw, WriteLaw};
 ghost use Rattle.disk_server.specs.Laws.{BelowLaw, ClosedLaw, HoldsLaw, LastsLaw, LengthLaw, NoSpaceLaw, ReadOnlyLaw, SectorLaw, WrittenLaw};
 ghost use Rattle.disk_server.specs.Flat.{FlatLaw};
-ghost use Rattle.disk_server.specs.Guarded.{GuardedByteLaw, GuardedReadLaw};
+ghost use Rattle.disk_server.specs.Guarded.{GuardedByteLaw, GuardedReadLaw, HealedLaw, UnkeptLaw};
 ghost use Rattle.disk_server.specs.Power.{FoundLaw, LeavesLaw};
+ghost use Rattle.disk_server.specs.Reading.{OnlyReadsLaw};
+ghost use Rattle.disk_server.specs.Stopped.{OwnCacheLaw, UnwrittenCacheLaw};
 
+use crate::guarded::KeepsLost;
+use crate::sectors::Sectors;
 use crate::synced::{LastingDisk, Sequenced, Syncs};
+use file_die::Store;
 use onfi_cycles::Nand;
 
 /// A sector of a list of sectors is a range of their bytes: to give it is to give that range, and to replace it is to set that range.
@@ -32,11 +37,14 @@ pub fn sequence_laws<N: Nand>()
 {}
 
 /// What a disk joined with its syncs is marked with: no task marks it as flushed; a flush and a durable change that is done are synced last; and one that was closed, and takes changes, is marked as flushed up to
-/// the page that is next. (This project's.)
+/// the page that is next. And what is asked: a flush is one sync; a write is one of the disk, and a sync where one is due; once a sync failed nothing is. (This project's.)
 pub fn sync_laws<D: LastingDisk + Sequenced, Y: Syncs>()
     ensures unflushed { UnflushedLaw D.does Y.synced Y.failed Y.marked D.next }
     ensures synced { SyncedLaw D.does Y.synced Y.failed Y.marked D.next }
     ensures closed { CloseLaw D.does Y.synced Y.failed Y.marked D.next D.takes }
+    ensures over { OverLaw D.does Y.synced Y.failed Y.marked D.next }
+    ensures flush { FlushLaw D.does Y.synced Y.failed Y.marked D.next }
+    ensures write { WriteLaw D.does Y.synced Y.failed Y.marked D.next }
 {}
 
 /// What a device shows of which some sectors are lost: each byte is the device's, and of a lost sector none is a byte. So a read is answered without an error only where no sector of its range is lost. (This
@@ -44,6 +52,24 @@ pub fn sync_laws<D: LastingDisk + Sequenced, Y: Syncs>()
 pub fn guard_laws()
     ensures byte { GuardedByteLaw }
     ensures read { GuardedReadLaw }
+{}
+
+/// What becomes of the list of lost sectors: a sector that was written leaves it, and no other; and once a list was not kept nothing is asked of the device. (This project's.)
+pub fn healed_laws<S: Sectors, K: KeepsLost>()
+    ensures healed { HealedLaw S K.kept }
+    ensures unkept { UnkeptLaw K.failed S.flushes }
+{}
+
+/// A disk that is only read asks nothing but reads of what stands under it. (This project's.)
+pub fn reading_laws<S: Sectors>()
+    ensures { OnlyReadsLaw S.reads }
+{}
+
+/// With which cache a store is opened that may have been stopped: with its own where its stale sectors have room; and where nothing is written, with that one or with just as many entries as it was refused for. (This
+/// project's.)
+pub fn cache_laws<S: Store>()
+    ensures own { OwnCacheLaw S.held S.honest }
+    ensures unwritten { UnwrittenCacheLaw S.held S.honest }
 {}
 
 /// Which refusals of the device are `NoSpace` and `ReadOnly`: `OutOfMemory` alone is the one; those after which no change is taken any more are the
