@@ -121,20 +121,20 @@ spelled_law g p r = (says_is g p r, λ h. says_broken g p true h.broken ∙ (ap 
 
 -- ---- newer
 
-none_is : {o : Option ℕ} {s : ℕ} → o ≡ None → o ≡ Some s → ⊥
+pub none_is : {o : Option ℕ} {s : ℕ} → o ≡ None → o ≡ Some s → ⊥
 none_is a b = cc
 
-same_of : {o : Option ℕ} {s t : ℕ} → o ≡ Some s → o ≡ Some t → s ≡ t
+pub same_of : {o : Option ℕ} {s t : ℕ} → o ≡ Some s → o ≡ Some t → s ≡ t
 same_of a b = cc
 
-past : (ms : List (Option Record)) (key : Key) (q s : ℕ) → sequence_at ms key q ≡ Some s → q < length ms
+pub past : (ms : List (Option Record)) (key : Key) (q s : ℕ) → sequence_at ms key q ≡ Some s → q < length ms
 past ms key q s e = elim (cases_lt q (length ms)) [
   | inl l ↦ l
   | inr le ↦ absurd (none_is ((sequence_at_past ms key).all q le) e)
 ]
 
 -- each page that is known has an earlier sequence
-before_all : (ms : List (Option Record)) (key : Key) (n : ℕ) (l : Latest) → Says (sequence_at ms key) (length ms) l → is_after n l ≡ true → (row s : ℕ) → sequence_at ms key row ≡ Some s → s < n
+pub before_all : (ms : List (Option Record)) (key : Key) (n : ℕ) (l : Latest) → Says (sequence_at ms key) (length ms) l → is_after n l ≡ true → (row s : ℕ) → sequence_at ms key row ≡ Some s → s < n
 before_all ms key n latest.Never d e row s at = absurd (none_is (d.all row (past ms key row s at)) at)
 before_all ms key n (latest.Once place t) d e row s at = elim (cases_eq row place) [
   | inl same ↦ (let value : t ≡ s = same_of d.here (ap (sequence_at ms key) (sym same) ∙ at) in let less = ltb-true t n e in omega arith)
@@ -142,7 +142,7 @@ before_all ms key n (latest.Once place t) d e row s at = elim (cases_eq row plac
 ]
 before_all ms key n (latest.Tied a b t) d e row s at = (let le = d.all row s (past ms key row s at) at in let less = ltb-true t n e in omega arith)
 
-after_all : (ms : List (Option Record)) (key : Key) (n : ℕ) (l : Latest) → Says (sequence_at ms key) (length ms) l → ((row s : ℕ) → sequence_at ms key row ≡ Some s → s < n) → is_after n l ≡ true
+pub after_all : (ms : List (Option Record)) (key : Key) (n : ℕ) (l : Latest) → Says (sequence_at ms key) (length ms) l → ((row s : ℕ) → sequence_at ms key row ≡ Some s → s < n) → is_after n l ≡ true
 after_all ms key n latest.Never d h = refl
 after_all ms key n (latest.Once place t) d h = lt-ltb t n (h place t d.here)
 after_all ms key n (latest.Tied a b t) d h = lt-ltb t n (h a t d.at_first)
