@@ -1,6 +1,6 @@
 -- Pages that are not sound and are shown where they are newer.
-use Rattle.std.proofs.Common.{◌≡◌, ◌≢◌, inl, inr, ℕ, zero, suc, ◌+◌, ◌<◌, ◌≤◌, ◌↔◌, List, length, get_or, map, Option, Some, None, Bool, true, false, refl, sym, ap, ◌∙◌, subst, arith, slice_get, cond, ltb}
-use Rattle.std.proofs.lemmas.Bool.{cases_eq, cases_lt, cond_both, ltb-true, ltb-false}
+use Rattle.std.proofs.Common.{◌≡◌, inl, inr, ℕ, zero, suc, ◌<◌, ◌≤◌, ◌↔◌, List, length, get_or, Option, Some, None, Bool, true, false, refl, sym, ap, ◌∙◌, subst, arith, slice_get, cond, ltb}
+use Rattle.std.proofs.lemmas.Bool.{cases_eq, cases_lt, cond_both, ltb-true}
 use Rattle.std.proofs.lemmas.List.{get_or-map, get_or_past, length-map}
 use Rattle.std.proofs.lemmas.Option.{slice_get_cases, slice_get_within, slice_get-get_or}
 use Rattle.page_layout.specs.declared.geometry.Geometry.{Geometry}
@@ -12,22 +12,20 @@ use Rattle.page_layout.specs.declared.newest.Latest.TheVariants.{Never, Once, Ti
 use Rattle.page_layout.specs.Greatest.{best, place_of, step}
 use Rattle.page_layout.specs.Page.{Page, Image}
 use Rattle.page_layout.specs.Sound.{record_of, spelled}
-use Rattle.page_layout.specs.Key.{key_of}
 use Rattle.page_layout.specs.Newest.{latest_below, sequence_at}
 use Rattle.page_layout.specs.Array.{marks, content_at, content_of_kind, content_of_record, sector_of}
 use Rattle.page_layout.specs.Block.{is_broken}
 use Rattle.page_layout.proofs.ArrayLemmas.{latest-newest, length-marks}
 use Rattle.page_layout.proofs.GreatestLemmas.{Says, best_says}
-use Rattle.page_layout.proofs.NewestLemmas.{IsOf, sequence_at-is, sequence_at-key}
-use Rattle.lab_dump.specs.declared.held.Shown.{Shown}
+use Rattle.page_layout.proofs.NewestLemmas.{sequence_at-is, sequence_at-key}
 use Rattle.lab_dump.specs.declared.held.Shown.TheVariants as shown
-use Rattle.lab_dump.specs.Damaged.{DamagedLaw, IsSaidNewer, IsShown, OtherwiseLaw, Place, Broken, Nowhere, Whole, content_in, damaged_sector, over, placed, said_content, said_marks, said_reads, shown_place}
+use Rattle.lab_dump.specs.Damaged.{DamagedLaw, IsSaidNewer, IsShown, OtherwiseLaw, Broken, content_in, damaged_sector, over, placed, said_content, said_marks, said_reads, shown_place}
 use Rattle.lab_dump.specs.Held.{shown_by, shown_with}
 use Rattle.lab_dump.specs.Said.{is_after, says}
 use Rattle.lab_dump.specs.Until.{counted, until}
 use Rattle.lab_dump.specs.Written.{MarkedLaw, damaged_state, state_of}
 use Rattle.lab_dump.proofs.SaidLemmas.{after_all, before_all, none_is, past, same_of, says_is, says_whole}
-use Rattle.lab_dump.proofs.UntilLemmas.{counted_was, until_size}
+use Rattle.lab_dump.proofs.UntilLemmas.{until_size}
 use Rattle.lab_dump.proofs.WritingLemmas.{sound_whole}
 
 -- ---- one page

@@ -13,7 +13,7 @@ use Rattle.page_layout.specs.Geometry.{row_count}
 use Rattle.page_layout.specs.Page.{Image}
 use Rattle.page_layout.specs.Raw.{raw_image}
 use Rattle.page_layout.specs.Greatest.{place_of}
-use Rattle.page_layout.specs.Newest.{latest_below, sequence_at}
+use Rattle.page_layout.specs.Newest.{latest_below}
 use Rattle.page_layout.specs.Array.{marks, content_at, sector_of, array_of}
 use Rattle.page_layout.proofs.RawLemmas.{length-raw_image}
 use Rattle.page_layout.proofs.ArrayLemmas.{latest-newest, length-marks, scan_tied, scan_never, scan_once}
@@ -31,7 +31,7 @@ use Rattle.lab_dump.specs.declared.doubts.Unsettled.{Unsettled}
 use Rattle.lab_dump.specs.Doubting.{IsDoubting}
 use Rattle.lab_dump.specs.Until.{until}
 use Rattle.lab_dump.specs.Writing.{content_below, AreSized, ReadBelow, Stands, ShowsDamaged, ShowsSound}
-use Rattle.lab_dump.specs.Damaged.{array_with, content_in, damaged_array, damaged_sector, over, place_by, placed, said_marks, said_reads, shown_place}
+use Rattle.lab_dump.specs.Damaged.{content_in, damaged_array, damaged_sector, over, place_by, placed, said_marks, said_reads, shown_place}
 use Rattle.lab_dump.specs.Written.{IsLeft, IsWritten, TiedLaw, UnmarkedLaw, damaged_state, damaged_states, state_of, states_of}
 use Rattle.lab_dump.proofs.UntilLemmas.{until_size}
 

@@ -1,4 +1,4 @@
-use Rattle.std.proofs.Common.{◌≡◌, ◌∙◌, ap, is_some, sym}
+use Rattle.std.proofs.Common.{◌∙◌, ap, is_some, sym}
 use Rattle.page_layout.specs.Page.{page}
 use Rattle.lab_dump.proofs.CountLemmas.{broken_of, whole_erased, whole_sound}
 use Rattle.lab_dump.proofs.SaidLemmas.{says_so, says_whole}

@@ -1,4 +1,4 @@
-use Rattle.std.proofs.Common.{◌≡◌, ◌∙◌, ◌+◌, ℕ, Option, None, Some, ap, refl, sym, subst}
+use Rattle.std.proofs.Common.{◌≡◌, ◌∙◌, ◌+◌, ℕ, Option, None, Some, ap, sym, subst}
 use Rattle.page_layout.specs.Array.{marks}
 use Rattle.page_layout.specs.Page.{page}
 use Rattle.page_layout.specs.Sound.{record_of}

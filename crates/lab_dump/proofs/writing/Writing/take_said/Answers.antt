@@ -1,7 +1,7 @@
-use Rattle.std.proofs.Common.{◌≡◌, ◌∙◌, sym, ap, subst, arith, IfSome, ◌+◌, set, Some}
+use Rattle.std.proofs.Common.{◌∙◌, sym, subst, IfSome, ◌+◌, set}
 use Rattle.std.proofs.lemmas.List.{length-set}
 use Rattle.page_layout.specs.Array.{content_of_kind}
-use Rattle.lab_dump.specs.Writing.{AreSized, Shows, sector_in}
+use Rattle.lab_dump.specs.Writing.{AreSized, Shows}
 use Rattle.lab_dump.proofs.WritingLemmas.{other_none, unmarked_none, nothing_noted, said_noted, says_sector, sized_after, within_is}
 use Rattle.lab_dump.proofs.writing.Writing.take_said.Goals as goal
 

@@ -1,9 +1,9 @@
-use Rattle.std.proofs.Common.{◌≡◌, ◌∙◌, sym, ap, subst, arith, IfSome, ◌+◌, set, Some}
+use Rattle.std.proofs.Common.{◌∙◌, sym, ap, subst, IfSome, ◌+◌, set}
 use Rattle.std.proofs.lemmas.List.{length-set}
 use Rattle.page_layout.specs.Array.{content_of_kind, zeros}
 use Rattle.page_layout.proofs.ArrayLemmas.{mark-page}
 use Rattle.lab_dump.specs.Held.{pieces_after}
-use Rattle.lab_dump.specs.Writing.{AreSized, Shows, sector_in}
+use Rattle.lab_dump.specs.Writing.{AreSized, Shows}
 use Rattle.lab_dump.proofs.WritingLemmas.{other_none, unmarked_none, nothing_noted, sound_noted, holds, sized_after, within_is}
 use Rattle.lab_dump.proofs.writing.Writing.take_sound.Goals as goal
 
