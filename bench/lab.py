@@ -37,6 +37,8 @@ FORMS = random.Random("forms")
 SEEN = set()
 # how many dumps fitted as they stand, with codes, or both ways
 FITTED = collections.Counter()
+# how many sectors were shown of one unsound page, of a trim, or of the first of several
+SHOWN = collections.Counter()
 # how many sectors had no page, one, two, or more
 FOUND = collections.Counter()
 
@@ -87,6 +89,8 @@ def line_of(told, outside, rewritten):
         return "page row {row} block {block} sequence {sequence} version {version} {kind}".format(**told)
     if kind == "history":
         return history_text(told["pages"], told["unsound"])
+    if kind == "damaged":
+        return damaged_text(told["damaged"])
     if kind == "legible":
         return legible_text(told["legible"], told["others"])
     if kind == "says":
@@ -140,6 +144,10 @@ def history_text(pages, unsound):
 
 def says_text(row, kind, number, sequence, newer):
     return f"unsound row {row} says {kind} {number} sequence {sequence} {'newer' if newer else 'not newer'}"
+
+
+def damaged_text(count):
+    return f"damaged {count}: so many sectors are shown as an unsound page reads, nothing sound being newer"
 
 
 def legible_text(legible, others):
@@ -227,6 +235,37 @@ def as_of(image, last):
     return counts
 
 
+def damaged_rows(image, last=None):
+    """Of each sector that some unsound page says, with a greater sequence than each sound page of it, the row of such a page: that of the greatest
+    sequence, and of several the first. Of pages of a later sequence than `last` none counts."""
+    said = {}
+    for row in range(image.g.rows):
+        says = said_by(image, row)
+        if says is not None and says.key()[0] == "sector" and (last is None or says.sequence <= last):
+            said.setdefault(says.number, []).append((says.sequence, row))
+    counts, shown = as_of(image, last), {}
+    for n, pages in said.items():
+        top = max(sequence for sequence, _ in pages)
+        rows = [row for sequence, row in pages if sequence == top]
+        if all(counts.records[row].sequence < top for row in counts.of_key("sector", n)):
+            shown[n] = rows[0]
+            SHOWN["trim" if said_by(image, rows[0]).kind == 2 else "tied" if len(rows) > 1 else "one"] += 1
+    return shown
+
+
+def break_some(rng, image):
+    """Some sound pages lose their seal, by three bits of the data area or of the seal; some of them stand twice then, with other data."""
+    g, rows = image.g, [r for r, x in enumerate(image.records) if x is not None]
+    for row in rng.sample(rows, min(len(rows), rng.choice([0, 1, 4, 12]))):
+        data, spare = bytearray(image.data[row]), bytearray(image.spare[row])
+        area, first = rng.choice([(data, 0), (data, 0), (spare, 24)])
+        for at in rng.sample(range(first, len(data) if area is data else 32), 3):
+            area[at] ^= 1 << rng.randrange(8)
+        compare.spoil(image, row, bytes(data), bytes(spare))
+        if rng.random() < 0.2:
+            compare.spoil(image, rng.randrange(g.rows), rng.randbytes(g.data), bytes(spare))
+
+
 def some_sequence(rng, image):
     """A sequence that is asked for: mostly one that some page has, or the next."""
     if rng.random() < 0.5:
@@ -235,28 +274,34 @@ def some_sequence(rng, image):
     return min(2**64 - 1, max(0, rng.choice(sequences) + rng.choice([0, 0, -1, 1])))
 
 
-def array_of(image, last=None):
-    """The sectors as of a sequence, where one is said, and the report."""
+def array_of(image, last=None, damaged=False):
+    """The sectors as of a sequence, where one is said, with pages shown that are not sound where that is asked for, and the report."""
     whole, image = image, as_of(image, last)
     g, sectors, told = image.g, [], ""
+    shown = damaged_rows(whole, last) if damaged else {}
     for n in range(g.sectors):
+        if n in shown:
+            sectors.append(whole.data[shown[n]] if said_by(whole, shown[n]).kind == 1 else bytes(g.data))
+            continue
         try:
             sectors.append(ref.sector(image, n))
         except ref.Refused:
             sectors.append(bytes(g.data))
             told += f"tied sector {n}\n"
+    told += damaged_text(len(shown)) + "\n" if shown else ""
     told += said_lines(whole, True) * (last is None) + age_lines(whole, last)
     return b"".join(sectors), told
 
 
-def map_of(image):
-    """The map of the array: the areas of OUT whose sectors stand alike."""
+def map_of(image, last=None, damaged=False):
+    """The map of the array: the areas of OUT whose sectors are shown alike."""
     g, position = image.g, 0
-    signs = {"found": "+", "tied": "-", "absent": "?"}
+    signs = {"found": "+", "tied": "-", "damaged": "-", "absent": "?"}
     text = "# Mapfile of an array, made by nandlab\n0x0 + 1\n"
-    for sign, area in itertools.groupby(signs[key_state(image, "sector", n)] for n in range(g.sectors)):
+    shown, counts = damaged_rows(image, last) if damaged else {}, as_of(image, last)
+    for state, area in itertools.groupby("damaged" if n in shown else key_state(counts, "sector", n) for n in range(g.sectors)):
         size = g.data * len(list(area))
-        text += f"{position:#x} {size:#x} {sign}\n"
+        text += f"{position:#x} {size:#x} {signs[state]}\n"
         position += size
     assert position == g.sectors * g.data
     return text
@@ -563,6 +608,7 @@ def stored(rng, folder, words, want, out, extra=None):
 
 def case(rng, folder):
     g, image = dump_for(rng)
+    break_some(rng, image)
     raw = image.raw()
     cut = rng.random()
     if cut < 0.05:
@@ -570,11 +616,11 @@ def case(rng, folder):
     elif cut < 0.1:
         raw += b"\0"
     (folder / "dump.bin").write_bytes(raw)
-    last = some_sequence(rng, image)
-    words, extra = ["array", g.words(), "dump.bin", "out.bin", *([] if last is None else ["--until", str(last)])], {}
+    last, damaged = some_sequence(rng, image), rng.random() < 0.6
+    words, extra = ["array", g.words(), "dump.bin", "out.bin", *([] if last is None else ["--until", str(last)]), *["--damaged"] * damaged], {}
     if rng.random() < 0.5:
-        words, extra = [*words, "--map", "out.map"], {"out.map": map_of(as_of(image, last)).encode()}
-    out, told = array_of(image, last)
+        words, extra = [*words, "--map", "out.map"], {"out.map": map_of(image, last, damaged).encode()}
+    out, told = array_of(image, last, damaged)
     want = (0, told, "") if len(raw) == g.rows * g.page else (1, "", "refused image 1 WrongLength\n")
     stored(rng, folder, words, want, out, extra)
 
@@ -867,6 +913,8 @@ def refusals(folder):
         (["array", "64,32,8,32,32", "none.bin", "dump.bin", "--until", "18446744073709551616"], (2, "", "usage: bad number 18446744073709551616\n")),
         (["array", "64,32,8,32,32", "none.bin", "out.bin", "--until", ""], (2, "", "usage: bad number \n")),
         (["array", "64,32,8,32,32", "none.bin", "out.bin", "--until"], (2, "", NONE)),
+        (["survey", "64,32,8,32,32", "dump.bin", "--damaged"], (2, "", NONE)),
+        (["array", "64,32,8,32,32", "none.bin", "out.bin", "--damaged", "yes"], (2, "", NONE)),
         (["survey", "64,32,8,32,32", "dump.bin", "--force"], (2, "", NONE)),
         (["compare", "64,32,8,32", "die.cert", "dump.bin"], (2, "", "usage: bad number 64,32,8,32\n")),
         (["compare", "63,32,8,32,32", "die.cert", "dump.bin"], (1, "", "refused geometry 1 DataSize\n")),
@@ -953,6 +1001,7 @@ def times(folder):
         ["history", g.words(), "dump.bin", "7"],
         ["array", g.words(), "dump.bin", "out.bin", "--force"],
         ["array", g.words(), "dump.bin", "out.bin", "--force", "--until", str(g.rows // 2)],
+        ["array", g.words(), "dump.bin", "out.bin", "--force", "--damaged"],
         ["compare", g.words(), "die.cert", "dump.bin"],
         ["merge", g.words(), "out.bin", "dump.bin", "dump.bin", "--force"],
         ["repair", g.words(), "dump.bin", "out.bin", "--force"],
@@ -981,6 +1030,7 @@ def main():
             correct_case(random.Random(f"correct {seed}.{i}"), folder)
         assert cases < 100 or SEEN == {"factory", "rewritten", "holes", "outside", "none", "newer", "not newer"}, SEEN
         assert cases < 100 or set(FITTED) == {"plain", "coded", "coded+plain", "none"}, FITTED
+        assert cases < 100 or set(SHOWN) == {"one", "trim", "tied"}, SHOWN
         assert cases < 100 or set(FOUND) == {0, 1, 2, 3}, FOUND
         print(f"each of the eight commands over {cases} dumps agrees with the reference, and the refusals; geometry over {dict(FITTED)}")
 

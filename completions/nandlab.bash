@@ -17,7 +17,7 @@ _nandlab()
         case "${COMP_WORDS[1]}" in
             geometry) mapfile -t COMPREPLY < <(compgen -W "--json --progress --help" -- "$word") ;;
             survey) mapfile -t COMPREPLY < <(compgen -W "--rows --json --progress --help" -- "$word") ;;
-            array) mapfile -t COMPREPLY < <(compgen -W "--force --map --until --json --progress --help" -- "$word") ;;
+            array) mapfile -t COMPREPLY < <(compgen -W "--force --map --until --damaged --json --progress --help" -- "$word") ;;
             history) mapfile -t COMPREPLY < <(compgen -W "--json --progress --help" -- "$word") ;;
             compare) mapfile -t COMPREPLY < <(compgen -W "--json --progress --help" -- "$word") ;;
             merge) mapfile -t COMPREPLY < <(compgen -W "--force --json --progress --help" -- "$word") ;;

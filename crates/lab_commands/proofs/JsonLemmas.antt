@@ -17,7 +17,7 @@ use Rattle.serde_json.specs.Data.{boolean}
 use Rattle.lab_dump.specs.declared.said.SaidPage.{SaidPage}
 use Rattle.lab_dump.specs.Doubts.{most_older}
 use Rattle.lab_mend.specs.declared.merging.Tally.{Tally}
-use Rattle.lab_commands.specs.Values.{age_data, age_until_data, arranged_data, block_data, corrected_data, doubt_data, fit_members, found_data, front_words, head_data, history_data, key_data, legible_data, lost_data, lost_row_data}
+use Rattle.lab_commands.specs.Values.{age_data, age_until_data, arranged_data, block_data, corrected_data, damaged_data, doubt_data, fit_members, found_data, front_words, head_data, history_data, key_data, legible_data, lost_data, lost_row_data}
 use Rattle.lab_commands.specs.Values.{mended_count_data, mended_data, merged_data, page_data, pages_data, plain_block_data, reason_pages_data, reason_table_data, repeated_data, row_data, rows_age_data, rows_data, said_data, truth_words}
 use Rattle.std.specs.Prelude.{codes, ◌==◌, if◌then◌else◌}
 use Rattle.json.specs.Print.{escape, escape_byte, quoted}
@@ -242,6 +242,10 @@ said_json page k t r1 r2 ek et e1 e2 = rw (ek, et, e1, e2, truth_is page.newer) 
 pub legible_json : (legible others r1 : ℕ) → r1 ≡ legible → codes "{\"legible\":" ++ (decimal r1 ++ (codes ",\"line\":\"legible\",\"others\":" ++ (decimal others ++ codes "}"))) ≡ compact_text (legible_data legible others)
 unfolding escape_byte
 legible_json legible others r1 e1 = rw (e1) (refl)
+
+pub damaged_json : (sectors : ℕ) → codes "{\"damaged\":" ++ (decimal sectors ++ codes ",\"line\":\"damaged\"}") ≡ compact_text (damaged_data sectors)
+unfolding escape_byte
+damaged_json sectors = refl
 
 pub age_of_rows_json : (unsound : ℕ) (r1 : ℕ) → r1 ≡ unsound → codes "{\"line\":\"rows_age\",\"unsound\":" ++ (decimal r1 ++ codes "}") ≡ compact_text (rows_age_data unsound)
 unfolding escape_byte

@@ -5,7 +5,7 @@ use Rattle.std.specs.Io.KnownBytes.{Appends, Keeps}
 use Rattle.page_layout.specs.declared.geometry.Geometry.{Geometry}
 use Rattle.lab_dump.specs.declared.doubts.Unsettled.{Unsettled}
 use Rattle.lab_dump.specs.declared.held.Held.{Held}
-use Rattle.lab_dump.specs.Held.{state_in}
+use Rattle.lab_dump.specs.Held.{shown_in}
 use Rattle.lab_dump.specs.Written.{IsWritten}
 use Rattle.lab_dump.specs.Map.{map_text}
 use Rattle.lab_commands.specs.Reports.{array_text}
@@ -31,18 +31,18 @@ abbrev pub AreAllowed : Answers → ArrayWords → Type 0
 AreAllowed a words = IsAllowed a words × AllowsMap a words
 
 -- the pieces are made of a dump that reads so: where its bytes are known the pieces and the states are those of the image that they are, as of a
--- sequence where one is said, and what is left open is that image's
-pub record IsMade (a : Answers) (path : List ℕ) (g : Geometry) (last : Option ℕ) (pieces : Option (List (List ℕ))) (held : List Held) (left : Unsettled) : Type 0 where
+-- sequence where one is said, with pages shown that are not sound where that is asked for, and what is left open is that image's
+pub record IsMade (a : Answers) (path : List ℕ) (g : Geometry) (last : Option ℕ) (damaged : Bool) (pieces : Option (List (List ℕ))) (held : List Held) (left : Unsettled) : Type 0 where
   pub known : Option (List ℕ)
   pub opened : IsOpened a path known
-  pub made : IfSome known (IsWritten g last pieces held left)
+  pub made : IfSome known (IsWritten g last damaged pieces held left)
 
 -- the array was made beside OUT, with these states and what is left open
 pub record MadeArray (a : Answers) (words : UntilWords) (g : Geometry) (last : Option ℕ) (pieces : Option (List (List ℕ))) (held : List Held) (left : Unsettled) : Type 0 where
   pub geometry_is : IsGeometryAt words.array.geometry.now g
   pub last_is : IsLastAt words.until last
   pub allowed : AreAllowed a words.array
-  pub made : IsMade a words.array.dump.now g last pieces held left
+  pub made : IsMade a words.array.dump.now g last words.damaged pieces held left
 
 -- the files once a map was put in the place of FILE, where one is wanted
 abbrev pub with_map : Option Store → ArrayWords → List ℕ → Option Store
@@ -52,7 +52,7 @@ with_map kept words text = option_map_or (λ file. with_kept kept file.now (Some
 pub record PutArray (a : Answers) (words : UntilWords) (before after : Option Store) (g : Geometry) (last : Option ℕ) (held : List Held) (left : Unsettled) : Type 0 where
   pub pieces : Option (List (List ℕ))
   pub made : MadeArray a words g last pieces held left
-  pub put : after ≡ with_map (with_kept before words.array.out.now pieces words.array.force) words.array (map_text g (map state_in held))
+  pub put : after ≡ with_map (with_kept before words.array.out.now pieces words.array.force) words.array (map_text g (map shown_in held))
 
 -- and the report printed
 pub record WroteArray (a : Answers) (words : UntilWords) (before after : Option Store) (out printed : Option (List ℕ)) : Type 0 where
@@ -61,7 +61,7 @@ pub record WroteArray (a : Answers) (words : UntilWords) (before after : Option 
   pub held : List Held
   pub left : Unsettled
   pub put : PutArray a words before after g last held left
-  pub told : Appends out printed (array_text (form_of words.array.showing) g last (map state_in held) left)
+  pub told : Appends out printed (array_text (form_of words.array.showing) g last (map shown_in held) left)
 
 -- ---- not done
 
@@ -125,4 +125,4 @@ IsArrayFault a words before after opens opened broke out printed told =
     (LeavesAll before after out printed × IsUndone a words opens opened told)
     ⊎ PutUnmapped a words before after out printed told
     ⊎ ((g : Geometry) × (last : Option ℕ) × (held : List Held) × (left : Unsettled) × PutArray a words before after g last held left
-    × IsHalfPrinted broke out printed (array_text (form_of words.array.showing) g last (map state_in held) left) told)
+    × IsHalfPrinted broke out printed (array_text (form_of words.array.showing) g last (map shown_in held) left) told)

@@ -5,6 +5,8 @@ use Rattle.std.specs.Option.{is_none}
 use Rattle.certificate.specs.declared.block_state.BlockState.{BlockState}
 use Rattle.lab_dump.specs.declared.held.State.{State}
 use Rattle.lab_dump.specs.declared.held.State.TheVariants as state
+use Rattle.lab_dump.specs.declared.held.Shown.{Shown}
+use Rattle.lab_dump.specs.declared.held.Shown.TheVariants as shown
 use Rattle.lab_dump.specs.declared.fit.Fit.{Fit}
 use Rattle.lab_dump.specs.declared.fit.TableSays.{TableSays}
 use Rattle.lab_dump.specs.declared.fit.TableSays.TheVariants.{Agrees, Short, Silent, Differs}
@@ -164,6 +166,10 @@ abbrev pub legible_words : ℕ → ℕ → List ℕ
 legible_words legible others =
     codes "legible " ++ (decimal legible ++ (codes ": if what these pages say is so, at most " ++ (decimal others ++ codes " sectors may be older that are not said newer here")))
 
+-- how many sectors are shown as pages have them that are not sound
+abbrev pub damaged_words : ℕ → List ℕ
+damaged_words n = codes "damaged " ++ (decimal n ++ codes ": so many sectors are shown as an unsound page reads, nothing sound being newer")
+
 -- how many pages of a sector are still there, and how many pages are neither erased nor sound
 abbrev pub history_words : ℕ → ℕ → List ℕ
 history_words pages unsound = codes "history " ++ (decimal pages ++ (codes " unsound " ++ (decimal unsound ++ codes ": of what is still there, newest first")))
@@ -202,6 +208,7 @@ line_words (Holes n) = codes "holes " ++ decimal n
 line_words (Outside n) = codes "outside " ++ decimal n
 line_words (line.Says page) = said_words page
 line_words (line.Legible legible others) = legible_words legible others
+line_words (line.Damaged n) = damaged_words n
 
 -- ---- which lines there are
 
@@ -249,6 +256,11 @@ newer_line last page = if page.newer && is_none last then Some (line.Says page) 
 abbrev pub legible_line : Option ℕ → ℕ → ℕ → Option Line
 legible_line last legible others = if is_none last && not (legible == 0) then Some (line.Legible legible others) else None
 
+-- the sectors that are shown as pages have them that are not sound, where there are some
+abbrev pub damaged_line : ℕ → Option Line
+damaged_line zero = None
+damaged_line (suc n) = Some (line.Damaged (suc n))
+
 -- the rows that were asked for, where not all are
 abbrev pub rows_line : Option Rows → Option Line
 rows_line rows = option_map OfRows rows
@@ -272,10 +284,11 @@ key_line label.Translation number state.Absent = Some (Missing label.Translation
 key_line label.Table number state.Absent = Some (Missing label.Table number)
 
 -- a sector of which two pages share the greatest sequence
-abbrev pub tie_line : ℕ → State → Option Line
-tie_line n state.Absent = None
-tie_line n state.Found = None
-tie_line n state.Tied = Some (Tied label.Sector n)
+abbrev pub tie_line : ℕ → Shown → Option Line
+tie_line n shown.Absent = None
+tie_line n shown.Found = None
+tie_line n shown.Damaged = None
+tie_line n shown.Tied = Some (Tied label.Sector n)
 
 -- a block, with its state where that is known
 abbrev pub block_line : ℕ → Option BlockState → ℕ → Option Line

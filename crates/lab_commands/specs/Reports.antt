@@ -5,7 +5,9 @@ use Rattle.page_layout.specs.Geometry.{translation_pages, table_pages}
 use Rattle.certificate.specs.declared.block_state.BlockState.{BlockState}
 use Rattle.lab_dump.specs.declared.held.State.{State}
 use Rattle.lab_dump.specs.declared.held.State.TheVariants as state
-use Rattle.lab_dump.specs.Held.{state_in}
+use Rattle.lab_dump.specs.declared.held.Shown.{Shown}
+use Rattle.lab_dump.specs.declared.held.Shown.TheVariants as shown
+use Rattle.lab_dump.specs.Held.{damaged_of, shown_in}
 use Rattle.lab_dump.specs.declared.compare.Compared.{Compared}
 use Rattle.lab_mend.specs.declared.merging.Tally.{Tally}
 use Rattle.lab_correct.specs.declared.correcting.Loss.{Loss}
@@ -26,7 +28,7 @@ use Rattle.lab_commands.specs.declared.lists.Lines.TheVariants as lists
 use Rattle.lab_commands.specs.declared.lines.Line.TheVariants as line
 use Rattle.lab_commands.specs.declared.document.Form.{Form}
 use Rattle.lab_commands.specs.Document.{head_text, if_text, line_text, tail_text, text_below}
-use Rattle.lab_commands.specs.Lines.{age_line, block_line, factory_line, hole_line, key_line, last_line, legible_line, lost_line, newer_line, outside_line, page_line, past_line, repeated_line, rewritten_line, rows_line, table_line, tie_line}
+use Rattle.lab_commands.specs.Lines.{age_line, block_line, damaged_line, factory_line, hole_line, key_line, last_line, legible_line, lost_line, newer_line, outside_line, page_line, past_line, repeated_line, rewritten_line, rows_line, table_line, tie_line}
 
 -- ---- lists
 
@@ -47,8 +49,8 @@ block_at states unsound b = block_line b (state_at states b) (get_or unsound b 0
 abbrev pub lost_at : List Bool → ℕ → Option Line
 lost_at lost n = lost_line n (get_or lost n false)
 
-abbrev pub tie_at : List State → ℕ → Option Line
-tie_at states n = tie_line n (get_or states n state.Absent)
+abbrev pub tie_at : List Shown → ℕ → Option Line
+tie_at states n = tie_line n (get_or states n shown.Absent)
 
 abbrev pub page_at : Geometry → List SectorPage → ℕ → Option Line
 page_at g pages n = option_map (page_line g) (slice_get pages n)
@@ -86,7 +88,7 @@ line_at (lists.Keys of states from count) = key_at of states.now from
 line_at (lists.Tables states from formed count) = table_at states.now from formed.now
 line_at (lists.Blocks survey count) = block_at (option_map (λ states. states.items) survey.now.blocks) survey.now.unsound.items
 line_at (lists.Losses lost count) = lost_at lost.now
-line_at (lists.Ties held count) = tie_at (map state_in held.now)
+line_at (lists.Ties held count) = tie_at (map shown_in held.now)
 line_at (lists.Pages g pages) = page_at g.now pages.now
 line_at (lists.Fits fits) = fit_at fits.now
 line_at (lists.Mends mends) = mend_at mends.now
@@ -181,12 +183,12 @@ losses_text form g lost = text_below form (lost_at lost) g.sectors
 abbrev pub compare_text : Form → Geometry → Compared → List ℕ
 compare_text form g told = head_text form (codes "compare") ++ (losses_text form g told.lost.items ++ (left_text form None told.left ++ tail_text form))
 
--- the sectors that are tied, by how all sectors stand
-abbrev pub ties_text : Form → Geometry → List State → List ℕ
-ties_text form g states = text_below form (tie_at states) g.sectors
+-- the sectors that are tied, and how many are shown as pages have them that are not sound, by how all sectors are shown
+abbrev pub ties_text : Form → Geometry → List Shown → List ℕ
+ties_text form g states = text_below form (tie_at states) g.sectors ++ if_text form (damaged_line (damaged_of states))
 
 -- of an array, as of a sequence where one is said
-abbrev pub array_text : Form → Geometry → Option ℕ → List State → Unsettled → List ℕ
+abbrev pub array_text : Form → Geometry → Option ℕ → List Shown → Unsettled → List ℕ
 array_text form g last states left = head_text form (codes "array") ++ (ties_text form g states ++ (left_text form last left ++ tail_text form))
 
 -- of the sound pages of a sector, beside so many pages that are neither erased nor sound

@@ -154,6 +154,10 @@ said_data page =
 abbrev pub legible_data : ℕ → ℕ → Data
 legible_data legible others = object (member (codes "legible") (count legible) (member (codes "line") (text (codes "legible")) (member (codes "others") (count others) no_members)))
 
+-- how many sectors are shown as pages have them that are not sound
+abbrev pub damaged_data : ℕ → Data
+damaged_data n = object (member (codes "damaged") (count n) (member (codes "line") (text (codes "damaged")) no_members))
+
 -- how JSON writes a truth
 abbrev pub truth_words : Bool → List ℕ
 truth_words is = if is then codes "true" else codes "false"
@@ -201,3 +205,4 @@ line_data (Holes n) = doubt_data (codes "holes") n
 line_data (Outside n) = doubt_data (codes "outside") n
 line_data (line.Says page) = said_data page
 line_data (line.Legible legible others) = legible_data legible others
+line_data (line.Damaged n) = damaged_data n

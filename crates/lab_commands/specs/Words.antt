@@ -32,7 +32,7 @@ abbrev pub survey : Shape
 survey = command_of (codes "survey") (place (codes "GEOM") ∷ place (codes "DUMP") ∷ option (codes "rows") ∷ showing)
 
 abbrev pub array : Shape
-array = command_of (codes "array") (place (codes "GEOM") ∷ place (codes "DUMP") ∷ place (codes "OUT") ∷ flag (codes "force") ∷ option (codes "map") ∷ option (codes "until") ∷ showing)
+array = command_of (codes "array") (place (codes "GEOM") ∷ place (codes "DUMP") ∷ place (codes "OUT") ∷ flag (codes "force") ∷ option (codes "map") ∷ option (codes "until") ∷ flag (codes "damaged") ∷ showing)
 
 abbrev pub history : Shape
 history = command_of (codes "history") (place (codes "GEOM") ∷ place (codes "DUMP") ∷ place (codes "SECTOR") ∷ showing)
@@ -81,6 +81,7 @@ pub record IsArrayAt (rows : List Row) (read : ArrayWords) : Type 0 where
 pub record IsUntilAt (rows : List Row) (read : UntilWords) : Type 0 where
   pub array : IsArrayAt rows read.array
   pub until_is : first_of (codes "until") rows ≡ option_map (λ word. word.now) read.until
+  pub damaged_is : stood (count_of (codes "damaged") rows) ≡ read.damaged
 
 -- those of the words of `history` are these
 pub record IsHistoryAt (rows : List Row) (read : HistoryWords) : Type 0 where

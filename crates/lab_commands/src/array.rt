@@ -1,8 +1,11 @@
-//! The command `array GEOM DUMP OUT [--map FILE] [--until SEQUENCE]`.
-ghost use Rattle.std.specs.Prelude.{◌≡◌, OnOk, OnErr, IfOk, IfErr, false, length, map};
-ghost use Rattle.lab_dump.specs.Held.{state_in};
+//! The command `array GEOM DUMP OUT [--map FILE] [--until SEQUENCE] [--damaged]`.
+ghost use Rattle.std.specs.Prelude.{◌≡◌, OnOk, OnErr, IfOk, IfErr, IfSome, true, false, length, map, replicate};
+ghost use Rattle.page_layout.specs.Array.{zeros};
+ghost use Rattle.lab_dump.specs.Held.{shown_in};
 ghost use Rattle.lab_dump.specs.Map.{map_text};
 ghost use Rattle.lab_dump.specs.Rooms.{IsArrayRoom};
+ghost use Rattle.lab_dump.specs.Unmade as made;
+ghost use Rattle.lab_dump.specs.Written.{IsWritten};
 ghost use Rattle.lab_commands.specs.Files.{AnswersNoMore, without_part};
 ghost use Rattle.lab_commands.specs.Undone.{IsUnmade, MayWrite};
 ghost use Rattle.lab_commands.specs.Array.{AreAllowed, AreNotAllowed, IsArrayFault, IsMade, IsMapNotAllowed, IsUnmapped, WroteArray, as_map, with_map};
@@ -19,7 +22,10 @@ use crate::printing::{printer, unprinted};
 use crate::reports::print_array;
 use crate::text::LabFault;
 use crate::words::{ArrayWords, UntilWords};
-use lab_dump::{ArrayRoom, Held, Written, write_array};
+use lab_dump::{
+    ArrayRoom, DamagedTarget, DumpReader, Held, MakeFault, Unwritten, Written, write_array,
+    write_damaged,
+};
 use page_layout::geometry::Geometry;
 use std::alloc::Global;
 
@@ -82,7 +88,7 @@ fn put_map<'a, F: LabFiles>(
     files: &mut F,
 ) -> Result<(), LabFault<'a>>
     requires { length held.now ≡ geometry.now.sectors }
-    ensures ok { OnOk result (F.kept files.new ≡ with_map (F.kept files.old) words.now (map_text geometry.now (map state_in held.now))) }
+    ensures ok { OnOk result (F.kept files.new ≡ with_map (F.kept files.old) words.now (map_text geometry.now (map shown_in held.now))) }
     ensures fault { IfErr result (IsUnmapped (F.answers files.old) words.now) }
     ensures kept { OnErr result (F.kept files.new ≡ F.kept files.old) }
 {
@@ -92,16 +98,41 @@ fn put_map<'a, F: LabFiles>(
     store_map(files, file, &ArrayMap { geometry, held }, words.force)
 }
 
-// Makes the array beside its place, as of a sequence where one is said.
+// Writes the array, with pages shown that are not sound where that is asked for.
+fn write_sectors<R: DumpReader, T: DamagedTarget + Drop>(
+    room: ArrayRoom,
+    dump: &mut R,
+    geometry: &Geometry,
+    last: Option<u64>,
+    damaged: bool,
+    target: T,
+) -> Result<Written<T>, Unwritten<T>>
+    requires room { IsArrayRoom geometry.now room }
+    requires pieces { IfSome (T.pieces target) (λ ps. ps ≡ replicate geometry.now.sectors (zeros geometry.now)) }
+    ensures ok { IfOk result (λ written. IfSome (R.remaining dump.old) (IsWritten geometry.now last damaged (T.pieces written.target) written.held.items written.left)) }
+    ensures sized { IfOk result (λ written. length written.held.items ≡ geometry.now.sectors) }
+    ensures err { IfErr result (λ unwritten. IfSome (R.remaining dump.old) (made.IsUnmade geometry.now unwritten.fault)) }
+    ensures source { IfErr result (λ unwritten. unwritten.fault ≡ MakeFault.Source → R.failed dump.new ≡ true) }
+    ensures target { IfErr result (λ unwritten. unwritten.fault ≡ MakeFault.Target → T.failed unwritten.target ≡ true) }
+{
+    if damaged {
+        write_damaged(room, dump, geometry, last, target)
+    } else {
+        write_array(room, dump, geometry, last, target)
+    }
+}
+
+// Makes the array beside its place, as of a sequence where one is said, with pages shown that are not sound where that is asked for.
 fn make<'a, F: LabFiles>(
     room: ArrayRoom,
     words: &ArrayWords<'a>,
     geometry: &Geometry,
     last: Option<u64>,
+    damaged: bool,
     files: &mut F,
 ) -> Result<Written<F::Target>, LabFault<'a>>
     requires { IsArrayRoom geometry.now room }
-    ensures made { IfOk result (λ written. IsMade (F.answers files.old) words.now.dump.now geometry.now last (F.Target.pieces written.target) written.held.items written.left) }
+    ensures made { IfOk result (λ written. IsMade (F.answers files.old) words.now.dump.now geometry.now last damaged (F.Target.pieces written.target) written.held.items written.left) }
     ensures sized { IfOk result (λ written. length written.held.items ≡ geometry.now.sectors) }
     ensures fault { IfErr result (IsUnmade (F.answers files.old) geometry.now words.now.dump.now words.now.out.now) }
     ensures no_more { AnswersNoMore (F.answers files.old) (F.answers files.new) }
@@ -110,7 +141,7 @@ fn make<'a, F: LabFiles>(
 {
     let mut dump = open_file(files, words.dump, progress_of(words.showing))?;
     let target = create_beside(files, words.out, geometry.sectors(), geometry.data_bytes())?;
-    match write_array(room, &mut dump, geometry, last, target) {
+    match write_sectors(room, &mut dump, geometry, last, damaged, target) {
         Ok(written) => Ok(written),
         Err(unwritten) => {
             files.discard(unwritten.target);
@@ -120,7 +151,7 @@ fn make<'a, F: LabFiles>(
 }
 
 /// The command `array`: writes every sector of the dump DUMP, of the geometry GEOM, to the file OUT, as of the sequence SEQUENCE where that is said:
-/// just the pages of this sequence or an earlier one count then. It writes the map of OUT, where that is wanted, to FILE, and prints which sectors are tied, and how far the array may be from the last write.
+/// just the pages of this sequence or an earlier one count then. Where `--damaged` stands, pages are shown that are not sound, of sectors of which they say something newer than each sound page. It writes the map of OUT, where that is wanted, to FILE, and prints which sectors are tied, and how far the array may be from the last write.
 ///
 /// # Errors
 ///
@@ -146,12 +177,13 @@ pub(crate) fn array_command<'a, F: LabFiles, W: Output>(
     let UntilWords {
         array: words,
         until,
+        damaged,
     } = words;
     let geometry = geometry_at(words.geometry)?;
     let last = last_at(until)?;
     allow_both(files, &words)?;
     let room = ArrayRoom::new(alloc, &geometry)?;
-    let written = make(room, &words, &geometry, last, files)?;
+    let written = make(room, &words, &geometry, last, damaged, files)?;
     keep(files, words.out, written.target, words.force)?;
     put_map(&words, &geometry, &written.held, files)?;
     let printer = printer(alloc, words.showing);

@@ -1,5 +1,5 @@
 //! Where a dump comes from, and where a file of sectors or pages is put.
-use lab_dump::{Dump, DumpReader, LineFault, MapWriter, PageTarget, Pieces, Target};
+use lab_dump::{DamagedTarget, Dump, DumpReader, LineFault, MapWriter, PageTarget, Pieces};
 use thiserror::Error;
 
 /// A file was not read, asked about, written or put in its place.
@@ -80,7 +80,7 @@ pub trait LabFiles {
     type Dump: Dump + Drop;
 
     /// A file of sectors or of pages that is being written.
-    type Target: Target + PageTarget + Drop;
+    type Target: DamagedTarget + PageTarget + Drop;
 
     /// What it may answer. Of the system's files it may be anything.
     ghost answers: { Self → Answers };

@@ -71,6 +71,12 @@ const UNTIL: WordRule<'static> = WordRule {
     help: "Takes the pages of this sequence or an earlier one alone: the newest of what is still there",
 };
 
+const DAMAGED: WordRule<'static> = WordRule {
+    id: "damaged",
+    kind: WordKind::Flag,
+    help: "Shows a sector as an unsound page has it that says something newer than each sound one",
+};
+
 const SECTOR: WordRule<'static> = WordRule {
     id: "SECTOR",
     kind: WordKind::Place,
@@ -104,7 +110,9 @@ const SURVEY: CommandRule<'static> = CommandRule {
 const ARRAY: CommandRule<'static> = CommandRule {
     name: "array",
     about: "Writes every sector of a dump, as a disk image",
-    words: &[GEOM, DUMP, IMAGE_OUT, FORCE, MAP, UNTIL, JSON, PROGRESS],
+    words: &[
+        GEOM, DUMP, IMAGE_OUT, FORCE, MAP, UNTIL, DAMAGED, JSON, PROGRESS,
+    ],
 };
 
 const HISTORY: CommandRule<'static> = CommandRule {

@@ -4,14 +4,14 @@ ghost use Rattle.std.specs.Fmt.{decimal};
 ghost use Rattle.lab_commands.specs.Document.{Prints};
 ghost use Rattle.lab_commands.specs.Lines.{block_line, class_words, factory_line, hole_line, key_line, label_words, last_line, lost_line, made_words, outside_line, past_line, repeated_line, rewritten_line};
 ghost use Rattle.lab_commands.specs.Lines.{rows_line, says_words, sort_words, table_line, tie_line};
-ghost use Rattle.lab_commands.specs.Lines.{age_line, age_words, block_words, corrected_words, first_words, fit_words, found_words, history_words, kind_words, legible_line, legible_words, line_words, moved_words, newer_line, newer_words, page_line, page_words, said_words, tally_words, until_words, whole_words, wrote_words};
+ghost use Rattle.lab_commands.specs.Lines.{age_line, age_words, block_words, corrected_words, first_words, fit_words, found_words, history_words, kind_words, damaged_line, damaged_words, legible_line, legible_words, line_words, moved_words, newer_line, newer_words, page_line, page_words, said_words, tally_words, until_words, whole_words, wrote_words};
 
 use crate::output::{Output, OutputFault};
 use crate::pieces::Piece::{Number, Words};
 use crate::pieces::put_pieces;
 use certificate::BlockState;
 use lab_correct::FoundFit;
-use lab_dump::{Doubts, Fit, Rows, SaidPage, SectorPage, State, TableSays, Wrote};
+use lab_dump::{Doubts, Fit, Rows, SaidPage, SectorPage, Shown, State, TableSays, Wrote};
 use lab_mend::{Made, Tally};
 use page_layout::geometry::Geometry;
 use page_layout::record::Kind;
@@ -102,6 +102,8 @@ pub enum Line {
     Says(SaidPage),
     /// So many such pages that count as unsound say something, and if that is so, so many sectors may be older of which none says something newer.
     Legible(u32, u64),
+    /// So many sectors are shown as pages have them that are not sound.
+    Damaged(u64),
 }
 
 impl Label {
@@ -514,6 +516,22 @@ fn put_legible<W: Output>(out: &mut W, legible: u32, others: u64) -> Result<(), 
     )
 }
 
+// How many sectors are shown as pages have them that are not sound.
+fn put_damaged<W: Output>(out: &mut W, sectors: u64) -> Result<(), OutputFault>
+    ensures { Prints (W.failed out.new) (W.contents out.old) (W.contents out.new) (damaged_words sectors) result }
+{
+    put_pieces(
+        out,
+        &[
+            Words("damaged "),
+            Number(sectors),
+            Words(
+                ": so many sectors are shown as an unsound page reads, nothing sound being newer",
+            ),
+        ],
+    )
+}
+
 // How many pages of some rows are neither erased nor sound.
 fn put_age_of_rows<W: Output>(out: &mut W, unsound: u32) -> Result<(), OutputFault>
     ensures { Prints (W.failed out.new) (W.contents out.old) (W.contents out.new) (codes "unsound " ++ (decimal unsound ++ codes ": of these rows alone, of others nothing is told")) result }
@@ -601,6 +619,7 @@ pub(crate) fn put_words<W: Output>(out: &mut W, line: Line) -> Result<(), Output
         Line::Outside(pages) => put_one(out, "outside ", u64::from(pages)),
         Line::Says(page) => put_says(out, page),
         Line::Legible(legible, others) => put_legible(out, legible, others),
+        Line::Damaged(sectors) => put_damaged(out, sectors),
     }
 }
 
@@ -681,6 +700,17 @@ pub(crate) fn legible_line(last: Option<u64>, legible: u32, others: u64) -> Opti
     }
 }
 
+/// The line of the sectors that are shown as pages have them that are not sound, if there are some.
+pub(crate) fn damaged_line(sectors: u64) -> Option<Line>
+    ensures { result ≡ damaged_line sectors }
+{
+    if sectors == 0 {
+        None
+    } else {
+        Some(Line::Damaged(sectors))
+    }
+}
+
 /// How far an array is from the last write, or what it is as of a sequence.
 pub(crate) fn age_line(last: Option<u64>, doubts: Doubts) -> Line
     ensures { result ≡ age_line last doubts }
@@ -747,12 +777,12 @@ pub(crate) fn key_line(of: Label, number: u32, state: State) -> Option<Line>
 }
 
 /// The line of a sector that is tied.
-pub(crate) fn tie_line(sector: u32, state: State) -> Option<Line>
+pub(crate) fn tie_line(sector: u32, state: Shown) -> Option<Line>
     ensures { result ≡ tie_line sector state }
 {
     match state {
-        State::Tied => Some(Line::Tied(Label::Sector, sector)),
-        State::Absent | State::Found => None,
+        Shown::Tied => Some(Line::Tied(Label::Sector, sector)),
+        Shown::Absent | Shown::Found | Shown::Damaged => None,
     }
 }
 

@@ -1,7 +1,8 @@
 //! Lists of lines, each made when it is printed.
 ghost use Rattle.std.specs.Prelude.{◌≡◌, ◌<◌, get_or, map, option_map};
+ghost use Rattle.lab_dump.specs.declared.held.Shown.TheVariants as shown;
 ghost use Rattle.lab_dump.specs.declared.held.State.TheVariants.{Absent};
-ghost use Rattle.lab_dump.specs.Held.{state_in};
+ghost use Rattle.lab_dump.specs.Held.{shown_in};
 ghost use Rattle.lab_commands.specs.Reports.{differ_at, fit_at, loss_at, mend_at, newer_at, page_at, said_at, some_at, state_at, unsound_at};
 
 use crate::lines::{
@@ -9,7 +10,7 @@ use crate::lines::{
 };
 use certificate::BlockState;
 use lab_correct::{FoundFit, Loss};
-use lab_dump::{DieSurvey, Held, SaidPage, SectorPage, State};
+use lab_dump::{DieSurvey, Held, SaidPage, SectorPage, Shown, State};
 use lab_mend::Mend;
 use page_layout::geometry::Geometry;
 
@@ -85,13 +86,13 @@ fn unsound_pages(survey: &DieSurvey, block: usize) -> u32
     survey.unsound.get(block).copied().unwrap_or(0)
 }
 
-// How a sector stands.
-fn sector_state(held: &[Held], sector: usize) -> State
-    ensures { result ≡ get_or (map state_in held.now) sector Absent }
+// How a sector is shown.
+fn sector_shown(held: &[Held], sector: usize) -> Shown
+    ensures { result ≡ get_or (map shown_in held.now) sector shown.Absent }
 {
     match held.get(sector) {
-        Some(kept) => kept.state(),
-        None => State::Absent,
+        Some(kept) => kept.shown(),
+        None => Shown::Absent,
     }
 }
 
@@ -202,7 +203,7 @@ impl Lines<'_> {
             }
             Lines::Losses(lost, count) => lost_line(narrow(number, count), flag(lost, number)),
             Lines::Ties(held, count) => {
-                tie_line(narrow(number, count), sector_state(held, number))
+                tie_line(narrow(number, count), sector_shown(held, number))
             }
             Lines::Pages(geometry, pages) => sector_page(geometry, pages, number),
             Lines::Fits(fits) => fit_line(fits, number),

@@ -13,10 +13,10 @@ pub(crate) struct ArrayMap<'a> {
 
 impl MapText for ArrayMap<'_> {
     ghost use Rattle.std.specs.Prelude.{◌≡◌, length, map};
-    ghost use Rattle.lab_dump.specs.Held.{state_in};
+    ghost use Rattle.lab_dump.specs.Held.{shown_in};
     ghost use Rattle.lab_dump.specs.Map.{map_text};
 
-    ghost text = { λ m. map_text m.geometry.now (map state_in m.held.now) };
+    ghost text = { λ m. map_text m.geometry.now (map shown_in m.held.now) };
 
     ghost whole = { λ m. length m.held.now ≡ m.geometry.now.sectors };
 

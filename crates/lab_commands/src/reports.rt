@@ -1,19 +1,19 @@
 //! What each command says.
 ghost use Rattle.std.specs.Prelude.{◌≡◌, option_map, map};
-ghost use Rattle.lab_dump.specs.Held.{state_in};
+ghost use Rattle.lab_dump.specs.Held.{shown_in};
 ghost use Rattle.lab_commands.specs.Document.{Prints, text_below};
 ghost use Rattle.lab_commands.specs.Reports.{age_text, arrange_text, array_text, blocks_text, compare_text, correct_text, count_lines, doubts_text, ending_text, fits_text, history_text, key_at, keys_text, left_text, losses_text, merge_text};
 ghost use Rattle.lab_commands.specs.Reports.{repair_text, some_text, survey_lines, survey_text, table_at, ties_text};
 
 use crate::document::{Printer, Report};
 use crate::lines::{
-    Label, Line, Sort, age_line, factory_line, hole_line, last_line, legible_line, outside_line,
-    past_line, repeated_line, rewritten_line, rows_line,
+    Label, Line, Sort, age_line, damaged_line, factory_line, hole_line, last_line, legible_line,
+    outside_line, past_line, repeated_line, rewritten_line, rows_line,
 };
 use crate::lists::Lines;
 use crate::output::{Output, OutputFault};
 use lab_correct::{FoundFit, Loss};
-use lab_dump::{Compared, DieSurvey, Held, Rows, SectorPage, State, Unsettled};
+use lab_dump::{Compared, DieSurvey, Held, Rows, SectorPage, State, Unsettled, damaged_count};
 use lab_mend::{Mend, Tally};
 use page_layout::geometry::Geometry;
 
@@ -241,20 +241,21 @@ pub fn print_compared<W: Output>(
     printer.end(out)
 }
 
-// The sectors that are tied.
+// The sectors that are tied, and how many are shown as pages have them that are not sound.
 fn print_ties<W: Output>(
     printer: Printer,
     out: &mut W,
     geometry: &Geometry,
     held: &[Held],
 ) -> Result<(), OutputFault>
-    ensures { Prints (W.failed out.new) (W.contents out.old) (W.contents out.new) (ties_text printer.form geometry.now (map state_in held.now)) result }
+    ensures { Prints (W.failed out.new) (W.contents out.old) (W.contents out.new) (ties_text printer.form geometry.now (map shown_in held.now)) result }
 {
     let count = geometry.sectors();
-    printer.list(out, &Lines::Ties(held, count))
+    printer.list(out, &Lines::Ties(held, count))?;
+    printer.line(out, damaged_line(damaged_count(held)))
 }
 
-/// Prints which sectors are tied, by what is held of each, and what the dump leaves open, of the array as of a sequence where one is said.
+/// Prints which sectors are tied, by what is held of each, how many are shown as pages have them that are not sound, and what the dump leaves open, of the array as of a sequence where one is said.
 ///
 /// # Errors
 ///
@@ -267,7 +268,7 @@ pub fn print_array<W: Output>(
     held: &[Held],
     left: &Unsettled,
 ) -> Result<(), OutputFault>
-    ensures { Prints (W.failed out.new) (W.contents out.old) (W.contents out.new) (array_text printer.form geometry.now last (map state_in held.now) left.now) result }
+    ensures { Prints (W.failed out.new) (W.contents out.old) (W.contents out.new) (array_text printer.form geometry.now last (map shown_in held.now) left.now) result }
 {
     printer.begin(out, Report::Array)?;
     print_ties(printer, out, geometry, held)?;

@@ -3,7 +3,7 @@ ghost use Rattle.std.specs.Prelude.{◌≡◌, codes};
 ghost use Rattle.serde_json.specs.Written.{compact_text};
 ghost use Rattle.lab_commands.specs.Document.{Prints};
 ghost use Rattle.lab_commands.specs.Lines.{label_words};
-ghost use Rattle.lab_commands.specs.Values.{age_data, age_until_data, arranged_data, block_data, corrected_data, doubt_data, found_data, front_words, head_data, history_data, key_data, legible_data, line_data, lost_data, lost_row_data};
+ghost use Rattle.lab_commands.specs.Values.{age_data, age_until_data, arranged_data, block_data, corrected_data, damaged_data, doubt_data, found_data, front_words, head_data, history_data, key_data, legible_data, line_data, lost_data, lost_row_data};
 ghost use Rattle.lab_commands.specs.Values.{mended_count_data, mended_data, merged_data, page_data, pages_data, plain_block_data, reason_pages_data, reason_table_data, repeated_data, row_data, rows_age_data, rows_data, said_data, truth_words};
 
 use crate::lines::{Label, Line, Sort, class_text, kind_text, made_text, says_text, wrote_text};
@@ -511,6 +511,21 @@ fn put_legible<W: Output>(out: &mut W, legible: u32, others: u64) -> Result<(), 
     )
 }
 
+// How many sectors are shown as pages have them that are not sound.
+#[tactic(auto, unfolding(json::specs::Print::escape_byte))]
+fn put_damaged<W: Output>(out: &mut W, sectors: u64) -> Result<(), OutputFault>
+    ensures { Prints (W.failed out.new) (W.contents out.old) (W.contents out.new) (compact_text (damaged_data sectors)) result }
+{
+    put_pieces(
+        out,
+        &[
+            Words("{\"damaged\":"),
+            Number(sectors),
+            Words(",\"line\":\"damaged\"}"),
+        ],
+    )
+}
+
 // How many pages of some rows alone are neither erased nor sound.
 #[tactic(auto, unfolding(json::specs::Print::escape_byte))]
 fn put_age_of_rows<W: Output>(out: &mut W, unsound: u32) -> Result<(), OutputFault>
@@ -641,5 +656,6 @@ pub(crate) fn put_object<W: Output>(out: &mut W, line: Line) -> Result<(), Outpu
         Line::Outside(pages) => put_outside(out, pages),
         Line::Says(page) => put_says(out, page),
         Line::Legible(legible, others) => put_legible(out, legible, others),
+        Line::Damaged(sectors) => put_damaged(out, sectors),
     }
 }

@@ -48,13 +48,15 @@ pub struct ArrayWords<'a> {
     pub showing: Showing,
 }
 
-/// The words of `array GEOM DUMP OUT [--map FILE] [--until SEQUENCE]`.
+/// The words of `array GEOM DUMP OUT [--map FILE] [--until SEQUENCE] [--damaged]`.
 #[derive(Clone, Copy)]
 pub struct UntilWords<'a> {
-    /// All but the last.
+    /// All but the last two.
     pub array: ArrayWords<'a>,
     /// SEQUENCE, where the array as of a sequence is wanted.
     pub until: Option<&'a str>,
+    /// Whether pages are shown that are not sound, where they are newer.
+    pub damaged: bool,
 }
 
 /// The words of `history GEOM DUMP SECTOR`.
@@ -179,6 +181,7 @@ fn until_words<'a>(found: &CommandWords<'a>) -> Option<UntilWords<'a>>
     Some(UntilWords {
         array: array_words(found)?,
         until: found.word("until"),
+        damaged: found.stands("damaged"),
     })
 }
 

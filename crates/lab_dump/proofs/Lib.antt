@@ -2,6 +2,7 @@ pub mod PageLemmas
 pub mod ScanLemmas
 pub mod RowLemmas
 pub mod WritingLemmas
+mod DamagedLemmas
 pub mod WrittenLemmas
 pub mod MapLemmas
 pub mod LostLemmas

@@ -1,11 +1,10 @@
 -- What pages say of themselves that are neither erased nor sound.
 use Rattle.std.proofs.Common.{◌≡◌, ◌≢◌, inl, inr, ℕ, zero, suc, ◌+◌, ◌-◌, ◌<◌, ◌≤◌, List, [], ◌∷◌, ◌++◌, length, get_or, map, set, take, drop, Option, Some, None}
 use Rattle.std.proofs.Common.{All, Bool, true, false, refl, sym, ap, ◌∙◌, subst, arith, slice_get, cond}
-use Rattle.std.specs.Prelude.{◌==◌, ◌&&◌, ◌||◌, not, nat_le, nat_lt, slice_index, slice_range, option_map, Contains}
-use Rattle.std.specs.Int.{w64, from_le_bytes}
+use Rattle.std.specs.Prelude.{◌==◌, ◌&&◌, ◌||◌, nat_le, nat_lt, slice_index, slice_range, option_map, Contains}
 use Rattle.std.proofs.Math.Seq.{take-length}
-use Rattle.std.proofs.lemmas.Bool.{cases_Bool, cases_eq, cases_lt, lt-ltb, le-ltb, ltb-true, true≢false}
-use Rattle.std.proofs.lemmas.List.{append_assoc, take-append-le, drop-append-le, take_at, drop_at, length-append, length-drop, get_or_append_left, append-nil, get_or-map, get_or-set_same, get_or-set_other, get_or_default, length-map, length-set, same_lists}
+use Rattle.std.proofs.lemmas.Bool.{cases_Bool, cases_eq, cases_lt, lt-ltb, ltb-true}
+use Rattle.std.proofs.lemmas.List.{append_assoc, take-append-le, drop-append-le, drop_at, length-append, length-drop, get_or_append_left, append-nil, get_or-map, get_or-set_same, get_or-set_other, get_or_default, length-map, length-set, same_lists}
 use Rattle.std.proofs.lemmas.List.Elements.{Contains-append_cases, Contains-append_left, Contains-append_right, Contains-get_or, Contains-push, Contains-push_cases}
 use Rattle.std.proofs.lemmas.Option.{slice_get_within}
 use Rattle.byteorder.specs.Endian.{little_number}
@@ -14,10 +13,10 @@ use Rattle.page_layout.specs.declared.record.Record.{Record}
 use Rattle.page_layout.specs.declared.record.Key.{Key}
 use Rattle.page_layout.specs.declared.newest.Latest.{Latest}
 use Rattle.page_layout.specs.declared.newest.Latest.TheVariants as latest
-use Rattle.page_layout.specs.Geometry.{key_count, row_count}
+use Rattle.page_layout.specs.Geometry.{row_count}
 use Rattle.page_layout.specs.Greatest.{best}
 use Rattle.page_layout.specs.Page.{Page, Image}
-use Rattle.page_layout.specs.Sound.{has_seal, is_erased_page, is_filled, kind_from, record_of, seal_end, seal_size, spelled}
+use Rattle.page_layout.specs.Sound.{has_seal, is_filled, kind_from, record_of, seal_end, seal_size, spelled}
 use Rattle.page_layout.specs.Key.{key_of}
 use Rattle.page_layout.specs.Newest.{latest_below, sequence_at}
 use Rattle.page_layout.specs.Live.{IsKeyOf}
@@ -35,7 +34,7 @@ use Rattle.lab_dump.specs.declared.trace.Trace.{Trace}
 use Rattle.lab_dump.specs.declared.trace.Trace.TheVariants.{Never, Once, Tied}
 use Rattle.lab_dump.specs.Trace.{Tells, is_before}
 use Rattle.lab_dump.specs.Doubting.{HasTraces}
-use Rattle.lab_dump.specs.Said.{IsBesideSeal, IsSaid, IsSpelled, NewerLaw, SaidLaw, SpelledLaw, WasLaw, is_after, is_newer, judged, of_die, said_below, said_by, said_in_row, said_of, says}
+use Rattle.lab_dump.specs.Said.{IsBesideSeal, IsSpelled, NewerLaw, SaidLaw, SpelledLaw, WasLaw, is_after, is_newer, judged, of_die, said_below, said_by, said_in_row, said_of, says}
 use Rattle.lab_dump.proofs.BadLemmas.{in_range, within_range}
 
 -- ---- what a spare area spells, but for its seal
@@ -121,20 +120,20 @@ spelled_law g p r = (says_is g p r, λ h. says_broken g p true h.broken ∙ (ap 
 
 -- ---- newer
 
-none_is : {o : Option ℕ} {s : ℕ} → o ≡ None → o ≡ Some s → ⊥
+pub none_is : {o : Option ℕ} {s : ℕ} → o ≡ None → o ≡ Some s → ⊥
 none_is a b = cc
 
-same_of : {o : Option ℕ} {s t : ℕ} → o ≡ Some s → o ≡ Some t → s ≡ t
+pub same_of : {o : Option ℕ} {s t : ℕ} → o ≡ Some s → o ≡ Some t → s ≡ t
 same_of a b = cc
 
-past : (ms : List (Option Record)) (key : Key) (q s : ℕ) → sequence_at ms key q ≡ Some s → q < length ms
+pub past : (ms : List (Option Record)) (key : Key) (q s : ℕ) → sequence_at ms key q ≡ Some s → q < length ms
 past ms key q s e = elim (cases_lt q (length ms)) [
   | inl l ↦ l
   | inr le ↦ absurd (none_is ((sequence_at_past ms key).all q le) e)
 ]
 
 -- each page that is known has an earlier sequence
-before_all : (ms : List (Option Record)) (key : Key) (n : ℕ) (l : Latest) → Says (sequence_at ms key) (length ms) l → is_after n l ≡ true → (row s : ℕ) → sequence_at ms key row ≡ Some s → s < n
+pub before_all : (ms : List (Option Record)) (key : Key) (n : ℕ) (l : Latest) → Says (sequence_at ms key) (length ms) l → is_after n l ≡ true → (row s : ℕ) → sequence_at ms key row ≡ Some s → s < n
 before_all ms key n latest.Never d e row s at = absurd (none_is (d.all row (past ms key row s at)) at)
 before_all ms key n (latest.Once place t) d e row s at = elim (cases_eq row place) [
   | inl same ↦ (let value : t ≡ s = same_of d.here (ap (sequence_at ms key) (sym same) ∙ at) in let less = ltb-true t n e in omega arith)
@@ -142,7 +141,7 @@ before_all ms key n (latest.Once place t) d e row s at = elim (cases_eq row plac
 ]
 before_all ms key n (latest.Tied a b t) d e row s at = (let le = d.all row s (past ms key row s at) at in let less = ltb-true t n e in omega arith)
 
-after_all : (ms : List (Option Record)) (key : Key) (n : ℕ) (l : Latest) → Says (sequence_at ms key) (length ms) l → ((row s : ℕ) → sequence_at ms key row ≡ Some s → s < n) → is_after n l ≡ true
+pub after_all : (ms : List (Option Record)) (key : Key) (n : ℕ) (l : Latest) → Says (sequence_at ms key) (length ms) l → ((row s : ℕ) → sequence_at ms key row ≡ Some s → s < n) → is_after n l ≡ true
 after_all ms key n latest.Never d h = refl
 after_all ms key n (latest.Once place t) d h = lt-ltb t n (h place t d.here)
 after_all ms key n (latest.Tied a b t) d h = lt-ltb t n (h a t d.at_first)

@@ -1,10 +1,11 @@
 -- What the pieces are once all pages were taken.
-use Rattle.std.proofs.Common.{◌≡◌, ℕ, ◌<◌, ◌↔◌, List, [], length, get_or, map, Option, Some, None, IfSome}
-use Rattle.std.proofs.Common.{refl, sym, ap, ◌∙◌, arith}
+use Rattle.std.proofs.Common.{◌≡◌, ◌≢◌, ℕ, zero, suc, ◌+◌, ◌<◌, ◌↔◌, true, false, List, [], length, get_or, map, Option, Some, None, IfSome}
+use Rattle.std.proofs.Common.{refl, sym, ap, subst, ◌∙◌, arith}
 use Rattle.std.specs.List.{range_with_len}
-use Rattle.std.proofs.lemmas.List.{same_lists, get_or-map, length-map}
+use Rattle.std.proofs.lemmas.List.{same_lists, get_or-map, get_or_default, length-map}
 use Rattle.std.proofs.lemmas.List.FromFn.{length-map-range_with_len, get_or-map-range_with_len}
 use Rattle.page_layout.specs.declared.geometry.Geometry.{Geometry}
+use Rattle.page_layout.specs.declared.record.Key.{Key}
 use Rattle.page_layout.specs.declared.record.Key.TheVariants as key
 use Rattle.page_layout.specs.declared.newest.Latest.{Latest}
 use Rattle.page_layout.specs.declared.newest.Latest.TheVariants as latest
@@ -15,98 +16,159 @@ use Rattle.page_layout.specs.Greatest.{place_of}
 use Rattle.page_layout.specs.Newest.{latest_below}
 use Rattle.page_layout.specs.Array.{marks, content_at, sector_of, array_of}
 use Rattle.page_layout.proofs.RawLemmas.{length-raw_image}
-use Rattle.page_layout.proofs.ArrayLemmas.{latest-newest, length-marks, sector_is, array_is, scan_tied, scan_never, scan_once}
+use Rattle.page_layout.proofs.ArrayLemmas.{latest-newest, length-marks, scan_tied, scan_never, scan_once}
+use Rattle.page_layout.proofs.NewestLemmas.{sequence_at-none}
+use Rattle.image_check.proofs.SurveyLemmas.{latest_other, latest_start}
 use Rattle.image_check.specs.Sector.{IsAmbiguous}
 use Rattle.lab_dump.specs.Scan.{IsTaken}
 use Rattle.lab_dump.specs.declared.held.Held.{Held}
 use Rattle.lab_dump.specs.declared.held.Held.TheVariants as held
-use Rattle.lab_dump.specs.declared.held.State.{State}
-use Rattle.lab_dump.specs.declared.held.State.TheVariants as state
-use Rattle.lab_dump.specs.Held.{Tells, state_in, state_by}
+use Rattle.lab_dump.specs.declared.held.Shown.{Shown}
+use Rattle.lab_dump.specs.declared.held.Shown.TheVariants as shown
+use Rattle.lab_dump.specs.Held.{Tells, TellsBy, TellsSaid, TellsSound, shown_by, shown_in, shown_with}
 use Rattle.lab_dump.specs.declared.doubting.Doubting.{Doubting}
 use Rattle.lab_dump.specs.declared.doubts.Unsettled.{Unsettled}
-use Rattle.lab_dump.specs.Said.{said_of}
-use Rattle.lab_dump.specs.Doubts.{doubts_of, legible_of}
 use Rattle.lab_dump.specs.Doubting.{IsDoubting}
 use Rattle.lab_dump.specs.Until.{until}
-use Rattle.lab_dump.specs.Writing.{content_below, AreSized, ReadBelow, Stands, Shows}
-use Rattle.lab_dump.specs.Written.{state_of, states_of, IsWritten, TiedLaw}
+use Rattle.lab_dump.specs.Writing.{content_below, AreSized, ReadBelow, Stands, ShowsDamaged, ShowsSound}
+use Rattle.lab_dump.specs.Damaged.{content_in, damaged_array, damaged_sector, over, place_by, placed, said_marks, said_reads, shown_place}
+use Rattle.lab_dump.specs.Written.{IsLeft, IsWritten, TiedLaw, UnmarkedLaw, damaged_state, damaged_states, state_of, states_of}
 use Rattle.lab_dump.proofs.UntilLemmas.{until_size}
 
 -- ---- the pieces
 
-sector_below : (g : Geometry) (image : Image) (rows n : ℕ) → length image ≡ rows → sector_of g image n ≡ content_below g image rows n
-unfolding sector_of
-sector_below g image rows n size =
-    ap (content_at g image) (latest-newest (marks image) (key.Sector n) ∙ ap (λ k. place_of (latest_below (marks image) (key.Sector n) k)) (length-marks image ∙ size))
-
-array_read : (g : Geometry) (image : Image) (ps : List (List ℕ)) → length image ≡ row_count g → length ps ≡ g.sectors → ReadBelow g image (row_count g) ps → ps ≡ array_of g image
-array_read g image ps size few read = (array_is g image ps).1 (record {
-  size = few;
-  each = λ n within. (sector_is g image n (get_or ps n [])).0 (read n within ∙ sym (sector_below g image (row_count g) n size));
-})
-
-if_both : {X : Type 0} (o : Option X) (P Q R : X → Type 0) → IfSome o P → IfSome o Q → ((x : X) → P x → Q x → R x) → IfSome o R
+pub if_both : {X : Type 0} (o : Option X) (P Q R : X → Type 0) → IfSome o P → IfSome o Q → ((x : X) → P x → Q x → R x) → IfSome o R
 if_both None P Q R p q both = tt
 if_both (Some x) P Q R p q both = both x p q
 
+-- pieces that are each what a function says of its sector are its list
+all_read : (g : Geometry) (f : ℕ → List ℕ) (ps : List (List ℕ)) → length ps ≡ g.sectors → ((n : ℕ) → n < g.sectors → get_or ps n [] ≡ f n) → ps ≡ map f (range_with_len 0 g.sectors)
+all_read g f ps few read = same_lists ps (map f (range_with_len 0 g.sectors)) (few ∙ sym (length-map-range_with_len f 0 g.sectors)) (λ n d l.
+    let within : n < g.sectors = omega (arith, few) in
+    get_or_default ps n d [] l ∙ (read n within ∙ sym (get_or-map-range_with_len f 0 g.sectors n n d within (omega arith))))
+
+-- no page says anything where none is listed
+none_said : (key : Key) (rows : ℕ) → latest_below [] key rows ≡ latest.Never
+none_said key zero = latest_start [] key
+none_said key (suc row) =
+    let next : suc row ≡ row + 1 = omega arith in
+    ap (latest_below [] key) next ∙ (latest_other [] key row (sequence_at-none [] key row refl) ∙ none_said key row)
+
+whole_place : (g : Geometry) (image : Image) (reads : ℕ → List ℕ) (o : Option ℕ) → content_in g image reads (placed None o) ≡ content_at g image o
+whole_place g image reads None = refl
+whole_place g image reads (Some row) = refl
+
+sector_sound : (g : Geometry) (image : Image) (rows n : ℕ) → length image ≡ rows → content_below g image [] (λ row. []) rows n ≡ sector_of g image n
+unfolding sector_of
+sector_sound g image rows n size =
+    let sound = latest_below (marks image) (key.Sector n) rows in
+    ap (λ d. content_in g image (λ row. []) (place_by sound d)) (none_said (key.Sector n) rows)
+    ∙ (whole_place g image (λ row. []) (place_of sound)
+    ∙ sym (ap (content_at g image) (latest-newest (marks image) (key.Sector n) ∙ ap (λ k. place_of (latest_below (marks image) (key.Sector n) k)) (length-marks image ∙ size))))
+
+array_sound : (g : Geometry) (image : Image) (ps : List (List ℕ)) → length image ≡ row_count g → length ps ≡ g.sectors → ReadBelow g image [] (λ row. []) (row_count g) ps → ps ≡ array_of g image
+unfolding array_of
+array_sound g image ps size few read = all_read g (sector_of g image) ps few (λ n within. read n within ∙ sector_sound g image (row_count g) n size)
+
+array_damaged : (g : Geometry) (last : Option ℕ) (image : Image) (ps : List (List ℕ)) → length image ≡ row_count g → length ps ≡ g.sectors
+    → ReadBelow g (until g last image) (said_marks g last image) (said_reads g image) (row_count g) ps → ps ≡ damaged_array g last image
+unfolding damaged_array damaged_sector shown_place
+array_damaged g last image ps size few read = all_read g (damaged_sector g last image) ps few (λ n within. read n within
+    ∙ ap (λ k. content_in g (until g last image) (said_reads g image) (place_by (latest_below (marks (until g last image)) (key.Sector n) k) (latest_below (said_marks g last image) (key.Sector n) k))) (sym size))
+
 -- ---- the states
 
-told_state : (h : Held) (l : Latest) → Tells h l → state_in h ≡ state_by l
-told_state held.Never latest.Never t = refl
-told_state held.Never (latest.Once row s) t = absurd t
-told_state held.Never (latest.Tied a b s) t = absurd t
-told_state (held.Once x) latest.Never t = absurd t
-told_state (held.Once x) (latest.Once row s) t = refl
-told_state (held.Once x) (latest.Tied a b s) t = absurd t
-told_state (held.Tied x) latest.Never t = absurd t
-told_state (held.Tied x) (latest.Once row s) t = absurd t
-told_state (held.Tied x) (latest.Tied a b s) t = refl
+told_sound : (h : Held) (l : Latest) → TellsSound h l → shown_in h ≡ shown_by l
+told_sound held.Never latest.Never t = refl
+told_sound (held.Once x) (latest.Once row s) t = refl
+told_sound (held.Tied x) (latest.Tied a b s) t = refl
+told_sound _ _ t = absurd t
 
-states_told : (g : Geometry) (image : Image) (hs : List Held) → length image ≡ row_count g → length hs ≡ g.sectors
-    → ((n : ℕ) → n < g.sectors → Tells (get_or hs n held.Never) (latest_below (marks image) (key.Sector n) (row_count g))) → map state_in hs ≡ states_of g image
-unfolding states_of state_of
-states_told g image hs size few told =
-    let f : ℕ → State = state_of image in
-    same_lists (map state_in hs) (map f (range_with_len 0 g.sectors)) (length-map hs state_in ∙ (few ∙ sym (length-map-range_with_len f 0 g.sectors))) (λ n d l.
-    let inside : n < length hs = omega (arith, length-map hs state_in) in
+told_said : (h : Held) (d : Latest) → TellsSaid h d → shown_in h ≡ shown.Damaged
+told_said (held.Damaged x) (latest.Once row s) t = refl
+told_said (held.Damaged x) (latest.Tied a b s) t = refl
+told_said _ _ t = absurd t
+
+told_by : (h : Held) (l d : Latest) (o : Option ℕ) → TellsBy h l d o → shown_in h ≡ shown_with o l
+told_by h l d None t = told_sound h l t
+told_by h l d (Some row) t = told_said h d t
+
+-- what is held of each sector says how it is shown
+all_told : (g : Geometry) (f : ℕ → Shown) (hs : List Held) → length hs ≡ g.sectors → ((n : ℕ) → n < g.sectors → shown_in (get_or hs n held.Never) ≡ f n) → map shown_in hs ≡ map f (range_with_len 0 g.sectors)
+all_told g f hs few told = same_lists (map shown_in hs) (map f (range_with_len 0 g.sectors)) (length-map hs shown_in ∙ (few ∙ sym (length-map-range_with_len f 0 g.sectors))) (λ n d l.
+    let inside : n < length hs = omega (arith, length-map hs shown_in) in
     let within : n < g.sectors = omega arith in
-    get_or-map state_in hs n held.Never d inside
-    ∙ (told_state (get_or hs n held.Never) (latest_below (marks image) (key.Sector n) (row_count g)) (told n within)
-    ∙ (ap (λ k. state_by (latest_below (marks image) (key.Sector n) k)) (sym size) ∙ sym (get_or-map-range_with_len f 0 g.sectors n n d within (omega arith)))))
+    get_or-map shown_in hs n held.Never d inside ∙ (told n within ∙ sym (get_or-map-range_with_len f 0 g.sectors n n d within (omega arith))))
+
+states_sound : (g : Geometry) (image : Image) (hs : List Held) → length image ≡ row_count g → length hs ≡ g.sectors
+    → ((n : ℕ) → n < g.sectors → Tells (get_or hs n held.Never) (latest_below (marks image) (key.Sector n) (row_count g)) (latest_below [] (key.Sector n) (row_count g))) → map shown_in hs ≡ states_of g image
+unfolding states_of state_of
+states_sound g image hs size few told = all_told g (state_of image) hs few (λ n within.
+    let l = latest_below (marks image) (key.Sector n) (row_count g) in
+    told_by (get_or hs n held.Never) l latest.Never None (subst (λ d. Tells (get_or hs n held.Never) l d) (none_said (key.Sector n) (row_count g)) (told n within))
+    ∙ ap (λ k. shown_by (latest_below (marks image) (key.Sector n) k)) (sym size))
+
+states_damaged : (g : Geometry) (last : Option ℕ) (image : Image) (hs : List Held) → length image ≡ row_count g → length hs ≡ g.sectors
+    → ((n : ℕ) → n < g.sectors → Tells (get_or hs n held.Never) (latest_below (marks (until g last image)) (key.Sector n) (row_count g)) (latest_below (said_marks g last image) (key.Sector n) (row_count g)))
+    → map shown_in hs ≡ damaged_states g last image
+unfolding damaged_states damaged_state
+states_damaged g last image hs size few told = all_told g (damaged_state g last image) hs few (λ n within.
+    let sound = λ (k : ℕ). latest_below (marks (until g last image)) (key.Sector n) k in
+    let others = λ (k : ℕ). latest_below (said_marks g last image) (key.Sector n) k in
+    told_by (get_or hs n held.Never) (sound (row_count g)) (others (row_count g)) (over (sound (row_count g)) (others (row_count g))) (told n within)
+    ∙ ap (λ k. shown_with (over (sound k) (others k)) (sound k)) (sym size))
 
 -- ---- all of it
 
-pub written : (g : Geometry) (last : Option ℕ) (hs : List Held) (blank : List ℕ) (d : Doubting) (left : Unsettled) (pieces : Option (List (List ℕ))) (bytes : List ℕ) → Stands g hs blank pieces
-    → ((image : Image) → length image ≡ row_count g → IsDoubting g (row_count g) image d → left.doubts ≡ doubts_of g image)
-    → ((image : Image) → length image ≡ row_count g → IsDoubting g (row_count g) image d → left.said.items ≡ said_of g image)
-    → ((image : Image) → length image ≡ row_count g → IsDoubting g (row_count g) image d → left.legible ≡ legible_of g image)
-    → IsTaken g (λ image. Shows g (row_count g) (until g last image) hs pieces × IsDoubting g (row_count g) image d) bytes → IsWritten g last pieces hs left bytes
-written g last hs blank d left pieces bytes stands concluded said legible taken =
+pub written_sound : (g : Geometry) (last : Option ℕ) (hs : List Held) (blank : List ℕ) (d : Doubting) (left : Unsettled) (pieces : Option (List (List ℕ))) (bytes : List ℕ) → Stands g hs blank pieces
+    → ((image : Image) → length image ≡ row_count g → IsDoubting g (row_count g) image d → IsLeft g image left)
+    → IsTaken g (λ image. ShowsSound g (row_count g) (until g last image) hs pieces × IsDoubting g (row_count g) image d) bytes → IsWritten g last false pieces hs left bytes
+written_sound g last hs blank d left pieces bytes stands concluded taken =
     let raw : Image = raw_image g bytes in
     let whole : length raw ≡ row_count g = length-raw_image g bytes in
     let image : Image = until g last raw in
     let size : length image ≡ row_count g = until_size g last raw ∙ whole in
-    let shown : Shows g (row_count g) image hs pieces = taken.shown.0 in
+    let shown = taken.shown.0 in
     record {
       whole = taken.whole;
-      array = if_both pieces (AreSized g) (ReadBelow g image (row_count g)) (λ ps. ps ≡ array_of g image) stands.sized shown.pieces_are (λ ps sized read. array_read g image ps size sized read);
-      states = states_told g image hs size stands.size shown.held_of;
-      said_is = said raw whole taken.shown.1;
-      legible_is = legible raw whole taken.shown.1;
-      doubts_is = concluded raw whole taken.shown.1;
+      array = if_both pieces (AreSized g) (ReadBelow g image [] (λ row. []) (row_count g)) (λ ps. ps ≡ array_of g image) stands.sized shown.pieces_are (λ ps sized read. array_sound g image ps size sized read);
+      states = states_sound g image hs size stands.size shown.held_of;
+      left_is = concluded raw whole taken.shown.1;
+    }
+
+pub written_damaged : (g : Geometry) (last : Option ℕ) (hs : List Held) (blank : List ℕ) (d : Doubting) (left : Unsettled) (pieces : Option (List (List ℕ))) (bytes : List ℕ) → Stands g hs blank pieces
+    → ((image : Image) → length image ≡ row_count g → IsDoubting g (row_count g) image d → IsLeft g image left)
+    → IsTaken g (λ image. ShowsDamaged g (row_count g) last image hs pieces × IsDoubting g (row_count g) image d) bytes → IsWritten g last true pieces hs left bytes
+written_damaged g last hs blank d left pieces bytes stands concluded taken =
+    let raw : Image = raw_image g bytes in
+    let whole : length raw ≡ row_count g = length-raw_image g bytes in
+    let shown = taken.shown.0 in
+    record {
+      whole = taken.whole;
+      array = if_both pieces (AreSized g) (ReadBelow g (until g last raw) (said_marks g last raw) (said_reads g raw) (row_count g)) (λ ps. ps ≡ damaged_array g last raw) stands.sized shown.pieces_are (λ ps sized read. array_damaged g last raw ps whole sized read);
+      states = states_damaged g last raw hs whole stands.size shown.held_of;
+      left_is = concluded raw whole taken.shown.1;
     }
 
 -- ---- ties
 
-tied_at : (g : Geometry) (image : Image) (n : ℕ) (l : Latest) → n < g.sectors → l ≡ latest_below (marks image) (key.Sector n) (length image) → (state_by l ≡ state.Tied) ↔ IsAmbiguous g image n
+tied_at : (g : Geometry) (image : Image) (n : ℕ) (l : Latest) → n < g.sectors → l ≡ latest_below (marks image) (key.Sector n) (length image) → (shown_by l ≡ shown.Tied) ↔ IsAmbiguous g image n
 tied_at g image n latest.Never within e =
-    (λ no. absurd (let clash : state.Absent ≡ state.Tied = no in cc), λ two. absurd (scan_never image (key.Sector n) (length image) refl e two.first two.second two.shares))
+    (λ no. absurd (let clash : shown.Absent ≡ shown.Tied = no in cc), λ two. absurd (scan_never image (key.Sector n) (length image) refl e two.first two.second two.shares))
 tied_at g image n (latest.Once row s) within e =
-    (λ no. absurd (let clash : state.Found ≡ state.Tied = no in cc), λ two. absurd (scan_once image (key.Sector n) (length image) row s refl e two.first two.second two.shares))
+    (λ no. absurd (let clash : shown.Found ≡ shown.Tied = no in cc), λ two. absurd (scan_once image (key.Sector n) (length image) row s refl e two.first two.second two.shares))
 tied_at g image n (latest.Tied a b s) within e =
     (λ yes. record { in_range = within; first = a; second = b; shares = scan_tied image (key.Sector n) (length image) a b s refl e }, λ two. refl)
 
 pub tied_law : TiedLaw
 unfolding state_of
 tied_law g image n within = tied_at g image n (latest_below (marks image) (key.Sector n) (length image)) within refl
+
+pub unmarked_law : UnmarkedLaw
+unfolding state_of
+unmarked_law image n = by (latest_below (marks image) (key.Sector n) (length image))
+  where
+    by : (l : Latest) → shown_by l ≢ shown.Damaged
+    by latest.Never e = cc
+    by (latest.Once row s) e = cc
+    by (latest.Tied a b s) e = cc

@@ -6,6 +6,8 @@ pub mod PageBytes
 pub mod Scan
 -- the rows that are asked for
 pub mod Rows
+-- the array with pages shown that are not sound
+pub mod Damaged
 -- what is held of a sector while its array is written
 pub mod Held
 -- the pieces while they are written

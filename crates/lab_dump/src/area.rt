@@ -2,7 +2,7 @@
 ghost use Rattle.std.specs.Prelude.{◌≡◌, ◌+◌, ◌-◌, ◌*◌, ◌<◌, ◌≤◌};
 ghost use Rattle.lab_dump.specs.Map.{status_words};
 
-use crate::held::State;
+use crate::held::Mark;
 use page_layout::geometry::Geometry;
 use std::fmt;
 
@@ -14,17 +14,17 @@ pub(crate) struct Area {
     /// How many bytes it has.
     pub(crate) size: u64,
     /// How its sectors stand.
-    pub(crate) state: State,
+    pub(crate) state: Mark,
 }
 
 // The character of a state: finished, a bad sector, not tried.
-fn status_text(state: State) -> &'static str
+fn status_text(state: Mark) -> &'static str
     ensures { result.now ≡ status_words state }
 {
     match state {
-        State::Found => "+",
-        State::Tied => "-",
-        State::Absent => "?",
+        Mark::Finished => "+",
+        Mark::Bad => "-",
+        Mark::Untried => "?",
     }
 }
 
@@ -50,7 +50,7 @@ fn bytes_of(geometry: &Geometry, sectors: u32) -> u64
 }
 
 /// The area from one sector to another one.
-pub(crate) fn area_between(geometry: &Geometry, first: u32, last: u32, state: State) -> Area
+pub(crate) fn area_between(geometry: &Geometry, first: u32, last: u32, state: Mark) -> Area
     requires within { last < geometry.now.sectors }
     requires rising { first ≤ last }
     ensures position { result.position ≡ first * geometry.now.data_bytes }

@@ -1,17 +1,21 @@
 //! The array of a dump.
-ghost use Rattle.std.specs.Prelude.{◌≡◌, length, replicate, true, IfOk, IfErr, IfSome, map};
+ghost use Rattle.std.specs.Prelude.{◌≡◌, length, replicate, true, false, IfOk, IfErr, IfSome};
+ghost use Rattle.page_layout.specs.Geometry.{row_count};
+ghost use Rattle.page_layout.specs.Page.{Image};
 ghost use Rattle.page_layout.specs.Array.{zeros};
+ghost use Rattle.lab_dump.specs.Doubting.{IsDoubting, Stands};
 ghost use Rattle.lab_dump.specs.Rooms.{IsArrayRoom};
 ghost use Rattle.lab_dump.specs.Unmade.{IsUnmade};
-ghost use Rattle.lab_dump.specs.Written.{IsWritten, TiedLaw};
+ghost use Rattle.lab_dump.specs.Written.{IsLeft, IsWritten, TiedLaw};
 
+use crate::damaged::DamagedWriting;
 use crate::doubting::Doubting;
 use crate::doubts::Unsettled;
 use crate::dump::DumpReader;
 use crate::held::Held;
 use crate::make_fault::MakeFault;
 use crate::pass::scan;
-use crate::target::Target;
+use crate::target::{DamagedTarget, Target};
 use crate::writing::Writing;
 use page_layout::geometry::Geometry;
 use std::alloc::{AllocError, Global};
@@ -77,6 +81,27 @@ pub fn tied_law()
     ensures { TiedLaw }
 {}
 
+// What is to be told once all pages were taken.
+fn conclude<T>(geometry: &Geometry, writing: Writing<T>) -> Written<T>
+    requires { Stands geometry.now (row_count geometry.now) writing.doubting }
+    ensures held { result.held.items ≡ writing.held.items }
+    ensures target { result.target ≡ writing.target }
+    ensures left { (image : Image) → length image ≡ row_count geometry.now → IsDoubting geometry.now (row_count geometry.now) image writing.doubting → IsLeft geometry.now image result.left }
+{
+    let mut doubting = writing.doubting;
+    let doubts = doubting.conclude(geometry);
+    let left = Unsettled {
+        doubts,
+        legible: doubting.legible,
+        said: doubting.said,
+    };
+    Written {
+        held: writing.held,
+        left,
+        target: writing.target,
+    }
+}
+
 /// Writes each sector of a dump to a target, in one pass over the dump: the data area of the sector's newest page, or zeros where that page
 /// is a trim, the sector has none, or two of its pages share its greatest sequence. The target has a piece of zeros for each sector at
 /// first. The newest page of a sector is its sound page of greatest sequence, over all blocks, bad ones included. Where a sequence `until` is said,
@@ -100,7 +125,7 @@ pub fn write_array<R: DumpReader, T: Target + Drop>(
 ) -> Result<Written<T>, Unwritten<T>>
     requires room { IsArrayRoom geometry.now room }
     requires pieces { IfSome (T.pieces target) (λ ps. ps ≡ replicate geometry.now.sectors (zeros geometry.now)) }
-    ensures ok { IfOk result (λ written. IfSome (R.remaining reader.old) (IsWritten geometry.now until (T.pieces written.target) written.held.items written.left)) }
+    ensures ok { IfOk result (λ written. IfSome (R.remaining reader.old) (IsWritten geometry.now until false (T.pieces written.target) written.held.items written.left)) }
     ensures sized { IfOk result (λ written. length written.held.items ≡ geometry.now.sectors) }
     ensures err { IfErr result (λ unwritten. IfSome (R.remaining reader.old) (IsUnmade geometry.now unwritten.fault)) }
     // Whatever the reader and the target do.
@@ -116,23 +141,52 @@ pub fn write_array<R: DumpReader, T: Target + Drop>(
         target,
     };
     match scan(reader, geometry, &mut writing, &mut body, &mut spare) {
-        Ok(()) => {
-            let mut doubting = writing.doubting;
-            let doubts = doubting.conclude(geometry);
-            let left = Unsettled {
-                doubts,
-                legible: doubting.legible,
-                said: doubting.said,
-            };
-            Ok(Written {
-                held: writing.held,
-                left,
-                target: writing.target,
-            })
-        }
+        Ok(()) => Ok(conclude(geometry, writing)),
         Err(fault) => Err(Unwritten {
             fault: MakeFault::from(fault),
             target: writing.target,
+        }),
+    }
+}
+
+/// The same with pages shown that are not sound: a sector of which such a page says something newer than each sound page is written as that page has it, its data area as it reads where
+/// the page says a sector, zeros where it says a trim. Of several the one of the greatest sequence is shown, and of those the first. A page of a later sequence than `until` does not count.
+///
+/// # Errors
+///
+/// As of `write_array`.
+///
+/// (This project's rules.)
+pub fn write_damaged<R: DumpReader, T: DamagedTarget + Drop>(
+    room: ArrayRoom,
+    reader: &mut R,
+    geometry: &Geometry,
+    until: Option<u64>,
+    target: T,
+) -> Result<Written<T>, Unwritten<T>>
+    requires room { IsArrayRoom geometry.now room }
+    requires pieces { IfSome (T.pieces target) (λ ps. ps ≡ replicate geometry.now.sectors (zeros geometry.now)) }
+    ensures ok { IfOk result (λ written. IfSome (R.remaining reader.old) (IsWritten geometry.now until true (T.pieces written.target) written.held.items written.left)) }
+    ensures sized { IfOk result (λ written. length written.held.items ≡ geometry.now.sectors) }
+    ensures err { IfErr result (λ unwritten. IfSome (R.remaining reader.old) (IsUnmade geometry.now unwritten.fault)) }
+    // Whatever the reader and the target do.
+    ensures source { IfErr result (λ unwritten. unwritten.fault ≡ MakeFault.Source → R.failed reader.new ≡ true) }
+    ensures target { IfErr result (λ unwritten. unwritten.fault ≡ MakeFault.Target → T.failed unwritten.target ≡ true) }
+{
+    let (mut body, mut spare) = (room.body, room.spare);
+    let writing = Writing {
+        until,
+        held: room.held,
+        zeros: room.zeros,
+        doubting: room.doubting,
+        target,
+    };
+    let mut taker = DamagedWriting { writing };
+    match scan(reader, geometry, &mut taker, &mut body, &mut spare) {
+        Ok(()) => Ok(conclude(geometry, taker.writing)),
+        Err(why) => Err(Unwritten {
+            fault: MakeFault::from(why),
+            target: taker.writing.target,
         }),
     }
 }

@@ -1,10 +1,11 @@
 //! What is held of each sector, in few bytes: there is one for each.
-ghost use Rattle.std.specs.Prelude.{◌≡◌, ℕ, Some};
-ghost use Rattle.page_layout.specs.Greatest.{step, place_of};
+ghost use Rattle.std.specs.Prelude.{◌≡◌, ℕ, Some, count_by, map};
+ghost use Rattle.page_layout.specs.Greatest.{step};
 ghost use Rattle.page_layout.specs.declared.newest.Latest.{Latest};
-ghost use Rattle.lab_dump.specs.Held.{Moves, Tells, state_in};
+ghost use Rattle.lab_dump.specs.Damaged.{Broken, Whole, place_by};
+ghost use Rattle.lab_dump.specs.Held.{Moves, Tells, damaged_of, greatest_in, is_damaged, mark_in, shown_in};
 
-/// What is known of the newest page of a sector once some rows were looked at: what `Latest` says but for the rows.
+/// What is known of the page that a sector is shown from once some rows were looked at: what `Latest` says but for the rows.
 #[derive(Clone, Copy, Debug, PartialEq, Eq)]
 pub enum Held {
     /// No sound page of it so far.
@@ -13,9 +14,35 @@ pub enum Held {
     Once([u8; 8]),
     /// Two pages share the greatest sequence, this one.
     Tied([u8; 8]),
+    /// A page that is not sound says a later sequence than each sound page has, this one.
+    Damaged([u8; 8]),
 }
 
-/// How a sector stands in an image.
+/// How a sector is shown in an array.
+#[derive(Clone, Copy, Debug, PartialEq, Eq)]
+pub enum Shown {
+    /// It has no sound page.
+    Absent,
+    /// As its newest page has it.
+    Found,
+    /// Two of its pages share its greatest sequence.
+    Tied,
+    /// As a page has it that is not sound, and newer than each sound one.
+    Damaged,
+}
+
+/// How a map of an array marks a sector.
+#[derive(Clone, Copy, Debug, PartialEq, Eq)]
+pub enum Mark {
+    /// Nothing was found of it.
+    Untried,
+    /// It was found.
+    Finished,
+    /// What was found of it is in doubt.
+    Bad,
+}
+
+/// How a sector, or another key, stands in an image.
 #[derive(Clone, Copy, Debug, PartialEq, Eq)]
 pub enum State {
     /// It has no sound page.
@@ -26,7 +53,7 @@ pub enum State {
     Tied,
 }
 
-// What one page more does to the place of a sector's newest page.
+// What one page more does to the place that a sector is shown from.
 #[derive(Clone, Copy)]
 pub(crate) enum Change {
     // it stays
@@ -37,35 +64,123 @@ pub(crate) enum Change {
     Tie,
 }
 
+// Of a sector shown from a page of this sequence that is not sound, with one sound page more.
+fn step_damaged(kept: [u8; 8], sequence: u64) -> (Held, Change)
+    ensures tells { (latest said : Latest) (row : ℕ) → Tells (Held.Damaged kept) latest said → Tells result.0 (step latest row (Some sequence)) said }
+    ensures moves { (latest said : Latest) (row : ℕ) → Tells (Held.Damaged kept) latest said → Moves result.1 (Whole row) (place_by latest said) (place_by (step latest row (Some sequence)) said) }
+{
+    if sequence < u64::from_le_bytes(kept) {
+        (Held::Damaged(kept), Change::Stays)
+    } else {
+        (Held::Once(sequence.to_le_bytes()), Change::Newest)
+    }
+}
+
+// Of one shown from a page of this sequence.
+fn step_once(kept: [u8; 8], sequence: u64) -> (Held, Change)
+    ensures tells { (latest said : Latest) (row : ℕ) → Tells (Held.Once kept) latest said → Tells result.0 (step latest row (Some sequence)) said }
+    ensures moves { (latest said : Latest) (row : ℕ) → Tells (Held.Once kept) latest said → Moves result.1 (Whole row) (place_by latest said) (place_by (step latest row (Some sequence)) said) }
+{
+    let greatest = u64::from_le_bytes(kept);
+    if greatest < sequence {
+        (Held::Once(sequence.to_le_bytes()), Change::Newest)
+    } else if sequence < greatest {
+        (Held::Once(kept), Change::Stays)
+    } else {
+        (Held::Tied(kept), Change::Tie)
+    }
+}
+
+// Of one of which two pages share this sequence, the greatest.
+fn step_tied(kept: [u8; 8], sequence: u64) -> (Held, Change)
+    ensures tells { (latest said : Latest) (row : ℕ) → Tells (Held.Tied kept) latest said → Tells result.0 (step latest row (Some sequence)) said }
+    ensures moves { (latest said : Latest) (row : ℕ) → Tells (Held.Tied kept) latest said → Moves result.1 (Whole row) (place_by latest said) (place_by (step latest row (Some sequence)) said) }
+{
+    if u64::from_le_bytes(kept) < sequence {
+        (Held::Once(sequence.to_le_bytes()), Change::Newest)
+    } else {
+        (Held::Tied(kept), Change::Stays)
+    }
+}
+
+// The sectors that are shown as pages have them that are not sound.
+fn count_damaged(held: &[Held]) -> usize
+    ensures { result ≡ count_by (λ h. is_damaged (shown_in h)) held.now }
+{
+    held.iter().filter(|kept| kept.is_damaged()).count()
+}
+
+/// How many sectors are shown as pages have them that are not sound, by what is held of each.
+pub fn damaged_count(held: &[Held]) -> u64
+    ensures { result ≡ damaged_of (map shown_in held.now) }
+{
+    count_damaged(held) as u64
+}
+
 impl Held {
     // What is held with one sound page of the sector more, and what that does.
     pub(crate) fn step(self, sequence: u64) -> (Held, Change)
-        ensures tells { (latest : Latest) (row : ℕ) → Tells self latest → Tells result.0 (step latest row (Some sequence)) }
-        ensures moves { (latest : Latest) (row : ℕ) → Tells self latest → Moves result.1 row (place_of latest) (place_of (step latest row (Some sequence))) }
+        ensures tells { (latest said : Latest) (row : ℕ) → Tells self latest said → Tells result.0 (step latest row (Some sequence)) said }
+        ensures moves { (latest said : Latest) (row : ℕ) → Tells self latest said → Moves result.1 (Whole row) (place_by latest said) (place_by (step latest row (Some sequence)) said) }
     {
-        let (kept, is_tied) = match self {
-            Held::Never => return (Held::Once(sequence.to_le_bytes()), Change::Newest),
-            Held::Once(kept) => (kept, false),
-            Held::Tied(kept) => (kept, true),
-        };
-        let greatest = u64::from_le_bytes(kept);
-        if greatest < sequence {
-            (Held::Once(sequence.to_le_bytes()), Change::Newest)
-        } else if greatest == sequence && !is_tied {
-            (Held::Tied(kept), Change::Tie)
-        } else {
-            (self, Change::Stays)
+        match self {
+            Held::Never => (Held::Once(sequence.to_le_bytes()), Change::Newest),
+            Held::Once(kept) => step_once(kept, sequence),
+            Held::Tied(kept) => step_tied(kept, sequence),
+            Held::Damaged(kept) => step_damaged(kept, sequence),
         }
     }
 
-    /// How the sector stands.
-    pub fn state(self) -> State
-        ensures { result ≡ state_in self }
+    // The sequence of the page that it is shown from, or that the sound pages share, if it has any.
+    fn greatest(self) -> Option<u64>
+        ensures { result ≡ greatest_in self }
     {
         match self {
-            Held::Never => State::Absent,
-            Held::Once(_) => State::Found,
-            Held::Tied(_) => State::Tied,
+            Held::Never => None,
+            Held::Once(kept) | Held::Tied(kept) | Held::Damaged(kept) => {
+                Some(u64::from_le_bytes(kept))
+            }
+        }
+    }
+
+    // What is held with one page more that is not sound and says the sector, and what that does.
+    pub(crate) fn step_said(self, sequence: u64) -> (Held, Change)
+        ensures tells { (latest said : Latest) (row : ℕ) → Tells self latest said → Tells result.0 latest (step said row (Some sequence)) }
+        ensures moves { (latest said : Latest) (row : ℕ) → Tells self latest said → Moves result.1 (Broken row) (place_by latest said) (place_by latest (step said row (Some sequence))) }
+    {
+        match self.greatest() {
+            Some(greatest) if sequence <= greatest => (self, Change::Stays),
+            _ => (Held::Damaged(sequence.to_le_bytes()), Change::Newest),
+        }
+    }
+
+    // Whether the sector is shown as a page has it that is not sound.
+    fn is_damaged(self) -> bool
+        ensures { result ≡ is_damaged (shown_in self) }
+    {
+        self.shown() == Shown::Damaged
+    }
+
+    // How a map marks the sector.
+    pub(crate) fn mark(self) -> Mark
+        ensures { result ≡ mark_in self }
+    {
+        match self.shown() {
+            Shown::Absent => Mark::Untried,
+            Shown::Found => Mark::Finished,
+            Shown::Tied | Shown::Damaged => Mark::Bad,
+        }
+    }
+
+    /// How the sector is shown.
+    pub fn shown(self) -> Shown
+        ensures { result ≡ shown_in self }
+    {
+        match self {
+            Held::Never => Shown::Absent,
+            Held::Once(_) => Shown::Found,
+            Held::Tied(_) => Shown::Tied,
+            Held::Damaged(_) => Shown::Damaged,
         }
     }
 }

@@ -2,7 +2,7 @@
 //!
 //! - `scan`: one pass over its pages, in row order: what each page is, handed to a taker.
 //! - `write_array`: every sector, as of a sequence where one is said. Each page that is newer than what was seen of its sector is put in the sector's place of a target, so
-//!   that in the end the target holds the array of the image, sector by sector. And the map of the array: how each part of it stands, as
+//!   that in the end the target holds the array of the image, sector by sector (`write_damaged`: also of pages that are not sound, where nothing sound is newer). And the map of the array: how each part of it stands, as
 //!   the mapfile of GNU ddrescue says it, so that tools that read such maps can tell a sector that was found from one that was not.
 //! - `survey_sector`: the history of a sector, the sound pages of it that the dump still has, newest first.
 //! - `compare_dump`: which sectors have lost a page since a certificate was made of its die.
@@ -20,6 +20,7 @@ mod array;
 mod compare;
 mod concluding;
 mod counts;
+mod damaged;
 mod doubting;
 mod doubts;
 mod dump;
@@ -49,14 +50,15 @@ mod trace;
 mod until;
 mod writing;
 
-pub use array::{ArrayRoom, Unwritten, Written, write_array};
+pub use array::{ArrayRoom, Unwritten, Written, write_array, write_damaged};
 pub use compare::{CompareFault, CompareRoom, Compared, compare_dump};
 pub use counts::{PageCounts, sorts_law};
+pub use damaged::damaged_laws;
 pub use doubts::{Doubts, Unsettled};
 pub use dump::{Dump, DumpFault, DumpReader};
 pub use find::{FitRoom, add_shapes, find_geometries};
 pub use fit::{Fit, TableSays};
-pub use held::{Held, State};
+pub use held::{Held, Shown, State, damaged_count};
 pub use history::{History, HistoryRoom, SectorPage, Wrote, history_laws, survey_sector};
 pub use laws::{
     areas_law, bad_block_laws, bound_laws, fit_laws, hole_laws, looked_laws, lost_law,
@@ -74,7 +76,7 @@ pub use said::{SaidPage, said_laws};
 pub use sample::{Sample, looked_count, looked_row};
 pub use shape::{data_sizes, first_shape};
 pub use survey::{DieSurvey, SurveyFault, SurveyRoom, mounts_law, survey_dump};
-pub use target::{PageTarget, Pieces, Target, TargetFault};
+pub use target::{DamagedTarget, PageTarget, Pieces, Target, TargetFault};
 pub use told::Told;
 pub use until::until_laws;
 pub use writing::Writing;

@@ -1,31 +1,31 @@
 //! The lines of a map.
 ghost use Rattle.std.specs.Prelude.{◌≡◌, ◌+◌, ◌<◌, ◌++◌, ◌∷◌, [], true, IfOk, OnOk, OnErr, map, length, get_or};
 ghost use Rattle.std.specs.Io.KnownBytes.{Appends};
-ghost use Rattle.lab_dump.specs.Held.{state_in};
+ghost use Rattle.lab_dump.specs.Held.{mark_in, shown_in};
 ghost use Rattle.lab_dump.specs.Map.{area_line, area_words, areas_below, ends_at, first_of, is_like, map_head, map_text, remark_line, status_line};
 
 use crate::area::{Area, area_between};
-use crate::held::{Held, State};
+use crate::held::{Held, Mark};
 use crate::map_writer::{LineFault, MapWriter};
 use page_layout::geometry::Geometry;
 
 // How a sector stands.
-fn state_at(held: &[Held], sector: usize) -> State
+fn state_at(held: &[Held], sector: usize) -> Mark
     requires { sector < length held.now }
-    ensures { result ≡ get_or (map state_in held.now) sector State.Absent }
+    ensures { result ≡ get_or (map mark_in held.now) sector Mark.Untried }
 {
     let kept = held[sector];
-    kept.state()
+    kept.mark()
 }
 
 // Whether two sectors that stand so stand alike.
-fn is_like(state: State, next: State) -> bool
+fn is_like(state: Mark, next: Mark) -> bool
     ensures { result ≡ is_like state next }
 {
     match (state, next) {
-        (State::Absent, State::Absent)
-        | (State::Found, State::Found)
-        | (State::Tied, State::Tied) => true,
+        (Mark::Untried, Mark::Untried)
+        | (Mark::Finished, Mark::Finished)
+        | (Mark::Bad, Mark::Bad) => true,
         _ => false,
     }
 }
@@ -33,7 +33,7 @@ fn is_like(state: State, next: State) -> bool
 // Whether an area ends with a sector: the next one stands otherwise, or there is none.
 fn ends_at(held: &[Held], sector: usize) -> bool
     requires { sector < length held.now }
-    ensures { result ≡ ends_at (map state_in held.now) sector }
+    ensures { result ≡ ends_at (map mark_in held.now) sector }
 {
     sector + 1 == held.len() || !is_like(state_at(held, sector), state_at(held, sector + 1))
 }
@@ -56,9 +56,9 @@ fn print_end<W: MapWriter>(
 ) -> Result<u32, LineFault>
     requires sized { length held.now ≡ geometry.now.sectors }
     requires within { sector < geometry.now.sectors }
-    requires first { first ≡ first_of (map state_in held.now) sector }
-    ensures next { IfOk result (λ next. next ≡ first_of (map state_in held.now) (sector + 1)) }
-    ensures printed { OnOk result (Appends (W.contents out.old) (W.contents out.new) (area_line geometry.now (map state_in held.now) sector)) }
+    requires first { first ≡ first_of (map mark_in held.now) sector }
+    ensures next { IfOk result (λ next. next ≡ first_of (map mark_in held.now) (sector + 1)) }
+    ensures printed { OnOk result (Appends (W.contents out.old) (W.contents out.new) (area_line geometry.now (map mark_in held.now) sector)) }
     ensures failed { OnErr result (W.failed out.new ≡ true) }
 {
     if !ends_at(held, sector as usize) {
@@ -76,7 +76,7 @@ fn print_areas<W: MapWriter>(
     held: &[Held],
 ) -> Result<(), LineFault>
     requires { length held.now ≡ geometry.now.sectors }
-    ensures printed { OnOk result (Appends (W.contents out.old) (W.contents out.new) (areas_below geometry.now (map state_in held.now) geometry.now.sectors)) }
+    ensures printed { OnOk result (Appends (W.contents out.old) (W.contents out.new) (areas_below geometry.now (map mark_in held.now) geometry.now.sectors)) }
     ensures failed { OnErr result (W.failed out.new ≡ true) }
 {
     let mut first = 0;
@@ -126,7 +126,7 @@ pub fn print_map<W: MapWriter>(
     held: &[Held],
 ) -> Result<(), LineFault>
     requires { length held.now ≡ geometry.now.sectors }
-    ensures printed { OnOk result (Appends (W.contents out.old) (W.contents out.new) (map_text geometry.now (map state_in held.now))) }
+    ensures printed { OnOk result (Appends (W.contents out.old) (W.contents out.new) (map_text geometry.now (map shown_in held.now))) }
     ensures failed { OnErr result (W.failed out.new ≡ true) }
 {
     print_head(out)?;

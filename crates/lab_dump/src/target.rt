@@ -44,6 +44,23 @@ pub trait Target: Pieces {
         ensures failed { OnErr result (Self.failed self.new ≡ true) };
 }
 
+/// A file that takes data areas of pages too that are not sound. No function has one but those that show such pages.
+pub trait DamagedTarget: Target {
+    ghost use Rattle.std.specs.Prelude.{◌≡◌, OnOk, OnErr, true, option_map, set};
+    ghost use Rattle.lab_dump.specs.Damaged.{SaysSector};
+
+    /// Writes a page's data area as the piece of this number, counted from 0, in place of what stood there. It is as long as each piece.
+    /// The page, with this spare area, is neither erased nor sound, and says that it holds the sector of that number.
+    ///
+    /// # Errors
+    ///
+    /// As of `put`.
+    fn put_damaged(&mut self, number: u32, body: &[u8], spare: &[u8]) -> Result<(), TargetFault>
+        requires { SaysSector number body.now spare.now }
+        ensures written { OnOk result (Self.pieces self.new ≡ option_map (λ ps. set ps number body.now) (Self.pieces self.old)) }
+        ensures failed { OnErr result (Self.failed self.new ≡ true) };
+}
+
 /// A file with a piece for each row: its page, the data area and then the spare area.
 pub trait PageTarget: Pieces {
     ghost use Rattle.std.specs.Prelude.{◌≡◌, OnOk, OnErr, true, option_map, set};

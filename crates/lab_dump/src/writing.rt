@@ -1,12 +1,13 @@
 //! What takes the pages and writes the sectors.
-ghost use Rattle.std.specs.Prelude.{◌≡◌, ◌<◌, ◌≤◌, ◌+◌, ℕ, List, OnOk, OnErr, true, length, slice_get, Some};
+ghost use Rattle.std.specs.Prelude.{◌≡◌, ◌<◌, ◌≤◌, ◌+◌, ℕ, List, Option, OnOk, OnErr, true, length, get_or, slice_get, None, Some};
+ghost use Rattle.page_layout.specs.declared.record.Record.{Record};
 ghost use Rattle.page_layout.specs.Geometry.{row_count};
 ghost use Rattle.page_layout.specs.Page.{Page, Image, page};
 ghost use Rattle.page_layout.specs.Array.{content_of_kind, zeros};
 ghost use Rattle.page_layout.specs.Sound.{record_of};
 ghost use Rattle.lab_dump.specs.Held.{pieces_after};
 ghost use Rattle.page_layout.specs.declared.record.Kind.TheVariants as kinds;
-ghost use Rattle.lab_dump.specs.Writing.{HoldsSector, Stands, Shows};
+ghost use Rattle.lab_dump.specs.Writing.{HoldsSector, Stands, Shows, sector_in};
 
 use crate::doubting::Doubting;
 use crate::held::{Change, Held};
@@ -50,9 +51,19 @@ fn put_change<T: Target>(
     }
 }
 
+// Whether there is such a sector.
+pub(crate) fn sector_in(geometry: &Geometry, says: &Record) -> Option<u32>
+    ensures { result ≡ sector_in geometry.now says.now }
+{
+    match says.key() {
+        Key::Sector(sector) if sector < geometry.sectors() => Some(sector),
+        _ => None,
+    }
+}
+
 impl<T: Target> Writing<T> {
-    // Takes a sound page.
-    fn take_sound(
+    // Takes a sound page, which counts.
+    pub(crate) fn take_sound(
         &mut self,
         geometry: &Geometry,
         row: u32,
@@ -64,18 +75,16 @@ impl<T: Target> Writing<T> {
         requires looked { record_of (page body.now spare.now) ≡ Some found.now }
         requires stands { Stands geometry.now self.old.held.items self.old.zeros.items (T.pieces self.old.target) }
         ensures stands { OnOk result (Stands geometry.now self.new.held.items self.new.zeros.items (T.pieces self.new.target)) }
-        ensures shows { OnOk result ((image : Image) (p : Page) → Shows geometry.now row image self.old.held.items (T.pieces self.old.target) → slice_get image row ≡ Some p → body.now ≡ p.body → record_of p ≡ Some found.now
-            → Shows geometry.now (row + 1) image self.new.held.items (T.pieces self.new.target)) }
+        ensures shows { OnOk result ((image : Image) (said : List (Option Record)) (reads : ℕ → List ℕ) (p : Page) → Shows geometry.now row image said reads self.old.held.items (T.pieces self.old.target)
+            → slice_get image row ≡ Some p → body.now ≡ p.body → record_of p ≡ Some found.now → get_or said row None ≡ None
+            → Shows geometry.now (row + 1) image said reads self.new.held.items (T.pieces self.new.target)) }
         ensures until { self.new.until ≡ self.old.until }
         ensures doubting { self.new.doubting ≡ self.old.doubting }
         ensures failed { OnErr result (T.failed self.new.target ≡ true) }
     {
-        let Key::Sector(sector) = found.key() else {
+        let Some(sector) = sector_in(geometry, found) else {
             return Ok(());
         };
-        if sector >= geometry.sectors() {
-            return Ok(());
-        }
         let (held, change) = self.held[sector as usize].step(found.sequence);
         self.held[sector as usize] = held;
         match put_change(
@@ -100,13 +109,13 @@ impl<T: Target> Taker for Writing<T> {
     ghost use Rattle.lab_dump.specs.Doubting as doubting;
     ghost use Rattle.lab_dump.specs.Doubting.{IsDoubting};
     ghost use Rattle.lab_dump.specs.Until.{until};
-    ghost use Rattle.lab_dump.specs.Writing.{Stands, Shows};
+    ghost use Rattle.lab_dump.specs.Writing.{Stands, ShowsSound};
 
     ghost stands = { λ s g rows. Stands g s.held.items s.zeros.items (T.pieces s.target) × doubting.Stands g rows s.doubting };
 
     ghost fixed = { λ s. s.until };
 
-    ghost shows = { λ s g rows image. Shows g rows (until g s.until image) s.held.items (T.pieces s.target) × IsDoubting g rows image s.doubting };
+    ghost shows = { λ s g rows image. ShowsSound g rows (until g s.until image) s.held.items (T.pieces s.target) × IsDoubting g rows image s.doubting };
 
     ghost stopped = { λ s. T.failed s.target ≡ true };
 

@@ -4,6 +4,7 @@ mod arranged;
 mod array_rows;
 mod compare_rows;
 mod correct_rows;
+mod damaged_rows;
 mod dumps;
 mod files;
 mod geometry_rows;

@@ -4,7 +4,9 @@ ghost use Rattle.lab_commands.specs.Files.{IsUnkept, unknown};
 
 use crate::progress::{Meter, Metered, size_of};
 use lab_commands::{FileFault, KeepFault, LabFiles, MapText, Progress, Standing};
-use lab_dump::{Dump, DumpFault, LineFault, MapWriter, PageTarget, Pieces, Target, TargetFault};
+use lab_dump::{
+    DamagedTarget, Dump, DumpFault, LineFault, MapWriter, PageTarget, Pieces, Target, TargetFault,
+};
 use part_files::{PartFault, SystemNames, discard, new_part, part_name, publish_new, publish_over};
 use std::alloc::Global;
 use std::fmt::Display;
@@ -316,6 +318,12 @@ impl Target for PieceFile {
 
     fn blank(&mut self, number: u32, zeros: &[u8]) -> Result<(), TargetFault> {
         self.put_piece(number, zeros)
+    }
+}
+
+impl DamagedTarget for PieceFile {
+    fn put_damaged(&mut self, number: u32, body: &[u8], _spare: &[u8]) -> Result<(), TargetFault> {
+        self.put_piece(number, body)
     }
 }
 

@@ -36,6 +36,8 @@ pub enum Made {
     Cut(&'static [Written], usize),
     /// The disk image of 32 sectors of zeros, but for these, each filled with one byte.
     Disk(&'static [(usize, u8)]),
+    /// The same with other bytes in these places.
+    Spoiled(&'static [(usize, u8)], Changes),
     /// A certificate.
     Certificate(Claimed),
 }
@@ -129,6 +131,14 @@ fn disk(alloc: Global, sectors: &[(usize, u8)]) -> Result<Vec<u8>, AllocError> {
     Ok(bytes)
 }
 
+fn spoiled(alloc: Global, sectors: &[(usize, u8)], changes: Changes) -> Result<Vec<u8>, Fail> {
+    let mut bytes = disk(alloc, sectors)?;
+    for (at, byte) in changes {
+        *bytes.get_mut(*at).ok_or("no such byte")? = *byte;
+    }
+    Ok(bytes)
+}
+
 fn certificate(alloc: Global, claimed: &Claimed) -> Result<Vec<u8>, AllocError> {
     let (next, blocks, sectors) = *claimed;
     let claim = Claim {
@@ -155,6 +165,7 @@ pub fn bytes_of(alloc: Global, made: &Made) -> Result<Vec<u8>, Fail> {
         }
         Made::Cut(pages, length) => cut(alloc, &geometry, pages, *length)?,
         Made::Disk(sectors) => disk(alloc, sectors)?,
+        Made::Spoiled(sectors, changes) => spoiled(alloc, sectors, changes)?,
         Made::Certificate(claimed) => certificate(alloc, claimed)?,
     })
 }

@@ -3,7 +3,9 @@ ghost use Rattle.std.specs.Prelude.{IfErr};
 ghost use Rattle.lab_commands.specs.Files.{IsUnkept, unknown};
 
 use lab_commands::{FileFault, KeepFault, LabFiles, MapText, Progress, Standing};
-use lab_dump::{Dump, DumpFault, DumpReader, PageTarget, Pieces, Target, TargetFault};
+use lab_dump::{
+    DamagedTarget, Dump, DumpFault, DumpReader, PageTarget, Pieces, Target, TargetFault,
+};
 use std::alloc::{AllocError, Global};
 use std::io::{self, ErrorKind, Write};
 
@@ -172,6 +174,12 @@ impl Target for Beside {
 
     fn blank(&mut self, number: u32, zeros: &[u8]) -> Result<(), TargetFault> {
         self.set(number, zeros)
+    }
+}
+
+impl DamagedTarget for Beside {
+    fn put_damaged(&mut self, number: u32, body: &[u8], _spare: &[u8]) -> Result<(), TargetFault> {
+        self.set(number, body)
     }
 }
 

@@ -1,7 +1,7 @@
 use Rattle.std.proofs.Common.{refl, inl, inr, map, List, ap, subst, ◌∙◌}
 use Rattle.std.specs.Io.KnownBytes.{Appends}
 use Rattle.std.proofs.KnownBytes.{Keeps-refl}
-use Rattle.lab_dump.specs.Held.{state_in}
+use Rattle.lab_dump.specs.Held.{shown_in}
 use Rattle.lab_dump.specs.declared.held.Held.{Held}
 use Rattle.lab_dump.specs.Map.{map_text}
 use Rattle.lab_commands.specs.Undone.{IsUnmade}
@@ -85,7 +85,7 @@ returns-in_err-put_map-clause-fault g c =
       geometry_is = c.in_ok-geometry.ensures.ok;
       last_is = c.in_ok-last.ensures.ok;
       allowed = c.in_ok-allow_both.ensures.ok;
-      made = subst (λ f. IsMade (g.F.LabFiles.answers f) words.dump.now geometry last pieces held left) same c.in_ok-written.ensures.made;
+      made = subst (λ f. IsMade (g.F.LabFiles.answers f) words.dump.now geometry last c.args.words.damaged pieces held left) same c.in_ok-written.ensures.made;
     } in
     handed_on (IsArrayFault a c.args.words k (g.F.LabFiles.kept c.put_map.new.files) (g.F.LabFiles.opened c.args.files.now) (g.F.LabFiles.opened c.put_map.new.files) broke o o) _ _ c.from_residual-in_err-put_map.ensures.1
     (inr (inl (record {
@@ -130,14 +130,14 @@ returns-in-Ok-clause-ok g c =
           geometry_is = c.in_ok-geometry.ensures.ok;
           last_is = c.in_ok-last.ensures.ok;
           allowed = c.in_ok-allow_both.ensures.ok;
-          made = subst (λ f. IsMade (g.F.LabFiles.answers f) words.dump.now geometry last pieces held left) same c.in_ok-written.ensures.made;
+          made = subst (λ f. IsMade (g.F.LabFiles.answers f) words.dump.now geometry last c.args.words.damaged pieces held left) same c.in_ok-written.ensures.made;
         };
         put = c.in_ok-put_map.ensures.ok
-            ∙ (ap (λ (hs : List Held). with_map (g.F.LabFiles.kept c.keep.new.files) words (map_text geometry (map state_in hs))) c.deref.ensures.value
-            ∙ ap (λ x. with_map x words (map_text geometry (map state_in held))) (c.in_ok-keep.ensures.ok ∙ ap (λ x. with_kept x words.out.now pieces words.force) (c.in_ok-written.ensures.beside ∙ ap g.F.LabFiles.kept same)));
+            ∙ (ap (λ (hs : List Held). with_map (g.F.LabFiles.kept c.keep.new.files) words (map_text geometry (map shown_in hs))) c.deref.ensures.value
+            ∙ ap (λ x. with_map x words (map_text geometry (map shown_in held))) (c.in_ok-keep.ensures.ok ∙ ap (λ x. with_kept x words.out.now pieces words.force) (c.in_ok-written.ensures.beside ∙ ap g.F.LabFiles.kept same)));
       };
-      told = subst (λ f. Appends (g.W.Output.contents c.args.out.now) (g.W.Output.contents c.print_array.new.out) (array_text f geometry last (map state_in held) left)) c.printer-printer.ensures
-          (subst (λ (hs : List Held). Appends (g.W.Output.contents c.args.out.now) (g.W.Output.contents c.print_array.new.out) (array_text c.printer-printer.result.form geometry last (map state_in hs) left)) c.deref-2.ensures.value c.in-Ok.ensures);
+      told = subst (λ f. Appends (g.W.Output.contents c.args.out.now) (g.W.Output.contents c.print_array.new.out) (array_text f geometry last (map shown_in held) left)) c.printer-printer.ensures
+          (subst (λ (hs : List Held). Appends (g.W.Output.contents c.args.out.now) (g.W.Output.contents c.print_array.new.out) (array_text c.printer-printer.result.form geometry last (map shown_in hs) left)) c.deref-2.ensures.value c.in-Ok.ensures);
     }
 
 pub returns-clause-fault : goal.returns-clause-fault
@@ -156,11 +156,11 @@ returns-clause-fault g c =
         geometry_is = c.in_ok-geometry.ensures.ok;
         last_is = c.in_ok-last.ensures.ok;
         allowed = c.in_ok-allow_both.ensures.ok;
-        made = subst (λ f. IsMade (g.F.LabFiles.answers f) words.dump.now geometry last pieces held left) same c.in_ok-written.ensures.made;
+        made = subst (λ f. IsMade (g.F.LabFiles.answers f) words.dump.now geometry last c.args.words.damaged pieces held left) same c.in_ok-written.ensures.made;
       };
       put = c.in_ok-put_map.ensures.ok
-          ∙ (ap (λ (hs : List Held). with_map (g.F.LabFiles.kept c.keep.new.files) words (map_text geometry (map state_in hs))) c.deref.ensures.value
-          ∙ ap (λ x. with_map x words (map_text geometry (map state_in held))) (c.in_ok-keep.ensures.ok ∙ ap (λ x. with_kept x words.out.now pieces words.force) (c.in_ok-written.ensures.beside ∙ ap g.F.LabFiles.kept same)));
+          ∙ (ap (λ (hs : List Held). with_map (g.F.LabFiles.kept c.keep.new.files) words (map_text geometry (map shown_in hs))) c.deref.ensures.value
+          ∙ ap (λ x. with_map x words (map_text geometry (map shown_in held))) (c.in_ok-keep.ensures.ok ∙ ap (λ x. with_kept x words.out.now pieces words.force) (c.in_ok-written.ensures.beside ∙ ap g.F.LabFiles.kept same)));
     } in
     inr (inr (
       geometry,
@@ -169,6 +169,6 @@ returns-clause-fault g c =
       left,
       put,
       half_printed c.in-Err.fault _ _ _ _ _ c.unprinted.ensures
-          (subst (λ f. Stops c.in-Err.fault (g.W.Output.failed c.print_array.new.out) (g.W.Output.contents c.args.out.now) (g.W.Output.contents c.print_array.new.out) (array_text f geometry last (map state_in held) left)) c.printer-printer.ensures
-          (subst (λ (hs : List Held). Stops c.in-Err.fault (g.W.Output.failed c.print_array.new.out) (g.W.Output.contents c.args.out.now) (g.W.Output.contents c.print_array.new.out) (array_text c.printer-printer.result.form geometry last (map state_in hs) left)) c.deref-2.ensures.value c.in-Err.ensures)),
+          (subst (λ f. Stops c.in-Err.fault (g.W.Output.failed c.print_array.new.out) (g.W.Output.contents c.args.out.now) (g.W.Output.contents c.print_array.new.out) (array_text f geometry last (map shown_in held) left)) c.printer-printer.ensures
+          (subst (λ (hs : List Held). Stops c.in-Err.fault (g.W.Output.failed c.print_array.new.out) (g.W.Output.contents c.args.out.now) (g.W.Output.contents c.print_array.new.out) (array_text c.printer-printer.result.form geometry last (map shown_in hs) left)) c.deref-2.ensures.value c.in-Err.ensures)),
     ))

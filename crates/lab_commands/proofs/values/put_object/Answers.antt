@@ -131,3 +131,7 @@ returns-in-Says g c = subst (λ l. Prints (g.W.Output.failed c.put_says.new.out)
 pub returns-in-Legible : goal.returns-in-Legible
 unfolding line_data
 returns-in-Legible g c = subst (λ l. Prints (g.W.Output.failed c.put_legible.new.out) (g.W.Output.contents c.args.out.now) (g.W.Output.contents c.put_legible.new.out) (compact_text (line_data l)) c.put_legible.result) (sym c.in-Legible.is) c.put_legible.ensures
+
+pub returns-in-Damaged : goal.returns-in-Damaged
+unfolding line_data
+returns-in-Damaged g c = subst (λ l. Prints (g.W.Output.failed c.put_damaged.new.out) (g.W.Output.contents c.args.out.now) (g.W.Output.contents c.put_damaged.new.out) (compact_text (line_data l)) c.put_damaged.result) (sym c.in-Damaged.is) c.put_damaged.ensures

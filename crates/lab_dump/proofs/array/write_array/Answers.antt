@@ -1,14 +1,13 @@
-use Rattle.std.proofs.Common.{◌≡◌, ℕ, List, Option, IfSome, sym, subst}
+use Rattle.std.proofs.Common.{◌≡◌, ℕ, List, [], Option, IfSome, false, sym, subst}
 use Rattle.page_layout.specs.Geometry.{row_count}
 use Rattle.lab_dump.specs.Scan.{IsTaken}
 use Rattle.lab_dump.specs.declared.held.Held.{Held}
-use Rattle.lab_dump.specs.declared.doubts.Unsettled.{Unsettled}
 use Rattle.lab_dump.specs.Doubting.{IsDoubting}
 use Rattle.lab_dump.specs.Until.{until}
-use Rattle.lab_dump.specs.Writing.{Shows}
+use Rattle.lab_dump.specs.Writing.{ShowsSound}
 use Rattle.lab_dump.specs.Written.{IsWritten}
 use Rattle.lab_dump.proofs.WritingLemmas.{nothing_yet, if_more}
-use Rattle.lab_dump.proofs.WrittenLemmas.{written}
+use Rattle.lab_dump.proofs.WrittenLemmas.{written_sound}
 use Rattle.lab_dump.proofs.array.write_array.Goals as goal
 
 pub scan-requires-clause-shows : goal.scan-requires-clause-shows
@@ -16,7 +15,7 @@ scan-requires-clause-shows g c = λ image.
     let geo = c.args.geometry.now in
     let pieces = g.T.Pieces.pieces c.args.target in
     let shown = until geo c.args.until image in
-    (subst (λ (hs : List Held). Shows geo 0 shown hs pieces) (sym c.requires.room.held) (nothing_yet geo shown pieces c.requires.pieces), c.requires.room.shows image)
+    (subst (λ (hs : List Held). ShowsSound geo 0 shown hs pieces) (sym c.requires.room.held) (nothing_yet geo shown [] (λ row. []) pieces c.requires.pieces), c.requires.room.shows image)
 
 pub returns-in-Ok-clause-ok : goal.returns-in-Ok-clause-ok
 returns-in-Ok-clause-ok g c =
@@ -24,10 +23,12 @@ returns-in-Ok-clause-ok g c =
     let taker = c.scan.new.taker in
     let pieces = g.T.Pieces.pieces taker.target in
     let last = c.args.until in
-    let left : Unsettled = record { doubts = c.conclude-doubts.result; legible = c.conclude-doubts.new.self.legible; said = c.conclude-doubts.new.self.said } in
+    let left = c.conclude.result.left in
     let remaining = g.R.DumpReader.remaining c.args.reader.now in
     let same : taker.until ≡ last = c.in-Ok.ensures.fixed in
-    let taken = subst (λ (u : Option ℕ). IfSome remaining (IsTaken geo (λ image. Shows geo (row_count geo) (until geo u image) taker.held.items pieces × IsDoubting geo (row_count geo) image taker.doubting))) same c.in-Ok.ensures.taken in
-    if_more remaining (IsTaken geo (λ image. Shows geo (row_count geo) (until geo last image) taker.held.items pieces × IsDoubting geo (row_count geo) image taker.doubting))
-    (IsWritten geo last pieces taker.held.items left) taken
-    (λ bytes taken. written geo last taker.held.items taker.zeros.items taker.doubting left pieces bytes c.in-Ok.ensures.stands.0 c.conclude-doubts.ensures.is c.conclude-doubts.ensures.said c.conclude-doubts.ensures.legible taken)
+    let taken = subst (λ (u : Option ℕ). IfSome remaining (IsTaken geo (λ image. ShowsSound geo (row_count geo) (until geo u image) taker.held.items pieces × IsDoubting geo (row_count geo) image taker.doubting))) same c.in-Ok.ensures.taken in
+    let written : IfSome remaining (IsWritten geo last false pieces taker.held.items left) =
+    if_more remaining (IsTaken geo (λ image. ShowsSound geo (row_count geo) (until geo last image) taker.held.items pieces × IsDoubting geo (row_count geo) image taker.doubting)) (IsWritten geo last false pieces taker.held.items left) taken
+    (λ bytes all. written_sound geo last taker.held.items taker.zeros.items taker.doubting left pieces bytes c.in-Ok.ensures.stands.0 c.conclude.ensures.left all) in
+    subst (λ t. IfSome remaining (IsWritten geo last false (g.T.Pieces.pieces t) c.conclude.result.held.items left)) (sym c.conclude.ensures.target)
+    (subst (λ (hs : List Held). IfSome remaining (IsWritten geo last false pieces hs left)) (sym c.conclude.ensures.held) written)

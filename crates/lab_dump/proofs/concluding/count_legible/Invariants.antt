@@ -1,7 +1,6 @@
 use Rattle.std.proofs.Common.{◌≡◌, ◌≤◌, count_by, length, take}
 use Rattle.page_layout.specs.Geometry.{row_count}
 use Rattle.page_layout.specs.Page.{Image}
-use Rattle.lab_dump.specs.Said.{said_below}
 use Rattle.lab_dump.specs.Concluding.{IsSeen}
 use Rattle.lab_dump.proofs.ConcludeLemmas.{is_open_page}
 use Rattle.lab_dump.proofs.concluding.count_legible.Given as goal

@@ -1,4 +1,4 @@
-use Rattle.std.proofs.Common.{◌≡◌, false, refl, ◌∙◌, subst, arith}
+use Rattle.std.proofs.Common.{◌≡◌, refl, ◌∙◌, subst, arith}
 use Rattle.std.proofs.lemmas.List.{get_or_default}
 use Rattle.lab_dump.proofs.ConcludeLemmas.{AreSummed, summed_all, summed_block, summed_start}
 use Rattle.lab_dump.proofs.concluding.sum_blocks.Goals as goal

@@ -1,19 +1,19 @@
 use Rattle.std.proofs.Common.{◌≡◌, ℕ, map, sym, subst, arith}
 use Rattle.std.specs.Io.KnownBytes.{Appends}
 use Rattle.std.proofs.KnownBytes.{Appends-trans}
-use Rattle.lab_dump.specs.Held.{state_in}
+use Rattle.lab_dump.specs.Held.{mark_in}
 use Rattle.lab_dump.specs.Map.{areas_below}
 use Rattle.lab_dump.proofs.MapLemmas.{below_more, below_none, first_zero}
 use Rattle.lab_dump.proofs.map.print_areas.Goals as goal
 
 pub loop-sector-init : goal.loop-sector-init
 loop-sector-init g c =
-    let states = map state_in c.args.held.now in
+    let states = map mark_in c.args.held.now in
     record { first_is = sym (first_zero states); printed = below_none c.args.geometry.now states (g.W.MapWriter.contents c.args.out.now) }
 
 pub loop-sector-preserved : goal.loop-sector-preserved
 loop-sector-preserved g c =
-    let states = map state_in c.args.held.now in
+    let states = map mark_in c.args.held.now in
     let a = g.W.MapWriter.contents c.args.out.now in
     let d = g.W.MapWriter.contents c.print_end.new.out in
     record {
@@ -23,6 +23,6 @@ loop-sector-preserved g c =
 
 pub returns-clause-printed : goal.returns-clause-printed
 returns-clause-printed g c =
-    let states = map state_in c.args.held.now in
+    let states = map mark_in c.args.held.now in
     let all : c.loop-sector.sector ≡ c.args.geometry.now.sectors = omega arith in
     subst (λ (k : ℕ). Appends (g.W.MapWriter.contents c.args.out.now) (g.W.MapWriter.contents c.loop-sector.out) (areas_below c.args.geometry.now states k)) all c.loop-sector.invariant.printed

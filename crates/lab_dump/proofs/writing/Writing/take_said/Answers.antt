@@ -1,0 +1,40 @@
+use Rattle.std.proofs.Common.{◌∙◌, sym, subst, IfSome, ◌+◌, set}
+use Rattle.std.proofs.lemmas.List.{length-set}
+use Rattle.page_layout.specs.Array.{content_of_kind}
+use Rattle.lab_dump.specs.Writing.{AreSized, Shows}
+use Rattle.lab_dump.proofs.WritingLemmas.{other_none, unmarked_none, nothing_noted, said_noted, says_sector, sized_after, within_is}
+use Rattle.lab_dump.proofs.writing.Writing.take_said.Goals as goal
+
+pub returns-in_default-clause-shows : goal.returns-in_default-clause-shows
+returns-in_default-clause-shows g c = λ image said reads shown unmarked mark here.
+    let geo = c.args.geometry.now in
+    nothing_noted geo c.args.row image said reads _ _ shown (unmarked_none geo _ c.args.row unmarked) (other_none geo said c.args.row c.args.says.now mark (sym c.sector_in.ensures ∙ c.in_default.is))
+
+pub returns-in-Ok-clause-stands : goal.returns-in-Ok-clause-stands
+returns-in-Ok-clause-stands g c =
+    let geo = c.args.geometry.now in
+    let n = c.in-Some.sector in
+    let stands = c.requires.stands in
+    record {
+      size = length-set c.args.self.now.held.items n c.step_said-held.result.0 ∙ stands.size;
+      blank_is = stands.blank_is;
+      sized = subst (λ ps. IfSome ps (AreSized geo)) (sym c.in-Ok.ensures.written)
+          (sized_after geo c.step_said-held.result.1 n (content_of_kind geo c.args.says.now.kind c.args.body.now) (g.T.Pieces.pieces c.args.self.now.target) stands.sized);
+    }
+
+pub returns-in-Ok-clause-shows : goal.returns-in-Ok-clause-shows
+returns-in-Ok-clause-shows g c = λ image said reads shown unmarked mark here.
+    let geo = c.args.geometry.now in
+    let n = c.in-Some.sector in
+    let stands = c.requires.stands in
+    let says = c.args.says.now in
+    let its = within_is geo says n (sym c.sector_in.ensures ∙ c.in-Some.is) in
+    let change = c.step_said-held.result.1 in
+    let pieces = g.T.Pieces.pieces c.args.self.now.target in
+    let noted = said_noted geo c.args.row image said reads c.args.self.now.held.items pieces says (content_of_kind geo says.kind c.args.body.now) n c.index.result.now c.step_said-held.result.0 change shown stands.sized stands.size its.1 unmarked mark its.0 here c.index.ensures c.step_said-held.ensures.tells c.step_said-held.ensures.moves in
+    subst (λ ps. Shows geo (c.args.row + 1) image said reads (set c.args.self.now.held.items n c.step_said-held.result.0) ps) (sym c.in-Ok.ensures.written) noted
+
+pub put_said-requires-clause-says : goal.put_said-requires-clause-says
+put_said-requires-clause-says g c = λ is.
+    let its = within_is c.args.geometry.now c.args.says.now c.in-Some.sector (sym c.sector_in.ensures ∙ c.in-Some.is) in
+    says_sector c.in-Some.sector c.args.body.now c.args.spare.now c.args.says.now c.requires.broken c.requires.spelled its.0 is
