@@ -131,3 +131,11 @@ returns-in-Says g c = subst (λ l. Prints (g.W.Output.failed c.put_says.new.out)
 pub returns-in-Legible : goal.returns-in-Legible
 unfolding line_data
 returns-in-Legible g c = subst (λ l. Prints (g.W.Output.failed c.put_legible.new.out) (g.W.Output.contents c.args.out.now) (g.W.Output.contents c.put_legible.new.out) (compact_text (line_data l)) c.put_legible.result) (sym c.in-Legible.is) c.put_legible.ensures
+
+pub returns-in-Tried : goal.returns-in-Tried
+unfolding line_data
+returns-in-Tried g c = subst (λ l. Prints (g.W.Output.failed c.put_tried.new.out) (g.W.Output.contents c.args.out.now) (g.W.Output.contents c.put_tried.new.out) (compact_text (line_data l)) c.put_tried.result) (sym c.in-Tried.is) c.put_tried.ensures
+
+pub returns-in-Tries : goal.returns-in-Tries
+unfolding line_data
+returns-in-Tries g c = subst (λ l. Prints (g.W.Output.failed c.put_tries.new.out) (g.W.Output.contents c.args.out.now) (g.W.Output.contents c.put_tries.new.out) (compact_text (line_data l)) c.put_tries.result) (sym c.in-Tries.is) c.put_tries.ensures
