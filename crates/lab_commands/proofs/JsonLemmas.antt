@@ -222,7 +222,7 @@ pub nothing_json : (row differing r1 r2 : ℕ) → r1 ≡ differing → r2 ≡ r
 unfolding escape_byte
 nothing_json row differing r1 r2 e1 e2 = rw (e1, e2) (refl)
 
-pub tries_json : (tries : ℕ) → codes "{\"line\":\"tries\",\"seal_bits\":64,\"tries\":" ++ (decimal tries ++ codes "}") ≡ compact_text (tries_data tries)
+pub tries_json : (tries : ℕ) → codes "{\"line\":\"tries\",\"seal_bits\":" ++ (decimal 64 ++ (codes ",\"tries\":" ++ (decimal tries ++ codes "}"))) ≡ compact_text (tries_data tries)
 unfolding escape_byte
 tries_json tries = refl
 

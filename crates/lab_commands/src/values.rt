@@ -476,7 +476,9 @@ fn put_tries<W: Output>(out: &mut W, tries: u64) -> Result<(), OutputFault>
     put_pieces(
         out,
         &[
-            Words("{\"line\":\"tries\",\"seal_bits\":64,\"tries\":"),
+            Words("{\"line\":\"tries\",\"seal_bits\":"),
+            Number(64),
+            Words(",\"tries\":"),
             Number(tries),
             Words("}"),
         ],
