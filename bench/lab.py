@@ -39,6 +39,10 @@ SEEN = set()
 FITTED = collections.Counter()
 # how many sectors were shown of one unsound page, of a trim, or of the first of several
 SHOWN = collections.Counter()
+# the origins of the rows of a merge, as they are counted
+KINDS = ["sound", "differ", "majority", "turned", "erased", "unsound"]
+# how many rows of merges were tried, by what came of them
+TRIED = collections.Counter()
 # how many sectors had no page, one, two, or more
 FOUND = collections.Counter()
 
@@ -80,7 +84,13 @@ def line_of(told, outside, rewritten):
     if kind == "arranged":
         return f"arranged {told['rows']}"
     if kind == "merged":
-        return " ".join(f"{name} {told[name]}" for name in ["sound", "differ", "majority", "erased", "unsound"])
+        return " ".join(f"{name} {told[name]}" for name in KINDS)
+    if kind in ("turned", "tied_row", "tried"):
+        word = "tied" if kind == "tied_row" else kind
+        return f"{word} row {told['row']} bits " + (f"{told['turned']} of " if "turned" in told else "") + str(told["bits"])
+    if kind == "tries":
+        assert told["seal_bits"] == 64, told
+        return tries_text(told["tries"])
     if kind in ("factory", "rewritten", "holes", "outside"):
         return f"{kind} {told['pages']}"
     if kind == "until":
@@ -825,15 +835,53 @@ def majority(pages):
     return sum((2 * n > len(pages)) << k for k, n in enumerate(bits)).to_bytes(len(pages[0]), "little")
 
 
+def tries_text(tries):
+    return f"tries {tries}: by a seal of 8 bytes a wrong page is taken by chance in at most {tries} of {2**64} cases"
+
+
+def with_bits(page, bits):
+    number = int.from_bytes(page, "little")
+    return (number ^ sum(1 << bit for bit in bits)).to_bytes(len(page), "little")
+
+
+def tried(g, programmed):
+    """What comes of turning bits of the first of these pages in which they differ: the page, its origin, and what is told."""
+    apart = [int.from_bytes(page, "little") ^ int.from_bytes(programmed[0], "little") for page in programmed]
+    bits = [bit for bit in range(8 * g.page) if any(number >> bit & 1 for number in apart)]
+    if not 1 <= len(bits) <= 16:
+        return programmed[0], "unsound", None
+    for count in range(1, len(bits) + 1):
+        sound = [page for page in (with_bits(programmed[0], turns) for turns in itertools.combinations(bits, count)) if is_sound(g, page)]
+        if len(sound) == 1:
+            return sound[0], "turned", ("turned", f"{count} of {len(bits)}", len(bits))
+        if sound:
+            return programmed[0], "unsound", ("tied", f"{count} of {len(bits)}", len(bits))
+    return programmed[0], "unsound", ("tried", str(len(bits)), len(bits))
+
+
 def choice(g, pages):
-    """What is written of a row, and where it is from."""
+    """What is written of a row, where it is from, and what came of the pages that were tried, if some were."""
     sound = {page for page in pages if is_sound(g, page)}
     if sound:
-        return (sound.pop(), "sound") if len(sound) == 1 else (bytes(g.page), "differ")
+        return (sound.pop(), "sound", None) if len(sound) == 1 else (bytes(g.page), "differ", None)
     if len(pages) >= 3 and is_sound(g, majority(pages)):
-        return majority(pages), "majority"
+        return majority(pages), "majority", None
     programmed = [page for page in pages if page != b"\xff" * g.page]
-    return (programmed[0], "unsound") if programmed else (pages[0], "erased")
+    return tried(g, programmed) if programmed else (pages[0], "erased", None)
+
+
+def misread(rng, g, readings):
+    """The readings with some bits of some rows wrong in each, at most eighteen of a row in all, and one reading all FFh at times."""
+    pages = [pages_of(g, raw) for raw in readings]
+    for row in rng.sample(range(g.rows), rng.choice([0, 1, 3])):
+        page, left = rng.choice(pages)[row], rng.choice([2, 3, 5, 8, 12, 16, 18])
+        bits = rng.sample(range(8 * g.page), left)
+        for place, reading in enumerate(pages):
+            share = bits[place :: len(pages)] if rng.random() < 0.8 else bits[:1]
+            reading[row] = with_bits(page, share)
+        if rng.random() < 0.3:
+            rng.choice(pages)[row] = b"\xff" * g.page
+    return [b"".join(reading) for reading in pages]
 
 
 def merge_case(rng, folder):
@@ -847,11 +895,15 @@ def merge_case(rng, folder):
         other = data + ref.spare_of(g, ref.Record(1, 0, 1, 0), data)
         page = rng.choice([other, b"\xff" * g.page])
         readings[place] = readings[place][: row * g.page] + page + readings[place][(row + 1) * g.page :]
+    readings = misread(rng, g, readings)
     chosen = [choice(g, list(pages)) for pages in zip(*(pages_of(g, raw) for raw in readings))]
-    told = "".join(f"differ row {row}\n" for row, (_, origin) in enumerate(chosen) if origin == "differ")
-    told += "".join(f"unsound row {row}\n" for row, (_, origin) in enumerate(chosen) if origin == "unsound")
-    kinds = ["sound", "differ", "majority", "erased", "unsound"]
-    told += " ".join(f"{kind} {sum(origin == kind for _, origin in chosen)}" for kind in kinds) + "\n"
+    told = "".join(f"differ row {row}\n" for row, (_, origin, _) in enumerate(chosen) if origin == "differ")
+    told += "".join(f"unsound row {row}\n" for row, (_, origin, _) in enumerate(chosen) if origin == "unsound")
+    trials = [(row, trial) for row, (_, _, trial) in enumerate(chosen) if trial]
+    TRIED.update(word for _, (word, _, _) in trials)
+    told += "".join(f"{word} row {row} bits {bits}\n" for row, (word, bits, _) in trials)
+    told += tries_text(sum(2**count for _, (_, _, count) in trials)) + "\n" if trials else ""
+    told += " ".join(f"{kind} {sum(origin == kind for _, origin, _ in chosen)}" for kind in KINDS) + "\n"
     want, names = (0, told, ""), [f"reading{place}.bin" for place in range(len(readings))]
     if rng.random() < 0.1:
         place = rng.randrange(len(readings))
@@ -859,7 +911,7 @@ def merge_case(rng, folder):
         want = (1, "", f"refused merge 1 DumpLength {names[place]}\n")
     for name, raw in zip(names, readings):
         (folder / name).write_bytes(raw)
-    stored(rng, folder, ["merge", g.words(), "out.bin", *names], want, b"".join(page for page, _ in chosen))
+    stored(rng, folder, ["merge", g.words(), "out.bin", *names], want, b"".join(page for page, _, _ in chosen))
 
 
 def refusals(folder):
@@ -1031,8 +1083,9 @@ def main():
         assert cases < 100 or SEEN == {"factory", "rewritten", "holes", "outside", "none", "newer", "not newer"}, SEEN
         assert cases < 100 or set(FITTED) == {"plain", "coded", "coded+plain", "none"}, FITTED
         assert cases < 100 or set(SHOWN) == {"one", "trim", "tied"}, SHOWN
+        assert cases < 100 or {"turned", "tried"} <= set(TRIED), TRIED
         assert cases < 100 or set(FOUND) == {0, 1, 2, 3}, FOUND
-        print(f"each of the eight commands over {cases} dumps agrees with the reference, and the refusals; geometry over {dict(FITTED)}")
+        print(f"each of the eight commands over {cases} dumps agrees with the reference, and the refusals; geometry over {dict(FITTED)}; rows tried by merge {dict(TRIED)}")
 
 
 if __name__ == "__main__":

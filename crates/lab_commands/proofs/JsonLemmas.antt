@@ -18,7 +18,7 @@ use Rattle.lab_dump.specs.declared.said.SaidPage.{SaidPage}
 use Rattle.lab_dump.specs.Doubts.{most_older}
 use Rattle.lab_mend.specs.declared.merging.Tally.{Tally}
 use Rattle.lab_commands.specs.Values.{age_data, age_until_data, arranged_data, block_data, corrected_data, damaged_data, doubt_data, fit_members, found_data, front_words, head_data, history_data, key_data, legible_data, lost_data, lost_row_data}
-use Rattle.lab_commands.specs.Values.{mended_count_data, mended_data, merged_data, page_data, pages_data, plain_block_data, reason_pages_data, reason_table_data, repeated_data, row_data, rows_age_data, rows_data, said_data, truth_words}
+use Rattle.lab_commands.specs.Values.{mended_count_data, mended_data, merged_data, nothing_data, page_data, pages_data, plain_block_data, reason_pages_data, reason_table_data, repeated_data, row_data, rows_age_data, rows_data, said_data, tries_data, truth_words, turned_data}
 use Rattle.std.specs.Prelude.{codes, ◌==◌, if◌then◌else◌}
 use Rattle.json.specs.Print.{escape, escape_byte, quoted}
 use Rattle.lab_dump.specs.declared.fit.TableSays.{TableSays}
@@ -203,9 +203,28 @@ pub unsound_json : (row : ℕ) (r1 : ℕ) → r1 ≡ row → codes "{\"line\":\"
 unfolding escape_byte
 unsound_json row r1 e1 = rw (e1) (refl)
 
-pub merged_json : (differ : ℕ) (tally : Tally) (r1 : ℕ) (r2 : ℕ) (r3 : ℕ) (r4 : ℕ) → r1 ≡ tally.erased → r2 ≡ tally.majority → r3 ≡ tally.sound → r4 ≡ tally.unsound → codes "{\"differ\":" ++ (decimal differ ++ (codes ",\"erased\":" ++ (decimal r1 ++ (codes ",\"line\":\"merged\",\"majority\":" ++ (decimal r2 ++ (codes ",\"sound\":" ++ (decimal r3 ++ (codes ",\"unsound\":" ++ (decimal r4 ++ codes "}"))))))))) ≡ compact_text (merged_data differ tally)
+pub merged_json : (differ : ℕ) (tally : Tally) (r1 : ℕ) (r2 : ℕ) (r3 : ℕ) (r4 : ℕ) (r5 : ℕ) → r1 ≡ tally.erased → r2 ≡ tally.majority → r3 ≡ tally.sound → r4 ≡ tally.turned → r5 ≡ tally.unsound
+    → codes "{\"differ\":" ++ (decimal differ ++ (codes ",\"erased\":" ++ (decimal r1 ++ (codes ",\"line\":\"merged\",\"majority\":" ++ (decimal r2 ++ (codes ",\"sound\":" ++ (decimal r3 ++ (codes ",\"turned\":" ++ (decimal r4 ++ (codes ",\"unsound\":" ++ (decimal r5 ++ codes "}"))))))))))) ≡ compact_text (merged_data differ tally)
 unfolding escape_byte
-merged_json differ tally r1 r2 r3 r4 e1 e2 e3 e4 = rw (e1, e2, e3, e4) (refl)
+merged_json differ tally r1 r2 r3 r4 r5 e1 e2 e3 e4 e5 = rw (e1, e2, e3, e4, e5) (refl)
+
+pub turned_json : (row turned differing r1 r2 r3 : ℕ) → r1 ≡ differing → r2 ≡ row → r3 ≡ turned
+    → codes "{\"bits\":" ++ (decimal r1 ++ (codes ",\"line\":\"turned\",\"row\":" ++ (decimal r2 ++ (codes ",\"turned\":" ++ (decimal r3 ++ codes "}"))))) ≡ compact_text (turned_data (codes "turned") row turned differing)
+unfolding escape_byte
+turned_json row turned differing r1 r2 r3 e1 e2 e3 = rw (e1, e2, e3) (refl)
+
+pub tied_row_json : (row turned differing r1 r2 r3 : ℕ) → r1 ≡ differing → r2 ≡ row → r3 ≡ turned
+    → codes "{\"bits\":" ++ (decimal r1 ++ (codes ",\"line\":\"tied_row\",\"row\":" ++ (decimal r2 ++ (codes ",\"turned\":" ++ (decimal r3 ++ codes "}"))))) ≡ compact_text (turned_data (codes "tied_row") row turned differing)
+unfolding escape_byte
+tied_row_json row turned differing r1 r2 r3 e1 e2 e3 = rw (e1, e2, e3) (refl)
+
+pub nothing_json : (row differing r1 r2 : ℕ) → r1 ≡ differing → r2 ≡ row → codes "{\"bits\":" ++ (decimal r1 ++ (codes ",\"line\":\"tried\",\"row\":" ++ (decimal r2 ++ codes "}"))) ≡ compact_text (nothing_data row differing)
+unfolding escape_byte
+nothing_json row differing r1 r2 e1 e2 = rw (e1, e2) (refl)
+
+pub tries_json : (tries : ℕ) → codes "{\"line\":\"tries\",\"seal_bits\":" ++ (decimal 64 ++ (codes ",\"tries\":" ++ (decimal tries ++ codes "}"))) ≡ compact_text (tries_data tries)
+unfolding escape_byte
+tries_json tries = refl
 
 pub age_json : (doubts : Doubts) (m : ℕ) (r1 : ℕ) → m ≡ most_older doubts → r1 ≡ doubts.unsound → codes "{\"line\":\"age\",\"older\":" ++ (decimal m ++ (codes ",\"unsound\":" ++ (decimal r1 ++ codes "}"))) ≡ compact_text (age_data doubts)
 unfolding escape_byte

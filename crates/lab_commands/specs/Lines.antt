@@ -24,6 +24,8 @@ use Rattle.lab_correct.specs.declared.found.FoundFit.{FoundFit}
 use Rattle.lab_mend.specs.declared.mending.Made.{Made}
 use Rattle.lab_mend.specs.declared.mending.Made.TheVariants as made
 use Rattle.lab_mend.specs.declared.merging.Tally.{Tally}
+use Rattle.lab_mend.specs.declared.trial.Trial.{Trial}
+use Rattle.lab_mend.specs.declared.trial.Trial.TheVariants as trial
 use Rattle.lab_commands.specs.declared.lines.Label.{Label}
 use Rattle.lab_commands.specs.declared.lines.Label.TheVariants as label
 use Rattle.lab_commands.specs.declared.lines.Sort.{Sort}
@@ -103,7 +105,22 @@ block_words block s unsound =
 abbrev pub tally_words : ℕ → Tally → List ℕ
 tally_words differ t =
     codes "sound " ++ (decimal t.sound ++ (codes " differ " ++ (decimal differ ++ (codes " majority " ++ (decimal t.majority ++ (
-    codes " erased " ++ (decimal t.erased ++ (codes " unsound " ++ decimal t.unsound))))))))
+    codes " turned " ++ (decimal t.turned ++ (codes " erased " ++ (decimal t.erased ++ (codes " unsound " ++ decimal t.unsound))))))))))
+
+-- a row of which so many of the bits are turned in which its readings differ
+abbrev pub turned_words : List ℕ → (row turned differing : ℕ) → List ℕ
+turned_words words row turned differing = words ++ (decimal row ++ (codes " bits " ++ (decimal turned ++ (codes " of " ++ decimal differing))))
+
+-- what came of the pages that were tried of a row
+abbrev pub trial_words : ℕ → Trial → List ℕ
+trial_words row (trial.Taken n d) = turned_words (codes "turned row ") row n d
+trial_words row (trial.Tied n d) = turned_words (codes "tied row ") row n d
+trial_words row (trial.Nothing d) = codes "tried row " ++ (decimal row ++ (codes " bits " ++ decimal d))
+
+-- how many pages were tried at most, and how often a wrong one is taken by chance: as often of 2 ^ 64 times, since a seal has 8 bytes or more
+abbrev pub tries_words : ℕ → List ℕ
+tries_words n =
+    codes "tries " ++ (decimal n ++ (codes ": by a seal of 8 bytes a wrong page is taken by chance in at most " ++ (decimal n ++ codes " of 18446744073709551616 cases")))
 
 -- how many bits of a chip's dump were turned back, in how many rows, and how many rows have lost chunks
 abbrev pub corrected_words : ℕ → ℕ → ℕ → List ℕ
@@ -195,7 +212,9 @@ line_words (Corrected bits rows lost) = corrected_words bits rows lost
 line_words (Arranged rows) = codes "arranged " ++ decimal rows
 line_words (Differ row) = codes "differ row " ++ decimal row
 line_words (Unsound row) = codes "unsound row " ++ decimal row
+line_words (line.Tried row t) = trial_words row t
 line_words (Merged differ t) = tally_words differ t
+line_words (line.Tries n) = tries_words n
 line_words (Age d) = age_words d
 line_words (line.AgeUntil last n) = until_words last n
 line_words (line.Page page block) = page_words page block
@@ -238,6 +257,11 @@ hole_line (suc n) = Some (Holes (suc n))
 abbrev pub past_line : ℕ → Option Line
 past_line zero = None
 past_line (suc n) = Some (Outside (suc n))
+
+-- the pages that were tried, where there are some
+abbrev pub tries_line : ℕ → Option Line
+tries_line zero = None
+tries_line (suc n) = Some (line.Tries (suc n))
 
 -- how far the array is from the last write, or what it is as of a sequence
 abbrev pub age_line : Option ℕ → Doubts → Line

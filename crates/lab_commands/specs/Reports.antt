@@ -10,6 +10,8 @@ use Rattle.lab_dump.specs.declared.held.Shown.TheVariants as shown
 use Rattle.lab_dump.specs.Held.{damaged_of, shown_in}
 use Rattle.lab_dump.specs.declared.compare.Compared.{Compared}
 use Rattle.lab_mend.specs.declared.merging.Tally.{Tally}
+use Rattle.lab_mend.specs.declared.merging.TriedRow.{TriedRow}
+use Rattle.lab_mend.specs.Tries.{tries_in}
 use Rattle.lab_correct.specs.declared.correcting.Loss.{Loss}
 use Rattle.lab_correct.specs.declared.found.FoundFit.{FoundFit}
 use Rattle.lab_mend.specs.declared.repairing.Mend.{Mend}
@@ -28,7 +30,7 @@ use Rattle.lab_commands.specs.declared.lists.Lines.TheVariants as lists
 use Rattle.lab_commands.specs.declared.lines.Line.TheVariants as line
 use Rattle.lab_commands.specs.declared.document.Form.{Form}
 use Rattle.lab_commands.specs.Document.{head_text, if_text, line_text, tail_text, text_below}
-use Rattle.lab_commands.specs.Lines.{age_line, block_line, damaged_line, factory_line, hole_line, key_line, last_line, legible_line, lost_line, newer_line, outside_line, page_line, past_line, repeated_line, rewritten_line, rows_line, table_line, tie_line}
+use Rattle.lab_commands.specs.Lines.{age_line, block_line, damaged_line, factory_line, hole_line, key_line, last_line, legible_line, lost_line, newer_line, outside_line, page_line, past_line, repeated_line, rewritten_line, rows_line, table_line, tie_line, tries_line}
 
 -- ---- lists
 
@@ -70,6 +72,9 @@ differ_at rows n = option_map line.Differ (slice_get rows n)
 abbrev pub unsound_at : List ℕ → ℕ → Option Line
 unsound_at rows n = option_map line.Unsound (slice_get rows n)
 
+abbrev pub tried_at : List TriedRow → ℕ → Option Line
+tried_at tried n = option_map (λ r. line.Tried r.row r.trial) (slice_get tried n)
+
 abbrev pub said_at : List SaidPage → ℕ → Option Line
 said_at pages n = option_map line.Says (slice_get pages n)
 
@@ -95,6 +100,7 @@ line_at (lists.Mends mends) = mend_at mends.now
 line_at (lists.LostRows losses) = loss_at losses.now
 line_at (lists.Conflicts rows) = differ_at rows.now
 line_at (lists.Unsound rows) = unsound_at rows.now
+line_at (lists.Tried rows) = tried_at rows.now
 line_at (lists.Said pages) = said_at pages.now
 line_at (lists.Newer last pages) = newer_at last pages.now
 
@@ -112,6 +118,7 @@ size_of (lists.Mends mends) = length mends.now
 size_of (lists.LostRows losses) = length losses.now
 size_of (lists.Conflicts rows) = length rows.now
 size_of (lists.Unsound rows) = length rows.now
+size_of (lists.Tried rows) = length rows.now
 size_of (lists.Said pages) = length pages.now
 size_of (lists.Newer last pages) = length pages.now
 
@@ -207,10 +214,12 @@ abbrev pub correct_text : Form → ℕ → ℕ → List Loss → List ℕ
 correct_text form turned touched losses =
     head_text form (codes "correct") ++ (text_below form (loss_at losses) (length losses) ++ (line_text form (line.Corrected turned touched (length losses)) ++ tail_text form))
 
-abbrev pub merge_text : Form → List ℕ → List ℕ → Tally → List ℕ
-merge_text form conflicts unsound t =
+-- the rows that differ, those that are unsound, those of which pages were tried, how many pages, and how many rows there are of each kind
+abbrev pub merge_text : Form → List ℕ → List ℕ → List TriedRow → Tally → List ℕ
+merge_text form conflicts unsound tried t =
     head_text form (codes "merge") ++ (text_below form (differ_at conflicts) (length conflicts)
-    ++ (text_below form (unsound_at unsound) (length unsound) ++ (line_text form (line.Merged (length conflicts) t) ++ tail_text form)))
+    ++ (text_below form (unsound_at unsound) (length unsound) ++ (text_below form (tried_at tried) (length tried)
+    ++ (if_text form (tries_line (tries_in tried)) ++ (line_text form (line.Merged (length conflicts) t) ++ tail_text form)))))
 
 -- how many pages were put in order
 abbrev pub arrange_text : Form → ℕ → List ℕ

@@ -10,6 +10,8 @@ use Rattle.lab_dump.specs.declared.said.SaidPage.{SaidPage}
 use Rattle.lab_dump.specs.Doubts.{most_older}
 use Rattle.lab_correct.specs.declared.found.FoundFit.{FoundFit}
 use Rattle.lab_mend.specs.declared.merging.Tally.{Tally}
+use Rattle.lab_mend.specs.declared.trial.Trial.{Trial}
+use Rattle.lab_mend.specs.declared.trial.Trial.TheVariants as trial
 use Rattle.lab_mend.specs.declared.mending.Made.{Made}
 use Rattle.lab_commands.specs.declared.lines.Label.{Label}
 use Rattle.lab_commands.specs.declared.lines.Sort.{Sort}
@@ -120,10 +122,30 @@ corrected_data bits rows lost =
 abbrev pub row_data : List ℕ → ℕ → Data
 row_data name row = object (member (codes "line") (text name) (member (codes "row") (count row) no_members))
 
+-- a row of which so many of the bits are turned in which its readings differ
+abbrev pub turned_data : List ℕ → (row turned differing : ℕ) → Data
+turned_data name row turned differing =
+    object (member (codes "bits") (count differing) (member (codes "line") (text name) (member (codes "row") (count row) (member (codes "turned") (count turned) no_members))))
+
+-- one of which none of the pages that were tried is sound
+abbrev pub nothing_data : ℕ → ℕ → Data
+nothing_data row differing = object (member (codes "bits") (count differing) (member (codes "line") (text (codes "tried")) (member (codes "row") (count row) no_members)))
+
+-- what came of the pages that were tried of a row
+abbrev pub tried_data : ℕ → Trial → Data
+tried_data row (trial.Taken n d) = turned_data (codes "turned") row n d
+tried_data row (trial.Tied n d) = turned_data (codes "tied_row") row n d
+tried_data row (trial.Nothing d) = nothing_data row d
+
+-- how many pages were tried at most, by a seal of so many bits
+abbrev pub tries_data : ℕ → Data
+tries_data n = object (member (codes "line") (text (codes "tries")) (member (codes "seal_bits") (count 64) (member (codes "tries") (count n) no_members)))
+
 abbrev pub merged_data : ℕ → Tally → Data
 merged_data differ t =
     object (member (codes "differ") (count differ) (member (codes "erased") (count t.erased) (member (codes "line") (text (codes "merged")) (
-    member (codes "majority") (count t.majority) (member (codes "sound") (count t.sound) (member (codes "unsound") (count t.unsound) no_members))))))
+    member (codes "majority") (count t.majority) (member (codes "sound") (count t.sound) (member (codes "turned") (count t.turned) (
+    member (codes "unsound") (count t.unsound) no_members)))))))
 
 -- at most so many sectors may be older, and so many pages are neither erased nor sound
 abbrev pub age_data : Doubts → Data
@@ -192,7 +214,9 @@ line_data (Corrected bits rows lost) = corrected_data bits rows lost
 line_data (Arranged rows) = arranged_data rows
 line_data (Differ row) = row_data (codes "differ") row
 line_data (Unsound row) = row_data (codes "unsound") row
+line_data (line.Tried row t) = tried_data row t
 line_data (Merged differ t) = merged_data differ t
+line_data (line.Tries n) = tries_data n
 line_data (Age d) = age_data d
 line_data (line.AgeUntil last n) = age_until_data last n
 line_data (line.Page page block) = page_data page block

@@ -4,7 +4,7 @@ ghost use Rattle.std.specs.Fmt.{decimal};
 ghost use Rattle.lab_commands.specs.Document.{Prints};
 ghost use Rattle.lab_commands.specs.Lines.{block_line, class_words, factory_line, hole_line, key_line, label_words, last_line, lost_line, made_words, outside_line, past_line, repeated_line, rewritten_line};
 ghost use Rattle.lab_commands.specs.Lines.{rows_line, says_words, sort_words, table_line, tie_line};
-ghost use Rattle.lab_commands.specs.Lines.{age_line, age_words, block_words, corrected_words, first_words, fit_words, found_words, history_words, kind_words, damaged_line, damaged_words, legible_line, legible_words, line_words, moved_words, newer_line, newer_words, page_line, page_words, said_words, tally_words, until_words, whole_words, wrote_words};
+ghost use Rattle.lab_commands.specs.Lines.{age_line, age_words, block_words, corrected_words, first_words, fit_words, found_words, history_words, kind_words, damaged_line, damaged_words, legible_line, legible_words, line_words, moved_words, newer_line, newer_words, page_line, page_words, said_words, tally_words, until_words, whole_words, wrote_words, tries_line, tries_words, trial_words, turned_words};
 
 use crate::output::{Output, OutputFault};
 use crate::pieces::Piece::{Number, Words};
@@ -12,7 +12,7 @@ use crate::pieces::put_pieces;
 use certificate::BlockState;
 use lab_correct::FoundFit;
 use lab_dump::{Doubts, Fit, Rows, SaidPage, SectorPage, Shown, State, TableSays, Wrote};
-use lab_mend::{Made, Tally};
+use lab_mend::{Made, Tally, Trial};
 use page_layout::geometry::Geometry;
 use page_layout::record::Kind;
 
@@ -76,8 +76,12 @@ pub enum Line {
     Differ(u32),
     /// No page of a row is sound or erased, nor the majority sound.
     Unsound(u32),
+    /// What came of the pages that were tried of a row.
+    Tried(u32, Trial),
     /// So many rows differ, and how many others there are of each kind.
     Merged(u64, Tally),
+    /// So many pages were tried at most.
+    Tries(u64),
     /// So far the array may be from the last write.
     Age(Doubts),
     /// Of the array as of this sequence, where so many pages are neither erased nor sound.
@@ -362,10 +366,62 @@ fn put_tally<W: Output>(out: &mut W, differ: u64, tally: Tally) -> Result<(), Ou
             Number(differ),
             Words(" majority "),
             Number(u64::from(tally.majority)),
+            Words(" turned "),
+            Number(u64::from(tally.turned)),
             Words(" erased "),
             Number(u64::from(tally.erased)),
             Words(" unsound "),
             Number(u64::from(tally.unsound)),
+        ],
+    )
+}
+
+// A row of which so many of the bits are turned in which its readings differ.
+fn put_turned<'x, W: Output>(
+    out: &mut W,
+    words: &'x str,
+    row: u32,
+    turned: u32,
+    differing: u32,
+) -> Result<(), OutputFault>
+    ensures { Prints (W.failed out.new) (W.contents out.old) (W.contents out.new) (turned_words words.now row turned differing) result }
+{
+    put_pieces(
+        out,
+        &[
+            Words(words),
+            Number(u64::from(row)),
+            Words(" bits "),
+            Number(u64::from(turned)),
+            Words(" of "),
+            Number(u64::from(differing)),
+        ],
+    )
+}
+
+// What came of the pages that were tried of a row.
+fn put_tried<W: Output>(out: &mut W, row: u32, trial: Trial) -> Result<(), OutputFault>
+    ensures { Prints (W.failed out.new) (W.contents out.old) (W.contents out.new) (trial_words row trial) result }
+{
+    match trial {
+        Trial::Taken(turned, differing) => put_turned(out, "turned row ", row, turned, differing),
+        Trial::Tied(turned, differing) => put_turned(out, "tied row ", row, turned, differing),
+        Trial::Nothing(differing) => put_two(out, "tried row ", row, " bits ", differing),
+    }
+}
+
+// How often a wrong page is taken by chance.
+fn put_tries<W: Output>(out: &mut W, tries: u64) -> Result<(), OutputFault>
+    ensures { Prints (W.failed out.new) (W.contents out.old) (W.contents out.new) (tries_words tries) result }
+{
+    put_pieces(
+        out,
+        &[
+            Words("tries "),
+            Number(tries),
+            Words(": by a seal of 8 bytes a wrong page is taken by chance in at most "),
+            Number(tries),
+            Words(" of 18446744073709551616 cases"),
         ],
     )
 }
@@ -606,7 +662,9 @@ pub(crate) fn put_words<W: Output>(out: &mut W, line: Line) -> Result<(), Output
         Line::Arranged(rows) => put_one(out, "arranged ", u64::from(rows)),
         Line::Differ(row) => put_one(out, "differ row ", u64::from(row)),
         Line::Unsound(row) => put_one(out, "unsound row ", u64::from(row)),
+        Line::Tried(row, trial) => put_tried(out, row, trial),
         Line::Merged(differ, tally) => put_tally(out, differ, tally),
+        Line::Tries(tries) => put_tries(out, tries),
         Line::Age(doubts) => put_age(out, doubts),
         Line::AgeUntil(last, unsound) => put_until(out, last, unsound),
         Line::Page(page, block) => put_page(out, page, block),
@@ -686,6 +744,17 @@ pub(crate) fn past_line(pages: u32) -> Option<Line>
         None
     } else {
         Some(Line::Outside(pages))
+    }
+}
+
+/// The line of the pages that were tried, if some were.
+pub(crate) fn tries_line(tries: u64) -> Option<Line>
+    ensures { result ≡ tries_line tries }
+{
+    if tries == 0 {
+        None
+    } else {
+        Some(Line::Tries(tries))
     }
 }
 

@@ -3,7 +3,7 @@ ghost use Rattle.std.specs.Prelude.{◌≡◌, ◌<◌, get_or, map, option_map}
 ghost use Rattle.lab_dump.specs.declared.held.Shown.TheVariants as shown;
 ghost use Rattle.lab_dump.specs.declared.held.State.TheVariants.{Absent};
 ghost use Rattle.lab_dump.specs.Held.{shown_in};
-ghost use Rattle.lab_commands.specs.Reports.{differ_at, fit_at, loss_at, mend_at, newer_at, page_at, said_at, some_at, state_at, unsound_at};
+ghost use Rattle.lab_commands.specs.Reports.{differ_at, fit_at, loss_at, mend_at, newer_at, page_at, said_at, some_at, state_at, tried_at, unsound_at};
 
 use crate::lines::{
     Label, Line, block_line, key_line, lost_line, newer_line, page_line, table_line, tie_line,
@@ -11,7 +11,7 @@ use crate::lines::{
 use certificate::BlockState;
 use lab_correct::{FoundFit, Loss};
 use lab_dump::{DieSurvey, Held, SaidPage, SectorPage, Shown, State};
-use lab_mend::Mend;
+use lab_mend::{Mend, TriedRow};
 use page_layout::geometry::Geometry;
 
 /// Lines, one for each number below their count, or none for a number that has nothing to say.
@@ -41,6 +41,8 @@ pub(crate) enum Lines<'a> {
     Conflicts(&'a [u32]),
     /// The rows of which no page is sound or erased, nor the majority sound.
     Unsound(&'a [u32]),
+    /// The rows of which pages were tried.
+    Tried(&'a [TriedRow]),
     /// What pages say that are neither erased nor sound.
     Said(&'a [SaidPage]),
     /// Those that say something newer than what is shown, of the whole array alone.
@@ -144,6 +146,13 @@ fn unsound_line(rows: &[u32], number: usize) -> Option<Line>
     Some(Line::Unsound(row))
 }
 
+fn tried_line(tried: &[TriedRow], number: usize) -> Option<Line>
+    ensures { result ≡ tried_at tried.now number }
+{
+    let row = *tried.get(number)?;
+    Some(Line::Tried(row.row, row.trial))
+}
+
 fn said_line(pages: &[SaidPage], number: usize) -> Option<Line>
     ensures { result ≡ said_at pages.now number }
 {
@@ -178,6 +187,7 @@ impl Lines<'_> {
             Lines::Mends(mends) => mends.len(),
             Lines::LostRows(losses) => losses.len(),
             Lines::Conflicts(rows) | Lines::Unsound(rows) => rows.len(),
+            Lines::Tried(rows) => rows.len(),
             Lines::Said(pages) | Lines::Newer(_, pages) => pages.len(),
         }
     }
@@ -211,6 +221,7 @@ impl Lines<'_> {
             Lines::LostRows(losses) => loss_line(losses, number),
             Lines::Conflicts(rows) => differ_line(rows, number),
             Lines::Unsound(rows) => unsound_line(rows, number),
+            Lines::Tried(rows) => tried_line(rows, number),
             Lines::Said(pages) => said_line(pages, number),
             Lines::Newer(last, pages) => newer_page(last, pages, number),
         }

@@ -129,7 +129,7 @@ fn join_by<'a, F: LabFiles>(
     requires room { IsMergeRoom geometry.now (length words.now.dumps.items) room }
     requires none { readers.old.items ≡ [] }
     requires places { length words.now.dumps.items ≤ vec_capacity readers.old }
-    ensures made { IfOk result (λ told. IsJoined (F.answers files.old) (dumps_of words.now) geometry.now (F.Target.pieces told.target) told.conflicts.items told.unsound.items told.tally) }
+    ensures made { IfOk result (λ told. IsJoined (F.answers files.old) (dumps_of words.now) geometry.now (F.Target.pieces told.target) told.conflicts.items told.unsound.items told.tried.items told.tally) }
     ensures fault { IfErr result (IsUnjoined (F.answers files.old) (dumps_of words.now) geometry.now words.now.out.now) }
     ensures no_more { AnswersNoMore (F.answers files.old) (F.answers files.new) }
     ensures beside { OnOk result (without_part (F.kept files.new) ≡ F.kept files.old) }
@@ -158,7 +158,7 @@ fn join<'a, F: LabFiles>(
     requires merge { IsMergeRoom geometry.now (length words.now.dumps.items) room.merge }
     requires none { room.readers.items ≡ [] }
     requires places { length words.now.dumps.items ≤ vec_capacity room.readers }
-    ensures made { IfOk result (λ told. IsJoined (F.answers files.old) (dumps_of words.now) geometry.now (F.Target.pieces told.target) told.conflicts.items told.unsound.items told.tally) }
+    ensures made { IfOk result (λ told. IsJoined (F.answers files.old) (dumps_of words.now) geometry.now (F.Target.pieces told.target) told.conflicts.items told.unsound.items told.tried.items told.tally) }
     ensures fault { IfErr result (IsUnjoined (F.answers files.old) (dumps_of words.now) geometry.now words.now.out.now) }
     ensures no_more { AnswersNoMore (F.answers files.old) (F.answers files.new) }
     ensures beside { OnOk result (without_part (F.kept files.new) ≡ F.kept files.old) }
@@ -169,7 +169,8 @@ fn join<'a, F: LabFiles>(
 }
 
 /// The command `merge`: writes one dump of the dumps DUMP, each a reading of one die of the geometry GEOM, to the file OUT, row by row, and prints
-/// of which rows two sound pages differ, of which no page is sound nor the majority and not all are erased, and how many rows there are of each kind.
+/// of which rows two sound pages differ, of which no page is sound nor the majority and not all are erased, of which pages were tried, and how many
+/// rows there are of each kind.
 ///
 /// # Errors
 ///
@@ -202,6 +203,7 @@ pub(crate) fn merge_command<'a, F: LabFiles, W: Output>(
         out,
         &merged.conflicts,
         &merged.unsound,
+        &merged.tried,
         merged.tally,
     ) {
         Ok(()) => Ok(()),

@@ -1,20 +1,22 @@
 //! What each command says.
 ghost use Rattle.std.specs.Prelude.{◌≡◌, option_map, map};
 ghost use Rattle.lab_dump.specs.Held.{shown_in};
-ghost use Rattle.lab_commands.specs.Document.{Prints, text_below};
+ghost use Rattle.lab_commands.specs.Document.{Prints, if_text, text_below};
+ghost use Rattle.lab_mend.specs.Tries.{tries_in};
+ghost use Rattle.lab_commands.specs.Lines.{tries_line};
 ghost use Rattle.lab_commands.specs.Reports.{age_text, arrange_text, array_text, blocks_text, compare_text, correct_text, count_lines, doubts_text, ending_text, fits_text, history_text, key_at, keys_text, left_text, losses_text, merge_text};
 ghost use Rattle.lab_commands.specs.Reports.{repair_text, some_text, survey_lines, survey_text, table_at, ties_text};
 
 use crate::document::{Printer, Report};
 use crate::lines::{
     Label, Line, Sort, age_line, damaged_line, factory_line, hole_line, last_line, legible_line,
-    outside_line, past_line, repeated_line, rewritten_line, rows_line,
+    outside_line, past_line, repeated_line, rewritten_line, rows_line, tries_line,
 };
 use crate::lists::Lines;
 use crate::output::{Output, OutputFault};
 use lab_correct::{FoundFit, Loss};
 use lab_dump::{Compared, DieSurvey, Held, Rows, SectorPage, State, Unsettled, damaged_count};
-use lab_mend::{Mend, Tally};
+use lab_mend::{Mend, Tally, TriedRow, count_tries};
 use page_layout::geometry::Geometry;
 
 // The pages of each sort, and the reasons against a mount but for the tables.
@@ -371,8 +373,19 @@ pub fn print_arranged<W: Output>(
     printer.end(out)
 }
 
-/// Prints of which rows two sound pages differ, of which no page is sound or erased nor the majority sound, and how many rows there are of
-/// each kind.
+// How many pages were tried, if some were.
+fn print_tries<W: Output>(
+    printer: Printer,
+    out: &mut W,
+    tried: &[TriedRow],
+) -> Result<(), OutputFault>
+    ensures { Prints (W.failed out.new) (W.contents out.old) (W.contents out.new) (if_text printer.form (tries_line (tries_in tried.now))) result }
+{
+    printer.line(out, tries_line(count_tries(tried)))
+}
+
+/// Prints of which rows two sound pages differ, of which no page is sound or erased nor the majority sound, of which pages were tried and what came
+/// of them, where some were, how many, and how many rows there are of each kind.
 ///
 /// # Errors
 ///
@@ -382,13 +395,16 @@ pub fn print_merged<W: Output>(
     out: &mut W,
     conflicts: &[u32],
     unsound: &[u32],
+    tried: &[TriedRow],
     tally: Tally,
 ) -> Result<(), OutputFault>
-    ensures { Prints (W.failed out.new) (W.contents out.old) (W.contents out.new) (merge_text printer.form conflicts.now unsound.now tally) result }
+    ensures { Prints (W.failed out.new) (W.contents out.old) (W.contents out.new) (merge_text printer.form conflicts.now unsound.now tried.now tally) result }
 {
     printer.begin(out, Report::Merge)?;
     printer.list(out, &Lines::Conflicts(conflicts))?;
     printer.list(out, &Lines::Unsound(unsound))?;
+    printer.list(out, &Lines::Tried(tried))?;
+    print_tries(printer, out, tried)?;
     printer.line(out, Some(Line::Merged(conflicts.len() as u64, tally)))?;
     printer.end(out)
 }

@@ -4,7 +4,7 @@ ghost use Rattle.serde_json.specs.Written.{compact_text};
 ghost use Rattle.lab_commands.specs.Document.{Prints};
 ghost use Rattle.lab_commands.specs.Lines.{label_words};
 ghost use Rattle.lab_commands.specs.Values.{age_data, age_until_data, arranged_data, block_data, corrected_data, damaged_data, doubt_data, found_data, front_words, head_data, history_data, key_data, legible_data, line_data, lost_data, lost_row_data};
-ghost use Rattle.lab_commands.specs.Values.{mended_count_data, mended_data, merged_data, page_data, pages_data, plain_block_data, reason_pages_data, reason_table_data, repeated_data, row_data, rows_age_data, rows_data, said_data, truth_words};
+ghost use Rattle.lab_commands.specs.Values.{mended_count_data, mended_data, merged_data, nothing_data, page_data, pages_data, plain_block_data, reason_pages_data, reason_table_data, repeated_data, row_data, rows_age_data, rows_data, said_data, tried_data, tries_data, truth_words, turned_data};
 
 use crate::lines::{Label, Line, Sort, class_text, kind_text, made_text, says_text, wrote_text};
 use crate::output::{Output, OutputFault};
@@ -13,7 +13,7 @@ use crate::pieces::put_pieces;
 use certificate::BlockState;
 use lab_correct::FoundFit;
 use lab_dump::{Doubts, Rows, SaidPage, SectorPage};
-use lab_mend::{Made, Tally};
+use lab_mend::{Made, Tally, Trial};
 
 // So many pages are of a sort.
 #[tactic(auto, unfolding(json::specs::Print::escape_byte))]
@@ -383,8 +383,103 @@ fn put_merged<W: Output>(out: &mut W, differ: u64, tally: Tally) -> Result<(), O
             Number(u64::from(tally.majority)),
             Words(",\"sound\":"),
             Number(u64::from(tally.sound)),
+            Words(",\"turned\":"),
+            Number(u64::from(tally.turned)),
             Words(",\"unsound\":"),
             Number(u64::from(tally.unsound)),
+            Words("}"),
+        ],
+    )
+}
+
+// A row of which so many of the bits are turned in which its readings differ.
+#[tactic(auto, unfolding(json::specs::Print::escape_byte))]
+fn put_turned<W: Output>(
+    out: &mut W,
+    row: u32,
+    turned: u32,
+    differing: u32,
+) -> Result<(), OutputFault>
+    ensures { Prints (W.failed out.new) (W.contents out.old) (W.contents out.new) (compact_text (turned_data (codes "turned") row turned differing)) result }
+{
+    put_pieces(
+        out,
+        &[
+            Words("{\"bits\":"),
+            Number(u64::from(differing)),
+            Words(",\"line\":\"turned\",\"row\":"),
+            Number(u64::from(row)),
+            Words(",\"turned\":"),
+            Number(u64::from(turned)),
+            Words("}"),
+        ],
+    )
+}
+
+// One of which pages with so many turned differ.
+#[tactic(auto, unfolding(json::specs::Print::escape_byte))]
+fn put_tied_row<W: Output>(
+    out: &mut W,
+    row: u32,
+    turned: u32,
+    differing: u32,
+) -> Result<(), OutputFault>
+    ensures { Prints (W.failed out.new) (W.contents out.old) (W.contents out.new) (compact_text (turned_data (codes "tied_row") row turned differing)) result }
+{
+    put_pieces(
+        out,
+        &[
+            Words("{\"bits\":"),
+            Number(u64::from(differing)),
+            Words(",\"line\":\"tied_row\",\"row\":"),
+            Number(u64::from(row)),
+            Words(",\"turned\":"),
+            Number(u64::from(turned)),
+            Words("}"),
+        ],
+    )
+}
+
+// One of which none is sound.
+#[tactic(auto, unfolding(json::specs::Print::escape_byte))]
+fn put_nothing<W: Output>(out: &mut W, row: u32, differing: u32) -> Result<(), OutputFault>
+    ensures { Prints (W.failed out.new) (W.contents out.old) (W.contents out.new) (compact_text (nothing_data row differing)) result }
+{
+    put_pieces(
+        out,
+        &[
+            Words("{\"bits\":"),
+            Number(u64::from(differing)),
+            Words(",\"line\":\"tried\",\"row\":"),
+            Number(u64::from(row)),
+            Words("}"),
+        ],
+    )
+}
+
+// What came of the pages that were tried of a row.
+fn put_tried<W: Output>(out: &mut W, row: u32, trial: Trial) -> Result<(), OutputFault>
+    ensures { Prints (W.failed out.new) (W.contents out.old) (W.contents out.new) (compact_text (tried_data row trial)) result }
+{
+    match trial {
+        Trial::Taken(turned, differing) => put_turned(out, row, turned, differing),
+        Trial::Tied(turned, differing) => put_tied_row(out, row, turned, differing),
+        Trial::Nothing(differing) => put_nothing(out, row, differing),
+    }
+}
+
+// How many pages were tried at most.
+#[tactic(auto, unfolding(json::specs::Print::escape_byte))]
+fn put_tries<W: Output>(out: &mut W, tries: u64) -> Result<(), OutputFault>
+    ensures { Prints (W.failed out.new) (W.contents out.old) (W.contents out.new) (compact_text (tries_data tries)) result }
+{
+    put_pieces(
+        out,
+        &[
+            Words("{\"line\":\"tries\",\"seal_bits\":"),
+            Number(64),
+            Words(",\"tries\":"),
+            Number(tries),
             Words("}"),
         ],
     )
@@ -643,7 +738,9 @@ pub(crate) fn put_object<W: Output>(out: &mut W, line: Line) -> Result<(), Outpu
         Line::Arranged(rows) => put_arranged(out, rows),
         Line::Differ(row) => put_differ(out, row),
         Line::Unsound(row) => put_unsound(out, row),
+        Line::Tried(row, trial) => put_tried(out, row, trial),
         Line::Merged(differ, tally) => put_merged(out, differ, tally),
+        Line::Tries(tries) => put_tries(out, tries),
         Line::Age(doubts) => put_age(out, doubts),
         Line::AgeUntil(last, unsound) => put_until(out, last, unsound),
         Line::Page(page, block) => put_page(out, page, block),

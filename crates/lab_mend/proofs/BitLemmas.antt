@@ -51,12 +51,12 @@ turned_away : (bytes : List ℕ) (k i : ℕ) → i ≢ k / 8 → get_or (turned_
 unfolding turned_bytes
 turned_away bytes k i ne = get_or-set_other bytes (k / 8) i (bit_xor (get_or bytes (k / 8) 0) (2 ^ (k % 8))) 0 ne
 
-turned_bit : (bytes : List ℕ) (k : ℕ) → k < bits_of bytes → bit_in (turned_bytes bytes k) k ≡ (bit_in bytes k + 1) % 2
+pub turned_bit : (bytes : List ℕ) (k : ℕ) → k < bits_of bytes → bit_in (turned_bytes bytes k) k ≡ (bit_in bytes k + 1) % 2
 turned_bit bytes k l =
     ap (λ b. bit_at b (k % 8)) (turned_at bytes k l)
     ∙ (bit_at_xor (get_or bytes (k / 8) 0) (2 ^ (k % 8)) (k % 8) ∙ ap (λ b. (bit_in bytes k + b) % 2) (bit_at-pow_same (k % 8)))
 
-kept_bit : (bytes : List ℕ) (k j : ℕ) → k < bits_of bytes → j ≢ k → bit_in (turned_bytes bytes k) j ≡ bit_in bytes j
+pub kept_bit : (bytes : List ℕ) (k j : ℕ) → k < bits_of bytes → j ≢ k → bit_in (turned_bytes bytes k) j ≡ bit_in bytes j
 kept_bit bytes k j l ne = elim (cases_eq (j / 8) (k / 8)) [
   | inl same ↦
       let apart : j % 8 ≢ k % 8 = λ e. ne (omega arith) in

@@ -1,5 +1,5 @@
 -- Which page is written of a row.
-use Rattle.std.proofs.Common.{◌≡◌, ◌⊎◌, inl, inr, ℕ, zero, suc, ◌+◌, ◌*◌, ◌<◌, Bool, true, false, cond, List, [], ◌∷◌, length, get_or, map, replicate, Option, Some, None, refl, sym, ap, ◌∙◌, subst, arith}
+use Rattle.std.proofs.Common.{◌≡◌, ◌⊎◌, inl, inr, ℕ, zero, suc, ◌<◌, Bool, true, false, cond, List, [], ◌∷◌, length, get_or, map, replicate, Option, Some, None, refl, sym, ap, ◌∙◌, subst, arith}
 use Rattle.std.specs.Prelude.{All, IsSome, is_some, nat_le, ◌&&◌, ◌==◌, not, slice_get}
 use Rattle.std.specs.List.{filter, list_all, range_with_len, Contains}
 use Rattle.std.proofs.lemmas.Bool.{and_parts, and_cases, leb-true, cases_Bool, true≢false, eqb-true}
@@ -20,10 +20,14 @@ use Rattle.page_layout.proofs.RecordLemmas.{erased_no_record}
 use Rattle.lab_dump.specs.PageBytes.{page_of, is_sound}
 use Rattle.lab_dump.proofs.PageLemmas.{page_again}
 use Rattle.lab_mend.specs.declared.choice.Origin.{Origin}
-use Rattle.lab_mend.specs.declared.choice.Origin.TheVariants.{Sound, Conflict, Majority, Erased, Unsound}
+use Rattle.lab_mend.specs.declared.choice.Origin.TheVariants.{Sound, Conflict, Majority, Tried, Erased, Unsound}
+use Rattle.lab_mend.specs.declared.trial.Trial.{Trial}
+use Rattle.lab_mend.specs.declared.trial.Trial.TheVariants.{Taken, Tied, Nothing}
 use Rattle.lab_mend.specs.Majority.{majority, majority_byte, column}
 use Rattle.lab_mend.proofs.MajorityLemmas.{majority_set}
-use Rattle.lab_mend.specs.Choice.{is_same, zero_page, chosen, by_programmed, by_majority, by_sound, choice, NoneSound, AllErased, IsFirstProgrammed, Means, AreSized, ChoiceLaw, ErasedLaw, AreAmong, OrderLaw, ZeroLaw}
+use Rattle.lab_mend.specs.Trial.{bits_apart, with_turned, is_tried}
+use Rattle.lab_mend.proofs.TrialLemmas.{IsTurned, HasApart, turned_in, bits_once, bit_apart, other_bits}
+use Rattle.lab_mend.specs.Choice.{Choice, is_same, zero_page, chosen, by_found, by_turns, by_trial, by_programmed, by_majority, by_sound, choice, NoneSound, AllErased, IsFirstProgrammed, IsTrial, IsFound, Means, AreSized, ChoiceLaw, ErasedLaw, AreAmong, OrderLaw, ZeroLaw}
 
 -- ---- pages of a list
 
@@ -43,14 +47,14 @@ contains_cases p q ps h = contains_at p q ps h.0 h.1 h.2
 -- ---- those that pass a test
 
 -- the page is one of the list, and passes
-record IsKept (f : Page → Bool) (ps : List Page) (q : Page) : Type 0 where
-  in_list : Contains ps q
-  passes : f q ≡ true
+pub record IsKept (f : Page → Bool) (ps : List Page) (q : Page) : Type 0 where
+  pub in_list : Contains ps q
+  pub passes : f q ≡ true
 
 kept_later : (f : Page → Bool) (p : Page) (ps : List Page) (q : Page) → IsKept f ps q → IsKept f (p ∷ ps) q
 kept_later f p ps q k = record { in_list = contains_later p q ps k.in_list; passes = k.passes }
 
-kept_from : (f : Page → Bool) (ps : List Page) (q : Page) → Contains (filter f ps) q → IsKept f ps q
+pub kept_from : (f : Page → Bool) (ps : List Page) (q : Page) → Contains (filter f ps) q → IsKept f ps q
 kept_from f [] q h = absurd (let l = h.1 in omega arith)
 kept_from f (p ∷ ps) q h = elim (cases_Bool (f p)) [
   | inl is ↦ elim (contains_cases p q (filter f ps) (subst (λ b. Contains (cond b (p ∷ filter f ps) (filter f ps)) q) is h)) [
@@ -60,7 +64,7 @@ kept_from f (p ∷ ps) q h = elim (cases_Bool (f p)) [
   | inr is ↦ kept_later f p ps q (kept_from f ps q (subst (λ b. Contains (cond b (p ∷ filter f ps) (filter f ps)) q) is h))
 ]
 
-kept_in : (f : Page → Bool) (ps : List Page) (q : Page) → Contains ps q → f q ≡ true → Contains (filter f ps) q
+pub kept_in : (f : Page → Bool) (ps : List Page) (q : Page) → Contains ps q → f q ≡ true → Contains (filter f ps) q
 kept_in f [] q h e = absurd (let l = h.1 in omega arith)
 kept_in f (p ∷ ps) q h e = elim (cases_Bool (f p)) [
   | inl is ↦ subst (λ b. Contains (cond b (p ∷ filter f ps) (filter f ps)) q) (sym is) (elim (contains_cases p q ps h) [
@@ -73,7 +77,7 @@ kept_in f (p ∷ ps) q h e = elim (cases_Bool (f p)) [
   ])
 ]
 
-none_kept : (f : Page → Bool) (ps : List Page) → filter f ps ≡ [] → All (λ p. f p ≡ false) ps
+pub none_kept : (f : Page → Bool) (ps : List Page) → filter f ps ≡ [] → All (λ p. f p ≡ false) ps
 none_kept f [] e = All-nil (λ p. f p ≡ false)
 none_kept f (p ∷ ps) e = elim (cases_Bool (f p)) [
   | inl is ↦ absurd (let none : p ∷ filter f ps ≡ [] = sym (ap (λ b. cond b (p ∷ filter f ps) (filter f ps)) is) ∙ e in cc)
@@ -81,10 +85,10 @@ none_kept f (p ∷ ps) e = elim (cases_Bool (f p)) [
 ]
 
 -- the first of them
-first_kept : (f : Page → Bool) (ps : List Page) (p : Page) (more : List Page) → filter f ps ≡ p ∷ more → IsKept f ps p
+pub first_kept : (f : Page → Bool) (ps : List Page) (p : Page) (more : List Page) → filter f ps ≡ p ∷ more → IsKept f ps p
 first_kept f ps p more e = kept_from f ps p (subst (λ xs. Contains xs p) (sym e) (contains_first p more))
 
-later_kept : (f : Page → Bool) (ps : List Page) (p q : Page) (more : List Page) → filter f ps ≡ p ∷ more → Contains more q → IsKept f ps q
+pub later_kept : (f : Page → Bool) (ps : List Page) (p q : Page) (more : List Page) → filter f ps ≡ p ∷ more → Contains more q → IsKept f ps q
 later_kept f ps p q more e h = kept_from f ps q (subst (λ xs. Contains xs q) (sym e) (contains_later p q more h))
 
 -- ---- pages that pass for the same
@@ -92,23 +96,23 @@ later_kept f ps p q more e h = kept_from f ps q (subst (λ xs. Contains xs q) (s
 same_to_itself : (p : Page) → is_same p p ≡ true
 same_to_itself p = (bytes_eq-Decides (bytes_of_page p) (bytes_of_page p)).1 refl
 
-same_page : (p q : Page) → length p.body ≡ length q.body → is_same p q ≡ true → p ≡ q
+pub same_page : (p q : Page) → length p.body ≡ length q.body → is_same p q ≡ true → p ≡ q
 same_page p q size e =
     sym (page_again p) ∙ (ap (λ n. page_of n (bytes_of_page p)) size ∙ (ap (page_of (length q.body)) ((bytes_eq-Decides (bytes_of_page p) (bytes_of_page q)).0 e) ∙ page_again q))
 
-all_same : (p q : Page) (more : List Page) → list_all (is_same p) more ≡ true → Contains more q → is_same p q ≡ true
+pub all_same : (p q : Page) (more : List Page) → list_all (is_same p) more ≡ true → Contains more q → is_same p q ≡ true
 all_same p q [] e h = absurd (let l = h.1 in omega arith)
 all_same p q (x ∷ xs) e h =
     let both = and_parts (is_same p x) (list_all (is_same p) xs) e in
     elim (contains_cases x q xs h) [ inl same ↦ ap (is_same p) (sym same) ∙ both.0 | inr more ↦ all_same p q xs both.1 more ]
 
 -- one of the list is another page
-record HasOther (p : Page) (more : List Page) : Type 0 where
-  its : Page
-  in_list : Contains more its
-  apart : is_same p its ≡ false
+pub record HasOther (p : Page) (more : List Page) : Type 0 where
+  pub its : Page
+  pub in_list : Contains more its
+  pub apart : is_same p its ≡ false
 
-other_of : (p : Page) (more : List Page) → list_all (is_same p) more ≡ false → HasOther p more
+pub other_of : (p : Page) (more : List Page) → list_all (is_same p) more ≡ false → HasOther p more
 other_of p [] e = absurd (true≢false e)
 other_of p (x ∷ xs) e = elim (and_cases (is_same p x) (list_all (is_same p) xs) e) [
   | inl here ↦ record { its = x; in_list = contains_first x xs; apart = here }
@@ -121,7 +125,7 @@ none_of : (o : Option Record) → is_some o ≡ false → o ≡ None
 none_of None e = refl
 none_of (Some r) e = absurd (true≢false e)
 
-none_sound : (ps : List Page) → All (λ p. is_sound p ≡ false) ps → NoneSound ps
+pub none_sound : (ps : List Page) → All (λ p. is_sound p ≡ false) ps → NoneSound ps
 none_sound ps h k d l = none_of (record_of (get_or ps k d)) (h k d l)
 
 same_size : (g : Geometry) (ps : List Page) (p q : Page) → AreSized g ps → Contains ps p → Contains ps q → length p.body ≡ length q.body
@@ -133,11 +137,11 @@ same_size g ps p q sized a b =
 -- ---- the law of the choice
 
 -- a page that does not count as programmed is erased
-left_erased : (b : Bool) → not b ≡ false → b ≡ true
+pub left_erased : (b : Bool) → not b ≡ false → b ≡ true
 left_erased true e = refl
 left_erased false e = absurd (true≢false e)
 
-left_programmed : (b : Bool) → not b ≡ true → b ≡ false
+pub left_programmed : (b : Bool) → not b ≡ true → b ≡ false
 left_programmed true e = absurd (true≢false (sym e))
 left_programmed false e = refl
 
@@ -157,7 +161,7 @@ one_later x xs p erased h = record {
     earlier zero q l at = let same : x ≡ q = cc in ap is_erased_page (sym same) ∙ erased
     earlier (suc j) q l at = h.before j q (omega arith) at
 
-first_programmed : (ps : List Page) (p : Page) (more : List Page) → filter is_programmed ps ≡ p ∷ more → IsFirstProgrammed ps p
+pub first_programmed : (ps : List Page) (p : Page) (more : List Page) → filter is_programmed ps ≡ p ∷ more → IsFirstProgrammed ps p
 first_programmed [] p more e = absurd (cc)
 first_programmed (x ∷ xs) p more e = elim (cases_Bool (is_programmed x)) [
   | inl is ↦
@@ -167,9 +171,74 @@ first_programmed (x ∷ xs) p more e = elim (cases_Bool (is_programmed x)) [
   | inr is ↦ one_later x xs p (left_erased (is_erased_page x) is) (first_programmed xs p more (sym (ap (λ b. cond b (x ∷ filter is_programmed xs) (filter is_programmed xs)) is) ∙ e))
 ]
 
+-- a page with so many of the bits turned in which they differ, if it is sound
+pub turned_found : (pages : List Page) (p q : Page) (more : List Page) (n : ℕ) → filter is_programmed pages ≡ p ∷ more → IsKept is_sound (with_turned p (bits_apart p (p ∷ more)) n) q → IsFound pages p q n
+turned_found pages p q more n e kept =
+    let bits : List ℕ = bits_apart p (p ∷ more) in
+    let h : IsTurned p bits n q = turned_in bits p q n (bits_once p (p ∷ more)) kept.in_list in
+    record {
+      sound = kept.passes;
+      between = record {
+        body_size = h.body_size;
+        spare_size = h.spare_size;
+        agrees = λ k l all. h.agrees k (λ at.
+            let apart : HasApart p (p ∷ more) k = bit_apart p (p ∷ more) k at in
+            let page = kept_from is_programmed pages apart.its (subst (λ xs. Contains xs apart.its) (sym e) apart.in_list) in
+            other_bits p apart.its k apart.apart (all apart.its page.in_list (left_programmed (is_erased_page apart.its) page.passes)));
+      };
+      turns = h.count;
+    }
+
+-- one of the sound pages with so many bits turned, or what comes next
+found_means : (g : Geometry) (pages : List Page) (p : Page) (more : List Page) (n : ℕ) → filter is_programmed pages ≡ p ∷ more → IsTrial pages p (length (bits_apart p (p ∷ more)))
+    → (sound : List Page) → filter is_sound (with_turned p (bits_apart p (p ∷ more)) n) ≡ sound → (next : Choice) → Means g pages next.its next.origin
+    → Means g pages (by_found p n (length (bits_apart p (p ∷ more))) sound next).its (by_found p n (length (bits_apart p (p ∷ more))) sound next).origin
+found_means g pages p more n e trial [] is next means = means
+found_means g pages p more n e trial (q ∷ others) is next means = by (list_all (is_same q) others) refl
+  where
+    d : ℕ
+    d = length (bits_apart p (p ∷ more))
+
+    first : IsFound pages p q n
+    first = turned_found pages p q more n e (first_kept is_sound (with_turned p (bits_apart p (p ∷ more)) n) q others is)
+
+    by : (b : Bool) → list_all (is_same q) others ≡ b → Means g pages (cond b (chosen q (Tried (Taken n d))) (chosen p (Tried (Tied n d)))).its (cond b (chosen q (Tried (Taken n d))) (chosen p (Tried (Tied n d)))).origin
+    by true all = (p, trial, first)
+    by false apart =
+        let o = other_of q others apart in
+        let second = turned_found pages p o.its more n e (later_kept is_sound (with_turned p (bits_apart p (p ∷ more)) n) q o.its others is o.in_list) in
+        (trial, q, o.its, first, second, λ same. true≢false (sym (same_to_itself q) ∙ (ap (is_same q) same ∙ o.apart)))
+
+turns_means : (g : Geometry) (pages : List Page) (p : Page) (more : List Page) → filter is_programmed pages ≡ p ∷ more → IsTrial pages p (length (bits_apart p (p ∷ more))) → (numbers : List ℕ)
+    → Means g pages (by_turns p (bits_apart p (p ∷ more)) numbers).its (by_turns p (bits_apart p (p ∷ more)) numbers).origin
+unfolding by_turns
+turns_means g pages p more e trial [] = trial
+turns_means g pages p more e trial (n ∷ ns) =
+    found_means g pages p more n e trial (filter is_sound (with_turned p (bits_apart p (p ∷ more)) n)) refl (by_turns p (bits_apart p (p ∷ more)) ns) (turns_means g pages p more e trial ns)
+
+trial_means : (g : Geometry) (pages : List Page) → NoneSound pages → (p : Page) (more : List Page) → filter is_programmed pages ≡ p ∷ more
+    → Means g pages (by_trial p (bits_apart p (p ∷ more))).its (by_trial p (bits_apart p (p ∷ more))).origin
+unfolding by_trial
+trial_means g pages none p more e = by (is_tried (length bits)) refl
+  where
+    bits : List ℕ
+    bits = bits_apart p (p ∷ more)
+
+    by : (b : Bool) → is_tried (length bits) ≡ b → Means g pages (cond b (by_turns p bits (range_with_len 1 (length bits))) (chosen p Unsound)).its (cond b (by_turns p bits (range_with_len 1 (length bits))) (chosen p Unsound)).origin
+    by true is =
+        let both = and_parts (nat_le 1 (length bits)) (nat_le (length bits) 16) is in
+        turns_means g pages p more e (record {
+          none = none;
+          is_first = first_programmed pages p more e;
+          count = ap (λ xs. length (bits_apart p xs)) (sym e);
+          some = leb-true 1 (length bits) both.0;
+          few = leb-true (length bits) 16 both.1;
+        }) (range_with_len 1 (length bits))
+    by false is = (none, first_programmed pages p more e)
+
 programmed_means : (g : Geometry) (ps : List Page) → NoneSound ps → (programmed : List Page) → filter is_programmed ps ≡ programmed → Means g ps (by_programmed g ps programmed).its (by_programmed g ps programmed).origin
 programmed_means g ps none [] e = (all_erased ps (none_kept is_programmed ps e), refl)
-programmed_means g ps none (p ∷ more) e = (none, first_programmed ps p more e)
+programmed_means g ps none (p ∷ more) e = trial_means g ps none p more e
 
 majority_means : (g : Geometry) (ps : List Page) → NoneSound ps → Means g ps (by_majority g ps).its (by_majority g ps).origin
 unfolding by_majority
@@ -221,11 +290,19 @@ erased_there ps p all at sound = true≢false (sym sound ∙ ap is_some (erased_
 sound_there : (ps : List Page) (p : Page) → NoneSound ps → Contains ps p → IsSome (record_of p) → ⊥
 sound_there ps p none at sound = true≢false (sym sound ∙ ap is_some (All-contains (λ q. record_of q ≡ None) ps p none at))
 
+trial_none : (g : Geometry) (ps : List Page) (p : Page) (t : Trial) → Means g ps p (Tried t) → NoneSound ps
+trial_none g ps p (Taken n d) h = h.1.none
+trial_none g ps p (Tied n d) h = h.0.none
+trial_none g ps p (Nothing d) h = h.none
+
 ordered : (g : Geometry) (ps qs : List Page) (p x y : Page) (a b : Origin) → AreAmong ps qs → AreAmong qs ps → Contains ps p → IsSome (record_of p) → Means g ps x a → Means g qs y b → chosen x a ≡ chosen y b
 ordered g ps qs p x y Majority b to from at sound h k = absurd (sound_there ps p h.0 at sound)
 ordered g ps qs p x y Erased b to from at sound h k = absurd (erased_there ps p h.0 at sound)
+ordered g ps qs p x y (Tried t) b to from at sound h k = absurd (sound_there ps p (trial_none g ps x t h) at sound)
 ordered g ps qs p x y Unsound b to from at sound h k = absurd (sound_there ps p h.0 at sound)
 ordered g ps qs p x y Sound Majority to from at sound h k = absurd (sound_there qs p k.0 (to p at) sound)
+ordered g ps qs p x y Sound (Tried t) to from at sound h k = absurd (sound_there qs p (trial_none g qs y t k) (to p at) sound)
+ordered g ps qs p x y Conflict (Tried t) to from at sound h k = absurd (sound_there qs p (trial_none g qs y t k) (to p at) sound)
 ordered g ps qs p x y Sound Erased to from at sound h k = absurd (erased_there qs p k.0 (to p at) sound)
 ordered g ps qs p x y Sound Unsound to from at sound h k = absurd (sound_there qs p k.0 (to p at) sound)
 ordered g ps qs p x y Conflict Majority to from at sound h k = absurd (sound_there qs p k.0 (to p at) sound)

@@ -1,5 +1,5 @@
 -- What is found among the pages of a row while one is chosen.
-use Rattle.std.proofs.Common.{◌≡◌, ℕ, zero, suc, ◌+◌, ◌-◌, ◌<◌, ◌≤◌, Bool, true, false, cond, List, [], ◌∷◌, ◌++◌, length, get_or, map, replicate, refl, sym, ap, ◌∙◌, subst, arith, append-nil}
+use Rattle.std.proofs.Common.{◌≡◌, ℕ, ◌+◌, ◌<◌, ◌≤◌, Bool, true, false, cond, List, [], ◌∷◌, ◌++◌, length, get_or, map, replicate, refl, sym, ap, ◌∙◌, subst, arith, append-nil}
 use Rattle.std.specs.Prelude.{nat_le, ◌&&◌}
 use Rattle.std.specs.List.{range_with_len, filter, list_all}
 use Rattle.std.specs.Str.{bytes_eq}
@@ -15,11 +15,11 @@ use Rattle.page_layout.specs.Raw.{bytes_of_page}
 use Rattle.page_layout.specs.Block.{is_programmed}
 use Rattle.lab_dump.specs.PageBytes.{page_of, is_sound}
 use Rattle.lab_dump.proofs.PageLemmas.{bytes_again}
-use Rattle.lab_mend.specs.declared.choice.Origin.TheVariants.{Sound, Conflict, Majority, Erased, Unsound}
+use Rattle.lab_mend.specs.declared.choice.Origin.TheVariants.{Sound, Conflict, Majority, Erased}
 use Rattle.lab_mend.specs.Pages.{piece_at, page_in, pages_in}
 use Rattle.lab_mend.specs.Majority.{majority}
 use Rattle.lab_mend.specs.Choice.{is_same, zero_page, chosen, by_programmed, by_majority, by_sound, choice}
-use Rattle.lab_mend.specs.Found.{sound_below, programmed_below, HasOne, HasTwo, BeginsWith, WritesChoice}
+use Rattle.lab_mend.specs.Found.{sound_below, programmed_below, HasOne, HasTwo, WritesChoice}
 
 -- ---- the pages of a row
 
@@ -99,31 +99,16 @@ two_more sound q h = record {
   apart = list_all-append (is_same h.its) h.more (q ∷ []) ∙ and_left (list_all (is_same h.its) h.more) (list_all (is_same h.its) (q ∷ [])) h.apart;
 }
 
--- ---- the first page that is not erased
+-- ---- the pages that are not erased
 
 pub programmed_none : (g : Geometry) (bytes : List ℕ) → programmed_below g bytes 0 ≡ []
 programmed_none g bytes = kept_none is_programmed g bytes
 
-pub programmed_no : (g : Geometry) (bytes : List ℕ) (i : ℕ) → is_programmed (page_in g bytes i) ≡ false → programmed_below g bytes i ≡ [] → programmed_below g bytes (i + 1) ≡ []
-programmed_no g bytes i e none = kept_no is_programmed g bytes i e ∙ none
+pub programmed_no : (g : Geometry) (bytes : List ℕ) (i : ℕ) → is_programmed (page_in g bytes i) ≡ false → programmed_below g bytes (i + 1) ≡ programmed_below g bytes i
+programmed_no g bytes i e = kept_no is_programmed g bytes i e
 
-programmed_stays : (g : Geometry) (bytes : List ℕ) (count j i : ℕ) → BeginsWith g bytes count (programmed_below g bytes i) j → BeginsWith g bytes count (programmed_below g bytes (i + 1)) j
-programmed_stays g bytes count j i h = by (is_programmed (page_in g bytes i)) refl
-  where
-    by : (b : Bool) → is_programmed (page_in g bytes i) ≡ b → BeginsWith g bytes count (programmed_below g bytes (i + 1)) j
-    by true is = record { within = h.within; more = h.more ++ page_in g bytes i ∷ []; are = kept_yes is_programmed g bytes i is ∙ ap (λ xs. xs ++ page_in g bytes i ∷ []) h.are }
-    by false is = record { within = h.within; more = h.more; are = kept_no is_programmed g bytes i is ∙ h.are }
-
-programmed_on : (g : Geometry) (bytes : List ℕ) (count j i n : ℕ) → BeginsWith g bytes count (programmed_below g bytes i) j → BeginsWith g bytes count (programmed_below g bytes (i + n)) j
-programmed_on g bytes count j i zero h = subst (λ k. BeginsWith g bytes count (programmed_below g bytes k) j) (omega arith) h
-programmed_on g bytes count j i (suc n) h = subst (λ k. BeginsWith g bytes count (programmed_below g bytes k) j) (omega arith) (programmed_stays g bytes count j (i + n) (programmed_on g bytes count j i n h))
-
-pub programmed_found : (g : Geometry) (bytes : List ℕ) (count i : ℕ) → i < count → programmed_below g bytes i ≡ [] → is_programmed (page_in g bytes i) ≡ true → BeginsWith g bytes count (programmed_below g bytes count) i
-programmed_found g bytes count i within none e =
-    let here : BeginsWith g bytes count (programmed_below g bytes (i + 1)) i =
-    record { within = within; more = []; are = kept_yes is_programmed g bytes i e ∙ ap (λ xs. xs ++ page_in g bytes i ∷ []) none } in
-    let all : i + 1 + (count - (i + 1)) ≡ count = omega arith in
-    subst (λ k. BeginsWith g bytes count (programmed_below g bytes k) i) all (programmed_on g bytes count i (i + 1) (count - (i + 1)) here)
+pub programmed_yes : (g : Geometry) (bytes : List ℕ) (i : ℕ) → is_programmed (page_in g bytes i) ≡ true → programmed_below g bytes (i + 1) ≡ programmed_below g bytes i ++ page_in g bytes i ∷ []
+programmed_yes g bytes i e = kept_yes is_programmed g bytes i e
 
 -- ---- what is written
 
@@ -145,11 +130,6 @@ apart_written g bytes out count h e =
 pub choice_unsound : (g : Geometry) (bytes : List ℕ) (count : ℕ) → sound_below g bytes count ≡ [] → choice g (pages_in g bytes count) ≡ by_majority g (pages_in g bytes count)
 unfolding choice
 choice_unsound g bytes count none = ap (by_sound g (pages_in g bytes count)) none
-
-pub programmed_written : (g : Geometry) (bytes out : List ℕ) (count i : ℕ) → BeginsWith g bytes count (programmed_below g bytes count) i → out ≡ piece_at bytes (page_bytes g) i
-    → WritesChoice (by_programmed g (pages_in g bytes count) (programmed_below g bytes count)) Unsound out
-programmed_written g bytes out count i h e =
-    subst (λ xs. WritesChoice (by_programmed g (pages_in g bytes count) xs) Unsound out) (sym h.are) (record { origin_is = refl; bytes_are = e ∙ sym (bytes_of_page_in g bytes i) })
 
 first_page : (g : Geometry) (bytes : List ℕ) (count : ℕ) (d : Page) → 0 < count → get_or (pages_in g bytes count) 0 d ≡ page_in g bytes 0
 unfolding pages_in

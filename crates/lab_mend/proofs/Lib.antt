@@ -4,8 +4,12 @@ pub mod MendLemmas
 pub mod RepairingLemmas
 pub mod RepairedLemmas
 pub mod MajorityLemmas
+pub mod TrialLemmas
 pub mod ChoiceLemmas
+pub mod LeastLemmas
 pub mod FoundLemmas
+pub mod TriedLemmas
 pub mod MergingLemmas
+pub mod TriesLemmas
 pub mod InStepLemmas
 pub mod MergedLemmas

@@ -17,11 +17,12 @@ use Rattle.lab_dump.specs.declared.pass.ScanFault.{ScanFault}
 use Rattle.lab_dump.specs.declared.pass.ScanFault.TheVariants as scan
 use Rattle.lab_dump.proofs.ScanLemmas.{if_both}
 use Rattle.lab_mend.specs.declared.merging.Tally.{Tally}
+use Rattle.lab_mend.specs.declared.merging.TriedRow.{TriedRow}
 use Rattle.lab_mend.specs.declared.merge.MergeFault.{MergeFault}
 use Rattle.lab_mend.specs.declared.merge.MergeFault.TheVariants as fault
 use Rattle.lab_mend.specs.Pages.{page_in, pages_in}
 use Rattle.lab_mend.specs.InStep.{AreAt, AreRead, CutAt, LongAt, HaveEnded}
-use Rattle.lab_mend.specs.Merging.{unsound_below, piece_of, Shows, AreOwn, Stands}
+use Rattle.lab_mend.specs.Merging.{unsound_below, tried_below, piece_of, Shows, AreOwn, Stands}
 use Rattle.lab_mend.specs.Merged.{row_of, IsMerged, IsUnmerged, fault_of_cut, fault_of_end, IsPinned}
 
 -- ---- the pages of a row
@@ -62,14 +63,16 @@ row_next g known files row size pieces one h =
 
 -- ---- all of them
 
-pub merged : (g : Geometry) (files : List (List ℕ)) (conflicts unsound : List ℕ) (tally : Tally) (scratch : List ℕ) (pieces : Option (List (List ℕ))) → Stands g (row_count g) conflicts tally scratch pieces
-    → Shows g (row_of g files) (row_count g) conflicts tally pieces → unsound ≡ unsound_below g (row_of g files) (row_count g) → HaveEnded files (image_bytes g) → IsMerged g files conflicts unsound tally pieces
-merged g files conflicts unsound tally scratch pieces stands h are ended = record {
+pub merged : (g : Geometry) (files : List (List ℕ)) (conflicts unsound : List ℕ) (tried : List TriedRow) (tally : Tally) (scratch : List ℕ) (pieces : Option (List (List ℕ))) → Stands g (row_count g) conflicts tally scratch pieces
+    → Shows g (row_of g files) (row_count g) conflicts tally pieces → unsound ≡ unsound_below g (row_of g files) (row_count g) → tried ≡ tried_below g (row_of g files) (row_count g) → HaveEnded files (image_bytes g)
+    → IsMerged g files conflicts unsound tried tally pieces
+merged g files conflicts unsound tried tally scratch pieces stands h are tried_are ended = record {
   whole = ended;
   pages = if_both pieces (AreOwn g (row_count g) conflicts) (λ ps. (n : ℕ) → n < row_count g → get_or ps n [] ≡ piece_of g (row_of g files n)) (λ ps. ps ≡ map (λ n. piece_of g (row_of g files n)) (range_with_len 0 (row_count g))) stands.own h.pieces_are
       (λ ps own each. fill_by_all (λ n. piece_of g (row_of g files n)) ps (row_count g) [] own.size each);
   conflicts_are = h.conflicts_are;
   unsound_are = are;
+  tried_are = tried_are;
   tally_is = h.tally_is;
 }
 

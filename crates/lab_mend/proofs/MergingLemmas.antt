@@ -1,7 +1,7 @@
 -- What one row more makes of what is written and told.
 use Rattle.std.proofs.Common.{◌≡◌, ◌≢◌, ◌⊎◌, inl, inr, ℕ, ◌+◌, ◌<◌, ◌≤◌, Bool, true, false, cond, eqb, List, [], ◌∷◌, ◌++◌, length, get_or, set, replicate, Option, Some, None, IfSome, refl, sym, ap, ◌∙◌, subst, arith, append-nil, add-zero, length-append}
 use Rattle.std.specs.Prelude.{All, count_by, option_map, nat_le, ◌&&◌}
-use Rattle.std.specs.List.{range_with_len, filter, list_all, Contains}
+use Rattle.std.specs.List.{range_with_len, filter, filter_map, cons_option, list_all, Contains}
 use Rattle.std.proofs.lemmas.Bool.{cases_eq, cases_lt}
 use Rattle.std.proofs.lemmas.List.{get_or-set_same, get_or-set_other, length-set, length_push, get_or_push, get_or_append_left, replicate-append-replicate}
 use Rattle.std.proofs.lemmas.List.Elements.{All-nil, All-push, All-weaker, All-contains, filter-append}
@@ -15,12 +15,15 @@ use Rattle.page_layout.specs.Block.{is_programmed}
 use Rattle.lab_dump.specs.PageBytes.{is_sound}
 use Rattle.lab_dump.proofs.ScanLemmas.{if_more}
 use Rattle.lab_mend.specs.declared.choice.Origin.{Origin}
-use Rattle.lab_mend.specs.declared.choice.Origin.TheVariants.{Sound, Conflict, Majority, Erased, Unsound}
+use Rattle.lab_mend.specs.declared.choice.Origin.TheVariants.{Sound, Conflict, Majority, Tried, Erased, Unsound}
+use Rattle.lab_mend.specs.declared.trial.Trial.TheVariants.{Taken, Tied, Nothing}
 use Rattle.lab_mend.specs.declared.merging.Tally.{Tally}
+use Rattle.lab_mend.specs.declared.merging.TriedRow.{TriedRow}
 use Rattle.lab_mend.specs.Majority.{majority}
-use Rattle.lab_mend.specs.Choice.{is_same, zero_page, chosen, by_programmed, by_majority, by_sound, choice}
+use Rattle.lab_mend.specs.Trial.{bits_apart, with_turned, is_tried}
+use Rattle.lab_mend.specs.Choice.{Choice, is_same, zero_page, chosen, by_found, by_turns, by_trial, by_programmed, by_majority, by_sound, choice}
 use Rattle.lab_mend.specs.Found.{WritesChoice}
-use Rattle.lab_mend.specs.Merging.{named, counted, place_of, is_from, with_unsound, conflicts_below, unsound_below, tally_below, piece_of, Shows, AreOwn, AreListed, AreFew, HasRoom, Stands}
+use Rattle.lab_mend.specs.Merging.{named, counted, place_of, is_from, is_turned, with_unsound, as_tried, tried_row, with_tried, conflicts_below, unsound_below, tried_below, tally_below, piece_of, Shows, AreOwn, AreListed, AreTried, AreFew, HasRoom, HasTriedRoom, Stands}
 use Rattle.lab_mend.proofs.MajorityLemmas.{range_more}
 
 -- ---- the rows that are named
@@ -29,6 +32,9 @@ named_is : (rows : List ℕ) (n : ℕ) (o : Origin) → rows ++ cond (eqb (place
 named_is rows n Sound = append-nil rows
 named_is rows n Conflict = refl
 named_is rows n Majority = append-nil rows
+named_is rows n (Tried (Taken m d)) = append-nil rows
+named_is rows n (Tried (Tied m d)) = append-nil rows
+named_is rows n (Tried (Nothing d)) = append-nil rows
 named_is rows n Erased = append-nil rows
 named_is rows n Unsound = append-nil rows
 
@@ -42,6 +48,9 @@ unsound_is : (rows : List ℕ) (n : ℕ) (o : Origin) → rows ++ cond (eqb (pla
 unsound_is rows n Sound = append-nil rows
 unsound_is rows n Conflict = append-nil rows
 unsound_is rows n Majority = append-nil rows
+unsound_is rows n (Tried (Taken m d)) = append-nil rows
+unsound_is rows n (Tried (Tied m d)) = refl
+unsound_is rows n (Tried (Nothing d)) = refl
 unsound_is rows n Erased = append-nil rows
 unsound_is rows n Unsound = refl
 
@@ -61,20 +70,85 @@ unsound_next g rows n pages o old new out are written before after =
     let origin : o ≡ (choice g (rows n)).origin = written.origin_is ∙ ap (λ ps. (choice g ps).origin) (sym are) in
     after ∙ (ap (λ xs. with_unsound xs n o) before ∙ (ap (with_unsound (unsound_below g rows n) n) origin ∙ sym (unsound_more g rows n)))
 
+-- ---- the rows of which pages were tried
+
+cons_append : (o : Option TriedRow) (xs ys : List TriedRow) → cons_option o (xs ++ ys) ≡ cons_option o xs ++ ys
+cons_append None xs ys = refl
+cons_append (Some r) xs ys = refl
+
+filter_push : (h : ℕ → Option TriedRow) (xs : List ℕ) (y : ℕ) → filter_map h (xs ++ y ∷ []) ≡ filter_map h xs ++ cons_option (h y) []
+filter_push h [] y = refl
+filter_push h (x ∷ xs) y = ap (cons_option (h x)) (filter_push h xs y) ∙ cons_append (h x) (filter_map h xs) (cons_option (h y) [])
+
+tried_is : (rows : List TriedRow) (o : Option TriedRow) → rows ++ cons_option o [] ≡ with_tried rows o
+tried_is rows None = append-nil rows
+tried_is rows (Some r) = refl
+
+tried_more : (g : Geometry) (rows : ℕ → List Page) (n : ℕ) → tried_below g rows (n + 1) ≡ with_tried (tried_below g rows n) (tried_row n (choice g (rows n)).origin)
+unfolding tried_below
+tried_more g rows n =
+    let h : ℕ → Option TriedRow = λ row. tried_row row (choice g (rows row)).origin in
+    ap (filter_map h) (range_more n) ∙ (filter_push h (range_with_len 0 n) n ∙ tried_is (filter_map h (range_with_len 0 n)) (h n))
+
+pub none_tried : (g : Geometry) (rows : ℕ → List Page) → [] ≡ tried_below g rows 0
+unfolding tried_below
+none_tried g rows = refl
+
+pub tried_next : (g : Geometry) (rows : ℕ → List Page) (n : ℕ) (pages : List Page) (o : Origin) (old new : List TriedRow) (out : List ℕ) → rows n ≡ pages → WritesChoice (choice g pages) o out → old ≡ tried_below g rows n
+    → new ≡ with_tried old (tried_row n o) → new ≡ tried_below g rows (n + 1)
+tried_next g rows n pages o old new out are written before after =
+    let origin : o ≡ (choice g (rows n)).origin = written.origin_is ∙ ap (λ ps. (choice g ps).origin) (sym are) in
+    after ∙ (ap (λ xs. with_tried xs (tried_row n o)) before ∙ (ap (λ x. with_tried (tried_below g rows n) (tried_row n x)) origin ∙ sym (tried_more g rows n)))
+
+tried_wider : (n : ℕ) (tried : List TriedRow) → All (λ r. r.row < n) tried → All (λ r. r.row < n + 1) tried
+tried_wider n tried h = All-weaker (λ (r : TriedRow). r.row < n) (λ (r : TriedRow). r.row < n + 1) (λ r l. (omega arith)) tried h
+
+tried_listed : (n : ℕ) (tried : List TriedRow) (o : Origin) → AreTried n tried → AreTried (n + 1) (with_tried tried (tried_row n o))
+tried_listed n tried Sound h = record { within = tried_wider n tried h.within; rising = h.rising }
+tried_listed n tried Conflict h = record { within = tried_wider n tried h.within; rising = h.rising }
+tried_listed n tried Majority h = record { within = tried_wider n tried h.within; rising = h.rising }
+tried_listed n tried (Tried t) h = record {
+  within = All-push (λ (r : TriedRow). r.row < n + 1) tried (as_tried n t) (tried_wider n tried h.within) (omega arith);
+  rising = all_pairs_push (λ (a b : TriedRow). a.row < b.row) tried (as_tried n t) h.rising h.within;
+}
+tried_listed n tried Erased h = record { within = tried_wider n tried h.within; rising = h.rising }
+tried_listed n tried Unsound h = record { within = tried_wider n tried h.within; rising = h.rising }
+
+pub tried_listed_next : (n : ℕ) (old new : List TriedRow) (o : Origin) → new ≡ with_tried old (tried_row n o) → AreTried n old → AreTried (n + 1) new
+tried_listed_next n old new o is h = subst (AreTried (n + 1)) (sym is) (tried_listed n old o h)
+
+pub none_tried_listed : AreTried 0 []
+none_tried_listed = record { within = All-nil (λ (r : TriedRow). r.row < 0); rising = λ i j d l k. absurd (omega arith) }
+
+few_tried : (tried : List TriedRow) (o : Option TriedRow) → length (with_tried tried o) ≤ length tried + 1
+few_tried tried None = omega arith
+few_tried tried (Some r) = omega (arith, length-append tried (r ∷ []))
+
+pub room_tried : (all n : ℕ) (tried new : List TriedRow) (o : Origin) (old_room new_room : ℕ) → HasTriedRoom all n tried old_room → new ≡ with_tried tried (tried_row n o) → new_room ≡ old_room → HasTriedRoom all (n + 1) new new_room
+room_tried all n tried new o old_room new_room h is same = record {
+  few = (let size = ap length is in let more = few_tried tried (tried_row n o) in let few = h.few in omega arith);
+  room = (let room = h.room in omega arith);
+}
+
 -- ---- the counts
 
-abbrev pub the_tally : ℕ → ℕ → ℕ → ℕ → Tally
-the_tally s a b c = record { sound = s; majority = a; erased = b; unsound = c }
+abbrev pub the_tally : ℕ → ℕ → ℕ → ℕ → ℕ → Tally
+the_tally s a k b c = record { sound = s; majority = a; turned = k; erased = b; unsound = c }
 
-tally_same : (s a b c w x y z : ℕ) → s ≡ w → a ≡ x → b ≡ y → c ≡ z → the_tally s a b c ≡ the_tally w x y z
-tally_same s a b c w x y z d e f h = ap (λ k. the_tally k a b c) d ∙ (ap (λ k. the_tally w k b c) e ∙ (ap (λ k. the_tally w x k c) f ∙ ap (the_tally w x y) h))
+tally_same : (s a k b c w x v y z : ℕ) → s ≡ w → a ≡ x → k ≡ v → b ≡ y → c ≡ z → the_tally s a k b c ≡ the_tally w x v y z
+tally_same s a k b c w x v y z d e i f h =
+    ap (λ n. the_tally n a k b c) d ∙ (ap (λ n. the_tally w n k b c) e ∙ (ap (λ n. the_tally w x n b c) i ∙ (ap (λ n. the_tally w x v n c) f ∙ ap (the_tally w x v y) h)))
 
-counted_is : (t : Tally) (o : Origin) → the_tally (t.sound + cond (eqb (place_of o) 0) 1 0) (t.majority + cond (eqb (place_of o) 2) 1 0) (t.erased + cond (eqb (place_of o) 3) 1 0) (t.unsound + cond (eqb (place_of o) 4) 1 0) ≡ counted t o
-counted_is t Sound = tally_same (t.sound + 1) (t.majority + 0) (t.erased + 0) (t.unsound + 0) (t.sound + 1) t.majority t.erased t.unsound refl (add-zero t.majority) (add-zero t.erased) (add-zero t.unsound)
-counted_is t Conflict = tally_same (t.sound + 0) (t.majority + 0) (t.erased + 0) (t.unsound + 0) t.sound t.majority t.erased t.unsound (add-zero t.sound) (add-zero t.majority) (add-zero t.erased) (add-zero t.unsound)
-counted_is t Majority = tally_same (t.sound + 0) (t.majority + 1) (t.erased + 0) (t.unsound + 0) t.sound (t.majority + 1) t.erased t.unsound (add-zero t.sound) refl (add-zero t.erased) (add-zero t.unsound)
-counted_is t Erased = tally_same (t.sound + 0) (t.majority + 0) (t.erased + 1) (t.unsound + 0) t.sound t.majority (t.erased + 1) t.unsound (add-zero t.sound) (add-zero t.majority) refl (add-zero t.unsound)
-counted_is t Unsound = tally_same (t.sound + 0) (t.majority + 0) (t.erased + 0) (t.unsound + 1) t.sound t.majority t.erased (t.unsound + 1) (add-zero t.sound) (add-zero t.majority) (add-zero t.erased) refl
+counted_is : (t : Tally) (o : Origin) → the_tally (t.sound + cond (eqb (place_of o) 0) 1 0) (t.majority + cond (eqb (place_of o) 2) 1 0) (t.turned + cond (eqb (place_of o) 5) 1 0) (t.erased + cond (eqb (place_of o) 3) 1 0)
+    (t.unsound + cond (eqb (place_of o) 4) 1 0) ≡ counted t o
+counted_is t Sound = tally_same (t.sound + 1) (t.majority + 0) (t.turned + 0) (t.erased + 0) (t.unsound + 0) (t.sound + 1) t.majority t.turned t.erased t.unsound refl (add-zero t.majority) (add-zero t.turned) (add-zero t.erased) (add-zero t.unsound)
+counted_is t Conflict = tally_same (t.sound + 0) (t.majority + 0) (t.turned + 0) (t.erased + 0) (t.unsound + 0) t.sound t.majority t.turned t.erased t.unsound (add-zero t.sound) (add-zero t.majority) (add-zero t.turned) (add-zero t.erased) (add-zero t.unsound)
+counted_is t Majority = tally_same (t.sound + 0) (t.majority + 1) (t.turned + 0) (t.erased + 0) (t.unsound + 0) t.sound (t.majority + 1) t.turned t.erased t.unsound (add-zero t.sound) refl (add-zero t.turned) (add-zero t.erased) (add-zero t.unsound)
+counted_is t (Tried (Taken m d)) = tally_same (t.sound + 0) (t.majority + 0) (t.turned + 1) (t.erased + 0) (t.unsound + 0) t.sound t.majority (t.turned + 1) t.erased t.unsound (add-zero t.sound) (add-zero t.majority) refl (add-zero t.erased) (add-zero t.unsound)
+counted_is t (Tried (Tied m d)) = tally_same (t.sound + 0) (t.majority + 0) (t.turned + 0) (t.erased + 0) (t.unsound + 1) t.sound t.majority t.turned t.erased (t.unsound + 1) (add-zero t.sound) (add-zero t.majority) (add-zero t.turned) (add-zero t.erased) refl
+counted_is t (Tried (Nothing d)) = tally_same (t.sound + 0) (t.majority + 0) (t.turned + 0) (t.erased + 0) (t.unsound + 1) t.sound t.majority t.turned t.erased (t.unsound + 1) (add-zero t.sound) (add-zero t.majority) (add-zero t.turned) (add-zero t.erased) refl
+counted_is t Erased = tally_same (t.sound + 0) (t.majority + 0) (t.turned + 0) (t.erased + 1) (t.unsound + 0) t.sound t.majority t.turned (t.erased + 1) t.unsound (add-zero t.sound) (add-zero t.majority) (add-zero t.turned) refl (add-zero t.unsound)
+counted_is t Unsound = tally_same (t.sound + 0) (t.majority + 0) (t.turned + 0) (t.erased + 0) (t.unsound + 1) t.sound t.majority t.turned t.erased (t.unsound + 1) (add-zero t.sound) (add-zero t.majority) (add-zero t.turned) (add-zero t.erased) refl
 
 count_more : (p : ℕ → Bool) (n : ℕ) → count_by p (range_with_len 0 (n + 1)) ≡ count_by p (range_with_len 0 n) + cond (p n) 1 0
 count_more p n = ap (count_by p) (range_more n) ∙ sum_by_push (λ x. cond (p x) 1 0) (range_with_len 0 n) n
@@ -87,16 +161,20 @@ tally_more g rows n =
     let m : ℕ = count_by (is_from g rows Majority) (range_with_len 0 n) in
     let e : ℕ = count_by (is_from g rows Erased) (range_with_len 0 n) in
     let u : ℕ = count_by (is_from g rows Unsound) (range_with_len 0 n) in
-    tally_same _ _ _ _ (s + cond (eqb (place_of o) 0) 1 0) (m + cond (eqb (place_of o) 2) 1 0) (e + cond (eqb (place_of o) 3) 1 0) (u + cond (eqb (place_of o) 4) 1 0)
-    (count_more (is_from g rows Sound) n) (count_more (is_from g rows Majority) n) (count_more (is_from g rows Erased) n) (count_more (is_from g rows Unsound) n)
-    ∙ counted_is (the_tally s m e u) o
+    let k : ℕ = count_by (is_turned g rows) (range_with_len 0 n) in
+    tally_same _ _ _ _ _ (s + cond (eqb (place_of o) 0) 1 0) (m + cond (eqb (place_of o) 2) 1 0) (k + cond (eqb (place_of o) 5) 1 0) (e + cond (eqb (place_of o) 3) 1 0) (u + cond (eqb (place_of o) 4) 1 0)
+    (count_more (is_from g rows Sound) n) (count_more (is_from g rows Majority) n) (count_more (is_turned g rows) n) (count_more (is_from g rows Erased) n) (count_more (is_from g rows Unsound) n)
+    ∙ counted_is (the_tally s m k e u) o
 
 few_more : (n : ℕ) (t : Tally) (o : Origin) → AreFew n t → AreFew (n + 1) (counted t o)
-few_more n t Sound h = let d = h.sound in let a = h.majority in let b = h.erased in let c = h.unsound in record { sound = omega arith; majority = omega arith; erased = omega arith; unsound = omega arith }
-few_more n t Conflict h = let d = h.sound in let a = h.majority in let b = h.erased in let c = h.unsound in record { sound = omega arith; majority = omega arith; erased = omega arith; unsound = omega arith }
-few_more n t Majority h = let d = h.sound in let a = h.majority in let b = h.erased in let c = h.unsound in record { sound = omega arith; majority = omega arith; erased = omega arith; unsound = omega arith }
-few_more n t Erased h = let d = h.sound in let a = h.majority in let b = h.erased in let c = h.unsound in record { sound = omega arith; majority = omega arith; erased = omega arith; unsound = omega arith }
-few_more n t Unsound h = let d = h.sound in let a = h.majority in let b = h.erased in let c = h.unsound in record { sound = omega arith; majority = omega arith; erased = omega arith; unsound = omega arith }
+few_more n t Sound h = let d = h.sound in let a = h.majority in let i = h.turned in let b = h.erased in let c = h.unsound in record { sound = omega arith; majority = omega arith; turned = omega arith; erased = omega arith; unsound = omega arith }
+few_more n t Conflict h = let d = h.sound in let a = h.majority in let i = h.turned in let b = h.erased in let c = h.unsound in record { sound = omega arith; majority = omega arith; turned = omega arith; erased = omega arith; unsound = omega arith }
+few_more n t Majority h = let d = h.sound in let a = h.majority in let i = h.turned in let b = h.erased in let c = h.unsound in record { sound = omega arith; majority = omega arith; turned = omega arith; erased = omega arith; unsound = omega arith }
+few_more n t (Tried (Taken m k)) h = let d = h.sound in let a = h.majority in let i = h.turned in let b = h.erased in let c = h.unsound in record { sound = omega arith; majority = omega arith; turned = omega arith; erased = omega arith; unsound = omega arith }
+few_more n t (Tried (Tied m k)) h = let d = h.sound in let a = h.majority in let i = h.turned in let b = h.erased in let c = h.unsound in record { sound = omega arith; majority = omega arith; turned = omega arith; erased = omega arith; unsound = omega arith }
+few_more n t (Tried (Nothing k)) h = let d = h.sound in let a = h.majority in let i = h.turned in let b = h.erased in let c = h.unsound in record { sound = omega arith; majority = omega arith; turned = omega arith; erased = omega arith; unsound = omega arith }
+few_more n t Erased h = let d = h.sound in let a = h.majority in let i = h.turned in let b = h.erased in let c = h.unsound in record { sound = omega arith; majority = omega arith; turned = omega arith; erased = omega arith; unsound = omega arith }
+few_more n t Unsound h = let d = h.sound in let a = h.majority in let i = h.turned in let b = h.erased in let c = h.unsound in record { sound = omega arith; majority = omega arith; turned = omega arith; erased = omega arith; unsound = omega arith }
 
 -- ---- the list
 
@@ -106,13 +184,17 @@ wider n rows h = All-weaker (λ r. r < n) (λ r. r < n + 1) (λ r l. (omega arit
 stays : (n : ℕ) (rows : List ℕ) → AreListed n rows → AreListed (n + 1) rows
 stays n rows h = record { within = wider n rows h.within; rising = h.rising }
 
-listed_more : (n : ℕ) (rows : List ℕ) (o : Origin) → AreListed n rows → AreListed (n + 1) (named rows n o)
-listed_more n rows Sound h = stays n rows h
-listed_more n rows Conflict h = record {
+listed_push : (n : ℕ) (rows : List ℕ) → AreListed n rows → AreListed (n + 1) (rows ++ n ∷ [])
+listed_push n rows h = record {
   within = All-push (λ r. r < n + 1) rows n (wider n rows h.within) (omega arith);
   rising = all_pairs_push (λ a b. a < b) rows n h.rising h.within;
 }
+
+listed_more : (n : ℕ) (rows : List ℕ) (o : Origin) → AreListed n rows → AreListed (n + 1) (named rows n o)
+listed_more n rows Sound h = stays n rows h
+listed_more n rows Conflict h = listed_push n rows h
 listed_more n rows Majority h = stays n rows h
+listed_more n rows (Tried t) h = stays n rows h
 listed_more n rows Erased h = stays n rows h
 listed_more n rows Unsound h = stays n rows h
 
@@ -120,11 +202,11 @@ unsound_listed_more : (n : ℕ) (rows : List ℕ) (o : Origin) → AreListed n r
 unsound_listed_more n rows Sound h = stays n rows h
 unsound_listed_more n rows Conflict h = stays n rows h
 unsound_listed_more n rows Majority h = stays n rows h
+unsound_listed_more n rows (Tried (Taken m d)) h = stays n rows h
+unsound_listed_more n rows (Tried (Tied m d)) h = listed_push n rows h
+unsound_listed_more n rows (Tried (Nothing d)) h = listed_push n rows h
 unsound_listed_more n rows Erased h = stays n rows h
-unsound_listed_more n rows Unsound h = record {
-  within = All-push (λ r. r < n + 1) rows n (wider n rows h.within) (omega arith);
-  rising = all_pairs_push (λ a b. a < b) rows n h.rising h.within;
-}
+unsound_listed_more n rows Unsound h = listed_push n rows h
 
 pub unsound_listed_next : (n : ℕ) (old new : List ℕ) (o : Origin) → new ≡ with_unsound old n o → AreListed n old → AreListed (n + 1) new
 unsound_listed_next n old new o is h = subst (AreListed (n + 1)) (sym is) (unsound_listed_more n old o h)
@@ -136,6 +218,7 @@ room_named all n rows new o old_room new_room h is same = record { few = (let si
     by Sound = omega arith
     by Conflict = omega (arith, length-append rows (n ∷ []))
     by Majority = omega arith
+    by (Tried t) = omega arith
     by Erased = omega arith
     by Unsound = omega arith
 
@@ -146,6 +229,9 @@ room_unsound all n rows new o old_room new_room h is same = record { few = (let 
     by Sound = omega arith
     by Conflict = omega arith
     by Majority = omega arith
+    by (Tried (Taken m d)) = omega arith
+    by (Tried (Tied m d)) = omega (arith, length-append rows (n ∷ []))
+    by (Tried (Nothing d)) = omega (arith, length-append rows (n ∷ []))
     by Erased = omega arith
     by Unsound = omega (arith, length-append rows (n ∷ []))
 
@@ -167,6 +253,7 @@ named_from : (rows : List ℕ) (n r : ℕ) (o : Origin) → Contains (named rows
 named_from rows n r Sound h = inl h
 named_from rows n r Conflict h = elim (contains_push rows n r h) [ inl at ↦ inl at | inr e ↦ inr (refl, e) ]
 named_from rows n r Majority h = inl h
+named_from rows n r (Tried t) h = inl h
 named_from rows n r Erased h = inl h
 named_from rows n r Unsound h = inl h
 
@@ -230,9 +317,30 @@ shows_more g of n rows t pages o old scratch pieces within stands h are written 
 
 -- ---- a row of which two sound pages differ
 
+turned_conflict : (p : Page) (n d : ℕ) (sound : List Page) (next : Choice) → (next.origin ≡ Conflict → ⊥) → (by_found p n d sound next).origin ≡ Conflict → ⊥
+turned_conflict p n d [] next none e = none e
+turned_conflict p n d (q ∷ others) next none e = by (list_all (is_same q) others) e
+  where
+    by : (b : Bool) → (cond b (chosen q (Tried (Taken n d))) (chosen p (Tried (Tied n d)))).origin ≡ Conflict → ⊥
+    by true is = cc
+    by false is = cc
+
+turns_conflict : (p : Page) (bits numbers : List ℕ) → (by_turns p bits numbers).origin ≡ Conflict → ⊥
+unfolding by_turns
+turns_conflict p bits [] e = cc
+turns_conflict p bits (n ∷ ns) e = turned_conflict p n (length bits) (filter is_sound (with_turned p bits n)) (by_turns p bits ns) (turns_conflict p bits ns) e
+
+trial_conflict : (p : Page) (bits : List ℕ) → (by_trial p bits).origin ≡ Conflict → ⊥
+unfolding by_trial
+trial_conflict p bits e = by (is_tried (length bits)) e
+  where
+    by : (b : Bool) → (cond b (by_turns p bits (range_with_len 1 (length bits))) (chosen p Unsound)).origin ≡ Conflict → ⊥
+    by true is = turns_conflict p bits (range_with_len 1 (length bits)) is
+    by false is = cc
+
 not_conflict : (g : Geometry) (pages programmed : List Page) → (by_programmed g pages programmed).origin ≡ Conflict → ⊥
 not_conflict g pages [] e = cc
-not_conflict g pages (p ∷ more) e = cc
+not_conflict g pages (p ∷ more) e = trial_conflict p (bits_apart p (p ∷ more)) e
 
 no_conflict : (g : Geometry) (pages : List Page) → (by_majority g pages).origin ≡ Conflict → ⊥
 unfolding by_majority
@@ -285,10 +393,10 @@ shows_next g of n rows t pages o old out pieces within stands h are written rows
 
 -- ---- before the first row
 
-pub stands_first : (g : Geometry) (scratch : List ℕ) (pieces : Option (List (List ℕ))) → length scratch ≡ page_bytes g → IfSome pieces (λ ps. length ps ≡ row_count g) → Stands g 0 [] (the_tally 0 0 0 0) scratch pieces
+pub stands_first : (g : Geometry) (scratch : List ℕ) (pieces : Option (List (List ℕ))) → length scratch ≡ page_bytes g → IfSome pieces (λ ps. length ps ≡ row_count g) → Stands g 0 [] (the_tally 0 0 0 0 0) scratch pieces
 stands_first g scratch pieces size whole = record {
   scratch_size = size;
-  few = record { sound = omega arith; majority = omega arith; erased = omega arith; unsound = omega arith };
+  few = record { sound = omega arith; majority = omega arith; turned = omega arith; erased = omega arith; unsound = omega arith };
   listed = none_listed;
   own = if_more pieces (λ ps. length ps ≡ row_count g) (AreOwn g 0 []) whole (λ ps all. record {
     size = all;
@@ -297,7 +405,7 @@ stands_first g scratch pieces size whole = record {
   });
 }
 
-pub shows_first : (g : Geometry) (of : ℕ → List Page) (pieces : Option (List (List ℕ))) → Shows g of 0 [] (the_tally 0 0 0 0) pieces
+pub shows_first : (g : Geometry) (of : ℕ → List Page) (pieces : Option (List (List ℕ))) → Shows g of 0 [] (the_tally 0 0 0 0 0) pieces
 unfolding conflicts_below tally_below
 shows_first g of pieces = record { conflicts_are = refl; tally_is = refl; pieces_are = all pieces }
   where

@@ -1,5 +1,5 @@
 -- What is found among the pages of a row while one is chosen.
-use Rattle.std.specs.Prelude.{◌≡◌, ℕ, ◌<◌, true, false, List, [], ◌∷◌, Option, Some, None}
+use Rattle.std.specs.Prelude.{◌≡◌, ℕ, ◌<◌, true, false, List, [], ◌∷◌}
 use Rattle.std.specs.List.{filter, list_all}
 use Rattle.page_layout.specs.declared.geometry.Geometry.{Geometry}
 use Rattle.page_layout.specs.Page.{Page}
@@ -39,17 +39,6 @@ abbrev pub IsAgreed : Geometry → List ℕ → ℕ → List Page → Agreed →
 IsAgreed g bytes count sound Never = sound ≡ []
 IsAgreed g bytes count sound (One i) = HasOne g bytes count sound i
 IsAgreed g bytes count sound Apart = HasTwo sound
-
--- the first of these pages is page i of the row
-pub record BeginsWith (g : Geometry) (bytes : List ℕ) (count : ℕ) (programmed : List Page) (i : ℕ) : Type 0 where
-  pub within : i < count
-  pub more : List Page
-  pub are : programmed ≡ page_in g bytes i ∷ more
-
--- the first page that is not erased, or that there is none
-abbrev pub IsFirstProgrammed : Geometry → List ℕ → ℕ → List Page → Option ℕ → Type 0
-IsFirstProgrammed g bytes count programmed None = programmed ≡ []
-IsFirstProgrammed g bytes count programmed (Some i) = BeginsWith g bytes count programmed i
 
 -- the bytes of what is chosen were written, and its origin is told
 pub record WritesChoice (c : Choice) (origin : Origin) (bytes : List ℕ) : Type 0 where

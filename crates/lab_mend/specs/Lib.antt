@@ -12,12 +12,18 @@ pub mod Repaired
 pub mod Pages
 -- what more than half of them say
 pub mod Majority
+-- the pages that agree with the readings
+pub mod Trial
 -- which page is written
 pub mod Choice
 -- what is found while it is chosen
 pub mod Found
+-- what is found while pages are tried
+pub mod Tried
 -- what is written while the rows are taken
 pub mod Merging
+-- how many pages were tried
+pub mod Tries
 -- readers that are read in step
 pub mod InStep
 -- what was written in the end

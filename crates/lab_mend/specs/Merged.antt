@@ -11,28 +11,31 @@ use Rattle.lab_dump.specs.declared.pass.Cut.TheVariants as cut
 use Rattle.lab_dump.specs.declared.pass.ScanFault.{ScanFault}
 use Rattle.lab_dump.specs.declared.pass.ScanFault.TheVariants as scan
 use Rattle.lab_mend.specs.declared.merging.Tally.{Tally}
+use Rattle.lab_mend.specs.declared.merging.TriedRow.{TriedRow}
 use Rattle.lab_mend.specs.declared.merge.MergeFault.{MergeFault}
 use Rattle.lab_mend.specs.declared.merge.MergeFault.TheVariants as fault
-use Rattle.lab_mend.specs.Merging.{piece_of, conflicts_below, unsound_below, tally_below, AreListed, AreOwn}
+use Rattle.lab_mend.specs.Merging.{piece_of, conflicts_below, unsound_below, tried_below, tally_below, AreListed, AreTried, AreOwn}
 
 -- the pages of a row, one of each reading
 abbrev pub row_of : Geometry → List (List ℕ) → ℕ → List Page
 row_of g files row = map (λ file. page_from g file (row * page_bytes g)) files
 
 -- Each reading has as many bytes as an image. The pieces are the pages that are written of the rows, in order; the rows that are named are those of
--- which two sound pages differ, and those of which a page was written as it is that is neither erased nor sound, by rising row; and the others are counted by
--- what was written of them.
-pub record IsMerged (g : Geometry) (files : List (List ℕ)) (conflicts unsound : List ℕ) (tally : Tally) (pieces : Option (List (List ℕ))) : Type 0 where
+-- which two sound pages differ, those of which a page was written as it is that is neither erased nor sound, and those of which pages were tried, by
+-- rising row; and the others are counted by what was written of them.
+pub record IsMerged (g : Geometry) (files : List (List ℕ)) (conflicts unsound : List ℕ) (tried : List TriedRow) (tally : Tally) (pieces : Option (List (List ℕ))) : Type 0 where
   pub whole : (i : ℕ) → i < length files → length (get_or files i []) ≡ image_bytes g
   pub pages : IfSome pieces (λ ps. ps ≡ map (λ row. piece_of g (row_of g files row)) (range_with_len 0 (row_count g)))
   pub conflicts_are : conflicts ≡ conflicts_below g (row_of g files) (row_count g)
   pub unsound_are : unsound ≡ unsound_below g (row_of g files) (row_count g)
+  pub tried_are : tried ≡ tried_below g (row_of g files) (row_count g)
   pub tally_is : tally ≡ tally_below g (row_of g files) (row_count g)
 
 -- whatever the readers gave
-pub record IsOwnMerge (g : Geometry) (conflicts unsound : List ℕ) (pieces : Option (List (List ℕ))) : Type 0 where
+pub record IsOwnMerge (g : Geometry) (conflicts unsound : List ℕ) (tried : List TriedRow) (pieces : Option (List (List ℕ))) : Type 0 where
   pub listed : AreListed (row_count g) conflicts
   pub unsound_listed : AreListed (row_count g) unsound
+  pub tried_listed : AreTried (row_count g) tried
   pub own : IfSome pieces (AreOwn g (row_count g) conflicts)
 
 -- `WrongLength` says of the reading of that number that its bytes aren't as many as an image has

@@ -1,13 +1,16 @@
 -- What is written and told while the rows are taken.
-use Rattle.std.specs.Prelude.{◌≡◌, ℕ, ◌+◌, ◌<◌, ◌≤◌, ◌==◌, Bool, All, List, [], ◌∷◌, ◌++◌, length, get_or, replicate, count_by, Option, IfSome}
-use Rattle.std.specs.List.{range_with_len, filter, AllPairs, Contains}
+use Rattle.std.specs.Prelude.{◌≡◌, ℕ, ◌+◌, ◌<◌, ◌≤◌, ◌==◌, Bool, All, List, [], ◌∷◌, ◌++◌, length, get_or, replicate, count_by, Option, Some, None, IfSome}
+use Rattle.std.specs.List.{range_with_len, filter, filter_map, AllPairs, Contains}
 use Rattle.page_layout.specs.declared.geometry.Geometry.{Geometry}
 use Rattle.page_layout.specs.Geometry.{row_count, page_bytes}
 use Rattle.page_layout.specs.Page.{Page}
 use Rattle.page_layout.specs.Raw.{bytes_of_page}
 use Rattle.lab_mend.specs.declared.choice.Origin.{Origin}
-use Rattle.lab_mend.specs.declared.choice.Origin.TheVariants.{Sound, Conflict, Majority, Erased, Unsound}
+use Rattle.lab_mend.specs.declared.choice.Origin.TheVariants.{Sound, Conflict, Majority, Tried, Erased, Unsound}
+use Rattle.lab_mend.specs.declared.trial.Trial.{Trial}
+use Rattle.lab_mend.specs.declared.trial.Trial.TheVariants.{Taken, Tied, Nothing}
 use Rattle.lab_mend.specs.declared.merging.Tally.{Tally}
+use Rattle.lab_mend.specs.declared.merging.TriedRow.{TriedRow}
 use Rattle.lab_mend.specs.Choice.{choice}
 
 -- ---- one row more
@@ -17,6 +20,7 @@ abbrev pub named : List ℕ → ℕ → Origin → List ℕ
 named rows row Sound = rows
 named rows row Conflict = rows ++ (row ∷ [])
 named rows row Majority = rows
+named rows row (Tried t) = rows
 named rows row Erased = rows
 named rows row Unsound = rows
 
@@ -25,25 +29,52 @@ abbrev pub with_unsound : List ℕ → ℕ → Origin → List ℕ
 with_unsound rows row Sound = rows
 with_unsound rows row Conflict = rows
 with_unsound rows row Majority = rows
+with_unsound rows row (Tried (Taken n d)) = rows
+with_unsound rows row (Tried (Tied n d)) = rows ++ (row ∷ [])
+with_unsound rows row (Tried (Nothing d)) = rows ++ (row ∷ [])
 with_unsound rows row Erased = rows
 with_unsound rows row Unsound = rows ++ (row ∷ [])
 
+-- a row of which pages were tried
+abbrev pub as_tried : ℕ → Trial → TriedRow
+as_tried row t = record { row = row; trial = t }
+
+-- it, if pages were tried of the row
+abbrev pub tried_row : ℕ → Origin → Option TriedRow
+tried_row row Sound = None
+tried_row row Conflict = None
+tried_row row Majority = None
+tried_row row (Tried t) = Some (as_tried row t)
+tried_row row Erased = None
+tried_row row Unsound = None
+
+-- the rows of which pages were tried, with one more
+abbrev pub with_tried : List TriedRow → Option TriedRow → List TriedRow
+with_tried rows None = rows
+with_tried rows (Some r) = rows ++ (r ∷ [])
+
 abbrev pub counted : Tally → Origin → Tally
-counted t Sound = record { sound = t.sound + 1; majority = t.majority; erased = t.erased; unsound = t.unsound }
+counted t Sound = record { sound = t.sound + 1; majority = t.majority; turned = t.turned; erased = t.erased; unsound = t.unsound }
 counted t Conflict = t
-counted t Majority = record { sound = t.sound; majority = t.majority + 1; erased = t.erased; unsound = t.unsound }
-counted t Erased = record { sound = t.sound; majority = t.majority; erased = t.erased + 1; unsound = t.unsound }
-counted t Unsound = record { sound = t.sound; majority = t.majority; erased = t.erased; unsound = t.unsound + 1 }
+counted t Majority = record { sound = t.sound; majority = t.majority + 1; turned = t.turned; erased = t.erased; unsound = t.unsound }
+counted t (Tried (Taken n d)) = record { sound = t.sound; majority = t.majority; turned = t.turned + 1; erased = t.erased; unsound = t.unsound }
+counted t (Tried (Tied n d)) = record { sound = t.sound; majority = t.majority; turned = t.turned; erased = t.erased; unsound = t.unsound + 1 }
+counted t (Tried (Nothing d)) = record { sound = t.sound; majority = t.majority; turned = t.turned; erased = t.erased; unsound = t.unsound + 1 }
+counted t Erased = record { sound = t.sound; majority = t.majority; turned = t.turned; erased = t.erased + 1; unsound = t.unsound }
+counted t Unsound = record { sound = t.sound; majority = t.majority; turned = t.turned; erased = t.erased; unsound = t.unsound + 1 }
 
 -- ---- of rows whose pages are known
 
--- the place of an origin among the five
+-- the place of an origin among the six, where one of a trial that took nothing is as the unsound ones
 abbrev pub place_of : Origin → ℕ
 place_of Sound = 0
 place_of Conflict = 1
 place_of Majority = 2
 place_of Erased = 3
 place_of Unsound = 4
+place_of (Tried (Taken n d)) = 5
+place_of (Tried (Tied n d)) = 4
+place_of (Tried (Nothing d)) = 4
 
 -- whether a row's page is of this origin
 abbrev pub is_from : Geometry → (ℕ → List Page) → Origin → ℕ → Bool
@@ -53,15 +84,24 @@ is_from g rows origin row = place_of (choice g (rows row)).origin == place_of or
 unfoldable pub conflicts_below : Geometry → (ℕ → List Page) → ℕ → List ℕ
 conflicts_below g rows n = filter (is_from g rows Conflict) (range_with_len 0 n)
 
--- the first rows of which no page is sound, nor the majority, and some page is not erased
+-- the first rows of which no page is sound or taken, nor the majority, and some page is not erased
 unfoldable pub unsound_below : Geometry → (ℕ → List Page) → ℕ → List ℕ
 unsound_below g rows n = filter (is_from g rows Unsound) (range_with_len 0 n)
+
+-- whether bits were turned of a row's page
+abbrev pub is_turned : Geometry → (ℕ → List Page) → ℕ → Bool
+is_turned g rows row = place_of (choice g (rows row)).origin == 5
+
+-- the first rows of which pages were tried, and what came of them
+unfoldable pub tried_below : Geometry → (ℕ → List Page) → ℕ → List TriedRow
+tried_below g rows n = filter_map (λ row. tried_row row (choice g (rows row)).origin) (range_with_len 0 n)
 
 -- how many of the first rows are of each origin but `Conflict`
 unfoldable pub tally_below : Geometry → (ℕ → List Page) → ℕ → Tally
 tally_below g rows n = record {
   sound = count_by (is_from g rows Sound) (range_with_len 0 n);
   majority = count_by (is_from g rows Majority) (range_with_len 0 n);
+  turned = count_by (is_turned g rows) (range_with_len 0 n);
   erased = count_by (is_from g rows Erased) (range_with_len 0 n);
   unsound = count_by (is_from g rows Unsound) (range_with_len 0 n);
 }
@@ -89,14 +129,24 @@ pub record AreListed (n : ℕ) (conflicts : List ℕ) : Type 0 where
   pub within : All (λ row. row < n) conflicts
   pub rising : AllPairs (λ a b. a < b) conflicts
 
+-- of rows among the first ones, each once, by rising row
+pub record AreTried (n : ℕ) (tried : List TriedRow) : Type 0 where
+  pub within : All (λ r. r.row < n) tried
+  pub rising : AllPairs (λ a b. a.row < b.row) tried
+
 -- so many rows at most are named, and there is room for all of the die's
 pub record HasRoom (rows n : ℕ) (named : List ℕ) (capacity : ℕ) : Type 0 where
   pub few : length named ≤ n
   pub room : rows ≤ capacity
 
+pub record HasTriedRoom (rows n : ℕ) (tried : List TriedRow) (capacity : ℕ) : Type 0 where
+  pub few : length tried ≤ n
+  pub room : rows ≤ capacity
+
 pub record AreFew (n : ℕ) (tally : Tally) : Type 0 where
   pub sound : tally.sound ≤ n
   pub majority : tally.majority ≤ n
+  pub turned : tally.turned ≤ n
   pub erased : tally.erased ≤ n
   pub unsound : tally.unsound ≤ n
 

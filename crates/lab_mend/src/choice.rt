@@ -1,17 +1,20 @@
 //! Which page is written of a row. Its pages, one of each reading, stand one behind another.
-ghost use Rattle.std.specs.Prelude.{◌≡◌, ◌<◌, ◌≤◌, ◌+◌, ◌*◌, ◌&&◌, nat_le, true, [], ◌∷◌, ◌++◌, length, replicate};
+ghost use Rattle.std.specs.Prelude.{◌≡◌, ◌<◌, ◌≤◌, ◌+◌, ◌*◌, ◌&&◌, nat_le, true, All, [], ◌∷◌, ◌++◌, length, replicate, slice_index, vec_capacity};
 ghost use Rattle.std.specs.Str.{bytes_eq};
 ghost use Rattle.page_layout.specs.Geometry.{page_bytes};
 ghost use Rattle.page_layout.specs.Raw.{bytes_of_page};
 ghost use Rattle.page_layout.specs.Block.{is_programmed};
 ghost use Rattle.lab_dump.specs.PageBytes.{is_sound};
 ghost use Rattle.lab_mend.specs.Choice;
-ghost use Rattle.lab_mend.specs.Choice.{by_programmed, by_majority};
+ghost use Rattle.lab_mend.specs.Choice.{by_programmed, by_majority, by_trial};
 ghost use Rattle.lab_mend.specs.Majority.{majority};
 ghost use Rattle.lab_mend.specs.Pages.{page_in, pages_in, piece_at};
-ghost use Rattle.lab_mend.specs.Found.{IsAgreed, IsFirstProgrammed, WritesChoice, programmed_below, sound_below};
+ghost use Rattle.lab_mend.specs.Found.{IsAgreed, WritesChoice, programmed_below, sound_below};
+ghost use Rattle.lab_mend.specs.Trial.{bits_apart};
+ghost use Rattle.lab_mend.specs.Tried.{IsTrialRoom, first_at, pages_at, with_place};
 
 use crate::majority::write_majority;
+use crate::trial::{Trial, TrialRoom, list_bits, try_all};
 use lab_dump::is_sound;
 use page_layout::geometry::Geometry;
 use page_layout::record::is_erased;
@@ -25,9 +28,13 @@ pub enum Origin {
     Conflict,
     /// No page is sound, and of three or more readings the majority of each bit is.
     Majority,
+    /// No page is sound, nor the majority, and those that agree with the readings that are not erased wherever these agree were tried. Where none is
+    /// taken, the page is as the first of these has it.
+    Tried(Trial),
     /// The page is erased in every reading.
     Erased,
-    /// No page is sound, nor the majority, and in some reading the page is not erased: as the first of these has it.
+    /// No page is sound, nor the majority, and in some reading the page is not erased: as the first of these has it. They differ in no bit, or in
+    /// more than are tried.
     Unsound,
 }
 
@@ -143,17 +150,30 @@ fn is_programmed_at(geometry: &Geometry, pages: &[u8], i: usize) -> bool
     !is_erased(body, spare)
 }
 
-// The first page that is not erased, if there is one.
-fn find_programmed(geometry: &Geometry, pages: &[u8], count: usize) -> Option<usize>
-    requires { length pages.now ≡ count * page_bytes geometry.now }
-    ensures { IsFirstProgrammed geometry.now pages.now count (programmed_below geometry.now pages.now count) result }
+// Lists the place of a page if it is not erased.
+fn list_place(geometry: &Geometry, pages: &[u8], i: usize, places: &mut Vec<usize>)
+    requires within { i * page_bytes geometry.now + page_bytes geometry.now ≤ length pages.now }
+    requires room { length places.old.items < vec_capacity places.old }
+    ensures listed { places.new.items ≡ with_place (page_in geometry.now pages.now i) places.old.items i }
+    ensures room { vec_capacity places.new ≡ vec_capacity places.old }
 {
-    for i in 0..count {
-        if is_programmed_at(geometry, pages, i) {
-            return Some(i);
-        }
+    if is_programmed_at(geometry, pages, i) {
+        places.push_reserved(i);
     }
-    None
+}
+
+// Lists the places of the pages that are not erased.
+fn list_programmed(geometry: &Geometry, pages: &[u8], count: usize, places: &mut Vec<usize>)
+    requires whole { length pages.now ≡ count * page_bytes geometry.now }
+    requires room { count ≤ vec_capacity places.old }
+    ensures are { pages_at geometry.now pages.now places.new.items ≡ programmed_below geometry.now pages.now count }
+    ensures within { All (λ i. i * page_bytes geometry.now + page_bytes geometry.now ≤ length pages.now) places.new.items }
+    ensures room { vec_capacity places.new ≡ vec_capacity places.old }
+{
+    places.clear();
+    for i in 0..count {
+        list_place(geometry, pages, i, places);
+    }
 }
 
 // Writes a page of the row.
@@ -174,23 +194,51 @@ fn blank_page(geometry: &Geometry, out: &mut [u8])
     out.fill(0);
 }
 
+// Writes what comes of turning bits of the first of these pages of the row, which is there, in which they differ.
+fn try_readings(
+    geometry: &Geometry,
+    pages: &[u8],
+    count: usize,
+    room: &mut TrialRoom,
+    out: &mut [u8],
+) -> Origin
+    requires room { IsTrialRoom geometry.now count room.old }
+    requires some { 0 < length room.old.places.items }
+    requires within { All (λ i. i * page_bytes geometry.now + page_bytes geometry.now ≤ length pages.now) room.old.places.items }
+    requires first { out.old ≡ piece_at pages.now (page_bytes geometry.now) (slice_index room.old.places.items 0) }
+    ensures room { IsTrialRoom geometry.now count room.new }
+    ensures writes { WritesChoice (by_trial (first_at geometry.now pages.now room.old.places.items)
+        (bits_apart (first_at geometry.now pages.now room.old.places.items) (pages_at geometry.now pages.now room.old.places.items))) result out.new }
+{
+    if list_bits(geometry, pages, &room.places, &mut room.bits) && !room.bits.is_empty() {
+        Origin::Tried(try_all(geometry, &room.bits, &mut room.kept, out))
+    } else {
+        Origin::Unsound
+    }
+}
+
 // Writes the page that is chosen where no page is sound, nor the majority.
-fn choose_programmed(geometry: &Geometry, pages: &[u8], count: usize, out: &mut [u8]) -> Origin
+fn choose_programmed(
+    geometry: &Geometry,
+    pages: &[u8],
+    count: usize,
+    room: &mut TrialRoom,
+    out: &mut [u8],
+) -> Origin
     requires some { 0 < count }
     requires whole { length pages.now ≡ count * page_bytes geometry.now }
-    requires room { length out.old ≡ page_bytes geometry.now }
-    ensures { WritesChoice (by_programmed geometry.now (pages_in geometry.now pages.now count) (programmed_below geometry.now pages.now count)) result out.new }
+    requires room { IsTrialRoom geometry.now count room.old }
+    requires out_room { length out.old ≡ page_bytes geometry.now }
+    ensures room { IsTrialRoom geometry.now count room.new }
+    ensures writes { WritesChoice (by_programmed geometry.now (pages_in geometry.now pages.now count) (programmed_below geometry.now pages.now count)) result out.new }
 {
-    match find_programmed(geometry, pages, count) {
-        Some(i) => {
-            copy_page(geometry, pages, i, out);
-            Origin::Unsound
-        }
-        None => {
-            copy_page(geometry, pages, 0, out);
-            Origin::Erased
-        }
+    list_programmed(geometry, pages, count, &mut room.places);
+    if room.places.is_empty() {
+        copy_page(geometry, pages, 0, out);
+        return Origin::Erased;
     }
+    copy_page(geometry, pages, room.places[0], out);
+    try_readings(geometry, pages, count, room, out)
 }
 
 // Writes the majority of each bit, of three or more pages, and answers whether it is sound.
@@ -208,25 +256,41 @@ fn has_majority(geometry: &Geometry, pages: &[u8], count: usize, out: &mut [u8])
 }
 
 // Writes the page that is chosen where no page is sound.
-fn choose_majority(geometry: &Geometry, pages: &[u8], count: usize, out: &mut [u8]) -> Origin
+fn choose_majority(
+    geometry: &Geometry,
+    pages: &[u8],
+    count: usize,
+    room: &mut TrialRoom,
+    out: &mut [u8],
+) -> Origin
     requires some { 0 < count }
     requires whole { length pages.now ≡ count * page_bytes geometry.now }
-    requires room { length out.old ≡ page_bytes geometry.now }
-    ensures { WritesChoice (by_majority geometry.now (pages_in geometry.now pages.now count)) result out.new }
+    requires room { IsTrialRoom geometry.now count room.old }
+    requires out_room { length out.old ≡ page_bytes geometry.now }
+    ensures room { IsTrialRoom geometry.now count room.new }
+    ensures writes { WritesChoice (by_majority geometry.now (pages_in geometry.now pages.now count)) result out.new }
 {
     if has_majority(geometry, pages, count, out) {
         Origin::Majority
     } else {
-        choose_programmed(geometry, pages, count, out)
+        choose_programmed(geometry, pages, count, room, out)
     }
 }
 
 /// Writes the page that is chosen of a row, and answers where it is from.
-pub(crate) fn choose(geometry: &Geometry, pages: &[u8], count: usize, out: &mut [u8]) -> Origin
+pub(crate) fn choose(
+    geometry: &Geometry,
+    pages: &[u8],
+    count: usize,
+    room: &mut TrialRoom,
+    out: &mut [u8],
+) -> Origin
     requires some { 0 < count }
     requires whole { length pages.now ≡ count * page_bytes geometry.now }
-    requires room { length out.old ≡ page_bytes geometry.now }
-    ensures { WritesChoice (Rattle.lab_mend.specs.Choice.choice geometry.now (pages_in geometry.now pages.now count)) result out.new }
+    requires room { IsTrialRoom geometry.now count room.old }
+    requires out_room { length out.old ≡ page_bytes geometry.now }
+    ensures room { IsTrialRoom geometry.now count room.new }
+    ensures writes { WritesChoice (Rattle.lab_mend.specs.Choice.choice geometry.now (pages_in geometry.now pages.now count)) result out.new }
 {
     match agree(geometry, pages, count) {
         Agreed::One(i) => {
@@ -237,6 +301,6 @@ pub(crate) fn choose(geometry: &Geometry, pages: &[u8], count: usize, out: &mut 
             blank_page(geometry, out);
             Origin::Conflict
         }
-        Agreed::Never => choose_majority(geometry, pages, count, out),
+        Agreed::Never => choose_majority(geometry, pages, count, room, out),
     }
 }

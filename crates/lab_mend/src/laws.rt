@@ -1,6 +1,6 @@
 //! What the definitions come to.
 ghost use Rattle.lab_mend.specs.Bits.{TurnedLaw};
-ghost use Rattle.lab_mend.specs.Choice.{ChoiceLaw, ErasedLaw, OrderLaw, ZeroLaw};
+ghost use Rattle.lab_mend.specs.Choice.{ChoiceLaw, ErasedLaw, LeastLaw, OrderLaw, ZeroLaw};
 ghost use Rattle.lab_mend.specs.Majority.{MajorityLaw};
 ghost use Rattle.lab_mend.specs.Mend.{AgainLaw, KeptLaw, MendLaw, MendedLaw};
 ghost use Rattle.lab_mend.specs.Repaired.{RowsLaw};
@@ -49,6 +49,11 @@ pub fn majority_law()
 /// Of any pages of the die the origin that is told of the page that is written is true.
 pub fn choice_law()
     ensures { ChoiceLaw }
+{}
+
+/// Of the sound pages that agree with the readings wherever these agree, none but the one that is taken turns as few bits.
+pub fn least_law()
+    ensures { LeastLaw }
 {}
 
 /// A row counts as erased just where its page is erased in every reading.

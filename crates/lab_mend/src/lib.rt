@@ -3,9 +3,11 @@
 //! - `repair_dump`: each page that is neither erased nor sound, and that one bit turned makes sound, or else erased, is written with that bit turned;
 //!   every other page is written as it is, and so is each of a row that is not asked for.
 //! - `merge_dumps`: several readings of one die made into one, row by row: of each row the page that is sound, where all the sound ones are one
-//!   page; a row of which two sound pages differ is named, and neither is taken.
+//!   page; a row of which two sound pages differ is named, and neither is taken; where none is, the seal decides among those that agree with the
+//!   readings wherever these agree.
 #![tactic(auto)]
 
+mod bits;
 mod choice;
 mod in_step;
 mod laws;
@@ -16,14 +18,18 @@ mod merging;
 mod repair;
 mod repairing;
 mod seal;
+mod trial;
+mod tries;
 
 pub use choice::Origin;
 pub use laws::{
-    again_law, choice_law, erased_law, kept_law, majority_law, mend_law, mended_law, order_law,
-    own_law, rows_law, turned_law, zero_law,
+    again_law, choice_law, erased_law, kept_law, least_law, majority_law, mend_law, mended_law,
+    order_law, own_law, rows_law, turned_law, zero_law,
 };
 pub use mending::Made;
 pub use merge::{MergeFault, MergeRoom, Merged, Unmerged, merge_dumps};
-pub use merging::Tally;
+pub use merging::{Tally, TriedRow};
 pub use repair::{RepairRoom, Repaired, repair_dump};
 pub use repairing::{Mend, Repairing};
+pub use trial::Trial;
+pub use tries::count_tries;

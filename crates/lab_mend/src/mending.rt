@@ -8,6 +8,7 @@ ghost use Rattle.lab_mend.specs.Bits.{turned_bytes};
 ghost use Rattle.lab_mend.specs.Mend.{erased_bit, first_turn, lowest_bit, mend_of, mended, turned_at, turned_if};
 ghost use Rattle.lab_mend.specs.Repairing.{IsOwn, mend_at, piece_at};
 
+use crate::bits::turn;
 use crate::seal::Prefix;
 use lab_dump::{Rows, is_asked, is_broken, join_page};
 use page_layout::geometry::Geometry;
@@ -27,15 +28,6 @@ pub enum Made {
 pub(crate) struct Turned {
     pub(crate) bit: u32,
     pub(crate) made: Made,
-}
-
-// Turns a bit: bit k mod 8, counted from the lowest, of byte k / 8.
-#[tactic(auto, unfolding(crate::specs::Bits::turned_bytes))]
-fn turn(bytes: &mut [u8], bit: u32)
-    requires { bit < bits_of bytes.old }
-    ensures { bytes.new ≡ turned_bytes bytes.old bit }
-{
-    bytes[bit as usize / 8] ^= 1 << (bit % 8);
 }
 
 // Turns the lowest bit whose turning makes the page sound, and answers it; where there is none the page stays as it is. What stands before the byte

@@ -4,12 +4,14 @@ ghost use Rattle.page_layout.specs.Geometry.{page_bytes, row_count};
 ghost use Rattle.page_layout.specs.Page.{Page};
 ghost use Rattle.lab_dump.specs.Scan.{image_bytes};
 ghost use Rattle.lab_mend.specs.InStep.{AreAt, Tell};
-ghost use Rattle.lab_mend.specs.Merging.{AreListed, HasRoom, Shows, Stands, unsound_below};
+ghost use Rattle.lab_mend.specs.Merging.{AreListed, AreTried, HasRoom, HasTriedRoom, Shows, Stands, tried_below, unsound_below};
+ghost use Rattle.lab_mend.specs.Tried.{IsTrialRoom};
 ghost use Rattle.lab_mend.specs.Merged.{IsMerged, IsOfReading, IsOwnMerge, IsPinned, IsUnmerged, row_of};
 ghost use Rattle.lab_mend.specs.Rooms.{IsMergeRoom};
 
 use crate::in_step::{ReadingCut, ReadingFault, expect_ends, read_row};
-use crate::merging::{Merging, Tally};
+use crate::merging::{Merging, Tally, TriedRow};
+use crate::trial::{MOST_BITS, TrialRoom};
 use lab_dump::{Cut, DumpReader, PageTarget, ScanFault, TargetFault};
 use page_layout::geometry::Geometry;
 use std::alloc::{AllocError, Global};
@@ -80,8 +82,10 @@ pub struct Unmerged<T> {
 pub struct Merged<T> {
     /// The rows of which two sound pages differ, by rising row.
     pub conflicts: Vec<u32>,
-    /// The rows of which no page is sound, nor the majority, and some page is not erased, by rising row.
+    /// The rows of which no page is sound, nor the majority, none that was tried is taken, and some page is not erased, by rising row.
     pub unsound: Vec<u32>,
+    /// The rows of which pages were tried, and what came of them, by rising row.
+    pub tried: Vec<TriedRow>,
     /// How many of the other rows there are, by what was written of them.
     pub tally: Tally,
     /// The file of pages.
@@ -99,8 +103,11 @@ fn merge_rows<R: DumpReader, T: PageTarget>(
     requires whole { length pages.old ≡ length readers.old * page_bytes geometry.now }
     requires stands { Stands geometry.now 0 merging.old.conflicts.items merging.old.tally merging.old.scratch.items (T.pieces merging.old.target) }
     requires none { merging.old.unsound.items ≡ [] }
+    requires none_tried { merging.old.tried.items ≡ [] }
+    requires room { IsTrialRoom geometry.now (length readers.old) merging.old.room }
     requires conflicts_room { HasRoom (row_count geometry.now) 0 merging.old.conflicts.items (vec_capacity merging.old.conflicts) }
     requires unsound_room { HasRoom (row_count geometry.now) 0 merging.old.unsound.items (vec_capacity merging.old.unsound) }
+    requires tried_room { HasTriedRoom (row_count geometry.now) 0 merging.old.tried.items (vec_capacity merging.old.tried) }
     requires shows { (rows : ℕ → List Page) → Shows geometry.now rows 0 merging.old.conflicts.items merging.old.tally (T.pieces merging.old.target) }
     ensures stands { OnOk result (Stands geometry.now (row_count geometry.now) merging.new.conflicts.items merging.new.tally merging.new.scratch.items (T.pieces merging.new.target)) }
     ensures shows { OnOk result ((files : List (List ℕ)) → AreAt (map R.remaining readers.old) files 0
@@ -108,6 +115,9 @@ fn merge_rows<R: DumpReader, T: PageTarget>(
     ensures unsound { OnOk result ((files : List (List ℕ)) → AreAt (map R.remaining readers.old) files 0
         → merging.new.unsound.items ≡ unsound_below geometry.now (row_of geometry.now files) (row_count geometry.now)) }
     ensures listed { OnOk result (AreListed (row_count geometry.now) merging.new.unsound.items) }
+    ensures tried { OnOk result ((files : List (List ℕ)) → AreAt (map R.remaining readers.old) files 0
+        → merging.new.tried.items ≡ tried_below geometry.now (row_of geometry.now files) (row_count geometry.now)) }
+    ensures tried_listed { OnOk result (AreTried (row_count geometry.now) merging.new.tried.items) }
     ensures count { OnOk result (length readers.new ≡ length readers.old) }
     ensures read { OnOk result ((files : List (List ℕ)) → AreAt (map R.remaining readers.old) files 0 → AreAt (map R.remaining readers.new) files (image_bytes geometry.now)) }
     ensures reading { IfErr result (IsOfReading (length readers.old)) }
@@ -133,11 +143,14 @@ fn merge_all<R: DumpReader, T: PageTarget>(
     requires whole { length pages.old ≡ length readers.old * page_bytes geometry.now }
     requires stands { Stands geometry.now 0 merging.old.conflicts.items merging.old.tally merging.old.scratch.items (T.pieces merging.old.target) }
     requires none { merging.old.unsound.items ≡ [] }
+    requires none_tried { merging.old.tried.items ≡ [] }
+    requires room { IsTrialRoom geometry.now (length readers.old) merging.old.room }
     requires conflicts_room { HasRoom (row_count geometry.now) 0 merging.old.conflicts.items (vec_capacity merging.old.conflicts) }
     requires unsound_room { HasRoom (row_count geometry.now) 0 merging.old.unsound.items (vec_capacity merging.old.unsound) }
+    requires tried_room { HasTriedRoom (row_count geometry.now) 0 merging.old.tried.items (vec_capacity merging.old.tried) }
     requires shows { (rows : ℕ → List Page) → Shows geometry.now rows 0 merging.old.conflicts.items merging.old.tally (T.pieces merging.old.target) }
-    ensures ok { OnOk result ((files : List (List ℕ)) → Tell (map R.remaining readers.old) files → IsMerged geometry.now files merging.new.conflicts.items merging.new.unsound.items merging.new.tally (T.pieces merging.new.target)) }
-    ensures own { OnOk result (IsOwnMerge geometry.now merging.new.conflicts.items merging.new.unsound.items (T.pieces merging.new.target)) }
+    ensures ok { OnOk result ((files : List (List ℕ)) → Tell (map R.remaining readers.old) files → IsMerged geometry.now files merging.new.conflicts.items merging.new.unsound.items merging.new.tried.items merging.new.tally (T.pieces merging.new.target)) }
+    ensures own { OnOk result (IsOwnMerge geometry.now merging.new.conflicts.items merging.new.unsound.items merging.new.tried.items (T.pieces merging.new.target)) }
     ensures reading { IfErr result (IsOfReading (length readers.old)) }
     ensures err { IfErr result (λ fault. (files : List (List ℕ)) → Tell (map R.remaining readers.old) files → IsUnmerged geometry.now files fault) }
     ensures pinned { IfErr result (IsPinned (map R.failed readers.new) (T.failed merging.new.target)) }
@@ -157,13 +170,17 @@ pub struct MergeRoom {
     // the rows that are named
     pub(crate) conflicts: Vec<u32>,
     pub(crate) unsound: Vec<u32>,
+    pub(crate) tried: Vec<TriedRow>,
+    // what is tried of a row
+    pub(crate) trial: TrialRoom,
 }
 
 impl MergeRoom {
     ghost use Rattle.std.specs.Prelude.{IfOk};
     ghost use Rattle.lab_mend.specs.Rooms.{IsMergeRoom};
 
-    /// All the memory that a merge of so many readings of a die of this geometry takes: that of a page of each and one more, and eight bytes a row.
+    /// All the memory that a merge of so many readings of a die of this geometry takes: that of a page of each and two more, and
+    /// twenty-four bytes a row.
     ///
     /// # Errors
     ///
@@ -180,6 +197,12 @@ impl MergeRoom {
             scratch: vec![in alloc; 0; size]?,
             conflicts: Vec::with_capacity(alloc, geometry.rows() as usize)?,
             unsound: Vec::with_capacity(alloc, geometry.rows() as usize)?,
+            tried: Vec::with_capacity(alloc, geometry.rows() as usize)?,
+            trial: TrialRoom {
+                places: Vec::with_capacity(alloc, count)?,
+                bits: Vec::with_capacity(alloc, MOST_BITS)?,
+                kept: vec![in alloc; 0; size]?,
+            },
         })
     }
 }
@@ -191,11 +214,13 @@ impl MergeRoom {
 /// - where two sound ones differ, 00h bytes, which are never sound, and the row is named;
 /// - where none is sound and there are three or more readings, the page that has each bit set which more than half of them have set, if that is
 ///   sound;
-/// - else the first page that is not erased, as it is, and the row is named: a reading that failed may be all FFh;
+/// - else, where those pages that are not erased differ in one to sixteen bits, the first of them with as few of these turned as make it sound, if
+///   these make one page; a reading that failed may be all FFh;
+/// - else the first page that is not erased, as it is, and the row is named;
 /// - else an erased page: it is erased in every reading.
 ///
-/// The target has a piece for each row, of as many bytes as a page has. A page with the same bytes as the first reading's is not hashed again. It
-/// takes no memory but that of the room.
+/// The target has a piece for each row, of as many bytes as a page has. A page with the same bytes as the first reading's is not hashed again. Of a
+/// row whose pages are tried at most 2 ^ 16 are hashed. It takes no memory but that of the room.
 ///
 /// For readers that tell their bytes, and a target that tells its pieces, these are those pages of the images that the bytes are, and the rows that
 /// are named and counted are those of them. Of any readers each piece has as many bytes as a page, and a row that is named has 00h bytes alone.
@@ -215,10 +240,10 @@ pub fn merge_dumps<R: DumpReader, T: PageTarget + Drop>(
     requires some { 0 < length readers.old }
     requires room { IsMergeRoom geometry.now (length readers.old) room }
     requires pieces { IfSome (T.pieces target) (λ ps. length ps ≡ row_count geometry.now) }
-    ensures ok { IfOk result (λ told. (files : List (List ℕ)) → Tell (map R.remaining readers.old) files → IsMerged geometry.now files told.conflicts.items told.unsound.items told.tally (T.pieces told.target)) }
+    ensures ok { IfOk result (λ told. (files : List (List ℕ)) → Tell (map R.remaining readers.old) files → IsMerged geometry.now files told.conflicts.items told.unsound.items told.tried.items told.tally (T.pieces told.target)) }
     ensures err { IfErr result (λ unmerged. (files : List (List ℕ)) → Tell (map R.remaining readers.old) files → IsUnmerged geometry.now files unmerged.fault) }
     // Whatever the readers and the target do.
-    ensures own { IfOk result (λ told. IsOwnMerge geometry.now told.conflicts.items told.unsound.items (T.pieces told.target)) }
+    ensures own { IfOk result (λ told. IsOwnMerge geometry.now told.conflicts.items told.unsound.items told.tried.items (T.pieces told.target)) }
     ensures reading { IfErr result (λ unmerged. IsOfReading (length readers.old) unmerged.fault) }
     ensures pinned { IfErr result (λ unmerged. IsPinned (map R.failed readers.new) (T.failed unmerged.target) unmerged.fault) }
 {
@@ -226,9 +251,12 @@ pub fn merge_dumps<R: DumpReader, T: PageTarget + Drop>(
     let mut merging = Merging {
         conflicts: room.conflicts,
         unsound: room.unsound,
+        tried: room.tried,
+        room: room.trial,
         tally: Tally {
             sound: 0,
             majority: 0,
+            turned: 0,
             erased: 0,
             unsound: 0,
         },
@@ -239,6 +267,7 @@ pub fn merge_dumps<R: DumpReader, T: PageTarget + Drop>(
         Ok(()) => Ok(Merged {
             conflicts: merging.conflicts,
             unsound: merging.unsound,
+            tried: merging.tried,
             tally: merging.tally,
             target: merging.target,
         }),

@@ -3,9 +3,11 @@ ghost use Rattle.std.specs.Prelude.{◌≡◌, ◌<◌, ◌+◌, ◌*◌, ◌^�
 ghost use Rattle.page_layout.specs.Geometry.{page_bytes, row_count};
 ghost use Rattle.page_layout.specs.Page.{Page};
 ghost use Rattle.lab_mend.specs.Pages.{pages_in};
-ghost use Rattle.lab_mend.specs.Merging.{AreListed, HasRoom, Shows, Stands, counted, named, unsound_below, with_unsound};
+ghost use Rattle.lab_mend.specs.Merging.{AreListed, AreTried, HasRoom, HasTriedRoom, Shows, Stands, counted, named, tried_below, tried_row, unsound_below, with_tried, with_unsound};
+ghost use Rattle.lab_mend.specs.Tried.{IsTrialRoom};
 
 use crate::choice::{Origin, choose};
+use crate::trial::{Trial, TrialRoom};
 use lab_dump::{PageTarget, TargetFault};
 use page_layout::geometry::Geometry;
 
@@ -16,10 +18,21 @@ pub struct Tally {
     pub sound: u32,
     /// The majority of each bit, which is sound.
     pub majority: u32,
+    /// The first page that is not erased with bits turned, which is sound.
+    pub turned: u32,
     /// An erased page: every reading's is.
     pub erased: u32,
     /// The first page that is not erased, as it is. It is not sound.
     pub unsound: u32,
+}
+
+/// A row of which pages were tried.
+#[derive(Clone, Copy, Debug, PartialEq, Eq)]
+pub struct TriedRow {
+    /// Its number.
+    pub row: u32,
+    /// What came of them.
+    pub trial: Trial,
 }
 
 // What was written so far.
@@ -29,7 +42,10 @@ pub(crate) struct Merging<T> {
     pub(crate) conflicts: Vec<u32>,
     // those of which a page was written as it is that is neither erased nor sound
     pub(crate) unsound: Vec<u32>,
+    // those of which pages were tried
+    pub(crate) tried: Vec<TriedRow>,
     pub(crate) tally: Tally,
+    pub(crate) room: TrialRoom,
     // the page at hand
     pub(crate) scratch: Vec<u8>,
     pub(crate) target: T,
@@ -40,6 +56,7 @@ impl Tally {
     fn count(self, origin: Origin) -> Tally
         requires sound { self.sound + 1 < 2 ^ 32 }
         requires majority { self.majority + 1 < 2 ^ 32 }
+        requires turned { self.turned + 1 < 2 ^ 32 }
         requires erased { self.erased + 1 < 2 ^ 32 }
         requires unsound { self.unsound + 1 < 2 ^ 32 }
         ensures { result ≡ counted self origin }
@@ -49,8 +66,11 @@ impl Tally {
             Origin::Conflict => (),
             Origin::Sound => tally.sound += 1,
             Origin::Majority => tally.majority += 1,
+            Origin::Tried(Trial::Taken(_, _)) => tally.turned += 1,
             Origin::Erased => tally.erased += 1,
-            Origin::Unsound => tally.unsound += 1,
+            Origin::Tried(Trial::Tied(_, _) | Trial::Nothing(_)) | Origin::Unsound => {
+                tally.unsound += 1;
+            }
         }
         tally
     }
@@ -64,7 +84,8 @@ fn name_conflict(conflicts: &mut Vec<u32>, row: u32, origin: Origin)
 {
     match origin {
         Origin::Conflict => conflicts.push_reserved(row),
-        Origin::Sound | Origin::Majority | Origin::Erased | Origin::Unsound => (),
+        Origin::Sound | Origin::Majority | Origin::Tried(_) | Origin::Erased | Origin::Unsound =>
+            (),
     }
 }
 
@@ -75,8 +96,27 @@ fn name_unsound(unsound: &mut Vec<u32>, row: u32, origin: Origin)
     ensures room { vec_capacity unsound.new ≡ vec_capacity unsound.old }
 {
     match origin {
-        Origin::Unsound => unsound.push_reserved(row),
-        Origin::Sound | Origin::Conflict | Origin::Majority | Origin::Erased => (),
+        Origin::Tried(Trial::Tied(_, _) | Trial::Nothing(_)) | Origin::Unsound => {
+            unsound.push_reserved(row);
+        }
+        Origin::Sound
+        | Origin::Conflict
+        | Origin::Majority
+        | Origin::Tried(Trial::Taken(_, _))
+        | Origin::Erased => (),
+    }
+}
+
+// Names a row of which pages were tried. The list has room for it.
+fn name_tried(tried: &mut Vec<TriedRow>, row: u32, origin: Origin)
+    requires { length tried.old.items < vec_capacity tried.old }
+    ensures named { tried.new.items ≡ with_tried tried.old.items (tried_row row origin) }
+    ensures room { vec_capacity tried.new ≡ vec_capacity tried.old }
+{
+    match origin {
+        Origin::Tried(trial) => tried.push_reserved(TriedRow { row, trial }),
+        Origin::Sound | Origin::Conflict | Origin::Majority | Origin::Erased | Origin::Unsound =>
+            (),
     }
 }
 
@@ -94,20 +134,28 @@ impl<T: PageTarget> Merging<T> {
         requires whole { length pages.now ≡ count * page_bytes geometry.now }
         requires conflicts_room { HasRoom (row_count geometry.now) row self.old.conflicts.items (vec_capacity self.old.conflicts) }
         requires unsound_room { HasRoom (row_count geometry.now) row self.old.unsound.items (vec_capacity self.old.unsound) }
+        requires tried_room { HasTriedRoom (row_count geometry.now) row self.old.tried.items (vec_capacity self.old.tried) }
+        requires room { IsTrialRoom geometry.now count self.old.room }
         requires stands { Stands geometry.now row self.old.conflicts.items self.old.tally self.old.scratch.items (T.pieces self.old.target) }
         ensures conflicts_room { HasRoom (row_count geometry.now) (row + 1) self.new.conflicts.items (vec_capacity self.new.conflicts) }
         ensures unsound_room { HasRoom (row_count geometry.now) (row + 1) self.new.unsound.items (vec_capacity self.new.unsound) }
+        ensures tried_room { HasTriedRoom (row_count geometry.now) (row + 1) self.new.tried.items (vec_capacity self.new.tried) }
+        ensures room { IsTrialRoom geometry.now count self.new.room }
         ensures failed { OnErr result (T.failed self.new.target ≡ true) }
         ensures stands { OnOk result (Stands geometry.now (row + 1) self.new.conflicts.items self.new.tally self.new.scratch.items (T.pieces self.new.target)) }
         ensures unsound { OnOk result ((rows : ℕ → List Page) → rows row ≡ pages_in geometry.now pages.now count
             → self.old.unsound.items ≡ unsound_below geometry.now rows row → self.new.unsound.items ≡ unsound_below geometry.now rows (row + 1)) }
         ensures listed { OnOk result (AreListed row self.old.unsound.items → AreListed (row + 1) self.new.unsound.items) }
+        ensures tried { OnOk result ((rows : ℕ → List Page) → rows row ≡ pages_in geometry.now pages.now count
+            → self.old.tried.items ≡ tried_below geometry.now rows row → self.new.tried.items ≡ tried_below geometry.now rows (row + 1)) }
+        ensures tried_listed { OnOk result (AreTried row self.old.tried.items → AreTried (row + 1) self.new.tried.items) }
         ensures shows { OnOk result ((rows : ℕ → List Page) → rows row ≡ pages_in geometry.now pages.now count → Shows geometry.now rows row self.old.conflicts.items self.old.tally (T.pieces self.old.target)
             → Shows geometry.now rows (row + 1) self.new.conflicts.items self.new.tally (T.pieces self.new.target)) }
     {
-        let origin = choose(geometry, pages, count, &mut self.scratch);
+        let origin = choose(geometry, pages, count, &mut self.room, &mut self.scratch);
         name_conflict(&mut self.conflicts, row, origin);
         name_unsound(&mut self.unsound, row, origin);
+        name_tried(&mut self.tried, row, origin);
         self.tally = self.tally.count(origin);
         match self.target.put_page(row, &self.scratch) {
             Ok(()) => Ok(()),

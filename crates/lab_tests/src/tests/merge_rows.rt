@@ -31,7 +31,7 @@ const A: Made = Made::Changed(&PAGES, &[(5, 0x03), (866, 0x00), (1920, 0x00)]);
 
 const B: Made = Made::Changed(&PAGES, &[(870, 0x00)]);
 
-const C: Made = Made::Changed(&PAGES, &[(6, 0x03), (880, 0x00), (1925, 0x00)]);
+const C: Made = Made::Changed(&PAGES, &[(6, 0x03), (880, 0x00), (1925, 0x7F)]);
 
 // Row 1 is sound in none, but by the majority; row 9 in the second alone; row 20 is erased in the third alone, and unsound; and the majority of row 21 is erased, not sound.
 const FIRST: Made = Made::Changed(
@@ -39,12 +39,31 @@ const FIRST: Made = Made::Changed(
     &[(103, 0x03), (871, 0x03), (1920, 0x00), (2016, 0x00)],
 );
 
-const SECOND: Made = Made::Changed(&OTHERS, &[(105, 0x03), (1923, 0x07), (2019, 0x07)]);
+const SECOND: Made = Made::Changed(&OTHERS, &[(105, 0x03), (1923, 0x7F), (2019, 0x07)]);
 
 const THIRD: Made = Made::Changed(&PAGES, &[(107, 0x03), (871, 0x03), (2106, 0x07)]);
 
-const EACH: &str =
-    "differ row 17\nunsound row 20\nunsound row 21\nsound 2 differ 1 majority 1 erased 250 unsound 2\n";
+// Row 20 differs in nine bits of the two that are programmed, row 21 in more than are tried.
+const EACH: &str = "differ row 17
+unsound row 20
+unsound row 21
+tried row 20 bits 9
+tries 512: by a seal of 8 bytes a wrong page is taken by chance in at most 512 of 18446744073709551616 cases
+sound 2 differ 1 majority 1 turned 0 erased 250 unsound 2
+";
+
+const NONE_SOUND: &str = "unsound row 20
+tried row 20 bits 9
+tries 512: by a seal of 8 bytes a wrong page is taken by chance in at most 512 of 18446744073709551616 cases
+sound 3 differ 0 majority 1 turned 0 erased 251 unsound 1
+";
+
+// Of row 9 three bits are wrong in each of two readings, others in each.
+const TURNED: &str = "unsound row 20
+turned row 9 bits 3 of 6
+tries 64: by a seal of 8 bytes a wrong page is taken by chance in at most 64 of 18446744073709551616 cases
+sound 3 differ 0 majority 0 turned 1 erased 251 unsound 1
+";
 
 const TROUBLES: [Step; 17] = [
     Step::Trouble(Trouble::ReadsEnd(24575)),
@@ -106,20 +125,24 @@ const WORDS: [Step; 10] = [
 const DOCUMENT: &str = r#"[{"command":"merge","line":"command","program":"nandlab"},
 {"line":"differ","row":17},
 {"line":"unsound","row":20},
-{"differ":1,"erased":251,"line":"merged","majority":0,"sound":3,"unsound":1}
+{"differ":1,"erased":251,"line":"merged","majority":0,"sound":3,"turned":0,"unsound":1}
 ]
 "#;
 
-const CASES: [Case; 5] = [
+const TURNED_DOCUMENT: &str = r#"[{"command":"merge","line":"command","program":"nandlab"},
+{"line":"unsound","row":20},
+{"bits":6,"line":"turned","row":9,"turned":3},
+{"line":"tries","seal_bits":64,"tries":64},
+{"differ":0,"erased":251,"line":"merged","majority":0,"sound":3,"turned":1,"unsound":1}
+]
+"#;
+
+const CASES: [Case; 6] = [
     Case {
         name: "three readings",
         files: &[("a.bin", A), ("b.bin", B), ("c.bin", C)],
         steps: &[
-            Step::Run(
-                THREE,
-                0,
-                "unsound row 20\nsound 3 differ 0 majority 1 erased 251 unsound 1\n",
-            ),
+            Step::Run(THREE, 0, NONE_SOUND),
             Step::Holds("out.bin", Made::Changed(&PAGES, &[(1920, 0x00)])),
         ],
     },
@@ -143,12 +166,26 @@ const CASES: [Case; 5] = [
             Step::Run(
                 TWO,
                 0,
-                "differ row 17\nunsound row 20\nsound 3 differ 1 majority 0 erased 251 unsound 1\n",
+                "differ row 17\nunsound row 20\nsound 3 differ 1 majority 0 turned 0 erased 251 unsound 1\n",
             ),
             Step::Run(
                 "nandlab merge --json 64,32,8,32,32 json.bin a.bin b.bin",
                 0,
                 DOCUMENT,
+            ),
+        ],
+    },
+    // the seal decides between the bits in which two readings differ of which none is sound
+    Case {
+        name: "two of which none is sound",
+        files: &[("a.bin", A), ("b.bin", B)],
+        steps: &[
+            Step::Run(TWO, 0, TURNED),
+            Step::Holds("out.bin", Made::Changed(&PAGES, &[(1920, 0x00)])),
+            Step::Run(
+                "nandlab merge --json 64,32,8,32,32 json.bin a.bin b.bin",
+                0,
+                TURNED_DOCUMENT,
             ),
         ],
     },

@@ -1,6 +1,7 @@
 use Rattle.std.proofs.Common.{refl, inl, inr, ℕ, List, ap, subst, ◌∙◌}
 use Rattle.std.specs.Io.KnownBytes.{Appends}
 use Rattle.lab_commands.specs.Document.{Stops}
+use Rattle.lab_mend.specs.declared.merging.TriedRow.{TriedRow}
 use Rattle.lab_commands.proofs.PrintLemmas.{half_printed}
 use Rattle.lab_commands.specs.Reports.{merge_text}
 use Rattle.lab_commands.specs.Merge.{IsJoined, IsMergeFault, IsUnjoined, PutMerge, dumps_of}
@@ -69,22 +70,25 @@ returns-in-Ok-clause-ok g c =
     let pieces = g.F.Target.Pieces.pieces c.in_ok-merged.merged.target in
     let conflicts = c.in_ok-merged.merged.conflicts.items in
     let unsound = c.in_ok-merged.merged.unsound.items in
+    let tried = c.in_ok-merged.merged.tried.items in
     let tally = c.in_ok-merged.merged.tally in
     record {
       conflicts = conflicts;
       unsound = unsound;
+      tried = tried;
       tally = tally;
       put = record {
         g = geometry;
         pieces = pieces;
         geometry_is = c.in_ok-geometry.ensures.ok;
         allowed = c.in_ok-allow_merge.ensures.ok;
-        made = subst (λ f. IsJoined (g.F.LabFiles.answers f) (dumps_of words) geometry pieces conflicts unsound tally) same c.in_ok-merged.ensures.made;
+        made = subst (λ f. IsJoined (g.F.LabFiles.answers f) (dumps_of words) geometry pieces conflicts unsound tried tally) same c.in_ok-merged.ensures.made;
         put = c.in_ok-keep.ensures.ok ∙ ap (λ x. with_kept x words.out.now pieces words.force) (c.in_ok-merged.ensures.beside ∙ ap g.F.LabFiles.kept same);
       };
-      told = subst (λ f. Appends (g.W.Output.contents c.args.out.now) (g.W.Output.contents c.print_merged.new.out) (merge_text f conflicts unsound tally)) c.printer-printer.ensures
-          (subst (λ (rows : List ℕ). Appends (g.W.Output.contents c.args.out.now) (g.W.Output.contents c.print_merged.new.out) (merge_text c.printer-printer.result.form conflicts rows tally)) c.deref-2.ensures.value
-          (subst (λ (rows : List ℕ). Appends (g.W.Output.contents c.args.out.now) (g.W.Output.contents c.print_merged.new.out) (merge_text c.printer-printer.result.form rows c.deref-2.result.now tally)) c.deref.ensures.value c.in-Ok.ensures));
+      told = subst (λ f. Appends (g.W.Output.contents c.args.out.now) (g.W.Output.contents c.print_merged.new.out) (merge_text f conflicts unsound tried tally)) c.printer-printer.ensures
+          (subst (λ (rows : List TriedRow). Appends (g.W.Output.contents c.args.out.now) (g.W.Output.contents c.print_merged.new.out) (merge_text c.printer-printer.result.form conflicts unsound rows tally)) c.deref-3.ensures.value
+          (subst (λ (rows : List ℕ). Appends (g.W.Output.contents c.args.out.now) (g.W.Output.contents c.print_merged.new.out) (merge_text c.printer-printer.result.form conflicts rows c.deref-3.result.now tally)) c.deref-2.ensures.value
+          (subst (λ (rows : List ℕ). Appends (g.W.Output.contents c.args.out.now) (g.W.Output.contents c.print_merged.new.out) (merge_text c.printer-printer.result.form rows c.deref-2.result.now c.deref-3.result.now tally)) c.deref.ensures.value c.in-Ok.ensures)));
     }
 
 pub returns-clause-fault : goal.returns-clause-fault
@@ -96,22 +100,25 @@ returns-clause-fault g c =
     let pieces = g.F.Target.Pieces.pieces c.in_ok-merged.merged.target in
     let conflicts = c.in_ok-merged.merged.conflicts.items in
     let unsound = c.in_ok-merged.merged.unsound.items in
+    let tried = c.in_ok-merged.merged.tried.items in
     let tally = c.in_ok-merged.merged.tally in
-    let put : PutMerge a words (g.F.LabFiles.kept c.args.files.now) (g.F.LabFiles.kept c.keep.new.files) conflicts unsound tally = record {
+    let put : PutMerge a words (g.F.LabFiles.kept c.args.files.now) (g.F.LabFiles.kept c.keep.new.files) conflicts unsound tried tally = record {
       g = geometry;
       pieces = pieces;
       geometry_is = c.in_ok-geometry.ensures.ok;
       allowed = c.in_ok-allow_merge.ensures.ok;
-      made = subst (λ f. IsJoined (g.F.LabFiles.answers f) (dumps_of words) geometry pieces conflicts unsound tally) same c.in_ok-merged.ensures.made;
+      made = subst (λ f. IsJoined (g.F.LabFiles.answers f) (dumps_of words) geometry pieces conflicts unsound tried tally) same c.in_ok-merged.ensures.made;
       put = c.in_ok-keep.ensures.ok ∙ ap (λ x. with_kept x words.out.now pieces words.force) (c.in_ok-merged.ensures.beside ∙ ap g.F.LabFiles.kept same);
     } in
     inr (
       conflicts,
       unsound,
+      tried,
       tally,
       put,
       half_printed c.in-Err.fault _ _ _ _ _ c.unprinted.ensures
-          (subst (λ f. Stops c.in-Err.fault (g.W.Output.failed c.print_merged.new.out) (g.W.Output.contents c.args.out.now) (g.W.Output.contents c.print_merged.new.out) (merge_text f conflicts unsound tally)) c.printer-printer.ensures
-          (subst (λ (rows : List ℕ). Stops c.in-Err.fault (g.W.Output.failed c.print_merged.new.out) (g.W.Output.contents c.args.out.now) (g.W.Output.contents c.print_merged.new.out) (merge_text c.printer-printer.result.form conflicts rows tally)) c.deref-2.ensures.value
-          (subst (λ (rows : List ℕ). Stops c.in-Err.fault (g.W.Output.failed c.print_merged.new.out) (g.W.Output.contents c.args.out.now) (g.W.Output.contents c.print_merged.new.out) (merge_text c.printer-printer.result.form rows c.deref-2.result.now tally)) c.deref.ensures.value c.in-Err.ensures))),
+          (subst (λ f. Stops c.in-Err.fault (g.W.Output.failed c.print_merged.new.out) (g.W.Output.contents c.args.out.now) (g.W.Output.contents c.print_merged.new.out) (merge_text f conflicts unsound tried tally)) c.printer-printer.ensures
+          (subst (λ (rows : List TriedRow). Stops c.in-Err.fault (g.W.Output.failed c.print_merged.new.out) (g.W.Output.contents c.args.out.now) (g.W.Output.contents c.print_merged.new.out) (merge_text c.printer-printer.result.form conflicts unsound rows tally)) c.deref-3.ensures.value
+          (subst (λ (rows : List ℕ). Stops c.in-Err.fault (g.W.Output.failed c.print_merged.new.out) (g.W.Output.contents c.args.out.now) (g.W.Output.contents c.print_merged.new.out) (merge_text c.printer-printer.result.form conflicts rows c.deref-3.result.now tally)) c.deref-2.ensures.value
+          (subst (λ (rows : List ℕ). Stops c.in-Err.fault (g.W.Output.failed c.print_merged.new.out) (g.W.Output.contents c.args.out.now) (g.W.Output.contents c.print_merged.new.out) (merge_text c.printer-printer.result.form rows c.deref-2.result.now c.deref-3.result.now tally)) c.deref.ensures.value c.in-Err.ensures)))),
     )

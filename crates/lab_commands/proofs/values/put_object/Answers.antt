@@ -135,3 +135,11 @@ returns-in-Legible g c = subst (λ l. Prints (g.W.Output.failed c.put_legible.ne
 pub returns-in-Damaged : goal.returns-in-Damaged
 unfolding line_data
 returns-in-Damaged g c = subst (λ l. Prints (g.W.Output.failed c.put_damaged.new.out) (g.W.Output.contents c.args.out.now) (g.W.Output.contents c.put_damaged.new.out) (compact_text (line_data l)) c.put_damaged.result) (sym c.in-Damaged.is) c.put_damaged.ensures
+
+pub returns-in-Tried : goal.returns-in-Tried
+unfolding line_data
+returns-in-Tried g c = subst (λ l. Prints (g.W.Output.failed c.put_tried.new.out) (g.W.Output.contents c.args.out.now) (g.W.Output.contents c.put_tried.new.out) (compact_text (line_data l)) c.put_tried.result) (sym c.in-Tried.is) c.put_tried.ensures
+
+pub returns-in-Tries : goal.returns-in-Tries
+unfolding line_data
+returns-in-Tries g c = subst (λ l. Prints (g.W.Output.failed c.put_tries.new.out) (g.W.Output.contents c.args.out.now) (g.W.Output.contents c.put_tries.new.out) (compact_text (line_data l)) c.put_tries.result) (sym c.in-Tries.is) c.put_tries.ensures

@@ -1,1 +1,0 @@
-use Rattle.lab_mend.proofs.mending.turn_first.Goals as goal

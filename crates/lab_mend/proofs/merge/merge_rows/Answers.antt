@@ -4,8 +4,8 @@ use Rattle.std.proofs.lemmas.List.{length-map}
 use Rattle.page_layout.specs.Geometry.{page_bytes}
 use Rattle.lab_mend.specs.InStep.{AreAt}
 use Rattle.lab_mend.specs.Merged.{row_of}
-use Rattle.lab_mend.specs.Merging.{AreListed}
-use Rattle.lab_mend.proofs.MergingLemmas.{none_listed, none_unsound}
+use Rattle.lab_mend.specs.Merging.{AreListed, AreTried}
+use Rattle.lab_mend.proofs.MergingLemmas.{none_listed, none_tried, none_tried_listed, none_unsound}
 use Rattle.lab_mend.proofs.MergedLemmas.{pinned_cut, row_read, row_next, unmerged_row_cut}
 use Rattle.lab_mend.proofs.merge.merge_rows.Goals as goal
 
@@ -39,6 +39,12 @@ loop-row-preserved g c =
           (row_read geo known files row (length c.read_row.new.readers) _ c.read_row.new.pieces (omega arith) (sym (length-map c.read_row.new.readers g.R.DumpReader.remaining)) (c.in_ok-read_row.ensures.read files (row * page_bytes geo) (inv.read files at)))
           (inv.unsound files at);
       listed = c.in_ok-take_row.ensures.listed inv.listed;
+      tried = λ files at. c.in_ok-take_row.ensures.tried (row_of geo files)
+          (row_read geo known files row (length c.read_row.new.readers) _ c.read_row.new.pieces (omega arith) (sym (length-map c.read_row.new.readers g.R.DumpReader.remaining)) (c.in_ok-read_row.ensures.read files (row * page_bytes geo) (inv.read files at)))
+          (inv.tried files at);
+      tried_listed = c.in_ok-take_row.ensures.tried_listed inv.tried_listed;
+      tried_room = c.take_row.ensures.tried_room;
+      trial_room = c.take_row.ensures.room;
       conflicts_room = c.take_row.ensures.conflicts_room;
       unsound_room = c.take_row.ensures.unsound_room;
       read = λ files at. row_next geo known files row _ c.read_row.new.pieces (omega arith) (c.in_ok-read_row.ensures.read files (row * page_bytes geo) (inv.read files at));
@@ -52,6 +58,10 @@ loop-row-init g c = record {
   shows = λ files at. c.requires.shows (row_of c.args.geometry.now files);
   unsound = λ files at. c.requires.none ∙ none_unsound c.args.geometry.now (row_of c.args.geometry.now files);
   listed = subst (AreListed 0) (sym c.requires.none) none_listed;
+  tried = λ files at. c.requires.none_tried ∙ none_tried c.args.geometry.now (row_of c.args.geometry.now files);
+  tried_listed = subst (AreTried 0) (sym c.requires.none_tried) none_tried_listed;
+  tried_room = c.requires.tried_room;
+  trial_room = c.requires.room;
   conflicts_room = c.requires.conflicts_room;
   unsound_room = c.requires.unsound_room;
   read = λ files at. (let none : 0 ≡ 0 * page_bytes c.args.geometry.now = omega arith in subst (λ (n : ℕ). AreAt (map g.R.DumpReader.remaining c.args.readers.now) files n) none at);

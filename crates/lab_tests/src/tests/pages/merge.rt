@@ -2,7 +2,7 @@
 use super::{PAGE, PAGES};
 use crate::tests::dumps::{changed, set};
 use crate::tests::files::{Beside, MemoryReader};
-use lab_mend::{MergeFault, MergeRoom, Tally, merge_dumps};
+use lab_mend::{MergeFault, MergeRoom, Tally, Trial, TriedRow, count_tries, merge_dumps};
 use page_layout::geometry::Geometry;
 use std::alloc::Global;
 use std::test::Fail;
@@ -24,15 +24,22 @@ const FIRST: &[(usize, u8)] = &[
     (PAGE * 21, 0),
 ];
 
-const SECOND: &[(usize, u8)] = &[(PAGE + 9, 3), (PAGE * 20 + 3, 7), (PAGE * 21 + 3, 7)];
+const SECOND: &[(usize, u8)] = &[(PAGE + 9, 3), (PAGE * 20 + 3, 0x7F), (PAGE * 21 + 3, 7)];
 
 const THIRD: &[(usize, u8)] = &[(PAGE + 11, 3), (PAGE * 9 + 7, 3), (PAGE * 21 + 99, 7)];
 
 const TALLY: Tally = Tally {
     sound: 2,
     majority: 1,
+    turned: 0,
     erased: 250,
     unsound: 2,
+};
+
+// Row 20 differs in nine bits of two readings, row 21 in more than are tried.
+const TRIED: TriedRow = TriedRow {
+    row: 20,
+    trial: Trial::Nothing(9),
 };
 
 // What the readings come to: row 8, of which two sound pages differ, of 00h bytes.
@@ -62,6 +69,8 @@ fn are_merged(
     Ok(
         told.conflicts.as_slice() == [8u32].as_slice()
             && told.unsound.as_slice() == [20u32, 21].as_slice()
+            && told.tried.as_slice() == [TRIED].as_slice()
+            && count_tries(&told.tried) == 512
             && told.tally == TALLY
             && told.target.bytes.as_slice() == want,
     )

@@ -2,7 +2,7 @@ use Rattle.std.proofs.Common.{◌∙◌, length, drop, set, ap, arith}
 use Rattle.std.specs.Prelude.{option_map}
 use Rattle.std.proofs.lemmas.List.{take_at}
 use Rattle.lab_mend.specs.Pages.{pages_in}
-use Rattle.lab_mend.proofs.MergingLemmas.{room_named, room_unsound, stands_next, shows_next, unsound_next, unsound_listed_next}
+use Rattle.lab_mend.proofs.MergingLemmas.{room_named, room_tried, room_unsound, stands_next, shows_next, tried_next, tried_listed_next, unsound_next, unsound_listed_next}
 use Rattle.lab_mend.proofs.merging.Merging.take_row.Goals as goal
 
 pub returns-in-Ok-clause-stands : goal.returns-in-Ok-clause-stands
@@ -12,7 +12,7 @@ returns-in-Ok-clause-stands g c =
     let out = c.choose-origin.new.out in
     let back = take_at out (drop (length out) s.scratch.items) s.scratch.len (omega arith) in
     stands_next geo c.args.row s.conflicts.items s.tally (pages_in geo c.args.pages.now c.args.count) c.choose-origin.result s.scratch.items out (g.T.Pieces.pieces s.target) c.requires.row_in c.requires.stands (omega arith)
-    c.choose-origin.ensures _ _ _ _ c.name_conflict.ensures.named c.count-self.ensures back (c.in-Ok.ensures.written ∙ ap (λ bytes. option_map (λ ps. set ps c.args.row bytes) (g.T.Pieces.pieces s.target)) c.deref.ensures.value)
+    c.choose-origin.ensures.writes _ _ _ _ c.name_conflict.ensures.named c.count-self.ensures back (c.in-Ok.ensures.written ∙ ap (λ bytes. option_map (λ ps. set ps c.args.row bytes) (g.T.Pieces.pieces s.target)) c.deref.ensures.value)
 
 pub returns-in-Ok-clause-shows : goal.returns-in-Ok-clause-shows
 returns-in-Ok-clause-shows g c = λ rows are shown.
@@ -21,11 +21,11 @@ returns-in-Ok-clause-shows g c = λ rows are shown.
     let out = c.choose-origin.new.out in
     let back = take_at out (drop (length out) s.scratch.items) s.scratch.len (omega arith) in
     shows_next geo rows c.args.row s.conflicts.items s.tally (pages_in geo c.args.pages.now c.args.count) c.choose-origin.result s.scratch.items out (g.T.Pieces.pieces s.target) c.requires.row_in c.requires.stands shown are
-    c.choose-origin.ensures _ _ _ _ c.name_conflict.ensures.named c.count-self.ensures back (c.in-Ok.ensures.written ∙ ap (λ bytes. option_map (λ ps. set ps c.args.row bytes) (g.T.Pieces.pieces s.target)) c.deref.ensures.value)
+    c.choose-origin.ensures.writes _ _ _ _ c.name_conflict.ensures.named c.count-self.ensures back (c.in-Ok.ensures.written ∙ ap (λ bytes. option_map (λ ps. set ps c.args.row bytes) (g.T.Pieces.pieces s.target)) c.deref.ensures.value)
 
 pub returns-in-Ok-clause-unsound : goal.returns-in-Ok-clause-unsound
 returns-in-Ok-clause-unsound g c = λ rows are before.
-    unsound_next c.args.geometry.now rows c.args.row (pages_in c.args.geometry.now c.args.pages.now c.args.count) c.choose-origin.result c.args.self.now.unsound.items _ c.choose-origin.new.out are c.choose-origin.ensures before c.name_unsound.ensures.named
+    unsound_next c.args.geometry.now rows c.args.row (pages_in c.args.geometry.now c.args.pages.now c.args.count) c.choose-origin.result c.args.self.now.unsound.items _ c.choose-origin.new.out are c.choose-origin.ensures.writes before c.name_unsound.ensures.named
 
 pub returns-in-Ok-clause-listed : goal.returns-in-Ok-clause-listed
 returns-in-Ok-clause-listed g c = λ before. unsound_listed_next c.args.row c.args.self.now.unsound.items _ c.choose-origin.result c.name_unsound.ensures.named before
@@ -41,3 +41,16 @@ returns-in-Err-clause-conflicts_room g c = room_named _ c.args.row c.args.self.n
 
 pub returns-in-Err-clause-unsound_room : goal.returns-in-Err-clause-unsound_room
 returns-in-Err-clause-unsound_room g c = room_unsound _ c.args.row c.args.self.now.unsound.items _ c.choose-origin.result _ _ c.requires.unsound_room c.name_unsound.ensures.named c.name_unsound.ensures.room
+
+pub returns-in-Ok-clause-tried : goal.returns-in-Ok-clause-tried
+returns-in-Ok-clause-tried g c = λ rows are before.
+    tried_next c.args.geometry.now rows c.args.row (pages_in c.args.geometry.now c.args.pages.now c.args.count) c.choose-origin.result c.args.self.now.tried.items _ c.choose-origin.new.out are c.choose-origin.ensures.writes before c.name_tried.ensures.named
+
+pub returns-in-Ok-clause-tried_listed : goal.returns-in-Ok-clause-tried_listed
+returns-in-Ok-clause-tried_listed g c = λ before. tried_listed_next c.args.row c.args.self.now.tried.items _ c.choose-origin.result c.name_tried.ensures.named before
+
+pub returns-in-Ok-clause-tried_room : goal.returns-in-Ok-clause-tried_room
+returns-in-Ok-clause-tried_room g c = room_tried _ c.args.row c.args.self.now.tried.items _ c.choose-origin.result _ _ c.requires.tried_room c.name_tried.ensures.named c.name_tried.ensures.room
+
+pub returns-in-Err-clause-tried_room : goal.returns-in-Err-clause-tried_room
+returns-in-Err-clause-tried_room g c = room_tried _ c.args.row c.args.self.now.tried.items _ c.choose-origin.result _ _ c.requires.tried_room c.name_tried.ensures.named c.name_tried.ensures.room

@@ -1,0 +1,15 @@
+-- How many pages were tried at most.
+use Rattle.std.specs.Prelude.{ℕ, ◌-◌, ◌^◌, min, List, sum_by}
+use Rattle.lab_mend.specs.declared.trial.Trial.{Trial}
+use Rattle.lab_mend.specs.declared.trial.Trial.TheVariants.{Taken, Tied, Nothing}
+use Rattle.lab_mend.specs.declared.merging.TriedRow.{TriedRow}
+
+-- in how many bits the readings differ
+abbrev pub differing : Trial → ℕ
+differing (Taken n d) = d
+differing (Tied n d) = d
+differing (Nothing d) = d
+
+-- of each of these rows as many as there are ways to turn so many bits; where that is more than 64 bits hold, the most they do
+unfoldable pub tries_in : List TriedRow → ℕ
+tries_in tried = min (sum_by (λ r. 2 ^ differing r.trial) tried) (2 ^ 64 - 1)
