@@ -28,6 +28,7 @@ mod reports;
 mod rows;
 mod survey;
 mod text;
+mod told_lines;
 mod values;
 mod words;
 

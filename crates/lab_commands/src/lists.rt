@@ -5,8 +5,9 @@ ghost use Rattle.lab_dump.specs.declared.held.State.TheVariants.{Absent};
 ghost use Rattle.lab_dump.specs.Held.{shown_in};
 ghost use Rattle.lab_commands.specs.Reports.{differ_at, fit_at, loss_at, mend_at, newer_at, page_at, said_at, some_at, state_at, tried_at, unsound_at};
 
-use crate::lines::{
-    Label, Line, block_line, key_line, lost_line, newer_line, page_line, table_line, tie_line,
+use crate::lines::{Label, Line};
+use crate::told_lines::{
+    block_line, key_line, lost_line, newer_line, page_line, table_line, tie_line,
 };
 use certificate::BlockState;
 use lab_correct::{FoundFit, Loss};

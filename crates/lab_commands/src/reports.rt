@@ -8,12 +8,13 @@ ghost use Rattle.lab_commands.specs.Reports.{age_text, arrange_text, array_text,
 ghost use Rattle.lab_commands.specs.Reports.{repair_text, some_text, survey_lines, survey_text, table_at, ties_text};
 
 use crate::document::{Printer, Report};
-use crate::lines::{
-    Label, Line, Sort, age_line, damaged_line, factory_line, hole_line, last_line, legible_line,
-    outside_line, past_line, repeated_line, rewritten_line, rows_line, tries_line,
-};
+use crate::lines::{Label, Line, Sort};
 use crate::lists::Lines;
 use crate::output::{Output, OutputFault};
+use crate::told_lines::{
+    age_line, damaged_line, factory_line, hole_line, last_line, legible_line, outside_line,
+    past_line, repeated_line, rewritten_line, rows_line, tries_line,
+};
 use lab_correct::{FoundFit, Loss};
 use lab_dump::{Compared, DieSurvey, Held, Rows, SectorPage, State, Unsettled, damaged_count};
 use lab_mend::{Mend, Tally, TriedRow, count_tries};
