@@ -11,8 +11,7 @@ use Rattle.page_layout.specs.Counter.{HasRisen}
 use Rattle.lost_sectors.specs.declared.fault.LostFault.{LostFault}
 use Rattle.lost_sectors.specs.declared.fault.LostFault.TheVariants as lost
 use Rattle.disk_commands.specs.Check.{IsUncheckedAt, unseen}
-use Rattle.std.specs.Prelude.{OnOk, Option, Result}
-use Rattle.std.specs.Io.KnownBytes.{Appends}
+use Rattle.std.specs.Prelude.{IfOk, Option, Result}
 use Rattle.disk_damage.specs.Numbers.{with_commas}
 use Rattle.disk_commands.specs.declared.printed.Form.{Form}
 use Rattle.disk_commands.specs.declared.printed.Form.TheVariants.{Json}
@@ -155,7 +154,7 @@ pub three : (a b c x y z : List ℕ) → a ≡ x → b ≡ y → c ≡ z → a +
 three a b c x y z p q r = ap (λ l. l ++ (b ++ c)) p ∙ ap (λ l. x ++ l) (ap (λ l. l ++ c) q ∙ ap (λ l. y ++ l) r)
 
 -- what is told as an object
-pub json_is : {T E : Type 0} (r : Result T E) (before after : Option (List ℕ)) (info : Info) (form : Form) (numbers lost : List ℕ) → form ≡ Json → numbers ≡ with_commas lost
-    → OnOk r (Appends before after (object_of info numbers)) → OnOk r (Appends before after (info_text form info lost))
-json_is r before after info form numbers lost is same h =
-    subst (λ f. OnOk r (Appends before after (info_text f info lost))) (sym is) (subst (λ xs. OnOk r (Appends before after (object_of info xs))) same h)
+pub json_is : {T E : Type 0} (bytes : T → List ℕ) (r : Result T E) (info : Info) (form : Form) (numbers lost : List ℕ) → form ≡ Json → numbers ≡ with_commas lost
+    → IfOk r (λ text. bytes text ≡ object_of info numbers) → IfOk r (λ text. bytes text ≡ info_text form info lost)
+json_is bytes r info form numbers lost is same h =
+    subst (λ f. IfOk r (λ text. bytes text ≡ info_text f info lost)) (sym is) (subst (λ xs. IfOk r (λ text. bytes text ≡ object_of info xs)) same h)

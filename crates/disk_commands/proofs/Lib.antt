@@ -10,3 +10,5 @@ pub mod ProgramLemmas
 pub mod ServeLemmas
 pub mod DamageLemmas
 pub mod ReadyLemmas
+mod MarkFileLemmas
+mod TellLemmas

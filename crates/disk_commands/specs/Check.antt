@@ -20,7 +20,7 @@ use Rattle.disk_commands.specs.declared.words.InfoWords.{InfoWords}
 use Rattle.disk_commands.specs.Damage.{IsLookedAt, IsUnlookedAt}
 use Rattle.disk_commands.specs.Files.{Answers}
 use Rattle.disk_commands.specs.Info.{lost_lines}
-use Rattle.disk_commands.specs.Told.{IsUnprinted, form_of}
+use Rattle.disk_commands.specs.Told.{IsPrintedInPart, form_of}
 
 -- ---- what is found
 
@@ -83,7 +83,15 @@ abbrev pub FindsLost : {S : Type 0} → (S → Held) → (honest : S → Bool) �
 FindsLost held honest a words before after (fault.Lost at count) = (at ≡ words.disk) × (0 < count) × HasChecked held honest a words count before after
 FindsLost held honest a words before after _ = ⊥
 
+-- it was looked at, and was not printed
+pub record HasNotChecked {S : Type 0} (held : S → Held) (honest : S → Bool) (a : Answers) (words : InfoWords) (before after : Option (List ℕ)) (told : DiskFault) : Type 0 where
+  pub missing : List ℕ
+  pub bad : List ℕ
+  pub unsound : List ℕ
+  pub at : IsDamageAt held honest a words.disk.now missing bad unsound
+  pub part : IsPrintedInPart (damage_text (form_of words.json) missing bad unsound) before after told
+
 -- why the answer is not that all is there: the disk was not looked at, and nothing was printed; that failed; or sectors are lost
 abbrev pub IsUnclean : {S : Type 0} → (S → Held) → (honest : S → Bool) → (failed : S → ℕ) → Answers → InfoWords → (before after : Option (List ℕ)) → DiskFault → Type 0
 IsUnclean held honest failed a words before after told =
-    (IsUncheckedAt held honest failed a words.disk.now told × Keeps before after) ⊎ (IsUnprinted told ⊎ FindsLost held honest a words before after told)
+    (IsUncheckedAt held honest failed a words.disk.now told × Keeps before after) ⊎ (HasNotChecked held honest a words before after told ⊎ FindsLost held honest a words before after told)

@@ -7,6 +7,8 @@ pub mod ShapeWords
 pub mod ShapeText
 -- the mark beside it
 pub mod Mark
+-- its file, and that of the die, as they are synced
+pub mod MarkFile
 -- the commands
 pub mod Asked
 pub mod Created

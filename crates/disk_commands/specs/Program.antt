@@ -17,7 +17,7 @@ use Rattle.disk_commands.specs.Files.{Answers, Kept, Opened, Opens, OpensMarked,
 use Rattle.disk_commands.specs.Ready.{access_of}
 use Rattle.disk_commands.specs.Serve.{HasNotServed, HasServedAt}
 use Rattle.disk_commands.specs.Text.{IsTold}
-use Rattle.disk_commands.specs.Told.{HasTold, IsUnprinted, IsUntold}
+use Rattle.disk_commands.specs.Told.{HasTold, IsPrintedInPart, IsUntold}
 
 -- WHAT A RUN MEETS AND LEAVES: the disks that were put in their places, the dies that were to be opened, what is left to be read, what was printed, and what standard error has
 pub record Around : Type 0 where
@@ -32,7 +32,7 @@ pub record Around : Type 0 where
 -- a text was printed, or that failed
 abbrev pub Prints : (text : List ℕ) → (old new : Around) → Result (Unit {0}) DiskFault → Type 0
 Prints text old new (Ok done) = Appends old.out new.out text
-Prints text old new (Err told) = IsUnprinted told
+Prints text old new (Err told) = IsPrintedInPart text old.out new.out told
 
 -- a disk was made, or none
 abbrev pub Creates : {S : Type 0} → (S → Held) → (honest : S → Bool) → (failed : S → ℕ) → Answers → CreateWords → (old new : Around) → Result (Unit {0}) DiskFault → Type 0
@@ -42,7 +42,7 @@ Creates held honest failed a words old new (Err told) = IsUncreated held honest 
 -- it was told what a disk is, or not
 abbrev pub Tells : {S : Type 0} → (S → Held) → (honest : S → Bool) → (mended : S → Mended) → (failed : S → ℕ) → Answers → InfoWords → (old new : Around) → Result (Unit {0}) DiskFault → Type 0
 Tells held honest mended failed a words old new (Ok done) = HasTold held honest mended a words old.out new.out
-Tells held honest mended failed a words old new (Err told) = IsUntold held honest failed a words old.out new.out told
+Tells held honest mended failed a words old new (Err told) = IsUntold held honest mended failed a words old.out new.out told
 
 -- all of a disk was looked at, or not; or sectors are lost
 abbrev pub Checks : {S : Type 0} → (S → Held) → (honest : S → Bool) → (failed : S → ℕ) → Answers → InfoWords → (old new : Around) → Result (Unit {0}) DiskFault → Type 0

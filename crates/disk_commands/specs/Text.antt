@@ -2,6 +2,7 @@
 use Rattle.std.specs.Prelude.{◌≡◌, ◌⊎◌, ℕ, List, [], ◌∷◌, ◌++◌, codes, Option}
 use Rattle.std.specs.Io.KnownBytes.{Appends}
 use Rattle.std.specs.Fmt.{decimal}
+use Rattle.request_stream.specs.Frames.{AppendsPart}
 use Rattle.page_layout.specs.declared.geometry.GeometryFault.{GeometryFault}
 use Rattle.page_layout.specs.declared.geometry.GeometryFault.TheVariants as limit
 use Rattle.disk_commands.specs.declared.shapes.SizeFault.{SizeFault}
@@ -92,6 +93,13 @@ status_of fault.BadFrame = 3
 status_of fault.Stream = 3
 status_of (fault.Device path) = 3
 
--- The fault's line was written, and the status is the fault's. Or it could not be written, and the status is 3.
+-- the line, with its line feed
+abbrev pub told_line : DiskFault → List ℕ
+told_line fault = line_of fault ++ (10 ∷ [])
+
+-- The fault's line was written, and the status is the fault's. Or it could not be written: the status is 3, and a beginning of the line
+-- stands there, or nothing, and never all of it.
 abbrev pub IsTold : DiskFault → Option (List ℕ) → Option (List ℕ) → ℕ → Type 0
-IsTold fault before after status = ((status ≡ status_of fault) × Appends before after (line_of fault ++ (10 ∷ []))) ⊎ (status ≡ 3)
+IsTold fault before after status =
+    ((status ≡ status_of fault) × Appends before after (told_line fault))
+    ⊎ ((status ≡ 3) × AppendsPart before after (told_line fault))

@@ -1,6 +1,7 @@
 -- What is told of the disk at a path.
 use Rattle.std.specs.Prelude.{◌≡◌, ◌⊎◌, Bool, ℕ, List, codes, Option, if◌then◌else◌}
 use Rattle.std.specs.Io.KnownBytes.{Appends, Keeps}
+use Rattle.request_stream.specs.Frames.{AppendsPart}
 use Rattle.certificate.specs.Claim.{Claim}
 use Rattle.file_die.specs.Store.{Held}
 use Rattle.coded_store.specs.declared.coded.Mended.{Mended}
@@ -45,6 +46,20 @@ IsUnprinted (fault.Write told) = told.now ≡ codes "-"
 IsUnprinted fault.OutOfMemory = Unit {0}
 IsUnprinted _ = ⊥
 
+-- A TEXT WAS NOT PRINTED: standard output failed, where a beginning of it stands, or nothing, and never all of it; or memory was refused, and nothing does
+abbrev pub IsPrintedInPart : (text : List ℕ) → (before after : Option (List ℕ)) → DiskFault → Type 0
+IsPrintedInPart text before after (fault.Write told) = (told.now ≡ codes "-") × AppendsPart before after text
+IsPrintedInPart text before after fault.OutOfMemory = Keeps before after
+IsPrintedInPart text before after _ = ⊥
+
+-- it was looked at, and was not printed
+pub record HasNotTold {S : Type 0} (held : S → Held) (honest : S → Bool) (mended : S → Mended) (a : Answers) (words : InfoWords) (before after : Option (List ℕ)) (told : DiskFault) : Type 0 where
+  pub info : Info
+  pub missing : List ℕ
+  pub at : IsInfoAt held honest mended a words.disk.now info missing
+  pub part : IsPrintedInPart (info_text (form_of words.json) info missing) before after told
+
 -- why it was not: the disk was not opened, and nothing was printed; or that failed
-abbrev pub IsUntold : {S : Type 0} → (S → Held) → (honest : S → Bool) → (failed : S → ℕ) → Answers → InfoWords → (before after : Option (List ℕ)) → DiskFault → Type 0
-IsUntold held honest failed a words before after told = (IsUnlookedAt held honest failed a words.disk.now told × Keeps before after) ⊎ IsUnprinted told
+abbrev pub IsUntold : {S : Type 0} → (S → Held) → (honest : S → Bool) → (mended : S → Mended) → (failed : S → ℕ) → Answers → InfoWords → (before after : Option (List ℕ)) → DiskFault → Type 0
+IsUntold held honest mended failed a words before after told =
+    (IsUnlookedAt held honest failed a words.disk.now told × Keeps before after) ⊎ HasNotTold held honest mended a words before after told

@@ -1,12 +1,11 @@
 //! The command `check`: all of a disk is looked at.
 ghost use Rattle.std.specs.Prelude.{◌≡◌, IfErr, IfOk, OnOk, string_bytes};
-ghost use Rattle.std.specs.Io.KnownBytes.{Appends};
 ghost use Rattle.disk_commands.specs.Check.{HasChecked, IsDamageAt, IsUncheckedAt, IsUnclean, damage_text};
 ghost use Rattle.disk_commands.specs.Files.{Opens, to_look};
 
 use crate::damage::look_at;
 use crate::files::{DiskFiles, to_look};
-use crate::info::{form_of, unprinted};
+use crate::info::{form_of, print_text};
 use crate::printed::{Form, lost_text};
 use crate::text::DiskFault;
 use crate::words::InfoWords;
@@ -14,7 +13,7 @@ use disk_damage::{bad_blocks, counted, joined, numbers_of, unsound_rows};
 use disk_server::OpenStoreFault;
 use lost_sectors::LostFault;
 use std::alloc::{AllocError, Global};
-use std::io::{self, Write};
+use std::io::Write;
 
 /// What a look at all of a disk finds, each by rising number. (This project's.)
 #[derive(Drop)]
@@ -85,15 +84,14 @@ fn object(alloc: Global, damage: &Damage) -> Result<String, AllocError>
     format!(in alloc; "{{\"lost\":[{lost}],\"bad\":[{bad}],\"unsound\":[{unsound}]}}\n")
 }
 
-// Prints what was found.
-fn print<W: Write>(alloc: Global, damage: &Damage, form: Form, out: &mut W) -> io::Result<()>
-    ensures { OnOk result (Appends (W.contents out.old) (W.contents out.new) (damage_text form damage.now.lost.items damage.now.bad.items damage.now.unsound.items)) }
+// The text of what was found.
+fn text_of(alloc: Global, damage: &Damage, form: Form) -> Result<String, AllocError>
+    ensures { IfOk result (λ text. string_bytes text ≡ damage_text form damage.now.lost.items damage.now.bad.items damage.now.unsound.items) }
 {
-    let text = match form {
-        Form::Text => lines(alloc, damage)?,
-        Form::Json => object(alloc, damage)?,
-    };
-    out.write_all(text.as_bytes())
+    match form {
+        Form::Text => lines(alloc, damage),
+        Form::Json => object(alloc, damage),
+    }
 }
 
 /// The command `check`: prints which sectors of the disk DISK are lost, its bad blocks, and its pages that are neither erased nor sound. Nothing is written.
@@ -101,7 +99,7 @@ fn print<W: Write>(alloc: Global, damage: &Damage, form: Form, out: &mut W) -> i
 /// # Errors
 ///
 /// The first of this order: as `info` where the disk was not opened or its store not mounted; `Open` with `Device` where a page was not loaded; `OutOfMemory` for what was found. After each of these
-/// nothing was printed. Then `Write` of `-` where `out` failed. `Lost` with how many sectors are lost, where any is: all was printed. (This project's.)
+/// nothing was printed. Then `Write` of `-` where `out` failed: a beginning stands there, or nothing, and never all of it. `Lost` with how many sectors are lost, where any is: all was printed. (This project's.)
 pub(crate) fn check_command<'a, F: DiskFiles, W: Write>(
     alloc: Global,
     words: InfoWords<'a>,
@@ -117,9 +115,12 @@ pub(crate) fn check_command<'a, F: DiskFiles, W: Write>(
         Ok(damage) => damage,
         Err(fault) => return Err(fault),
     };
-    match print(alloc, &damage, form_of(words.json), out) {
+    let Ok(text) = text_of(alloc, &damage, form_of(words.json)) else {
+        return Err(DiskFault::OutOfMemory);
+    };
+    match print_text(text.as_str(), out) {
         Ok(()) => {}
-        Err(error) => return Err(unprinted(error)),
+        Err(fault) => return Err(fault),
     }
     if damage.lost.is_empty() {
         return Ok(());

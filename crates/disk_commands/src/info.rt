@@ -1,9 +1,10 @@
 //! The command `info`: what is told of a disk.
 ghost use Rattle.std.specs.Prelude.{◌≡◌, OnOk, IfOk, IfErr};
+ghost use Rattle.std.specs.Io.KnownBytes.{Appends};
 ghost use Rattle.std.specs.IoError.{error_kind};
 ghost use Rattle.disk_commands.specs.Files.{Opens, to_look};
 ghost use Rattle.disk_commands.specs.Damage.{IsUnlookedAt};
-ghost use Rattle.disk_commands.specs.Told.{HasTold, IsInfoAt, IsUnprinted, IsUntold, form_of};
+ghost use Rattle.disk_commands.specs.Told.{HasTold, IsInfoAt, IsPrintedInPart, IsUnprinted, IsUntold, form_of};
 
 use crate::damage::look_at;
 use crate::files::{DiskFiles, to_look};
@@ -12,6 +13,7 @@ use crate::text::DiskFault;
 use crate::words::InfoWords;
 use coded_store::TellsMended;
 use disk_damage::numbers_of;
+use request_stream::send;
 use std::alloc::Global;
 use std::io::{Error, ErrorKind, Write};
 
@@ -58,13 +60,28 @@ pub(crate) fn unprinted<'a>(error: Error) -> DiskFault<'a>
     }
 }
 
+/// Prints a text to standard output.
+///
+/// # Errors
+///
+/// `Write` of `-` where a write failed, was interrupted or took nothing: a beginning of the text stands there, or nothing, and never all of it.
+pub(crate) fn print_text<'a, W: Write>(text: &str, out: &mut W) -> Result<(), DiskFault<'a>>
+    ensures printed { OnOk result (Appends (W.contents out.old) (W.contents out.new) text.now) }
+    ensures fault { IfErr result (IsPrintedInPart text.now (W.contents out.old) (W.contents out.new)) }
+{
+    match send(out, text.as_bytes()) {
+        Ok(()) => Ok(()),
+        Err(_) => Err(DiskFault::Write("-")),
+    }
+}
+
 /// The command `info`: prints what is told of the disk DISK, its bytes, geometry, cache, free and bad blocks, wear, next sequence and lost sectors; and of one with a code how many wrong bits were turned back, and how many pages are lost.
 ///
 /// # Errors
 ///
 /// The first of this order: `Read`, `Shape` or `OutOfMemory` where the file beside DISK tells no shape; `Read`, `InUse`, `Length` or `OutOfMemory` where DISK was not
-/// opened; `Open` where it holds no disk; `OutOfMemory` for the states of its blocks. After each of these nothing was printed. Then `Write` of `-` where `out` failed.
-/// (This project's.)
+/// opened; `Open` where it holds no disk; `OutOfMemory` for the states of its blocks or for what is printed. After each of these nothing was printed. Then `Write` of `-` where `out` failed: a
+/// beginning of it stands there, or nothing, and never all of it. (This project's.)
 pub(crate) fn info_command<'a, F: DiskFiles, W: Write>(
     alloc: Global,
     words: InfoWords<'a>,
@@ -72,7 +89,7 @@ pub(crate) fn info_command<'a, F: DiskFiles, W: Write>(
     out: &mut W,
 ) -> Result<(), DiskFault<'a>>
     ensures ok { OnOk result (HasTold F.Store.held F.Store.honest F.Store.mended (F.answers files.old) words.entry (W.contents out.old) (W.contents out.new)) }
-    ensures fault { IfErr result (IsUntold F.Store.held F.Store.honest F.Store.failed (F.answers files.old) words.entry (W.contents out.old) (W.contents out.new)) }
+    ensures fault { IfErr result (IsUntold F.Store.held F.Store.honest F.Store.mended F.Store.failed (F.answers files.old) words.entry (W.contents out.old) (W.contents out.new)) }
     ensures kept { F.kept files.new ≡ F.kept files.old }
     ensures opened { Opens words.entry.disk.now to_look (F.opened files.old) (F.opened files.new) }
 {
@@ -80,8 +97,8 @@ pub(crate) fn info_command<'a, F: DiskFiles, W: Write>(
         Ok(told) => told,
         Err(fault) => return Err(fault),
     };
-    match info.print(alloc, &lost, form_of(words.json), out) {
-        Ok(()) => Ok(()),
-        Err(error) => Err(unprinted(error)),
-    }
+    let Ok(text) = info.text(alloc, &lost, form_of(words.json)) else {
+        return Err(DiskFault::OutOfMemory);
+    };
+    print_text(text.as_str(), out)
 }

@@ -8,7 +8,7 @@ use disk_server::Mark;
 pub const MARK_BYTES: usize = 4128;
 
 // Where the second slot begins: no page that a system writes at once has a part of both.
-const SECOND_AT: usize = 4096;
+pub(crate) const SECOND_AT: usize = 4096;
 
 /// What was found of a mark: the later one of its two slots. (This project's.)
 #[derive(Clone, Copy, Debug, PartialEq, Eq)]

@@ -1,6 +1,5 @@
 //! What is told of a disk.
-ghost use Rattle.std.specs.Prelude.{◌≡◌, ◌≤◌, length, IfOk, OnOk, string_bytes};
-ghost use Rattle.std.specs.Io.KnownBytes.{Appends};
+ghost use Rattle.std.specs.Prelude.{◌≡◌, ◌≤◌, length, IfOk, string_bytes};
 ghost use Rattle.disk_commands.specs.Info.{bad_count, erase_sum, free_count, info_of, info_text, least_wear, lost_lines, most_wear};
 
 use crate::shape_words::GeometryText;
@@ -11,7 +10,6 @@ use disk_damage::{counted, joined};
 use page_layout::geometry::Geometry;
 use std::alloc::{AllocError, Global};
 use std::fmt;
-use std::io::{self, Write};
 
 // The least class of a bad block.
 const LEAST_BAD: u8 = 4;
@@ -144,33 +142,23 @@ impl Info {
         })
     }
 
-    /// Prints it, and the sectors that are lost, which are these.
+    /// The text that tells it, and the sectors that are lost, which are these.
     ///
     /// # Errors
     ///
-    /// Where a growth was refused, and nothing was printed; where a write failed: a beginning of the text may stand there.
-    pub fn print<W: Write>(
-        &self,
-        alloc: Global,
-        lost: &[u64],
-        form: Form,
-        out: &mut W,
-    ) -> io::Result<()>
-        ensures { OnOk result (Appends (W.contents out.old) (W.contents out.new) (info_text form self.now lost.now)) }
+    /// Where a growth was refused.
+    pub fn text(&self, alloc: Global, lost: &[u64], form: Form) -> Result<String, AllocError>
+        ensures { IfOk result (λ text. string_bytes text ≡ info_text form self.now lost.now) }
     {
         match form {
             Form::Text => {
                 let lines = lost_text(alloc, lost)?;
-                write!(
-                    out,
-                    "{}{lines}{}",
-                    Lines(self),
-                    MendedLines(self.shape.code, self.mended)
-                )
+                let mended = MendedLines(self.shape.code, self.mended);
+                format!(in alloc; "{}{lines}{mended}", Lines(self))
             }
             Form::Json => {
                 let numbers = joined(alloc, lost)?;
-                write!(out, "{}", Object(self, &numbers))
+                format!(in alloc; "{}", Object(self, &numbers))
             }
         }
     }

@@ -1,31 +1,17 @@
 //! The program's commands.
-ghost use Rattle.std.specs.Prelude.{◌≡◌, OnOk, IfErr};
-ghost use Rattle.std.specs.Io.KnownBytes.{Appends};
 ghost use Rattle.program_words.specs.Met.{texts};
 ghost use Rattle.disk_commands.specs.Program.{Obeys, Runs};
-ghost use Rattle.disk_commands.specs.Told.{IsUnprinted};
 
 use crate::check::check_command;
 use crate::create::create_command;
 use crate::files::DiskFiles;
-use crate::info::{info_command, unprinted};
+use crate::info::{info_command, print_text};
 use crate::serve::serve_command;
 use crate::text::{DiskFault, tell};
 use crate::words::{DiskWords, parse};
 use program_words::WordsFault;
 use std::alloc::Global;
 use std::io::{Read, Write};
-
-// Prints a text of help or of the version.
-fn print<'a, O: Write>(text: &str, out: &mut O) -> Result<(), DiskFault<'a>>
-    ensures printed { OnOk result (Appends (O.contents out.old) (O.contents out.new) text.now) }
-    ensures fault { IfErr result IsUnprinted }
-{
-    match out.write_all(text.as_bytes()) {
-        Ok(()) => Ok(()),
-        Err(error) => Err(unprinted(error)),
-    }
-}
 
 // Does what the words ask.
 fn obey<'a, F: DiskFiles, I: Read, O: Write, E: Write>(
@@ -45,7 +31,7 @@ fn obey<'a, F: DiskFiles, I: Read, O: Write, E: Write>(
         Ok(DiskWords::Serve(words)) => serve_command(alloc, words, files, input, out, err),
         Ok(DiskWords::Info(words)) => info_command(alloc, words, files, out),
         Ok(DiskWords::Check(words)) => check_command(alloc, words, files, out),
-        Ok(DiskWords::Text(text)) => print(text.as_str(), out),
+        Ok(DiskWords::Text(text)) => print_text(text.as_str(), out),
         Err(WordsFault::NoSuchCommand) => Err(DiskFault::NoSuchCommand),
         Err(WordsFault::OutOfMemory) => Err(DiskFault::OutOfMemory),
     }
@@ -69,6 +55,6 @@ pub fn run<F: DiskFiles, I: Read, O: Write, E: Write>(
 {
     match obey(alloc, words, files, input, out, err) {
         Ok(()) => 0,
-        Err(fault) => tell(&fault, err),
+        Err(fault) => tell(alloc, &fault, err),
     }
 }

@@ -1,13 +1,16 @@
 //! What the program says when a command ends before it is done: one line, and the exit status.
 ghost use Rattle.std.specs.Prelude.{◌≡◌, ◌++◌};
 ghost use Rattle.std.specs.Fmt.{WritesOnOk};
-ghost use Rattle.disk_commands.specs.Text.{IsTold};
+ghost use Rattle.request_stream.specs.Frames.{SendsLine};
+ghost use Rattle.disk_commands.specs.Text.{IsTold, told_line};
 
 use crate::shape_text::ShapeFault;
 use crate::shapes::SizeFault;
 use disk_damage::ListFault;
 use disk_server::{CreateFault, OpenStoreFault};
 use page_layout::geometry::GeometryFault;
+use request_stream::{ServeFault, send};
+use std::alloc::Global;
 use std::error::Error;
 use std::fmt;
 use std::io::Write;
@@ -179,12 +182,25 @@ impl fmt::Display for DiskFault<'_> {
     }
 }
 
-/// Writes the fault's line to `err`, with a line feed, and answers its exit status. Where a write failed it answers 3, and a beginning of the line may stand
-/// there. (The lines and the statuses are this project's.)
-pub fn tell<E: Write>(fault: &DiskFault<'_>, err: &mut E) -> u8
+// Writes the line of a fault, with a line feed. That of a want of memory takes none.
+fn send_line<E: Write>(alloc: Global, fault: &DiskFault<'_>, err: &mut E) -> Result<(), ServeFault>
+    ensures { SendsLine (E.contents err.old) (E.contents err.new) (told_line fault.now) result }
+{
+    if let DiskFault::OutOfMemory = fault {
+        return send(err, b"refused: no memory\n");
+    }
+    match format!(in alloc; "{fault}\n") {
+        Ok(line) => send(err, line.as_bytes()),
+        Err(_) => Err(ServeFault::Write),
+    }
+}
+
+/// Writes the fault's line to `err`, with a line feed, and answers its exit status. Where a write failed, was interrupted or took nothing, or memory for the line was refused, it
+/// answers 3, and a beginning of the line stands there, or nothing: never all of it. (The lines and the statuses are this project's.)
+pub fn tell<E: Write>(alloc: Global, fault: &DiskFault<'_>, err: &mut E) -> u8
     ensures { IsTold fault.now (E.contents err.old) (E.contents err.new) result }
 {
-    match writeln!(err, "{fault}") {
+    match send_line(alloc, fault, err) {
         Ok(()) => fault.status(),
         Err(_) => IO,
     }

@@ -34,16 +34,16 @@ pub fn second_handle(file: &File) -> Result<File, FileFault> {
     }
 }
 
-// Why a file was not taken for the pages of a die.
+// Why a file was not taken for the pages of a die. Its length was told before, or given: so it is its first sync that failed.
 fn untaken(fault: RowFault) -> FileFault
     ensures memory { fault ≡ RowFault.OutOfMemory → result ≡ FileFault.OutOfMemory }
     ensures length { (n : ℕ) → fault ≡ RowFault.Length n → result ≡ FileFault.Length n }
-    ensures other { (why : ByteFault) → fault ≡ RowFault.File why → result ≡ FileFault.Read }
+    ensures other { (why : ByteFault) → fault ≡ RowFault.File why → result ≡ FileFault.Write }
 {
     match fault {
         RowFault::OutOfMemory => FileFault::OutOfMemory,
         RowFault::Length(found) => FileFault::Length(found),
-        RowFault::File(_) => FileFault::Read,
+        RowFault::File(_) => FileFault::Write,
     }
 }
 

@@ -7,9 +7,7 @@ mod die;
 mod fault;
 mod lists;
 mod lock;
-mod mark;
 mod part;
-mod syncs;
 mod system;
 
 use disk_commands::{DiskFault, run, tell};
@@ -44,10 +42,10 @@ fn run_over<S: Files<File = File> + AllocGlobal + Clock, I: Read + Drop, O: Writ
     err: &mut E,
 ) -> u8 {
     let Ok(mut reader) = BufReader::with_capacity(system.alloc(), BUFFERED, input) else {
-        return tell(&DiskFault::OutOfMemory, err);
+        return tell(system.alloc(), &DiskFault::OutOfMemory, err);
     };
     let Ok(mut writer) = BufWriter::with_capacity(system.alloc(), BUFFERED, out) else {
-        return tell(&DiskFault::OutOfMemory, err);
+        return tell(system.alloc(), &DiskFault::OutOfMemory, err);
     };
     let mut files = SystemFiles::new(system);
     let status = run(
@@ -59,7 +57,7 @@ fn run_over<S: Files<File = File> + AllocGlobal + Clock, I: Read + Drop, O: Writ
         err,
     );
     match writer.flush() {
-        Err(_) if status == 0 => tell(&DiskFault::Write("-"), err),
+        Err(_) if status == 0 => tell(system.alloc(), &DiskFault::Write("-"), err),
         _ => status,
     }
 }
@@ -73,11 +71,11 @@ fn status_of<
 >(system: &S, input: I, out: O, err: &mut E) -> u8 {
     let kept = match words_found(system.alloc(), env::args(system)) {
         Ok(kept) => kept,
-        Err(fault) => return tell(&words_fault(fault), err),
+        Err(fault) => return tell(system.alloc(), &words_fault(fault), err),
     };
     match word_slices(system.alloc(), &kept) {
         Ok(words) => run_over(system, &words, input, out, err),
-        Err(_) => tell(&DiskFault::OutOfMemory, err),
+        Err(_) => tell(system.alloc(), &DiskFault::OutOfMemory, err),
     }
 }
 

@@ -6,10 +6,11 @@ use crate::die::{DieStore, as_long, second_handle, store_in, store_over};
 use crate::fault::{unmade, unread, unseen, unwritten};
 use crate::lists::{FileLists, ListNames};
 use crate::lock::{LockedFile, lock_die};
-use crate::mark::{MarkFile, put_blank};
 use crate::part::{copy_file, is_taken, new_die, open_dump, publish, put_dump};
-use crate::syncs::FileSyncs;
-use disk_commands::{Access, Code, DiskFiles, FileFault, FoundMark, MARK_BYTES, Shape, dump_bytes};
+use disk_commands::{
+    Access, Code, DiskFiles, FileFault, FileSyncs, FoundMark, MARK_BYTES, MarkFile, Shape,
+    dump_bytes, put_blank,
+};
 use file_die::erase_all;
 use part_files::{Names, Pair, SystemNames, discard, new_part, part_name, publish_new};
 use std::alloc::{AllocError, Global};
@@ -146,18 +147,21 @@ fn read_if_there<R: Files>(
 }
 
 // Makes the file of a mark, which holds none yet, beside its place, and gives it its name.
-fn make_mark<R: Files<File = File>>(rt: &R, names: &PathNames) -> Result<(), FileFault> {
+fn make_mark<R: Files<File = File> + AllocGlobal>(
+    rt: &R,
+    names: &PathNames,
+) -> Result<(), FileFault> {
     let part = names.mark_part.as_str();
     let mut file = match new_part(&mut SystemNames::new(rt), part) {
         Ok(file) => file,
         Err(fault) => return Err(unmade(fault)),
     };
-    let done = match put_blank(&mut file) {
+    let done = match put_blank(rt.alloc(), &mut file) {
         Ok(()) => match publish_new(&mut SystemNames::new(rt), part, names.mark.as_str()) {
             Ok(()) => Ok(()),
             Err(fault) => Err(unmade(fault)),
         },
-        Err(error) => Err(unwritten(error)),
+        Err(fault) => Err(fault),
     };
     if done.is_err() {
         discard(&mut SystemNames::new(rt), part);
@@ -166,7 +170,10 @@ fn make_mark<R: Files<File = File>>(rt: &R, names: &PathNames) -> Result<(), Fil
 }
 
 // The file of a mark, to be written; none where it has another length than such a file.
-fn open_mark<R: Files<File = File>>(rt: &R, names: &PathNames) -> Result<Option<File>, FileFault> {
+fn open_mark<R: Files<File = File> + AllocGlobal>(
+    rt: &R,
+    names: &PathNames,
+) -> Result<Option<File>, FileFault> {
     match SystemNames::new(rt).is_there(names.mark.as_str()) {
         Ok(true) => {}
         Ok(false) => match make_mark(rt, names) {
@@ -226,7 +233,7 @@ impl<'a, R: Files<File = File> + AllocGlobal + Clock> DiskFiles for SystemFiles<
 
     type Store = DieStore;
 
-    type Syncs = FileSyncs;
+    type Syncs = FileSyncs<File>;
 
     type Lists = FileLists<'a, R>;
 
@@ -284,7 +291,7 @@ impl<'a, R: Files<File = File> + AllocGlobal + Clock> DiskFiles for SystemFiles<
         _path: &str,
         locked: LockedFile,
         shape: &Shape,
-    ) -> Result<(DieStore, FileSyncs), FileFault> {
+    ) -> Result<(DieStore, FileSyncs<File>), FileFault> {
         let file = match as_long(locked.into_file(), shape) {
             Ok(file) => file,
             Err(fault) => return Err(fault),
@@ -303,9 +310,9 @@ impl<'a, R: Files<File = File> + AllocGlobal + Clock> DiskFiles for SystemFiles<
         &mut self,
         alloc: Global,
         path: &str,
-        syncs: FileSyncs,
+        syncs: FileSyncs<File>,
         found: FoundMark,
-    ) -> Result<FileSyncs, FileFault> {
+    ) -> Result<FileSyncs<File>, FileFault> {
         let names = match path_names(alloc, path) {
             Ok(names) => names,
             Err(fault) => return Err(fault),
@@ -394,13 +401,13 @@ impl<'a, R: Files<File = File> + AllocGlobal + Clock> DiskFiles for SystemFiles<
         &mut self,
         alloc: Global,
         path: &str,
-        syncs: &FileSyncs,
+        syncs: &FileSyncs<File>,
         beside: &[u8],
     ) -> Result<FileLists<'a, R>, FileFault> {
         let (Ok(names), Ok(text)) = (list_names(alloc, path), beside.to_vec(alloc)) else {
             return Err(FileFault::OutOfMemory);
         };
-        let die = match second_handle(syncs.file()) {
+        let die = match second_handle(syncs.die()) {
             Ok(die) => die,
             Err(fault) => return Err(fault),
         };

@@ -1,0 +1,199 @@
+//! The file of a mark, as a disk's files are synced.
+
+use disk_commands::{FileSyncs, FoundMark, MARK_BYTES, MarkFile, mark_of, none_found, put_blank};
+use disk_server::{Mark, Syncs};
+use file_die::{ByteFault, ByteFile, MemoryBytes};
+use std::alloc::Global;
+use std::process::Abort;
+use std::test::*;
+
+// A file in memory, of which a call fails: the write or the sync of this number, from 1 on; none where that is 0.
+#[derive(Drop)]
+struct FailingBytes {
+    bytes: MemoryBytes,
+    write: u32,
+    sync: u32,
+}
+
+impl FailingBytes {
+    // Counts down to the call that is to fail, and answers whether this is it.
+    fn fails(count: &mut u32) -> bool {
+        if *count == 0 {
+            return false;
+        }
+        *count -= 1;
+        *count == 0
+    }
+}
+
+impl ByteFile for FailingBytes {
+    ghost use Rattle.std.specs.Prelude.{false, [], ⊤};
+    ghost use Rattle.file_die.specs.Bytes.{Bytes};
+
+    ghost held = { λ _. record { bytes = []; durable = []; failed_syncs = 0 } };
+
+    ghost honest = { λ _. false };
+
+    ghost tells = { λ _ _ _. false };
+
+    ghost gave = { λ _ _ _ _. ⊤ };
+
+    fn read_at(&mut self, to: &mut [u8], at: u64) -> Result<usize, ByteFault> {
+        self.bytes.read_at(to, at)
+    }
+
+    fn write_at(&mut self, bytes: &[u8], at: u64) -> Result<usize, ByteFault> {
+        if FailingBytes::fails(&mut self.write) {
+            return Err(ByteFault::NoSpace);
+        }
+        self.bytes.write_at(bytes, at)
+    }
+
+    fn sync(&mut self) -> Result<(), ByteFault> {
+        if FailingBytes::fails(&mut self.sync) {
+            return Err(ByteFault::Other);
+        }
+        self.bytes.sync()
+    }
+
+    fn length(&mut self) -> Result<u64, ByteFault> {
+        self.bytes.length()
+    }
+}
+
+// A file of zeros of which these calls fail; 0 for none.
+fn file_of(alloc: Global, size: usize, write: u32, sync: u32) -> Result<FailingBytes, Fail> {
+    Ok(FailingBytes {
+        bytes: MemoryBytes::new(vec![in alloc; 0u8; size]?),
+        write,
+        sync,
+    })
+}
+
+// Which call fails, of the die's file and of the mark's; by the answers to two syncs whether each was done; whether the mark's file is kept still, and the mark that is found in it then.
+struct Row {
+    name: &'static str,
+    die_sync: u32,
+    write: u32,
+    sync: u32,
+    done: [bool; 2],
+    found: Option<(u64, u64, bool)>,
+}
+
+// The first sync is of all before sequence 5, and the second, of a flushed disk, of all before 9. The mark was found in the second slot.
+const ROWS: &[Row] = &[
+    Row {
+        name: "the first mark stands in both slots, and later ones in the second",
+        die_sync: 0,
+        write: 0,
+        sync: 0,
+        done: [true, true],
+        found: Some((9, 9, true)),
+    },
+    Row {
+        name: "a mark is not ahead of its die",
+        die_sync: 2,
+        write: 0,
+        sync: 0,
+        done: [true, false],
+        found: Some((5, 0, false)),
+    },
+    Row {
+        name: "the first mark is not written where the die's sync fails",
+        die_sync: 1,
+        write: 0,
+        sync: 0,
+        done: [false, true],
+        found: Some((9, 9, false)),
+    },
+    Row {
+        name: "the first mark has to be written",
+        die_sync: 0,
+        write: 1,
+        sync: 0,
+        done: [false, true],
+        found: None,
+    },
+    Row {
+        name: "and to last",
+        die_sync: 0,
+        write: 0,
+        sync: 1,
+        done: [false, true],
+        found: None,
+    },
+    Row {
+        name: "a later one that is not written is the last",
+        die_sync: 0,
+        write: 3,
+        sync: 0,
+        done: [true, true],
+        found: None,
+    },
+];
+
+// Whether a row is as it says.
+fn holds(alloc: Global, row: &Row) -> Result<bool, Fail> {
+    let mut file = file_of(alloc, MARK_BYTES, 0, 0)?;
+    if put_blank(alloc, &mut file).is_err() {
+        return Ok(false);
+    }
+    let FailingBytes { bytes, .. } = file;
+    let blank = bytes.into_bytes();
+    if mark_of(Some(&blank)) != none_found() {
+        return Ok(false);
+    }
+    let mut file = file_of(alloc, 0, row.write, row.sync)?;
+    file.bytes = MemoryBytes::new(blank);
+    let first = Mark {
+        synced: 3,
+        flushed: 0,
+    };
+    let mut syncs = FileSyncs::new(file_of(alloc, 0, 0, row.die_sync)?).with_mark(
+        Some(MarkFile::new(file, true)),
+        first,
+    );
+    let done = [syncs.sync(5, false).is_ok(), syncs.sync(9, true).is_ok()];
+    let found = match syncs.into_mark_file() {
+        Some(kept) => {
+            let FailingBytes { bytes, .. } = kept.into_file();
+            let bytes = bytes.into_bytes();
+            Some(mark_of(Some(&bytes)))
+        }
+        None => None,
+    };
+    let wanted = match row.found {
+        Some((synced, flushed, in_second)) => Some(FoundMark {
+            mark: Mark { synced, flushed },
+            in_second,
+        }),
+        None => None,
+    };
+    Ok(done == row.done && found == wanted)
+}
+
+#[test]
+fn marks_follow_their_syncs(rt: HostRuntime) -> Result<(), Fail> {
+    for row in ROWS {
+        assert!(rt; holds(rt.alloc(), row)?, "{}", row.name);
+    }
+    Ok(())
+}
+
+#[test]
+fn blank_file_wants_room_and_a_sync(rt: HostRuntime) -> Result<(), Fail> {
+    let alloc = rt.alloc();
+    assert!(rt;
+        put_blank(alloc, &mut file_of(alloc, MARK_BYTES - 1, 0, 0)?).is_err(),
+        "too short"
+    );
+    assert!(rt;
+        put_blank(alloc, &mut file_of(alloc, MARK_BYTES, 1, 0)?).is_err(),
+        "not written"
+    );
+    assert!(rt;
+        put_blank(alloc, &mut file_of(alloc, MARK_BYTES, 0, 1)?).is_err(),
+        "not synced"
+    );
+    Ok(())
+}
