@@ -225,8 +225,8 @@ def failed_syncs(program, folder):
     """After a sync that failed nothing is answered but that it failed, whatever the next sync of the system says."""
     path = os.path.join(folder, "g.nand")
     told([program, "create", "--geometry", GEOMETRY, path])
-    # (a start has two syncs of its own)
-    client, server = start(["strace", "-f", "-o", os.devnull, "-e", "trace=fdatasync", "-e", "inject=fdatasync:error=EIO:when=3", program, "serve", path])
+    # (a start has two syncs of the die, and two of the file of its new mark)
+    client, server = start(["strace", "-f", "-o", os.devnull, "-e", "trace=fdatasync", "-e", "inject=fdatasync:error=EIO:when=5", program, "serve", path])
     client.pwrite(b"\x5a" * 512, 0)
     failed = []
     for call in (client.flush, client.flush, lambda: client.pread(512, 0), lambda: client.pwrite(bytes(512), 0), client.flush):
