@@ -67,7 +67,7 @@ def bytes_of(text):
 
 
 # A mark's file as it is made, with no mark.
-NO_MARK = (b"\x01" + bytes(31)) * 129
+NO_MARK = b"\x01" + bytes(4095) + b"\x01" + bytes(31)
 
 
 def path_in(words):
@@ -96,7 +96,9 @@ def events_of(log):
             _, body, _, offset = words.rsplit(", ", 3) if words.count(", ") == 3 else words.split(", ")
             body = bytes_of(body.strip('"'))
             assert len(body) == count
-            found.append(Event("mark" if path.endswith(".mark") else "write", int(offset), body))
+            # (the file of a mark is made beside its place, before any mark)
+            if path.endswith((".mark", ".nand")):
+                found.append(Event("mark" if path.endswith(".mark") else "write", int(offset), body))
         elif name in ("fdatasync", "fsync") and path.endswith(".mark"):
             found.append(Event("marksync"))
         elif name in ("fdatasync", "fsync") and path.endswith(".nand"):
