@@ -1,5 +1,5 @@
 -- A DISK THAT IS READY TO BE SERVED.
-use Rattle.std.specs.Prelude.{◌≡◌, ◌⊎◌, ℕ, Bool, true, false, not, List, [], Option}
+use Rattle.std.specs.Prelude.{◌≡◌, ◌⊎◌, ℕ, Bool, true, false, not, List, [], Option, Some}
 use Rattle.onfi_cycles.specs.Driver.{DriverState}
 use Rattle.certificate.specs.Claim.{Claim}
 use Rattle.file_die.specs.Store.{Held}
@@ -14,6 +14,7 @@ use Rattle.disk_server.specs.declared.guarded.GuardedSectors.{GuardedSectors}
 use Rattle.disk_server.specs.declared.mark.Mark.{Mark}
 use Rattle.disk_server.specs.declared.opened.OpenStoreFault.{OpenStoreFault}
 use Rattle.disk_server.specs.Disk.{contents_of, holds}
+use Rattle.disk_server.specs.Reopened.{Reopened}
 use Rattle.disk_server.specs.Opened.{bytes_of, flash_in, is_honest_in}
 use Rattle.disk_server.specs.Stopped.{IsUnopenedLater}
 use Rattle.disk_server.specs.Synced.{after_sync}
@@ -23,6 +24,7 @@ use Rattle.disk_commands.specs.declared.shape_text.DiskText.{DiskText}
 use Rattle.disk_commands.specs.declared.text.DiskFault.{DiskFault}
 use Rattle.disk_commands.specs.declared.words.ServeWords.{ServeWords}
 use Rattle.disk_commands.specs.declared.text.DiskFault.TheVariants as fault
+use Rattle.disk_commands.specs.Anew.{most_stale}
 use Rattle.disk_commands.specs.Damage.{IsLookedAt, IsUnlookedAt}
 use Rattle.disk_commands.specs.Files.{Answers, Opened, with_mark}
 use Rattle.disk_commands.specs.Guard.{IsUnlistedAt}
@@ -85,14 +87,18 @@ MarksBy false path before after = after ≡ before
 -- ---- the disk at a path
 
 -- THE DISK AT A PATH, whose lost sectors are guarded: those of the list beside it and of the pages of its store, as it was looked at; that store tells what was wrong with its pages. Where it is to be written, and any is lost, their list lasts;
--- else none was kept, for at the place of the list none was before
+-- else none was kept, for at the place of the list none was before. The device of the store is there, and is opened anew with a cache that has room for all that may be stale
 pub record IsReadyAt {S Y K : Type 0} (held : S → Held) (honest : S → Bool) (mended_in : S → Mended) (marked : Y → Mark) (kept : K → List Bool) (a : Answers) (path : List ℕ) (read_only : Bool) (told : DiskText) (mended : Mended)
-    (disk : GuardedSectors (Device (DriverState (FileState S))) K) (syncs : Y) : Type 0 where
+    (disk : GuardedSectors (Reopened S) K) (syncs : Y) : Type 0 where
   pub found : FoundMark
   pub store : S
   pub certificate : Claim
   pub looked : IsLookedAt held honest a path told found store certificate disk.lost.items
-  pub of : IsDiskOf held honest marked read_only told found store disk.sectors syncs
+  pub device : Device (DriverState (FileState S))
+  pub device_is : disk.sectors.device ≡ Some device
+  pub not_reopened : disk.sectors.reopened ≡ false
+  pub room : disk.sectors.capacity ≡ most_stale told.shape
+  pub of : IsDiskOf held honest marked read_only told found store device syncs
   pub mended_is : mended ≡ mended_in store
   pub none_failed : disk.failed ≡ false
   pub place : K

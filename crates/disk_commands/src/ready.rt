@@ -11,6 +11,7 @@ ghost use Rattle.disk_commands.specs.Ready.{HoldsPages, IsNoneOf, IsReadyAt, Kee
 ghost use Rattle.disk_commands.specs.ShapeText.{IsWithin};
 ghost use Rattle.disk_commands.specs.Told.{IsUnprinted};
 
+use crate::anew::reopening;
 use crate::damage::{Looked, look_at, name_lost, name_mended};
 use crate::files::{Access, DiskFiles};
 use crate::guard::{guarded, keeper_at};
@@ -24,15 +25,15 @@ use certificate::Certificate;
 use coded_store::{Mended, TellsMended};
 use disk_recovery::{list_first, recover_listed};
 use disk_server::{
-    DeviceDisk, GuardedSectors, KeepsLost, SectorDisk, Sequenced, StoreDisk, Syncs, open_stopped,
+    GuardedSectors, KeepsLost, ReopenedDevice, SectorDisk, Sequenced, StoreDisk, Syncs,
+    open_stopped,
 };
-use file_die::{FileDie, Store, SyncWhen};
-use onfi_cycles::Driver;
+use file_die::{Store, SyncWhen};
 use std::alloc::Global;
 use std::io::Write;
 
-/// The disk of a store, of which some sectors are lost.
-pub(crate) type GuardedDisk<S, K> = SectorDisk<GuardedSectors<DeviceDisk<Driver<FileDie<S>>>, K>>;
+/// The disk of a store, of which some sectors are lost, and which is opened anew where the store was full.
+pub(crate) type GuardedDisk<S, K> = SectorDisk<GuardedSectors<ReopenedDevice<S>, K>>;
 
 /// Such a disk, ready to be served: with a second handle of its file, what is told beside it, and what was wrong with its pages.
 pub(crate) type ReadyDisk<S, K, Y> = (GuardedDisk<S, K>, Y, DiskText, Mended);
@@ -216,7 +217,8 @@ pub(crate) fn ready<'a, F: DiskFiles, E: Write>(
         Ok(()) => {}
         Err(fault) => return Err(fault),
     }
-    match guarded(alloc, disk, keeper, lost) {
+    let device = reopening(alloc, disk, &told.shape, sync_when(words.sync_always));
+    match guarded(alloc, device, keeper, lost) {
         Ok(disk) => Ok((disk, syncs, told, mended)),
         Err(fault) => Err(fault),
     }
