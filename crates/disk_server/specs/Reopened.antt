@@ -1,5 +1,5 @@
 -- THE DEVICE OF A STORE, WHICH IS OPENED ANEW WHERE THE STORE WAS FULL.
-use Rattle.std.specs.Prelude.{◌≡◌, ◌≢◌, ◌⊎◌, ◌<◌, ◌≤◌, ◌*◌, ◌^◌, ◌&&◌, not, ℕ, Bool, true, false, List, replicate, Option, Some, None, Result, Ok, Err}
+use Rattle.std.specs.Prelude.{◌≡◌, ◌≢◌, ◌⊎◌, ◌<◌, ◌≤◌, ◌*◌, ◌^◌, ◌&&◌, not, ℕ, Bool, true, false, List, [], length, replicate, Option, Some, None, Result, Ok, Err}
 use Rattle.onfi_cycles.specs.Driver.{DriverState}
 use Rattle.page_layout.specs.OnlyReads.{OnlyReads}
 use Rattle.promises.specs.Step.{Command}
@@ -9,7 +9,9 @@ use Rattle.file_die.specs.Store.{Held}
 use Rattle.ftl_device.specs.declared.device.Device.{Device}
 use Rattle.nbd_stream.specs.declared.fault.DiskFault.{DiskFault}
 use Rattle.nbd_stream.specs.declared.fault.DiskFault.TheVariants as fault
-use Rattle.nbd_stream.specs.Disk.{Contents}
+use Rattle.nbd_stream.specs.declared.reply.RequestError.{RequestError}
+use Rattle.nbd_stream.specs.declared.task.Task.TheVariants.{Read}
+use Rattle.nbd_stream.specs.Disk.{Contents, Performs}
 use Rattle.disk_server.specs.declared.opened.OpenStoreFault.{OpenStoreFault}
 use Rattle.disk_server.specs.Disk.{AsksChange, AsksClear, AsksFlush, AsksTurn, contents_of, holds, takes_changes}
 use Rattle.disk_server.specs.Opened.{IsUnopened, bytes_of, flash_in, flash_of, is_honest_in}
@@ -108,6 +110,7 @@ pub record Reopens {S : Type 0} (held : S → Held) (honest full : S → Bool) (
   pub was_full : full left.engine.nand.bus.store ≡ true
   pub device : Device (DriverState (FileState S))
   pub opened : IsOpenedFrom held honest terms.capacity left.engine.nand.bus.store device
+  pub long : length (contents_of (flash_in held) (is_honest_in honest) device).bytes ≡ terms.count * terms.size
   pub there : HasDevice terms true left.engine.next (Some device) new
 
 -- THE DEVICE IS GONE: its store was not full, or was not opened
@@ -155,6 +158,11 @@ pub record ReadsOne {S : Type 0} (reads : Device (DriverState (FileState S)) →
 
 abbrev pub ReadsDevice : {S : Type 0} → (reads : Device (DriverState (FileState S)) → Device (DriverState (FileState S)) → Type 0) → (old new : Reopened S) → Type 0
 ReadsDevice reads old new = ((old.device ≡ None) × HasDevice (terms_of old) old.reopened old.next None new) ⊎ ReadsOne reads old new
+
+-- WHAT IS GIVEN OF A SECTOR: by the device that is there, opened anew or not, its bytes as such a one gives them
+abbrev pub GivesSector : {S : Type 0} → (S → Held) → (honest : S → Bool) → (n : ℕ) → (old : Reopened S) → (answer : Result (List ℕ) RequestError) → (new : Reopened S) → Type 0
+GivesSector {S} held honest n old answer new = (d : Device (DriverState (FileState S))) → old.device ≡ Some d → (left : Device (DriverState (FileState S))) × (new.device ≡ Some left)
+    × Performs (contents_of (flash_in held) (is_honest_in honest)) (holds (is_honest_in honest)) (λ x. false) (Read (n * old.size) old.size) [] d answer left
 
 -- ---- the calls of the device over the die of a store
 

@@ -59,7 +59,9 @@ fn store_under<S: Store + Drop>(device: StoreDevice<S>) -> S
 }
 
 impl<S: Store + TellsFull + Drop> ReopenedDevice<S> {
-    ghost use Rattle.std.specs.Prelude.{◌≡◌, ◌≢◌, ◌⊎◌, ◌≤◌, false, true, None, Some};
+    ghost use Rattle.std.specs.Prelude.{◌≡◌, ◌≢◌, ◌⊎◌, ◌≤◌, ◌*◌, false, true, length, None, Some};
+    ghost use Rattle.disk_server.specs.Disk.{contents_of};
+    ghost use Rattle.disk_server.specs.Opened.{flash_in, is_honest_in};
     ghost use Rattle.onfi_cycles.specs.Driver.{DriverState};
     ghost use Rattle.file_die.specs.Die.{FileState};
     ghost use Rattle.ftl_device.specs.declared.device.Device.{Device};
@@ -97,6 +99,7 @@ impl<S: Store + TellsFull + Drop> ReopenedDevice<S> {
     fn take_in(&mut self, device: StoreDevice<S>) -> bool
         requires { self.old.device ≡ None }
         ensures taken { result ≡ true → HasDevice (terms_of self.old) true self.old.next (Some device) self.new }
+        ensures long { result ≡ true → length (contents_of (flash_in S.held) (is_honest_in S.honest) device).bytes ≡ self.old.count * self.old.size }
         ensures left { result ≡ false → (device.engine.geometry.data_bytes ≢ self.old.size) ⊎ (device.engine.geometry.sectors ≢ self.old.count) }
         ensures same { result ≡ false → self.new ≡ self.old }
     {
@@ -111,7 +114,8 @@ impl<S: Store + TellsFull + Drop> ReopenedDevice<S> {
     // Opens a store anew.
     fn open(&mut self, store: S) -> bool
         requires { self.old.device ≡ None }
-        ensures opened { result ≡ true → (d : Device (DriverState (FileState S))) × IsOpenedFrom S.held S.honest self.old.capacity store d × HasDevice (terms_of self.old) true self.old.next (Some d) self.new }
+        ensures opened { result ≡ true → (d : Device (DriverState (FileState S))) × IsOpenedFrom S.held S.honest self.old.capacity store d × HasDevice (terms_of self.old) true self.old.next (Some d) self.new
+            × (length (contents_of (flash_in S.held) (is_honest_in S.honest) d).bytes ≡ self.old.count * self.old.size) }
         ensures unopened { result ≡ false → IsNotReopened S.held S.honest S.failed (terms_of self.old) store }
         ensures same { result ≡ false → self.new ≡ self.old }
     {
@@ -166,7 +170,7 @@ impl<S: Store + TellsFull + Drop> Sectors for ReopenedDevice<S> {
     ghost use Rattle.nbd_stream.specs.declared.fault.DiskFault.TheVariants as fault;
     ghost use Rattle.nbd_stream.specs.Disk.{Performs, answer_from};
     ghost use Rattle.disk_server.specs.Asked.{SparesZeros};
-    ghost use Rattle.disk_server.specs.Reopened.{AsksDevice, ReadsDevice, changes_of, clears_of, contents_in, flushes_of, holds_in, next_in, reads_of, rests_of, takes_in};
+    ghost use Rattle.disk_server.specs.Reopened.{AsksDevice, GivesSector, ReadsDevice, changes_of, clears_of, contents_in, flushes_of, holds_in, next_in, reads_of, rests_of, takes_in};
 
     ghost contents = { contents_in S.held S.honest };
 
@@ -196,10 +200,19 @@ impl<S: Store + TellsFull + Drop> Sectors for ReopenedDevice<S> {
     /// # Errors
     ///
     /// `Failed` where the device failed, or is gone.
-    fn read_sector(&mut self, sector: u64, buffer: &mut [u8]) -> Result<(), DiskFault> {
+    fn read_sector(&mut self, sector: u64, buffer: &mut [u8]) -> Result<(), DiskFault>
+        requires within { sector < self.old.count }
+        requires whole { length buffer.old ≡ self.old.size }
+        ensures size { self.new.size ≡ self.old.size }
+        ensures count { self.new.count ≡ self.old.count }
+        ensures performs { Performs (contents_in S.held S.honest) (holds_in S.honest) (λ _. false) (Task.Read (sector * self.old.size) self.old.size) [] self.old (answer_from result buffer.new) self.new }
+        ensures reads { ReadsDevice (reads_of S.held S.honest) self.old self.new }
+        ensures given { GivesSector S.held S.honest sector self.old (answer_from result buffer.new) self.new }
+    {
         let Some(mut device) = self.device.take() else {
             return Err(DiskFault::Failed);
         };
+        let _count = device.sector_count();
         let answer = device.read_sector(sector, buffer);
         self.device = Some(device);
         answer
@@ -221,6 +234,7 @@ impl<S: Store + TellsFull + Drop> Sectors for ReopenedDevice<S> {
         let Some(mut device) = self.device.take() else {
             return Err(DiskFault::Failed);
         };
+        let _count = device.sector_count();
         let answer = device.write_sector(sector, bytes);
         self.settle(device, answer, DiskFault::NoSpace)
     }
@@ -240,6 +254,7 @@ impl<S: Store + TellsFull + Drop> Sectors for ReopenedDevice<S> {
         let Some(mut device) = self.device.take() else {
             return Err(DiskFault::Failed);
         };
+        let _count = device.sector_count();
         let answer = device.trim_sector(sector);
         self.settle(device, answer, DiskFault::NoSpace)
     }
@@ -261,6 +276,7 @@ impl<S: Store + TellsFull + Drop> Sectors for ReopenedDevice<S> {
         let Some(mut device) = self.device.take() else {
             return Err(DiskFault::Failed);
         };
+        let _count = device.sector_count();
         let answer = device.clear_sector(sector, buffer);
         self.settle(device, answer, DiskFault::NoSpace)
     }
@@ -274,6 +290,7 @@ impl<S: Store + TellsFull + Drop> Sectors for ReopenedDevice<S> {
         let Some(mut device) = self.device.take() else {
             return Err(DiskFault::Failed);
         };
+        let _count = device.sector_count();
         let answer = device.flush();
         self.settle(device, answer, DiskFault::Failed)
     }
@@ -287,6 +304,7 @@ impl<S: Store + TellsFull + Drop> Sectors for ReopenedDevice<S> {
         let Some(mut device) = self.device.take() else {
             return Err(DiskFault::Failed);
         };
+        let _count = device.sector_count();
         let answer = device.rest();
         self.settle(device, answer, DiskFault::Failed)
     }

@@ -204,11 +204,15 @@ fn live(rt: &impl Abort, alloc: Global, done: u64, refused: u64, torn: bool) -> 
 
 #[test]
 fn changes_without_room_are_told_and_the_disk_goes_on(rt: HostRuntime) -> Result<(), Fail> {
+    let mut refused = 0u64;
     for done in [0u64, 1, 2, 3, 5, 8, 13, 21, 34, 55, 89, 144] {
         for torn in [false, true] {
-            let told = live(&rt, rt.alloc(), done, 2, torn);
-            assert!(rt; told.is_some(), "full after {done} writes, torn {torn}");
+            match live(&rt, rt.alloc(), done, 2, torn) {
+                Some(told) => refused = refused.saturating_add(told),
+                None => assert!(rt; false, "full after {done} writes, torn {torn}"),
+            }
         }
     }
+    assert!(rt; refused >= 12, "changes that had no room: {refused}");
     Ok(())
 }
