@@ -15,7 +15,7 @@ use Rattle.nbd_stream.specs.Disk.{Contents, Idles, MayAnswer, Performs, Steps, a
 use Rattle.disk_server.specs.Asked.{HasZeros, SparesZeros}
 use Rattle.disk_server.specs.Disk.{contents_of, holds}
 use Rattle.disk_server.specs.Opened.{flash_in, is_honest_in}
-use Rattle.disk_server.specs.Reopened.{HasDevice, IsGone, ReadsDevice, Reopened, Reopens, Settles, bytes_by, contents_in, holds_by, holds_in, reads_of, terms_of}
+use Rattle.disk_server.specs.Reopened.{HasDevice, IsGone, IsOpenedFrom, ReadsDevice, Reopened, Reopens, Settles, Terms, bytes_by, contents_in, holds_by, holds_in, reads_of, terms_of}
 
 both : (a b : Bool) → (a && b) ≡ true → (a ≡ true) × (b ≡ true)
 both true true e = (refl, refl)
@@ -182,3 +182,20 @@ module _ {S : Type 0} (held : S → Held) (honest : S → Bool) where
     spared told offset count (Err fault.NoSpace) result spares s = spared_on offset count spares s.1
     spared told offset count (Err fault.Failed) result spares (inl s) = λ h zeros. absurd (never (holds_in honest new) (anew_no s.1) h)
     spared told offset count (Err fault.Failed) result spares (inr s) = λ h zeros. absurd (never (holds_in honest new) (gone_no s.1) h)
+
+-- as many bytes as its sectors have
+pub long_before : (size count size' count' n : ℕ) → size' ≡ size → count' ≡ count → n ≡ count' * size' → n ≡ count * size
+long_before size count size' count' n sized counted long = long ∙ (ap (λ k. k * size') counted ∙ ap (λ k. count * k) sized)
+
+-- the store of a device that has stopped was full, and was opened
+pub reopens : {S : Type 0} (held : S → Held) (honest full : S → Bool) (terms : Terms) (left : Device (DriverState (FileState S))) (new : Reopened S) (store : S) → store ≡ left.engine.nand.bus.store → full store ≡ true
+    → (next : ℕ) → next ≡ left.engine.next
+    → ((d : Device (DriverState (FileState S))) × IsOpenedFrom held honest terms.capacity store d × HasDevice terms true next (Some d) new × (length (contents_of (flash_in held) (is_honest_in honest) d).bytes ≡ terms.count * terms.size))
+    → Reopens held honest full terms left new
+reopens held honest full terms left new store same is next last opened = record {
+  was_full = ap full (sym same) ∙ is;
+  device = opened.0;
+  opened = subst (λ s. IsOpenedFrom held honest terms.capacity s opened.0) same opened.1;
+  long = opened.3;
+  there = subst (λ n. HasDevice terms true n (Some opened.0) new) last opened.2;
+}
