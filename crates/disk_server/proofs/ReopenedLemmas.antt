@@ -15,7 +15,8 @@ use Rattle.nbd_stream.specs.Disk.{Contents, Idles, MayAnswer, Performs, Steps, a
 use Rattle.disk_server.specs.Asked.{HasZeros, SparesZeros}
 use Rattle.disk_server.specs.Disk.{contents_of, holds}
 use Rattle.disk_server.specs.Opened.{flash_in, is_honest_in}
-use Rattle.disk_server.specs.Reopened.{HasDevice, IsGone, IsOpenedFrom, ReadsDevice, Reopened, Reopens, Settles, Terms, bytes_by, contents_in, holds_by, holds_in, reads_of, terms_of}
+use Rattle.nbd_stream.specs.declared.task.Task.TheVariants.{Read}
+use Rattle.disk_server.specs.Reopened.{AreParts, GivesSector, HasDevice, IsGone, IsOpenedFrom, ReadsDevice, Reopened, Reopens, Settles, Terms, bytes_by, contents_in, holds_by, holds_in, reads_of, terms_of}
 
 both : (a b : Bool) → (a && b) ≡ true → (a ≡ true) × (b ≡ true)
 both true true e = (refl, refl)
@@ -102,28 +103,28 @@ module _ {S : Type 0} (held : S → Held) (honest : S → Bool) where
   -- IT HOLDS NO MORE
   pub ends : (task : Task) (body : List ℕ) (old new : Reopened S) (e : RequestError) → holds_in honest new ≡ false → length (contents_in held honest new).bytes ≡ length (contents_in held honest old).bytes → MayAnswer task e
       → Performs (contents_in held honest) (holds_in honest) (λ x. false) task body old (Err e) new
-  ends task body old new e no same may = record {
+  ends task body old new e over same may = record {
     sized = same;
     kept = tt;
-    back = λ h. absurd (never (holds_in honest new) no h);
+    back = λ h. absurd (never (holds_in honest new) over h);
     calm_is = refl;
     fault = may;
     given = tt;
     calmly = λ calm. (let no : ⊥ = cc in absurd no);
-    steps = λ h. absurd (never (holds_in honest new) no h);
+    steps = λ h. absurd (never (holds_in honest new) over h);
   }
 
   pub idle_ends : (old new : Reopened S) → holds_in honest new ≡ false → length (contents_in held honest new).bytes ≡ length (contents_in held honest old).bytes
       → Idles (contents_in held honest) (holds_in honest) (λ x. false) old (Err fault.Failed) new
-  idle_ends old new no same = record {
+  idle_ends old new over same = record {
     sized = same;
     kept = tt;
-    was_honest = λ h. absurd (never (holds_in honest new) no h);
+    was_honest = λ h. absurd (never (holds_in honest new) over h);
     calm_is = refl;
     fault = refl;
     calmly = λ calm. (let no : ⊥ = cc in absurd no);
-    bytes = λ h. absurd (never (holds_in honest new) no h);
-    stays = λ h place. absurd (never (holds_in honest new) no h);
+    bytes = λ h. absurd (never (holds_in honest new) over h);
+    stays = λ h place. absurd (never (holds_in honest new) over h);
   }
 
   module _ (full : S → Bool) (failed : S → ℕ) (old new : Reopened S) (d left : Device (DriverState (FileState S))) (was : old.device ≡ Some d) (long : length (at d).bytes ≡ old.count * old.size) where
@@ -199,3 +200,23 @@ reopens held honest full terms left new store same is next last opened = record 
   long = opened.3;
   there = subst (λ n. HasDevice terms true n (Some opened.0) new) last opened.2;
 }
+
+some_same : {A : Type 0} (x y : A) → Some x ≡ Some y → x ≡ y
+some_same x y e = cc
+
+-- another device of the same sectors
+pub parts_on : {S : Type 0} (size count capacity : ℕ) (device : Option (Device (DriverState (FileState S)))) (d left : Device (DriverState (FileState S))) → device ≡ Some d → AreParts size count capacity device
+    → left.engine.geometry.data_bytes ≡ d.engine.geometry.data_bytes → left.engine.geometry.sectors ≡ d.engine.geometry.sectors → AreParts size count capacity (Some left)
+parts_on size count capacity device d left was parts sizes counts = record {
+  some = parts.some;
+  bounded = parts.bounded;
+  least = parts.least;
+  most = parts.most;
+  sized = λ x is. (let same : left ≡ x = some_same left x is in ap (λ y. y.engine.geometry.data_bytes) (sym same) ∙ sizes ∙ parts.sized d was);
+  counted = λ x is. (let same : left ≡ x = some_same left x is in ap (λ y. y.engine.geometry.sectors) (sym same) ∙ counts ∙ parts.counted d was);
+}
+
+-- what was given of a sector, by the device that was there
+pub given_of : {S : Type 0} (held : S → Held) (honest : S → Bool) (n : ℕ) (old new : Reopened S) (d left : Device (DriverState (FileState S))) (answer : Result (List ℕ) RequestError) → old.device ≡ Some d → new.device ≡ Some left
+    → Performs (contents_of (flash_in held) (is_honest_in honest)) (holds (is_honest_in honest)) (λ x. false) (Read (n * old.size) old.size) [] d answer left → GivesSector held honest n old answer new
+given_of held honest n old new d left answer was is p = λ x there. (left, is, subst (λ y. Performs (contents_of (flash_in held) (is_honest_in honest)) (holds (is_honest_in honest)) (λ z. false) (Read (n * old.size) old.size) [] y answer left) (some_same d x (sym was ∙ there)) p)
