@@ -16,7 +16,7 @@ use Rattle.disk_server.specs.Asked.{HasZeros, SparesZeros}
 use Rattle.disk_server.specs.Disk.{contents_of, holds}
 use Rattle.disk_server.specs.Opened.{flash_in, is_honest_in}
 use Rattle.nbd_stream.specs.declared.task.Task.TheVariants.{Read}
-use Rattle.disk_server.specs.Reopened.{AreParts, GivesSector, HasDevice, IsGone, IsOpenedFrom, ReadsDevice, Reopened, Reopens, Settles, Terms, bytes_by, contents_in, holds_by, holds_in, reads_of, terms_of}
+use Rattle.disk_server.specs.Reopened.{AreParts, HasDevice, IsGone, IsOpenedFrom, ReadsDevice, Reopened, Reopens, Settles, Terms, bytes_by, contents_in, holds_by, holds_in, reads_of, terms_of}
 
 both : (a b : Bool) → (a && b) ≡ true → (a ≡ true) × (b ≡ true)
 both true true e = (refl, refl)
@@ -217,6 +217,16 @@ parts_on size count capacity device d left was parts sizes counts = record {
 }
 
 -- what was given of a sector, by the device that was there
-pub given_of : {S : Type 0} (held : S → Held) (honest : S → Bool) (n : ℕ) (old new : Reopened S) (d left : Device (DriverState (FileState S))) (answer : Result (List ℕ) RequestError) → old.device ≡ Some d → new.device ≡ Some left
-    → Performs (contents_of (flash_in held) (is_honest_in honest)) (holds (is_honest_in honest)) (λ x. false) (Read (n * old.size) old.size) [] d answer left → GivesSector held honest n old answer new
-given_of held honest n old new d left answer was is p = λ x there. (left, is, subst (λ y. Performs (contents_of (flash_in held) (is_honest_in honest)) (holds (is_honest_in honest)) (λ z. false) (Read (n * old.size) old.size) [] y answer left) (some_same d x (sym was ∙ there)) p)
+pub given_of : {S : Type 0} (held : S → Held) (honest : S → Bool) (n size : ℕ) (before after : Option (Device (DriverState (FileState S)))) (d left : Device (DriverState (FileState S))) (answer : Result (List ℕ) RequestError) → before ≡ Some d → after ≡ Some left
+    → Performs (contents_of (flash_in held) (is_honest_in honest)) (holds (is_honest_in honest)) (λ x. false) (Read (n * size) size) [] d answer left
+    → (x : Device (DriverState (FileState S))) → before ≡ Some x → (y : Device (DriverState (FileState S))) × (after ≡ Some y) × Performs (contents_of (flash_in held) (is_honest_in honest)) (holds (is_honest_in honest)) (λ z. false) (Read (n * size) size) [] x answer y
+given_of held honest n size before after d left answer was is p = λ x there. (left, is, subst (λ y. Performs (contents_of (flash_in held) (is_honest_in honest)) (holds (is_honest_in honest)) (λ z. false) (Read (n * size) size) [] y answer left) (some_same d x (sym was ∙ there)) p)
+
+-- the terms stay
+pub settled_terms : {S : Type 0} (held : S → Held) (honest full : S → Bool) (failed : S → ℕ) (told : DiskFault) (terms : Terms) (reopened : Bool) (next : ℕ) (left : Device (DriverState (FileState S))) (answer result : Result (Unit {0}) DiskFault) (new : Reopened S)
+    → Settles held honest full failed told terms reopened next left answer result new → terms_of new ≡ terms
+settled_terms held honest full failed told terms reopened next left (Ok done) result new s = s.1.terms_are
+settled_terms held honest full failed told terms reopened next left (Err fault.ReadOnly) result new s = s.1.terms_are
+settled_terms held honest full failed told terms reopened next left (Err fault.NoSpace) result new s = s.1.terms_are
+settled_terms held honest full failed told terms reopened next left (Err fault.Failed) result new (inl s) = s.1.there.terms_are
+settled_terms held honest full failed told terms reopened next left (Err fault.Failed) result new (inr s) = s.1.none.terms_are

@@ -26,4 +26,4 @@ returns-clause-given g c =
     let was = sym c.in-Some.ensures.value in
     let asked = subst (λ k. Performs (at g.S.Store.held g.S.Store.honest) (going g.S.Store.held g.S.Store.honest) (λ x. false) (Read (c.args.sector * k) k) [] c.in-Some.device (answer_from c.read_sector-answer.result c.read_sector-answer.new.buffer) c.read_sector-answer.new.self)
     (c.self.invariant.sized _ was) c.read_sector-answer.ensures.performs in
-    rw (← c.self.view_is) (given_of g.S.Store.held g.S.Store.honest c.args.sector _ _ c.in-Some.device c.read_sector-answer.new.self _ was refl asked)
+    rw (← c.self.view_is) (given_of g.S.Store.held g.S.Store.honest c.args.sector _ _ _ c.in-Some.device c.read_sector-answer.new.self _ was refl asked)
