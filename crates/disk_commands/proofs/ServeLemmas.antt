@@ -65,7 +65,7 @@ limited contents honest calm does rests e room most first last unread left befor
 -- it was served, or memory for its requests was refused
 pub served_at : {S Y K : Type 0} (held : S → Held) (honest : S → Bool) (mended_in : S → Mended) (failed : S → ℕ) (synced missed : Y → ℕ) (marked : Y → Mark) (kept : K → List Bool) (unlisted : K → ℕ) (a : Answers) (words : ServeWords) (told : DiskText) (mended : Mended)
     (disk : GuardedSectors (Device (DriverState (FileState S))) K) (syncs : Y) (terms : Terms) (unread left before after telling told_after : Option (List ℕ)) (result : Result (Unit {0}) DiskFault)
-    → IsReadyAt held honest mended_in marked kept a words.disk.now words.read_only told mended disk syncs → NamesAll disk.lost.items told.shape.code mended telling told_after → terms ≡ terms_of told words.read_only
+    → IsReadyAt held honest mended_in marked kept a words.disk.now words.read_only words.sync_always told mended disk syncs → NamesAll disk.lost.items told.shape.code mended telling told_after → terms ≡ terms_of told words.read_only
     → HasServedOn (shown_in held honest) (λ d. holds (is_honest_in honest) d.sectors) (does_in held honest) (PassesOn (rests_in held honest)) (ReadsGuarded (reads_in held honest))
     (λ d. d.sectors.engine.next) (λ d. takes_changes d.sectors) synced missed marked terms words.disk disk syncs unread left before after result
     ⊎ ((result ≡ Err fault.OutOfMemory) × Keeps before after)

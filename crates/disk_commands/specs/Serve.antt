@@ -23,7 +23,7 @@ use Rattle.disk_commands.specs.declared.shapes.Shape.{Shape}
 use Rattle.disk_commands.specs.declared.words.ServeWords.{ServeWords}
 use Rattle.disk_server.specs.declared.served.Offer.{Offer}
 use Rattle.disk_server.specs.declared.synced.SyncedDisk.{SyncedDisk}
-use Rattle.disk_server.specs.Opened.{flash_in, is_honest_in}
+use Rattle.disk_server.specs.Opened.{always_in, flash_in, is_honest_in}
 use Rattle.disk_server.specs.declared.synced.SyncPace.{SyncPace}
 use Rattle.disk_server.specs.declared.mark.Mark.{Mark}
 use Rattle.disk_server.specs.Synced.{Closes, RestsSynced, SyncsTask, export_of}
@@ -127,15 +127,15 @@ HasServedOn contents honest does rests reads next takes synced failed marked ter
 
 -- what a rest of such a disk is
 abbrev pub rests_in : {S : Type 0} → (S → Held) → (honest : S → Bool) → Device (DriverState (FileState S)) → Result (Unit {0}) NbdFault → Device (DriverState (FileState S)) → Type 0
-rests_in held honest = AsksTurn (flash_in held) (λ d. None) (is_honest_in honest) (λ d. false) (λ d. d.erases) (λ d. d.failures)
+rests_in held honest = AsksTurn (flash_in held) (λ d. None) (is_honest_in honest) always_in (λ d. d.erases) (λ d. d.failures)
 
 -- what a read of it leaves: its die is asked for reads, and programs and erases nothing
 abbrev pub reads_in : {S : Type 0} → (S → Held) → (honest : S → Bool) → Device (DriverState (FileState S)) → Device (DriverState (FileState S)) → Type 0
-reads_in held honest old new = OnlyReads (flash_in held) (is_honest_in honest) (λ d. false) (λ d. d.programs) (λ d. d.erases) (λ d. d.failures) old.engine.nand new.engine.nand
+reads_in held honest old new = OnlyReads (flash_in held) (is_honest_in honest) always_in (λ d. d.programs) (λ d. d.erases) (λ d. d.failures) old.engine.nand new.engine.nand
 
 -- what a flush of it is
 abbrev pub flushes_in : {S : Type 0} → (S → Held) → (honest : S → Bool) → Device (DriverState (FileState S)) → Result (Unit {0}) NbdFault → Device (DriverState (FileState S)) → Type 0
-flushes_in held honest = AsksFlush (flash_in held) (λ d. None) (is_honest_in honest) (λ d. false) (λ d. d.failures)
+flushes_in held honest = AsksFlush (flash_in held) (λ d. None) (is_honest_in honest) always_in (λ d. d.failures)
 
 -- what it shows, once its lost sectors are guarded, and what a task asks of it
 abbrev pub shown_in : {S K : Type 0} → (S → Held) → (honest : S → Bool) → GuardedSectors (Device (DriverState (FileState S))) K → Contents
@@ -155,7 +155,7 @@ pub record HasServedAt {S Y K : Type 0} (held : S → Held) (honest : S → Bool
   pub disk : GuardedSectors (Device (DriverState (FileState S))) K
   pub syncs : Y
   pub mended : Mended
-  pub at : IsReadyAt held honest mended_in marked kept a words.disk.now words.read_only told mended disk syncs
+  pub at : IsReadyAt held honest mended_in marked kept a words.disk.now words.read_only words.sync_always told mended disk syncs
   pub named : NamesAll disk.lost.items told.shape.code mended telling told_after
   pub served : HasServedOn (shown_in held honest) (λ d. holds (is_honest_in honest) d.sectors) (does_in held honest) (PassesOn (rests_in held honest)) (ReadsGuarded (reads_in held honest))
       (λ d. d.sectors.engine.next) (λ d. takes_changes d.sectors) synced missed marked (terms_of told words.read_only) words.disk disk syncs unread left before after result

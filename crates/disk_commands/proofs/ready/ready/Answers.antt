@@ -69,10 +69,11 @@ returns-in-Ok-guarded-clause-ok g c = record {
   certificate = _;
   looked = looked_same g.F.Store.Store.held g.F.Store.Store.honest (g.F.DiskFiles.answers c.args.files.now) c.args.words.now.disk.now c.in-Ok.looked.told c.in-Ok.looked.found c.in-Ok.looked.store _ c.in-Ok.looked.lost.items
       c.in-Ok-guarded.disk.lost.items (ap (λ v. v.items) c.in-Ok-guarded.ensures.lost) c.in-Ok.ensures.ok;
-  of = subst (λ d. IsDiskOf g.F.Store.Store.held g.F.Store.Store.honest g.F.Syncs.Syncs.marked c.args.words.now.read_only c.in-Ok.looked.told c.in-Ok.looked.found c.in-Ok.looked.store d c.in-Ok-keep_mark_of.syncs)
+  of = subst (λ d. IsDiskOf g.F.Store.Store.held g.F.Store.Store.honest g.F.Syncs.Syncs.marked c.args.words.now.read_only c.args.words.now.sync_always c.in-Ok.looked.told c.in-Ok.looked.found c.in-Ok.looked.store d c.in-Ok-keep_mark_of.syncs)
       (sym c.in-Ok-guarded.ensures.sectors) (record {
         held_array = c.in-Ok-disk_of.ensures.honest;
         bytes = c.in-Ok-disk_of.ensures.bytes;
+        syncs_when = c.in-Ok-disk_of.ensures.syncs;
         keeps = λ writes marked. c.in-Ok-keep_mark_of.ensures.marked writes marked ∙ ap (λ n. after_sync n false c.in-Ok.looked.found.mark) c.next_sequence-next.ensures;
       });
   mended_is = c.mended-mended.ensures;
