@@ -304,14 +304,14 @@ def array_of(image, last=None, damaged=False):
 
 
 def map_of(image, last=None, damaged=False):
-    """The map of the array: the areas of OUT whose sectors are shown alike."""
+    """The map of the array: the areas of OUT whose sectors are marked alike."""
     g, position = image.g, 0
     signs = {"found": "+", "tied": "-", "damaged": "-", "absent": "?"}
     text = "# Mapfile of an array, made by nandlab\n0x0 + 1\n"
     shown, counts = damaged_rows(image, last) if damaged else {}, as_of(image, last)
-    for state, area in itertools.groupby("damaged" if n in shown else key_state(counts, "sector", n) for n in range(g.sectors)):
+    for sign, area in itertools.groupby(signs["damaged" if n in shown else key_state(counts, "sector", n)] for n in range(g.sectors)):
         size = g.data * len(list(area))
-        text += f"{position:#x} {size:#x} {signs[state]}\n"
+        text += f"{position:#x} {size:#x} {sign}\n"
         position += size
     assert position == g.sectors * g.data
     return text
