@@ -20,6 +20,10 @@ abbrev pub failed_of : {S F : Type 0} → (S → ℕ) → MaybeCoded S F → ℕ
 failed_of plain (Plain s) = plain s
 failed_of plain (Coded s) = s.rows.failures
 
+abbrev pub full_of : {S F : Type 0} → (S → Bool) → MaybeCoded S F → Bool
+full_of plain (Plain s) = plain s
+full_of plain (Coded s) = s.rows.full
+
 -- what was wrong with its pages as each was last read, where they have codes
 abbrev pub mended_in : {S F : Type 0} → MaybeCoded S F → Mended
 mended_in (Plain s) = nothing_wrong

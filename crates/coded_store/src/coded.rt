@@ -4,6 +4,7 @@ ghost use Rattle.page_layout.specs.Counter.{HasRisen};
 ghost use Rattle.page_layout.specs.Geometry.{row_count, page_bytes};
 ghost use Rattle.onfi_cycles.specs.Cycles.{page_of};
 ghost use Rattle.page_code.specs.Layout.{coded};
+ghost use Rattle.file_die.specs.Rows.{TellsFull};
 ghost use Rattle.file_die.specs.Store.{Loads, Puts, Clears, Syncs, page_in};
 ghost use Rattle.coded_store.specs.Reading.{coded_bytes, shown_by, wrong_with};
 ghost use Rattle.coded_store.specs.Coded.{none_read, turned_of, mended_of, reading, standing, is_honest, ShowsRow};
@@ -135,6 +136,13 @@ impl<F: ByteFile> CodedStore<F> {
         tally(&self.wrong)
     }
 
+    /// Whether its last call was a change that failed for want of room in the file, where no sync has failed.
+    pub fn lacks_room(&self) -> bool
+        ensures { result ≡ self.now.rows.full }
+    {
+        self.rows.is_full()
+    }
+
     /// Why the first call failed that did. `None` just where none has.
     pub fn first_fault(&self) -> Option<ByteFault>
         ensures fault { result ≡ self.now.rows.fault }
@@ -176,6 +184,7 @@ impl<F: ByteFile> Store for CodedStore<F> {
         ensures failed { self.old.rows.failures ≤ self.new.rows.failures }
         ensures settled { OnOk result (self.new.rows.failures ≡ self.old.rows.failures) }
         ensures rose { OnErr result (HasRisen self.old.rows.failures self.new.rows.failures) }
+        ensures unfilled { self.new.rows.full ≡ false }
 
         // Whatever the file does, honest or not: of just the bytes that its reads gave, one behind the other from the row's first on, the page is shown, and
         // what is wrong with them is remembered of the row, and of no other. A load that fails changes nothing of that.
@@ -206,6 +215,10 @@ impl<F: ByteFile> Store for CodedStore<F> {
         // It stands there with its codes. What was wrong as rows were last read stays.
         ensures stands { OnOk result (F.honest self.old.rows.file ≡ true → standing F.held self.new ≡ slice_set (standing F.held self.old) row (coded self.old.rows.geometry (page_of self.old.rows.geometry page.now))) }
         ensures untold { self.new.wrong ≡ self.old.wrong }
+
+        // Whatever the file does: it is full just where the file's last answer was that.
+        ensures room { OnOk result (self.new.rows.full ≡ false) }
+        ensures full { OnErr result (TellsFull F.wrote self.old.rows.sync_failed self.old.rows.file self.new.rows.full self.new.rows.file) }
     {
         spell(&self.rows.geometry(), page, &mut self.stands);
         self.rows.write(row, &self.stands)
@@ -223,6 +236,10 @@ impl<F: ByteFile> Store for CodedStore<F> {
         ensures settled { OnOk result (self.new.rows.failures ≡ self.old.rows.failures) }
         ensures rose { OnErr result (HasRisen self.old.rows.failures self.new.rows.failures) }
         ensures untold { self.new.wrong ≡ self.old.wrong }
+
+        // Whatever the file does: it is full just where the file's last answer was that.
+        ensures room { OnOk result (self.new.rows.full ≡ false) }
+        ensures full { OnErr result (TellsFull F.wrote self.old.rows.sync_failed self.old.rows.file self.new.rows.full self.new.rows.file) }
     {
         self.rows.erase(block)
     }
@@ -235,6 +252,7 @@ impl<F: ByteFile> Store for CodedStore<F> {
         ensures failed { self.old.rows.failures ≤ self.new.rows.failures }
         ensures settled { OnOk result (self.new.rows.failures ≡ self.old.rows.failures) }
         ensures rose { OnErr result (HasRisen self.old.rows.failures self.new.rows.failures) }
+        ensures unfilled { self.new.rows.full ≡ false }
         ensures untold { self.new.wrong ≡ self.old.wrong }
 
         // After one that failed none is asked for.

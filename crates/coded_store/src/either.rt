@@ -3,7 +3,7 @@ ghost use Rattle.std.specs.Prelude.{◌≡◌};
 ghost use Rattle.coded_store.specs.Coded.{nothing_wrong};
 
 use crate::coded::{CodedStore, Mended};
-use file_die::{ByteFile, FileStore, MemoryStore, Store, StoreFault};
+use file_die::{ByteFile, FileStore, MemoryStore, Store, StoreFault, TellsFull};
 use page_layout::geometry::Geometry;
 
 // Nothing.
@@ -122,6 +122,27 @@ impl<S: Store + Drop, F: ByteFile + Drop> TellsMended for MaybeCoded<S, F> {
         match self {
             MaybeCoded::Plain(_) => none_mended(),
             MaybeCoded::Coded(store) => store.mended_so_far(),
+        }
+    }
+}
+
+impl<F: ByteFile> TellsFull for CodedStore<F> {
+    ghost full = { λ s. s.rows.full };
+
+    fn is_full(&self) -> bool {
+        self.lacks_room()
+    }
+}
+
+impl<S: Store + TellsFull + Drop, F: ByteFile + Drop> TellsFull for MaybeCoded<S, F> {
+    ghost use Rattle.coded_store.specs.Either.{full_of};
+
+    ghost full = { full_of S.full };
+
+    fn is_full(&self) -> bool {
+        match self {
+            MaybeCoded::Plain(store) => store.is_full(),
+            MaybeCoded::Coded(store) => store.is_full(),
         }
     }
 }

@@ -3,16 +3,12 @@ use Rattle.std.proofs.Common.{◌≡◌, ◌⊎◌, inl, inr, ℕ, Bool, true, f
 use Rattle.std.specs.Borrow.{Bor}
 use Rattle.std.specs.Io.KnownBytes.{Keeps}
 use Rattle.request_stream.specs.declared.reply.ServeFault.{ServeFault}
-use Rattle.onfi_cycles.specs.Driver.{DriverState}
 use Rattle.file_die.specs.Store.{Held}
-use Rattle.file_die.specs.Die.{FileState}
 use Rattle.coded_store.specs.declared.coded.Mended.{Mended}
-use Rattle.ftl_device.specs.declared.device.Device.{Device}
 use Rattle.disk_server.specs.declared.guarded.GuardedSectors.{GuardedSectors}
 use Rattle.disk_server.specs.declared.mark.Mark.{Mark}
-use Rattle.disk_server.specs.Disk.{holds, takes_changes}
+use Rattle.disk_server.specs.Reopened.{Reopened, holds_in, next_in, takes_in}
 use Rattle.disk_server.specs.Guarded.{PassesOn, ReadsGuarded}
-use Rattle.disk_server.specs.Opened.{is_honest_in}
 use Rattle.nbd_stream.specs.declared.fault.DiskFault.{DiskFault as NbdFault}
 use Rattle.nbd_stream.specs.declared.request.End.{End}
 use Rattle.nbd_stream.specs.declared.task.Task.{Task}
@@ -63,14 +59,14 @@ pub limited : {D : Type 0} (contents : D → Contents) (honest calm : D → Bool
 limited contents honest calm does rests e room most first last unread left before after result is = subst (λ n. Serves contents honest calm does rests e n first last unread left before after result) is
 
 -- it was served, or memory for its requests was refused
-pub served_at : {S Y K : Type 0} (held : S → Held) (honest : S → Bool) (mended_in : S → Mended) (failed : S → ℕ) (synced missed : Y → ℕ) (marked : Y → Mark) (kept : K → List Bool) (unlisted : K → ℕ) (a : Answers) (words : ServeWords) (told : DiskText) (mended : Mended)
-    (disk : GuardedSectors (Device (DriverState (FileState S))) K) (syncs : Y) (terms : Terms) (unread left before after telling told_after : Option (List ℕ)) (result : Result (Unit {0}) DiskFault)
-    → IsReadyAt held honest mended_in marked kept a words.disk.now words.read_only told mended disk syncs → NamesAll disk.lost.items told.shape.code mended telling told_after → terms ≡ terms_of told words.read_only
-    → HasServedOn (shown_in held honest) (λ d. holds (is_honest_in honest) d.sectors) (does_in held honest) (PassesOn (rests_in held honest)) (ReadsGuarded (reads_in held honest))
-    (λ d. d.sectors.engine.next) (λ d. takes_changes d.sectors) synced missed marked terms words.disk disk syncs unread left before after result
+pub served_at : {S Y K : Type 0} (held : S → Held) (honest full : S → Bool) (mended_in : S → Mended) (failed : S → ℕ) (synced missed : Y → ℕ) (marked : Y → Mark) (kept : K → List Bool) (unlisted : K → ℕ) (a : Answers) (words : ServeWords) (told : DiskText) (mended : Mended)
+    (disk : GuardedSectors (Reopened S) K) (syncs : Y) (terms : Terms) (unread left before after telling told_after : Option (List ℕ)) (result : Result (Unit {0}) DiskFault)
+    → IsReadyAt held honest mended_in marked kept a words.disk.now words.read_only words.sync_always told mended disk syncs → NamesAll disk.lost.items told.shape.code mended telling told_after → terms ≡ terms_of told words.read_only
+    → HasServedOn (shown_in held honest) (λ d. holds_in honest d.sectors) (does_in held honest full failed) (PassesOn (rests_in held honest full failed)) (ReadsGuarded (reads_in held honest))
+    (λ d. next_in d.sectors) (λ d. takes_in d.sectors) synced missed marked terms words.disk disk syncs unread left before after result
     ⊎ ((result ≡ Err fault.OutOfMemory) × Keeps before after)
-    → HasServedAt held honest mended_in synced missed marked kept a words unread left before after telling told_after result ⊎ HasNotServed held honest failed missed kept unlisted a words before after telling told_after result
-served_at held honest mended_in failed synced missed marked kept unlisted a words told mended disk syncs terms unread left before after telling told_after result at named is (inl h) =
+    → HasServedAt held honest full mended_in failed synced missed marked kept a words unread left before after telling told_after result ⊎ HasNotServed held honest failed missed kept unlisted a words before after telling told_after result
+served_at held honest full mended_in failed synced missed marked kept unlisted a words told mended disk syncs terms unread left before after telling told_after result at named is (inl h) =
     inl (record {
       told = told;
       disk = disk;
@@ -78,8 +74,8 @@ served_at held honest mended_in failed synced missed marked kept unlisted a word
       mended = mended;
       at = at;
       named = named;
-      served = subst (λ t. HasServedOn (shown_in held honest) (λ d. holds (is_honest_in honest) d.sectors) (does_in held honest) (PassesOn (rests_in held honest)) (ReadsGuarded (reads_in held honest))
-          (λ d. d.sectors.engine.next) (λ d. takes_changes d.sectors) synced missed marked t words.disk disk syncs unread left before after result) is h;
+      served = subst (λ t. HasServedOn (shown_in held honest) (λ d. holds_in honest d.sectors) (does_in held honest full failed) (PassesOn (rests_in held honest full failed)) (ReadsGuarded (reads_in held honest))
+          (λ d. next_in d.sectors) (λ d. takes_in d.sectors) synced missed marked t words.disk disk syncs unread left before after result) is h;
     })
-served_at held honest mended_in failed synced missed marked kept unlisted a words told mended disk syncs terms unread left before after telling told_after result at named is (inr h) =
+served_at held honest full mended_in failed synced missed marked kept unlisted a words told mended disk syncs terms unread left before after telling told_after result at named is (inr h) =
     inr (record { told = fault.OutOfMemory; is = h.0; why = inr (inr (inr tt)); silent = h.1; unnamed = inr tt })

@@ -25,5 +25,7 @@ pub mod Damage
 pub mod Check
 -- the lost sectors of a disk that is to be served
 pub mod Guard
+-- how its device is opened anew
+pub mod Anew
 -- and one that is ready
 pub mod Ready

@@ -50,17 +50,17 @@ Checks held honest failed a words old new (Ok done) = HasChecked held honest a w
 Checks held honest failed a words old new (Err told) = IsUnclean held honest failed a words old.out new.out told
 
 -- WHAT THE WORDS ASK FOR WAS DONE, or not for the reason that is answered. Of what it does not name nothing changes
-abbrev pub DoesAsked : {S Y K : Type 0} → (S → Held) → (honest : S → Bool) → (mended : S → Mended) → (failed : S → ℕ) → (synced missed : Y → ℕ) → (marked : Y → Mark) → (kept : K → List Bool) → (unlisted : K → ℕ) → Answers → DiskWords → (old new : Around)
+abbrev pub DoesAsked : {S Y K : Type 0} → (S → Held) → (honest full : S → Bool) → (mended : S → Mended) → (failed : S → ℕ) → (synced missed : Y → ℕ) → (marked : Y → Mark) → (kept : K → List Bool) → (unlisted : K → ℕ) → Answers → DiskWords → (old new : Around)
     → Result (Unit {0}) DiskFault → Type 0
-DoesAsked held honest mended failed synced missed marked kept unlisted a (asked.Create words) old new result = Creates held honest failed a words old new result × (new.out ≡ old.out) × (new.input ≡ old.input) × (new.opened ≡ old.opened) × (new.err ≡ old.err)
-DoesAsked held honest mended failed synced missed marked kept unlisted a (asked.Serve words) old new result =
-    (HasServedAt held honest mended synced missed marked kept a words old.input new.input old.out new.out old.err new.err result ⊎ HasNotServed held honest failed missed kept unlisted a words old.out new.out old.err new.err result) × (new.kept ≡ old.kept)
+DoesAsked held honest full mended failed synced missed marked kept unlisted a (asked.Create words) old new result = Creates held honest failed a words old new result × (new.out ≡ old.out) × (new.input ≡ old.input) × (new.opened ≡ old.opened) × (new.err ≡ old.err)
+DoesAsked held honest full mended failed synced missed marked kept unlisted a (asked.Serve words) old new result =
+    (HasServedAt held honest full mended failed synced missed marked kept a words old.input new.input old.out new.out old.err new.err result ⊎ HasNotServed held honest failed missed kept unlisted a words old.out new.out old.err new.err result) × (new.kept ≡ old.kept)
     × OpensMarked words.disk.now (access_of words) old.opened new.opened
-DoesAsked held honest mended failed synced missed marked kept unlisted a (asked.Info words) old new result = Tells held honest mended failed a words old new result × (new.kept ≡ old.kept) × (new.input ≡ old.input)
+DoesAsked held honest full mended failed synced missed marked kept unlisted a (asked.Info words) old new result = Tells held honest mended failed a words old new result × (new.kept ≡ old.kept) × (new.input ≡ old.input)
     × Opens words.disk.now to_look old.opened new.opened × (new.err ≡ old.err)
-DoesAsked held honest mended failed synced missed marked kept unlisted a (asked.Check words) old new result = Checks held honest failed a words old new result × (new.kept ≡ old.kept) × (new.input ≡ old.input)
+DoesAsked held honest full mended failed synced missed marked kept unlisted a (asked.Check words) old new result = Checks held honest failed a words old new result × (new.kept ≡ old.kept) × (new.input ≡ old.input)
     × Opens words.disk.now to_look old.opened new.opened × (new.err ≡ old.err)
-DoesAsked held honest mended failed synced missed marked kept unlisted a (asked.Text text) old new result = Prints (string_bytes text) old new result × (new.kept ≡ old.kept) × (new.input ≡ old.input) × (new.opened ≡ old.opened) × (new.err ≡ old.err)
+DoesAsked held honest full mended failed synced missed marked kept unlisted a (asked.Text text) old new result = Prints (string_bytes text) old new result × (new.kept ≡ old.kept) × (new.input ≡ old.input) × (new.opened ≡ old.opened) × (new.err ≡ old.err)
 
 -- THE WORDS ARE NO COMMAND, or memory for them was refused: nothing was done
 pub record AsksNothing (words : List (List ℕ)) (old new : Around) (result : Result (Unit {0}) DiskFault) : Type 0 where
@@ -71,11 +71,11 @@ pub record AsksNothing (words : List (List ℕ)) (old new : Around) (result : Re
 
 -- ---- all of it
 
-abbrev pub Obeys : {S Y K : Type 0} → (S → Held) → (honest : S → Bool) → (mended : S → Mended) → (failed : S → ℕ) → (synced missed : Y → ℕ) → (marked : Y → Mark) → (kept : K → List Bool) → (unlisted : K → ℕ) → Answers → (words : List (List ℕ)) → (old new : Around)
+abbrev pub Obeys : {S Y K : Type 0} → (S → Held) → (honest full : S → Bool) → (mended : S → Mended) → (failed : S → ℕ) → (synced missed : Y → ℕ) → (marked : Y → Mark) → (kept : K → List Bool) → (unlisted : K → ℕ) → Answers → (words : List (List ℕ)) → (old new : Around)
     → Result (Unit {0}) DiskFault → Type 0
-Obeys held honest mended failed synced missed marked kept unlisted a words old new result =
+Obeys held honest full mended failed synced missed marked kept unlisted a words old new result =
     AsksNothing words old new result
-    ⊎ ((found : DiskWords) × IsAsked words found × DoesAsked held honest mended failed synced missed marked kept unlisted a found old new result)
+    ⊎ ((found : DiskWords) × IsAsked words found × DoesAsked held honest full mended failed synced missed marked kept unlisted a found old new result)
 
 -- status 0 where it was done, with no more on standard error; else the fault's line there, and its status
 abbrev pub IsAnswered : Result (Unit {0}) DiskFault → (told telling : Option (List ℕ)) → (status : ℕ) → Type 0
@@ -87,9 +87,9 @@ abbrev pub with_err : Around → Option (List ℕ) → Around
 with_err around told = record around { err = told }
 
 -- the command leaves all so, but for the fault's line
-pub record Runs {S Y K : Type 0} (held : S → Held) (honest : S → Bool) (mended : S → Mended) (failed : S → ℕ) (synced missed : Y → ℕ) (marked : Y → Mark) (kept : K → List Bool) (unlisted : K → ℕ) (a : Answers) (words : List (List ℕ))
+pub record Runs {S Y K : Type 0} (held : S → Held) (honest full : S → Bool) (mended : S → Mended) (failed : S → ℕ) (synced missed : Y → ℕ) (marked : Y → Mark) (kept : K → List Bool) (unlisted : K → ℕ) (a : Answers) (words : List (List ℕ))
     (old new : Around) (status : ℕ) : Type 0 where
   pub result : Result (Unit {0}) DiskFault
   pub told : Option (List ℕ)
-  pub obeys : Obeys held honest mended failed synced missed marked kept unlisted a words old (with_err new told) result
+  pub obeys : Obeys held honest full mended failed synced missed marked kept unlisted a words old (with_err new told) result
   pub answered : IsAnswered result told new.err status

@@ -1,5 +1,5 @@
 -- A DISK THAT IS READY TO BE SERVED.
-use Rattle.std.specs.Prelude.{◌≡◌, ◌⊎◌, ℕ, Bool, true, false, not, List, [], Option}
+use Rattle.std.specs.Prelude.{◌≡◌, ◌⊎◌, ℕ, Bool, true, false, not, List, [], Option, Some}
 use Rattle.onfi_cycles.specs.Driver.{DriverState}
 use Rattle.certificate.specs.Claim.{Claim}
 use Rattle.file_die.specs.Store.{Held}
@@ -14,7 +14,8 @@ use Rattle.disk_server.specs.declared.guarded.GuardedSectors.{GuardedSectors}
 use Rattle.disk_server.specs.declared.mark.Mark.{Mark}
 use Rattle.disk_server.specs.declared.opened.OpenStoreFault.{OpenStoreFault}
 use Rattle.disk_server.specs.Disk.{contents_of, holds}
-use Rattle.disk_server.specs.Opened.{bytes_of, flash_in, is_honest_in}
+use Rattle.disk_server.specs.Reopened.{Reopened}
+use Rattle.disk_server.specs.Opened.{SyncsWhen, bytes_of, flash_in, is_honest_in}
 use Rattle.disk_server.specs.Stopped.{IsUnopenedLater}
 use Rattle.disk_server.specs.Synced.{after_sync}
 use Rattle.disk_commands.specs.declared.files.Access.{Access}
@@ -23,6 +24,7 @@ use Rattle.disk_commands.specs.declared.shape_text.DiskText.{DiskText}
 use Rattle.disk_commands.specs.declared.text.DiskFault.{DiskFault}
 use Rattle.disk_commands.specs.declared.words.ServeWords.{ServeWords}
 use Rattle.disk_commands.specs.declared.text.DiskFault.TheVariants as fault
+use Rattle.disk_commands.specs.Anew.{most_stale}
 use Rattle.disk_commands.specs.Damage.{IsLookedAt, IsUnlookedAt}
 use Rattle.disk_commands.specs.Files.{Answers, Opened, with_mark}
 use Rattle.disk_commands.specs.Guard.{IsUnlistedAt}
@@ -47,11 +49,12 @@ abbrev pub HoldsPages : (read_only : Bool) → (mark : ℕ) → (honest : Type 0
 HoldsPages true mark honest s bytes = honest → bytes ≡ bytes_of s
 HoldsPages false mark honest s bytes = honest → HoldsRecovered mark s bytes
 
--- THE DISK OF A STORE: of one that is honest it holds its array. Where it is to be written and a mark counts, that is kept from then on, and all that the disk had programmed was synced
-pub record IsDiskOf {S Y : Type 0} (held : S → Held) (honest : S → Bool) (marked : Y → Mark) (read_only : Bool) (told : DiskText) (found : FoundMark) (store : S)
+-- THE DISK OF A STORE: of one that is honest it holds its array. Its die syncs the store as was asked. Where it is to be written and a mark counts, that is kept from then on, and all that the disk had programmed was synced
+pub record IsDiskOf {S Y : Type 0} (held : S → Held) (honest : S → Bool) (marked : Y → Mark) (read_only always : Bool) (told : DiskText) (found : FoundMark) (store : S)
     (d : Device (DriverState (FileState S))) (syncs : Y) : Type 0 where
   pub held_array : honest store ≡ true → holds (is_honest_in honest) d ≡ true
   pub bytes : HoldsPages read_only found.mark.synced (honest store ≡ true) (held store) (contents_of (flash_in held) (is_honest_in honest) d).bytes
+  pub syncs_when : SyncsWhen (sync_when always) d.engine.nand
   pub keeps : read_only ≡ false → told.marked ≡ true → marked syncs ≡ after_sync d.engine.next false found.mark
 
 -- why there is none: by whether it was only to be read
@@ -85,14 +88,19 @@ MarksBy false path before after = after ≡ before
 -- ---- the disk at a path
 
 -- THE DISK AT A PATH, whose lost sectors are guarded: those of the list beside it and of the pages of its store, as it was looked at; that store tells what was wrong with its pages. Where it is to be written, and any is lost, their list lasts;
--- else none was kept, for at the place of the list none was before
-pub record IsReadyAt {S Y K : Type 0} (held : S → Held) (honest : S → Bool) (mended_in : S → Mended) (marked : Y → Mark) (kept : K → List Bool) (a : Answers) (path : List ℕ) (read_only : Bool) (told : DiskText) (mended : Mended)
-    (disk : GuardedSectors (Device (DriverState (FileState S))) K) (syncs : Y) : Type 0 where
+-- else none was kept, for at the place of the list none was before. The device of the store is there, and is opened anew with a cache that has room for all that may be stale
+pub record IsReadyAt {S Y K : Type 0} (held : S → Held) (honest : S → Bool) (mended_in : S → Mended) (marked : Y → Mark) (kept : K → List Bool) (a : Answers) (path : List ℕ) (read_only always : Bool) (told : DiskText) (mended : Mended)
+    (disk : GuardedSectors (Reopened S) K) (syncs : Y) : Type 0 where
   pub found : FoundMark
   pub store : S
   pub certificate : Claim
   pub looked : IsLookedAt held honest a path told found store certificate disk.lost.items
-  pub of : IsDiskOf held honest marked read_only told found store disk.sectors syncs
+  pub device : Device (DriverState (FileState S))
+  pub device_is : disk.sectors.device ≡ Some device
+  pub not_reopened : disk.sectors.reopened ≡ false
+  pub room : disk.sectors.capacity ≡ most_stale told.shape
+  pub again : disk.sectors.sync_when ≡ sync_when always
+  pub of : IsDiskOf held honest marked read_only always told found store device syncs
   pub mended_is : mended ≡ mended_in store
   pub none_failed : disk.failed ≡ false
   pub place : K

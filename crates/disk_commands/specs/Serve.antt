@@ -3,15 +3,13 @@ use Rattle.std.specs.Prelude.{◌≡◌, ℕ, ◌+◌, ◌-◌, ◌*◌, ◌/◌
 use Rattle.std.specs.Borrow.{Bor}
 use Rattle.std.specs.Io.KnownBytes.{Keeps}
 use Rattle.page_layout.specs.declared.geometry.Geometry.{Geometry}
-use Rattle.onfi_cycles.specs.Driver.{DriverState}
 use Rattle.request_stream.specs.declared.reply.ServeFault.{ServeFault}
 use Rattle.file_die.specs.Store.{Held}
 use Rattle.coded_store.specs.declared.coded.Mended.{Mended}
-use Rattle.file_die.specs.Die.{FileState}
-use Rattle.ftl_device.specs.declared.device.Device.{Device}
 use Rattle.disk_server.specs.Asked.{AsksSectors}
-use Rattle.disk_server.specs.Disk.{AsksFlush, AsksTurn, contents_of, holds, takes_changes}
+use Rattle.disk_server.specs.Reopened.{Reopened, AsksDevice, ReadsDevice, contents_in, flushes_of, holds_in, next_in, reads_of, rests_of, takes_in}
 use Rattle.nbd_stream.specs.declared.fault.DiskFault.{DiskFault as NbdFault}
+use Rattle.nbd_stream.specs.declared.fault.DiskFault.TheVariants as nbd
 use Rattle.nbd_stream.specs.declared.request.End.{End}
 use Rattle.nbd_stream.specs.declared.request.End.TheVariants as end
 use Rattle.nbd_stream.specs.declared.task.Task.{Task}
@@ -23,12 +21,10 @@ use Rattle.disk_commands.specs.declared.shapes.Shape.{Shape}
 use Rattle.disk_commands.specs.declared.words.ServeWords.{ServeWords}
 use Rattle.disk_server.specs.declared.served.Offer.{Offer}
 use Rattle.disk_server.specs.declared.synced.SyncedDisk.{SyncedDisk}
-use Rattle.disk_server.specs.Opened.{flash_in, is_honest_in}
 use Rattle.disk_server.specs.declared.synced.SyncPace.{SyncPace}
 use Rattle.disk_server.specs.declared.mark.Mark.{Mark}
 use Rattle.disk_server.specs.Synced.{Closes, RestsSynced, SyncsTask, export_of}
 use Rattle.disk_server.specs.Reading.{OnlyAsksReads, RestsNever}
-use Rattle.page_layout.specs.OnlyReads.{OnlyReads}
 use Rattle.nbd_stream.specs.Through.{Through}
 use Rattle.disk_commands.specs.declared.text.DiskFault.{DiskFault}
 use Rattle.disk_commands.specs.declared.text.DiskFault.TheVariants as fault
@@ -47,11 +43,11 @@ abbrev pub offer_of : Geometry → (read_only : Bool) → Offer
 offer_of g read_only = record { read_only = read_only; preferred = if nat_le 512 g.data_bytes then g.data_bytes else 4096; maximum = 1048576 }
 
 -- WHAT MAY BE CHANGED BETWEEN TWO SYNCS of the file. Where the host loses power no more is stale then than was at the sync and was changed since: all of it has room in
--- some cache of 65536 entries, beside what the disk's own cache has not written back, the copies of two blocks, and what one request changes
+-- some cache of 65536 entries, beside what the disk's cache has not written back, the copies of two blocks, those of two that it has more room for where it was opened anew, and what one request changes
 abbrev pub pace_of : Shape → SyncPace
 pace_of s = record {
   piece = s.geometry.data_bytes;
-  most = if nat_le s.geometry.sectors 65536 then 2 ^ 64 - 1 else 65536 - (s.cache + (s.geometry.pages * 2 + (1048576 / s.geometry.data_bytes + 1)));
+  most = if nat_le s.geometry.sectors 65536 then 2 ^ 64 - 1 else 65536 - (s.cache + (s.geometry.pages * 4 + (1048576 / s.geometry.data_bytes + 1)));
 }
 
 -- by what is told beside it: whether a mark of it counts is told there
@@ -126,39 +122,38 @@ HasServedOn contents honest does rests reads next takes synced failed marked ter
 -- ---- the disk
 
 -- what a rest of such a disk is
-abbrev pub rests_in : {S : Type 0} → (S → Held) → (honest : S → Bool) → Device (DriverState (FileState S)) → Result (Unit {0}) NbdFault → Device (DriverState (FileState S)) → Type 0
-rests_in held honest = AsksTurn (flash_in held) (λ d. None) (is_honest_in honest) (λ d. false) (λ d. d.erases) (λ d. d.failures)
+abbrev pub rests_in : {S : Type 0} → (S → Held) → (honest full : S → Bool) → (failed : S → ℕ) → Reopened S → Result (Unit {0}) NbdFault → Reopened S → Type 0
+rests_in held honest full failed = AsksDevice held honest full failed (rests_of held honest) nbd.Failed
 
 -- what a read of it leaves: its die is asked for reads, and programs and erases nothing
-abbrev pub reads_in : {S : Type 0} → (S → Held) → (honest : S → Bool) → Device (DriverState (FileState S)) → Device (DriverState (FileState S)) → Type 0
-reads_in held honest old new = OnlyReads (flash_in held) (is_honest_in honest) (λ d. false) (λ d. d.programs) (λ d. d.erases) (λ d. d.failures) old.engine.nand new.engine.nand
+abbrev pub reads_in : {S : Type 0} → (S → Held) → (honest : S → Bool) → Reopened S → Reopened S → Type 0
+reads_in held honest = ReadsDevice (reads_of held honest)
 
 -- what a flush of it is
-abbrev pub flushes_in : {S : Type 0} → (S → Held) → (honest : S → Bool) → Device (DriverState (FileState S)) → Result (Unit {0}) NbdFault → Device (DriverState (FileState S)) → Type 0
-flushes_in held honest = AsksFlush (flash_in held) (λ d. None) (is_honest_in honest) (λ d. false) (λ d. d.failures)
+abbrev pub flushes_in : {S : Type 0} → (S → Held) → (honest full : S → Bool) → (failed : S → ℕ) → Reopened S → Result (Unit {0}) NbdFault → Reopened S → Type 0
+flushes_in held honest full failed = AsksDevice held honest full failed (flushes_of held honest) nbd.Failed
 
 -- what it shows, once its lost sectors are guarded, and what a task asks of it
-abbrev pub shown_in : {S K : Type 0} → (S → Held) → (honest : S → Bool) → GuardedSectors (Device (DriverState (FileState S))) K → Contents
-shown_in held honest = shown (contents_of (flash_in held) (is_honest_in honest)) (λ d. d.engine.geometry.data_bytes)
+abbrev pub shown_in : {S K : Type 0} → (S → Held) → (honest : S → Bool) → GuardedSectors (Reopened S) K → Contents
+shown_in held honest = shown (contents_in held honest) (λ d. d.size)
 
-abbrev pub does_in : {S K : Type 0} → (S → Held) → (honest : S → Bool) → GuardedSectors (Device (DriverState (FileState S))) K → Task → Result (Unit {0}) NbdFault
-    → GuardedSectors (Device (DriverState (FileState S))) K → Type 0
-does_in held honest = AsksSectors (shown_in held honest) (λ d. holds (is_honest_in honest) d.sectors) (ReadsGuarded (reads_in held honest)) (PassesOn (flushes_in held honest))
+abbrev pub does_in : {S K : Type 0} → (S → Held) → (honest full : S → Bool) → (failed : S → ℕ) → GuardedSectors (Reopened S) K → Task → Result (Unit {0}) NbdFault → GuardedSectors (Reopened S) K → Type 0
+does_in held honest full failed = AsksSectors (shown_in held honest) (λ d. holds_in honest d.sectors) (ReadsGuarded (reads_in held honest)) (PassesOn (flushes_in held honest full failed))
 
 -- ---- the command
 
 -- IT SERVED: the disk at the path was opened, its lost sectors were named and guarded, what was wrong with its pages was told, and it was served. No byte of a lost sector is one of its array: so a read of one is not answered without an error until it was
 -- written or trimmed (`guard_laws`)
-pub record HasServedAt {S Y K : Type 0} (held : S → Held) (honest : S → Bool) (mended_in : S → Mended) (synced missed : Y → ℕ) (marked : Y → Mark) (kept : K → List Bool) (a : Answers) (words : ServeWords)
+pub record HasServedAt {S Y K : Type 0} (held : S → Held) (honest full : S → Bool) (mended_in : S → Mended) (failed : S → ℕ) (synced missed : Y → ℕ) (marked : Y → Mark) (kept : K → List Bool) (a : Answers) (words : ServeWords)
     (unread left before after telling told_after : Option (List ℕ)) (result : Result (Unit {0}) DiskFault) : Type 0 where
   pub told : DiskText
-  pub disk : GuardedSectors (Device (DriverState (FileState S))) K
+  pub disk : GuardedSectors (Reopened S) K
   pub syncs : Y
   pub mended : Mended
-  pub at : IsReadyAt held honest mended_in marked kept a words.disk.now words.read_only told mended disk syncs
+  pub at : IsReadyAt held honest mended_in marked kept a words.disk.now words.read_only words.sync_always told mended disk syncs
   pub named : NamesAll disk.lost.items told.shape.code mended telling told_after
-  pub served : HasServedOn (shown_in held honest) (λ d. holds (is_honest_in honest) d.sectors) (does_in held honest) (PassesOn (rests_in held honest)) (ReadsGuarded (reads_in held honest))
-      (λ d. d.sectors.engine.next) (λ d. takes_changes d.sectors) synced missed marked (terms_of told words.read_only) words.disk disk syncs unread left before after result
+  pub served : HasServedOn (shown_in held honest) (λ d. holds_in honest d.sectors) (does_in held honest full failed) (PassesOn (rests_in held honest full failed)) (ReadsGuarded (reads_in held honest))
+      (λ d. next_in d.sectors) (λ d. takes_in d.sectors) synced missed marked (terms_of told words.read_only) words.disk disk syncs unread left before after result
 
 -- or it did not, and nothing was sent: the disk was not ready. Lost sectors may have been named where that is told, or where a growth was refused
 pub record HasNotServed {S Y K : Type 0} (held : S → Held) (honest : S → Bool) (failed : S → ℕ) (missed : Y → ℕ) (kept : K → List Bool) (unlisted : K → ℕ) (a : Answers) (words : ServeWords) (before after telling told_after : Option (List ℕ))

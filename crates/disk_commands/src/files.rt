@@ -6,7 +6,7 @@ use crate::mark::FoundMark;
 use crate::shapes::Shape;
 use coded_store::TellsMended;
 use disk_server::{KeepsLost, Syncs};
-use file_die::Store;
+use file_die::{Store, TellsFull};
 use std::alloc::Global;
 use thiserror::Error;
 
@@ -70,7 +70,7 @@ pub trait DiskFiles {
     type Locked: LockedDie + Drop;
 
     /// The pages of a die in a file that is locked.
-    type Store: Store + TellsMended + Drop;
+    type Store: Store + TellsFull + TellsMended + Drop;
 
     /// A second handle of such a file.
     type Syncs: Syncs + Drop;

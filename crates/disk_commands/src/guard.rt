@@ -30,23 +30,20 @@ pub(crate) fn keeper_at<'a, F: DiskFiles>(
     }
 }
 
-/// A disk whose lost sectors, those of a list, are not read until they are written.
+/// The disk of a device whose lost sectors, those of a list, are not read until they are written.
 pub(crate) fn guarded<'a, S: Lasting + Drop, K: KeepsLost + Drop>(
     alloc: Global,
-    disk: SectorDisk<S>,
+    sectors: S,
     keeper: K,
     lost: Vec<bool>,
 ) -> Result<SectorDisk<GuardedSectors<S, K>>, DiskFault<'a>>
-    ensures sectors { IfOk result (λ d. d.sectors ≡ disk) }
+    ensures sectors { IfOk result (λ d. d.sectors ≡ sectors) }
     ensures keeper { IfOk result (λ d. d.keeper ≡ keeper) }
     ensures lost { IfOk result (λ d. d.lost ≡ lost) }
     ensures failed { IfOk result (λ d. d.failed ≡ false) }
     ensures fault { IfErr result (λ e. e ≡ DiskFault.OutOfMemory) }
 {
-    match SectorDisk::new(
-        alloc,
-        GuardedSectors::new(disk.into_sectors(), keeper, lost),
-    ) {
+    match SectorDisk::new(alloc, GuardedSectors::new(sectors, keeper, lost)) {
         Ok(disk) => Ok(disk),
         Err(_) => Err(DiskFault::OutOfMemory),
     }

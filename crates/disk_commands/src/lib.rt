@@ -11,6 +11,7 @@
 //! All of it is this project's.
 #![tactic(auto)]
 
+mod anew;
 mod asked;
 mod check;
 mod create;

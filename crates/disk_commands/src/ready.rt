@@ -2,7 +2,7 @@
 ghost use Rattle.std.specs.Prelude.{◌≡◌, ◌⊎◌, false, not, true, IfErr, IfOk, OnOk};
 ghost use Rattle.image_check.specs.Agrees.{Agrees};
 ghost use Rattle.disk_server.specs.Disk.{contents_of, holds};
-ghost use Rattle.disk_server.specs.Opened.{flash_in, is_honest_in};
+ghost use Rattle.disk_server.specs.Opened.{SyncsWhen, flash_in, is_honest_in};
 ghost use Rattle.disk_server.specs.Synced.{after_sync};
 ghost use Rattle.disk_commands.specs.Damage.{NamesAll};
 ghost use Rattle.disk_commands.specs.Files.{OpensMarked, with_mark};
@@ -11,6 +11,7 @@ ghost use Rattle.disk_commands.specs.Ready.{HoldsPages, IsNoneOf, IsReadyAt, Kee
 ghost use Rattle.disk_commands.specs.ShapeText.{IsWithin};
 ghost use Rattle.disk_commands.specs.Told.{IsUnprinted};
 
+use crate::anew::reopening;
 use crate::damage::{Looked, look_at, name_lost, name_mended};
 use crate::files::{Access, DiskFiles};
 use crate::guard::{guarded, keeper_at};
@@ -24,15 +25,15 @@ use certificate::Certificate;
 use coded_store::{Mended, TellsMended};
 use disk_recovery::{list_first, recover_listed};
 use disk_server::{
-    DeviceDisk, GuardedSectors, KeepsLost, SectorDisk, Sequenced, StoreDisk, Syncs, open_stopped,
+    GuardedSectors, KeepsLost, ReopenedDevice, SectorDisk, Sequenced, StoreDisk, Syncs,
+    open_stopped,
 };
-use file_die::{FileDie, Store, SyncWhen};
-use onfi_cycles::Driver;
+use file_die::{Store, SyncWhen};
 use std::alloc::Global;
 use std::io::Write;
 
-/// The disk of a store, of which some sectors are lost.
-pub(crate) type GuardedDisk<S, K> = SectorDisk<GuardedSectors<DeviceDisk<Driver<FileDie<S>>>, K>>;
+/// The disk of a store, of which some sectors are lost, and which is opened anew where the store was full.
+pub(crate) type GuardedDisk<S, K> = SectorDisk<GuardedSectors<ReopenedDevice<S>, K>>;
 
 /// Such a disk, ready to be served: with a second handle of its file, what is told beside it, and what was wrong with its pages.
 pub(crate) type ReadyDisk<S, K, Y> = (GuardedDisk<S, K>, Y, DiskText, Mended);
@@ -71,6 +72,7 @@ fn disk_of<'a, S: Store + Drop, K: KeepsLost>(
 ) -> Result<StoreDisk<S>, DiskFault<'a>>
     requires within { IsWithin told.now.shape.cache }
     requires mounted { S.honest store ≡ true → Agrees (S.held store).geometry 65536 (S.held store).pages certificate.now }
+    ensures syncs { IfOk result (λ d. SyncsWhen (sync_when words.now.sync_always) d.engine.nand) }
     ensures honest { IfOk result (λ d. S.honest store ≡ true → holds (is_honest_in S.honest) d ≡ true) }
     ensures bytes { IfOk result (λ d. HoldsPages words.now.read_only found.mark.synced (S.honest store ≡ true) (S.held store) (contents_of (flash_in S.held) (is_honest_in S.honest) d).bytes) }
     ensures listed { OnOk result (KeepsBy words.now.read_only K.kept lost.now keeper.old keeper.new) }
@@ -170,7 +172,7 @@ pub(crate) fn ready<'a, F: DiskFiles, E: Write>(
     words: &ServeWords<'a>,
     err: &mut E,
 ) -> Result<ReadyDisk<F::Store, F::Lists, F::Syncs>, DiskFault<'a>>
-    ensures ok { IfOk result (λ r. IsReadyAt F.Store.held F.Store.honest F.Store.mended F.Syncs.marked F.Lists.kept (F.answers files.old) words.now.disk.now words.now.read_only r.2 r.3 r.0 r.1) }
+    ensures ok { IfOk result (λ r. IsReadyAt F.Store.held F.Store.honest F.Store.mended F.Syncs.marked F.Lists.kept (F.answers files.old) words.now.disk.now words.now.read_only words.now.sync_always r.2 r.3 r.0 r.1) }
     ensures named { IfOk result (λ r. NamesAll r.0.lost.items r.2.shape.code r.3 (E.contents err.old) (E.contents err.new)) }
     ensures fault { IfErr result (IsUnreadyAt F.Store.held F.Store.honest F.Store.failed F.Syncs.failed F.Lists.kept F.Lists.failed (F.answers files.old) words.now.disk.now words.now.read_only) }
     ensures unnamed { IfErr result (λ fault. (E.contents err.new ≡ E.contents err.old) ⊎ IsUnprinted fault) }
@@ -216,7 +218,8 @@ pub(crate) fn ready<'a, F: DiskFiles, E: Write>(
         Ok(()) => {}
         Err(fault) => return Err(fault),
     }
-    match guarded(alloc, disk, keeper, lost) {
+    let device = reopening(alloc, disk, &told.shape, sync_when(words.sync_always));
+    match guarded(alloc, device, keeper, lost) {
         Ok(disk) => Ok((disk, syncs, told, mended)),
         Err(fault) => Err(fault),
     }

@@ -49,13 +49,13 @@ fn offer_of(geometry: &Geometry, read_only: bool) -> Offer
 }
 
 // How much of a disk may be changed between two syncs of its file. At a sync at most the entries of its cache and the pages of two blocks are stale, whether its device was flushed before
-// or not: so no sync needs that flush for what is stale to have room at the next mount. Of a disk of fewer sectors all of them have.
+// or not, and those of two more where it was opened anew with a larger one: so no sync needs that flush for what is stale to have room at the next mount. Of a disk of fewer sectors all of them have.
 fn pace_of(shape: &Shape) -> SyncPace
     ensures { result ≡ pace_of shape.now }
 {
     let geometry = shape.geometry;
     let beside = u64::from(shape.cache)
-        + u64::from(geometry.pages()) * 2
+        + u64::from(geometry.pages()) * 4
         + u64::from(MOST) / geometry.data_bytes() as u64
         + 1;
     SyncPace {
@@ -194,7 +194,7 @@ pub(crate) fn serve_command<'a, F: DiskFiles, I: Read, O: Write, E: Write>(
     out: &mut O,
     err: &mut E,
 ) -> Result<(), DiskFault<'a>>
-    ensures served { HasServedAt F.Store.held F.Store.honest F.Store.mended F.Syncs.synced F.Syncs.failed F.Syncs.marked F.Lists.kept (F.answers files.old) words.entry (I.remaining input.old) (I.remaining input.new) (O.contents out.old) (O.contents out.new)
+    ensures served { HasServedAt F.Store.held F.Store.honest F.Store.full F.Store.mended F.Store.failed F.Syncs.synced F.Syncs.failed F.Syncs.marked F.Lists.kept (F.answers files.old) words.entry (I.remaining input.old) (I.remaining input.new) (O.contents out.old) (O.contents out.new)
         (E.contents err.old) (E.contents err.new) result
         ⊎ HasNotServed F.Store.held F.Store.honest F.Store.failed F.Syncs.failed F.Lists.kept F.Lists.failed (F.answers files.old) words.entry (O.contents out.old) (O.contents out.new) (E.contents err.old) (E.contents err.new) result }
     ensures opened { OpensMarked words.entry.disk.now (access_of words.entry) (F.opened files.old) (F.opened files.new) }

@@ -19,3 +19,4 @@ pub mod GuardLemmas
 pub mod GuardedLemmas
 pub mod ClearLemmas
 pub mod SyncedLemmas
+pub mod ReopenedLemmas

@@ -15,6 +15,8 @@ pub mod Opened
 pub mod Power
 -- a disk that is only read
 pub mod Reading
+-- a device that is opened anew
+pub mod Reopened
 pub mod Stopped
 pub mod Synced
 pub mod Words

@@ -7,7 +7,8 @@ use Rattle.page_layout.specs.Flash.{Flash}
 use Rattle.onfi_cycles.specs.Driver.{DriverState, flash_by}
 use Rattle.file_die.specs.Store.{Held}
 use Rattle.nand_die.specs.Made.{first_turns, next_in}
-use Rattle.file_die.specs.Die.{FileState, flash_over, shown}
+use Rattle.file_die.specs.declared.die.SyncWhen.{SyncWhen}
+use Rattle.file_die.specs.Die.{FileState, flash_over, shown, syncs_always}
 use Rattle.disk_server.specs.Flat.{flat}
 use Rattle.certificate.specs.Claim.{Claim}
 use Rattle.image_check.specs.declared.refusal.Refusal.{Refusal}
@@ -46,6 +47,14 @@ flash_in held d = flash_by (shown held) d
 
 abbrev pub is_honest_in : {S : Type 0} → (S → Bool) → DriverState (FileState S) → Bool
 is_honest_in honest d = honest d.bus.store
+
+-- whether its die syncs the store after each program: no call of a die changes it
+abbrev pub always_in : {S : Type 0} → DriverState (FileState S) → Bool
+always_in d = syncs_always d.bus.sync_when
+
+-- it syncs as it was to
+abbrev pub SyncsWhen : {S : Type 0} → SyncWhen → DriverState (FileState S) → Type 0
+SyncsWhen sync_when d = d.bus.sync_when ≡ sync_when
 
 -- THE DISK OF A STORE: the bytes of the array that its pages hold, one sector behind another
 abbrev pub bytes_of : Held → List ℕ

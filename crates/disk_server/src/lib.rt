@@ -6,6 +6,7 @@
 //! - `open_mounted`: the disk of a die, started from a mount, so that each page is looked at once.
 //! - `open_store`: the same over the die that a store holds; `close_store` gives the store back.
 //! - `open_stopped`: the same where the die may have been stopped, with more that is stale than the cache has room for.
+//! - `ReopenedDevice`: the device of a store, which is opened anew where the store was full, so that a change has no room and the next one may have.
 //! - `format_store`: a store of erased pages becomes a die with a device on it.
 //! - `SyncedDisk`: a disk whose flushes and durable changes end with a sync of what it is kept in, and of whose changes no more than a `SyncPace` says lack one;
 //!   `serve_synced` serves it. A flush is that sync alone; the device is flushed as the disk is closed. After a sync that failed it answers nothing but that it failed. With each sync goes a
@@ -28,6 +29,7 @@ mod opened;
 mod pieces;
 mod ranges;
 mod reading;
+mod reopened;
 mod sector_disk;
 mod sectors;
 mod served;
@@ -42,6 +44,7 @@ pub use mounted::open_mounted;
 pub use open::{OpenFault, open_checked};
 pub use opened::{OpenStoreFault, StoreDisk, close_store, mount_store, open_store};
 pub use reading::ReadOnlyDisk;
+pub use reopened::ReopenedDevice;
 pub use sector_disk::SectorDisk;
 pub use sectors::{Lasting, Sectors};
 pub use served::{Offer, serve_reading, serve_synced};

@@ -2,7 +2,7 @@
 ghost use Rattle.std.specs.Prelude.{◌≡◌, ◌≤◌, ℕ, true, IfOk, IfErr};
 ghost use Rattle.mount.specs.Mounted.{IsMounted};
 ghost use Rattle.disk_server.specs.Disk.{contents_of, holds};
-ghost use Rattle.disk_server.specs.Opened.{bytes_of, flash_in, flash_of, is_honest_in, ComesBack, HasCome, IsUnopened, IsUnopenedAt, why_of};
+ghost use Rattle.disk_server.specs.Opened.{bytes_of, flash_in, flash_of, is_honest_in, ComesBack, HasCome, IsUnopened, IsUnopenedAt, SyncsWhen, why_of};
 ghost use Rattle.disk_server.specs.Open.{nand_of};
 
 use crate::device_disk::DeviceDisk;
@@ -63,6 +63,7 @@ pub(crate) fn driver_over<S: Store + Drop>(
 ) -> Result<Driver<FileDie<S>>, (S, OpenStoreFault)>
     ensures honest { IfOk result (λ d. is_honest_in S.honest d ≡ S.honest store) }
     ensures geometry { IfOk result (λ d. d.geometry ≡ (S.held store).geometry) }
+    ensures syncs { IfOk result (SyncsWhen sync_when) }
     ensures flash { IfOk result (λ d. S.honest store ≡ true → flash_in S.held d ≡ flash_of (S.held store)) }
     ensures pages { IfOk result (λ d. S.honest store ≡ true → (flash_in S.held d).image ≡ (S.held store).pages) }
     ensures fault { IfErr result (λ e. IsUnopenedAt S.held S.honest S.failed store e.0 e.1) }
@@ -153,6 +154,7 @@ pub fn open_store<S: Store + Drop>(
     requires most { capacity ≤ 65536 }
     ensures geometry { IfOk result (λ d. d.engine.geometry ≡ (S.held store).geometry) }
     ensures entries { IfOk result (λ d. d.engine.mapping.capacity ≡ capacity) }
+    ensures syncs { IfOk result (λ d. SyncsWhen sync_when d.engine.nand) }
     ensures honest { IfOk result (λ d. holds (is_honest_in S.honest) d ≡ S.honest store) }
     ensures bytes { IfOk result (λ d. S.honest store ≡ true → (contents_of (flash_in S.held) (is_honest_in S.honest) d).bytes ≡ bytes_of (S.held store)) }
     ensures pages { IfOk result (λ d. S.honest store ≡ true → flash_in S.held d.engine.nand ≡ flash_of (S.held store)) }

@@ -8,7 +8,8 @@ use Rattle.std.proofs.lemmas.List.{append-nil}
 use Rattle.std.proofs.lemmas.Option.{slice_get_past, slice_get-get_or, same_Some, unwrap_or-slice_get}
 use Rattle.page_layout.specs.Page.{Page}
 use Rattle.file_die.specs.declared.bytes.ByteFault.{ByteFault}
-use Rattle.file_die.specs.Bytes.{Bytes, AreBytes, over, Mixes, LastsMixed, AreAlike, Writes, IsTold, Tells, Gives, OneMore}
+use Rattle.file_die.specs.declared.bytes.ByteFault.TheVariants as fault
+use Rattle.file_die.specs.Bytes.{Bytes, AreBytes, over, FailsBy, HadRoom, HasAnswered, Mixes, LastsMixed, AreAlike, Writes, IsTold, Tells, Gives, OneMore}
 use Rattle.file_die.specs.Rows.{WritesAll, Going, IsFilled}
 
 -- ---- places
@@ -343,3 +344,29 @@ told_at_once size reads xs wanted since told = record {
   stands = λ row. inl (1, omega arith, refl);
   lasts = λ row. record { left = inl (2, omega arith, refl); kept = λ a b. b };
 }
+
+-- ---- why bytes were not written
+
+-- a fault of a write is why it failed
+pub fails_by : {F : Type 0} → (wrote : F → ℕ → List ℕ → Result ℕ ByteFault → F → Type 0) (old : F) (at : ℕ) (bytes : List ℕ) (e : ByteFault) (new : F) → wrote old at bytes (Err e) new → FailsBy wrote old e new
+fails_by wrote old at bytes fault.NoSpace new w = (old, at, bytes, w)
+fails_by wrote old at bytes fault.Interrupted new w = inr (Err fault.Interrupted, (λ is. cc), (old, at, bytes, w))
+fails_by wrote old at bytes fault.Other new w = inr (Err fault.Other, (λ is. cc), (old, at, bytes, w))
+
+-- an answer that there was room
+pub had_room : {F : Type 0} → (wrote : F → ℕ → List ℕ → Result ℕ ByteFault → F → Type 0) (old : F) (at : ℕ) (bytes : List ℕ) (n : ℕ) (new : F) → wrote old at bytes (Ok n) new → HadRoom wrote old new
+had_room wrote old at bytes n new w = inr (Ok n, (λ is. cc), (old, at, bytes, w))
+
+pub interrupted : {F : Type 0} → (wrote : F → ℕ → List ℕ → Result ℕ ByteFault → F → Type 0) (old : F) (at : ℕ) (bytes : List ℕ) (new : F) → wrote old at bytes (Err fault.Interrupted) new → HadRoom wrote old new
+interrupted wrote old at bytes new w = inr (Err fault.Interrupted, (λ is. cc), (old, at, bytes, w))
+
+-- calls one behind another
+pub room_on : {F : Type 0} → (wrote : F → ℕ → List ℕ → Result ℕ ByteFault → F → Type 0) (old mid new : F) → HadRoom wrote old mid → HadRoom wrote mid new → HadRoom wrote old new
+room_on wrote old mid new (inl same) (inl is) = inl (is ∙ same)
+room_on wrote old mid new (inr (answer, room, told)) (inl is) = inr (answer, room, subst (HasAnswered wrote answer) (sym is) told)
+room_on wrote old mid new before (inr now) = inr now
+
+pub fails_on : {F : Type 0} → (wrote : F → ℕ → List ℕ → Result ℕ ByteFault → F → Type 0) (old mid : F) (e : ByteFault) (new : F) → HadRoom wrote old mid → FailsBy wrote mid e new → FailsBy wrote old e new
+fails_on wrote old mid fault.NoSpace new before now = now
+fails_on wrote old mid fault.Interrupted new before now = room_on wrote old mid new before now
+fails_on wrote old mid fault.Other new before now = room_on wrote old mid new before now

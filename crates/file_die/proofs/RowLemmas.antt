@@ -19,9 +19,10 @@ use Rattle.page_layout.specs.Flash.{no_page, with_block}
 use Rattle.page_layout.proofs.FlashLemmas.{inside, with_block-inside}
 use Rattle.onfi_cycles.specs.Cycles.{page_of}
 use Rattle.nand_die.proofs.PagesLemmas.{block_within, page_of_blank}
-use Rattle.file_die.specs.Bytes.{Bytes, AreBytes, Gives, Mixes, Settles, over, piece, IsTold}
+use Rattle.file_die.specs.declared.bytes.ByteFault.TheVariants as fault
+use Rattle.file_die.specs.Bytes.{Bytes, AreBytes, FailsBy, Gives, Mixes, Settles, over, piece, IsTold}
 use Rattle.file_die.specs.declared.bytes.ByteFault.{ByteFault}
-use Rattle.file_die.specs.Rows.{Rows, AreRows, WritesAll, IsReading, read_rows, held_in, is_kept, syncs_lost}
+use Rattle.file_die.specs.Rows.{Rows, AreRows, TellsFull, WritesAll, IsReading, lacks_room, read_rows, held_in, is_kept, syncs_lost}
 use Rattle.file_die.specs.Store.{Held, AreImages, MayBeLeft, LastsOf, Lasts, Loads, Puts, Clears, Syncs, page_in}
 use Rattle.file_die.proofs.BytesLemmas.{get_drop, take_alike, over_before, over_within, over_after, length_over, length_mixed, length_lasts, fits_over, fits_mixed, fits_lasts, fits_take, fits_drop}
 use Rattle.file_die.proofs.MemoryLemmas.{other_row, outside}
@@ -35,6 +36,17 @@ pub record IsOfRows (g : Geometry) (size : ℕ) (s : Bytes) : Type 0 where
   pub whole : length s.bytes ≡ row_count g * size
   pub lasts : length s.durable ≡ row_count g * size
   pub fit : AreBytes s
+
+-- ---- want of room
+
+pub told_full : {F : Type 0} → (wrote : F → ℕ → List ℕ → Result ℕ ByteFault → F → Type 0) (sync_failed : Bool) (old : F) (e : ByteFault) (new : F) → FailsBy wrote old e new
+    → TellsFull wrote sync_failed old (lacks_room true sync_failed (Err e)) new
+told_full wrote true old fault.NoSpace new by = inl refl
+told_full wrote true old fault.Interrupted new by = inl refl
+told_full wrote true old fault.Other new by = inl refl
+told_full wrote false old fault.NoSpace new by = (refl, by)
+told_full wrote false old fault.Interrupted new by = inr by
+told_full wrote false old fault.Other new by = inr by
 
 -- ---- rows
 

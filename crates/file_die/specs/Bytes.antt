@@ -1,5 +1,5 @@
 -- A FILE OF BYTES: what stands in it, what would stand there if the power went, and what each call makes of both.
-use Rattle.std.specs.Prelude.{◌≡◌, ◌<◌, ◌⊎◌, ℕ, suc, ◌+◌, ◌*◌, Bool, true, List, [], ◌∷◌, ◌++◌, length, take, drop, slice_get, slice_index, if◌then◌else◌, Result, Ok, Err, IfOk}
+use Rattle.std.specs.Prelude.{◌≡◌, ◌≢◌, ◌<◌, ◌⊎◌, ℕ, suc, ◌+◌, ◌*◌, Bool, true, List, [], ◌∷◌, ◌++◌, length, take, drop, slice_get, slice_index, if◌then◌else◌, Result, Ok, Err, IfOk}
 use Rattle.page_layout.specs.Page.{Page}
 use Rattle.std.specs.declared.io.ErrorKind.{ErrorKind}
 use Rattle.std.specs.declared.io.ErrorKind.TheVariants as kind
@@ -79,6 +79,22 @@ pub record IsTold (size : ℕ) (reads : List ℕ → Page) (since : Bytes) (want
 -- a call that is to make these bytes of the file: what was told of it before is told of it after
 abbrev pub Tells : ℕ → (List ℕ → Page) → List ℕ → Bytes → Bytes → Type 0
 Tells size reads wanted s t = (since : Bytes) → IsTold size reads since wanted s → IsTold size reads since wanted t
+
+-- ---- why bytes were not written
+
+-- the last write that it was asked for was answered so, by the file's own word for one write
+abbrev pub HasAnswered : {F : Type 0} → (wrote : F → ℕ → List ℕ → Result ℕ ByteFault → F → Type 0) → (answer : Result ℕ ByteFault) → (new : F) → Type 0
+HasAnswered {F} wrote answer new = (mid : F) × (at : ℕ) × (bytes : List ℕ) × wrote mid at bytes answer new
+
+-- that answer, if any was given, was not that there is no room
+abbrev pub HadRoom : {F : Type 0} → (wrote : F → ℕ → List ℕ → Result ℕ ByteFault → F → Type 0) → (old new : F) → Type 0
+HadRoom wrote old new = (new ≡ old) ⊎ ((answer : Result ℕ ByteFault) × (answer ≢ Err fault.NoSpace) × HasAnswered wrote answer new)
+
+-- WRITES FAILED FOR WANT OF ROOM just where the file's last answer was that
+abbrev pub FailsBy : {F : Type 0} → (wrote : F → ℕ → List ℕ → Result ℕ ByteFault → F → Type 0) → (old : F) → ByteFault → (new : F) → Type 0
+FailsBy wrote old fault.NoSpace new = HasAnswered wrote (Err fault.NoSpace) new
+FailsBy wrote old fault.Interrupted new = HadRoom wrote old new
+FailsBy wrote old fault.Other new = HadRoom wrote old new
 
 -- ---- reads one behind another
 

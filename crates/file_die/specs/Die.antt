@@ -82,6 +82,11 @@ ended block turn legal passed d = record {
   sync_when = d.sync_when;
 }
 
+-- whether it syncs after each program, and not about erases alone
+abbrev pub syncs_always : SyncWhen → Bool
+syncs_always sync.Always = true
+syncs_always sync.Erases = false
+
 -- ---- what becomes of the pages
 
 -- A PROGRAM IN A STORE, done or failed: the page is put at its row. Where each program is synced and this one was done, all pages last

@@ -1,5 +1,5 @@
 -- A FILE OF ROWS: bytes of one size for each row of a die, one row behind another, read as pages.
-use Rattle.std.specs.Prelude.{◌≡◌, ℕ, ◌*◌, ◌<◌, ◌≤◌, slice_index, ◌==◌, ◌&&◌, Bool, true, false, List, length, map, replicate, Option, Some, None, Result, Ok, Err, OnOk, OnErr, slice_get, ◌+◌}
+use Rattle.std.specs.Prelude.{◌≡◌, ◌⊎◌, ℕ, ◌*◌, ◌<◌, ◌≤◌, slice_index, ◌==◌, ◌&&◌, Bool, true, false, List, length, map, replicate, Option, Some, None, Result, Ok, Err, OnOk, OnErr, slice_get, ◌+◌}
 use Rattle.std.specs.List.{range_with_len}
 use Rattle.page_layout.specs.declared.geometry.Geometry.{Geometry}
 use Rattle.page_layout.specs.Geometry.{row_count}
@@ -8,7 +8,8 @@ use Rattle.page_layout.specs.Change.{erased_page}
 use Rattle.page_layout.specs.Counter.{HasRisen}
 use Rattle.file_die.specs.declared.bytes.ByteFault.{ByteFault}
 use Rattle.file_die.specs.declared.store.StoreFault.{StoreFault}
-use Rattle.file_die.specs.Bytes.{Bytes, AreBytes, Mixes, LastsMixed, AreAlike, over, piece}
+use Rattle.file_die.specs.declared.bytes.ByteFault.TheVariants as fault
+use Rattle.file_die.specs.Bytes.{Bytes, AreBytes, HadRoom, HasAnswered, Mixes, LastsMixed, AreAlike, over, piece}
 use Rattle.file_die.specs.Store.{Held}
 
 -- ---- a write of all bytes
@@ -39,13 +40,14 @@ IsFilled bytes at done buffer = (i : ℕ) → i < done → slice_get buffer i �
 
 -- ---- the rows
 
--- its file; the die, and how many bytes a row has; the failures so far, the first fault, and whether a sync has failed
+-- its file; the die, and how many bytes a row has; the failures so far, the first fault, whether there was no room for the change that its last call was, and whether a sync has failed
 pub record Rows (F : Type 0) : Type 0 where
   pub file : F
   pub geometry : Geometry
   pub size : ℕ
   pub failures : ℕ
   pub fault : Option ByteFault
+  pub full : Bool
   pub sync_failed : Bool
 
 -- THE PAGES THAT BYTES ARE, a row behind the other, each read so
@@ -82,6 +84,18 @@ pub record AreRows (honest : Bool) (s : Bytes) (g : Geometry) (size : ℕ) (eras
 pub record IsReading (g : Geometry) (size : ℕ) (reads : List ℕ → Page) : Type 0 where
   pub pages : (bytes : List ℕ) → length bytes ≡ size → ((i : ℕ) → slice_index bytes i < 256) → IsPage g (reads bytes)
   pub erased : reads (replicate size 255) ≡ erased_page g
+
+-- ---- want of room
+
+-- whether there was no room for a change, by the file's answer. After a sync that failed it is not asked
+abbrev pub lacks_room : (changes sync_failed : Bool) → Result (Unit {0}) ByteFault → Bool
+lacks_room true false (Err fault.NoSpace) = true
+lacks_room _ _ _ = false
+
+-- A CHANGE THAT FAILED DID SO FOR WANT OF ROOM just where the file's last answer was that, by its own word for one write, and no sync has failed
+abbrev pub TellsFull : {F : Type 0} → (wrote : F → ℕ → List ℕ → Result ℕ ByteFault → F → Type 0) → (sync_failed : Bool) → (old : F) → (full : Bool) → (new : F) → Type 0
+TellsFull wrote sync_failed old true new = (sync_failed ≡ false) × HasAnswered wrote (Err fault.NoSpace) new
+TellsFull wrote sync_failed old false new = (sync_failed ≡ true) ⊎ HadRoom wrote old new
 
 -- ---- a call
 

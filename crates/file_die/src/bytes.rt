@@ -46,8 +46,9 @@ impl From<io::Error> for ByteFault {
 ///
 /// No contract can name what a file of the system holds: `File` is not honest, and its four bodies are all that is believed of it.
 pub trait ByteFile {
-    ghost use Rattle.std.specs.Prelude.{◌≡◌, ◌≤◌, ℕ, Bool, true, List, length, IfOk, is_ok};
+    ghost use Rattle.std.specs.Prelude.{◌≡◌, ◌≤◌, ℕ, Bool, true, List, length, Result, IfOk, is_ok};
     ghost use Rattle.page_layout.specs.Page.{Page};
+    ghost use Rattle.file_die.specs.declared.bytes.ByteFault.{ByteFault};
     ghost use Rattle.file_die.specs.Bytes.{Bytes, AreBytes, Reads, Writes, Settles, Tells, over, given_by};
 
     /// What it holds.
@@ -63,6 +64,9 @@ pub trait ByteFile {
     /// That one read, in this state and from this place on, gave these bytes and left that state. A file says here of its reads what it likes; what is
     /// proved of a store over any file, it does by these very reads.
     ghost gave: { Self → ℕ → List ℕ → Self → Type 0 };
+
+    /// That one write, in this state and of these bytes from this place on, was answered so and left that state. A file says here of its writes what it likes.
+    ghost wrote: { Self → ℕ → List ℕ → Result ℕ ByteFault → Self → Type 0 };
 
     /// Reads bytes from a place on, and says how many: as many as there is room for, or fewer.
     ///
@@ -83,6 +87,7 @@ pub trait ByteFile {
     /// The file's own: each byte is as it was or as it was to be.
     fn write_at(&mut self, bytes: &[u8], at: u64) -> Result<usize, ByteFault>
         ensures bound { IfOk result (λ n. n ≤ length bytes.now) }
+        ensures wrote { wrote self.old at bytes.now result self.new }
         ensures writes { honest self.old ≡ true → at ≤ length (held self.old).bytes → Writes (held self.old) at bytes.now result (held self.new) }
         ensures told { honest self.old ≡ true → at ≤ length (held self.old).bytes → (size : ℕ) (reads : List ℕ → Page) → tells self.old size reads ≡ true →
             Tells size reads (over at bytes.now (held self.old).bytes) (held self.old) (held self.new) }
@@ -125,6 +130,8 @@ impl ByteFile for File {
     ghost tells = { λ _ _ _. false };
 
     ghost gave = { λ _ _ _ _. ⊤ };
+
+    ghost wrote = { λ _ _ _ _ _. ⊤ };
 
     fn read_at(&mut self, to: &mut [u8], at: u64) -> Result<usize, ByteFault> {
         Ok(FileExt::read_at(self, to, at)?)

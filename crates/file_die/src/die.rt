@@ -334,13 +334,16 @@ impl<S: Store> FileDie<S> {
 
 impl<S: Store> Bus for FileDie<S> {
     ghost use Rattle.onfi_cycles.specs.Cycles.{due_of};
-    ghost use Rattle.file_die.specs.Die.{Acts, shown};
+    ghost use Rattle.file_die.specs.Die.{Acts, shown, syncs_always};
 
     ghost die = { λ d. shown S.held d };
 
     ghost honest = { λ d. S.honest d.store };
 
     ghost failed = { λ d. S.failed d.store };
+
+    /// Whether each program is synced: no call changes when it syncs, so that a device over it has a die that syncs as it was opened to.
+    ghost calm = { λ d. syncs_always d.sync_when };
 
     /// Each call is what was due: over any store, honest or not, its faults are counted, and over an honest one its pages are told.
     ghost called = { λ old cycle answer out new. Acts S.held S.honest S.failed (due_of (S.held old.store).geometry old.phase cycle) old new answer };

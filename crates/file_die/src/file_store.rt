@@ -1,7 +1,10 @@
 //! A store over a file of bytes.
-ghost use Rattle.std.specs.Prelude.{◌≡◌, ◌≢◌, ℕ, ◌*◌, ◌&&◌, ◌==◌, true, false, length, None, IfOk, IfErr, OnSome, IfNone, Some};
+ghost use Rattle.std.specs.Prelude.{◌≡◌, ◌≢◌, ◌<◌, ◌≤◌, ℕ, ◌*◌, ◌&&◌, ◌==◌, true, false, length, None, IfOk, IfErr, OnErr, OnOk, OnSome, IfNone, Some, is_ok};
+ghost use Rattle.page_layout.specs.Counter.{HasRisen};
 ghost use Rattle.page_layout.specs.Geometry.{row_count, page_bytes};
 ghost use Rattle.onfi_cycles.specs.Cycles.{page_of};
+ghost use Rattle.file_die.specs.Store.{Clears, Loads, Puts, Syncs};
+ghost use Rattle.file_die.specs.Rows.{TellsFull};
 
 use crate::bytes::{ByteFault, ByteFile};
 use crate::row_file::{RowFault, RowFile};
@@ -31,7 +34,7 @@ impl<F: ByteFile> FileStore<F> {
     pub fn new(alloc: Global, geometry: Geometry, file: F) -> Result<FileStore<F>, RowFault>
     where
         F: Drop,
-        ensures made { IfOk result (λ store. (store.rows.geometry ≡ geometry) × (store.rows.failures ≡ 0) × (store.rows.fault ≡ None)) }
+        ensures made { IfOk result (λ store. (store.rows.geometry ≡ geometry) × (store.rows.failures ≡ 0) × (store.rows.fault ≡ None) × (store.rows.full ≡ false)) }
         ensures honest { IfOk result (λ store. is_kept F.held F.honest F.tells (page_of geometry) store.rows ≡ (F.honest file && (F.tells file (page_bytes geometry) (page_of geometry) && ((F.held file).failed_syncs == 0)))) }
         ensures bytes { IfOk result (λ store. F.honest file ≡ true → (F.held store.rows.file).bytes ≡ (F.held file).bytes) }
         ensures whole { IfOk result (λ store. F.honest file ≡ true → length (F.held file).bytes ≡ row_count geometry * page_bytes geometry) }
@@ -39,6 +42,13 @@ impl<F: ByteFile> FileStore<F> {
     {
         let rows = RowFile::new(alloc, geometry, page_length(&geometry) as u32, file)?;
         Ok(FileStore { rows })
+    }
+
+    /// Whether its last call was a change that failed for want of room in the file, where no sync has failed.
+    pub fn lacks_room(&self) -> bool
+        ensures { result ≡ self.now.rows.full }
+    {
+        self.rows.is_full()
     }
 
     /// Why the first call failed that did. `None` just where none has.
@@ -68,19 +78,73 @@ impl<F: ByteFile> Store for FileStore<F> {
 
     ghost failed = { λ s. s.rows.failures };
 
-    fn load(&mut self, row: u32, page: &mut [u8]) -> Result<(), StoreFault> {
+    fn load(&mut self, row: u32, page: &mut [u8]) -> Result<(), StoreFault>
+        requires in_range { row < row_count self.old.rows.geometry }
+        requires room { length page.old ≡ page_bytes self.old.rows.geometry }
+
+        // What every store promises.
+        ensures loads { is_kept F.held F.honest F.tells (page_of self.old.rows.geometry) self.old.rows ≡ true →
+            Loads (held_in F.held (page_of self.old.rows.geometry) self.old.rows) row (page_of self.old.rows.geometry page.new) (is_ok result) (held_in F.held (page_of self.new.rows.geometry) self.new.rows) }
+        ensures geometry { self.new.rows.geometry ≡ self.old.rows.geometry }
+        ensures honest { is_kept F.held F.honest F.tells (page_of self.new.rows.geometry) self.new.rows ≡ is_kept F.held F.honest F.tells (page_of self.old.rows.geometry) self.old.rows }
+        ensures failed { self.old.rows.failures ≤ self.new.rows.failures }
+        ensures settled { OnOk result (self.new.rows.failures ≡ self.old.rows.failures) }
+        ensures rose { OnErr result (HasRisen self.old.rows.failures self.new.rows.failures) }
+        ensures unfilled { self.new.rows.full ≡ false }
+    {
         self.rows.read(row, page)
     }
 
-    fn put(&mut self, row: u32, page: &[u8]) -> Result<(), StoreFault> {
+    fn put(&mut self, row: u32, page: &[u8]) -> Result<(), StoreFault>
+        requires in_range { row < row_count self.old.rows.geometry }
+        requires whole { length page.now ≡ page_bytes self.old.rows.geometry }
+
+        // What every store promises.
+        ensures puts { is_kept F.held F.honest F.tells (page_of self.old.rows.geometry) self.old.rows ≡ true →
+            Puts (held_in F.held (page_of self.old.rows.geometry) self.old.rows) row (page_of self.old.rows.geometry page.now) (is_ok result) (held_in F.held (page_of self.new.rows.geometry) self.new.rows) }
+        ensures geometry { self.new.rows.geometry ≡ self.old.rows.geometry }
+        ensures honest { is_kept F.held F.honest F.tells (page_of self.new.rows.geometry) self.new.rows ≡ is_kept F.held F.honest F.tells (page_of self.old.rows.geometry) self.old.rows }
+        ensures failed { self.old.rows.failures ≤ self.new.rows.failures }
+        ensures settled { OnOk result (self.new.rows.failures ≡ self.old.rows.failures) }
+        ensures rose { OnErr result (HasRisen self.old.rows.failures self.new.rows.failures) }
+
+        // Whatever the file does: it is full just where the file's last answer was that.
+        ensures room { OnOk result (self.new.rows.full ≡ false) }
+        ensures full { OnErr result (TellsFull F.wrote self.old.rows.sync_failed self.old.rows.file self.new.rows.full self.new.rows.file) }
+    {
         self.rows.write(row, page)
     }
 
-    fn clear(&mut self, block: u32) -> Result<(), StoreFault> {
+    fn clear(&mut self, block: u32) -> Result<(), StoreFault>
+        requires in_range { block < self.old.rows.geometry.blocks }
+
+        // What every store promises.
+        ensures clears { is_kept F.held F.honest F.tells (page_of self.old.rows.geometry) self.old.rows ≡ true →
+            Clears (held_in F.held (page_of self.old.rows.geometry) self.old.rows) block (is_ok result) (held_in F.held (page_of self.new.rows.geometry) self.new.rows) }
+        ensures geometry { self.new.rows.geometry ≡ self.old.rows.geometry }
+        ensures honest { is_kept F.held F.honest F.tells (page_of self.new.rows.geometry) self.new.rows ≡ is_kept F.held F.honest F.tells (page_of self.old.rows.geometry) self.old.rows }
+        ensures failed { self.old.rows.failures ≤ self.new.rows.failures }
+        ensures settled { OnOk result (self.new.rows.failures ≡ self.old.rows.failures) }
+        ensures rose { OnErr result (HasRisen self.old.rows.failures self.new.rows.failures) }
+
+        // Whatever the file does: it is full just where the file's last answer was that.
+        ensures room { OnOk result (self.new.rows.full ≡ false) }
+        ensures full { OnErr result (TellsFull F.wrote self.old.rows.sync_failed self.old.rows.file self.new.rows.full self.new.rows.file) }
+    {
         self.rows.erase(block)
     }
 
-    fn sync(&mut self) -> Result<(), StoreFault> {
+    fn sync(&mut self) -> Result<(), StoreFault>
+        // What every store promises.
+        ensures syncs { is_kept F.held F.honest F.tells (page_of self.old.rows.geometry) self.old.rows ≡ true →
+            Syncs (held_in F.held (page_of self.old.rows.geometry) self.old.rows) (is_ok result) (held_in F.held (page_of self.new.rows.geometry) self.new.rows) }
+        ensures geometry { self.new.rows.geometry ≡ self.old.rows.geometry }
+        ensures honest { is_kept F.held F.honest F.tells (page_of self.new.rows.geometry) self.new.rows ≡ is_kept F.held F.honest F.tells (page_of self.old.rows.geometry) self.old.rows }
+        ensures failed { self.old.rows.failures ≤ self.new.rows.failures }
+        ensures settled { OnOk result (self.new.rows.failures ≡ self.old.rows.failures) }
+        ensures rose { OnErr result (HasRisen self.old.rows.failures self.new.rows.failures) }
+        ensures unfilled { self.new.rows.full ≡ false }
+    {
         self.rows.sync()
     }
 

@@ -5,6 +5,7 @@
 //! - `Store`: the pages of a die, each at its row, and what they would be if the power went now. What each call makes of them.
 //! - `FileStore`: a store over any file of bytes, which keeps its pages just where the file keeps its bytes. `MemoryBytes` is a file in memory.
 //! - `MemoryStore`: a store in memory, which keeps what it is given and never fails.
+//! - `TellsFull`: a store that tells whether there is no room for what it was given.
 //! - `laws`: what the clauses of a store come to, proved.
 //!
 //! All of it is this project's.
@@ -15,6 +16,7 @@ mod blank;
 mod bytes;
 mod die;
 mod file_store;
+mod full;
 pub mod laws;
 mod memory_bytes;
 mod memory_store;
@@ -28,6 +30,7 @@ pub use blank::erase_all;
 pub use bytes::{ByteFault, ByteFile};
 pub use die::{FileDie, SyncWhen};
 pub use file_store::FileStore;
+pub use full::TellsFull;
 pub use memory_bytes::MemoryBytes;
 pub use memory_store::MemoryStore;
 pub use moves::{read_all, write_all};

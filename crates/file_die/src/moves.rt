@@ -1,7 +1,7 @@
 //! Whole reads and writes of a file, whose calls may move less.
-ghost use Rattle.std.specs.Prelude.{◌≡◌, ◌<◌, ◌≤◌, ℕ, ◌+◌, ◌^◌, true, List, length, take, IfOk, is_ok};
+ghost use Rattle.std.specs.Prelude.{◌≡◌, ◌<◌, ◌≤◌, ℕ, ◌+◌, ◌^◌, true, List, length, take, IfErr, IfOk, OnOk, is_ok};
 ghost use Rattle.page_layout.specs.Page.{Page};
-ghost use Rattle.file_die.specs.Bytes.{Bytes, Gives, Tells, over};
+ghost use Rattle.file_die.specs.Bytes.{Bytes, FailsBy, Gives, HadRoom, Tells, over};
 ghost use Rattle.file_die.specs.Rows.{WritesAll, Going, IsFilled, moved_by};
 
 use crate::bytes::{ByteFault, ByteFile};
@@ -40,6 +40,8 @@ fn write_next<F: ByteFile>(
     requires unfinished { done < length bytes.now }
     requires within { at + length bytes.now < 2 ^ 64 }
     ensures next { IfOk result (λ next. next ≤ length bytes.now) }
+    ensures room { OnOk result (HadRoom F.wrote file.old file.new) }
+    ensures fails { IfErr result (λ fault. FailsBy F.wrote file.old fault file.new) }
     ensures goes { F.honest file.old ≡ true → (first : Bytes) → at ≤ length first.bytes → Going first at bytes.now done (F.held file.old) → Going first at bytes.now (moved_by done result) (F.held file.new) }
     ensures told { F.honest file.old ≡ true → (first : Bytes) → at ≤ length first.bytes → Going first at bytes.now done (F.held file.old) →
         (size : ℕ) (reads : List ℕ → Page) → F.tells file.old size reads ≡ true → Tells size reads (over at bytes.now first.bytes) (F.held file.old) (F.held file.new) }
@@ -84,6 +86,7 @@ pub fn read_all<F: ByteFile>(file: &mut F, to: &mut [u8], at: u64) -> Result<(),
 /// The file's, or `Other` where it takes no more bytes: each byte is as it was or as it was to be.
 pub fn write_all<F: ByteFile>(file: &mut F, bytes: &[u8], at: u64) -> Result<(), ByteFault>
     requires within { at + length bytes.now < 2 ^ 64 }
+    ensures fails { IfErr result (λ fault. FailsBy F.wrote file.old fault file.new) }
     ensures writes { F.honest file.old ≡ true → at ≤ length (F.held file.old).bytes → WritesAll (F.held file.old) at bytes.now (is_ok result) (F.held file.new) }
     ensures told { F.honest file.old ≡ true → at ≤ length (F.held file.old).bytes → (size : ℕ) (reads : List ℕ → Page) → F.tells file.old size reads ≡ true →
         Tells size reads (over at bytes.now (F.held file.old).bytes) (F.held file.old) (F.held file.new) }
@@ -95,7 +98,10 @@ pub fn write_all<F: ByteFile>(file: &mut F, bytes: &[u8], at: u64) -> Result<(),
         if done >= bytes.len() {
             return Ok(());
         }
-        done = write_next(file, bytes, done, at)?;
+        match write_next(file, bytes, done, at) {
+            Ok(next) => done = next,
+            Err(fault) => return Err(fault),
+        }
     }
     Err(ByteFault::Other)
 }

@@ -5,7 +5,7 @@ ghost use Rattle.page_layout.specs.Geometry.{row_count};
 ghost use Rattle.page_layout.specs.Counter.{counted, HasRisen};
 ghost use Rattle.file_die.specs.Bytes.{Gives, piece};
 ghost use Rattle.file_die.specs.Store.{AreImages, Loads, Puts, Clears, Syncs};
-ghost use Rattle.file_die.specs.Rows.{Counts, IsReading, held_in, is_kept};
+ghost use Rattle.file_die.specs.Rows.{Counts, IsReading, TellsFull, held_in, is_kept, lacks_room};
 
 use crate::bytes::{ByteFault, ByteFile};
 use crate::moves::{read_all, write_all};
@@ -40,6 +40,7 @@ pub struct RowFile<F: ByteFile> {
     erased: Vec<u8>,
     failures: u64,
     fault: Option<ByteFault>,
+    full: bool,
     sync_failed: bool,
 }
 
@@ -54,6 +55,7 @@ impl<F: ByteFile> Model for RowFile<F> {
       size = r.size;
       failures = r.failures;
       fault = r.fault;
+      full = r.full;
       sync_failed = r.sync_failed;
     } };
 
@@ -77,7 +79,7 @@ impl<F: ByteFile> RowFile<F> {
     ) -> Result<RowFile<F>, RowFault>
     where
         F: Drop,
-        ensures made { IfOk result (λ r. (r.geometry ≡ geometry) × (r.size ≡ size) × (r.failures ≡ 0) × (r.fault ≡ None)) }
+        ensures made { IfOk result (λ r. (r.geometry ≡ geometry) × (r.size ≡ size) × (r.failures ≡ 0) × (r.fault ≡ None) × (r.full ≡ false)) }
         ensures kept { IfOk result (λ r. (reads : List ℕ → Page) → is_kept F.held F.honest F.tells reads r ≡ (F.honest file && (F.tells file size reads && ((F.held file).failed_syncs == 0)))) }
         ensures bytes { IfOk result (λ r. F.honest file ≡ true → (F.held r.file).bytes ≡ (F.held file).bytes) }
         ensures whole { IfOk result (λ r. F.honest file ≡ true → length (F.held file).bytes ≡ row_count geometry * size) }
@@ -102,6 +104,7 @@ impl<F: ByteFile> RowFile<F> {
                 erased,
                 failures: 0,
                 fault: None,
+                full: false,
                 sync_failed: false,
             }),
             Err(_) => Err(RowFault::OutOfMemory),
@@ -115,9 +118,10 @@ impl<F: ByteFile> RowFile<F> {
         row as u64 * self.size as u64
     }
 
-    // Counts a failure of the file, and remembers the first.
-    fn settle(&mut self, answer: Result<(), ByteFault>) -> Result<(), StoreFault>
-        ensures ok { OnOk result (self.new ≡ self.old) }
+    // Counts a failure of the file, and remembers the first; and whether this call was a change for which there was no room.
+    fn settle(&mut self, answer: Result<(), ByteFault>, changes: bool) -> Result<(), StoreFault>
+        ensures ok { OnOk result ((self.new.failures ≡ self.old.failures) × (self.new.fault ≡ self.old.fault)) }
+        ensures full { self.new.full ≡ lacks_room changes self.old.sync_failed answer }
         ensures answer { is_ok result ≡ is_ok answer }
         ensures rising { self.old.failures ≤ self.new.failures }
         ensures rose { OnErr result (self.new.failures ≡ counted self.old.failures) }
@@ -128,6 +132,7 @@ impl<F: ByteFile> RowFile<F> {
         ensures size { self.new.size ≡ self.old.size }
         ensures sync_failed { self.new.sync_failed ≡ self.old.sync_failed }
     {
+        self.full = matches!(answer, Err(ByteFault::NoSpace)) && changes && !self.sync_failed;
         match answer {
             Ok(()) => Ok(()),
             Err(fault) => {
@@ -153,10 +158,11 @@ impl<F: ByteFile> RowFile<F> {
         ensures loads { (reads : List ℕ → Page) → is_kept F.held F.honest F.tells reads self.old ≡ true → Loads (held_in F.held reads self.old) row (reads to.new) (is_ok result) (held_in F.held reads self.new) }
         ensures kept { (reads : List ℕ → Page) → is_kept F.held F.honest F.tells reads self.new ≡ is_kept F.held F.honest F.tells reads self.old }
         ensures counts { Counts self.old self.new result }
+        ensures unfilled { self.new.full ≡ false }
     {
         let start = self.offset(row);
         let answer = read_all(&mut self.file, to, start);
-        self.settle(answer)
+        self.settle(answer, false)
     }
 
     /// Writes the bytes of a row.
@@ -172,10 +178,12 @@ impl<F: ByteFile> RowFile<F> {
             Puts (held_in F.held reads self.old) row (reads bytes.now) (is_ok result) (held_in F.held reads self.new) }
         ensures kept { (reads : List ℕ → Page) → is_kept F.held F.honest F.tells reads self.new ≡ is_kept F.held F.honest F.tells reads self.old }
         ensures counts { Counts self.old self.new result }
+        ensures full { OnErr result (TellsFull F.wrote self.old.sync_failed self.old.file self.new.full self.new.file) }
+        ensures room { OnOk result (self.new.full ≡ false) }
     {
         let start = self.offset(row);
         let answer = write_all(&mut self.file, bytes, start);
-        self.settle(answer)
+        self.settle(answer, true)
     }
 
     /// Makes all bytes of the rows of a block FFh.
@@ -189,10 +197,12 @@ impl<F: ByteFile> RowFile<F> {
             Clears (held_in F.held reads self.old) block (is_ok result) (held_in F.held reads self.new) }
         ensures kept { (reads : List ℕ → Page) → is_kept F.held F.honest F.tells reads self.new ≡ is_kept F.held F.honest F.tells reads self.old }
         ensures counts { Counts self.old self.new result }
+        ensures full { OnErr result (TellsFull F.wrote self.old.sync_failed self.old.file self.new.full self.new.file) }
+        ensures room { OnOk result (self.new.full ≡ false) }
     {
         let start = self.offset(self.geometry.row(block, 0));
         let answer = write_all(&mut self.file, &self.erased, start);
-        self.settle(answer)
+        self.settle(answer, true)
     }
 
     /// Makes all rows last.
@@ -205,14 +215,15 @@ impl<F: ByteFile> RowFile<F> {
             Syncs (held_in F.held reads self.old) (is_ok result) (held_in F.held reads self.new) }
         ensures kept { (reads : List ℕ → Page) → is_kept F.held F.honest F.tells reads self.new ≡ is_kept F.held F.honest F.tells reads self.old }
         ensures counts { Counts self.old self.new result }
+        ensures unfilled { self.new.full ≡ false }
         ensures once { self.old.sync_failed ≡ true → (is_ok result ≡ false) × (self.new.file ≡ self.old.file) }
     {
         if self.sync_failed {
-            return self.settle(Err(ByteFault::Other));
+            return self.settle(Err(ByteFault::Other), false);
         }
         let answer = self.file.sync();
         self.sync_failed = answer.is_err();
-        self.settle(answer)
+        self.settle(answer, false)
     }
 
     /// The geometry of the die.
@@ -228,6 +239,13 @@ impl<F: ByteFile> RowFile<F> {
         ensures { result ≡ self.now.failures }
     {
         self.failures
+    }
+
+    /// Whether its last call was a change that failed for want of room in the file, where no sync has failed.
+    pub fn is_full(&self) -> bool
+        ensures { result ≡ self.now.full }
+    {
+        self.full
     }
 
     /// Why the first call failed that did. `None` just where none has.
@@ -250,6 +268,7 @@ impl<F: ByteFile> RowFile<F> {
             erased: _,
             failures: _,
             fault: _,
+            full: _,
             sync_failed: _,
         } = self;
         file

@@ -1,6 +1,6 @@
 use Rattle.std.proofs.Common.{rules, ◌≡◌, ◌∙◌, Bool, List, ap, false, inl, inr, not, subst, sym}
 use Rattle.disk_server.specs.Synced.{after_sync}
-use Rattle.disk_commands.specs.Ready.{IsDiskOf, IsNoneOf, IsUnkeptBy, KeepsBy}
+use Rattle.disk_commands.specs.Ready.{IsNoneOf, IsUnkeptBy, KeepsBy}
 use Rattle.disk_commands.proofs.ReadyLemmas.{looked_same, marks_then, unkept_by, unlisted_back}
 use Rattle.disk_commands.proofs.ready.ready.Goals as goal
 
@@ -69,12 +69,17 @@ returns-in-Ok-guarded-clause-ok g c = record {
   certificate = _;
   looked = looked_same g.F.Store.Store.held g.F.Store.Store.honest (g.F.DiskFiles.answers c.args.files.now) c.args.words.now.disk.now c.in-Ok.looked.told c.in-Ok.looked.found c.in-Ok.looked.store _ c.in-Ok.looked.lost.items
       c.in-Ok-guarded.disk.lost.items (ap (λ v. v.items) c.in-Ok-guarded.ensures.lost) c.in-Ok.ensures.ok;
-  of = subst (λ d. IsDiskOf g.F.Store.Store.held g.F.Store.Store.honest g.F.Syncs.Syncs.marked c.args.words.now.read_only c.in-Ok.looked.told c.in-Ok.looked.found c.in-Ok.looked.store d c.in-Ok-keep_mark_of.syncs)
-      (sym c.in-Ok-guarded.ensures.sectors) (record {
-        held_array = c.in-Ok-disk_of.ensures.honest;
-        bytes = c.in-Ok-disk_of.ensures.bytes;
-        keeps = λ writes marked. c.in-Ok-keep_mark_of.ensures.marked writes marked ∙ ap (λ n. after_sync n false c.in-Ok.looked.found.mark) c.next_sequence-next.ensures;
-      });
+  device = c.in-Ok-disk_of.disk;
+  device_is = ap (λ d. d.device) c.in-Ok-guarded.ensures.sectors ∙ c.reopening-device.ensures.device;
+  not_reopened = ap (λ d. d.reopened) c.in-Ok-guarded.ensures.sectors ∙ c.reopening-device.ensures.reopened;
+  room = ap (λ d. d.capacity) c.in-Ok-guarded.ensures.sectors ∙ c.reopening-device.ensures.capacity;
+  again = ap (λ d. d.sync_when) c.in-Ok-guarded.ensures.sectors ∙ c.reopening-device.ensures.sync_when ∙ c.sync_when-sync_when.ensures;
+  of = record {
+    held_array = c.in-Ok-disk_of.ensures.honest;
+    bytes = c.in-Ok-disk_of.ensures.bytes;
+    syncs_when = c.in-Ok-disk_of.ensures.syncs;
+    keeps = λ writes marked. c.in-Ok-keep_mark_of.ensures.marked writes marked ∙ ap (λ n. after_sync n false c.in-Ok.looked.found.mark) c.next_sequence-next.ensures;
+  };
   mended_is = c.mended-mended.ensures;
   none_failed = c.in-Ok-guarded.ensures.failed;
   place = c.in-Ok-keeper_at.keeper;

@@ -14,6 +14,6 @@ returns-in-Err-clause-served g c = inr (record {
 
 pub returns-clause-served : goal.returns-clause-served
 returns-clause-served g c =
-    served_at g.F.Store.Store.held g.F.Store.Store.honest g.F.Store.TellsMended.mended g.F.Store.Store.failed g.F.Syncs.Syncs.synced g.F.Syncs.Syncs.failed g.F.Syncs.Syncs.marked g.F.Lists.KeepsLost.kept g.F.Lists.KeepsLost.failed
+    served_at g.F.Store.Store.held g.F.Store.Store.honest g.F.Store.TellsFull.full g.F.Store.TellsMended.mended g.F.Store.Store.failed g.F.Syncs.Syncs.synced g.F.Syncs.Syncs.failed g.F.Syncs.Syncs.marked g.F.Lists.KeepsLost.kept g.F.Lists.KeepsLost.failed
     (g.F.DiskFiles.answers c.args.files.now) c.args.words c.in-Ok.ready.2 c.in-Ok.ready.3 c.in-Ok.ready.0 c.in-Ok.ready.1
     c.terms_of-terms.result _ _ _ _ _ _ c.serve_client.result c.in-Ok.ensures.ok c.in-Ok.ensures.named c.terms_of-terms.ensures c.serve_client.ensures

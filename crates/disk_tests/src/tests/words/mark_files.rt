@@ -38,6 +38,8 @@ impl ByteFile for FailingBytes {
 
     ghost gave = { λ _ _ _ _. ⊤ };
 
+    ghost wrote = { λ _ _ _ _ _. ⊤ };
+
     fn read_at(&mut self, to: &mut [u8], at: u64) -> Result<usize, ByteFault> {
         self.bytes.read_at(to, at)
     }

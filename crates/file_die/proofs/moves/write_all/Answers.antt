@@ -1,10 +1,11 @@
-use Rattle.std.proofs.Common.{arith, refl}
+use Rattle.std.proofs.Common.{arith, inl, refl}
 use Rattle.file_die.proofs.BytesLemmas.{going_first, all_written, not_written}
 use Rattle.file_die.proofs.moves.write_all.Goals as goal
 
 pub loop-init : goal.loop-init
 loop-init g c = record {
   most = omega arith;
+  room = inl refl;
   honest = refl;
   tells = λ size reads. refl;
   going = λ h l. going_first _ _ _ l;

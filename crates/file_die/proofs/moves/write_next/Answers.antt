@@ -1,5 +1,5 @@
 use Rattle.std.proofs.Common.{◌+◌, ◌≤◌, arith, length, length-drop}
-use Rattle.file_die.proofs.BytesLemmas.{going_on, going_still, rest_is, tells_next}
+use Rattle.file_die.proofs.BytesLemmas.{fails_by, going_on, going_still, rest_is, tells_next}
 use Rattle.file_die.proofs.moves.write_next.Goals as goal
 
 pub returns-in-Ok-eq0-clause-goes : goal.returns-in-Ok-eq0-clause-goes
@@ -30,6 +30,8 @@ returns-in-Err-Interrupted-clause-told g c h first l going size reads tells =
 pub returns-in-Err : goal.returns-in-Err
 returns-in-Err g c = record {
   next = tt;
+  room = tt;
+  fails = fails_by g.F.ByteFile.wrote _ _ _ _ _ c.in-Err.ensures.wrote;
   goes = λ h first l going. going_still first c.args.at c.args.bytes.now c.args.done _ _ _ _ (rest_is c.args.done c.args.bytes.now) l (omega (arith, c.requires.unfinished)) going (c.write_at.ensures.writes h going.reaches);
   told = λ h first l going size reads tells. tells_next size reads first c.args.at c.args.bytes.now c.args.done _ _ _ (rest_is c.args.done c.args.bytes.now) l (omega (arith, c.requires.unfinished)) going (c.write_at.ensures.told h going.reaches size reads tells);
   honest = c.write_at.ensures.honest;

@@ -1,0 +1,232 @@
+-- What a call of a device comes to that is opened anew where its store was full.
+use Rattle.std.proofs.Common.{◌≡◌, ◌*◌, ◌&&◌, inl, inr, ℕ, Bool, true, false, List, [], Option, Some, None, Result, Ok, Err, length, replicate, refl, sym, ap, ◌∙◌, subst}
+use Rattle.std.specs.Prelude.{not, OnOk, slice_index}
+use Rattle.std.proofs.lemmas.List.{length-replicate}
+use Rattle.onfi_cycles.specs.Driver.{DriverState}
+use Rattle.file_die.specs.Die.{FileState}
+use Rattle.file_die.specs.Store.{Held}
+use Rattle.ftl_device.specs.declared.device.Device.{Device}
+use Rattle.nbd_stream.specs.declared.fault.DiskFault.{DiskFault}
+use Rattle.nbd_stream.specs.declared.fault.DiskFault.TheVariants as fault
+use Rattle.nbd_stream.specs.declared.reply.RequestError.{RequestError}
+use Rattle.nbd_stream.specs.declared.reply.RequestError.TheVariants.{InputOutput}
+use Rattle.nbd_stream.specs.declared.task.Task.{Task}
+use Rattle.nbd_stream.specs.Disk.{Contents, Idles, MayAnswer, Performs, Steps, answer_from, error_for}
+use Rattle.disk_server.specs.Asked.{HasZeros, SparesZeros}
+use Rattle.disk_server.specs.Disk.{contents_of, holds}
+use Rattle.disk_server.specs.Opened.{flash_in, is_honest_in}
+use Rattle.nbd_stream.specs.declared.task.Task.TheVariants.{Read}
+use Rattle.disk_server.specs.Reopened.{AreParts, HasDevice, IsGone, IsOpenedFrom, ReadsDevice, Reopened, Reopens, Settles, Terms, bytes_by, contents_in, holds_by, holds_in, reads_of, terms_of}
+
+both : (a b : Bool) → (a && b) ≡ true → (a ≡ true) × (b ≡ true)
+both true true e = (refl, refl)
+both true false e = (let no : ⊥ = cc in absurd no)
+both false b e = (let no : ⊥ = cc in absurd no)
+
+joined : (a b : Bool) → a ≡ true → b ≡ true → (a && b) ≡ true
+joined true true e f = refl
+joined true false e f = f
+joined false b e f = e
+
+never : (b : Bool) → b ≡ false → b ≡ true → ⊥
+never true e f = (let no : ⊥ = cc in no)
+never false e f = (let no : ⊥ = cc in no)
+
+on_ok : {X E A B : Type 0} → (answer : Result X E) → (A → B) → OnOk answer A → OnOk answer B
+on_ok (Ok x) f h = f h
+on_ok (Err e) f h = tt
+
+module _ {S : Type 0} (held : S → Held) (honest : S → Bool) where
+  abbrev pub at : Device (DriverState (FileState S)) → Contents
+  at d = contents_of (flash_in held) (is_honest_in honest) d
+
+  abbrev pub going : Device (DriverState (FileState S)) → Bool
+  going d = holds (is_honest_in honest) d
+
+  shown_as : (r : Reopened S) (d : Device (DriverState (FileState S))) → r.device ≡ Some d → contents_in held honest r ≡ at d
+  shown_as r d is = ap (λ (o : Option (Device (DriverState (FileState S)))). record { bytes = bytes_by held honest r.size r.count o; durable = bytes_by held honest r.size r.count o }) is
+
+  holds_as : (r : Reopened S) (d : Device (DriverState (FileState S))) → r.device ≡ Some d → holds_in honest r ≡ (not r.reopened && going d)
+  holds_as r d is = ap (holds_by honest r.reopened) is
+
+  long_as : (r : Reopened S) (d : Device (DriverState (FileState S))) → r.device ≡ Some d → length (at d).bytes ≡ r.count * r.size → length (contents_in held honest r).bytes ≡ r.count * r.size
+  long_as r d is long = ap (λ (c : Contents). length c.bytes) (shown_as r d is) ∙ long
+
+  long_none : (r : Reopened S) → r.device ≡ None → length (contents_in held honest r).bytes ≡ r.count * r.size
+  long_none r is = ap (λ (o : Option (Device (DriverState (FileState S)))). length (bytes_by held honest r.size r.count o)) is ∙ length-replicate {A = ℕ} (r.count * r.size) 0
+
+  -- THE DEVICE GOES ON
+  module _ (old new : Reopened S) (d left : Device (DriverState (FileState S))) (was : old.device ≡ Some d) (there : HasDevice (terms_of old) old.reopened old.next (Some left) new) where
+    as_held : going left ≡ going d → holds_in honest new ≡ holds_in honest old
+    as_held same = holds_as new left there.device_is ∙ ap (λ (b : Bool). not b && going left) there.reopened_is ∙ ap (λ (h : Bool). not old.reopened && h) same ∙ sym (holds_as old d was)
+
+    left_holds : holds_in honest new ≡ true → going left ≡ true
+    left_holds h = (both (not new.reopened) (going left) (sym (holds_as new left there.device_is) ∙ h)).1
+
+    held_before : (going left ≡ true → going d ≡ true) → holds_in honest new ≡ true → holds_in honest old ≡ true
+    held_before back h =
+        let parts = both (not new.reopened) (going left) (sym (holds_as new left there.device_is) ∙ h) in
+        holds_as old d was ∙ joined (not old.reopened) (going d) (ap not (sym there.reopened_is) ∙ parts.0) (back parts.1)
+
+    same_long : length (at left).bytes ≡ length (at d).bytes → length (contents_in held honest new).bytes ≡ length (contents_in held honest old).bytes
+    same_long same = ap (λ (c : Contents). length c.bytes) (shown_as new left there.device_is) ∙ same ∙ sym (ap (λ (c : Contents). length c.bytes) (shown_as old d was))
+
+    pub goes_on : (task : Task) (body : List ℕ) (answer : Result (List ℕ) RequestError) → Performs at going (λ x. false) task body d answer left
+        → Performs (contents_in held honest) (holds_in honest) (λ x. false) task body old answer new
+    goes_on task body answer p = record {
+      sized = same_long p.sized;
+      kept = on_ok answer as_held p.kept;
+      back = held_before p.back;
+      calm_is = refl;
+      fault = p.fault;
+      given = p.given;
+      calmly = λ calm. (let no : ⊥ = cc in absurd no);
+      steps = λ h. subst (λ (c : Contents). Steps task body c answer (contents_in held honest new)) (sym (shown_as old d was))
+          (subst (λ (c : Contents). Steps task body (at d) answer c) (sym (shown_as new left there.device_is)) (p.steps (left_holds h)));
+    }
+
+    pub idles_on : (answer : Result (Unit {0}) DiskFault) → Idles at going (λ x. false) d answer left → Idles (contents_in held honest) (holds_in honest) (λ x. false) old answer new
+    idles_on answer p =
+        let same : holds_in honest new ≡ true → (contents_in held honest new).bytes ≡ (contents_in held honest old).bytes =
+        λ h. (ap (λ (c : Contents). c.bytes) (shown_as new left there.device_is) ∙ p.bytes (left_holds h) ∙ sym (ap (λ (c : Contents). c.bytes) (shown_as old d was))) in
+        record {
+          sized = same_long p.sized;
+          kept = on_ok answer as_held p.kept;
+          was_honest = held_before p.was_honest;
+          calm_is = refl;
+          fault = p.fault;
+          calmly = λ calm. (let no : ⊥ = cc in absurd no);
+          bytes = same;
+          stays = λ h place. inl (ap (λ (l : List ℕ). slice_index l place) (same h));
+        }
+
+  -- IT HOLDS NO MORE
+  pub ends : (task : Task) (body : List ℕ) (old new : Reopened S) (e : RequestError) → holds_in honest new ≡ false → length (contents_in held honest new).bytes ≡ length (contents_in held honest old).bytes → MayAnswer task e
+      → Performs (contents_in held honest) (holds_in honest) (λ x. false) task body old (Err e) new
+  ends task body old new e over same may = record {
+    sized = same;
+    kept = tt;
+    back = λ h. absurd (never (holds_in honest new) over h);
+    calm_is = refl;
+    fault = may;
+    given = tt;
+    calmly = λ calm. (let no : ⊥ = cc in absurd no);
+    steps = λ h. absurd (never (holds_in honest new) over h);
+  }
+
+  pub idle_ends : (old new : Reopened S) → holds_in honest new ≡ false → length (contents_in held honest new).bytes ≡ length (contents_in held honest old).bytes
+      → Idles (contents_in held honest) (holds_in honest) (λ x. false) old (Err fault.Failed) new
+  idle_ends old new over same = record {
+    sized = same;
+    kept = tt;
+    was_honest = λ h. absurd (never (holds_in honest new) over h);
+    calm_is = refl;
+    fault = refl;
+    calmly = λ calm. (let no : ⊥ = cc in absurd no);
+    bytes = λ h. absurd (never (holds_in honest new) over h);
+    stays = λ h place. absurd (never (holds_in honest new) over h);
+  }
+
+  module _ (full : S → Bool) (failed : S → ℕ) (old new : Reopened S) (d left : Device (DriverState (FileState S))) (was : old.device ≡ Some d) (long : length (at d).bytes ≡ old.count * old.size) where
+    anew_no : Reopens held honest full (terms_of old) left new → holds_in honest new ≡ false
+    anew_no r = holds_as new r.device r.there.device_is ∙ ap (λ (b : Bool). not b && going r.device) r.there.reopened_is
+
+    anew_long : Reopens held honest full (terms_of old) left new → length (contents_in held honest new).bytes ≡ length (contents_in held honest old).bytes
+    anew_long r = ap (λ (c : Contents). length c.bytes) (shown_as new r.device r.there.device_is) ∙ r.long ∙ sym (long_as old d was long)
+
+    gone_no : IsGone held honest full failed (terms_of old) old.reopened left new → holds_in honest new ≡ false
+    gone_no r = ap (holds_by honest new.reopened) r.none.device_is
+
+    gone_long : IsGone held honest full failed (terms_of old) old.reopened left new → length (contents_in held honest new).bytes ≡ length (contents_in held honest old).bytes
+    gone_long r = long_none new r.none.device_is ∙ ap (λ t. t.count * t.size) r.none.terms_are ∙ sym (long_as old d was long)
+
+    -- A CALL AND WHAT IT COMES TO, as a task
+    pub performs : (told : DiskFault) (task : Task) (body : List ℕ) (answer result : Result (Unit {0}) DiskFault) → MayAnswer task (error_for told) → MayAnswer task InputOutput
+        → Performs at going (λ x. false) task body d (answer_from answer []) left → Settles held honest full failed told (terms_of old) old.reopened old.next left answer result new
+        → Performs (contents_in held honest) (holds_in honest) (λ x. false) task body old (answer_from result []) new
+    performs told task body (Ok done) result may input p s =
+        subst (λ r. Performs (contents_in held honest) (holds_in honest) (λ x. false) task body old (answer_from r []) new) (sym s.0) (goes_on old new d left was s.1 task body (Ok []) p)
+    performs told task body (Err fault.ReadOnly) result may input p s =
+        subst (λ r. Performs (contents_in held honest) (holds_in honest) (λ x. false) task body old (answer_from r []) new) (sym s.0) (goes_on old new d left was s.1 task body (Err (error_for fault.ReadOnly)) p)
+    performs told task body (Err fault.NoSpace) result may input p s =
+        subst (λ r. Performs (contents_in held honest) (holds_in honest) (λ x. false) task body old (answer_from r []) new) (sym s.0) (goes_on old new d left was s.1 task body (Err (error_for fault.NoSpace)) p)
+    performs told task body (Err fault.Failed) result may input p (inl s) =
+        subst (λ r. Performs (contents_in held honest) (holds_in honest) (λ x. false) task body old (answer_from r []) new) (sym s.0) (ends task body old new (error_for told) (anew_no s.1) (anew_long s.1) may)
+    performs told task body (Err fault.Failed) result may input p (inr s) =
+        subst (λ r. Performs (contents_in held honest) (holds_in honest) (λ x. false) task body old (answer_from r []) new) (sym s.0) (ends task body old new InputOutput (gone_no s.1) (gone_long s.1) input)
+
+    -- as a rest
+    pub idles : (answer result : Result (Unit {0}) DiskFault) → Idles at going (λ x. false) d answer left → Settles held honest full failed fault.Failed (terms_of old) old.reopened old.next left answer result new
+        → Idles (contents_in held honest) (holds_in honest) (λ x. false) old result new
+    idles (Ok done) result p s = subst (λ r. Idles (contents_in held honest) (holds_in honest) (λ x. false) old r new) (sym s.0) (idles_on old new d left was s.1 (Ok done) p)
+    idles (Err fault.ReadOnly) result p s = subst (λ r. Idles (contents_in held honest) (holds_in honest) (λ x. false) old r new) (sym s.0) (idles_on old new d left was s.1 (Err fault.ReadOnly) p)
+    idles (Err fault.NoSpace) result p s = subst (λ r. Idles (contents_in held honest) (holds_in honest) (λ x. false) old r new) (sym s.0) (idles_on old new d left was s.1 (Err fault.NoSpace) p)
+    idles (Err fault.Failed) result p (inl s) = subst (λ r. Idles (contents_in held honest) (holds_in honest) (λ x. false) old r new) (sym s.0) (idle_ends old new (anew_no s.1) (anew_long s.1))
+    idles (Err fault.Failed) result p (inr s) = subst (λ r. Idles (contents_in held honest) (holds_in honest) (λ x. false) old r new) (sym s.0) (idle_ends old new (gone_no s.1) (gone_long s.1))
+
+    -- a sector that is cleared
+    spared_on : (offset count : ℕ) → SparesZeros at going (reads_of held honest) offset count d left → HasDevice (terms_of old) old.reopened old.next (Some left) new
+        → SparesZeros (contents_in held honest) (holds_in honest) (ReadsDevice (reads_of held honest)) offset count old new
+    spared_on offset count spares there h zeros = inr (record {
+      device = d;
+      was = was;
+      left = left;
+      asked = spares (left_holds old new d left was there h) (subst (λ (c : Contents). HasZeros offset count c.bytes) (shown_as old d was) zeros);
+      there = there;
+    })
+
+    pub spared : (told : DiskFault) (offset count : ℕ) (answer result : Result (Unit {0}) DiskFault) → SparesZeros at going (reads_of held honest) offset count d left
+        → Settles held honest full failed told (terms_of old) old.reopened old.next left answer result new
+        → SparesZeros (contents_in held honest) (holds_in honest) (ReadsDevice (reads_of held honest)) offset count old new
+    spared told offset count (Ok done) result spares s = spared_on offset count spares s.1
+    spared told offset count (Err fault.ReadOnly) result spares s = spared_on offset count spares s.1
+    spared told offset count (Err fault.NoSpace) result spares s = spared_on offset count spares s.1
+    spared told offset count (Err fault.Failed) result spares (inl s) = λ h zeros. absurd (never (holds_in honest new) (anew_no s.1) h)
+    spared told offset count (Err fault.Failed) result spares (inr s) = λ h zeros. absurd (never (holds_in honest new) (gone_no s.1) h)
+
+-- as many bytes as its sectors have
+pub long_before : (size count size' count' n : ℕ) → size' ≡ size → count' ≡ count → n ≡ count' * size' → n ≡ count * size
+long_before size count size' count' n sized counted long = long ∙ (ap (λ k. k * size') counted ∙ ap (λ k. count * k) sized)
+
+-- the store of a device that has stopped was full, and was opened
+pub reopens : {S : Type 0} (held : S → Held) (honest full : S → Bool) (terms : Terms) (left : Device (DriverState (FileState S))) (new : Reopened S) (store : S) → store ≡ left.engine.nand.bus.store → full store ≡ true
+    → (next : ℕ) → next ≡ left.engine.next
+    → ((d : Device (DriverState (FileState S))) × IsOpenedFrom held honest terms store d × HasDevice terms true next (Some d) new × (length (contents_of (flash_in held) (is_honest_in honest) d).bytes ≡ terms.count * terms.size))
+    → Reopens held honest full terms left new
+reopens held honest full terms left new store same is next last opened = record {
+  was_full = ap full (sym same) ∙ is;
+  device = opened.0;
+  opened = subst (λ s. IsOpenedFrom held honest terms s opened.0) same opened.1;
+  long = opened.3;
+  there = subst (λ n. HasDevice terms true n (Some opened.0) new) last opened.2;
+}
+
+some_same : {A : Type 0} (x y : A) → Some x ≡ Some y → x ≡ y
+some_same x y e = cc
+
+-- another device of the same sectors
+pub parts_on : {S : Type 0} (size count capacity : ℕ) (device : Option (Device (DriverState (FileState S)))) (d left : Device (DriverState (FileState S))) → device ≡ Some d → AreParts size count capacity device
+    → left.engine.geometry.data_bytes ≡ d.engine.geometry.data_bytes → left.engine.geometry.sectors ≡ d.engine.geometry.sectors → AreParts size count capacity (Some left)
+parts_on size count capacity device d left was parts sizes counts = record {
+  some = parts.some;
+  bounded = parts.bounded;
+  least = parts.least;
+  most = parts.most;
+  sized = λ x is. (let same : left ≡ x = some_same left x is in ap (λ y. y.engine.geometry.data_bytes) (sym same) ∙ sizes ∙ parts.sized d was);
+  counted = λ x is. (let same : left ≡ x = some_same left x is in ap (λ y. y.engine.geometry.sectors) (sym same) ∙ counts ∙ parts.counted d was);
+}
+
+-- what was given of a sector, by the device that was there
+pub given_of : {S : Type 0} (held : S → Held) (honest : S → Bool) (n size : ℕ) (before after : Option (Device (DriverState (FileState S)))) (d left : Device (DriverState (FileState S))) (answer : Result (List ℕ) RequestError) → before ≡ Some d → after ≡ Some left
+    → Performs (contents_of (flash_in held) (is_honest_in honest)) (holds (is_honest_in honest)) (λ x. false) (Read (n * size) size) [] d answer left
+    → (x : Device (DriverState (FileState S))) → before ≡ Some x → (y : Device (DriverState (FileState S))) × (after ≡ Some y) × Performs (contents_of (flash_in held) (is_honest_in honest)) (holds (is_honest_in honest)) (λ z. false) (Read (n * size) size) [] x answer y
+given_of held honest n size before after d left answer was is p = λ x there. (left, is, subst (λ y. Performs (contents_of (flash_in held) (is_honest_in honest)) (holds (is_honest_in honest)) (λ z. false) (Read (n * size) size) [] y answer left) (some_same d x (sym was ∙ there)) p)
+
+-- the terms stay
+pub settled_terms : {S : Type 0} (held : S → Held) (honest full : S → Bool) (failed : S → ℕ) (told : DiskFault) (terms : Terms) (reopened : Bool) (next : ℕ) (left : Device (DriverState (FileState S))) (answer result : Result (Unit {0}) DiskFault) (new : Reopened S)
+    → Settles held honest full failed told terms reopened next left answer result new → terms_of new ≡ terms
+settled_terms held honest full failed told terms reopened next left (Ok done) result new s = s.1.terms_are
+settled_terms held honest full failed told terms reopened next left (Err fault.ReadOnly) result new s = s.1.terms_are
+settled_terms held honest full failed told terms reopened next left (Err fault.NoSpace) result new s = s.1.terms_are
+settled_terms held honest full failed told terms reopened next left (Err fault.Failed) result new (inl s) = s.1.there.terms_are
+settled_terms held honest full failed told terms reopened next left (Err fault.Failed) result new (inr s) = s.1.none.terms_are

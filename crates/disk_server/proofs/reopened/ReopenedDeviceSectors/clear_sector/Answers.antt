@@ -1,0 +1,36 @@
+use Rattle.std.proofs.Common.{◌*◌, [], false, inl, inr, ap, refl, subst, sym}
+use Rattle.nbd_stream.specs.declared.fault.DiskFault.TheVariants as fault
+use Rattle.nbd_stream.specs.declared.task.Task.TheVariants.{Trim}
+use Rattle.nbd_stream.specs.Disk.{Performs, answer_from}
+use Rattle.disk_server.specs.Asked.{SparesZeros}
+use Rattle.disk_server.specs.Reopened.{reads_of}
+use Rattle.disk_server.proofs.ReopenedLemmas.{at, going, long_before, performs, settled_terms, spared}
+use Rattle.disk_server.proofs.reopened.ReopenedDeviceSectors.clear_sector.Goals as goal
+
+pub returns-clause-performs : goal.returns-clause-performs
+returns-clause-performs g c =
+    let was = sym c.in-Some.ensures.value in
+    let sized = c.self.invariant.sized _ was in
+    let asked = subst (λ k. Performs (at g.S.Store.held g.S.Store.honest) (going g.S.Store.held g.S.Store.honest) (λ x. false) (Trim (c.args.sector * k) k false) [] c.in-Some.device (answer_from c.clear_sector-answer.result []) c.clear_sector-answer.new.self)
+    sized c.clear_sector-answer.ensures.performs in
+    rw (← c.self.view_is) (performs g.S.Store.held g.S.Store.honest g.S.TellsFull.full g.S.Store.failed _ c.settle.new.self c.in-Some.device c.clear_sector-answer.new.self was
+    (long_before _ _ _ _ _ sized (c.self.invariant.counted _ was) c.sector_count-count.ensures.whole) fault.NoSpace _ [] c.clear_sector-answer.result c.settle.result (inr (inr refl)) (inl refl) asked c.settle.ensures)
+
+pub returns-clause-asked : goal.returns-clause-asked
+returns-clause-asked g c =
+    let was = sym c.in-Some.ensures.value in
+    rw (← c.self.view_is) (inr (record { device = c.in-Some.device; was = was; left = c.clear_sector-answer.new.self; answer = c.clear_sector-answer.result; asked = c.clear_sector-answer.ensures.asked; settles = c.settle.ensures }))
+
+pub returns-clause-spares : goal.returns-clause-spares
+returns-clause-spares g c =
+    let was = sym c.in-Some.ensures.value in
+    let sized = c.self.invariant.sized _ was in
+    let spares = subst (λ k. SparesZeros (at g.S.Store.held g.S.Store.honest) (going g.S.Store.held g.S.Store.honest) (reads_of g.S.Store.held g.S.Store.honest) (c.args.sector * k) k c.in-Some.device c.clear_sector-answer.new.self) sized c.clear_sector-answer.ensures.spares in
+    rw (← c.self.view_is) (spared g.S.Store.held g.S.Store.honest g.S.TellsFull.full g.S.Store.failed _ c.settle.new.self c.in-Some.device c.clear_sector-answer.new.self was
+    (long_before _ _ _ _ _ sized (c.self.invariant.counted _ was) c.sector_count-count.ensures.whole) fault.NoSpace _ _ c.clear_sector-answer.result c.settle.result spares c.settle.ensures)
+
+pub returns-clause-size : goal.returns-clause-size
+returns-clause-size g c = rw (← c.self.view_is) (ap (λ t. t.size) (settled_terms g.S.Store.held g.S.Store.honest g.S.TellsFull.full g.S.Store.failed _ _ _ _ _ c.clear_sector-answer.result c.settle.result c.settle.new.self c.settle.ensures))
+
+pub returns-clause-count : goal.returns-clause-count
+returns-clause-count g c = rw (← c.self.view_is) (ap (λ t. t.count) (settled_terms g.S.Store.held g.S.Store.honest g.S.TellsFull.full g.S.Store.failed _ _ _ _ _ c.clear_sector-answer.result c.settle.result c.settle.new.self c.settle.ensures))
