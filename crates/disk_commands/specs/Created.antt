@@ -1,8 +1,9 @@
 -- A disk that was created.
-use Rattle.std.specs.Prelude.{◌≡◌, ◌⊎◌, ◌*◌, ℕ, Bool, true, false, List, Option}
+use Rattle.std.specs.Prelude.{◌≡◌, ◌⊎◌, ◌<◌, ◌*◌, ℕ, Bool, true, false, List, length, Option}
 use Rattle.std.specs.Borrow.{Bor}
 use Rattle.page_layout.specs.declared.geometry.Geometry.{Geometry}
 use Rattle.page_layout.specs.Geometry.{page_bytes, row_count}
+use Rattle.page_layout.specs.Counter.{HasRisen}
 use Rattle.file_die.specs.Store.{Held, blank}
 use Rattle.image_check.specs.declared.refusal.Refusal.TheVariants.{TooStale}
 use Rattle.certificate.specs.Claim.{Claim}
@@ -18,17 +19,21 @@ use Rattle.disk_server.specs.declared.format.CreateFault.TheVariants as create
 use Rattle.disk_server.specs.Made.{IsMade, IsUnmade}
 use Rattle.disk_server.specs.Opened.{IsUnopened}
 use Rattle.disk_commands.specs.declared.text.DiskFault.{DiskFault}
+use Rattle.disk_commands.specs.declared.files.FileFault.TheVariants as file
 use Rattle.disk_commands.specs.declared.text.DiskFault.TheVariants as fault
+use Rattle.disk_commands.specs.BadBlocks.{AreBadAsked, AreNoneAsked, HasMarks, is_copied}
 use Rattle.disk_commands.specs.Asked.{IsNoShapeAsked, IsShapeAsked}
 use Rattle.disk_commands.specs.Files.{Answers, Kept, with_kept}
 use Rattle.disk_commands.specs.Opening.{IsCopyFault, IsFaultAt, IsNotFree}
 
 -- ---- the die
 
--- erased pages became those of a formatted die, and all of them last
-pub record IsNewDie (g : Geometry) (s : Held) : Type 0 where
+-- erased pages, with the marks of the blocks that are bad from the start, became those of a formatted die, and all of them last
+pub record IsNewDie (g : Geometry) (bad : List ℕ) (s : Held) : Type 0 where
+  pub first : Held
+  pub marks : HasMarks g bad first
   pub good : ℕ
-  pub made : IsMade (blank g) s good
+  pub made : IsMade first s good
 
 -- A STORE WHOSE PAGES MOUNT with a cache of so many entries; or too many of its sectors are stale for that, and a server makes room. They stay
 pub record Mounts (s : Held) (capacity : ℕ) (t : Held) : Type 0 where
@@ -44,10 +49,10 @@ pub record IsDieOf (a : Answers) (dump : List ℕ) (shape : Shape) (s : Held) : 
   pub mounts : Mounts first shape.cache s
 
 -- what was asked for
-abbrev pub IsDieFor : Answers → MakeWords → Shape → Held → Type 0
-IsDieFor a (make.Size word) shape s = IsNewDie shape.geometry s
-IsDieFor a (make.Geometry word) shape s = IsNewDie shape.geometry s
-IsDieFor a (make.Dump word from) shape s = IsDieOf a from.now shape s
+abbrev pub IsDieFor : Answers → MakeWords → Shape → (bad : List ℕ) → Held → Type 0
+IsDieFor a (make.Size word) shape bad s = IsNewDie shape.geometry bad s
+IsDieFor a (make.Geometry word) shape bad s = IsNewDie shape.geometry bad s
+IsDieFor a (make.Dump word from) shape bad s = IsDieOf a from.now shape s
 
 -- ---- the disk
 
@@ -55,9 +60,11 @@ IsDieFor a (make.Dump word from) shape s = IsDieOf a from.now shape s
 pub record HasCreated {S : Type 0} (held : S → Held) (honest : S → Bool) (a : Answers) (words : CreateWords) (before after : Option (List Kept)) : Type 0 where
   pub shape : Shape
   pub asked : IsShapeAsked words shape
+  pub bad : List ℕ
+  pub bad_asked : AreBadAsked (is_copied words.make) words.bad shape.geometry bad
   pub free : a.says_there words.disk.now false
   pub store : S
-  pub die : honest store ≡ true → IsDieFor a words.make shape (held store)
+  pub die : honest store ≡ true → IsDieFor a words.make shape bad (held store)
   pub is_honest : honest store ≡ a.honest
   pub kept : after ≡ with_kept before (record { path = words.disk.now; held = held store; text = shape_text shape })
 
@@ -68,12 +75,18 @@ abbrev pub unformatted : Bor (List ℕ) → CreateFault → DiskFault
 unformatted path (create.Open open_store.OutOfMemory) = fault.OutOfMemory
 unformatted path why = fault.Create path why
 
--- erased pages were not formatted
-abbrev pub IsUnformatted : {S : Type 0} → (S → Held) → (honest : S → Bool) → (failed : S → ℕ) → Answers → (path : List ℕ) → Geometry → DiskFault → Type 0
-IsUnformatted {S} held honest failed a path g (fault.Create told why) =
-    (told.now ≡ path) × ((store given : S) × (honest store ≡ a.honest) × (honest store ≡ true → held store ≡ blank g) × IsUnmade held honest failed store given why)
-IsUnformatted held honest failed a path g fault.OutOfMemory = Unit {0}
-IsUnformatted held honest failed a path g told = IsFaultAt a path 0 told
+-- the blocks that are bad from the start were not marked: a put failed
+abbrev pub IsUnmarked : {S : Type 0} → (S → Held) → (honest : S → Bool) → (failed : S → ℕ) → Answers → Geometry → (bad : List ℕ) → Type 0
+IsUnmarked {S} held honest failed a g bad =
+    (0 < length bad) × ((store left : S) × (honest store ≡ a.honest) × (honest store ≡ true → held store ≡ blank g) × HasRisen (failed store) (failed left))
+
+-- erased pages were not marked or not formatted
+abbrev pub IsUnformatted : {S : Type 0} → (S → Held) → (honest : S → Bool) → (failed : S → ℕ) → Answers → (path : List ℕ) → Geometry → (bad : List ℕ) → DiskFault → Type 0
+IsUnformatted {S} held honest failed a path g bad (fault.Create told why) =
+    (told.now ≡ path) × ((store given : S) × (honest store ≡ a.honest) × (honest store ≡ true → HasMarks g bad (held store)) × IsUnmade held honest failed store given why)
+IsUnformatted held honest failed a path g bad (fault.Write told) = (told.now ≡ path) × (a.fails path file.Write ⊎ IsUnmarked held honest failed a g bad)
+IsUnformatted held honest failed a path g bad fault.OutOfMemory = Unit {0}
+IsUnformatted held honest failed a path g bad told = IsFaultAt a path 0 told
 
 -- a dump was not copied, or is no die with a device on it
 abbrev pub IsNoDump : {S : Type 0} → (S → Held) → (honest : S → Bool) → (failed : S → ℕ) → Answers → (path dump : List ℕ) → Shape → DiskFault → Type 0
@@ -81,20 +94,20 @@ IsNoDump {S} held honest failed a path dump shape (fault.Open told why) =
     (told.now ≡ dump) × ((store given : S) × a.holds dump (held store) × ((held store).geometry ≡ shape.geometry) × IsUnopened held honest failed store shape.cache given why)
 IsNoDump held honest failed a path dump shape told = IsCopyFault a path dump (row_count shape.geometry * page_bytes shape.geometry) told
 
-abbrev pub IsUnmadeFor : {S : Type 0} → (S → Held) → (honest : S → Bool) → (failed : S → ℕ) → Answers → (path : List ℕ) → MakeWords → Shape → DiskFault → Type 0
-IsUnmadeFor held honest failed a path (make.Size word) shape told = IsUnformatted held honest failed a path shape.geometry told
-IsUnmadeFor held honest failed a path (make.Geometry word) shape told = IsUnformatted held honest failed a path shape.geometry told
-IsUnmadeFor held honest failed a path (make.Dump word from) shape told = IsNoDump held honest failed a path from.now shape told
+abbrev pub IsUnmadeFor : {S : Type 0} → (S → Held) → (honest : S → Bool) → (failed : S → ℕ) → Answers → (path : List ℕ) → MakeWords → Shape → (bad : List ℕ) → DiskFault → Type 0
+IsUnmadeFor held honest failed a path (make.Size word) shape bad told = IsUnformatted held honest failed a path shape.geometry bad told
+IsUnmadeFor held honest failed a path (make.Geometry word) shape bad told = IsUnformatted held honest failed a path shape.geometry bad told
+IsUnmadeFor held honest failed a path (make.Dump word from) shape bad told = IsNoDump held honest failed a path from.now shape told
 
 -- the die was not put in its place, or memory for the text was refused
 abbrev pub IsUnkept : Answers → (path : List ℕ) → DiskFault → Type 0
 IsUnkept a path fault.OutOfMemory = Unit {0}
 IsUnkept a path told = IsFaultAt a path 0 told
 
--- the first of this order: no shape was asked for, something stands there, the die was not made, it was not put in its place
+-- the first of this order: no shape was asked for, or no bad blocks of it, something stands there, the die was not made, it was not put in its place
 abbrev pub IsUncreated : {S : Type 0} → (S → Held) → (honest : S → Bool) → (failed : S → ℕ) → Answers → CreateWords → DiskFault → Type 0
 IsUncreated held honest failed a words told =
     IsNoShapeAsked words told
-    ⊎ IsNotFree a words.disk.now told
-    ⊎ ((shape : Shape) × IsShapeAsked words shape × a.says_there words.disk.now false
-    × (IsUnmadeFor held honest failed a words.disk.now words.make shape told ⊎ IsUnkept a words.disk.now told))
+    ⊎ ((shape : Shape) × IsShapeAsked words shape × (AreNoneAsked (is_copied words.make) words.bad shape.geometry told
+    ⊎ ((bad : List ℕ) × AreBadAsked (is_copied words.make) words.bad shape.geometry bad × (IsNotFree a words.disk.now told
+    ⊎ (a.says_there words.disk.now false × (IsUnmadeFor held honest failed a words.disk.now words.make shape bad told ⊎ IsUnkept a words.disk.now told))))))

@@ -11,6 +11,7 @@ pub mod Mark
 pub mod MarkFile
 -- the commands
 pub mod Asked
+pub mod BadBlocks
 pub mod Created
 pub mod Files
 pub mod Info

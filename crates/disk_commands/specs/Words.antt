@@ -20,7 +20,7 @@ use Rattle.disk_commands.specs.declared.words.DiskWords.TheVariants as asked
 -- ---- what `clap` is told
 
 abbrev pub create : Shape
-create = command_of (codes "create") (option (codes "size") ∷ option (codes "geometry") ∷ option (codes "from") ∷ option (codes "cache") ∷ option (codes "code") ∷ place (codes "DISK") ∷ [])
+create = command_of (codes "create") (option (codes "size") ∷ option (codes "geometry") ∷ option (codes "from") ∷ option (codes "bad") ∷ option (codes "cache") ∷ option (codes "code") ∷ place (codes "DISK") ∷ [])
 
 abbrev pub serve : Shape
 serve = command_of (codes "serve") (flag (codes "read-only") ∷ option (codes "sync") ∷ option (codes "wait") ∷ place (codes "DISK") ∷ [])
@@ -76,6 +76,7 @@ IsMakeAt rows (made_of.Dump geometry from) = HasMake rows None (Some geometry.no
 pub record IsCreateAt (rows : List Row) (read : CreateWords) : Type 0 where
   pub disk_is : first_of (codes "DISK") rows ≡ Some read.disk.now
   pub make_is : IsMakeAt rows read.make
+  pub bad_is : first_of (codes "bad") rows ≡ option_map (λ word. word.now) read.bad
   pub cache_is : first_of (codes "cache") rows ≡ option_map (λ word. word.now) read.cache
   pub code_is : code (first_of (codes "code") rows) ≡ Some read.code
 

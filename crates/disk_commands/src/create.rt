@@ -1,11 +1,13 @@
 //! The command `create`: a new disk, of a size, of a geometry, or from a dump.
 ghost use Rattle.std.specs.Prelude.{◌≡◌, ◌≤◌, true, false, IfOk, IfErr, OnOk, OnErr};
 ghost use Rattle.disk_commands.specs.ShapeText.{IsWithin, shape_text};
+ghost use Rattle.nand_die.specs.Made.{AreNames};
 ghost use Rattle.disk_commands.specs.Created.{HasCreated, IsDieFor, IsDieOf, IsNewDie, IsNoDump, IsUncreated, IsUnformatted, IsUnkept, IsUnmadeFor, Mounts};
 ghost use Rattle.disk_server.specs.Opened.{IsUnopened};
 ghost use Rattle.disk_commands.specs.Files.{FailsNoMore, with_kept};
 
 use crate::asked::shape_of;
+use crate::bad_blocks::{bad_asked, mark_blocks};
 use crate::files::DiskFiles;
 use crate::opening::{dump_bytes, told_at, told_of_copy, want_free};
 use crate::shape_text::write_shape;
@@ -27,24 +29,33 @@ fn unformatted<'a>(path: &'a str, fault: CreateFault) -> DiskFault<'a>
     }
 }
 
-// A formatted die beside a path.
+// A formatted die beside a path, of which these blocks are bad from the start.
 fn make_new<'a, F: DiskFiles>(
     alloc: Global,
     files: &mut F,
     path: &'a str,
     shape: &Shape,
+    bad: &[u32],
 ) -> Result<F::Store, DiskFault<'a>>
-    ensures made { IfOk result (λ store. F.Store.honest store ≡ true → IsNewDie shape.now.geometry (F.Store.held store)) }
+    requires { AreNames shape.now.geometry bad.now }
+    ensures made { IfOk result (λ store. F.Store.honest store ≡ true → IsNewDie shape.now.geometry bad.now (F.Store.held store)) }
     ensures honest { IfOk result (λ store. F.Store.honest store ≡ (F.answers files.old).honest) }
-    ensures fault { IfErr result (IsUnformatted F.Store.held F.Store.honest F.Store.failed (F.answers files.old) path.now shape.now.geometry) }
+    ensures fault { IfErr result (IsUnformatted F.Store.held F.Store.honest F.Store.failed (F.answers files.old) path.now shape.now.geometry bad.now) }
     ensures no_more { OnOk result (FailsNoMore (F.answers files.old) (F.answers files.new)) }
     ensures kept { F.kept files.new ≡ F.kept files.old }
     ensures opened { F.opened files.new ≡ F.opened files.old }
 {
-    let store = match files.create(alloc, path, shape) {
+    let mut store = match files.create(alloc, path, shape) {
         Ok(store) => store,
         Err(fault) => return Err(told_at(fault, path, 0)),
     };
+    match mark_blocks(alloc, &mut store, &shape.geometry, bad, path) {
+        Ok(()) => {}
+        Err(fault) => {
+            files.discard(path);
+            return Err(fault);
+        }
+    }
     match format_store(alloc, store) {
         Ok((store, _)) => Ok(store),
         Err((_, fault)) => {
@@ -104,18 +115,22 @@ fn make<'a, F: DiskFiles>(
     files: &mut F,
     words: &CreateWords<'a>,
     shape: &Shape,
+    bad: &[u32],
 ) -> Result<F::Store, DiskFault<'a>>
-    requires { IsWithin shape.now.cache }
-    ensures made { IfOk result (λ store. F.Store.honest store ≡ true → IsDieFor (F.answers files.old) words.now.make shape.now (F.Store.held store)) }
+    requires cache { IsWithin shape.now.cache }
+    requires named { AreNames shape.now.geometry bad.now }
+    ensures made { IfOk result (λ store. F.Store.honest store ≡ true → IsDieFor (F.answers files.old) words.now.make shape.now bad.now (F.Store.held store)) }
     ensures honest { IfOk result (λ store. F.Store.honest store ≡ (F.answers files.old).honest) }
-    ensures fault { IfErr result (IsUnmadeFor F.Store.held F.Store.honest F.Store.failed (F.answers files.old) words.now.disk.now words.now.make shape.now) }
+    ensures fault { IfErr result (IsUnmadeFor F.Store.held F.Store.honest F.Store.failed (F.answers files.old) words.now.disk.now words.now.make shape.now bad.now) }
     ensures no_more { OnOk result (FailsNoMore (F.answers files.old) (F.answers files.new)) }
     ensures kept { F.kept files.new ≡ F.kept files.old }
     ensures opened { F.opened files.new ≡ F.opened files.old }
 {
     match words.make {
         MakeWords::Dump { from, .. } => make_copy(alloc, files, words.disk, shape, from),
-        MakeWords::Size(_) | MakeWords::Geometry(_) => make_new(alloc, files, words.disk, shape),
+        MakeWords::Size(_) | MakeWords::Geometry(_) => {
+            make_new(alloc, files, words.disk, shape, bad)
+        }
     }
 }
 
@@ -144,11 +159,11 @@ fn put<'a, F: DiskFiles>(
     }
 }
 
-/// The command `create`: makes the disk DISK, a die and the file beside it that tells its shape. The die is formatted, or with `--from` has the pages of a raw dump. With `--code hamming` each page stands in the file with its codes, those of a dump too, which has none.
+/// The command `create`: makes the disk DISK, a die and the file beside it that tells its shape. The die is formatted, or with `--from` has the pages of a raw dump. With `--bad` the blocks that it names are marked bad before. With `--code hamming` each page stands in the file with its codes, those of a dump too, which has none.
 ///
 /// # Errors
 ///
-/// The first of this order: as `shape_of` where the words ask for no shape; `Exists` where something stands at DISK or beside it; `Read` or `Length` of the dump; `Write`, `InUse`
+/// The first of this order: as `shape_of` where the words ask for no shape; as `bad_asked` where they name no bad blocks of it; `Exists` where something stands at DISK or beside it; `Read` or `Length` of the dump; `Write`, `InUse`
 /// or `OutOfMemory` where no die could be made there; `Open` where the dump mounts with no cache, or `Create` where the die was not formatted; `Exists`, `Write` or `OutOfMemory`
 /// where it could not be put in its place. After each of these no disk is at DISK that was not there before. (This project's.)
 pub(crate) fn create_command<'a, F: DiskFiles>(
@@ -165,11 +180,15 @@ pub(crate) fn create_command<'a, F: DiskFiles>(
         Ok(shape) => shape,
         Err(fault) => return Err(fault),
     };
+    let bad = match bad_asked(alloc, words.make, words.bad, &shape.geometry) {
+        Ok(bad) => bad,
+        Err(fault) => return Err(fault),
+    };
     match want_free(files, words.disk) {
         Ok(()) => {}
         Err(fault) => return Err(fault),
     }
-    let store = match make(alloc, files, &words, &shape) {
+    let store = match make(alloc, files, &words, &shape, &bad) {
         Ok(store) => store,
         Err(fault) => return Err(fault),
     };

@@ -29,6 +29,12 @@ const FROM: WordRule<'static> = WordRule {
     help: "The die as this dump of it says, with --geometry",
 };
 
+const BAD: WordRule<'static> = WordRule {
+    id: "bad",
+    kind: WordKind::Valued("BLOCKS"),
+    help: "These blocks are bad from the start, as 3,17; not with --from",
+};
+
 const CACHE: WordRule<'static> = WordRule {
     id: "cache",
     kind: WordKind::Valued("C"),
@@ -68,7 +74,7 @@ const JSON: WordRule<'static> = WordRule {
 const CREATE: CommandRule<'static> = CommandRule {
     name: "create",
     about: "Makes a disk of a size, or on a die of a geometry",
-    words: &[SIZE, GEOMETRY, FROM, CACHE, CODE, DISK],
+    words: &[SIZE, GEOMETRY, FROM, BAD, CACHE, CODE, DISK],
 };
 
 const SERVE: CommandRule<'static> = CommandRule {

@@ -13,6 +13,7 @@
 
 mod anew;
 mod asked;
+mod bad_blocks;
 mod check;
 mod create;
 mod damage;

@@ -36,6 +36,8 @@ pub enum DiskFault<'a> {
     Size(SizeFault),
     /// The numbers are no geometry.
     Geometry(GeometryFault),
+    /// A block that was named lies past the die, or was named before.
+    BadBlock(u32),
     /// There is a file of that path already.
     Exists(&'a str),
     /// The file is served by another program, or being made.
@@ -87,6 +89,7 @@ impl DiskFault<'_> {
             | DiskFault::BadNumber(_) => USAGE,
             DiskFault::Size(_)
             | DiskFault::Geometry(_)
+            | DiskFault::BadBlock(_)
             | DiskFault::Exists(_)
             | DiskFault::InUse(_)
             | DiskFault::Shape(..)
@@ -155,6 +158,9 @@ impl fmt::Display for DiskFault<'_> {
             DiskFault::BadNumber(word) => told(f, "usage: bad number ", word),
             DiskFault::Size(fault) => write!(f, "refused size: {fault}"),
             DiskFault::Geometry(fault) => told(f, "refused geometry ", limit(fault)),
+            DiskFault::BadBlock(block) => {
+                write!(f, "refused: block {block} is past the die, or named twice")
+            }
             DiskFault::Exists(path) => told_of(f, "refused: ", path, " exists"),
             DiskFault::InUse(path) => told_of(f, "refused: ", path, " is in use"),
             DiskFault::Shape(path, fault) => { write!(f, "refused: {path}.json: {fault}") }

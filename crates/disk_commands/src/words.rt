@@ -29,6 +29,8 @@ pub enum MakeWords<'a> {
 #[derive(Clone, Copy)]
 pub struct CreateWords<'a> {
     pub make: MakeWords<'a>,
+    /// The blocks that a new die has bad, where any is named.
+    pub bad: Option<&'a str>,
     /// C, where the cache is not to be the one for the geometry.
     pub cache: Option<&'a str>,
     /// The code of the pages, which have none without `--code`.
@@ -138,6 +140,7 @@ fn create_words<'a>(found: &CommandWords<'a>) -> Option<CreateWords<'a>>
     Some(CreateWords {
         disk: found.word("DISK")?,
         make: make_words(found)?,
+        bad: found.word("bad"),
         cache: found.word("cache"),
         code: code(found.word("code"))?,
     })

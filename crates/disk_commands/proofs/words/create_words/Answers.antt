@@ -11,6 +11,7 @@ pub returns-clause-some : goal.returns-clause-some
 returns-clause-some c = record {
   disk_is = entry_of (λ (w : Bor Text). w.now) _ _ _ c.word.ensures c.in_ok-word.was;
   make_is = c.in_ok-make_words.ensures.some;
-  cache_is = sym c.word-2.ensures;
+  bad_is = sym c.word-2.ensures;
+  cache_is = sym c.word-3.ensures;
   code_is = search rules;
 }
