@@ -23,6 +23,23 @@ pub const DONE: &[Step] = &[
         "{\"lost\":[],\"bad\":[],\"unsound\":[]}\n",
     ),
     Run("nanddisk create --size 1 s", 0, ""),
+    // of 32 blocks three are bad from the start; what their factory marked is not told as damage
+    Run(
+        "nanddisk create --geometry 64,32,8,32,32 --bad 0,31,7 b",
+        0,
+        "",
+    ),
+    Run(
+        "nanddisk info b",
+        0,
+        "size 2048\ngeometry 64,32,8,32,32\ncache 64\nfree 28 bad 3\nwear least 0 most 0 erases 0\nnext 3\nlost 0\n",
+    ),
+    Run(
+        "nanddisk check b",
+        0,
+        "lost 0\nbad 3\nbad block 0\nbad block 7\nbad block 31\nunsound 0\n",
+    ),
+    Serve("nanddisk serve b", b"", 0, b"NBDMAGICIHAVEOPT\x00\x03"),
     Serve("nanddisk serve d", b"", 0, b"NBDMAGICIHAVEOPT\x00\x03"),
     Serve(
         "nanddisk serve --read-only d",
@@ -85,6 +102,36 @@ pub const REFUSED: &[Step] = &[
         "nanddisk create --geometry 64,32,8,33,32 --from dump d",
         1,
         "refused: dump has 24576 bytes, and its shape 25344\n",
+    ),
+    Run(
+        "nanddisk create --geometry 64,32,8,32,32 --bad 3,,4 d",
+        2,
+        "usage: bad number 3,,4\n",
+    ),
+    Run(
+        "nanddisk create --size 1 --bad 4294967296 d",
+        2,
+        "usage: bad number 4294967296\n",
+    ),
+    Run(
+        "nanddisk create --geometry 64,32,8,32,32 --bad 3,32,33 d",
+        1,
+        "refused: block 32 is past the die, or named twice\n",
+    ),
+    Run(
+        "nanddisk create --geometry 64,32,8,32,32 --bad 3,4,3,40 d",
+        1,
+        "refused: block 3 is past the die, or named twice\n",
+    ),
+    Run(
+        "nanddisk create --geometry 64,32,8,32,32 --from dump --bad 3 d",
+        2,
+        "usage: no such command, see nanddisk --help\n",
+    ),
+    Run(
+        "nanddisk create --geometry 64,32,8,16,32 --bad 3,5 d",
+        1,
+        "refused: d was not formatted: Format TooFewGood good 14 need 16\n",
     ),
     Run("nanddisk create --geometry 64,32,8,32,32 d", 0, ""),
     Run(

@@ -7,7 +7,7 @@ use std::process::Abort;
 use std::test::*;
 
 // Words, and what they ask for, word by word; of a text how it begins. The disk is `d`.
-const ROWS: [(&[&str], &[&str]); 39] = [
+const ROWS: [(&[&str], &[&str]); 41] = [
     (
         &["create", "--size", "64M", "d"],
         &["size", "64M", "-", "-"],
@@ -19,6 +19,14 @@ const ROWS: [(&[&str], &[&str]); 39] = [
     (
         &["create", "--geometry", "G", "d"],
         &["geometry", "G", "-", "-"],
+    ),
+    (
+        &["create", "--bad", "3,9", "--geometry", "G", "d"],
+        &["geometry", "G", "3,9", "-"],
+    ),
+    (
+        &["create", "--bad", "3", "--bad", "9", "--size", "1", "d"],
+        &["nothing"],
     ),
     (
         &[
@@ -96,10 +104,11 @@ const ROWS: [(&[&str], &[&str]); 39] = [
 
 fn is_create(words: &CreateWords<'_>, told: &[&str]) -> bool {
     let (kind, made, from) = match words.make {
-        MakeWords::Size(size) => ("size", size, "-"),
-        MakeWords::Geometry(geometry) => ("geometry", geometry, "-"),
-        MakeWords::Dump { geometry, from } => ("geometry", geometry, from),
+        MakeWords::Size(size) => ("size", size, None),
+        MakeWords::Geometry(geometry) => ("geometry", geometry, None),
+        MakeWords::Dump { geometry, from } => ("geometry", geometry, Some(from)),
     };
+    let from = from.or(words.bad).unwrap_or("-");
     let cache = words.cache.unwrap_or("-");
     let made = [kind, made, from, cache, "hamming"];
     let kept = match words.code {
