@@ -16,7 +16,7 @@ use Rattle.disk_server.specs.Asked.{HasZeros, SparesZeros}
 use Rattle.disk_server.specs.Disk.{contents_of, holds}
 use Rattle.disk_server.specs.Opened.{flash_in, is_honest_in}
 use Rattle.nbd_stream.specs.declared.task.Task.TheVariants.{Read}
-use Rattle.disk_server.specs.Reopened.{AreParts, HasDevice, IsGone, IsOpenedFrom, ReadsDevice, Reopened, Reopens, Settles, Terms, bytes_by, contents_in, holds_by, holds_in, reads_of, terms_of}
+use Rattle.disk_server.specs.Reopened.{AnewLaw, AreParts, GoneLaw, HasDevice, IsAnew, TermsLaw, IsGone, IsOpenedFrom, ReadsDevice, Reopened, Reopens, Settles, Terms, bytes_by, contents_in, holds_by, holds_in, reads_of, terms_of}
 
 both : (a b : Bool) → (a && b) ≡ true → (a ≡ true) × (b ≡ true)
 both true true e = (refl, refl)
@@ -230,3 +230,36 @@ settled_terms held honest full failed told terms reopened next left (Err fault.R
 settled_terms held honest full failed told terms reopened next left (Err fault.NoSpace) result new s = s.1.terms_are
 settled_terms held honest full failed told terms reopened next left (Err fault.Failed) result new (inl s) = s.1.there.terms_are
 settled_terms held honest full failed told terms reopened next left (Err fault.Failed) result new (inr s) = s.1.none.terms_are
+
+-- ---- the laws
+
+module _ {S : Type 0} (held : S → Held) (honest full : S → Bool) (failed : S → ℕ) where
+  pub gone_law : GoneLaw held honest full failed
+  gone_law asks told old new result (inl none) gone = (none.told, none.same.device_is)
+  gone_law asks told old new result (inr one) gone = absurd (let no : None ≡ Some one.device = sym gone ∙ one.was in cc)
+
+  pub terms_law : TermsLaw held honest full failed
+  terms_law asks told old new result (inl none) = none.same.terms_are
+  terms_law asks told old new result (inr one) = settled_terms held honest full failed told (terms_of old) old.reopened old.next one.left one.answer result new one.settles
+
+  -- nothing was opened
+  not_anew : {terms : Terms} {next : ℕ} {device : Option (Device (DriverState (FileState S)))} (before : Bool) (new : Reopened S) → HasDevice terms before next device new → before ≡ false → new.reopened ≡ true → ⊥
+  not_anew before new has was is = never before was (sym has.reopened_is ∙ is)
+
+  settled_anew : (told : DiskFault) (terms : Terms) (before : Bool) (next : ℕ) (left : Device (DriverState (FileState S))) (answer result : Result (Unit {0}) DiskFault) (new : Reopened S)
+      → Settles held honest full failed told terms before next left answer result new → before ≡ false → new.reopened ≡ true → IsAnew held honest full told result new
+  settled_anew told terms before next left (Ok done) result new s was is = absurd (not_anew before new s.1 was is)
+  settled_anew told terms before next left (Err fault.ReadOnly) result new s was is = absurd (not_anew before new s.1 was is)
+  settled_anew told terms before next left (Err fault.NoSpace) result new s was is = absurd (not_anew before new s.1 was is)
+  settled_anew told terms before next left (Err fault.Failed) result new (inl s) was is = record {
+    left = left.engine.nand.bus.store;
+    was_full = s.1.was_full;
+    answered = s.0;
+    unclaimed = holds_as held honest new s.1.device s.1.there.device_is ∙ ap (λ (b : Bool). not b && going held honest s.1.device) s.1.there.reopened_is;
+    bytes = λ h. ap (λ (c : Contents). c.bytes) (shown_as held honest new s.1.device s.1.there.device_is) ∙ s.1.opened.bytes h;
+  }
+  settled_anew told terms before next left (Err fault.Failed) result new (inr s) was is = absurd (not_anew before new s.1.none was is)
+
+  pub anew_law : AnewLaw held honest full failed
+  anew_law asks told old new result (inl none) was is = absurd (not_anew old.reopened new none.same was is)
+  anew_law asks told old new result (inr one) was is = settled_anew told (terms_of old) old.reopened old.next one.left one.answer result new one.settles was is

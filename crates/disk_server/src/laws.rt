@@ -6,12 +6,13 @@ ghost use Rattle.disk_server.specs.Flat.{FlatLaw};
 ghost use Rattle.disk_server.specs.Guarded.{GuardedByteLaw, GuardedReadLaw, HealedLaw, UnkeptLaw};
 ghost use Rattle.disk_server.specs.Power.{FoundLaw, LeavesLaw};
 ghost use Rattle.disk_server.specs.Reading.{OnlyReadsLaw};
+ghost use Rattle.disk_server.specs.Reopened.{AnewLaw, GoneLaw, TermsLaw};
 ghost use Rattle.disk_server.specs.Stopped.{OwnCacheLaw, UnwrittenCacheLaw};
 
 use crate::guarded::KeepsLost;
 use crate::sectors::Sectors;
 use crate::synced::{LastingDisk, Sequenced, Syncs};
-use file_die::Store;
+use file_die::{Store, TellsFull};
 use onfi_cycles::Nand;
 
 /// A sector of a list of sectors is a range of their bytes: to give it is to give that range, and to replace it is to set that range.
@@ -70,6 +71,14 @@ pub fn reading_laws<S: Sectors>()
 pub fn cache_laws<S: Store>()
     ensures own { OwnCacheLaw S.held S.honest }
     ensures unwritten { UnwrittenCacheLaw S.held S.honest }
+{}
+
+/// What becomes of a device that is opened anew where its store was full: only there, and it is told; it holds then what the pages left in the store say, and whether that is what it was given is claimed no more. One that
+/// is gone answers `Failed` for good. (This project's.)
+pub fn reopened_laws<S: Store + TellsFull>()
+    ensures gone { GoneLaw S.held S.honest S.full S.failed }
+    ensures terms { TermsLaw S.held S.honest S.full S.failed }
+    ensures anew { AnewLaw S.held S.honest S.full S.failed }
 {}
 
 /// Which refusals of the device are `NoSpace` and `ReadOnly`: `OutOfMemory` alone is the one; those after which no change is taken any more are the
