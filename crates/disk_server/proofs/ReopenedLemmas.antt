@@ -235,12 +235,12 @@ settled_terms held honest full failed told terms reopened next left (Err fault.F
 
 module _ {S : Type 0} (held : S → Held) (honest full : S → Bool) (failed : S → ℕ) where
   pub gone_law : GoneLaw held honest full failed
-  gone_law asks told old new result (inl none) gone = (none.told, none.same.device_is)
-  gone_law asks told old new result (inr one) gone = absurd (let no : None ≡ Some one.device = sym gone ∙ one.was in cc)
+  gone_law told old new result (inl none) gone = (none.told, none.same.device_is)
+  gone_law told old new result (inr one) gone = absurd (let no : None ≡ Some one.device = sym gone ∙ one.was in cc)
 
   pub terms_law : TermsLaw held honest full failed
-  terms_law asks told old new result (inl none) = none.same.terms_are
-  terms_law asks told old new result (inr one) = settled_terms held honest full failed told (terms_of old) old.reopened old.next one.left one.answer result new one.settles
+  terms_law told old new result (inl none) = none.same.terms_are
+  terms_law told old new result (inr one) = settled_terms held honest full failed told (terms_of old) old.reopened old.next one.left one.answer result new one.settles
 
   -- nothing was opened
   not_anew : {terms : Terms} {next : ℕ} {device : Option (Device (DriverState (FileState S)))} (before : Bool) (new : Reopened S) → HasDevice terms before next device new → before ≡ false → new.reopened ≡ true → ⊥
@@ -261,5 +261,5 @@ module _ {S : Type 0} (held : S → Held) (honest full : S → Bool) (failed : S
   settled_anew told terms before next left (Err fault.Failed) result new (inr s) was is = absurd (not_anew before new s.1.none was is)
 
   pub anew_law : AnewLaw held honest full failed
-  anew_law asks told old new result (inl none) was is = absurd (not_anew old.reopened new none.same was is)
-  anew_law asks told old new result (inr one) was is = settled_anew told (terms_of old) old.reopened old.next one.left one.answer result new one.settles was is
+  anew_law told old new result (inl none) was is = absurd (not_anew old.reopened new none.same was is)
+  anew_law told old new result (inr one) was is = settled_anew told (terms_of old) old.reopened old.next one.left one.answer result new one.settles was is

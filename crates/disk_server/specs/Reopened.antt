@@ -187,17 +187,17 @@ reads_of held honest old new = OnlyReads (flash_in held) (is_honest_in honest) a
 abbrev pub flushes_of : {S : Type 0} → (S → Held) → (honest : S → Bool) → Device (DriverState (FileState S)) → Result (Unit {0}) DiskFault → Device (DriverState (FileState S)) → Type 0
 flushes_of held honest = AsksFlush (flash_in held) (λ d. None) (is_honest_in honest) always_in (λ d. d.failures)
 
--- ---- laws
+-- ---- laws. They are of any call of the device
 
 -- ONCE IT IS GONE IT IS GONE FOR GOOD, and each call is answered so
 abbrev pub GoneLaw : {S : Type 0} → (S → Held) → (honest full : S → Bool) → (failed : S → ℕ) → Type 0
-GoneLaw {S} held honest full failed = (asks : Device (DriverState (FileState S)) → Result (Unit {0}) DiskFault → Device (DriverState (FileState S)) → Type 0) (told : DiskFault) (old new : Reopened S) (result : Result (Unit {0}) DiskFault)
-    → AsksDevice held honest full failed asks told old result new → old.device ≡ None → (result ≡ Err fault.Failed) × (new.device ≡ None)
+GoneLaw {S} held honest full failed = (told : DiskFault) (old new : Reopened S) (result : Result (Unit {0}) DiskFault)
+    → AsksDevice held honest full failed (λ d answer left. Unit {0}) told old result new → old.device ≡ None → (result ≡ Err fault.Failed) × (new.device ≡ None)
 
 -- what it is opened anew with is what it began with
 abbrev pub TermsLaw : {S : Type 0} → (S → Held) → (honest full : S → Bool) → (failed : S → ℕ) → Type 0
-TermsLaw {S} held honest full failed = (asks : Device (DriverState (FileState S)) → Result (Unit {0}) DiskFault → Device (DriverState (FileState S)) → Type 0) (told : DiskFault) (old new : Reopened S) (result : Result (Unit {0}) DiskFault)
-    → AsksDevice held honest full failed asks told old result new → terms_of new ≡ terms_of old
+TermsLaw {S} held honest full failed = (told : DiskFault) (old new : Reopened S) (result : Result (Unit {0}) DiskFault)
+    → AsksDevice held honest full failed (λ d answer left. Unit {0}) told old result new → terms_of new ≡ terms_of old
 
 -- A CALL OPENED IT ANEW ONLY WHERE THE STORE WAS FULL, and was told so. What it holds then is the array of the pages that were left in the store; that this is what it was given is claimed no more
 pub record IsAnew {S : Type 0} (held : S → Held) (honest full : S → Bool) (told : DiskFault) (result : Result (Unit {0}) DiskFault) (new : Reopened S) : Type 0 where
@@ -208,5 +208,5 @@ pub record IsAnew {S : Type 0} (held : S → Held) (honest full : S → Bool) (t
   pub bytes : honest left ≡ true → (contents_in held honest new).bytes ≡ bytes_of (held left)
 
 abbrev pub AnewLaw : {S : Type 0} → (S → Held) → (honest full : S → Bool) → (failed : S → ℕ) → Type 0
-AnewLaw {S} held honest full failed = (asks : Device (DriverState (FileState S)) → Result (Unit {0}) DiskFault → Device (DriverState (FileState S)) → Type 0) (told : DiskFault) (old new : Reopened S) (result : Result (Unit {0}) DiskFault)
-    → AsksDevice held honest full failed asks told old result new → old.reopened ≡ false → new.reopened ≡ true → IsAnew held honest full told result new
+AnewLaw {S} held honest full failed = (told : DiskFault) (old new : Reopened S) (result : Result (Unit {0}) DiskFault)
+    → AsksDevice held honest full failed (λ d answer left. Unit {0}) told old result new → old.reopened ≡ false → new.reopened ≡ true → IsAnew held honest full told result new

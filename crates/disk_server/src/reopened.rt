@@ -314,7 +314,10 @@ impl<S: Store + TellsFull + Drop> Sectors for ReopenedDevice<S> {
     }
 
     fn sector_count(&self) -> u64 {
-        self.count
+        match &self.device {
+            Some(device) => device.sector_count(),
+            None => self.count,
+        }
     }
 
     fn next_sequence(&self) -> u64 {

@@ -15,6 +15,7 @@ pub returns-in-Ok-flush : goal.returns-in-Ok-flush
 returns-in-Ok-flush g c =
     let asks : AsksToFlush g.S.Store.held g.S.Store.honest c.args.stale (Ok tt) c.flush.new.disk = record { opened = c.in-Ok.disk; entries_are = c.in-Ok.ensures.entries; flush = c.in-Ok-flush.ensures.does } in
     record {
+      syncs = c.open_either.ensures.syncs;
       honest = held_again _ _ _ c.open_either.result (λ honest. c.close_store.ensures.honest (c.in-Ok-flush.ensures.kept ∙ c.in-Ok.ensures.honest ∙ honest)) c.open_either.ensures.honest;
       bytes = reopened _ _ _ _ _ _ c.open_either.result (λ honest. c.in-Ok-flush.ensures.kept ∙ c.in-Ok.ensures.honest ∙ honest)
           (λ honest held. c.close_store.ensures.bytes held ∙ c.flush.ensures.bytes held ∙ c.in-Ok.ensures.bytes honest)
