@@ -1,6 +1,6 @@
 #!/usr/bin/python3
 """Holds what `nanddisk` refuses, and what it leaves: files that are there, in use (by those who write, or who only read), of the wrong length or shape, read-only, shrunk while they are served, a full
-file system, a `create` that is killed at each of its calls, syncs that fail, and hostile streams.
+file system, a `create` that is killed at each of its calls, syncs that fail, and hostile streams; and blocks that are bad from the start.
 
 Usage: disk_refused.py NANDDISK [STREAMS [SEED]]
 
@@ -96,6 +96,35 @@ def refused_files(program, folder):
     status, line = told([program, "create", "--geometry", GEOMETRY, "--from", dump, path + "2"])
     assert status == 1 and line.startswith(f"refused: {dump} is no disk: Mount "), line
     assert not [name for name in os.listdir(folder) if "2" in name], os.listdir(folder)
+
+
+def bad_blocks(program, folder):
+    """Blocks that `--bad` names have the factory's mark and nothing else in the file, whatever is written, and are told as bad and not as damage."""
+    names = (0, 7, 47)
+    page, block = 512 + 32, (512 + 32) * 8
+    path = os.path.join(folder, "bad.nand")
+    for word, why in (("3,", "usage: bad number 3,"), ("x", "usage: bad number x")):
+        hold([program, "create", "--geometry", GEOMETRY, "--bad", word, path], 2, why)
+    for word, number in (("48", 48), ("4,9,4", 4)):
+        hold([program, "create", "--geometry", GEOMETRY, "--bad", word, path], 1, f"refused: block {number} is past the die, or named twice")
+    assert not [name for name in os.listdir(folder) if "bad.nand" in name]
+    assert told([program, "create", "--geometry", GEOMETRY, "--bad", ",".join(map(str, names)), path]) == (0, "")
+    client, server = start([program, "serve", path])
+    for _ in range(4):
+        for sector in range(150):
+            client.pwrite(bytes([sector + 1]) * 512, sector * 512)
+    client.shutdown()
+    assert server.wait() == 0
+    mark = b"\xff" * 512 + b"\x00" + b"\xff" * (page - 513)
+    image = open(path, "rb").read()
+    for name in names:
+        assert image[name * block:][:block] == mark + b"\xff" * (block - page), name
+    client, server = start([program, "serve", path])
+    assert all(client.pread(512, sector * 512) == bytes([sector + 1]) * 512 for sector in range(150))
+    client.shutdown()
+    assert server.wait() == 0
+    done = subprocess.run([program, "check", path], stdout=subprocess.PIPE, check=True).stdout.decode()
+    assert done == "lost 0\nbad 3\n" + "".join(f"bad block {name}\n" for name in names) + "unsound 0\n", done
 
 
 def held(program, folder):
@@ -329,6 +358,7 @@ def main():
     draw = random.Random(int(sys.argv[3]) if len(sys.argv) > 3 else 35)
     with tempfile.TemporaryDirectory() as folder:
         refused_files(program, folder)
+        bad_blocks(program, folder)
         held(program, folder)
         shrunk(program, folder)
         left_parts(program, folder)

@@ -12,3 +12,4 @@ pub mod DamageLemmas
 pub mod ReadyLemmas
 mod MarkFileLemmas
 mod TellLemmas
+mod BadLemmas
