@@ -73,11 +73,12 @@ mark_bytes g =
     let bytes : List ℕ = replicate (g.data_bytes + g.spare_bytes) 255 in
     let body : take g.data_bytes (slice_set bytes g.data_bytes 0) ≡ replicate g.data_bytes 255 = take-set-le g.data_bytes bytes g.data_bytes 0 (omega arith) ∙ front in
     let spare : drop g.data_bytes (slice_set bytes g.data_bytes 0) ≡ slice_set (replicate g.spare_bytes 255) 0 0 =
-        ap (λ i. drop g.data_bytes (slice_set bytes i 0)) (omega arith) ∙ drop-set-add g.data_bytes bytes 0 0 ∙ ap (λ l. slice_set l 0 0) back in
+    ap (λ i. drop g.data_bytes (slice_set bytes i 0)) (omega arith) ∙ drop-set-add g.data_bytes bytes 0 0 ∙ ap (λ l. slice_set l 0 0) back in
     ap (λ b. page b (drop g.data_bytes (slice_set bytes g.data_bytes 0))) body ∙ ap (λ s. page (replicate g.data_bytes 255) s) spare
   where
     front : take g.data_bytes (replicate (g.data_bytes + g.spare_bytes) 255) ≡ replicate g.data_bytes 255
     front = take-replicate g.data_bytes (g.data_bytes + g.spare_bytes) 255 (omega arith)
+
     back : drop g.data_bytes (replicate (g.data_bytes + g.spare_bytes) 255) ≡ replicate g.spare_bytes 255
     back = drop-replicate g.data_bytes (g.data_bytes + g.spare_bytes) 255 ∙ ap (λ n. replicate n 255) (omega arith)
 

@@ -7,8 +7,8 @@ ghost use Rattle.disk_server.specs.Opened.{IsUnopened};
 ghost use Rattle.disk_commands.specs.Files.{FailsNoMore, with_kept};
 
 use crate::asked::shape_of;
-use crate::bad_blocks::{bad_asked, mark_blocks};
 use crate::files::DiskFiles;
+use crate::named_blocks::{bad_asked, mark_blocks};
 use crate::opening::{dump_bytes, told_at, told_of_copy, want_free};
 use crate::shape_text::write_shape;
 use crate::shapes::Shape;

@@ -13,7 +13,6 @@
 
 mod anew;
 mod asked;
-mod bad_blocks;
 mod check;
 mod create;
 mod damage;
@@ -23,6 +22,7 @@ mod guard;
 mod info;
 mod mark;
 mod mark_file;
+mod named_blocks;
 mod opening;
 mod printed;
 mod program;
