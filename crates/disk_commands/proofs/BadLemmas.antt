@@ -1,11 +1,14 @@
 -- The blocks that a word names, and the pages that mark them.
-use Rattle.std.proofs.Common.{◌≡◌, ◌≢◌, ◌⊎◌, inl, inr, ℕ, suc, zero, ◌+◌, ◌*◌, ◌<◌, ◌≤◌, ◌==◌, ◌||◌, Bool, true, false, List, [], ◌∷◌, ◌++◌, length, get_or, replicate, take, drop, Option, Some, None, IsSomeAnd, refl, sym, ap, ◌∙◌, subst, arith, if◌then◌else◌}
-use Rattle.std.specs.Prelude.{Contains, slice_get, slice_set, MatchOption}
+use Rattle.std.proofs.Common.{◌≡◌, ◌≢◌, ◌⊎◌, inl, inr, ℕ, suc, zero, ◌+◌, ◌*◌, ◌<◌, ◌≤◌, ◌==◌, ◌||◌, nat_eq, Bool, true, false, List, [], ◌∷◌, ◌++◌, length, get_or, replicate, take, drop, Option, Some, None, IsSomeAnd, refl, sym, ap, ◌∙◌, subst, arith, if◌then◌else◌}
+use Rattle.std.specs.Prelude.{Contains, not, slice_get, slice_index_or, slice_set, MatchOption}
 use Rattle.std.specs.List.{list_any}
+use Rattle.std.proofs.lemmas.Bool.{cases_lt, cases_order}
 use Rattle.std.proofs.lemmas.Bool.Decides.{eqb_tells}
 use Rattle.std.proofs.lemmas.List.{append_assoc, drop-replicate, drop-set-add, get_or-append-add, get_or-replicate, get_or-set_other, get_or-set_same, length-append, length-replicate, length-set, take-replicate, take-set-le}
 use Rattle.std.proofs.lemmas.List.Folds.{list_any-append}
-use Rattle.std.proofs.lemmas.Option.{slice_get_past, slice_get_within}
+use Rattle.std.proofs.lemmas.Cmp.{nat_eq_equiv}
+use Rattle.std.proofs.lemmas.Map.Views.{Contains-from_any}
+use Rattle.std.proofs.lemmas.Option.{get_or_from_slice_get, slice_get-get_or, slice_get_within}
 use Rattle.page_layout.specs.declared.geometry.Geometry.{Geometry}
 use Rattle.page_layout.specs.Geometry.{page_bytes, row_count}
 use Rattle.page_layout.specs.Page.{Page, page}
@@ -25,7 +28,7 @@ not_alone text rest n m starts is =
     let digits = starts.0 in
     let at : get_or text (length digits + 0) 0 ≡ 44 = ap (λ t. get_or t (length digits + 0) 0) starts.1 ∙ get_or-append-add digits (44 ∷ rest) 0 0 in
     let long : length text ≡ length digits + suc (length rest) = ap length starts.1 ∙ length-append digits (44 ∷ rest) in
-    no_comma m text is (length digits + 0) (omega long) at
+    no_comma m text is (length digits + 0) (omega (arith, long)) at
 
 -- WHAT A WORD SPELLS is what was read of it and what the rest spells
 pub record AreReadFrom (word rest : List ℕ) (blocks : List ℕ) : Type 0 where
@@ -59,28 +62,104 @@ one_more word rest behind n blocks read starts one = record {
 
 -- a rest that begins with no number and a comma is one number, or the word spells none
 pub none_spelled : (word rest : List ℕ) (blocks : List ℕ) → AreReadFrom word rest blocks → ((k : ℕ) (r : List ℕ) → StartsWithNumber rest k r → ⊥) → number_of rest ≡ None → (all : List ℕ) → SpellsNumbers word all → ⊥
-none_spelled word rest blocks read none no all spelled = go (read.back all spelled).0 (read.back all spelled).2
+none_spelled word rest blocks read none lone all spelled = go (read.back all spelled).0 (read.back all spelled).2
   where
     go : (ns : List ℕ) → SpellsNumbers rest ns → ⊥
     go [] s = s
-    go (k ∷ []) s = (let clash : None ≡ Some k = sym no ∙ s in cc)
+    go (k ∷ []) s = (let clash : None ≡ Some k = sym lone ∙ s in cc)
     go (k ∷ m ∷ ms) s = none k s.0 s.1
+
+-- a text behind a number and its comma is shorter, and is text
+pub shorter : (text rest : List ℕ) (n : ℕ) → StartsWithNumber text n rest → length rest < length text
+shorter text rest n starts = (let long : length text ≡ length starts.0 + suc (length rest) = ap length starts.1 ∙ length-append starts.0 (44 ∷ rest) in omega (arith, long))
+
+-- what a push that was done has added
+pub pushed : (ok failed : Bool) (xs : List ℕ) (x : ℕ) (ys : List ℕ) → ys ≡ (if ok then xs ++ x ∷ [] else xs) → ok ≡ not failed → failed ≡ false → ys ≡ xs ++ x ∷ []
+pushed true failed xs x ys is negation done = is
+pushed false true xs x ys is negation done = (let clash : true ≡ false = done in absurd (cc))
+pushed false false xs x ys is negation done = (let clash : false ≡ true = negation in absurd (cc))
+
+-- ---- blocks that are named wrongly
+
+-- those before a place are right
+abbrev pub AreRightTo : Geometry → List ℕ → (at : ℕ) → Type 0
+AreRightTo g names at = (before other : ℕ) → before < at → ¬ IsMisnamed g names before other
+
+pub none_before : (g : Geometry) (names : List ℕ) → AreRightTo g names 0
+none_before g names before other lt = absurd (omega (arith, lt))
+
+pub one_right : (g : Geometry) (names : List ℕ) (at : ℕ) → at < length names → AreRightTo g names at → slice_index_or names at 0 < g.blocks
+    → ((k d : ℕ) → 0 ≤ k → k < length (take at names) → nat_eq (slice_index_or (take at names) k d) (slice_index_or names at 0) ≡ false) → AreRightTo g names (at + 1)
+one_right g names at within right in_die apart before other lt wrong = elim (cases_order before at) [
+  | inl e ↦ here e
+  | inr c ↦ elim c [
+    | inl less ↦ right before other less wrong
+    | inr more ↦ absurd (omega (arith, more, lt))
+  ]
+]
+  where
+    here : before ≡ at → ⊥
+    here e =
+        let is : slice_index_or names at 0 ≡ other = get_or_from_slice_get names at other 0 (ap (slice_get names) (sym e) ∙ wrong.here) in
+        elim wrong.wrong [
+          | inl past ↦ omega (arith, in_die, is, past)
+          | inr named ↦ again is (subst (λ n. Contains (take n names) other) e named)
+        ]
+      where
+        again : slice_index_or names at 0 ≡ other → Contains (take at names) other → ⊥
+        again is found =
+            let never : nat_eq (slice_index_or (take at names) found.0 other) (slice_index_or names at 0) ≡ false = apart found.0 other (omega arith) found.1 in
+            let yes : nat_eq (slice_index_or (take at names) found.0 other) (slice_index_or names at 0) ≡ true = ap (λ n. nat_eq n (slice_index_or names at 0)) found.2 ∙ ap (nat_eq other) is ∙ nat_eq_equiv.refl other in
+            let clash : true ≡ false = sym yes ∙ never in
+            cc
+
+pub all_right : (g : Geometry) (names : List ℕ) (at : ℕ) → length names ≤ at → AreRightTo g names at → AreNames g names
+all_right g names at end right k block wrong = right k block (omega (arith, end, slice_get_within names k block wrong.here)) wrong
+
+pub first_wrong : (g : Geometry) (names : List ℕ) (at : ℕ) → at < length names → AreRightTo g names at → (g.blocks ≤ slice_index_or names at 0) ⊎ Contains (take at names) (slice_index_or names at 0) → IsFirstMisnamed g names (slice_index_or names at 0)
+first_wrong g names at within right wrong = record { at = at; misnamed = record { here = slice_get-get_or names at 0 within; wrong = wrong }; first = right }
+
+pub found_again : (names : List ℕ) (x : ℕ) → list_any (λ y. nat_eq y x) names ≡ true → Contains names x
+found_again names x is = Contains-from_any {eq = λ q y. nat_eq y q} (λ q y same. sound q y same) x names is
+  where
+    sound : (q y : ℕ) → nat_eq y q ≡ true → q ≡ y
+    sound q y same = elim (eqb_tells y q) [
+      | inl t ↦ sym t.1
+      | inr f ↦ absurd (let clash : true ≡ false = sym same ∙ f.0 in cc)
+    ]
+
+-- a block of the list is one of the die
+pub is_in_die : (g : Geometry) (names : List ℕ) (at : ℕ) → AreNames g names → at < length names → slice_index_or names at 0 < g.blocks
+is_in_die g names at right within = elim (cases_lt (slice_index_or names at 0) g.blocks) [
+  | inl less ↦ less
+  | inr past ↦ absurd (right at (slice_index_or names at 0) (record { here = slice_get-get_or names at 0 within; wrong = inl past }))
+]
 
 -- ---- the page that marks a block
 
 pub mark_bytes : (g : Geometry) → page_of g (slice_set (replicate (page_bytes g) 255) g.data_bytes 0) ≡ with_mark (erased_page g)
-mark_bytes g =
-    let bytes : List ℕ = replicate (g.data_bytes + g.spare_bytes) 255 in
-    let body : take g.data_bytes (slice_set bytes g.data_bytes 0) ≡ replicate g.data_bytes 255 = take-set-le g.data_bytes bytes g.data_bytes 0 (omega arith) ∙ front in
-    let spare : drop g.data_bytes (slice_set bytes g.data_bytes 0) ≡ slice_set (replicate g.spare_bytes 255) 0 0 =
-    ap (λ i. drop g.data_bytes (slice_set bytes i 0)) (omega arith) ∙ drop-set-add g.data_bytes bytes 0 0 ∙ ap (λ l. slice_set l 0 0) back in
-    ap (λ b. page b (drop g.data_bytes (slice_set bytes g.data_bytes 0))) body ∙ ap (λ s. page (replicate g.data_bytes 255) s) spare
+mark_bytes g = ap (λ b. page b (drop g.data_bytes (slice_set bytes g.data_bytes 0))) body ∙ ap (λ s. page (replicate g.data_bytes 255) s) spare
   where
-    front : take g.data_bytes (replicate (g.data_bytes + g.spare_bytes) 255) ≡ replicate g.data_bytes 255
-    front = take-replicate g.data_bytes (g.data_bytes + g.spare_bytes) 255 (omega arith)
+    bytes : List ℕ
+    bytes = replicate (g.data_bytes + g.spare_bytes) 255
 
-    back : drop g.data_bytes (replicate (g.data_bytes + g.spare_bytes) 255) ≡ replicate g.spare_bytes 255
-    back = drop-replicate g.data_bytes (g.data_bytes + g.spare_bytes) 255 ∙ ap (λ n. replicate n 255) (omega arith)
+    front : take g.data_bytes bytes ≡ replicate g.data_bytes 255
+    front = take-replicate {X = ℕ} g.data_bytes (g.data_bytes + g.spare_bytes) 255 (omega arith)
+
+    back : drop g.data_bytes bytes ≡ replicate g.spare_bytes 255
+    back = drop-replicate {X = ℕ} g.data_bytes (g.data_bytes + g.spare_bytes) 255 ∙ ap (λ n. replicate {A = ℕ} n 255) (omega arith)
+
+    body : take g.data_bytes (slice_set bytes g.data_bytes 0) ≡ replicate g.data_bytes 255
+    body = take-set-le {A = ℕ} g.data_bytes bytes g.data_bytes 0 (omega arith) ∙ front
+
+    at : g.data_bytes ≡ g.data_bytes + 0
+    at = omega arith
+
+    spare : drop g.data_bytes (slice_set bytes g.data_bytes 0) ≡ slice_set (replicate g.spare_bytes 255) 0 0
+    spare = ap (λ i. drop g.data_bytes (slice_set bytes i 0)) at ∙ drop-set-add {A = ℕ} g.data_bytes bytes 0 0 ∙ ap (λ l. slice_set l 0 0) back
+
+pub mark_is : (g : Geometry) (items : List ℕ) (place n : ℕ) → place ≡ g.data_bytes → n ≡ g.data_bytes + g.spare_bytes → items ≡ replicate n 255 → page_of g (slice_set items place 0) ≡ with_mark (erased_page g)
+mark_is g items place n at long is = ap (λ i. page_of g (slice_set items i 0)) at ∙ ap (λ l. page_of g (slice_set l g.data_bytes 0)) (is ∙ ap (λ k. replicate k 255) long) ∙ mark_bytes g
 
 -- ---- the marks
 

@@ -1,5 +1,5 @@
 -- Why a die was not made.
-use Rattle.std.proofs.Common.{◌≡◌, inr, ℕ, Bool, true, false, List, Option, refl, subst}
+use Rattle.std.proofs.Common.{◌≡◌, ◌<◌, ◌⊎◌, inl, inr, ℕ, Bool, true, false, List, length, Option, refl, subst, sym}
 use Rattle.std.specs.Prelude.{Result, Ok, Err, IfErr, OnOk}
 use Rattle.std.specs.Borrow.{Bor}
 use Rattle.page_layout.specs.declared.geometry.Geometry.{Geometry}
@@ -14,38 +14,61 @@ use Rattle.disk_commands.specs.declared.words.CreateWords.{CreateWords}
 use Rattle.disk_commands.specs.declared.files.FileFault.TheVariants as file
 use Rattle.disk_commands.specs.declared.text.DiskFault.{DiskFault}
 use Rattle.disk_commands.specs.declared.text.DiskFault.TheVariants as fault
+use Rattle.page_layout.specs.Counter.{HasRisen}
 use Rattle.disk_commands.specs.Asked.{IsShapeAsked}
+use Rattle.disk_commands.specs.BadBlocks.{AreBadAsked, HasMarks, is_copied}
+use Rattle.disk_commands.specs.declared.files.FileFault.{FileFault}
+use Rattle.disk_commands.specs.Opening.{told_at}
 use Rattle.disk_commands.specs.Created.{HasCreated, IsDieFor, IsUncreated, IsUnformatted, IsUnkept, unformatted}
 use Rattle.disk_commands.specs.Files.{Answers, FailsNoMore, Kept, with_kept}
 
 -- erased pages were not formatted, for this
-pub not_formatted : {S : Type 0} (held : S → Held) (honest : S → Bool) (failed : S → ℕ) (a : Answers) (path : Bor (List ℕ)) (g : Geometry) (store given : S) (why : CreateFault)
-    → honest store ≡ a.honest → (honest store ≡ true → held store ≡ blank g) → IsUnmade held honest failed store given why
-    → IsUnformatted held honest failed a path.now g (unformatted path why)
-not_formatted held honest failed a path g store given (create.Open open_store.OutOfMemory) is erased un = tt
-not_formatted held honest failed a path g store given (create.Open open_store.Device) is erased un = (refl, (store, given, is, erased, un))
-not_formatted held honest failed a path g store given (create.Open open_store.Reset) is erased un = (refl, (store, given, is, erased, un))
-not_formatted held honest failed a path g store given (create.Open open_store.Flush) is erased un = (refl, (store, given, is, erased, un))
-not_formatted held honest failed a path g store given (create.Open (open_store.Mount refusal)) is erased un = (refl, (store, given, is, erased, un))
-not_formatted held honest failed a path g store given (create.Format fault) is erased un = (refl, (store, given, is, erased, un))
-not_formatted held honest failed a path g store given create.Sync is erased un = (refl, (store, given, is, erased, un))
+pub not_formatted : {S : Type 0} (held : S → Held) (honest : S → Bool) (failed : S → ℕ) (a : Answers) (path : Bor (List ℕ)) (g : Geometry) (bad : List ℕ) (store given : S) (why : CreateFault)
+    → honest store ≡ a.honest → (honest store ≡ true → HasMarks g bad (held store)) → IsUnmade held honest failed store given why
+    → IsUnformatted held honest failed a path.now g bad (unformatted path why)
+not_formatted held honest failed a path g bad store given (create.Open open_store.OutOfMemory) is erased un = tt
+not_formatted held honest failed a path g bad store given (create.Open open_store.Device) is erased un = (refl, (store, given, is, erased, un))
+not_formatted held honest failed a path g bad store given (create.Open open_store.Reset) is erased un = (refl, (store, given, is, erased, un))
+not_formatted held honest failed a path g bad store given (create.Open open_store.Flush) is erased un = (refl, (store, given, is, erased, un))
+not_formatted held honest failed a path g bad store given (create.Open (open_store.Mount refusal)) is erased un = (refl, (store, given, is, erased, un))
+not_formatted held honest failed a path g bad store given (create.Format fault) is erased un = (refl, (store, given, is, erased, un))
+not_formatted held honest failed a path g bad store given create.Sync is erased un = (refl, (store, given, is, erased, un))
+
+-- no erased pages were made, for this
+pub not_blank : {S : Type 0} (held : S → Held) (honest : S → Bool) (failed : S → ℕ) (a : Answers) (path : Bor (List ℕ)) (g : Geometry) (bad : List ℕ) (why : FileFault) → a.fails path.now why
+    → IsUnformatted held honest failed a path.now g bad (told_at why path 0)
+not_blank held honest failed a path g bad file.Read is = (refl, is)
+not_blank held honest failed a path g bad file.Write is = (refl, inl is)
+not_blank held honest failed a path g bad file.InUse is = (refl, is)
+not_blank held honest failed a path g bad file.Exists is = (refl, is)
+not_blank held honest failed a path g bad (file.Length found) is = (refl, refl, is)
+not_blank held honest failed a path g bad file.OutOfMemory is = tt
+
+-- they were not marked
+pub not_marked : {S : Type 0} (held : S → Held) (honest : S → Bool) (failed : S → ℕ) (a : Answers) (path : Bor (List ℕ)) (g : Geometry) (bad : List ℕ) (store left : S) (told : DiskFault)
+    → honest store ≡ a.honest → (honest store ≡ true → held store ≡ blank g) → 0 < length bad → ((told ≡ fault.OutOfMemory) ⊎ ((told ≡ fault.Write path) × HasRisen (failed store) (failed left)))
+    → IsUnformatted held honest failed a path.now g bad told
+not_marked held honest failed a path g bad store left told is erased some (inl memory) = subst (IsUnformatted held honest failed a path.now g bad) (sym memory) tt
+not_marked held honest failed a path g bad store left told is erased some (inr h) = subst (IsUnformatted held honest failed a path.now g bad) (sym h.0) (refl, inr (some, (store, left, is, erased, h.1)))
 
 -- a die that was made was put in its place
-pub created : {S : Type 0} (held : S → Held) (honest : S → Bool) (a : Answers) (words : CreateWords) (shape : Shape) (before between after : Option (List Kept)) (store : S) (result : Result (Unit {0}) DiskFault)
-    → IsShapeAsked words shape → a.says_there words.disk.now false → (honest store ≡ true → IsDieFor a words.make shape (held store)) → honest store ≡ a.honest → between ≡ before
+pub created : {S : Type 0} (held : S → Held) (honest : S → Bool) (a : Answers) (words : CreateWords) (shape : Shape) (bad : List ℕ) (before between after : Option (List Kept)) (store : S) (result : Result (Unit {0}) DiskFault)
+    → IsShapeAsked words shape → AreBadAsked (is_copied words.make) words.bad shape.geometry bad → a.says_there words.disk.now false → (honest store ≡ true → IsDieFor a words.make shape bad (held store)) → honest store ≡ a.honest → between ≡ before
     → OnOk result (after ≡ with_kept between (record { path = words.disk.now; held = held store; text = shape_text shape }))
     → OnOk result (HasCreated held honest a words before after)
-created held honest a words shape before between after store (Ok done) asked free die is same kept =
+created held honest a words shape bad before between after store (Ok done) asked named free die is same kept =
     record {
       shape = shape;
       asked = asked;
+      bad = bad;
+      bad_asked = named;
       free = free;
       store = store;
       die = die;
       is_honest = is;
       kept = subst (λ b. after ≡ with_kept b (record { path = words.disk.now; held = held store; text = shape_text shape })) same kept;
     }
-created held honest a words shape before between after store (Err told) asked free die is same kept = tt
+created held honest a words shape bad before between after store (Err told) asked named free die is same kept = tt
 
 -- or was not
 unkept_before : (a b : Answers) (path : List ℕ) (told : DiskFault) → FailsNoMore a b → IsUnkept b path told → IsUnkept a path told
@@ -57,7 +80,7 @@ unkept_before a b path (fault.Length word found wanted) no_more h = (h.0, h.1, n
 unkept_before a b path fault.OutOfMemory no_more h = tt
 unkept_before a b path _ no_more h = absurd h
 
-pub not_kept : {S : Type 0} (held : S → Held) (honest : S → Bool) (failed : S → ℕ) (a b : Answers) (words : CreateWords) (shape : Shape) (result : Result (Unit {0}) DiskFault)
-    → IsShapeAsked words shape → a.says_there words.disk.now false → FailsNoMore a b → IfErr result (IsUnkept b words.disk.now) → IfErr result (IsUncreated held honest failed a words)
-not_kept held honest failed a b words shape (Ok done) asked free no_more h = tt
-not_kept held honest failed a b words shape (Err told) asked free no_more h = inr (inr (shape, asked, free, inr (unkept_before a b words.disk.now told no_more h)))
+pub not_kept : {S : Type 0} (held : S → Held) (honest : S → Bool) (failed : S → ℕ) (a b : Answers) (words : CreateWords) (shape : Shape) (bad : List ℕ) (result : Result (Unit {0}) DiskFault)
+    → IsShapeAsked words shape → AreBadAsked (is_copied words.make) words.bad shape.geometry bad → a.says_there words.disk.now false → FailsNoMore a b → IfErr result (IsUnkept b words.disk.now) → IfErr result (IsUncreated held honest failed a words)
+not_kept held honest failed a b words shape bad (Ok done) asked named free no_more h = tt
+not_kept held honest failed a b words shape bad (Err told) asked named free no_more h = inr (shape, asked, inr (bad, named, inr (free, inr (unkept_before a b words.disk.now told no_more h))))

@@ -179,6 +179,7 @@ pub trait DiskFiles {
     ///
     /// One that these files may answer of the path, where it could not be made. The disks in their places are as they were.
     fn create(&mut self, alloc: Global, path: &str, shape: &Shape) -> Result<Self::Store, FileFault>
+        ensures geometry { IfOk result (λ store. (Self.Store.held store).geometry ≡ shape.now.geometry) }
         ensures erased { IfOk result (λ store. Self.Store.honest store ≡ true → Self.Store.held store ≡ blank shape.now.geometry) }
         ensures honest { IfOk result (λ store. Self.Store.honest store ≡ (answers self.old).honest) }
         ensures failed { IfErr result ((answers self.old).fails path.now) }

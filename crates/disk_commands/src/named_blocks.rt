@@ -1,5 +1,5 @@
 //! The blocks that a new die is to have bad.
-ghost use Rattle.std.specs.Prelude.{◌≡◌, ◌≤◌, ℕ, [], List, replicate, slice_set, IfErr, IfOk, IfSome, IsSomeAnd, OnErr, OnOk, true};
+ghost use Rattle.std.specs.Prelude.{◌≡◌, ◌⊎◌, ◌<◌, ◌≤◌, ℕ, [], List, length, IfErr, IfOk, IfSome, IsSomeAnd, OnErr, OnOk, true};
 ghost use Rattle.page_layout.specs.Change.{erased_page};
 ghost use Rattle.page_layout.specs.Counter.{HasRisen};
 ghost use Rattle.page_layout.specs.Geometry.{page_bytes};
@@ -152,6 +152,7 @@ pub(crate) fn mark_blocks<'a, S: Store>(
     requires named { AreNames geometry.now blocks.now }
     ensures marks { OnOk result (S.honest store.old ≡ true → HasMarks geometry.now [] (S.held store.old) → HasMarks geometry.now blocks.now (S.held store.new)) }
     ensures honest { S.honest store.new ≡ S.honest store.old }
+    ensures some { OnErr result (0 < length blocks.now) }
     ensures fault { IfErr result (λ told. (told ≡ DiskFault.OutOfMemory) ⊎ ((told ≡ DiskFault.Write path.entry) × HasRisen (S.failed store.old) (S.failed store.new))) }
 {
     if blocks.is_empty() {

@@ -198,7 +198,9 @@ fn open_mark<R: Files<File = File> + AllocGlobal>(
 }
 
 // A store of erased pages over an empty file.
-fn new_store(alloc: Global, shape: &Shape, file: File) -> Result<DieStore, FileFault> {
+fn new_store(alloc: Global, shape: &Shape, file: File) -> Result<DieStore, FileFault>
+    ensures { IfOk result (IsStoreOf shape.now.geometry) }
+{
     let mut store = match store_in(alloc, shape, file) {
         Ok(store) => store,
         Err(fault) => return Err(fault),
