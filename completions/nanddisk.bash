@@ -8,6 +8,7 @@ _nanddisk()
         return
     fi
     case "$before" in
+        --bad) return ;;
         --cache) return ;;
         --code) return ;;
         --from) compopt -o filenames; mapfile -t COMPREPLY < <(compgen -f -- "$word"); return ;;
@@ -18,7 +19,7 @@ _nanddisk()
     esac
     if [[ "$word" == -* ]]; then
         case "${COMP_WORDS[1]}" in
-            create) mapfile -t COMPREPLY < <(compgen -W "--size --geometry --from --cache --code --help" -- "$word") ;;
+            create) mapfile -t COMPREPLY < <(compgen -W "--size --geometry --from --bad --cache --code --help" -- "$word") ;;
             serve) mapfile -t COMPREPLY < <(compgen -W "--read-only --sync --wait --help" -- "$word") ;;
             info) mapfile -t COMPREPLY < <(compgen -W "--json --help" -- "$word") ;;
             check) mapfile -t COMPREPLY < <(compgen -W "--json --help" -- "$word") ;;
