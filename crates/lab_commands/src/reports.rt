@@ -17,7 +17,7 @@ use crate::told_lines::{
 };
 use lab_correct::{FoundFit, Loss};
 use lab_dump::{Compared, DieSurvey, Held, Rows, SectorPage, State, Unsettled, damaged_count};
-use lab_mend::{Mend, Tally, TriedRow, count_tries};
+use lab_mend::{Mend, Tally, TriedRow, count_mended, count_tries};
 use page_layout::geometry::Geometry;
 
 // The pages of each sort, and the reasons against a mount but for the tables.
@@ -316,7 +316,7 @@ pub fn print_fits<W: Output>(
     printer.end(out)
 }
 
-/// Prints which pages were mended, in their order, and how many.
+/// Prints what came of the pages that were to be mended, in their order, how many pages were tried, where that is told, and how many were mended.
 ///
 /// # Errors
 ///
@@ -324,13 +324,15 @@ pub fn print_fits<W: Output>(
 pub fn print_repaired<W: Output>(
     printer: Printer,
     out: &mut W,
+    tries: u64,
     mends: &[Mend],
 ) -> Result<(), OutputFault>
-    ensures { Prints (W.failed out.new) (W.contents out.old) (W.contents out.new) (repair_text printer.form mends.now) result }
+    ensures { Prints (W.failed out.new) (W.contents out.old) (W.contents out.new) (repair_text printer.form tries mends.now) result }
 {
     printer.begin(out, Report::Repair)?;
     printer.list(out, &Lines::Mends(mends))?;
-    printer.line(out, Some(Line::MendedCount(mends.len() as u64)))?;
+    printer.line(out, tries_line(tries))?;
+    printer.line(out, Some(Line::MendedCount(count_mended(mends) as u64)))?;
     printer.end(out)
 }
 
