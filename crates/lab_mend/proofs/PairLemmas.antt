@@ -1,11 +1,11 @@
 -- Which two bits of a page are turned.
-use Rattle.std.proofs.Common.{◌≡◌, ◌⊎◌, ◌↔◌, inl, inr, ℕ, zero, suc, ◌+◌, ◌-◌, ◌<◌, ◌≤◌, Bool, true, false, cond, List, [], ◌∷◌, ◌++◌, length, map, get_or, Option, Some, None, refl, sym, ap, ◌∙◌, subst, arith}
+use Rattle.std.proofs.Common.{◌≡◌, ◌⊎◌, inl, inr, ℕ, zero, suc, ◌+◌, ◌-◌, ◌<◌, ◌≤◌, Bool, true, false, cond, List, [], ◌∷◌, ◌++◌, length, Option, Some, None, refl, sym, ap, ◌∙◌, subst, arith}
 use Rattle.std.specs.Prelude.{nat_le, is_some}
 use Rattle.std.specs.List.{filter, flat_map, range_with_len, Contains}
 use Rattle.std.proofs.lemmas.Bool.{cases_eq, true≢false}
+use Rattle.std.proofs.lemmas.Bool.Decides.{nat_tests}
 use Rattle.std.proofs.lemmas.List.Elements.{Contains-append_left, Contains-append_right, Contains-append_cases}
 use Rattle.page_layout.specs.Page.{Page}
-use Rattle.page_layout.specs.Sound.{record_of}
 use Rattle.page_layout.specs.Block.{is_broken}
 use Rattle.lab_dump.specs.PageBytes.{is_sound, bit_count, page_bit}
 use Rattle.lab_mend.specs.declared.mending.Turned.{Turned}
@@ -13,12 +13,12 @@ use Rattle.lab_mend.specs.declared.pairs.Pair.{Pair}
 use Rattle.lab_mend.specs.declared.pairs.Turn.{Turn}
 use Rattle.lab_mend.specs.declared.pairs.Turn.TheVariants.{One, Two, Tied, Nothing}
 use Rattle.lab_mend.specs.Bits.{turned, DiffersAt}
-use Rattle.lab_mend.specs.Mend.{mend_of}
+use Rattle.lab_mend.specs.Mend.{erased_bit, first_turn, lowest_bit, mend_of}
 use Rattle.lab_mend.specs.Repairing.{IsLeft}
 use Rattle.lab_mend.specs.Trial.{bits_apart, turned_count, with_turned, HasBytes}
 use Rattle.lab_mend.specs.Pairs.{second_bits, pairs_with, sound_pairs, by_pairs, one_or_two, turn_of, turned_by, turned_back, repaired, MakeSound, HasTwoPairs, Tells, TurnLaw, DiffersInTwo, IsOneBitOff, AreTwoBitsOff, RepairedLaw, OnlyLaw, KeptLaw, AgainLaw}
-use Rattle.lab_mend.proofs.BitLemmas.{body_turned, spare_turned, count_turned, turned_law, turned_twice}
-use Rattle.lab_mend.proofs.MendLemmas.{broken_from, made_by, made_whole, mend_law, none_of, sound_whole, unmended}
+use Rattle.lab_mend.proofs.BitLemmas.{count_turned, turned_law, turned_twice}
+use Rattle.lab_mend.proofs.MendLemmas.{broken_from, made_by, made_whole, mend_broken, mend_law, sound_whole, unmended}
 use Rattle.lab_mend.proofs.TrialLemmas.{alone, AreBits, bit_together, bits_once, either_in, in_turned, passes_from, passes_in, passing_bits}
 
 -- ---- while they are tried
@@ -221,6 +221,32 @@ turn_broken bits p is = ap (λ b. cond b (one_or_two bits p (mend_of p)) None) i
 pub turn_whole : (bits : ℕ) (p : Page) → is_broken p ≡ false → turn_of bits p ≡ None
 unfolding turn_of
 turn_whole bits p is = ap (λ b. cond b (one_or_two bits p (mend_of p)) None) is
+
+-- what is turned of a broken page, by the bit that is turned first
+pub turn_one : (bits : ℕ) (p : Page) (t : Turned) → is_broken p ≡ true → Some t ≡ first_turn (lowest_bit p) (erased_bit p) → Some (One t) ≡ turn_of bits p
+turn_one bits p t is e = sym (turn_broken bits p is ∙ ap (one_or_two bits p) (mend_broken p is ∙ sym e))
+
+pub turn_two : (bits : ℕ) (p : Page) → 2 ≤ bits → is_broken p ≡ true → None ≡ first_turn (lowest_bit p) (erased_bit p) → Some (by_pairs (sound_pairs p)) ≡ turn_of bits p
+turn_two bits p some is e =
+    let test : nat_le 2 bits ≡ true = grind (arith, nat_tests) in
+    sym (turn_broken bits p is ∙ (ap (one_or_two bits p) (mend_broken p is ∙ sym e) ∙ ap (λ b. cond b (Some (by_pairs (sound_pairs p))) None) test))
+
+pub turn_none : (bits : ℕ) (p : Page) → bits < 2 → is_broken p ≡ true → None ≡ first_turn (lowest_bit p) (erased_bit p) → None ≡ turn_of bits p
+turn_none bits p few is e =
+    let test : nat_le 2 bits ≡ false = grind (arith, nat_tests) in
+    sym (turn_broken bits p is ∙ (ap (one_or_two bits p) (mend_broken p is ∙ sym e) ∙ ap (λ b. cond b (Some (by_pairs (sound_pairs p))) None) test))
+
+-- the pair that is turned
+pub two_makes : (p : Page) (b : Pair) (t : Turn) → t ≡ by_pairs (sound_pairs p) → t ≡ Two b → MakeSound p b.low b.high
+two_makes p b t found is = by (sound_pairs p) refl (sym found ∙ is)
+  where
+    same_pair : (x : Pair) → Two x ≡ Two b → x ≡ b
+    same_pair x e = cc
+
+    by : (bs : List Pair) → sound_pairs p ≡ bs → by_pairs bs ≡ Two b → MakeSound p b.low b.high
+    by [] e none = absurd (cc)
+    by (x ∷ []) e one = subst (λ (y : Pair). MakeSound p y.low y.high) (same_pair x one) (only_from p x e).makes
+    by (x ∷ y ∷ more) e many = absurd (cc)
 
 pub turn_law : TurnLaw
 turn_law bits p t e = by (is_broken p) refl

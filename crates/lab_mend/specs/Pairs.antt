@@ -1,6 +1,6 @@
 -- What becomes of a page that is neither erased nor sound, and that two bits turned make sound. One bit goes before two, and of several pairs none is
 -- taken.
-use Rattle.std.specs.Prelude.{◌≡◌, ◌↔◌, ℕ, ◌+◌, ◌-◌, ◌<◌, ◌≤◌, nat_le, true, false, ◌⊎◌, if◌then◌else◌, List, [], ◌∷◌, ◌++◌, length, map, Option, Some, None, IsSome}
+use Rattle.std.specs.Prelude.{◌≡◌, ◌↔◌, ℕ, ◌+◌, ◌-◌, ◌<◌, ◌≤◌, nat_le, true, false, ◌⊎◌, if◌then◌else◌, List, [], ◌∷◌, length, map, Option, Some, None, IsSome}
 use Rattle.std.specs.List.{filter, flat_map, range_with_len}
 use Rattle.page_layout.specs.Page.{Page}
 use Rattle.page_layout.specs.Sound.{record_of}

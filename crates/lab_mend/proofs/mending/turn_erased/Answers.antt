@@ -1,7 +1,7 @@
-use Rattle.std.proofs.Common.{◌≡◌, ℕ, ◌<◌, List, true, false, inl, inr, refl, sym, ap, ◌∙◌, subst, arith}
+use Rattle.std.proofs.Common.{◌≡◌, true, false, inl, inr, refl, sym, ap, ◌∙◌, subst, arith}
 use Rattle.std.proofs.lemmas.Bool.{cases_eq}
 use Rattle.page_layout.specs.Sound.{is_erased_page}
-use Rattle.lab_dump.specs.PageBytes.{page_of, bits_of}
+use Rattle.lab_dump.specs.PageBytes.{page_of}
 use Rattle.lab_mend.specs.Bits.{turned_bytes}
 use Rattle.lab_mend.proofs.BitLemmas.{back_again}
 use Rattle.lab_mend.proofs.MendLemmas.{erased_in, unerased_in}

@@ -1,6 +1,6 @@
-use Rattle.std.proofs.Common.{◌≡◌, ℕ, ◌+◌, ◌<◌, List, true, false, inl, inr, refl, sym, ap, ◌∙◌, subst, arith}
+use Rattle.std.proofs.Common.{◌≡◌, ◌+◌, true, false, inl, inr, refl, sym, ap, ◌∙◌, subst, arith}
 use Rattle.std.proofs.lemmas.Bool.{cases_eq}
-use Rattle.lab_dump.specs.PageBytes.{is_sound, page_of, bits_of}
+use Rattle.lab_dump.specs.PageBytes.{is_sound, page_of}
 use Rattle.lab_mend.specs.Bits.{turned_bytes}
 use Rattle.lab_mend.specs.Seal.{HasTaken}
 use Rattle.lab_mend.proofs.BitLemmas.{back_again}

@@ -1,7 +1,7 @@
 use Rattle.std.proofs.Common.{◌≡◌, ◌∙◌, ◌+◌, ◌-◌, ◌++◌, [], refl, sym, ap, subst, arith}
-use Rattle.lab_dump.specs.PageBytes.{page_of, bits_of, bit_count}
+use Rattle.lab_dump.specs.PageBytes.{page_of, bits_of}
 use Rattle.lab_mend.specs.Bits.{turned_bytes, turned}
-use Rattle.lab_mend.specs.Pairs.{by_pairs, pairs_with, second_bits, seen_with, sound_pairs}
+use Rattle.lab_mend.specs.Pairs.{by_pairs, pairs_with, second_bits, seen_with}
 use Rattle.lab_mend.specs.Seal.{HasTaken}
 use Rattle.lab_mend.proofs.BitLemmas.{back_again, count_page, turned_page}
 use Rattle.lab_mend.proofs.SealLemmas.{taken_turned}
@@ -12,10 +12,12 @@ pub loop-low-init : goal.loop-low-init
 loop-low-init g c =
     let size = c.args.geometry.now.data_bytes in
     let bytes = c.args.bytes.now in
+    let p = page_of size bytes in
+    let all : bits_of bytes - 0 ≡ bits_of bytes = omega arith in
     record {
       same = refl;
       taken = c.new-prefix.ensures size bytes;
-      seen = ap by_pairs (ap (λ n. pairs_from (page_of size bytes) 0 n) (sym (count_page size bytes)) ∙ pairs_are (page_of size bytes));
+      seen = ap by_pairs (ap (pairs_from p 0) all ∙ (ap (pairs_from p 0) (sym (count_page size bytes)) ∙ pairs_are p));
     }
 
 pub try_second-seen-requires-clause-taken : goal.try_second-seen-requires-clause-taken
@@ -61,4 +63,4 @@ returns-clause-turn g c =
     let size = c.args.geometry.now.data_bytes in
     let bytes = c.args.bytes.now in
     let ended : pairs_from (page_of size bytes) c.loop-low.low (bits_of bytes - c.loop-low.low) ≡ [] = pairs_ended (page_of size bytes) c.loop-low.low (bits_of bytes) (omega arith) in
-    c.turn-result.ensures ∙ (ap (seen_with c.loop-low.seen) (sym ended) ∙ c.loop-low.invariant.seen)
+    c.turn-2.ensures ∙ (ap (seen_with c.loop-low.seen) (sym ended) ∙ c.loop-low.invariant.seen)

@@ -1,6 +1,5 @@
-use Rattle.std.proofs.Common.{◌≡◌, ◌∙◌, ◌+◌, ◌-◌, ◌∷◌, ◌++◌, true, false, List, refl, sym, ap, subst, arith}
-use Rattle.lab_dump.specs.PageBytes.{is_sound, page_of, bits_of, bit_count}
-use Rattle.lab_mend.specs.declared.pairs.Pair.{Pair}
+use Rattle.std.proofs.Common.{◌≡◌, ◌∙◌, ◌+◌, ◌-◌, [], ◌++◌, refl, sym, ap, subst, arith}
+use Rattle.lab_dump.specs.PageBytes.{is_sound, page_of, bits_of}
 use Rattle.lab_mend.specs.Bits.{turned_bytes, turned}
 use Rattle.lab_mend.specs.Pairs.{pairs_with, second_bits, seen_with}
 use Rattle.lab_mend.specs.Seal.{HasTaken}

@@ -1,4 +1,4 @@
-use Rattle.std.proofs.Common.{◌≡◌, ◌-◌, ◌++◌, List, length}
+use Rattle.std.proofs.Common.{◌≡◌, ◌-◌, ◌++◌, List}
 use Rattle.lab_dump.specs.PageBytes.{bits_of, page_of}
 use Rattle.lab_mend.specs.declared.pairs.Pair.{Pair}
 use Rattle.lab_mend.specs.Pairs.{pairs_with, second_bits, seen_with}

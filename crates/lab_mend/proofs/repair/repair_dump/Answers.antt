@@ -1,4 +1,4 @@
-use Rattle.std.proofs.Common.{◌≡◌, List, Option, IfSome, sym, subst}
+use Rattle.std.proofs.Common.{◌≡◌, List, IfSome, sym, subst}
 use Rattle.page_layout.specs.Geometry.{row_count}
 use Rattle.lab_dump.specs.Scan.{IsTaken}
 use Rattle.lab_dump.proofs.ScanLemmas.{if_more}
