@@ -183,11 +183,11 @@ mended_json made row bit r1 w r2 e1 ew e2 = rw (e1, ew, e2) (ap (λ t. codes "{\
 pub pair_json : (row : ℕ) (b : Pair) (r1 r2 r3 : ℕ) → r1 ≡ b.low → r2 ≡ b.high → r3 ≡ row
     → codes "{\"bits\":[" ++ (decimal r1 ++ (codes "," ++ (decimal r2 ++ (codes "],\"line\":\"mended\",\"row\":" ++ (decimal r3 ++ codes "}"))))) ≡ compact_text (pair_data row b)
 unfolding escape_byte
-pair_json row b r1 r2 r3 e1 e2 e3 = rw (e1, e2, e3) (refl)
+pair_json row b r1 r2 r3 e1 e2 e3 = rw (e1, e2, e3) (ap (λ t. codes "{\"bits\":[" ++ t) (sym (list_of_two (decimal b.low) (decimal b.high) (codes ",\"line\":\"mended\",\"row\":" ++ (decimal row ++ codes "}")))))
 
-pub tied_json : (row r1 : ℕ) → r1 ≡ row → codes "{\"line\":\"tied_row\",\"row\":" ++ (decimal r1 ++ codes "}") ≡ compact_text (row_data (codes "tied_row") row)
+pub tied_pairs_json : (row r1 : ℕ) → r1 ≡ row → codes "{\"line\":\"tied_row\",\"row\":" ++ (decimal r1 ++ codes "}") ≡ compact_text (row_data (codes "tied_row") row)
 unfolding escape_byte
-tied_json row r1 e1 = rw (e1) (refl)
+tied_pairs_json row r1 e1 = rw (e1) (refl)
 
 pub untaken_json : (row r1 : ℕ) → r1 ≡ row → codes "{\"line\":\"tried\",\"row\":" ++ (decimal r1 ++ codes "}") ≡ compact_text (row_data (codes "tried") row)
 unfolding escape_byte

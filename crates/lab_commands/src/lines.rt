@@ -9,9 +9,9 @@ ghost use Rattle.lab_commands.specs.Lines.{age_words, block_words, corrected_wor
 use crate::output::{Output, OutputFault};
 use crate::pieces::Piece::{Number, Words};
 use crate::pieces::put_pieces;
+use crate::turn_lines::put_turn;
 use certificate::BlockState;
 use lab_correct::FoundFit;
-use crate::turn_lines::put_turn;
 use lab_dump::{Doubts, Fit, Rows, SaidPage, SectorPage, TableSays, Wrote};
 use lab_mend::{Made, Tally, Trial, Turn};
 use page_layout::record::Kind;

@@ -66,7 +66,12 @@ pub(crate) fn put_turn<W: Output>(out: &mut W, row: u32, turn: Turn) -> Result<(
 
 // A page that was mended.
 #[tactic(auto, unfolding(json::specs::Print::escape_byte))]
-fn put_mended_data<W: Output>(out: &mut W, made: Made, row: u32, bit: u32) -> Result<(), OutputFault>
+fn put_mended_data<W: Output>(
+    out: &mut W,
+    made: Made,
+    row: u32,
+    bit: u32,
+) -> Result<(), OutputFault>
     ensures { Prints (W.failed out.new) (W.contents out.old) (W.contents out.new) (compact_text (mended_data made row bit)) result }
 {
     put_pieces(

@@ -10,9 +10,9 @@ use crate::lines::{Label, Line, Sort, class_text, kind_text, made_text, says_tex
 use crate::output::{Output, OutputFault};
 use crate::pieces::Piece::{Number, Words};
 use crate::pieces::put_pieces;
+use crate::turn_lines::put_turn_data;
 use certificate::BlockState;
 use lab_correct::FoundFit;
-use crate::turn_lines::put_turn_data;
 use lab_dump::{Doubts, Rows, SaidPage, SectorPage};
 use lab_mend::{Tally, Trial};
 

@@ -88,7 +88,7 @@ returns-in-Ok-clause-ok g c =
     let bits = c.in_ok-bits.bits in
     let pieces = g.F.Target.Pieces.pieces c.in_ok-repaired.repaired.target in
     let mends = c.in_ok-repaired.repaired.mends.items in
-    let tries : c.tries_told.result ≡ told_tries bits geometry mends = c.tries_told.ensures ∙ ap (told_tries bits geometry) c.deref.ensures.value in
+    let tries : c.tries_told-tries.result ≡ told_tries bits geometry mends = c.tries_told-tries.ensures ∙ ap (told_tries bits geometry) c.deref.ensures.value in
     record {
       mends = mends;
       put = record {
@@ -105,7 +105,7 @@ returns-in-Ok-clause-ok g c =
       };
       told = subst (λ f. Appends (g.W.Output.contents c.args.out.now) (g.W.Output.contents c.print_repaired.new.out) (repair_text f (told_tries bits geometry mends) mends)) c.printer.ensures
           (subst (λ (n : ℕ). Appends (g.W.Output.contents c.args.out.now) (g.W.Output.contents c.print_repaired.new.out) (repair_text c.printer.result.form n mends)) tries
-          (subst (λ (ms : List Mend). Appends (g.W.Output.contents c.args.out.now) (g.W.Output.contents c.print_repaired.new.out) (repair_text c.printer.result.form c.tries_told.result ms)) c.deref-2.ensures.value c.in-Ok.ensures));
+          (subst (λ (ms : List Mend). Appends (g.W.Output.contents c.args.out.now) (g.W.Output.contents c.print_repaired.new.out) (repair_text c.printer.result.form c.tries_told-tries.result ms)) c.deref-2.ensures.value c.in-Ok.ensures));
     }
 
 pub returns-clause-fault : goal.returns-clause-fault
@@ -118,7 +118,7 @@ returns-clause-fault g c =
     let bits = c.in_ok-bits.bits in
     let pieces = g.F.Target.Pieces.pieces c.in_ok-repaired.repaired.target in
     let mends = c.in_ok-repaired.repaired.mends.items in
-    let tries : c.tries_told.result ≡ told_tries bits geometry mends = c.tries_told.ensures ∙ ap (told_tries bits geometry) c.deref.ensures.value in
+    let tries : c.tries_told-tries.result ≡ told_tries bits geometry mends = c.tries_told-tries.ensures ∙ ap (told_tries bits geometry) c.deref.ensures.value in
     let put : PutRepair a words (g.F.LabFiles.kept c.args.files.now) (g.F.LabFiles.kept c.keep.new.files) mends = record {
       g = geometry;
       rows = rows;
@@ -136,5 +136,5 @@ returns-clause-fault g c =
     let broke = g.W.Output.failed c.print_repaired.new.out in
     let stops = subst (λ f. Stops c.in-Err.fault broke a b (repair_text f (told_tries bits geometry mends) mends)) c.printer.ensures
     (subst (λ (n : ℕ). Stops c.in-Err.fault broke a b (repair_text c.printer.result.form n mends)) tries
-    (subst (λ (ms : List Mend). Stops c.in-Err.fault broke a b (repair_text c.printer.result.form c.tries_told.result ms)) c.deref-2.ensures.value c.in-Err.ensures)) in
+    (subst (λ (ms : List Mend). Stops c.in-Err.fault broke a b (repair_text c.printer.result.form c.tries_told-tries.result ms)) c.deref-2.ensures.value c.in-Err.ensures)) in
     inr (mends, put, half_printed c.in-Err.fault _ _ _ _ _ c.unprinted.ensures stops)
