@@ -130,7 +130,11 @@ fn turn(bytes: &mut [u8], at: usize, bits: u8) {
 
 // Turns a bit of the page of a row.
 fn turn_bit(bytes: &mut [u8], row: u32, bit: u32) {
-    turn(bytes, PAGE * row as usize + bit as usize / 8, 1 << (bit % 8));
+    turn(
+        bytes,
+        PAGE * row as usize + bit as usize / 8,
+        1 << (bit % 8),
+    );
 }
 
 // Turns the bits of these pages back.
