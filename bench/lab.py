@@ -10,6 +10,7 @@ Half of the runs ask for JSON: the document is held to its form, and its objects
 
 import collections
 import copy
+import hashlib
 import itertools
 import json
 import os
@@ -69,6 +70,8 @@ def line_of(told, outside, rewritten):
         shape = ",".join(map(str, told["geometry"]))
         assert told.get("codes", "hamming") == "hamming", told
         return f"geometry {shape} " + " ".join(f"{name} {told[key]}" for name, key in names.items()) + codes_text("codes" in told, shape)
+    if kind == "mended" and "bits" in told:
+        return f"mended row {told['row']} bits " + " ".join(map(str, told["bits"]))
     if kind in ("mended", "erased"):
         return f"{kind} row {told['row']} bit {told['bit']}"
     if kind == "rows":
@@ -85,6 +88,8 @@ def line_of(told, outside, rewritten):
         return f"arranged {told['rows']}"
     if kind == "merged":
         return " ".join(f"{name} {told[name]}" for name in KINDS)
+    if kind in ("tied_row", "tried") and "bits" not in told:
+        return f"{kind.removesuffix('_row')} row {told['row']}"
     if kind in ("turned", "tied_row", "tried"):
         word = "tied" if kind == "tied_row" else kind
         return f"{word} row {told['row']} bits " + (f"{told['turned']} of " if "turned" in told else "") + str(told["bits"])
@@ -756,9 +761,40 @@ def damaged(rng, g, raw):
     return b"".join(pages)
 
 
-def mended(g, raw, rows):
-    """The dump with each page of these rows mended that one bit turned makes sound, or else erased, and the report."""
-    pages, told = pages_of(g, raw), ""
+PAIRED = collections.Counter()
+
+
+def sealed(g, page):
+    """Whether a page may be sound: its seal is the first bytes of the hash. It is asked of many pages."""
+    spare = page[g.data :]
+    return spare[:2] == b"\xff\xff" and hashlib.sha256(page[: g.data + 24]).digest()[:8] == spare[24:32]
+
+
+def pairs_of(g, page):
+    """The pairs of bits that make a page sound."""
+    pairs = []
+    for low in range(8 * g.page):
+        once = turned(page, low)
+        for high in range(low + 1, 8 * g.page):
+            other = turned(once, high)
+            if sealed(g, other) and is_sound(g, other):
+                pairs.append((low, high))
+    return pairs
+
+
+def paired(g, page, row):
+    """A page that one bit does not mend with the one pair of bits turned that makes it sound, and what is told of it."""
+    pairs = pairs_of(g, page)
+    PAIRED[min(len(pairs), 2)] += 1
+    if len(pairs) == 1:
+        low, high = pairs[0]
+        return turned(turned(page, low), high), f"mended row {row} bits {low} {high}\n"
+    return page, f"tied row {row}\n" if pairs else f"tried row {row}\n"
+
+
+def mended(g, raw, rows, bits=1):
+    """The dump with each page of these rows mended that one bit turned makes sound, or else erased, or two bits, and the report."""
+    pages, told, tries, all_bits = pages_of(g, raw), "", 0, 8 * g.page
     for row, page in enumerate(pages):
         if row not in rows or is_sound(g, page) or page == b"\xff" * g.page:
             continue
@@ -768,17 +804,31 @@ def mended(g, raw, rows):
             if bit is not None:
                 pages[row] = turned(page, bit)
                 told += f"{word} row {row} bit {bit}\n"
+                tries += all_bits
                 break
-    return b"".join(pages), told + f"mended {len(told.splitlines())}\n"
+        else:
+            if bits == 2:
+                pages[row], line = paired(g, page, row)
+                told += line
+                tries += all_bits + all_bits * (all_bits - 1) // 2
+    done = sum(line.startswith(("mended", "erased")) for line in told.splitlines())
+    return b"".join(pages), told + (tries_text(tries) + "\n" if bits == 2 and tries else "") + f"mended {done}\n"
 
 
 def repair_case(rng, folder):
     g, image = dump_for(rng)
     raw = damaged(rng, g, image.raw())
     rows, asked = some_rows(rng, g)
-    out, told = mended(g, raw, rows)
+    bits = rng.choice([1, 1, 1, 2])
+    if bits == 2 or rng.random() < 0.2:
+        asked = [*asked, "--bits", str(bits)]
+    if bits == 2 and g.page > 110:
+        # so many pages are not tried here
+        bits, rows = 1, range(0)
+        asked = ["--rows", "0..0", "--bits", "2"]
+    out, told = mended(g, raw, rows, bits)
     want = (0, told, "")
-    if rng.random() < 0.1:
+    if want[0] == 0 and rng.random() < 0.1:
         raw, want = rng.choice([raw[:-1], raw + b"\0"]), (1, "", "refused image 1 WrongLength\n")
     (folder / "dump.bin").write_bytes(raw)
     stored(rng, folder, ["repair", g.words(), "dump.bin", "out.bin", *asked], want, out)
@@ -934,6 +984,9 @@ def refusals(folder):
         (["repair", "64,32,8,32,32", "dump.bin"], (2, "", NONE)),
         (["repair", "64,32,8,32,32", "none.bin", "dump.bin", "--rows", "9..8"], (1, "", "refused rows 1 RowRange\n")),
         (["repair", "64,32,8,32,32", "none.bin", "dump.bin", "--rows", "0..257"], (1, "", "refused rows 1 RowRange\n")),
+        (["repair", "64,32,8,32,32", "none.bin", "dump.bin", "--bits", "3"], (1, "", "refused bits 1 BitRange\n")),
+        (["repair", "64,32,8,32,32", "none.bin", "dump.bin", "--bits", "two"], (2, "", "usage: bad number two\n")),
+        (["repair", "512,89,8,32,32", "none.bin", "dump.bin", "--bits", "2"], (1, "", "refused bits 2 PageSize\n")),
         (["repair", "64,32,8,32,32", "none.bin", "dump.bin", "--rows", "0-9"], (2, "", "usage: bad number 0-9\n")),
         (["survey", "64,32,8,32,32", "none.bin", "--rows", ".."], (2, "", "usage: bad number ..\n")),
         (["survey", "64,32,8,32,32", "none.bin", "--rows", "0..4294967296"], (2, "", "usage: bad number 0..4294967296\n")),
@@ -1085,6 +1138,7 @@ def main():
         assert cases < 100 or set(SHOWN) == {"one", "trim", "tied"}, SHOWN
         assert cases < 100 or {"turned", "tried"} <= set(TRIED), TRIED
         assert cases < 100 or set(FOUND) == {0, 1, 2, 3}, FOUND
+        assert cases < 100 or {0, 1} <= set(PAIRED), PAIRED
         print(f"each of the eight commands over {cases} dumps agrees with the reference, and the refusals; geometry over {dict(FITTED)}; rows tried by merge {dict(TRIED)}")
 
 

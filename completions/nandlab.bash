@@ -8,6 +8,7 @@ _nandlab()
         return
     fi
     case "$before" in
+        --bits) return ;;
         --from) return ;;
         --map) compopt -o filenames; mapfile -t COMPREPLY < <(compgen -f -- "$word"); return ;;
         --rows) return ;;
@@ -21,7 +22,7 @@ _nandlab()
             history) mapfile -t COMPREPLY < <(compgen -W "--json --progress --help" -- "$word") ;;
             compare) mapfile -t COMPREPLY < <(compgen -W "--json --progress --help" -- "$word") ;;
             merge) mapfile -t COMPREPLY < <(compgen -W "--force --json --progress --help" -- "$word") ;;
-            repair) mapfile -t COMPREPLY < <(compgen -W "--force --rows --json --progress --help" -- "$word") ;;
+            repair) mapfile -t COMPREPLY < <(compgen -W "--force --rows --bits --json --progress --help" -- "$word") ;;
             correct) mapfile -t COMPREPLY < <(compgen -W "--force --map --json --progress --help" -- "$word") ;;
             arrange) mapfile -t COMPREPLY < <(compgen -W "--force --from --json --progress --help" -- "$word") ;;
         esac

@@ -17,8 +17,9 @@ use Rattle.serde_json.specs.Data.{boolean}
 use Rattle.lab_dump.specs.declared.said.SaidPage.{SaidPage}
 use Rattle.lab_dump.specs.Doubts.{most_older}
 use Rattle.lab_mend.specs.declared.merging.Tally.{Tally}
+use Rattle.lab_mend.specs.declared.pairs.Pair.{Pair}
 use Rattle.lab_commands.specs.Values.{age_data, age_until_data, arranged_data, block_data, corrected_data, damaged_data, doubt_data, fit_members, found_data, front_words, head_data, history_data, key_data, legible_data, lost_data, lost_row_data}
-use Rattle.lab_commands.specs.Values.{mended_count_data, mended_data, merged_data, nothing_data, page_data, pages_data, plain_block_data, reason_pages_data, reason_table_data, repeated_data, row_data, rows_age_data, rows_data, said_data, tries_data, truth_words, turned_data}
+use Rattle.lab_commands.specs.Values.{mended_count_data, mended_data, merged_data, nothing_data, page_data, pages_data, pair_data, plain_block_data, reason_pages_data, reason_table_data, repeated_data, row_data, rows_age_data, rows_data, said_data, tries_data, truth_words, turned_data}
 use Rattle.std.specs.Prelude.{codes, ◌==◌, if◌then◌else◌}
 use Rattle.json.specs.Print.{escape, escape_byte, quoted}
 use Rattle.lab_dump.specs.declared.fit.TableSays.{TableSays}
@@ -178,6 +179,19 @@ fit_json found v r1 r2 r3 r4 r5 r6 r7 w r8 ev e1 e2 e3 e4 e5 e6 e7 ew e8 = rw (e
 pub mended_json : (made : Made) (row : ℕ) (bit : ℕ) (r1 : ℕ) (w : List ℕ) (r2 : ℕ) → r1 ≡ bit → w ≡ made_words made → r2 ≡ row → codes "{\"bit\":" ++ (decimal r1 ++ (codes ",\"line\":\"" ++ (w ++ (codes "\",\"row\":" ++ (decimal r2 ++ codes "}"))))) ≡ compact_text (mended_data made row bit)
 unfolding escape_byte
 mended_json made row bit r1 w r2 e1 ew e2 = rw (e1, ew, e2) (ap (λ t. codes "{\"bit\":" ++ (decimal bit ++ (codes ",\"line\":" ++ t))) (sym (quoted_in (made_words made) (codes ",\"row\":" ++ (decimal row ++ codes "}")) (plain_made made))))
+
+pub pair_json : (row : ℕ) (b : Pair) (r1 r2 r3 : ℕ) → r1 ≡ b.low → r2 ≡ b.high → r3 ≡ row
+    → codes "{\"bits\":[" ++ (decimal r1 ++ (codes "," ++ (decimal r2 ++ (codes "],\"line\":\"mended\",\"row\":" ++ (decimal r3 ++ codes "}"))))) ≡ compact_text (pair_data row b)
+unfolding escape_byte
+pair_json row b r1 r2 r3 e1 e2 e3 = rw (e1, e2, e3) (ap (λ t. codes "{\"bits\":[" ++ t) (sym (list_of_two (decimal b.low) (decimal b.high) (codes ",\"line\":\"mended\",\"row\":" ++ (decimal row ++ codes "}")))))
+
+pub tied_pairs_json : (row r1 : ℕ) → r1 ≡ row → codes "{\"line\":\"tied_row\",\"row\":" ++ (decimal r1 ++ codes "}") ≡ compact_text (row_data (codes "tied_row") row)
+unfolding escape_byte
+tied_pairs_json row r1 e1 = rw (e1) (refl)
+
+pub untaken_json : (row r1 : ℕ) → r1 ≡ row → codes "{\"line\":\"tried\",\"row\":" ++ (decimal r1 ++ codes "}") ≡ compact_text (row_data (codes "tried") row)
+unfolding escape_byte
+untaken_json row r1 e1 = rw (e1) (refl)
 
 pub mended_count_json : (count : ℕ) → codes "{\"line\":\"repaired\",\"mended\":" ++ (decimal count ++ codes "}") ≡ compact_text (mended_count_data count)
 unfolding escape_byte

@@ -19,6 +19,7 @@ pub mod Output
 -- where a command ends before its work
 pub mod Undone
 pub mod Rows
+pub mod Bits
 pub mod Numbers
 pub mod Array
 pub mod Survey

@@ -24,6 +24,8 @@ use Rattle.lab_correct.specs.declared.found.FoundFit.{FoundFit}
 use Rattle.lab_mend.specs.declared.mending.Made.{Made}
 use Rattle.lab_mend.specs.declared.mending.Made.TheVariants as made
 use Rattle.lab_mend.specs.declared.merging.Tally.{Tally}
+use Rattle.lab_mend.specs.declared.pairs.Turn.{Turn}
+use Rattle.lab_mend.specs.declared.pairs.Turn.TheVariants as turn
 use Rattle.lab_mend.specs.declared.trial.Trial.{Trial}
 use Rattle.lab_mend.specs.declared.trial.Trial.TheVariants as trial
 use Rattle.lab_commands.specs.declared.lines.Label.{Label}
@@ -67,6 +69,13 @@ says_words Differs = codes "differs"
 abbrev pub made_words : Made → List ℕ
 made_words made.Sound = codes "mended"
 made_words made.Erased = codes "erased"
+
+-- what came of the page of a row that was to be mended
+abbrev pub turn_words : ℕ → Turn → List ℕ
+turn_words row (turn.One t) = made_words t.made ++ (codes " row " ++ (decimal row ++ (codes " bit " ++ decimal t.bit)))
+turn_words row (turn.Two b) = codes "mended row " ++ (decimal row ++ (codes " bits " ++ (decimal b.low ++ (codes " " ++ decimal b.high))))
+turn_words row turn.Tied = codes "tied row " ++ decimal row
+turn_words row turn.Nothing = codes "tried row " ++ decimal row
 
 -- ---- parts of lines
 
@@ -205,7 +214,7 @@ line_words (Block block s unsound) = block_words block s unsound
 line_words (PlainBlock block unsound) = codes "block " ++ (decimal block ++ (codes " unsound " ++ decimal unsound))
 line_words (Lost sector) = codes "lost sector " ++ decimal sector
 line_words (line.Fit found) = found_words found
-line_words (Mended how row bit) = made_words how ++ (codes " row " ++ (decimal row ++ (codes " bit " ++ decimal bit)))
+line_words (Mended row turn) = turn_words row turn
 line_words (MendedCount n) = codes "mended " ++ decimal n
 line_words (LostRow row chunks) = codes "lost row " ++ (decimal row ++ (codes " chunks " ++ decimal chunks))
 line_words (Corrected bits rows lost) = corrected_words bits rows lost

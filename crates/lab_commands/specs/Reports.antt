@@ -15,6 +15,7 @@ use Rattle.lab_mend.specs.Tries.{tries_in}
 use Rattle.lab_correct.specs.declared.correcting.Loss.{Loss}
 use Rattle.lab_correct.specs.declared.found.FoundFit.{FoundFit}
 use Rattle.lab_mend.specs.declared.repairing.Mend.{Mend}
+use Rattle.lab_mend.specs.Repairing.{mended_count}
 use Rattle.lab_dump.specs.declared.survey.DieSurvey.{DieSurvey}
 use Rattle.lab_dump.specs.Doubts.{most_others}
 use Rattle.lab_dump.specs.declared.doubts.Unsettled.{Unsettled}
@@ -61,7 +62,7 @@ abbrev pub fit_at : List FoundFit → ℕ → Option Line
 fit_at fits n = option_map line.Fit (slice_get fits n)
 
 abbrev pub mend_at : List Mend → ℕ → Option Line
-mend_at mends n = option_map (λ m. line.Mended m.made m.row m.bit) (slice_get mends n)
+mend_at mends n = option_map (λ m. line.Mended m.row m.turn) (slice_get mends n)
 
 abbrev pub loss_at : List Loss → ℕ → Option Line
 loss_at losses n = option_map (λ l. line.LostRow l.row l.chunks) (slice_get losses n)
@@ -206,9 +207,11 @@ history_text form g pages unsound =
 abbrev pub fits_text : Form → List FoundFit → List ℕ
 fits_text form fits = head_text form (codes "geometry") ++ (text_below form (fit_at fits) (length fits) ++ tail_text form)
 
-abbrev pub repair_text : Form → List Mend → List ℕ
-repair_text form mends =
-    head_text form (codes "repair") ++ (text_below form (mend_at mends) (length mends) ++ (line_text form (line.MendedCount (length mends)) ++ tail_text form))
+-- what came of the pages that were to be mended, how many pages were tried, and how many were mended
+abbrev pub repair_text : Form → ℕ → List Mend → List ℕ
+repair_text form tries mends =
+    head_text form (codes "repair") ++ (text_below form (mend_at mends) (length mends)
+    ++ (if_text form (tries_line tries) ++ (line_text form (line.MendedCount (mended_count mends)) ++ tail_text form)))
 
 abbrev pub correct_text : Form → ℕ → ℕ → List Loss → List ℕ
 correct_text form turned touched losses =

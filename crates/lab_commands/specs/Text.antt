@@ -11,7 +11,7 @@ use Rattle.certificate.specs.declared.fault.CertFault.{CertFault}
 use Rattle.certificate.specs.declared.fault.CertFault.TheVariants as certificate
 use Rattle.lab_commands.specs.declared.text.LabFault.{LabFault}
 use Rattle.lab_commands.specs.declared.text.LabFault.TheVariants.{NoSuchCommand, BadNumber, Geometry, NoneFits, RowRange, SectorRange, WrongLength, DumpLength, OutOfMemory, Certificate, GeometryDiffers, BadArrangement, Unfit}
-use Rattle.lab_commands.specs.declared.text.LabFault.TheVariants.{ArrangedLength}
+use Rattle.lab_commands.specs.declared.text.LabFault.TheVariants.{ArrangedLength, BitRange, PageSize}
 use Rattle.lab_commands.specs.declared.text.LabFault.TheVariants.{IsDump, Exists, NoFile, MapIsOut, MapIsDump, MapExists, MapNoFile, Read, Write}
 use Rattle.lab_commands.specs.declared.text.Rest.{Rest}
 use Rattle.lab_commands.specs.declared.text.Rest.TheVariants.{Words, Name, Lengths}
@@ -57,6 +57,8 @@ line_of (BadNumber word) = codes "usage: bad number " ++ shown word.now
 line_of (Geometry fault) = codes "refused geometry " ++ limit_words fault
 line_of NoneFits = codes "refused geometry 6 NoneFits"
 line_of RowRange = codes "refused rows 1 RowRange"
+line_of BitRange = codes "refused bits 1 BitRange"
+line_of PageSize = codes "refused bits 2 PageSize"
 line_of SectorRange = codes "refused sector 1 OutOfRange"
 line_of IsDump = codes "refused out 1 IsDump"
 line_of Exists = codes "refused out 2 Exists"
@@ -83,6 +85,8 @@ status_of (BadNumber word) = 2
 status_of (Geometry fault) = 1
 status_of NoneFits = 1
 status_of RowRange = 1
+status_of BitRange = 1
+status_of PageSize = 1
 status_of SectorRange = 1
 status_of IsDump = 1
 status_of Exists = 1

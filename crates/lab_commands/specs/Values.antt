@@ -10,6 +10,9 @@ use Rattle.lab_dump.specs.declared.said.SaidPage.{SaidPage}
 use Rattle.lab_dump.specs.Doubts.{most_older}
 use Rattle.lab_correct.specs.declared.found.FoundFit.{FoundFit}
 use Rattle.lab_mend.specs.declared.merging.Tally.{Tally}
+use Rattle.lab_mend.specs.declared.pairs.Pair.{Pair}
+use Rattle.lab_mend.specs.declared.pairs.Turn.{Turn}
+use Rattle.lab_mend.specs.declared.pairs.Turn.TheVariants as turn
 use Rattle.lab_mend.specs.declared.trial.Trial.{Trial}
 use Rattle.lab_mend.specs.declared.trial.Trial.TheVariants as trial
 use Rattle.lab_mend.specs.declared.mending.Made.{Made}
@@ -122,6 +125,18 @@ corrected_data bits rows lost =
 abbrev pub row_data : List ℕ → ℕ → Data
 row_data name row = object (member (codes "line") (text name) (member (codes "row") (count row) no_members))
 
+-- a row of which these two bits are turned
+abbrev pub pair_data : ℕ → Pair → Data
+pair_data row b =
+    object (member (codes "bits") (array (item (count b.low) (item (count b.high) no_items))) (member (codes "line") (text (codes "mended")) (member (codes "row") (count row) no_members)))
+
+-- what came of the page of a row that was to be mended
+abbrev pub turn_data : ℕ → Turn → Data
+turn_data row (turn.One t) = mended_data t.made row t.bit
+turn_data row (turn.Two b) = pair_data row b
+turn_data row turn.Tied = row_data (codes "tied_row") row
+turn_data row turn.Nothing = row_data (codes "tried") row
+
 -- a row of which so many of the bits are turned in which its readings differ
 abbrev pub turned_data : List ℕ → (row turned differing : ℕ) → Data
 turned_data name row turned differing =
@@ -207,7 +222,7 @@ line_data (Block block s n) = block_data block s n
 line_data (PlainBlock block n) = plain_block_data block n
 line_data (Lost n) = lost_data n
 line_data (line.Fit found) = found_data found
-line_data (Mended how row bit) = mended_data how row bit
+line_data (Mended row turn) = turn_data row turn
 line_data (MendedCount n) = mended_count_data n
 line_data (LostRow row chunks) = lost_row_data row chunks
 line_data (Corrected bits rows lost) = corrected_data bits rows lost

@@ -44,7 +44,7 @@ abbrev pub merge : Shape
 merge = command_of (codes "merge") (place (codes "GEOM") ∷ place (codes "OUT") ∷ place_of Append (codes "DUMP") ∷ flag (codes "force") ∷ showing)
 
 abbrev pub repair : Shape
-repair = command_of (codes "repair") (place (codes "GEOM") ∷ place (codes "DUMP") ∷ place (codes "OUT") ∷ flag (codes "force") ∷ option (codes "rows") ∷ showing)
+repair = command_of (codes "repair") (place (codes "GEOM") ∷ place (codes "DUMP") ∷ place (codes "OUT") ∷ flag (codes "force") ∷ option (codes "rows") ∷ option (codes "bits") ∷ showing)
 
 abbrev pub correct : Shape
 correct = command_of (codes "correct") (place (codes "GEOM") ∷ place (codes "DUMP") ∷ place (codes "OUT") ∷ flag (codes "force") ∷ option (codes "map") ∷ showing)
@@ -124,6 +124,7 @@ pub record IsRepairAt (rows : List Row) (read : RepairWords) : Type 0 where
   pub out_is : first_of (codes "OUT") rows ≡ Some read.out.now
   pub forced : stood (count_of (codes "force") rows) ≡ read.force
   pub rows_are : first_of (codes "rows") rows ≡ option_map (λ word. word.now) read.rows
+  pub bits_are : first_of (codes "bits") rows ≡ option_map (λ word. word.now) read.bits
   pub showing : IsShowingAt rows read.showing
 
 -- those of the words of `arrange` are these

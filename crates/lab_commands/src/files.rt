@@ -1,5 +1,6 @@
 //! Where a dump comes from, and where a file of sectors or pages is put.
 use lab_dump::{DamagedTarget, Dump, DumpReader, LineFault, MapWriter, PageTarget, Pieces};
+use lab_mend::Watch;
 use thiserror::Error;
 
 /// A file was not read, asked about, written or put in its place.
@@ -82,6 +83,9 @@ pub trait LabFiles {
     /// A file of sectors or of pages that is being written.
     type Target: DamagedTarget + PageTarget + Drop;
 
+    /// What is told while the pairs of bits of a page are tried.
+    type Watch: Watch + Drop;
+
     /// What it may answer. Of the system's files it may be anything.
     ghost answers: { Self → Answers };
 
@@ -129,6 +133,12 @@ pub trait LabFiles {
         ensures no_more { AnswersNoMore (answers self.old) (answers self.new) }
         ensures kept { kept self.new ≡ kept self.old }
         ensures opened { opened self.new ≡ option_map suc (opened self.old) };
+
+    /// What shows how many pairs of bits of a page were tried.
+    fn watch(&mut self, progress: Progress) -> Self::Watch
+        ensures no_more { AnswersNoMore (answers self.old) (answers self.new) }
+        ensures kept { kept self.new ≡ kept self.old }
+        ensures opened { opened self.new ≡ opened self.old };
 
     /// A new file beside that of this path, of so many pieces of so many zeros. Where that fails none stands there.
     fn create(&mut self, path: &str, count: u32, size: usize) -> Result<Self::Target, FileFault>

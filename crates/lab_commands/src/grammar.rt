@@ -95,6 +95,12 @@ const REPAIR_ROWS: WordRule<'static> = WordRule {
     help: "Mends pages of the rows A to B - 1 alone",
 };
 
+const REPAIR_BITS: WordRule<'static> = WordRule {
+    id: "bits",
+    kind: WordKind::Valued("N"),
+    help: "With 2 tries each two bits of a page of up to 600 bytes that one bit does not mend",
+};
+
 const GEOMETRY: CommandRule<'static> = CommandRule {
     name: "geometry",
     about: "Tells which geometries fit a dump of unknown shape, best first",
@@ -136,7 +142,16 @@ const MERGE: CommandRule<'static> = CommandRule {
 const REPAIR: CommandRule<'static> = CommandRule {
     name: "repair",
     about: "Writes a dump with each page mended that one bit turned makes sound",
-    words: &[GEOM, DUMP, DUMP_OUT, FORCE, REPAIR_ROWS, JSON, PROGRESS],
+    words: &[
+        GEOM,
+        DUMP,
+        DUMP_OUT,
+        FORCE,
+        REPAIR_ROWS,
+        REPAIR_BITS,
+        JSON,
+        PROGRESS,
+    ],
 };
 
 const CORRECT: CommandRule<'static> = CommandRule {

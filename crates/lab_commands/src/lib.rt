@@ -5,6 +5,7 @@
 mod arrange;
 mod arrange_words;
 mod array;
+mod bits;
 mod compare;
 mod correct;
 mod document;
@@ -29,6 +30,7 @@ mod rows;
 mod survey;
 mod text;
 mod told_lines;
+mod turn_lines;
 mod values;
 mod words;
 

@@ -9,10 +9,11 @@ ghost use Rattle.lab_commands.specs.Lines.{age_words, block_words, corrected_wor
 use crate::output::{Output, OutputFault};
 use crate::pieces::Piece::{Number, Words};
 use crate::pieces::put_pieces;
+use crate::turn_lines::put_turn;
 use certificate::BlockState;
 use lab_correct::FoundFit;
 use lab_dump::{Doubts, Fit, Rows, SaidPage, SectorPage, TableSays, Wrote};
-use lab_mend::{Made, Tally, Trial};
+use lab_mend::{Made, Tally, Trial, Turn};
 use page_layout::record::Kind;
 
 /// What a page is of.
@@ -61,8 +62,8 @@ pub enum Line {
     Lost(u32),
     /// A geometry that fits, as the dump stands or with codes.
     Fit(FoundFit),
-    /// The page of a row was mended to such a page by turning a bit.
-    Mended(Made, u32, u32),
+    /// What came of the page of a row that was to be mended.
+    Mended(u32, Turn),
     /// So many pages were mended.
     MendedCount(u64),
     /// A row has so many lost chunks.
@@ -601,22 +602,6 @@ fn put_age_of_rows<W: Output>(out: &mut W, unsound: u32) -> Result<(), OutputFau
     )
 }
 
-// A page that was mended, what it is now, and the bit that was turned.
-fn put_mended<W: Output>(out: &mut W, made: Made, row: u32, bit: u32) -> Result<(), OutputFault>
-    ensures { Prints (W.failed out.new) (W.contents out.old) (W.contents out.new) (made_words made ++ (codes " row " ++ (decimal row ++ (codes " bit " ++ decimal bit)))) result }
-{
-    put_pieces(
-        out,
-        &[
-            Words(made_text(made)),
-            Words(" row "),
-            Number(u64::from(row)),
-            Words(" bit "),
-            Number(u64::from(bit)),
-        ],
-    )
-}
-
 // How many bits were turned back, in how many rows, and how many rows have lost chunks.
 fn put_corrected<W: Output>(out: &mut W, bits: u64, rows: u32, lost: u64) -> Result<(), OutputFault>
     ensures { Prints (W.failed out.new) (W.contents out.old) (W.contents out.new) (corrected_words bits rows lost) result }
@@ -654,7 +639,7 @@ pub(crate) fn put_words<W: Output>(out: &mut W, line: Line) -> Result<(), Output
         Line::PlainBlock(block, unsound) => put_two(out, "block ", block, " unsound ", unsound),
         Line::Lost(sector) => put_one(out, "lost sector ", u64::from(sector)),
         Line::Fit(found) => put_found(out, found),
-        Line::Mended(made, row, bit) => put_mended(out, made, row, bit),
+        Line::Mended(row, turn) => put_turn(out, row, turn),
         Line::MendedCount(count) => put_one(out, "mended ", count),
         Line::LostRow(row, chunks) => put_two(out, "lost row ", row, " chunks ", chunks),
         Line::Corrected(bits, rows, lost) => put_corrected(out, bits, rows, lost),

@@ -123,7 +123,7 @@ fn mend_line(mends: &[Mend], number: usize) -> Option<Line>
     ensures { result ≡ mend_at mends.now number }
 {
     let mend = *mends.get(number)?;
-    Some(Line::Mended(mend.made, mend.row, mend.bit))
+    Some(Line::Mended(mend.row, mend.turn))
 }
 
 fn loss_line(losses: &[Loss], number: usize) -> Option<Line>

@@ -3,8 +3,9 @@ ghost use Rattle.std.specs.Prelude.{◌≡◌, OnOk, OnErr, IfOk, IfErr};
 ghost use Rattle.lab_mend.specs.Rooms.{IsRepairRoom};
 ghost use Rattle.lab_commands.specs.Files.{AnswersNoMore, without_part};
 ghost use Rattle.lab_commands.specs.Undone.{IsUnmade};
-ghost use Rattle.lab_commands.specs.Repair.{IsMended, IsRepairFault, WroteRepair};
+ghost use Rattle.lab_commands.specs.Repair.{IsMended, IsRepairFault, WroteRepair, told_tries};
 
+use crate::bits::bits_at;
 use crate::files::LabFiles;
 use crate::opening::{allow, create_beside, geometry_at, keep, open_file, progress_of, unmade_as};
 use crate::output::Output;
@@ -13,8 +14,7 @@ use crate::reports::print_repaired;
 use crate::rows::rows_at;
 use crate::text::LabFault;
 use crate::words::RepairWords;
-use lab_dump::Rows;
-use lab_mend::{RepairRoom, Repaired, repair_dump};
+use lab_mend::{Mend, RepairAsked, RepairRoom, Repaired, count_turn_tries, repair_dump};
 use page_layout::geometry::Geometry;
 use std::alloc::Global;
 
@@ -23,11 +23,11 @@ fn mend<'a, F: LabFiles>(
     room: RepairRoom,
     words: &RepairWords<'a>,
     geometry: &Geometry,
-    rows: Option<Rows>,
+    asked: RepairAsked,
     files: &mut F,
 ) -> Result<Repaired<F::Target>, LabFault<'a>>
     requires { IsRepairRoom geometry.now room }
-    ensures made { IfOk result (λ told. IsMended (F.answers files.old) words.now.dump.now geometry.now rows (F.Target.pieces told.target) told.mends.items) }
+    ensures made { IfOk result (λ told. IsMended (F.answers files.old) words.now.dump.now geometry.now asked (F.Target.pieces told.target) told.mends.items) }
     ensures fault { IfErr result (IsUnmade (F.answers files.old) geometry.now words.now.dump.now words.now.out.now) }
     ensures no_more { AnswersNoMore (F.answers files.old) (F.answers files.new) }
     ensures beside { OnOk result (without_part (F.kept files.new) ≡ F.kept files.old) }
@@ -36,7 +36,8 @@ fn mend<'a, F: LabFiles>(
     let mut dump = open_file(files, words.dump, progress_of(words.showing))?;
     let size = geometry.data_bytes() + geometry.spare_bytes();
     let target = create_beside(files, words.out, geometry.rows(), size)?;
-    match repair_dump(room, &mut dump, geometry, rows, target) {
+    let watch = files.watch(progress_of(words.showing));
+    match repair_dump(room, &mut dump, geometry, asked, target, watch) {
         Ok(repaired) => Ok(repaired),
         Err(unwritten) => {
             files.discard(unwritten.target);
@@ -45,14 +46,27 @@ fn mend<'a, F: LabFiles>(
     }
 }
 
+// How many pages are told to have been tried.
+fn tries_told(geometry: &Geometry, bits: u32, mends: &[Mend]) -> u64
+    ensures { result ≡ told_tries bits geometry.now mends.now }
+{
+    if bits >= 2 {
+        count_turn_tries(geometry, mends)
+    } else {
+        0
+    }
+}
+
 /// The command `repair`: writes the dump DUMP, of the geometry GEOM, to the file OUT, with each page mended that is neither erased nor sound and
-/// that one bit turned makes sound, or else erased, and prints which pages were mended, and how many. Where it has the word A..B, pages of the rows A to B - 1
-/// alone are mended.
+/// that one bit turned makes sound, or else erased, and prints which pages were mended, and how many. Where it may turn two bits, a page that none mends is
+/// written with the two bits turned that make it sound, if no other two do, and how many pages were tried is printed too. Where it has the word A..B, pages of
+/// the rows A to B - 1 alone are mended.
 ///
 /// # Errors
 ///
 /// The first of this order: `BadNumber` where GEOM writes no numbers, `Geometry` where they are no geometry, `BadNumber` where A..B is no two
-/// numbers, `RowRange` where B is less than A or more than the die has rows, `IsDump` where OUT is the dump,
+/// numbers, `RowRange` where B is less than A or more than the die has rows, `BadNumber` where how many bits is no number, `BitRange` where it is neither one
+/// nor two, `PageSize` where it is two and a page has more than 600 bytes, `IsDump` where OUT is the dump,
 /// `Exists` where something stands at OUT and is not to be replaced, `NoFile` where that is neither a file nor a link to one, `OutOfMemory` where a growth was
 /// refused, `Read` where DUMP cannot be opened, `Write` where no file can be made beside OUT; then each when it happens: `Read` where a read of DUMP fails, `WrongLength` where
 /// it has not as many bytes as the geometry says, `Write` where OUT cannot be written or put in its place, `Exists` where another program gave its name to a
@@ -70,11 +84,14 @@ pub(crate) fn repair_command<'a, F: LabFiles, W: Output>(
 {
     let geometry = geometry_at(words.geometry)?;
     let rows = rows_at(words.rows, &geometry)?;
+    let bits = bits_at(words.bits, &geometry)?;
     allow(files, words.dump, words.out, words.force)?;
     let room = RepairRoom::new(alloc, &geometry)?;
-    let repaired = mend(room, &words, &geometry, rows, files)?;
+    let asked = RepairAsked { rows, bits };
+    let repaired = mend(room, &words, &geometry, asked, files)?;
     keep(files, words.out, repaired.target, words.force)?;
-    match print_repaired(printer(alloc, words.showing), out, &repaired.mends) {
+    let tries = tries_told(&geometry, bits, &repaired.mends);
+    match print_repaired(printer(alloc, words.showing), out, tries, &repaired.mends) {
         Ok(()) => Ok(()),
         Err(fault) => Err(unprinted(fault)),
     }

@@ -1,7 +1,8 @@
 //! What each command says.
 ghost use Rattle.std.specs.Prelude.{◌≡◌, option_map, map};
 ghost use Rattle.lab_dump.specs.Held.{shown_in};
-ghost use Rattle.lab_commands.specs.Document.{Prints, if_text, text_below};
+ghost use Rattle.lab_commands.specs.Document.{Prints, if_text, line_text, text_below};
+ghost use Rattle.lab_mend.specs.Repairing.{mended_count};
 ghost use Rattle.lab_mend.specs.Tries.{tries_in};
 ghost use Rattle.lab_commands.specs.Lines.{tries_line};
 ghost use Rattle.lab_commands.specs.Reports.{age_text, arrange_text, array_text, blocks_text, compare_text, correct_text, count_lines, doubts_text, ending_text, fits_text, history_text, key_at, keys_text, left_text, losses_text, merge_text};
@@ -17,7 +18,7 @@ use crate::told_lines::{
 };
 use lab_correct::{FoundFit, Loss};
 use lab_dump::{Compared, DieSurvey, Held, Rows, SectorPage, State, Unsettled, damaged_count};
-use lab_mend::{Mend, Tally, TriedRow, count_tries};
+use lab_mend::{Mend, Tally, TriedRow, count_mended, count_tries};
 use page_layout::geometry::Geometry;
 
 // The pages of each sort, and the reasons against a mount but for the tables.
@@ -316,7 +317,29 @@ pub fn print_fits<W: Output>(
     printer.end(out)
 }
 
-/// Prints which pages were mended, in their order, and how many.
+// How many pages were tried, where that is told.
+fn print_tried_count<W: Output>(
+    printer: Printer,
+    out: &mut W,
+    tries: u64,
+) -> Result<(), OutputFault>
+    ensures { Prints (W.failed out.new) (W.contents out.old) (W.contents out.new) (if_text printer.form (tries_line tries)) result }
+{
+    printer.line(out, tries_line(tries))
+}
+
+// How many pages were mended.
+fn print_mended_count<W: Output>(
+    printer: Printer,
+    out: &mut W,
+    mends: &[Mend],
+) -> Result<(), OutputFault>
+    ensures { Prints (W.failed out.new) (W.contents out.old) (W.contents out.new) (line_text printer.form (Line.MendedCount (mended_count mends.now))) result }
+{
+    printer.line(out, Some(Line::MendedCount(count_mended(mends) as u64)))
+}
+
+/// Prints what came of the pages that were to be mended, in their order, how many pages were tried, where that is told, and how many were mended.
 ///
 /// # Errors
 ///
@@ -324,13 +347,15 @@ pub fn print_fits<W: Output>(
 pub fn print_repaired<W: Output>(
     printer: Printer,
     out: &mut W,
+    tries: u64,
     mends: &[Mend],
 ) -> Result<(), OutputFault>
-    ensures { Prints (W.failed out.new) (W.contents out.old) (W.contents out.new) (repair_text printer.form mends.now) result }
+    ensures { Prints (W.failed out.new) (W.contents out.old) (W.contents out.new) (repair_text printer.form tries mends.now) result }
 {
     printer.begin(out, Report::Repair)?;
     printer.list(out, &Lines::Mends(mends))?;
-    printer.line(out, Some(Line::MendedCount(mends.len() as u64)))?;
+    print_tried_count(printer, out, tries)?;
+    print_mended_count(printer, out, mends)?;
     printer.end(out)
 }
 

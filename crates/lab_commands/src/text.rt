@@ -33,6 +33,10 @@ pub enum LabFault<'a> {
     NoneFits,
     /// The numbers are no rows of the die.
     RowRange,
+    /// The number is not how many bits of a page may be turned: one or two.
+    BitRange,
+    /// Two bits are turned of pages of at most 600 bytes alone.
+    PageSize,
     /// The die has no sector of this number.
     SectorRange,
     /// The file to be written is a dump that is read.
@@ -95,6 +99,8 @@ impl LabFault<'_> {
             LabFault::Geometry(_)
             | LabFault::NoneFits
             | LabFault::RowRange
+            | LabFault::BitRange
+            | LabFault::PageSize
             | LabFault::SectorRange
             | LabFault::IsDump
             | LabFault::Exists
@@ -177,6 +183,8 @@ fn line<'a>(fault: &LabFault<'a>) -> (&'static str, Rest<'a>)
         LabFault::Geometry(broken) => ("refused geometry ", Rest::Words(limit(broken))),
         LabFault::NoneFits => ("refused geometry ", Rest::Words("6 NoneFits")),
         LabFault::RowRange => ("refused rows ", Rest::Words("1 RowRange")),
+        LabFault::BitRange => ("refused bits ", Rest::Words("1 BitRange")),
+        LabFault::PageSize => ("refused bits ", Rest::Words("2 PageSize")),
         LabFault::SectorRange => ("refused sector ", Rest::Words("1 OutOfRange")),
         LabFault::IsDump => ("refused out ", Rest::Words("1 IsDump")),
         LabFault::Exists => ("refused out ", Rest::Words("2 Exists")),

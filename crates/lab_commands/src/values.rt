@@ -10,10 +10,11 @@ use crate::lines::{Label, Line, Sort, class_text, kind_text, made_text, says_tex
 use crate::output::{Output, OutputFault};
 use crate::pieces::Piece::{Number, Words};
 use crate::pieces::put_pieces;
+use crate::turn_lines::put_turn_data;
 use certificate::BlockState;
 use lab_correct::FoundFit;
 use lab_dump::{Doubts, Rows, SaidPage, SectorPage};
-use lab_mend::{Made, Tally, Trial};
+use lab_mend::{Tally, Trial};
 
 // So many pages are of a sort.
 #[tactic(auto, unfolding(json::specs::Print::escape_byte))]
@@ -247,25 +248,6 @@ fn put_fit<W: Output>(out: &mut W, found: FoundFit) -> Result<(), OutputFault>
             Words(says_text(fit.table)),
             Words("\",\"unsound\":"),
             Number(u64::from(fit.unsound)),
-            Words("}"),
-        ],
-    )
-}
-
-// A page that was mended.
-#[tactic(auto, unfolding(json::specs::Print::escape_byte))]
-fn put_mended<W: Output>(out: &mut W, made: Made, row: u32, bit: u32) -> Result<(), OutputFault>
-    ensures { Prints (W.failed out.new) (W.contents out.old) (W.contents out.new) (compact_text (mended_data made row bit)) result }
-{
-    put_pieces(
-        out,
-        &[
-            Words("{\"bit\":"),
-            Number(u64::from(bit)),
-            Words(",\"line\":\""),
-            Words(made_text(made)),
-            Words("\",\"row\":"),
-            Number(u64::from(row)),
             Words("}"),
         ],
     )
@@ -731,7 +713,7 @@ pub(crate) fn put_object<W: Output>(out: &mut W, line: Line) -> Result<(), Outpu
         Line::PlainBlock(block, unsound) => put_plain_block(out, block, unsound),
         Line::Lost(sector) => put_lost(out, sector),
         Line::Fit(found) => put_fit(out, found),
-        Line::Mended(made, row, bit) => put_mended(out, made, row, bit),
+        Line::Mended(row, turn) => put_turn_data(out, row, turn),
         Line::MendedCount(count) => put_mended_count(out, count),
         Line::LostRow(row, chunks) => put_lost_row(out, row, chunks),
         Line::Corrected(bits, rows, lost) => put_corrected(out, bits, rows, lost),

@@ -99,7 +99,7 @@ pub struct MergeWords<'a> {
     pub showing: Showing,
 }
 
-/// The words of `repair GEOM DUMP OUT [--rows A..B]`.
+/// The words of `repair GEOM DUMP OUT [--rows A..B] [--bits N]`.
 #[derive(Clone, Copy)]
 pub struct RepairWords<'a> {
     pub geometry: &'a str,
@@ -109,6 +109,8 @@ pub struct RepairWords<'a> {
     pub force: bool,
     /// A..B, where some rows alone are to be mended.
     pub rows: Option<&'a str>,
+    /// N, where it is said how many bits of a page may be turned.
+    pub bits: Option<&'a str>,
     pub showing: Showing,
 }
 
@@ -235,6 +237,7 @@ fn repair_words<'a>(found: &CommandWords<'a>) -> Option<RepairWords<'a>>
         out: found.word("OUT")?,
         force: found.stands("force"),
         rows: found.word("rows"),
+        bits: found.word("bits"),
         showing: showing_words(found),
     })
 }

@@ -37,6 +37,10 @@ turned_back bytes k l =
     ap (λ b. set (set bytes i y) i (bit_xor b m)) here
     ∙ (set-set bytes i y (bit_xor y m) ∙ (ap (λ b. set bytes i b) (xor_back (get_or bytes i 0) m) ∙ set-get_or bytes i 0))
 
+-- turned twice the bytes are as they were
+pub back_again : (bytes once twice : List ℕ) (k : ℕ) → k < bits_of bytes → once ≡ turned_bytes bytes k → twice ≡ turned_bytes once k → twice ≡ bytes
+back_again bytes once twice k l first second = second ∙ (ap (λ b. turned_bytes b k) first ∙ turned_back bytes k l)
+
 flip_apart : (b : ℕ) → b < 2 → (b + 1) % 2 ≡ b → ⊥
 flip_apart b l e = omega arith
 

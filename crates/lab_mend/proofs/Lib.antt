@@ -1,6 +1,7 @@
 pub mod BitLemmas
 pub mod SealLemmas
 pub mod MendLemmas
+pub mod PairLemmas
 pub mod RepairingLemmas
 pub mod RepairedLemmas
 pub mod MajorityLemmas

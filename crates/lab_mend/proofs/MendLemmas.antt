@@ -1,5 +1,5 @@
 -- Which bit of a page is mended.
-use Rattle.std.proofs.Common.{◌≡◌, ◌⊎◌, inl, inr, ℕ, zero, suc, ◌<◌, ◌≤◌, Bool, true, false, cond, List, length, get_or, Option, Some, None, refl, sym, ap, ◌∙◌, subst, arith}
+use Rattle.std.proofs.Common.{◌≡◌, inl, inr, ℕ, zero, suc, ◌<◌, ◌≤◌, Bool, true, false, cond, List, length, get_or, Option, Some, None, refl, sym, ap, ◌∙◌, subst, arith}
 use Rattle.std.specs.Prelude.{is_some, not, ◌&&◌, nat_lt}
 use Rattle.std.specs.List.{range_with_len, position, position_or_len}
 use Rattle.std.proofs.lemmas.Bool.{and_parts, and_from, cases_Bool, cases_eq}
@@ -17,8 +17,8 @@ use Rattle.lab_mend.specs.Bits.{turned, turned_bytes}
 use Rattle.lab_mend.specs.declared.mending.Made.{Made}
 use Rattle.lab_mend.specs.declared.mending.Made.TheVariants.{Sound, Erased}
 use Rattle.lab_mend.specs.declared.mending.Turned.{Turned}
-use Rattle.lab_mend.specs.Mend.{lowest_bit, erased_bit, first_turn, mend_of, turned_if, mended, Makes, IsMend, IsMade, MendLaw, IsOneBitOff, MendedLaw, KeptLaw, AgainLaw}
-use Rattle.lab_mend.proofs.BitLemmas.{count_page, turned_page, turned_law}
+use Rattle.lab_mend.specs.Mend.{lowest_bit, erased_bit, first_turn, mend_of, Makes, IsMend, IsMade, MendLaw}
+use Rattle.lab_mend.proofs.BitLemmas.{count_page, turned_page}
 
 -- ---- the first number that passes
 
@@ -104,7 +104,7 @@ erased_from p k e = first_from (λ j. is_erased_page (turned p j)) (bit_count p)
 
 -- ---- tests of pages
 
-none_of : (o : Option Record) → is_some o ≡ false → o ≡ None
+pub none_of : (o : Option Record) → is_some o ≡ false → o ≡ None
 none_of None e = refl
 none_of (Some r) e = absurd (cc)
 
@@ -116,11 +116,11 @@ not_true true e = absurd (cc)
 not_true false e = refl
 
 -- the page is neither erased nor sound
-record IsBroken (p : Page) : Type 0 where
-  unsound : record_of p ≡ None
-  unerased : is_erased_page p ≡ false
+pub record IsBroken (p : Page) : Type 0 where
+  pub unsound : record_of p ≡ None
+  pub unerased : is_erased_page p ≡ false
 
-broken_from : (p : Page) → is_broken p ≡ true → IsBroken p
+pub broken_from : (p : Page) → is_broken p ≡ true → IsBroken p
 broken_from p e =
     let both = and_parts (not (is_erased_page p)) (not (is_some (record_of p))) e in
     record { unsound = none_of (record_of p) (not_true (is_some (record_of p)) both.1); unerased = not_true (is_erased_page p) both.0 }
@@ -128,7 +128,7 @@ broken_from p e =
 broken_is : (p : Page) → record_of p ≡ None → is_erased_page p ≡ false → is_broken p ≡ true
 broken_is p unsound unerased = and_from (not (is_erased_page p)) (not (is_some (record_of p))) (ap not unerased) (ap (λ o. not (is_some o)) unsound)
 
-sound_whole : (p : Page) → is_sound p ≡ true → is_broken p ≡ false
+pub sound_whole : (p : Page) → is_sound p ≡ true → is_broken p ≡ false
 sound_whole p e = ap (λ b. not (is_erased_page p) && not b) e ∙ both (is_erased_page p)
   where
     both : (b : Bool) → (not b && false) ≡ false
@@ -150,6 +150,14 @@ mend_whole p e = ap (λ b. cond b (first_turn (lowest_bit p) (erased_bit p)) Non
 
 no_mend : {t : Turned} {o : Option Turned} → o ≡ None → o ≡ Some t → ⊥
 no_mend a b = cc
+
+no_first : (low out : Option ℕ) → first_turn low out ≡ None → low ≡ None
+no_first (Some k) out e = absurd (cc)
+no_first None out e = refl
+
+-- of a broken page that is not mended no single bit makes it sound
+pub unmended : (p : Page) → is_broken p ≡ true → mend_of p ≡ None → (j : ℕ) → j < bit_count p → is_sound (turned p j) ≡ false
+unmended p is e j l = lowest_nowhere p (no_first (lowest_bit p) (erased_bit p) (sym (mend_broken p is) ∙ e)) j l
 
 -- what is turned first is a mend of a broken page
 first_mends : (p : Page) (t : Turned) → IsBroken p → (low out : Option ℕ) → lowest_bit p ≡ low → erased_bit p ≡ out → first_turn low out ≡ Some t → IsMend p t
@@ -199,39 +207,9 @@ pub made_by : (p : Page) (k : ℕ) (m : Made) → Makes p m k → IsMade m (turn
 made_by p k Sound h = h.0
 made_by p k Erased h = h.1
 
-made_whole : (m : Made) (q : Page) → IsMade m q → is_broken q ≡ false
+pub made_whole : (m : Made) (q : Page) → IsMade m q → is_broken q ≡ false
 made_whole Sound q h = sound_whole q h
 made_whole Erased q h = erased_whole q h
-
-pub mended_by : (p : Page) (o : Option Turned) → mend_of p ≡ o → mended p ≡ turned_if p o
-unfolding mended
-mended_by p o e = ap (turned_if p) e
-
-pub kept_law : KeptLaw
-kept_law p e = mended_by p None (mend_whole p e)
-
-pub mended_law : MendedLaw
-mended_law p = by (mend_of p) refl
-  where
-    by : (o : Option Turned) → mend_of p ≡ o → (mended p ≡ p) ⊎ IsOneBitOff p (mended p)
-    by None e = inl (mended_by p None e)
-    by (Some t) e =
-        let mend = mend_from p t e in
-        let same : turned p t.bit ≡ mended p = sym (mended_by p (Some t) e) in
-        inr (subst (IsOneBitOff p) same (record { turn = t; mend_is = e; made = made_by p t.bit t.made mend.makes; differs = turned_law p t.bit mend.within }))
-
--- what a repair leaves is mended no further
-pub again_none : (p : Page) → mend_of (mended p) ≡ None
-again_none p = by (mend_of p) refl
-  where
-    by : (o : Option Turned) → mend_of p ≡ o → mend_of (mended p) ≡ None
-    by None e = ap mend_of (mended_by p None e) ∙ e
-    by (Some t) e =
-        let mend = mend_from p t e in
-        ap mend_of (mended_by p (Some t) e) ∙ mend_whole (turned p t.bit) (made_whole t.made (turned p t.bit) (made_by p t.bit t.made mend.makes))
-
-pub again_law : AgainLaw
-again_law p = mended_by (mended p) None (again_none p)
 
 -- ---- by the bytes of a page, of which the first so many are its data area
 

@@ -13,10 +13,10 @@ use Rattle.page_layout.specs.declared.geometry.Geometry.{Geometry}
 use Rattle.page_layout.specs.Geometry.{row_count, page_bytes}
 use Rattle.page_layout.specs.Page.{Page, Image}
 use Rattle.lab_dump.proofs.ScanLemmas.{if_more}
-use Rattle.lab_dump.specs.declared.rows.Rows.{Rows}
-use Rattle.lab_mend.specs.declared.mending.Turned.{Turned}
+use Rattle.lab_mend.specs.declared.pairs.Turn.{Turn}
 use Rattle.lab_mend.specs.declared.repairing.Mend.{Mend}
-use Rattle.lab_mend.specs.Repairing.{as_mend, mend_at, mend_in, noted, mends_below, piece_at, AreMendedBelow, Shows, named_turn, IsOwn, AreOwn, AreListed, HasRoom, Stands}
+use Rattle.lab_mend.specs.declared.repairing.RepairAsked.{RepairAsked}
+use Rattle.lab_mend.specs.Repairing.{as_mend, turn_at, mend_in, noted, mends_below, piece_at, AreMendedBelow, Shows, named_turn, IsOwn, AreOwn, AreListed, HasRoom, Stands}
 
 -- ---- the list of an image
 
@@ -33,26 +33,23 @@ range_more n =
     sym (map-id (range_with_len 0 (n + 1)))
     ∙ (map-range_with_len_more (λ (k : ℕ). k) 0 n n (omega arith) ∙ ap (λ xs. xs ++ n ∷ []) (map-id (range_with_len 0 n)))
 
-noted_is : (ms : List Mend) (row : ℕ) (o : Option Turned) → ms ++ cons_option (option_map (as_mend row) o) [] ≡ noted ms row o
+noted_is : (ms : List Mend) (row : ℕ) (o : Option Turn) → ms ++ cons_option (option_map (as_mend row) o) [] ≡ noted ms row o
 noted_is ms row None = append-nil ms
 noted_is ms row (Some t) = refl
 
-abbrev turn_in : Mend → Turned
-turn_in m = record { bit = m.bit; made = m.made }
-
-pub mends_more : (asked : Option Rows) (image : Image) (row : ℕ) (p : Page) → slice_get image row ≡ Some p → mends_below asked image (row + 1) ≡ noted (mends_below asked image row) row (mend_at asked row p)
+pub mends_more : (asked : RepairAsked) (image : Image) (row : ℕ) (p : Page) → slice_get image row ≡ Some p → mends_below asked image (row + 1) ≡ noted (mends_below asked image row) row (turn_at asked row p)
 unfolding mends_below
 mends_more asked image row p at =
     let h : ℕ → Option Mend = λ r. mend_in asked r (slice_get image r) in
     ap (filter_map h) (range_more row)
     ∙ (filter_push h (range_with_len 0 row) row
-    ∙ (ap (λ q. filter_map h (range_with_len 0 row) ++ cons_option (mend_in asked row q) []) at ∙ noted_is (filter_map h (range_with_len 0 row)) row (mend_at asked row p)))
+    ∙ (ap (λ q. filter_map h (range_with_len 0 row) ++ cons_option (mend_in asked row q) []) at ∙ noted_is (filter_map h (range_with_len 0 row)) row (turn_at asked row p)))
 
-pub mends_none : (asked : Option Rows) (image : Image) → mends_below asked image 0 ≡ []
+pub mends_none : (asked : RepairAsked) (image : Image) → mends_below asked image 0 ≡ []
 unfolding mends_below
 mends_none asked image = refl
 
--- ---- the bit that a list names of a row
+-- ---- what a list names of a row
 
 differ_eqb : (a b : ℕ) → a ≢ b → eqb a b ≡ false
 differ_eqb a b ne = grind (arith, nat_tests)
@@ -65,26 +62,26 @@ named_none [] row h = refl
 named_none (m ∷ ms) row h =
     let less : m.row < row = All-head (λ (x : Mend). x.row < row) m ms h in
     let other : eqb m.row row ≡ false = differ_eqb m.row row (λ e. (omega arith)) in
-    ap (λ b. cond b (Some (turn_in m)) (named_turn ms row)) other ∙ named_none ms row (All-tail (λ (x : Mend). x.row < row) m ms h)
+    ap (λ b. cond b (Some m.turn) (named_turn ms row)) other ∙ named_none ms row (All-tail (λ (x : Mend). x.row < row) m ms h)
 
-named_push_same : (ms : List Mend) (row : ℕ) (k : Turned) → named_turn ms row ≡ None → named_turn (ms ++ as_mend row k ∷ []) row ≡ Some k
+named_push_same : (ms : List Mend) (row : ℕ) (k : Turn) → named_turn ms row ≡ None → named_turn (ms ++ as_mend row k ∷ []) row ≡ Some k
 named_push_same [] row k e = ap (λ b. cond b (Some k) None) (same_eqb row)
 named_push_same (m ∷ ms) row k e = elim (cases_Bool (eqb m.row row)) [
-  | inl is ↦ absurd (let said : Some (turn_in m) ≡ None = sym (ap (λ b. cond b (Some (turn_in m)) (named_turn ms row)) is) ∙ e in cc)
+  | inl is ↦ absurd (let said : Some m.turn ≡ None = sym (ap (λ b. cond b (Some m.turn) (named_turn ms row)) is) ∙ e in cc)
   | inr is ↦
-      ap (λ b. cond b (Some (turn_in m)) (named_turn (ms ++ as_mend row k ∷ []) row)) is
-      ∙ named_push_same ms row k (sym (ap (λ b. cond b (Some (turn_in m)) (named_turn ms row)) is) ∙ e)
+      ap (λ b. cond b (Some m.turn) (named_turn (ms ++ as_mend row k ∷ []) row)) is
+      ∙ named_push_same ms row k (sym (ap (λ b. cond b (Some m.turn) (named_turn ms row)) is) ∙ e)
 ]
 
-named_push_other : (ms : List Mend) (row : ℕ) (k : Turned) (j : ℕ) → row ≢ j → named_turn (ms ++ as_mend row k ∷ []) j ≡ named_turn ms j
+named_push_other : (ms : List Mend) (row : ℕ) (k : Turn) (j : ℕ) → row ≢ j → named_turn (ms ++ as_mend row k ∷ []) j ≡ named_turn ms j
 named_push_other [] row k j ne = ap (λ b. cond b (Some k) None) (differ_eqb row j ne)
-named_push_other (m ∷ ms) row k j ne = ap (cond (eqb m.row j) (Some (turn_in m))) (named_push_other ms row k j ne)
+named_push_other (m ∷ ms) row k j ne = ap (cond (eqb m.row j) (Some m.turn)) (named_push_other ms row k j ne)
 
-pub named_same : (ms : List Mend) (row : ℕ) (o : Option Turned) → All (λ m. m.row < row) ms → named_turn (noted ms row o) row ≡ o
+pub named_same : (ms : List Mend) (row : ℕ) (o : Option Turn) → All (λ m. m.row < row) ms → named_turn (noted ms row o) row ≡ o
 named_same ms row None h = named_none ms row h
 named_same ms row (Some k) h = named_push_same ms row k (named_none ms row h)
 
-pub named_other : (ms : List Mend) (row j : ℕ) (o : Option Turned) → row ≢ j → named_turn (noted ms row o) j ≡ named_turn ms j
+pub named_other : (ms : List Mend) (row j : ℕ) (o : Option Turn) → row ≢ j → named_turn (noted ms row o) j ≡ named_turn ms j
 named_other ms row j None ne = refl
 named_other ms row j (Some k) ne = named_push_other ms row k j ne
 
@@ -93,7 +90,7 @@ named_other ms row j (Some k) ne = named_push_other ms row k j ne
 wider : (row : ℕ) (ms : List Mend) → All (λ m. m.row < row) ms → All (λ m. m.row < row + 1) ms
 wider row ms h = All-weaker (λ (m : Mend). m.row < row) (λ (m : Mend). m.row < row + 1) (λ m l. (omega arith)) ms h
 
-pub listed_noted : (ms : List Mend) (row : ℕ) (o : Option Turned) → AreListed row ms → AreListed (row + 1) (noted ms row o)
+pub listed_noted : (ms : List Mend) (row : ℕ) (o : Option Turn) → AreListed row ms → AreListed (row + 1) (noted ms row o)
 listed_noted ms row None h = record { within = wider row ms h.within; rising = h.rising }
 listed_noted ms row (Some k) h =
     let m : Mend = as_mend row k in
@@ -102,7 +99,7 @@ listed_noted ms row (Some k) h =
       rising = all_pairs_push (λ (a b : Mend). a.row < b.row) ms m h.rising h.within;
     }
 
-pub own_noted : (g : Geometry) (asked : Option Rows) (row : ℕ) (ms : List Mend) (o : Option Turned) (piece : List ℕ) (ps : List (List ℕ)) → row < row_count g → AreListed row ms → IsOwn g asked row o piece → AreOwn g asked row ms ps → AreOwn g asked (row + 1) (noted ms row o) (set ps row piece)
+pub own_noted : (g : Geometry) (asked : RepairAsked) (row : ℕ) (ms : List Mend) (o : Option Turn) (piece : List ℕ) (ps : List (List ℕ)) → row < row_count g → AreListed row ms → IsOwn g asked row o piece → AreOwn g asked row ms ps → AreOwn g asked (row + 1) (noted ms row o) (set ps row piece)
 own_noted g asked row ms o piece ps within listed own h = record {
   size = length-set ps row piece ∙ h.size;
   each = λ j l. elim (cases_eq row j) [
@@ -116,7 +113,7 @@ own_noted g asked row ms o piece ps within listed own h = record {
   ];
 }
 
-pub mended_more : (asked : Option Rows) (image : Image) (row : ℕ) (p : Page) (ps : List (List ℕ)) → slice_get image row ≡ Some p → row < length ps → AreMendedBelow asked image row ps
+pub mended_more : (asked : RepairAsked) (image : Image) (row : ℕ) (p : Page) (ps : List (List ℕ)) → slice_get image row ≡ Some p → row < length ps → AreMendedBelow asked image row ps
     → AreMendedBelow asked image (row + 1) (set ps row (piece_at asked row p))
 mended_more asked image row p ps at inside h j q l is = elim (cases_eq row j) [
   | inl same ↦
@@ -129,7 +126,7 @@ if_set : (pieces : Option (List (List ℕ))) (P Q : List (List ℕ) → Type 0) 
 if_set None P Q row piece h more = tt
 if_set (Some ps) P Q row piece h more = more ps h
 
-pub stands_more : (g : Geometry) (asked : Option Rows) (row : ℕ) (ms : List Mend) (o : Option Turned) (scratch : List ℕ) (pieces : Option (List (List ℕ))) → row < row_count g → Stands g asked row ms scratch pieces → IsOwn g asked row o scratch
+pub stands_more : (g : Geometry) (asked : RepairAsked) (row : ℕ) (ms : List Mend) (o : Option Turn) (scratch : List ℕ) (pieces : Option (List (List ℕ))) → row < row_count g → Stands g asked row ms scratch pieces → IsOwn g asked row o scratch
     → Stands g asked (row + 1) (noted ms row o) scratch (option_map (λ ps. set ps row scratch) pieces)
 stands_more g asked row ms o scratch pieces within h own = record {
   scratch_size = h.scratch_size;
@@ -141,31 +138,31 @@ both_set : (pieces : Option (List (List ℕ))) (P Q R : List (List ℕ) → Type
 both_set None P Q R row piece p q more = tt
 both_set (Some ps) P Q R row piece p q more = more ps p q
 
-pub shows_more : (g : Geometry) (asked : Option Rows) (row : ℕ) (image : Image) (p : Page) (ms : List Mend) (scratch : List ℕ) (pieces : Option (List (List ℕ))) → row < row_count g → Stands g asked row ms scratch pieces → Shows asked row image ms pieces
-    → slice_get image row ≡ Some p → scratch ≡ piece_at asked row p → Shows asked (row + 1) image (noted ms row (mend_at asked row p)) (option_map (λ ps. set ps row scratch) pieces)
+pub shows_more : (g : Geometry) (asked : RepairAsked) (row : ℕ) (image : Image) (p : Page) (ms : List Mend) (scratch : List ℕ) (pieces : Option (List (List ℕ))) → row < row_count g → Stands g asked row ms scratch pieces → Shows asked row image ms pieces
+    → slice_get image row ≡ Some p → scratch ≡ piece_at asked row p → Shows asked (row + 1) image (noted ms row (turn_at asked row p)) (option_map (λ ps. set ps row scratch) pieces)
 shows_more g asked row image p ms scratch pieces within stands h at is = record {
-  mends_are = ap (λ xs. noted xs row (mend_at asked row p)) h.mends_are ∙ sym (mends_more asked image row p at);
+  mends_are = ap (λ xs. noted xs row (turn_at asked row p)) h.mends_are ∙ sym (mends_more asked image row p at);
   pieces_are = both_set pieces (AreOwn g asked row ms) (AreMendedBelow asked image row) (AreMendedBelow asked image (row + 1)) row scratch stands.own h.pieces_are
       (λ ps own each. subst (λ x. AreMendedBelow asked image (row + 1) (set ps row x)) (sym is) (mended_more asked image row p ps at (let size = own.size in omega arith) each));
 }
 
-pub room_more : (all rows : ℕ) (ms new : List Mend) (o : Option Turned) (capacity after : ℕ) → HasRoom all rows ms capacity → new ≡ noted ms rows o → after ≡ capacity → HasRoom all (rows + 1) new after
+pub room_more : (all rows : ℕ) (ms new : List Mend) (o : Option Turn) (capacity after : ℕ) → HasRoom all rows ms capacity → new ≡ noted ms rows o → after ≡ capacity → HasRoom all (rows + 1) new after
 room_more all rows ms new o capacity after h is same = record { few = (let size = ap length is in let more = by o in let few = h.few in omega arith); room = (let room = h.room in omega arith) }
   where
-    by : (x : Option Turned) → length (noted ms rows x) ≤ length ms + 1
+    by : (x : Option Turn) → length (noted ms rows x) ≤ length ms + 1
     by None = omega arith
     by (Some t) = omega (arith, length-append ms (as_mend rows t ∷ []))
 
 -- ---- before the first page
 
-pub stands_first : (g : Geometry) (asked : Option Rows) (scratch : List ℕ) (pieces : Option (List (List ℕ))) → length scratch ≡ page_bytes g → IfSome pieces (λ ps. length ps ≡ row_count g) → Stands g asked 0 [] scratch pieces
+pub stands_first : (g : Geometry) (asked : RepairAsked) (scratch : List ℕ) (pieces : Option (List (List ℕ))) → length scratch ≡ page_bytes g → IfSome pieces (λ ps. length ps ≡ row_count g) → Stands g asked 0 [] scratch pieces
 stands_first g asked scratch pieces size whole = record {
   scratch_size = size;
   listed = record { within = All-nil (λ (m : Mend). m.row < 0); rising = λ i j d l k. absurd (omega arith) };
   own = if_more pieces (λ ps. length ps ≡ row_count g) (AreOwn g asked 0 []) whole (λ ps all. record { size = all; each = λ row l. absurd (omega arith) });
 }
 
-pub shows_first : (asked : Option Rows) (image : Image) (pieces : Option (List (List ℕ))) → Shows asked 0 image [] pieces
+pub shows_first : (asked : RepairAsked) (image : Image) (pieces : Option (List (List ℕ))) → Shows asked 0 image [] pieces
 shows_first asked image pieces = record {
   mends_are = sym (mends_none asked image);
   pieces_are = all pieces;

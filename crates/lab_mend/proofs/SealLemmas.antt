@@ -87,6 +87,10 @@ same_bytes xs ys e = (bytes_eq-Decides xs ys).1 e
 
 -- ---- the hash of the first bytes
 
+-- what was taken before a bit was taken before the next one
+pub taken_later : (size : ℕ) (bytes : List ℕ) (k : ℕ) (p : Prefix) → HasTaken size bytes k p → HasTaken size bytes (k + 1) p
+taken_later size bytes k p h = record { holds = h.holds; within = h.within; behind = (let b = h.behind in omega arith) }
+
 -- a turned bit is none of the bytes that were taken
 pub taken_turned : (size : ℕ) (bytes : List ℕ) (k : ℕ) (p : Prefix) → HasTaken size bytes k p → HasTaken size (turned_bytes bytes k) k p
 unfolding turned_bytes

@@ -6,7 +6,8 @@ use Rattle.std.proofs.lemmas.Nat.{pow_below}
 use Rattle.std.proofs.lemmas.List.{take_all}
 use Rattle.std.proofs.lemmas.List.Sums.{sum_by_more}
 use Rattle.lab_mend.specs.declared.merging.TriedRow.{TriedRow}
-use Rattle.lab_mend.specs.Tries.{differing, tries_in}
+use Rattle.lab_mend.specs.declared.repairing.Mend.{Mend}
+use Rattle.lab_mend.specs.Tries.{differing, tries_in, tries_of, turn_tries}
 
 pub few_ways : (n : ℕ) → n < 64 → 1 * 2 ^ n % 2 ^ 64 ≡ min (2 ^ n) (2 ^ 64 - 1)
 few_ways n l = let low : 2 ^ n < 2 ^ 64 = pow_below n 64 l in omega arith
@@ -28,3 +29,7 @@ tries_more tried n tries r l at e =
 pub tries_all : (tried : List TriedRow) (n tries : ℕ) → length tried ≤ n → tries ≡ min (sum_by (λ x. 2 ^ differing x.trial) (take n tried)) (2 ^ 64 - 1) → tries ≡ tries_in tried
 unfolding tries_in
 tries_all tried n tries l e = e ∙ ap (λ xs. min (sum_by (λ x. 2 ^ differing x.trial) xs) (2 ^ 64 - 1)) (take_all n tried l)
+
+pub turn_tries_all : (bits : ℕ) (mends : List Mend) (n tries : ℕ) → length mends ≤ n → tries ≡ min (sum_by (λ m. tries_of bits m.turn) (take n mends)) (2 ^ 64 - 1) → tries ≡ turn_tries bits mends
+unfolding turn_tries
+turn_tries_all bits mends n tries l e = e ∙ ap (λ ms. min (sum_by (λ m. tries_of bits m.turn) ms) (2 ^ 64 - 1)) (take_all n mends l)

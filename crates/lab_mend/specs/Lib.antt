@@ -2,6 +2,8 @@
 pub mod Bits
 -- which bit of a page is mended
 pub mod Mend
+-- which two bits
+pub mod Pairs
 -- what was hashed of a page whose bits are tried
 pub mod Seal
 -- what is written while the pages are taken

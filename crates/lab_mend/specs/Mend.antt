@@ -1,5 +1,5 @@
 -- What becomes of a page that is neither erased nor sound, and one bit away from a sound one, or from an erased one. The seal decides first.
-use Rattle.std.specs.Prelude.{◌≡◌, ◌↔◌, ◌⊎◌, ℕ, ◌<◌, true, false, if◌then◌else◌, Option, Some, None, IsSome}
+use Rattle.std.specs.Prelude.{◌≡◌, ◌↔◌, ℕ, ◌<◌, true, false, if◌then◌else◌, Option, Some, None, IsSome}
 use Rattle.std.specs.List.{range_with_len, position}
 use Rattle.page_layout.specs.Page.{Page}
 use Rattle.page_layout.specs.Sound.{record_of, is_erased_page}
@@ -8,7 +8,7 @@ use Rattle.lab_dump.specs.PageBytes.{is_sound, bit_count}
 use Rattle.lab_mend.specs.declared.mending.Made.{Made}
 use Rattle.lab_mend.specs.declared.mending.Made.TheVariants.{Sound, Erased}
 use Rattle.lab_mend.specs.declared.mending.Turned.{Turned}
-use Rattle.lab_mend.specs.Bits.{turned, DiffersAt}
+use Rattle.lab_mend.specs.Bits.{turned}
 
 -- the lowest bit whose turning makes the page sound, if there is one
 unfoldable pub lowest_bit : Page → Option ℕ
@@ -38,10 +38,6 @@ abbrev pub turned_if : Page → Option Turned → Page
 turned_if p None = p
 turned_if p (Some t) = turned p t.bit
 
--- the mended page
-unfoldable pub mended : Page → Page
-mended p = turned_if p (mend_of p)
-
 -- ---- laws
 
 -- what the word of a mend says of the page with that bit turned: it is the lowest bit that makes the page sound, or none does, and it is the lowest
@@ -65,22 +61,3 @@ MendLaw = (p : Page) (t : Turned) → (mend_of p ≡ Some t) ↔ IsMend p t
 abbrev pub IsMade : Made → Page → Type 0
 IsMade Sound q = IsSome (record_of q)
 IsMade Erased q = is_erased_page q ≡ true
-
--- the other page is sound, or erased, as the word says, and one bit away
-pub record IsOneBitOff (p q : Page) : Type 0 where
-  pub turn : Turned
-  pub mend_is : mend_of p ≡ Some turn
-  pub made : IsMade turn.made q
-  pub differs : DiffersAt p q turn.bit
-
--- A mended page is the page as it was, or sound and one bit away from it, or erased and one bit away.
-abbrev pub MendedLaw : Type 0
-MendedLaw = (p : Page) → (mended p ≡ p) ⊎ IsOneBitOff p (mended p)
-
--- A sound page and an erased one stay as they are.
-abbrev pub KeptLaw : Type 0
-KeptLaw = (p : Page) → is_broken p ≡ false → mended p ≡ p
-
--- A mended page is mended no further.
-abbrev pub AgainLaw : Type 0
-AgainLaw = (p : Page) → mended (mended p) ≡ mended p

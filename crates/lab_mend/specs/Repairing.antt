@@ -1,75 +1,90 @@
 -- What is written and listed while the pages are taken.
-use Rattle.std.specs.Prelude.{◌≡◌, ℕ, ◌<◌, ◌≤◌, ◌==◌, if◌then◌else◌, true, All, List, [], ◌∷◌, ◌++◌, length, get_or, slice_get, Option, Some, None, option_map, IfSome}
+use Rattle.std.specs.Prelude.{◌≡◌, ℕ, ◌<◌, ◌≤◌, ◌==◌, if◌then◌else◌, Bool, true, false, count_by, All, List, [], ◌∷◌, ◌++◌, length, get_or, slice_get, Option, Some, None, IsSome, option_map, IfSome}
 use Rattle.std.specs.List.{range_with_len, filter_map, AllPairs}
 use Rattle.page_layout.specs.declared.geometry.Geometry.{Geometry}
 use Rattle.page_layout.specs.Geometry.{row_count, page_bytes}
 use Rattle.page_layout.specs.Page.{Page, Image}
 use Rattle.page_layout.specs.Raw.{bytes_of_page}
-use Rattle.lab_dump.specs.declared.rows.Rows.{Rows}
+use Rattle.page_layout.specs.Sound.{record_of}
+use Rattle.page_layout.specs.Block.{is_broken}
 use Rattle.lab_dump.specs.Rows.{is_asked}
+use Rattle.lab_dump.specs.PageBytes.{page_of, bit_count}
 use Rattle.lab_mend.specs.declared.repairing.Mend.{Mend}
-use Rattle.lab_dump.specs.PageBytes.{page_of, bits_of}
-use Rattle.lab_mend.specs.declared.mending.Turned.{Turned}
-use Rattle.lab_mend.specs.Mend.{mend_of, mended, turned_if, IsMade}
+use Rattle.lab_mend.specs.declared.repairing.RepairAsked.{RepairAsked}
+use Rattle.lab_mend.specs.declared.pairs.Turn.{Turn}
+use Rattle.lab_mend.specs.declared.pairs.Turn.TheVariants.{One, Two, Tied, Nothing}
+use Rattle.lab_mend.specs.Mend.{IsMade}
+use Rattle.lab_mend.specs.Pairs.{turn_of, turned_back, repaired}
 
 -- ---- of a row
 
 -- what is turned of a row's page: of a row that isn't asked for nothing
-abbrev pub mend_at : Option Rows → ℕ → Page → Option Turned
-mend_at asked row p = if is_asked asked row then mend_of p else None
+abbrev pub turn_at : RepairAsked → ℕ → Page → Option Turn
+turn_at asked row p = if is_asked asked.rows row then turn_of asked.bits p else None
 
--- the bytes of the mended page
-abbrev pub piece_of : Page → List ℕ
-piece_of p = bytes_of_page (mended p)
+-- the bytes of the repaired page, of which so many bits may be turned
+abbrev pub piece_of : ℕ → Page → List ℕ
+piece_of bits p = bytes_of_page (repaired bits p)
 
 -- the bytes that are written of a row's page: of a row that isn't asked for its own
-abbrev pub piece_at : Option Rows → ℕ → Page → List ℕ
-piece_at asked row p = if is_asked asked row then piece_of p else bytes_of_page p
+abbrev pub piece_at : RepairAsked → ℕ → Page → List ℕ
+piece_at asked row p = if is_asked asked.rows row then piece_of asked.bits p else bytes_of_page p
 
 -- ---- of an image
 
--- a row with the bit that is turned of its page
-abbrev pub as_mend : ℕ → Turned → Mend
-as_mend row t = record { row = row; bit = t.bit; made = t.made }
+-- a row with what is turned of its page
+abbrev pub as_mend : ℕ → Turn → Mend
+as_mend row t = record { row = row; turn = t }
 
--- the same, if one is turned
-abbrev pub mend_in : Option Rows → ℕ → Option Page → Option Mend
+-- the same, if its page was to be mended
+abbrev pub mend_in : RepairAsked → ℕ → Option Page → Option Mend
 mend_in asked row None = None
-mend_in asked row (Some p) = option_map (as_mend row) (mend_at asked row p)
+mend_in asked row (Some p) = option_map (as_mend row) (turn_at asked row p)
 
--- a list of mends with one row more, where a bit is turned of its page
-abbrev pub noted : List Mend → ℕ → Option Turned → List Mend
+-- a list of mends with one row more, where its page was to be mended
+abbrev pub noted : List Mend → ℕ → Option Turn → List Mend
 noted mends row None = mends
 noted mends row (Some t) = mends ++ (as_mend row t ∷ [])
 
 -- those of the first rows, by rising row
-unfoldable pub mends_below : Option Rows → Image → ℕ → List Mend
+unfoldable pub mends_below : RepairAsked → Image → ℕ → List Mend
 mends_below asked image rows = filter_map (λ row. mend_in asked row (slice_get image row)) (range_with_len 0 rows)
 
 -- each of the first pieces is what is written of its row's page
-abbrev pub AreMendedBelow : Option Rows → Image → ℕ → List (List ℕ) → Type 0
+abbrev pub AreMendedBelow : RepairAsked → Image → ℕ → List (List ℕ) → Type 0
 AreMendedBelow asked image rows pieces = (row : ℕ) (p : Page) → row < rows → slice_get image row ≡ Some p → get_or pieces row [] ≡ piece_at asked row p
 
 -- what the first rows of the image say
-pub record Shows (asked : Option Rows) (rows : ℕ) (image : Image) (mends : List Mend) (pieces : Option (List (List ℕ))) : Type 0 where
+pub record Shows (asked : RepairAsked) (rows : ℕ) (image : Image) (mends : List Mend) (pieces : Option (List (List ℕ))) : Type 0 where
   pub mends_are : mends ≡ mends_below asked image rows
   pub pieces_are : IfSome pieces (AreMendedBelow asked image rows)
+
+-- whether bits of the page were turned
+abbrev pub is_mended : Turn → Bool
+is_mended (One t) = true
+is_mended (Two b) = true
+is_mended Tied = false
+is_mended Nothing = false
+
+-- of how many pages bits were turned
+abbrev pub mended_count : List Mend → ℕ
+mended_count mends = count_by (λ m. is_mended m.turn) mends
 
 -- ---- whatever the pages were
 
 -- what a list names of a row, if it names the row
-abbrev pub named_turn : List Mend → ℕ → Option Turned
+abbrev pub named_turn : List Mend → ℕ → Option Turn
 named_turn [] row = None
-named_turn (m ∷ ms) row = if m.row == row then Some (record { bit = m.bit; made = m.made }) else named_turn ms row
+named_turn (m ∷ ms) row = if m.row == row then Some m.turn else named_turn ms row
 
--- These are what is written of the row's page which is this with the named bit turned back, and the named bit is the one that was turned; where
--- none is named they are the page itself, and none was to be turned.
-pub record IsOwn (g : Geometry) (asked : Option Rows) (row : ℕ) (named : Option Turned) (piece : List ℕ) : Type 0 where
+-- These are what is written of the row's page which is this with what is named turned back, and just that was turned; where nothing is named they
+-- are the page itself, and nothing was to be turned.
+pub record IsOwn (g : Geometry) (asked : RepairAsked) (row : ℕ) (named : Option Turn) (piece : List ℕ) : Type 0 where
   pub size : length piece ≡ page_bytes g
-  pub bit_is : mend_at asked row (turned_if (page_of g.data_bytes piece) named) ≡ named
+  pub turn_is : turn_at asked row (turned_back (page_of g.data_bytes piece) named) ≡ named
 
--- each of the first pieces is so, by the bit that the list names of its row
-pub record AreOwn (g : Geometry) (asked : Option Rows) (rows : ℕ) (mends : List Mend) (pieces : List (List ℕ)) : Type 0 where
+-- each of the first pieces is so, by what the list names of its row
+pub record AreOwn (g : Geometry) (asked : RepairAsked) (rows : ℕ) (mends : List Mend) (pieces : List (List ℕ)) : Type 0 where
   pub size : length pieces ≡ row_count g
   pub each : (row : ℕ) → row < rows → IsOwn g asked row (named_turn mends row) (get_or pieces row [])
 
@@ -78,7 +93,7 @@ pub record AreListed (rows : ℕ) (mends : List Mend) : Type 0 where
   pub within : All (λ m. m.row < rows) mends
   pub rising : AllPairs (λ a b. a.row < b.row) mends
 
-pub record Stands (g : Geometry) (asked : Option Rows) (rows : ℕ) (mends : List Mend) (scratch : List ℕ) (pieces : Option (List (List ℕ))) : Type 0 where
+pub record Stands (g : Geometry) (asked : RepairAsked) (rows : ℕ) (mends : List Mend) (scratch : List ℕ) (pieces : Option (List (List ℕ))) : Type 0 where
   pub scratch_size : length scratch ≡ page_bytes g
   pub listed : AreListed rows mends
   pub own : IfSome pieces (AreOwn g asked rows mends)
@@ -90,7 +105,14 @@ pub record HasRoom (all rows : ℕ) (mends : List Mend) (capacity : ℕ) : Type 
 
 -- ---- law
 
--- Whatever the reader gave, a row that the list names was asked for, its page is sound or erased, as the word says, and the bit is one of its bits.
+-- what is told of a page that was written: its bits that were turned are bits of it, and it is sound or erased; or it is neither
+abbrev pub IsLeft : Turn → Page → Type 0
+IsLeft (One t) q = IsMade t.made q × (t.bit < bit_count q)
+IsLeft (Two b) q = IsSome (record_of q) × (b.low < b.high) × (b.high < bit_count q)
+IsLeft Tied q = is_broken q ≡ true
+IsLeft Nothing q = is_broken q ≡ true
+
+-- Whatever the reader gave, a row that the list names was asked for, and what is told of its page is so.
 abbrev pub OwnLaw : Type 0
-OwnLaw = (g : Geometry) (asked : Option Rows) (row : ℕ) (piece : List ℕ) (t : Turned) → IsOwn g asked row (Some t) piece
-    → (is_asked asked row ≡ true) × IsMade t.made (page_of g.data_bytes piece) × (t.bit < bits_of piece)
+OwnLaw = (g : Geometry) (asked : RepairAsked) (row : ℕ) (piece : List ℕ) (t : Turn) → IsOwn g asked row (Some t) piece
+    → (is_asked asked.rows row ≡ true) × IsLeft t (page_of g.data_bytes piece)

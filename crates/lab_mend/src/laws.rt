@@ -2,7 +2,8 @@
 ghost use Rattle.lab_mend.specs.Bits.{TurnedLaw};
 ghost use Rattle.lab_mend.specs.Choice.{ChoiceLaw, ErasedLaw, LeastLaw, OrderLaw, ZeroLaw};
 ghost use Rattle.lab_mend.specs.Majority.{MajorityLaw};
-ghost use Rattle.lab_mend.specs.Mend.{AgainLaw, KeptLaw, MendLaw, MendedLaw};
+ghost use Rattle.lab_mend.specs.Mend.{MendLaw};
+ghost use Rattle.lab_mend.specs.Pairs.{AgainLaw, KeptLaw, OnlyLaw, RepairedLaw, TurnLaw};
 ghost use Rattle.lab_mend.specs.Repaired.{RowsLaw};
 ghost use Rattle.lab_mend.specs.Repairing.{OwnLaw};
 
@@ -16,9 +17,19 @@ pub fn mend_law()
     ensures { MendLaw }
 {}
 
-/// A mended page is the page as it was, or sound and one bit away from it.
-pub fn mended_law()
-    ensures { MendedLaw }
+/// What is told of a page that is neither erased nor sound is so: one bit goes before two, and of several pairs of bits none is turned.
+pub fn turn_law()
+    ensures { TurnLaw }
+{}
+
+/// A repaired page is the page as it was, or sound or erased and one bit away from it, or sound and two bits away.
+pub fn repaired_law()
+    ensures { RepairedLaw }
+{}
+
+/// No other sound page differs in two bits or in fewer from one of which two are turned.
+pub fn only_law()
+    ensures { OnlyLaw }
 {}
 
 /// A sound page and an erased one stay as they are.
@@ -26,12 +37,12 @@ pub fn kept_law()
     ensures { KeptLaw }
 {}
 
-/// A mended page is mended no further.
+/// A repaired page is repaired no further.
 pub fn again_law()
     ensures { AgainLaw }
 {}
 
-/// Whatever the reader gave, a row that the list names was asked for, and its page is sound.
+/// Whatever the reader gave, a row that the list names was asked for, and what it says of the row's page is so.
 pub fn own_law()
     ensures { OwnLaw }
 {}

@@ -1,16 +1,20 @@
 //! A page that is mended in place.
-ghost use Rattle.std.specs.Prelude.{◌≡◌, ◌<◌, length};
+ghost use Rattle.std.specs.Prelude.{◌≡◌, ◌<◌, length, Some, true};
 ghost use Rattle.page_layout.specs.Geometry.{page_bytes};
 ghost use Rattle.page_layout.specs.Page.{page};
 ghost use Rattle.page_layout.specs.Sound.{is_erased_page};
 ghost use Rattle.lab_dump.specs.PageBytes.{bits_of, page_of};
-ghost use Rattle.lab_mend.specs.Bits.{turned_bytes};
-ghost use Rattle.lab_mend.specs.Mend.{erased_bit, first_turn, lowest_bit, mend_of, mended, turned_at, turned_if};
-ghost use Rattle.lab_mend.specs.Repairing.{IsOwn, mend_at, piece_at};
+ghost use Rattle.page_layout.specs.Block.{is_broken};
+ghost use Rattle.lab_mend.specs.Mend.{erased_bit, first_turn, lowest_bit, mend_of, turned_at, turned_if};
+ghost use Rattle.lab_mend.specs.declared.pairs.Turn.TheVariants.{Two};
+ghost use Rattle.lab_mend.specs.Pairs.{by_pairs, repaired, sound_pairs, turn_of, turned_by};
+ghost use Rattle.lab_mend.specs.Repairing.{IsOwn, piece_at, turn_at};
 
 use crate::bits::turn;
+use crate::pairs::{Pair, Turn, Watch, try_pairs};
+use crate::repairing::RepairAsked;
 use crate::seal::Prefix;
-use lab_dump::{Rows, is_asked, is_broken, join_page};
+use lab_dump::{is_asked, is_broken, join_page};
 use page_layout::geometry::Geometry;
 use page_layout::record::is_erased;
 
@@ -23,11 +27,13 @@ pub enum Made {
     Erased,
 }
 
-// A bit that was turned, and what the page is then.
-#[derive(Clone, Copy)]
-pub(crate) struct Turned {
-    pub(crate) bit: u32,
-    pub(crate) made: Made,
+/// A bit that was turned, and what the page is then.
+#[derive(Clone, Copy, Debug, PartialEq, Eq)]
+pub struct Turned {
+    /// Bit k mod 8, counted from the lowest, of byte k / 8 of the page, whose data area comes first.
+    pub bit: u32,
+    /// What the page is with it turned.
+    pub made: Made,
 }
 
 // Turns the lowest bit whose turning makes the page sound, and answers it; where there is none the page stays as it is. What stands before the byte
@@ -97,39 +103,95 @@ fn turn_first(geometry: &Geometry, bytes: &mut [u8]) -> Option<Turned>
     }
 }
 
-// Mends the page of these bytes, and answers what was turned, if a bit was.
-fn mend_page(geometry: &Geometry, bytes: &mut [u8]) -> Option<Turned>
+// Turns these two bits.
+fn turn_both(geometry: &Geometry, bytes: &mut [u8], pair: Pair)
+    requires whole { length bytes.old ≡ page_bytes geometry.now }
+    requires low_in { pair.low < bits_of bytes.old }
+    requires high_in { pair.high < bits_of bytes.old }
+    ensures { page_of geometry.now.data_bytes bytes.new ≡ turned_by (page_of geometry.now.data_bytes bytes.old) (Some (Two pair)) }
+{
+    turn(bytes, pair.low);
+    turn(bytes, pair.high);
+}
+
+// Turns the one pair of bits that makes the page of a row sound, if there is just one.
+fn turn_pair<W: Watch>(geometry: &Geometry, row: u32, bytes: &mut [u8], watch: &mut W) -> Turn
     requires { length bytes.old ≡ page_bytes geometry.now }
-    ensures turn { result ≡ mend_of (page_of geometry.now.data_bytes bytes.old) }
-    ensures after { page_of geometry.now.data_bytes bytes.new ≡ mended (page_of geometry.now.data_bytes bytes.old) }
+    ensures turn { result ≡ by_pairs (sound_pairs (page_of geometry.now.data_bytes bytes.old)) }
+    ensures after { page_of geometry.now.data_bytes bytes.new ≡ turned_by (page_of geometry.now.data_bytes bytes.old) (Some result) }
+{
+    let turn = try_pairs(geometry, row, bytes, watch);
+    if let Turn::Two(pair) = turn {
+        turn_both(geometry, bytes, pair);
+    }
+    turn
+}
+
+// Repairs the broken page of a row, of which so many bits may be turned, and answers what was turned.
+fn turn_broken<W: Watch>(
+    geometry: &Geometry,
+    bits: u32,
+    row: u32,
+    bytes: &mut [u8],
+    watch: &mut W,
+) -> Option<Turn>
+    requires whole { length bytes.old ≡ page_bytes geometry.now }
+    requires broken { is_broken (page_of geometry.now.data_bytes bytes.old) ≡ true }
+    ensures turn { result ≡ turn_of bits (page_of geometry.now.data_bytes bytes.old) }
+    ensures after { page_of geometry.now.data_bytes bytes.new ≡ repaired bits (page_of geometry.now.data_bytes bytes.old) }
+{
+    match turn_first(geometry, bytes) {
+        Some(turned) => Some(Turn::One(turned)),
+        None => {
+            if bits >= 2 {
+                Some(turn_pair(geometry, row, bytes, watch))
+            } else {
+                None
+            }
+        }
+    }
+}
+
+// Repairs the page of a row, of which so many bits may be turned, and answers what was turned, if it was broken.
+fn repair_page<W: Watch>(
+    geometry: &Geometry,
+    bits: u32,
+    row: u32,
+    bytes: &mut [u8],
+    watch: &mut W,
+) -> Option<Turn>
+    requires { length bytes.old ≡ page_bytes geometry.now }
+    ensures turn { result ≡ turn_of bits (page_of geometry.now.data_bytes bytes.old) }
+    ensures after { page_of geometry.now.data_bytes bytes.new ≡ repaired bits (page_of geometry.now.data_bytes bytes.old) }
 {
     if is_broken(geometry, bytes) {
-        turn_first(geometry, bytes)
+        turn_broken(geometry, bits, row, bytes, watch)
     } else {
         None
     }
 }
 
-/// Writes the mended page of the one with these areas where its row is asked for, and else the page as it is. Answers what was turned, if a bit
-/// was.
-pub(crate) fn write_page(
+/// Writes the repaired page of the one with these areas where its row is asked for, and else the page as it is. Answers what was turned, if it was
+/// broken.
+pub(crate) fn write_page<W: Watch>(
     geometry: &Geometry,
-    rows: Option<Rows>,
+    asked: RepairAsked,
     row: u32,
     body: &[u8],
     spare: &[u8],
     bytes: &mut [u8],
-) -> Option<Turned>
+    watch: &mut W,
+) -> Option<Turn>
     requires body_whole { length body.now ≡ geometry.now.data_bytes }
     requires spare_whole { length spare.now ≡ geometry.now.spare_bytes }
     requires room { length bytes.old ≡ page_bytes geometry.now }
-    ensures turn { result ≡ mend_at rows row (page body.now spare.now) }
-    ensures piece { bytes.new ≡ piece_at rows row (page body.now spare.now) }
-    ensures own { IsOwn geometry.now rows row result bytes.new }
+    ensures turn { result ≡ turn_at asked row (page body.now spare.now) }
+    ensures piece { bytes.new ≡ piece_at asked row (page body.now spare.now) }
+    ensures own { IsOwn geometry.now asked row result bytes.new }
 {
     join_page(bytes, body, spare);
-    if is_asked(rows, row) {
-        mend_page(geometry, bytes)
+    if is_asked(asked.rows, row) {
+        repair_page(geometry, asked.bits, row, bytes, watch)
     } else {
         None
     }

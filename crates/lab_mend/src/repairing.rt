@@ -2,58 +2,80 @@
 ghost use Rattle.std.specs.Prelude.{◌≡◌, ◌<◌, ◌+◌, length, true, vec_capacity, OnOk, OnErr, slice_get, Some};
 ghost use Rattle.page_layout.specs.Geometry.{row_count};
 ghost use Rattle.page_layout.specs.Page.{Page, Image};
-ghost use Rattle.lab_mend.specs.Repairing.{HasRoom, IsOwn, mend_at, noted, piece_at, Shows, Stands};
+ghost use Rattle.lab_mend.specs.Repairing.{HasRoom, IsOwn, is_mended, mended_count, noted, piece_at, Shows, Stands, turn_at};
 
-use crate::mending::{Made, Turned, write_page};
+use crate::mending::write_page;
+use crate::pairs::{Turn, Watch};
 use lab_dump::{PageTarget, Rows, Stopped, Taker};
 use page_layout::geometry::Geometry;
 
-/// A page that was mended.
+/// A page that was to be mended.
 #[derive(Clone, Copy, Debug, PartialEq, Eq)]
 pub struct Mend {
     /// Its row.
     pub row: u32,
-    /// The bit that was turned: bit k mod 8, counted from the lowest, of byte k / 8 of the page, whose data area comes first.
-    pub bit: u32,
-    /// What the page is with it turned.
-    pub made: Made,
+    /// What came of it.
+    pub turn: Turn,
+}
+
+// Whether bits of the page were turned.
+fn is_mended(turn: Turn) -> bool
+    ensures { result ≡ is_mended turn }
+{
+    matches!(turn, Turn::One(_) | Turn::Two(_))
+}
+
+/// Of how many pages bits were turned.
+pub fn count_mended(mends: &[Mend]) -> usize
+    ensures { result ≡ mended_count mends.now }
+{
+    mends.iter().filter(|mend| is_mended(mend.turn)).count()
+}
+
+/// What is asked of a repair. (This project's.)
+#[derive(Clone, Copy, Debug, PartialEq, Eq)]
+pub struct RepairAsked {
+    /// The rows whose pages are mended: all where none are named.
+    pub rows: Option<Rows>,
+    /// How many bits of a page may be turned: two from 2 on, else one.
+    pub bits: u32,
 }
 
 /// The pages of a dump as they are mended and written, a piece for each.
 #[derive(Drop)]
-pub struct Repairing<T> {
-    // the rows whose pages are mended
-    pub(crate) rows: Option<Rows>,
+pub struct Repairing<T, W> {
+    pub(crate) asked: RepairAsked,
     pub(crate) mends: Vec<Mend>,
     // the page at hand
     pub(crate) scratch: Vec<u8>,
     pub(crate) target: T,
+    pub(crate) watch: W,
 }
 
-// Lists a row where a bit was turned of its page. The list has room for it.
-fn list_mend(mends: &mut Vec<Mend>, row: u32, turn: Option<Turned>)
+// Lists a row whose page was to be mended. The list has room for it.
+fn list_mend(mends: &mut Vec<Mend>, row: u32, turn: Option<Turn>)
     requires { length mends.old.items < vec_capacity mends.old }
     ensures noted { mends.new.items ≡ noted mends.old.items row turn }
     ensures room { vec_capacity mends.new ≡ vec_capacity mends.old }
 {
-    if let Some(Turned { bit, made }) = turn {
-        mends.push_reserved(Mend { row, bit, made });
+    if let Some(turn) = turn {
+        mends.push_reserved(Mend { row, turn });
     }
 }
 
-impl<T: PageTarget> Repairing<T> {
+impl<T: PageTarget, W: Watch> Repairing<T, W> {
     // Lists the row if this was turned of its page, and writes the page.
-    fn write(&mut self, geometry: &Geometry, row: u32, turn: Option<Turned>) -> Result<(), Stopped>
+    fn write(&mut self, geometry: &Geometry, row: u32, turn: Option<Turn>) -> Result<(), Stopped>
         requires row_in { row < row_count geometry.now }
         requires room { HasRoom (row_count geometry.now) row self.old.mends.items (vec_capacity self.old.mends) }
-        requires stands { Stands geometry.now self.old.rows row self.old.mends.items self.old.scratch.items (T.pieces self.old.target) }
-        requires own { IsOwn geometry.now self.old.rows row turn self.old.scratch.items }
-        ensures asked { self.new.rows ≡ self.old.rows }
+        requires stands { Stands geometry.now self.old.asked row self.old.mends.items self.old.scratch.items (T.pieces self.old.target) }
+        requires own { IsOwn geometry.now self.old.asked row turn self.old.scratch.items }
+        ensures asked { self.new.asked ≡ self.old.asked }
         ensures room { HasRoom (row_count geometry.now) (row + 1) self.new.mends.items (vec_capacity self.new.mends) }
         ensures failed { OnErr result (T.failed self.new.target ≡ true) }
-        ensures stands { OnOk result (Stands geometry.now self.old.rows (row + 1) self.new.mends.items self.new.scratch.items (T.pieces self.new.target)) }
-        ensures shows { OnOk result ((image : Image) (p : Page) → Shows self.old.rows row image self.old.mends.items (T.pieces self.old.target) → slice_get image row ≡ Some p
-            → turn ≡ mend_at self.old.rows row p → self.old.scratch.items ≡ piece_at self.old.rows row p → Shows self.old.rows (row + 1) image self.new.mends.items (T.pieces self.new.target)) }
+        ensures stands { OnOk result (Stands geometry.now self.old.asked (row + 1) self.new.mends.items self.new.scratch.items (T.pieces self.new.target)) }
+        ensures shows { OnOk result ((image : Image) (p : Page) → Shows self.old.asked row image self.old.mends.items (T.pieces self.old.target) → slice_get image row ≡ Some p
+            → turn ≡ turn_at self.old.asked row p → self.old.scratch.items ≡ piece_at self.old.asked row p → Shows self.old.asked (row + 1) image self.new.mends.items (T.pieces self.new.target)) }
     {
         list_mend(&mut self.mends, row, turn);
         match self.target.put_page(row, &self.scratch) {
@@ -63,17 +85,19 @@ impl<T: PageTarget> Repairing<T> {
     }
 }
 
-impl<T: PageTarget> Taker for Repairing<T> {
+impl<T: PageTarget, W: Watch> Taker for Repairing<T, W> {
     ghost use Rattle.std.specs.Prelude.{◌≡◌, ◌<◌, ◌+◌, ℕ, length, slice_get, true, vec_capacity, OnOk, OnErr, Some};
     ghost use Rattle.page_layout.specs.Geometry.{row_count};
     ghost use Rattle.page_layout.specs.Page.{Image, page};
     ghost use Rattle.lab_mend.specs.Repairing.{HasRoom, Stands, Shows};
 
-    ghost asked = { λ s. s.rows };
+    ghost asked = { λ s. s.asked.rows };
 
-    ghost stands = { λ s g rows. Stands g s.rows rows s.mends.items s.scratch.items (T.pieces s.target) × HasRoom (row_count g) rows s.mends.items (vec_capacity s.mends) };
+    ghost fixed = { λ s. Some s.asked.bits };
 
-    ghost shows = { λ s g rows image. Shows s.rows rows image s.mends.items (T.pieces s.target) };
+    ghost stands = { λ s g rows. Stands g s.asked rows s.mends.items s.scratch.items (T.pieces s.target) × HasRoom (row_count g) rows s.mends.items (vec_capacity s.mends) };
+
+    ghost shows = { λ s g rows image. Shows s.asked rows image s.mends.items (T.pieces s.target) };
 
     ghost stopped = { λ s. T.failed s.target ≡ true };
 
@@ -84,7 +108,15 @@ impl<T: PageTarget> Taker for Repairing<T> {
         body: &[u8],
         spare: &[u8],
     ) -> Result<(), Stopped> {
-        let turn = write_page(geometry, self.rows, row, body, spare, &mut self.scratch);
+        let turn = write_page(
+            geometry,
+            self.asked,
+            row,
+            body,
+            spare,
+            &mut self.scratch,
+            &mut self.watch,
+        );
         self.write(geometry, row, turn)
     }
 }

@@ -60,6 +60,19 @@ impl Prefix {
         }
     }
 
+    /// Another one that has taken the same bytes, or where that cannot be none.
+    pub(crate) fn copy(&self) -> Prefix
+        ensures { (size bit : ℕ) (bytes : List ℕ) → HasTaken size bytes bit self.now → HasTaken size bytes bit result }
+    {
+        match self.hasher.clone() {
+            Ok(hasher) => Prefix {
+                hasher,
+                taken: self.taken,
+            },
+            Err(_) => Prefix::new(),
+        }
+    }
+
     /// Whether the page of these bytes, which begins with those that were taken, is sound.
     pub(crate) fn is_sound(&self, geometry: &Geometry, bytes: &[u8], bit: u32) -> bool
         requires whole { length bytes.now ≡ page_bytes geometry.now }

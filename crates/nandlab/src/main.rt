@@ -32,7 +32,7 @@ fn run_over<
     W: Output,
     E: Output,
     P: Write + IsTerminal + Drop,
->(system: &S, out: &mut W, err: &mut E, screen: P) -> u8 {
+>(system: &S, out: &mut W, err: &mut E, screen: P, trials: P) -> u8 {
     let kept = match words_found(system.alloc(), env::args(system)) {
         Ok(kept) => kept,
         Err(fault) => return tell(system.alloc(), &words_fault(fault), err),
@@ -40,7 +40,7 @@ fn run_over<
     match word_slices(system.alloc(), &kept) {
         Ok(words) => {
             let is_watched = screen.is_terminal();
-            let mut files = SystemFiles::new(system, screen, is_watched);
+            let mut files = SystemFiles::new(system, screen, trials, is_watched);
             run(system.alloc(), &words, &mut files, out, err)
         }
         Err(_) => tell(system.alloc(), &LabFault::OutOfMemory, err),
@@ -52,6 +52,7 @@ fn main(rt: HostRuntime) -> ExitCode {
         &rt,
         &mut Stream::new(rt.stdout()),
         &mut Stream::new(rt.stderr()),
+        rt.stderr(),
         rt.stderr(),
     ))
 }

@@ -1,5 +1,6 @@
 //! How far a file was read, on a screen.
 use lab_dump::{DumpFault, DumpReader};
+use lab_mend::Watch;
 use std::io::{self, Read, Seek, SeekFrom, Write};
 
 /// Shows how much of a file was read, as a line that is renewed.
@@ -79,6 +80,55 @@ impl<R: Read, E: Write> DumpReader for Metered<R, E> {
             meter.advance(count as u64);
         }
         Ok(count)
+    }
+}
+
+/// Shows how many pairs of bits of a page were tried, as a line that is renewed.
+#[derive(Drop)]
+pub struct Trials<E> {
+    screen: Option<E>,
+    // the hundredths that are shown
+    shown: u64,
+}
+
+// How many hundredths of the pairs of so many bits have a lower bit before this one.
+fn hundredths(bit: u64, bits: u64) -> u64 {
+    let pairs = |low: u64| low.saturating_mul(low.saturating_sub(1));
+    let all = pairs(bits);
+    let left = pairs(bits.saturating_sub(bit));
+    all.saturating_sub(left)
+        .saturating_mul(100)
+        .checked_div(all)
+        .unwrap_or(100)
+}
+
+impl<E: Write> Trials<E> {
+    /// On this screen, if there is one.
+    pub fn new(screen: Option<E>) -> Trials<E> {
+        Trials { screen, shown: 0 }
+    }
+}
+
+// The line ends with a carriage return. The last one of a page clears it.
+fn show_trials<E: Write>(screen: &mut E, row: u32, percent: u64) -> io::Result<()> {
+    if percent < 100 {
+        write!(screen, "row {row} tried {percent} %\r")?;
+    } else {
+        screen.write_all(b"                           \r")?;
+    }
+    screen.flush()
+}
+
+impl<E: Write> Watch for Trials<E> {
+    fn tried(&mut self, row: u32, bit: u32, bits: u32) {
+        let Some(screen) = &mut self.screen else {
+            return;
+        };
+        let percent = hundredths(u64::from(bit), u64::from(bits));
+        if percent != self.shown {
+            self.shown = percent;
+            let _ = show_trials(screen, row, percent);
+        }
     }
 }
 

@@ -2,7 +2,7 @@
 ghost use Rattle.std.specs.Prelude.{ℕ, List, false, IfErr};
 ghost use Rattle.lab_commands.specs.Files.{IsUnkept, unknown};
 
-use crate::progress::{Meter, Metered, size_of};
+use crate::progress::{Meter, Metered, Trials, size_of};
 use lab_commands::{FileFault, KeepFault, LabFiles, MapText, Progress, Standing};
 use lab_dump::{
     DamagedTarget, Dump, DumpFault, LineFault, MapWriter, PageTarget, Pieces, Target, TargetFault,
@@ -31,6 +31,8 @@ pub struct SystemFiles<'a, R, E> {
     rt: &'a R,
     // where the first file that may shows how far it was read
     screen: Option<E>,
+    // where it is shown how many pairs of bits were tried
+    trials: Option<E>,
     // whether somebody looks at it
     is_watched: bool,
     // the files that were read: no part that is made anew takes the name of one
@@ -55,11 +57,12 @@ pub struct PieceFile {
 }
 
 impl<'a, R: Files<File = File> + AllocGlobal, E: Write> SystemFiles<'a, R, E> {
-    /// The files that the program's handle `rt` reaches, and a screen to show progress on, which somebody may look at. Nothing is opened.
-    pub fn new(rt: &'a R, screen: E, is_watched: bool) -> SystemFiles<'a, R, E> {
+    /// The files that the program's handle `rt` reaches, and a screen, twice, to show progress on, which somebody may look at. Nothing is opened.
+    pub fn new(rt: &'a R, screen: E, trials: E, is_watched: bool) -> SystemFiles<'a, R, E> {
         SystemFiles {
             rt,
             screen: Some(screen),
+            trials: Some(trials),
             is_watched,
             held: Vec::new(rt.alloc()),
         }
@@ -78,14 +81,18 @@ impl<'a, R: Files<File = File> + AllocGlobal, E: Write> SystemFiles<'a, R, E> {
         }
     }
 
-    // A meter for a file, where it is to show how far it was read.
-    fn meter(&mut self, file: &mut File, progress: Progress) -> Option<Meter<E>> {
-        let shows = match progress {
+    // Whether progress is shown.
+    fn shows(&self, progress: Progress) -> bool {
+        match progress {
             Progress::Hidden => false,
             Progress::IfWatched => self.is_watched,
             Progress::Shown => true,
-        };
-        if !shows {
+        }
+    }
+
+    // A meter for a file, where it is to show how far it was read.
+    fn meter(&mut self, file: &mut File, progress: Progress) -> Option<Meter<E>> {
+        if !self.shows(progress) {
             return None;
         }
         let size = size_of(file)?;
@@ -343,6 +350,8 @@ impl<R: Files<File = File> + AllocGlobal, E: Write + Drop> LabFiles for SystemFi
 
     type Target = PieceFile;
 
+    type Watch = Trials<E>;
+
     ghost answers = { λ _. unknown };
 
     ghost kept = { λ _. None };
@@ -396,6 +405,14 @@ impl<R: Files<File = File> + AllocGlobal, E: Write + Drop> LabFiles for SystemFi
         let mut file = self.open_held(path)?;
         let meter = self.meter(&mut file, progress);
         Ok(DumpFile { file, meter })
+    }
+
+    fn watch(&mut self, progress: Progress) -> Trials<E> {
+        if self.shows(progress) {
+            Trials::new(self.trials.take())
+        } else {
+            Trials::new(None)
+        }
     }
 
     fn create(&mut self, path: &str, count: u32, size: usize) -> Result<PieceFile, FileFault> {

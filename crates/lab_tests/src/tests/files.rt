@@ -6,6 +6,7 @@ use lab_commands::{FileFault, KeepFault, LabFiles, MapText, Progress, Standing};
 use lab_dump::{
     DamagedTarget, Dump, DumpFault, DumpReader, PageTarget, Pieces, Target, TargetFault,
 };
+use lab_mend::Watch;
 use std::alloc::{AllocError, Global};
 use std::io::{self, ErrorKind, Write};
 
@@ -38,6 +39,14 @@ pub enum Trouble {
     NoMemory,
     /// No memory is found for a file that is to be made.
     NoMemoryBeside,
+}
+
+/// What nobody looks at.
+#[derive(Drop)]
+pub struct Unwatched;
+
+impl Watch for Unwatched {
+    fn tried(&mut self, _row: u32, _bit: u32, _bits: u32) {}
 }
 
 /// A file in memory.
@@ -299,6 +308,8 @@ impl LabFiles for MemoryFiles {
 
     type Target = Beside;
 
+    type Watch = Unwatched;
+
     ghost answers = { λ _. unknown };
 
     ghost kept = { λ _. None };
@@ -401,6 +412,10 @@ impl LabFiles for MemoryFiles {
             Ok(()) => Ok(()),
             Err(fault) => Err(fault),
         }
+    }
+
+    fn watch(&mut self, _progress: Progress) -> Unwatched {
+        Unwatched
     }
 
     fn discard(&mut self, _target: Beside) {

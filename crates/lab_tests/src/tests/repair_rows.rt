@@ -42,6 +42,14 @@ const DOCUMENT: &str = r#"[{"command":"repair","line":"command","program":"nandl
 ]
 "#;
 
+const FAR_DOCUMENT: &str = r#"[{"command":"repair","line":"command","program":"nandlab"},
+{"bit":16,"line":"mended","row":9},
+{"line":"tried","row":17},
+{"line":"tries","seal_bits":64,"tries":296064},
+{"line":"repaired","mended":1}
+]
+"#;
+
 const ROWS: [Step; 20] = [
     Step::Run(
         "nandlab repair 64,32,8,32,32 dump.bin out.bin --rows 9..17",
@@ -113,6 +121,60 @@ const ROWS: [Step; 20] = [
     Step::Closed("nandlab repair 64,32,8,32,32 dump.bin new.bin --json", 1),
 ];
 
+// The spare area of row 17 begins with three wrong bits more.
+const FAR: Made = Made::Changed(&PAGES, &[(866, 0x30), (1696, 0xF8), (1704, 0x06)]);
+
+const BITS: [Step; 12] = [
+    Step::Run(
+        "nandlab repair 64,32,8,32,32 dump.bin out.bin --bits 2",
+        0,
+        "mended row 0 bits 40 41\nmended row 9 bit 16\nmended row 17 bit 576\nerased row 50 bit 0\ntries 297600: by a seal of 8 bytes a wrong page is taken by chance in at most 297600 of 18446744073709551616 cases\nmended 4\n",
+    ),
+    Step::Holds("out.bin", Made::Changed(&PAGES, &[])),
+    Step::Run(
+        "nandlab repair 64,32,8,32,32 dump.bin some.bin --bits 2 --rows 1..18",
+        0,
+        "mended row 9 bit 16\nmended row 17 bit 576\ntries 1536: by a seal of 8 bytes a wrong page is taken by chance in at most 1536 of 18446744073709551616 cases\nmended 2\n",
+    ),
+    Step::Run(
+        "nandlab repair 64,32,8,32,32 dump.bin one.bin --bits 1",
+        0,
+        SAID_OF_ALL,
+    ),
+    Step::Holds("one.bin", WHOLE),
+    Step::Run(
+        "nandlab repair 64,32,8,32,32 far.bin far.out --bits 2 --json",
+        0,
+        FAR_DOCUMENT,
+    ),
+    Step::Run(
+        "nandlab repair 64,32,8,32,32 none.bin new.bin --bits 3",
+        1,
+        "refused bits 1 BitRange\n",
+    ),
+    Step::Run(
+        "nandlab repair 64,32,8,32,32 none.bin new.bin --bits 0",
+        1,
+        "refused bits 1 BitRange\n",
+    ),
+    Step::Run(
+        "nandlab repair 64,32,8,32,32 none.bin new.bin --bits two",
+        2,
+        "usage: bad number two\n",
+    ),
+    Step::Run(
+        "nandlab repair 512,89,8,32,32 none.bin new.bin --bits 2",
+        1,
+        "refused bits 2 PageSize\n",
+    ),
+    Step::Run(
+        "nandlab repair 512,88,8,32,32 none.bin new.bin --bits 2",
+        3,
+        "fault read none.bin\n",
+    ),
+    Step::Lacks("new.bin"),
+];
+
 const TROUBLES: [Step; 17] = [
     Step::Trouble(Trouble::ReadsEnd(24575)),
     Step::Run(REPAIR, 3, "fault read dump.bin\n"),
@@ -160,7 +222,7 @@ const OTHERS: [Step; 8] = [
     Step::Holds("out.bin", WHOLE),
 ];
 
-const CASES: [Case; 4] = [
+const CASES: [Case; 5] = [
     Case {
         name: "mends",
         files: &[("dump.bin", SPOILED)],
@@ -175,6 +237,11 @@ const CASES: [Case; 4] = [
         name: "rows",
         files: &[("dump.bin", SPOILED)],
         steps: &ROWS,
+    },
+    Case {
+        name: "two bits",
+        files: &[("dump.bin", SPOILED), ("far.bin", FAR)],
+        steps: &BITS,
     },
     Case {
         name: "failures",

@@ -54,7 +54,7 @@ returns-in-Fit g c = subst (λ l. Prints (g.W.Output.failed c.put_fit.new.out) (
 
 pub returns-in-Mended : goal.returns-in-Mended
 unfolding line_data
-returns-in-Mended g c = subst (λ l. Prints (g.W.Output.failed c.put_mended.new.out) (g.W.Output.contents c.args.out.now) (g.W.Output.contents c.put_mended.new.out) (compact_text (line_data l)) c.put_mended.result) (sym c.in-Mended.is) c.put_mended.ensures
+returns-in-Mended g c = subst (λ l. Prints (g.W.Output.failed c.put_turn_data.new.out) (g.W.Output.contents c.args.out.now) (g.W.Output.contents c.put_turn_data.new.out) (compact_text (line_data l)) c.put_turn_data.result) (sym c.in-Mended.is) c.put_turn_data.ensures
 
 pub returns-in-MendedCount : goal.returns-in-MendedCount
 unfolding line_data

@@ -21,5 +21,6 @@ returns-clause-some c =
       out_is = entry_of (λ (w : Bor Text). w.now) _ _ _ c.word-3.ensures c.in_ok-word-3.was;
       forced = sym c.stands.ensures;
       rows_are = sym c.word-4.ensures;
+      bits_are = sym c.word-5.ensures;
       showing = c.showing_words.ensures;
     }

@@ -1,4 +1,4 @@
-use Rattle.lab_mend.proofs.MendLemmas.{kept_law}
+use Rattle.lab_mend.proofs.PairLemmas.{kept_law}
 use Rattle.lab_mend.proofs.laws.kept_law.Goals as goal
 
 pub returns : goal.returns

@@ -1,15 +1,11 @@
-use Rattle.std.proofs.Common.{◌≡◌, ℕ, ◌<◌, List, true, false, inl, inr, refl, sym, ap, ◌∙◌, subst, arith}
+use Rattle.std.proofs.Common.{◌≡◌, true, false, inl, inr, refl, sym, ap, ◌∙◌, subst, arith}
 use Rattle.std.proofs.lemmas.Bool.{cases_eq}
 use Rattle.page_layout.specs.Sound.{is_erased_page}
-use Rattle.lab_dump.specs.PageBytes.{page_of, bits_of}
+use Rattle.lab_dump.specs.PageBytes.{page_of}
 use Rattle.lab_mend.specs.Bits.{turned_bytes}
-use Rattle.lab_mend.proofs.BitLemmas.{turned_back}
+use Rattle.lab_mend.proofs.BitLemmas.{back_again}
 use Rattle.lab_mend.proofs.MendLemmas.{erased_in, unerased_in}
 use Rattle.lab_mend.proofs.mending.turn_erased.Goals as goal
-
--- turned twice the bytes are as they were
-back_again : (bytes once twice : List ℕ) (bit : ℕ) → bit < bits_of bytes → once ≡ turned_bytes bytes bit → twice ≡ turned_bytes once bit → twice ≡ bytes
-back_again bytes once twice bit l first second = second ∙ (ap (λ b. turned_bytes b bit) first ∙ turned_back bytes bit l)
 
 pub returns-then-is_erased_in-clause-bit : goal.returns-then-is_erased_in-clause-bit
 returns-then-is_erased_in-clause-bit c =

@@ -1,9 +1,9 @@
-use Rattle.std.proofs.Common.{◌≡◌, ℕ, ◌+◌, ◌<◌, List, true, false, inl, inr, refl, sym, ap, ◌∙◌, subst, arith}
+use Rattle.std.proofs.Common.{◌≡◌, ◌+◌, true, false, inl, inr, refl, sym, ap, ◌∙◌, subst, arith}
 use Rattle.std.proofs.lemmas.Bool.{cases_eq}
-use Rattle.lab_dump.specs.PageBytes.{is_sound, page_of, bits_of}
+use Rattle.lab_dump.specs.PageBytes.{is_sound, page_of}
 use Rattle.lab_mend.specs.Bits.{turned_bytes}
 use Rattle.lab_mend.specs.Seal.{HasTaken}
-use Rattle.lab_mend.proofs.BitLemmas.{turned_back}
+use Rattle.lab_mend.proofs.BitLemmas.{back_again}
 use Rattle.lab_mend.proofs.SealLemmas.{taken_turned}
 use Rattle.lab_mend.proofs.MendLemmas.{found_in, none_in}
 use Rattle.lab_mend.proofs.mending.turn_lowest.Goals as goal
@@ -15,10 +15,6 @@ is_sound-requires-clause-taken c =
     let bit = c.loop-bit.bit in
     let once : c.turn.new.bytes ≡ turned_bytes c.args.bytes.now bit = c.turn.ensures ∙ ap (λ b. turned_bytes b bit) inv.same in
     subst (λ b. HasTaken size b bit c.loop-bit.prefix) (sym once) (taken_turned size c.args.bytes.now bit c.loop-bit.prefix inv.taken)
-
--- turned twice the bytes are as they were
-back_again : (bytes once twice : List ℕ) (bit : ℕ) → bit < bits_of bytes → once ≡ turned_bytes bytes bit → twice ≡ turned_bytes once bit → twice ≡ bytes
-back_again bytes once twice bit l first second = second ∙ (ap (λ b. turned_bytes b bit) first ∙ turned_back bytes bit l)
 
 pub pass-requires-clause-taken : goal.pass-requires-clause-taken
 pass-requires-clause-taken c =

@@ -1,8 +1,8 @@
 //! A dump with pages that are one bit and two bits away from sound ones, of which all are mended or those of some rows.
 use super::{PAGE, PAGES};
-use crate::tests::files::{Beside, MemoryReader};
+use crate::tests::files::{Beside, MemoryReader, Unwatched};
 use lab_dump::Rows;
-use lab_mend::{Made, Mend, RepairRoom, repair_dump};
+use lab_mend::{Made, Mend, Pair, RepairAsked, RepairRoom, Turn, Turned, repair_dump};
 use page_layout::geometry::Geometry;
 use std::alloc::Global;
 use std::test::Fail;
@@ -20,26 +20,38 @@ const TURNED: &[(usize, u8)] = &[
 
 const ROW_8: Mend = Mend {
     row: 8,
-    bit: 44,
-    made: Made::Sound,
+    turn: Turn::One(Turned {
+        bit: 44,
+        made: Made::Sound,
+    }),
 };
 
 const ROW_9: Mend = Mend {
     row: 9,
-    bit: 584,
-    made: Made::Sound,
+    turn: Turn::One(Turned {
+        bit: 584,
+        made: Made::Sound,
+    }),
 };
 
 const ROW_21: Mend = Mend {
     row: 21,
-    bit: 7,
-    made: Made::Erased,
+    turn: Turn::One(Turned {
+        bit: 7,
+        made: Made::Erased,
+    }),
 };
 
-// The rows that are asked for, and the pages that are mended then.
+const ROW_20: Mend = Mend {
+    row: 20,
+    turn: Turn::Two(Pair { low: 56, high: 57 }),
+};
+
+// The rows that are asked for, how many bits of a page may be turned, and the pages that are mended then.
 struct Case {
     name: &'static str,
     rows: Option<Rows>,
+    bits: u32,
     mends: &'static [Mend],
 }
 
@@ -47,21 +59,34 @@ const CASES: &[Case] = &[
     Case {
         name: "no rows named",
         rows: None,
+        bits: 1,
         mends: &[ROW_8, ROW_9, ROW_21],
+    },
+    Case {
+        name: "the rows from row 20 on, two bits",
+        rows: Some(Rows {
+            first: 20,
+            end: 256,
+        }),
+        bits: 2,
+        mends: &[ROW_20, ROW_21],
     },
     Case {
         name: "every row",
         rows: Some(Rows { first: 0, end: 256 }),
+        bits: 1,
         mends: &[ROW_8, ROW_9, ROW_21],
     },
     Case {
         name: "both rows",
         rows: Some(Rows { first: 8, end: 10 }),
+        bits: 1,
         mends: &[ROW_8, ROW_9],
     },
     Case {
         name: "the rows before row 9",
         rows: Some(Rows { first: 0, end: 9 }),
+        bits: 1,
         mends: &[ROW_8],
     },
     Case {
@@ -70,6 +95,7 @@ const CASES: &[Case] = &[
             first: 9,
             end: 0xFFFF_FFFF,
         }),
+        bits: 1,
         mends: &[ROW_9, ROW_21],
     },
     Case {
@@ -78,16 +104,19 @@ const CASES: &[Case] = &[
             first: 10,
             end: 256,
         }),
+        bits: 1,
         mends: &[ROW_21],
     },
     Case {
         name: "the empty range",
         rows: Some(Rows { first: 8, end: 8 }),
+        bits: 1,
         mends: &[],
     },
     Case {
         name: "an end before the first row",
         rows: Some(Rows { first: 10, end: 8 }),
+        bits: 1,
         mends: &[],
     },
 ];
@@ -99,14 +128,26 @@ fn turn(bytes: &mut [u8], at: usize, bits: u8) {
     }
 }
 
+// Turns a bit of the page of a row.
+fn turn_bit(bytes: &mut [u8], row: u32, bit: u32) {
+    turn(
+        bytes,
+        PAGE * row as usize + bit as usize / 8,
+        1 << (bit % 8),
+    );
+}
+
 // Turns the bits of these pages back.
 fn turn_back(bytes: &mut [u8], mends: &[Mend]) {
     for mend in mends {
-        turn(
-            bytes,
-            PAGE * mend.row as usize + mend.bit as usize / 8,
-            1 << (mend.bit % 8),
-        );
+        match mend.turn {
+            Turn::One(turned) => turn_bit(bytes, mend.row, turned.bit),
+            Turn::Two(pair) => {
+                turn_bit(bytes, mend.row, pair.low);
+                turn_bit(bytes, mend.row, pair.high);
+            }
+            Turn::Tied | Turn::Nothing => {}
+        }
     }
 }
 
@@ -117,7 +158,11 @@ fn holds(alloc: Global, geometry: &Geometry, dump: &[u8], case: &Case) -> Result
     let target = Beside::new(vec![in alloc; 0u8; dump.len()]?, PAGE);
     let mut reader = MemoryReader::new(alloc, dump)?;
     let room = RepairRoom::new(alloc, geometry)?;
-    let Ok(told) = repair_dump(room, &mut reader, geometry, case.rows, target) else {
+    let asked = RepairAsked {
+        rows: case.rows,
+        bits: case.bits,
+    };
+    let Ok(told) = repair_dump(room, &mut reader, geometry, asked, target, Unwatched) else {
         return Ok(false);
     };
     Ok(told.mends.as_slice() == case.mends && told.target.bytes == want)
@@ -133,7 +178,7 @@ fn turned(alloc: Global, geometry: &Geometry) -> Result<Vec<u8>, Fail> {
 }
 
 #[test]
-fn one_bit_is_mended_and_two_are_not(rt: HostRuntime) -> Result<(), Fail> {
+fn one_bit_is_mended_and_two_where_that_is_asked_for(rt: HostRuntime) -> Result<(), Fail> {
     let geometry = Geometry::new(64, 40, 8, 32, 32)?;
     let dump = turned(rt.alloc(), &geometry)?;
     for case in CASES {

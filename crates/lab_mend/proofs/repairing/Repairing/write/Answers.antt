@@ -11,9 +11,9 @@ returns-in-Ok-clause-stands g c =
     let row = c.args.row in
     let s = c.args.self.now in
     let pieces = g.T.Pieces.pieces s.target in
-    let more = stands_more geo s.rows row s.mends.items c.args.turn s.scratch.items pieces c.requires.row_in c.requires.stands c.requires.own in
-    let P : List Mend → Type 0 = λ ms. Stands geo s.rows (row + 1) ms s.scratch.items (option_map (λ ps. set ps row s.scratch.items) pieces) in
-    let Q : Option (List (List ℕ)) → Type 0 = λ ps. Stands geo s.rows (row + 1) c.list_mend.new.mends.items s.scratch.items ps in
+    let more = stands_more geo s.asked row s.mends.items c.args.turn s.scratch.items pieces c.requires.row_in c.requires.stands c.requires.own in
+    let P : List Mend → Type 0 = λ ms. Stands geo s.asked (row + 1) ms s.scratch.items (option_map (λ ps. set ps row s.scratch.items) pieces) in
+    let Q : Option (List (List ℕ)) → Type 0 = λ ps. Stands geo s.asked (row + 1) c.list_mend.new.mends.items s.scratch.items ps in
     subst Q (sym (c.in-Ok.ensures.written ∙ ap (λ bytes. option_map (λ ps. set ps row bytes) pieces) c.deref.ensures.value)) (subst P (sym c.list_mend.ensures.noted) more)
 
 pub returns-in-Ok-clause-shows : goal.returns-in-Ok-clause-shows
@@ -22,9 +22,9 @@ returns-in-Ok-clause-shows g c = λ image p shown at bit scratch.
     let row = c.args.row in
     let s = c.args.self.now in
     let pieces = g.T.Pieces.pieces s.target in
-    let more = shows_more geo s.rows row image p s.mends.items s.scratch.items pieces c.requires.row_in c.requires.stands shown at scratch in
-    let P : List Mend → Type 0 = λ ms. Shows s.rows (row + 1) image ms (option_map (λ ps. set ps row s.scratch.items) pieces) in
-    let Q : Option (List (List ℕ)) → Type 0 = λ ps. Shows s.rows (row + 1) image c.list_mend.new.mends.items ps in
+    let more = shows_more geo s.asked row image p s.mends.items s.scratch.items pieces c.requires.row_in c.requires.stands shown at scratch in
+    let P : List Mend → Type 0 = λ ms. Shows s.asked (row + 1) image ms (option_map (λ ps. set ps row s.scratch.items) pieces) in
+    let Q : Option (List (List ℕ)) → Type 0 = λ ps. Shows s.asked (row + 1) image c.list_mend.new.mends.items ps in
     subst Q (sym (c.in-Ok.ensures.written ∙ ap (λ bytes. option_map (λ ps. set ps row bytes) pieces) c.deref.ensures.value))
     (subst P (ap (noted s.mends.items row) (sym bit) ∙ sym c.list_mend.ensures.noted) more)
 

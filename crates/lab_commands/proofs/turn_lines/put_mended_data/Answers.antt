@@ -1,7 +1,7 @@
 use Rattle.std.proofs.Common.{List, ℕ, subst}
 use Rattle.lab_commands.specs.Document.{Prints}
 use Rattle.lab_commands.proofs.JsonLemmas.{mended_json}
-use Rattle.lab_commands.proofs.values.put_mended.Goals as goal
+use Rattle.lab_commands.proofs.turn_lines.put_mended_data.Goals as goal
 
 pub returns : goal.returns
 returns g c =

@@ -1,0 +1,150 @@
+//! What came of a page that was to be mended, as plain text and as a JSON value.
+ghost use Rattle.std.specs.Prelude.{◌++◌, codes};
+ghost use Rattle.std.specs.Fmt.{decimal};
+ghost use Rattle.serde_json.specs.Written.{compact_text};
+ghost use Rattle.lab_commands.specs.Document.{Prints};
+ghost use Rattle.lab_commands.specs.Lines.{made_words, turn_words};
+ghost use Rattle.lab_commands.specs.Values.{mended_data, pair_data, row_data, turn_data};
+
+use crate::lines::made_text;
+use crate::output::{Output, OutputFault};
+use crate::pieces::Piece::{Number, Words};
+use crate::pieces::put_pieces;
+use lab_mend::{Made, Pair, Turn};
+
+// A page that was mended, what it is now, and the bit that was turned.
+fn put_mended<W: Output>(out: &mut W, made: Made, row: u32, bit: u32) -> Result<(), OutputFault>
+    ensures { Prints (W.failed out.new) (W.contents out.old) (W.contents out.new) (made_words made ++ (codes " row " ++ (decimal row ++ (codes " bit " ++ decimal bit)))) result }
+{
+    put_pieces(
+        out,
+        &[
+            Words(made_text(made)),
+            Words(" row "),
+            Number(u64::from(row)),
+            Words(" bit "),
+            Number(u64::from(bit)),
+        ],
+    )
+}
+
+// A page of which two bits were turned.
+fn put_pair<W: Output>(out: &mut W, row: u32, pair: Pair) -> Result<(), OutputFault>
+    ensures { Prints (W.failed out.new) (W.contents out.old) (W.contents out.new) (codes "mended row " ++ (decimal row ++ (codes " bits " ++ (decimal pair.low ++ (codes " " ++ decimal pair.high))))) result }
+{
+    put_pieces(
+        out,
+        &[
+            Words("mended row "),
+            Number(u64::from(row)),
+            Words(" bits "),
+            Number(u64::from(pair.low)),
+            Words(" "),
+            Number(u64::from(pair.high)),
+        ],
+    )
+}
+
+// A row, behind words.
+fn put_row<W: Output>(out: &mut W, words: &str, row: u32) -> Result<(), OutputFault>
+    ensures { Prints (W.failed out.new) (W.contents out.old) (W.contents out.new) (words.now ++ decimal row) result }
+{
+    put_pieces(out, &[Words(words), Number(u64::from(row))])
+}
+
+/// Prints what came of the page of a row as plain text, without its line feed.
+pub(crate) fn put_turn<W: Output>(out: &mut W, row: u32, turn: Turn) -> Result<(), OutputFault>
+    ensures { Prints (W.failed out.new) (W.contents out.old) (W.contents out.new) (turn_words row turn) result }
+{
+    match turn {
+        Turn::One(turned) => put_mended(out, turned.made, row, turned.bit),
+        Turn::Two(pair) => put_pair(out, row, pair),
+        Turn::Tied => put_row(out, "tied row ", row),
+        Turn::Nothing => put_row(out, "tried row ", row),
+    }
+}
+
+// A page that was mended.
+#[tactic(auto, unfolding(json::specs::Print::escape_byte))]
+fn put_mended_data<W: Output>(
+    out: &mut W,
+    made: Made,
+    row: u32,
+    bit: u32,
+) -> Result<(), OutputFault>
+    ensures { Prints (W.failed out.new) (W.contents out.old) (W.contents out.new) (compact_text (mended_data made row bit)) result }
+{
+    put_pieces(
+        out,
+        &[
+            Words("{\"bit\":"),
+            Number(u64::from(bit)),
+            Words(",\"line\":\""),
+            Words(made_text(made)),
+            Words("\",\"row\":"),
+            Number(u64::from(row)),
+            Words("}"),
+        ],
+    )
+}
+
+// A page of which two bits were turned.
+#[tactic(auto, unfolding(json::specs::Print::escape_byte))]
+fn put_pair_data<W: Output>(out: &mut W, row: u32, pair: Pair) -> Result<(), OutputFault>
+    ensures { Prints (W.failed out.new) (W.contents out.old) (W.contents out.new) (compact_text (pair_data row pair)) result }
+{
+    put_pieces(
+        out,
+        &[
+            Words("{\"bits\":["),
+            Number(u64::from(pair.low)),
+            Words(","),
+            Number(u64::from(pair.high)),
+            Words("],\"line\":\"mended\",\"row\":"),
+            Number(u64::from(row)),
+            Words("}"),
+        ],
+    )
+}
+
+// A page of which several pairs of bits serve.
+#[tactic(auto, unfolding(json::specs::Print::escape_byte))]
+fn put_tied_data<W: Output>(out: &mut W, row: u32) -> Result<(), OutputFault>
+    ensures { Prints (W.failed out.new) (W.contents out.old) (W.contents out.new) (compact_text (row_data (codes "tied_row") row)) result }
+{
+    put_pieces(
+        out,
+        &[
+            Words("{\"line\":\"tied_row\",\"row\":"),
+            Number(u64::from(row)),
+            Words("}"),
+        ],
+    )
+}
+
+// A page of which none serves.
+#[tactic(auto, unfolding(json::specs::Print::escape_byte))]
+fn put_tried_data<W: Output>(out: &mut W, row: u32) -> Result<(), OutputFault>
+    ensures { Prints (W.failed out.new) (W.contents out.old) (W.contents out.new) (compact_text (row_data (codes "tried") row)) result }
+{
+    put_pieces(
+        out,
+        &[
+            Words("{\"line\":\"tried\",\"row\":"),
+            Number(u64::from(row)),
+            Words("}"),
+        ],
+    )
+}
+
+/// Prints what came of the page of a row as a JSON value.
+pub(crate) fn put_turn_data<W: Output>(out: &mut W, row: u32, turn: Turn) -> Result<(), OutputFault>
+    ensures { Prints (W.failed out.new) (W.contents out.old) (W.contents out.new) (compact_text (turn_data row turn)) result }
+{
+    match turn {
+        Turn::One(turned) => put_mended_data(out, turned.made, row, turned.bit),
+        Turn::Two(pair) => put_pair_data(out, row, pair),
+        Turn::Tied => put_tied_data(out, row),
+        Turn::Nothing => put_tried_data(out, row),
+    }
+}

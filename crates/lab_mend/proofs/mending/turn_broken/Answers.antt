@@ -1,0 +1,34 @@
+use Rattle.std.proofs.Common.{◌≡◌, Some, None, sym, ap, ◌∙◌, arith}
+use Rattle.lab_dump.specs.PageBytes.{page_of}
+use Rattle.lab_mend.specs.declared.pairs.Turn.TheVariants.{One}
+use Rattle.lab_mend.specs.Pairs.{by_pairs, sound_pairs, turn_of, turned_by}
+use Rattle.lab_mend.proofs.PairLemmas.{repaired_by, turn_none, turn_one, turn_two}
+use Rattle.lab_mend.proofs.mending.turn_broken.Goals as goal
+
+pub returns-in-Some-clause-turn : goal.returns-in-Some-clause-turn
+returns-in-Some-clause-turn g c = turn_one c.args.bits (page_of c.args.geometry.now.data_bytes c.args.bytes.now) c.in-Some.turned c.requires.broken c.in-Some.ensures.turn
+
+pub returns-in-Some-clause-after : goal.returns-in-Some-clause-after
+returns-in-Some-clause-after g c =
+    let p = page_of c.args.geometry.now.data_bytes c.args.bytes.now in
+    c.in-Some.ensures.after ∙ sym (repaired_by c.args.bits p (Some (One c.in-Some.turned)) (sym (turn_one c.args.bits p c.in-Some.turned c.requires.broken c.in-Some.ensures.turn)))
+
+pub returns-then-bits-ge2-clause-turn : goal.returns-then-bits-ge2-clause-turn
+returns-then-bits-ge2-clause-turn g c =
+    let p = page_of c.args.geometry.now.data_bytes c.args.bytes.now in
+    ap Some (c.turn_pair.ensures.turn ∙ ap (λ q. by_pairs (sound_pairs q)) c.in-None.ensures.after) ∙ turn_two c.args.bits p (omega arith) c.requires.broken c.in-None.ensures.turn
+
+pub returns-then-bits-ge2-clause-after : goal.returns-then-bits-ge2-clause-after
+returns-then-bits-ge2-clause-after g c =
+    let p = page_of c.args.geometry.now.data_bytes c.args.bytes.now in
+    let is : Some c.turn_pair.result ≡ turn_of c.args.bits p =
+    ap Some (c.turn_pair.ensures.turn ∙ ap (λ q. by_pairs (sound_pairs q)) c.in-None.ensures.after) ∙ turn_two c.args.bits p (omega arith) c.requires.broken c.in-None.ensures.turn in
+    c.turn_pair.ensures.after ∙ (ap (λ q. turned_by q (Some c.turn_pair.result)) c.in-None.ensures.after ∙ sym (repaired_by c.args.bits p (Some c.turn_pair.result) (sym is)))
+
+pub returns-else-bits-ge2-clause-turn : goal.returns-else-bits-ge2-clause-turn
+returns-else-bits-ge2-clause-turn g c = turn_none c.args.bits (page_of c.args.geometry.now.data_bytes c.args.bytes.now) (omega arith) c.requires.broken c.in-None.ensures.turn
+
+pub returns-else-bits-ge2-clause-after : goal.returns-else-bits-ge2-clause-after
+returns-else-bits-ge2-clause-after g c =
+    let p = page_of c.args.geometry.now.data_bytes c.args.bytes.now in
+    c.in-None.ensures.after ∙ sym (repaired_by c.args.bits p None (sym (turn_none c.args.bits p (omega arith) c.requires.broken c.in-None.ensures.turn)))
