@@ -4,7 +4,6 @@ ghost use Rattle.std.specs.Prelude.{◌≡◌};
 mod alike;
 mod coded;
 mod failing;
-mod full;
 mod lives;
 mod noting;
 mod opened;

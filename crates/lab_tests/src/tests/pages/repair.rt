@@ -42,9 +42,15 @@ const ROW_21: Mend = Mend {
     }),
 };
 
+const ROW_1: Mend = Mend {
+    row: 1,
+    turn: Turn::Two(Pair { low: 56, high: 57 }),
+};
+
+// Two bits make it erased, and none make it sound.
 const ROW_20: Mend = Mend {
     row: 20,
-    turn: Turn::Two(Pair { low: 56, high: 57 }),
+    turn: Turn::Nothing,
 };
 
 // The rows that are asked for, how many bits of a page may be turned, and the pages that are mended then.
@@ -63,13 +69,10 @@ const CASES: &[Case] = &[
         mends: &[ROW_8, ROW_9, ROW_21],
     },
     Case {
-        name: "the rows from row 20 on, two bits",
-        rows: Some(Rows {
-            first: 20,
-            end: 256,
-        }),
+        name: "the rows before row 21, two bits",
+        rows: Some(Rows { first: 0, end: 21 }),
         bits: 2,
-        mends: &[ROW_20, ROW_21],
+        mends: &[ROW_1, ROW_8, ROW_9, ROW_20],
     },
     Case {
         name: "every row",
