@@ -32,8 +32,11 @@ mod told_lines;
 mod values;
 mod words;
 
+pub use document::Form;
 pub use files::{FileFault, KeepFault, LabFiles, MapText, Progress, Standing};
-pub use names::name_laws;
+pub use grammar::grammar;
+pub use names::{name_laws, put_name};
 pub use output::{Output, OutputFault, Stream};
+pub use pieces::{Piece, put, put_pieces};
 pub use program::run;
 pub use text::{LabFault, tell};

@@ -10,6 +10,10 @@ pub record IsOf (bytes : List ℕ) (c : declared.Content) : Type 0 where
   pub length_is : c.length ≡ length bytes
   pub digest_is : c.sha256 ≡ sha256 bytes
 
+-- how many bytes were handed on so far
+abbrev pub count_of : Hashing → ℕ
+count_of h = h.length
+
 -- these bytes were handed on so far
 pub record HasTaken (bytes : List ℕ) (h : Hashing) : Type 0 where
   pub held : Holds256 h.hasher bytes

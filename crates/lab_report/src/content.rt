@@ -40,8 +40,8 @@ pub struct Hashing {
 }
 
 impl Hashing {
-    ghost use Rattle.std.specs.Prelude.{◌≡◌, ◌≤◌, ◌+◌, ◌^◌, ◌++◌, ℕ, List, [], length, OnOk, OnErr};
-    ghost use Rattle.lab_report.specs.Content.{HasTaken, IsOf};
+    ghost use Rattle.std.specs.Prelude.{◌≡◌, ◌≤◌, ◌<◌, ◌+◌, ◌^◌, ◌++◌, ℕ, List, [], length, OnOk, OnErr};
+    ghost use Rattle.lab_report.specs.Content.{HasTaken, IsOf, count_of};
 
     /// One that has taken no byte.
     pub fn new() -> Hashing
@@ -60,6 +60,8 @@ impl Hashing {
     /// `TooLong` where there would be 2^64 bytes or more. Nothing more is said of it then. (This project's.)
     pub fn take(&mut self, bytes: &[u8]) -> Result<(), TooLong>
         ensures taken { OnOk result ((before : List ℕ) → HasTaken before self.old → HasTaken (before ++ bytes.now) self.new) }
+        ensures counted { OnOk result (count_of self.new ≡ count_of self.old + length bytes.now) }
+        ensures within { OnOk result (count_of self.new < 2 ^ 64) }
         ensures long { OnErr result ((before : List ℕ) → HasTaken before self.old → 2 ^ 64 ≤ length before + length bytes.now) }
     {
         let Some(length) = self.length.checked_add(bytes.len() as u64) else {

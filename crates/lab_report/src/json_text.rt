@@ -1,5 +1,5 @@
 //! A report as JSON.
-ghost use Rattle.std.specs.Prelude.{◌≡◌, Some, IfOk, map, string_bytes};
+ghost use Rattle.std.specs.Prelude.{◌≡◌, ◌∷◌, [], ◌++◌, Some, IfOk, map, string_bytes};
 ghost use Rattle.serde_json.specs.View.{view};
 ghost use Rattle.lab_report.specs.Laws.{HasDigests};
 ghost use Rattle.lab_report.specs.Note.{note_of};
@@ -63,18 +63,16 @@ fn run_value(alloc: Global, run: &Run<'_>) -> Result<Value, AllocError>
     json!(in alloc; {"program": program, "read": &read, "version": version, "words": &words, "wrote": &wrote})
 }
 
-/// The text of a report: one JSON object, and a line feed. It reads back as the same report.
+/// The line that a report is: one JSON object. With a line feed behind it it is the text of the report, and reads back as the same.
 ///
 /// # Errors
 ///
 /// `AllocError` where a growth was refused.
 ///
 /// (The form is this project's.)
-pub fn report_text(alloc: Global, run: &Run<'_>) -> Result<String, AllocError>
-    ensures text { IfOk result (λ text. string_bytes text ≡ report_text (told_of run.now)) }
-    ensures reads_back { IfOk result (λ text. HasDigests (told_of run.now) → report_in (string_bytes text) ≡ Some (told_of run.now)) }
+pub fn report_line(alloc: Global, run: &Run<'_>) -> Result<String, AllocError>
+    ensures text { IfOk result (λ line. string_bytes line ++ (10 ∷ []) ≡ report_text (told_of run.now)) }
+    ensures reads_back { IfOk result (λ line. HasDigests (told_of run.now) → report_in (string_bytes line ++ (10 ∷ [])) ≡ Some (told_of run.now)) }
 {
-    let mut text = run_value(alloc, run)?.to_string(alloc)?;
-    text.push('\n')?;
-    Ok(text)
+    run_value(alloc, run)?.to_string(alloc)
 }

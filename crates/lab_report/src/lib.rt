@@ -6,9 +6,11 @@ mod json_text;
 mod laws;
 mod note;
 mod reading;
+#[cfg(test)]
+mod tests;
 
 pub use content::{Content, Hashing, TooLong, content_of};
-pub use json_text::{Run, report_text};
+pub use json_text::{Run, report_line};
 pub use laws::report_laws;
 pub use note::{FileNote, Report};
 pub use reading::{ReportFault, read_report};
