@@ -189,8 +189,8 @@ static GRAMMAR: Grammar<'static> = Grammar {
     ],
 };
 
-/// The commands that the program has. What the word `report` asks for, and the command `verify`, are of the crate above.
-pub fn grammar() -> Grammar<'static>
+/// The commands that the program has.
+pub(crate) fn grammar() -> Grammar<'static>
     ensures { program_app result ≡ told.grammar }
 {
     GRAMMAR

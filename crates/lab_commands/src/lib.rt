@@ -34,9 +34,8 @@ mod words;
 
 pub use document::Form;
 pub use files::{FileFault, KeepFault, LabFiles, MapText, Progress, Standing};
-pub use grammar::grammar;
 pub use names::{name_laws, put_name};
 pub use output::{Output, OutputFault, Stream};
 pub use pieces::{Piece, put, put_pieces};
-pub use program::run;
+pub use program::{commands_grammar, run};
 pub use text::{LabFault, tell};

@@ -2,6 +2,7 @@
 use Rattle.std.specs.Prelude.{ℕ, List, [], ◌∷◌, ◌++◌, codes, length, decimal}
 use Rattle.serde_json.specs.Data.{Data, member, no_members, number, object, string, unsigned}
 use Rattle.serde_json.specs.Written.{compact_text}
+use Rattle.json.specs.Print.{escape}
 use Rattle.lab_commands.specs.declared.document.Form.{Form}
 use Rattle.lab_commands.specs.declared.document.Form.TheVariants.{Text, Json}
 use Rattle.lab_commands.specs.Names.{shown}
@@ -39,6 +40,10 @@ check_text Json v name = codes ",\n" ++ compact_text (verdict_data v name)
 abbrev pub front_text : Form → Verdict → List ℕ
 front_text Text v = verdict_words v ++ codes " "
 front_text Json v = codes ",\n{\"line\":\"" ++ (verdict_words v ++ codes "\",\"name\":\"")
+
+abbrev pub name_text : Form → List ℕ → List ℕ
+name_text Text name = shown name
+name_text Json name = escape name
 
 abbrev pub end_text : Form → List ℕ
 end_text Text = codes "\n"

@@ -86,15 +86,22 @@ fn put_shown<W: Output>(out: &mut W, name: &str) -> Result<(), OutputFault>
     put_name(out, name)
 }
 
+// Prints a name in a form.
+fn put_named<W: Output>(out: &mut W, form: Form, name: &str) -> Result<(), OutputFault>
+    ensures { Prints (W.failed out.new) (W.contents out.old) (W.contents out.new) (told.name_text form name.now) result }
+{
+    match form {
+        Form::Text => put_shown(out, name),
+        Form::Json => put_bytes(out, name.as_bytes()),
+    }
+}
+
 // Prints the line of a file.
 fn put_check<W: Output>(out: &mut W, form: Form, check: &Checked<'_>) -> Result<(), OutputFault>
     ensures { Prints (W.failed out.new) (W.contents out.old) (W.contents out.new) (told.check_text form check.now.verdict check.now.name.now) result }
 {
     put(out, front(form, check.verdict).as_bytes())?;
-    match form {
-        Form::Text => put_shown(out, check.name)?,
-        Form::Json => put_bytes(out, check.name.as_bytes())?,
-    }
+    put_named(out, form, check.name)?;
     put(out, end(form).as_bytes())
 }
 

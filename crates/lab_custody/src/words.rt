@@ -4,7 +4,7 @@ ghost use Rattle.std.specs.Option.{option_to_list};
 ghost use Rattle.program_words.specs.Met.{entries_of, texts};
 ghost use Rattle.lab_custody.specs.Words.{IsAt, IsCustody, IsVerifyOr, read_of, wrote_of};
 
-use lab_commands::grammar;
+use lab_commands::commands_grammar;
 use program_words::{CommandWords, Met, WordsFault, read_words};
 use std::alloc::{AllocError, Global};
 
@@ -121,7 +121,7 @@ pub(crate) fn custody_of<'a>(
 ) -> Result<Custody<'a>, AllocError>
     ensures { IfOk result (IsCustody (texts words.now)) }
 {
-    match read_words(alloc, &grammar(), words) {
+    match read_words(alloc, &commands_grammar(), words) {
         Ok(Met::Command { name, words }) => asked_at(alloc, name, &words),
         Ok(Met::Text(_)) | Err(WordsFault::NoSuchCommand) => Ok(Custody::Plain),
         Err(WordsFault::OutOfMemory) => Err(AllocError),
