@@ -63,7 +63,10 @@ fn put_byte<W: Output>(out: &mut W, byte: u8) -> Result<(), OutputFault>
     if letter > 0 {
         put(out, &[b'\\', letter])
     } else if byte < 32 {
-        put(out, &[b'\\', b'u', b'0', b'0', digit(byte / 16), digit(byte % 16)])
+        put(
+            out,
+            &[b'\\', b'u', b'0', b'0', digit(byte / 16), digit(byte % 16)],
+        )
     } else {
         put(out, &[byte])
     }
@@ -116,11 +119,7 @@ fn end(form: Form) -> &'static str
 }
 
 // Prints the lines of files.
-fn put_checks<W: Output>(
-    out: &mut W,
-    form: Form,
-    checks: &[Checked<'_>],
-) -> Result<(), OutputFault>
+fn put_checks<W: Output>(out: &mut W, form: Form, checks: &[Checked<'_>]) -> Result<(), OutputFault>
     ensures { Prints (W.failed out.new) (W.contents out.old) (W.contents out.new) (told.checks_text form checks.now) result }
 {
     for place in 0..checks.len() {

@@ -84,8 +84,20 @@ fn check_all<'r, F: LabFiles>(
     ensures checked { AreAllChecked (F.answers files.old) (told_by report.now) room.new.checks.items }
     ensures kept { F.kept files.new ≡ F.kept files.old }
 {
-    check_files(files, &report.read, progress, &mut room.buffer, &mut room.checks);
-    check_files(files, &report.wrote, progress, &mut room.buffer, &mut room.checks);
+    check_files(
+        files,
+        &report.read,
+        progress,
+        &mut room.buffer,
+        &mut room.checks,
+    );
+    check_files(
+        files,
+        &report.wrote,
+        progress,
+        &mut room.buffer,
+        &mut room.checks,
+    );
 }
 
 // How it is told.

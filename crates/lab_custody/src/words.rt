@@ -115,15 +115,13 @@ fn asked_at<'a>(
 /// # Errors
 ///
 /// `AllocError` where a growth was refused.
-pub(crate) fn custody_of<'a>(
-    alloc: Global,
-    words: &'a [&'a str],
-) -> Result<Custody<'a>, AllocError>
+pub(crate) fn custody_of<'a>(alloc: Global, words: &'a [&'a str]) -> Result<Custody<'a>, AllocError>
     ensures { IfOk result (IsCustody (texts words.now)) }
 {
     match read_words(alloc, &commands_grammar(), words) {
         Ok(Met::Command { name, words }) => asked_at(alloc, name, &words),
-        Ok(Met::Text(_)) | Err(WordsFault::NoSuchCommand) => Ok(Custody::Plain),
+        Ok(Met::Text(_)) => Ok(Custody::Plain),
+        Err(WordsFault::NoSuchCommand) => Ok(Custody::Plain),
         Err(WordsFault::OutOfMemory) => Err(AllocError),
     }
 }

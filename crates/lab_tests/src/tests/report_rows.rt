@@ -7,13 +7,16 @@ use std::test::Fail;
 // An array of a dump of erased pages, with a report.
 const ARRAY: &str = "nandlab array 64,32,8,32,32 dump.bin out.img --report told.json";
 
-const AGE: &str = "unsound 0: the array is that of every page that was programmed, if no page was lost behind the last one of its block\n";
+const AGE: &str =
+    "unsound 0: the array is that of every page that was programmed, if no page was lost behind the last one of its block\n";
 
-const TOLD: &str = "{\"program\":\"nandlab\",\"read\":[{\"bytes\":24576,\"name\":\"dump.bin\",\"sha256\":\"1df8949b2e345ab8c00cb81fb6b83686e20a4080f969e5cd8b8d520a07cdaba2\"}],\"version\":\"0.1.0\",\"words\":[\"nandlab\",\"array\",\"64,32,8,32,32\",\"dump.bin\",\"out.img\",\"--report\",\"told.json\"],\"wrote\":[{\"bytes\":2048,\"name\":\"out.img\",\"sha256\":\"e5a00aa9991ac8a5ee3109844d84a55583bd20572ad3ffcd42792f3c36b183ad\"}]}\n";
+const TOLD: &str =
+    "{\"program\":\"nandlab\",\"read\":[{\"bytes\":24576,\"name\":\"dump.bin\",\"sha256\":\"1df8949b2e345ab8c00cb81fb6b83686e20a4080f969e5cd8b8d520a07cdaba2\"}],\"version\":\"0.1.0\",\"words\":[\"nandlab\",\"array\",\"64,32,8,32,32\",\"dump.bin\",\"out.img\",\"--report\",\"told.json\"],\"wrote\":[{\"bytes\":2048,\"name\":\"out.img\",\"sha256\":\"e5a00aa9991ac8a5ee3109844d84a55583bd20572ad3ffcd42792f3c36b183ad\"}]}\n";
 
 const SAME: &str = "same dump.bin\nsame out.img\nverified 2 changed 0\n";
 
-const LOST: &str = "{\"program\":\"nandlab\",\"read\":[{\"bytes\":3,\"name\":\"abc\",\"sha256\":\"ba7816bf8f01cfea414140de5dae2223b00361a396177a9cb410ff61f20015ad\"}],\"version\":\"0.1.0\",\"words\":[],\"wrote\":[{\"bytes\":4,\"name\":\"more\",\"sha256\":\"ba7816bf8f01cfea414140de5dae2223b00361a396177a9cb410ff61f20015ad\"},{\"bytes\":0,\"name\":\"a\\\"b\\nc\",\"sha256\":\"e3b0c44298fc1c149afbf4c8996fb92427ae41e4649b934ca495991b7852b855\"},{\"bytes\":0,\"name\":\"device\",\"sha256\":\"e3b0c44298fc1c149afbf4c8996fb92427ae41e4649b934ca495991b7852b855\"}]}";
+const LOST: &str =
+    "{\"program\":\"nandlab\",\"read\":[{\"bytes\":3,\"name\":\"abc\",\"sha256\":\"ba7816bf8f01cfea414140de5dae2223b00361a396177a9cb410ff61f20015ad\"}],\"version\":\"0.1.0\",\"words\":[],\"wrote\":[{\"bytes\":4,\"name\":\"more\",\"sha256\":\"ba7816bf8f01cfea414140de5dae2223b00361a396177a9cb410ff61f20015ad\"},{\"bytes\":0,\"name\":\"a\\\"b\\nc\",\"sha256\":\"e3b0c44298fc1c149afbf4c8996fb92427ae41e4649b934ca495991b7852b855\"},{\"bytes\":0,\"name\":\"device\",\"sha256\":\"e3b0c44298fc1c149afbf4c8996fb92427ae41e4649b934ca495991b7852b855\"}]}";
 
 const CASES: [Case; 3] = [
     Case {
@@ -78,15 +81,16 @@ const CASES: [Case; 3] = [
     },
     Case {
         name: "no report",
-        files: &[
-            ("abc", Made::Text("abc")),
-            ("empty", Made::Text("{}")),
-        ],
+        files: &[("abc", Made::Text("abc")), ("empty", Made::Text("{}"))],
         steps: &[
             Step::Run("nandlab verify abc", 1, "refused verify 1 NotReport\n"),
             Step::Run("nandlab verify empty", 1, "refused verify 1 NotReport\n"),
             Step::Run("nandlab verify none", 3, "fault read none\n"),
-            Step::Run("nandlab verify", 2, "usage: no such command, see nandlab --help\n"),
+            Step::Run(
+                "nandlab verify",
+                2,
+                "usage: no such command, see nandlab --help\n",
+            ),
         ],
     },
 ];
