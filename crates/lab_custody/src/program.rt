@@ -36,10 +36,18 @@ fn begin<'a, F: LabFiles>(
     ensures no_more { AnswersNoMore (F.answers files.old) (F.answers files.new) }
     ensures kept { F.kept files.new ≡ F.kept files.old }
 {
-    allow_report(files, asked)?;
-    let mut buffer = vec![in alloc; 0u8; BUFFER]?;
-    let read = note_files(alloc, files, &asked.read, &mut buffer)?;
-    Ok(Begun { buffer, read })
+    match allow_report(files, asked) {
+        Ok(()) => {}
+        Err(fault) => return Err(fault),
+    }
+    let mut buffer = match vec![in alloc; 0u8; BUFFER] {
+        Ok(buffer) => buffer,
+        Err(_) => return Err(CustodyFault::Lab(LabFault::OutOfMemory)),
+    };
+    match note_files(alloc, files, &asked.read, &mut buffer) {
+        Ok(read) => Ok(Begun { buffer, read }),
+        Err(fault) => Err(fault),
+    }
 }
 
 // What comes behind it.
@@ -55,7 +63,10 @@ fn finish<'a, F: LabFiles>(
     ensures fault { IfErr result (IsUnfinished (F.answers files.old) asked.now) }
     ensures kept { OnErr result (F.kept files.new ≡ F.kept files.old) }
 {
-    let wrote = note_files(alloc, files, &asked.wrote, &mut begun.buffer)?;
+    let wrote = match note_files(alloc, files, &asked.wrote, &mut begun.buffer) {
+        Ok(wrote) => wrote,
+        Err(fault) => return Err(fault),
+    };
     store_report(alloc, files, asked.file, words, &begun.read, &wrote)
 }
 
