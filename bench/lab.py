@@ -15,6 +15,7 @@ import itertools
 import json
 import os
 import random
+import shutil
 import subprocess
 import sys
 import tempfile
@@ -44,6 +45,8 @@ SHOWN = collections.Counter()
 KINDS = ["sound", "differ", "majority", "turned", "erased", "unsound"]
 # how many rows of merges were tried, by what came of them
 TRIED = collections.Counter()
+# how many runs of each command were told in a report
+REPORTED = collections.Counter()
 # how many sectors had no page, one, two, or more
 FOUND = collections.Counter()
 
@@ -126,10 +129,70 @@ def lines_of(command, text):
     return "".join(line_of(told, outside, rewritten) + "\n" for told in document[1:])
 
 
+def files_of(words):
+    """The files that a command reads, and those that it writes, in their order."""
+    places, named = [], {}
+    left = iter(words[1:])
+    for word in left:
+        if word in ("--rows", "--until", "--map", "--from"):
+            named[word] = next(left)
+        elif not word.startswith("--"):
+            places.append(word)
+    if words[0] == "geometry":
+        return places, []
+    if words[0] == "merge":
+        return places[2:], places[1:2]
+    if words[0] == "compare":
+        return places[1:], []
+    wrote = places[2:] if words[0] in ("array", "repair", "correct", "arrange") else []
+    return places[1:2], wrote + [named["--map"]] * ("--map" in named)
+
+
+def verified(folder, names, changed):
+    """Holds what `verify` says of the files of a report, of which one is changed or none, in both forms."""
+    lines = [("differs" if name == changed else "same", name) for name in names]
+    count = len([name for name in names if name == changed])
+    done = subprocess.run([LAB, "verify", "told.json"], cwd=folder, capture_output=True, text=True, check=False)
+    told = "".join(f"{said} {name}\n" for said, name in lines) + f"verified {len(names)} changed {count}\n"
+    assert (done.returncode, done.stdout) == (min(count, 1), told), (done, told)
+    document = json.loads(subprocess.run([LAB, "verify", "--json", "told.json"], cwd=folder, capture_output=True, text=True, check=False).stdout)
+    assert document[1:] == [{"line": said, "name": name} for said, name in lines] + [{"changed": count, "files": len(names), "line": "verified"}], document
+
+
+def reported(words, folder, answer):
+    """Runs a command that is done once more, with a report: it says the same, and its report is that of hashlib."""
+    words = [*words, "--report", "told.json"]
+    done = subprocess.run([LAB, *words], cwd=folder, capture_output=True, stdin=subprocess.DEVNULL)
+    assert (done.returncode, done.stdout, done.stderr) == answer, (words, done, answer)
+    read, wrote = files_of(words[:-2])
+
+    def notes(names):
+        found = [(name, (Path(folder) / name).read_bytes()) for name in names]
+        return [{"bytes": len(raw), "name": name, "sha256": hashlib.sha256(raw).hexdigest()} for name, raw in found]
+
+    want = {"program": "nandlab", "version": "0.1.0", "words": [LAB, *words], "read": notes(read), "wrote": notes(wrote)}
+    text = (Path(folder) / "told.json").read_text()
+    assert json.loads(text) == want and text == json.dumps(want, sort_keys=True, separators=(",", ":"), ensure_ascii=False) + "\n", (text, want)
+    verified(folder, read + wrote, None)
+    last = Path(folder) / (read + wrote)[-1]
+    raw = bytearray(last.read_bytes())
+    raw[len(raw) // 2] ^= 1
+    last.write_bytes(raw)
+    verified(folder, read + wrote, last.name)
+    REPORTED[words[0]] += 1
+
+
 def run(words, folder):
     asks = words[:1] != [] and words[0] in COMMANDS and FORMS.random() < 0.5
     words = [words[0], "--json", *words[1:]] if asks else words
-    done = subprocess.run([LAB, *words], cwd=folder, capture_output=True, stdin=subprocess.DEVNULL)
+    if words[:1] != [] and words[0] in COMMANDS and FORMS.random() < 0.3:
+        with tempfile.TemporaryDirectory() as copy:
+            shutil.copytree(folder, copy, dirs_exist_ok=True)
+            done = subprocess.run([LAB, *words], cwd=folder, capture_output=True, stdin=subprocess.DEVNULL)
+            if done.returncode == 0:
+                reported(words, copy, (done.returncode, done.stdout, done.stderr))
+    else:
+        done = subprocess.run([LAB, *words], cwd=folder, capture_output=True, stdin=subprocess.DEVNULL)
     out = done.stdout.decode()
     if asks and done.returncode == 0:
         out = lines_of(words[0], out)
@@ -1139,7 +1202,8 @@ def main():
         assert cases < 100 or {"turned", "tried"} <= set(TRIED), TRIED
         assert cases < 100 or set(FOUND) == {0, 1, 2, 3}, FOUND
         assert cases < 100 or {0, 1} <= set(PAIRED), PAIRED
-        print(f"each of the eight commands over {cases} dumps agrees with the reference, and the refusals; geometry over {dict(FITTED)}; rows tried by merge {dict(TRIED)}")
+        assert cases < 100 or len(REPORTED) == 8, REPORTED
+        print(f"each of the eight commands over {cases} dumps agrees with the reference, and the refusals; geometry over {dict(FITTED)}; rows tried by merge {dict(TRIED)}; reports {dict(REPORTED)}")
 
 
 if __name__ == "__main__":

@@ -77,6 +77,7 @@ class Die:
         self.merged = lines(folder / "merge.txt")
         self.survey = lines(folder / "survey.txt")
         self.array = lines(folder / "array.txt")
+        self.verified = lines(folder / "verify.txt")
         self.areas = areas(lines(folder / "disk.map"))
 
     def row(self):
@@ -102,7 +103,7 @@ class Die:
             return ""
         pages = int(self.shape.split(",")[2])
         reasons = [line for line in self.survey if line.startswith(("reason", "tied", "missing"))]
-        told = self.merged[-1:] + reasons[:12] + self.array[-1:]
+        told = self.merged[-1:] + reasons[:12] + self.array[-1:] + self.verified
         return f'<section id="{self.place}"><h3>{self.name}</h3>{picture(self.name, blocks(self.survey), pages)}<pre>{html.escape(chr(10).join(told))}</pre></section>'
 
 

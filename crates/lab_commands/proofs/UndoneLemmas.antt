@@ -27,7 +27,7 @@ handed_on P (Err e) told is h = subst P (sym is) h
 -- ---- the files between
 
 pub no_more_first : (a : Answers) → AnswersNoMore a a
-no_more_first a = record { gives_same = λ at bytes h. h; tells_same = refl; fails_same = λ at f h. h; reads_same = λ h. h; writes_same = λ h. h; taken_same = λ at h. h }
+no_more_first a = record { gives_same = λ at bytes h. h; tells_same = refl; fails_same = λ at f h. h; reads_same = λ h. h; writes_same = λ h. h; taken_same = λ at h. h; says_same = λ at what h. h }
 
 pub no_more_then : (a b d : Answers) → AnswersNoMore a b → AnswersNoMore b d → AnswersNoMore a d
 no_more_then a b d h k = record {
@@ -37,6 +37,7 @@ no_more_then a b d h k = record {
   reads_same = λ x. h.reads_same (k.reads_same x);
   writes_same = λ x. h.writes_same (k.writes_same x);
   taken_same = λ at x. h.taken_same at (k.taken_same at x);
+  says_same = λ at what x. h.says_same at what (k.says_same at what x);
 }
 
 pub unwritten_before : (a b : Answers) (path : List ℕ) (told : LabFault) → AnswersNoMore a b → IsUnwritten b path told → IsUnwritten a path told

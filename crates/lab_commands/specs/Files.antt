@@ -1,5 +1,6 @@
 -- What the files that are read may answer, and those that were put in their places.
-use Rattle.std.specs.Prelude.{◌≡◌, ◌≢◌, ℕ, suc, ◌-◌, Bool, true, false, List, [], ◌∷◌, ◌++◌, Option, IfSome, IsSome, take, Result, Ok, Err}
+use Rattle.std.specs.Prelude.{◌≡◌, ◌≢◌, ℕ, suc, ◌-◌, Bool, true, false, List, [], ◌∷◌, ◌++◌, Option, IfSome, IsSome, All, take, Result, Ok, Err}
+use Rattle.std.specs.List.{concat}
 use Rattle.std.specs.Option.{option_map}
 use Rattle.lab_commands.specs.declared.files.FileFault.{FileFault}
 use Rattle.lab_commands.specs.declared.files.KeepFault.{KeepFault}
@@ -47,6 +48,7 @@ pub record AnswersNoMore (old new : Answers) : Type 0 where
   pub reads_same : new.reads_fail → old.reads_fail
   pub writes_same : new.writes_fail → old.writes_fail
   pub taken_same : (at : List ℕ) → new.taken at → old.taken at
+  pub says_same : (at : List ℕ) (what : Standing) → new.says at what → old.says at what
 
 -- what is known of the bytes of a reader of this path: they are some that the file gives, and they are known where the store tells them
 pub record IsOpened (a : Answers) (path : List ℕ) (known : Option (List ℕ)) : Type 0 where
@@ -95,6 +97,12 @@ made_after store (Err fault) = store
 abbrev pub kept_after : Option Store → List ℕ → Option (List (List ℕ)) → Bool → Result (Unit {0}) KeepFault → Option Store
 kept_after store path pieces over (Ok done) = with_kept store path pieces over
 kept_after store path pieces over (Err fault) = store
+
+-- what a file gives that was put in its place: what was put there last, where both are known
+abbrev pub IsAsPut : Option Store → List ℕ → Option (List ℕ) → Type 0
+IsAsPut store path known =
+    IfSome store (λ s. (front back : List Kept) (last : Kept) → s.put ≡ front ++ last ∷ back → last.path ≡ path → All (λ other. other.path ≢ path) back
+    → IfSome last.pieces (λ pieces. IfSome known (λ bytes. bytes ≡ concat pieces)))
 
 -- why a file does not get its name: a call failed, or another file has it meanwhile, and may not be replaced
 abbrev pub IsUnkept : Answers → List ℕ → Bool → KeepFault → Type 0

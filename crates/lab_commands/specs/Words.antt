@@ -23,7 +23,7 @@ use Rattle.lab_commands.specs.declared.words.Asked.TheVariants as asked
 
 -- the words that all commands have
 abbrev pub showing : List Rule
-showing = flag (codes "json") ∷ flag (codes "progress") ∷ []
+showing = flag (codes "json") ∷ flag (codes "progress") ∷ option (codes "report") ∷ []
 
 abbrev pub geometry : Shape
 geometry = command_of (codes "geometry") (place (codes "DUMP") ∷ showing)
@@ -52,9 +52,12 @@ correct = command_of (codes "correct") (place (codes "GEOM") ∷ place (codes "D
 abbrev pub arrange : Shape
 arrange = command_of (codes "arrange") (place (codes "GEOM") ∷ place (codes "DUMP") ∷ place (codes "OUT") ∷ flag (codes "force") ∷ option (codes "from") ∷ showing)
 
+abbrev pub verify : Shape
+verify = command_of (codes "verify") (place (codes "REPORT") ∷ flag (codes "json") ∷ flag (codes "progress") ∷ [])
+
 -- the commands that the program has
 abbrev pub grammar : App
-grammar = program_of (codes "nandlab") (geometry ∷ survey ∷ array ∷ history ∷ compare ∷ merge ∷ repair ∷ correct ∷ arrange ∷ [])
+grammar = program_of (codes "nandlab") (geometry ∷ survey ∷ array ∷ history ∷ compare ∷ merge ∷ repair ∷ correct ∷ arrange ∷ verify ∷ [])
 
 -- ---- what the words ask for
 

@@ -72,7 +72,7 @@ pub trait MapText {
 /// The files that the words name, by their paths as written: those of the system, or some in memory.
 pub trait LabFiles {
     ghost use Rattle.std.specs.Prelude.{◌≡◌, List, [], ◌∷◌, ℕ, suc, Option, Some, true, Result, IfOk, IfErr, IfSome, option_map, replicate};
-    ghost use Rattle.lab_commands.specs.Files.{Answers, AnswersNoMore, IsLoaded, IsOpened, IsUnkept, Store, kept_after, made_after, without_part};
+    ghost use Rattle.lab_commands.specs.Files.{Answers, AnswersNoMore, IsAsPut, IsLoaded, IsOpened, IsUnkept, Store, kept_after, made_after, without_part};
 
     /// What reads a file piece by piece.
     type Reader: DumpReader + Drop;
@@ -108,9 +108,10 @@ pub trait LabFiles {
         ensures failed { IfErr result ((answers self.old).fails first.now) }
         ensures same { self.new ≡ self.old };
 
-    /// A reader of a file, from its first byte on. No file is changed.
+    /// A reader of a file, from its first byte on: of one that was put in its place, of what was put there last. No file is changed.
     fn open(&mut self, path: &str, progress: Progress) -> Result<Self::Reader, FileFault>
         ensures bytes { IfOk result (λ reader. IsOpened (answers self.old) path.now (Self.Reader.remaining reader)) }
+        ensures as_put { IfOk result (λ reader. IsAsPut (kept self.old) path.now (Self.Reader.remaining reader)) }
         ensures fails { (reader : Self.Reader) → Self.Reader.failed reader ≡ true → (answers self.old).reads_fail }
         ensures failed { IfErr result ((answers self.old).fails path.now) }
         ensures no_more { AnswersNoMore (answers self.old) (answers self.new) }

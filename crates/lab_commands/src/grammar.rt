@@ -17,6 +17,12 @@ const PROGRESS: WordRule<'static> = WordRule {
     help: "Shows on standard error how far it is, as it does where that is a terminal",
 };
 
+const REPORT: WordRule<'static> = WordRule {
+    id: "report",
+    kind: WordKind::Valued("FILE"),
+    help: "Writes to FILE which files were read and written, with the SHA-256 of each",
+};
+
 const FORCE: WordRule<'static> = WordRule {
     id: "force",
     kind: WordKind::Flag,
@@ -104,39 +110,39 @@ const REPAIR_BITS: WordRule<'static> = WordRule {
 const GEOMETRY: CommandRule<'static> = CommandRule {
     name: "geometry",
     about: "Tells which geometries fit a dump of unknown shape, best first",
-    words: &[DUMP, JSON, PROGRESS],
+    words: &[DUMP, JSON, PROGRESS, REPORT],
 };
 
 const SURVEY: CommandRule<'static> = CommandRule {
     name: "survey",
     about: "Tells what a dump says of its die, and each reason why the die would not mount",
-    words: &[GEOM, DUMP, SURVEY_ROWS, JSON, PROGRESS],
+    words: &[GEOM, DUMP, SURVEY_ROWS, JSON, PROGRESS, REPORT],
 };
 
 const ARRAY: CommandRule<'static> = CommandRule {
     name: "array",
     about: "Writes every sector of a dump, as a disk image",
     words: &[
-        GEOM, DUMP, IMAGE_OUT, FORCE, MAP, UNTIL, DAMAGED, JSON, PROGRESS,
+        GEOM, DUMP, IMAGE_OUT, FORCE, MAP, UNTIL, DAMAGED, JSON, PROGRESS, REPORT,
     ],
 };
 
 const HISTORY: CommandRule<'static> = CommandRule {
     name: "history",
     about: "Tells each sound page of a sector that is still there, newest first",
-    words: &[GEOM, DUMP, SECTOR, JSON, PROGRESS],
+    words: &[GEOM, DUMP, SECTOR, JSON, PROGRESS, REPORT],
 };
 
 const COMPARE: CommandRule<'static> = CommandRule {
     name: "compare",
     about: "Tells which sectors have lost a page since a certificate was made",
-    words: &[GEOM, CERT, DUMP, JSON, PROGRESS],
+    words: &[GEOM, CERT, DUMP, JSON, PROGRESS, REPORT],
 };
 
 const MERGE: CommandRule<'static> = CommandRule {
     name: "merge",
     about: "Writes one dump of two or more readings of a die",
-    words: &[GEOM, DUMP_OUT, DUMPS, FORCE, JSON, PROGRESS],
+    words: &[GEOM, DUMP_OUT, DUMPS, FORCE, JSON, PROGRESS, REPORT],
 };
 
 const REPAIR: CommandRule<'static> = CommandRule {
@@ -151,13 +157,14 @@ const REPAIR: CommandRule<'static> = CommandRule {
         REPAIR_BITS,
         JSON,
         PROGRESS,
+        REPORT,
     ],
 };
 
 const CORRECT: CommandRule<'static> = CommandRule {
     name: "correct",
     about: "Writes a chip's dump with codes as the dump that the others take, with wrong bits turned back",
-    words: &[GEOM, DUMP, DUMP_OUT, FORCE, MAP, JSON, PROGRESS],
+    words: &[GEOM, DUMP, DUMP_OUT, FORCE, MAP, JSON, PROGRESS, REPORT],
 };
 
 const FROM: WordRule<'static> = WordRule {
@@ -175,14 +182,26 @@ const ANY_DUMP: WordRule<'static> = WordRule {
 const ARRANGE: CommandRule<'static> = CommandRule {
     name: "arrange",
     about: "Writes a dump in another arrangement as pages in order",
-    words: &[GEOM, ANY_DUMP, DUMP_OUT, FORCE, FROM, JSON, PROGRESS],
+    words: &[GEOM, ANY_DUMP, DUMP_OUT, FORCE, FROM, JSON, PROGRESS, REPORT],
+};
+
+const REPORT_PLACE: WordRule<'static> = WordRule {
+    id: "REPORT",
+    kind: WordKind::Place,
+    help: "The report, as another command has written it",
+};
+
+const VERIFY: CommandRule<'static> = CommandRule {
+    name: "verify",
+    about: "Reads the files of a report again and tells which differ",
+    words: &[REPORT_PLACE, JSON, PROGRESS],
 };
 
 static GRAMMAR: Grammar<'static> = Grammar {
     name: "nandlab",
     about: "Tools for recovery laboratories, on dumps of one NAND die",
     commands: &[
-        GEOMETRY, SURVEY, ARRAY, HISTORY, COMPARE, MERGE, REPAIR, CORRECT, ARRANGE,
+        GEOMETRY, SURVEY, ARRAY, HISTORY, COMPARE, MERGE, REPAIR, CORRECT, ARRANGE, VERIFY,
     ],
 };
 

@@ -8,7 +8,7 @@ use itoa::Buffer;
 
 /// A piece of a text.
 #[derive(Clone, Copy)]
-pub(crate) enum Piece<'a> {
+pub enum Piece<'a> {
     /// These words.
     Words(&'a str),
     /// A number, in decimal.
@@ -16,7 +16,7 @@ pub(crate) enum Piece<'a> {
 }
 
 /// Writes bytes, all of them.
-pub(crate) fn put<W: Output>(out: &mut W, bytes: &[u8]) -> Result<(), OutputFault>
+pub fn put<W: Output>(out: &mut W, bytes: &[u8]) -> Result<(), OutputFault>
     ensures { Prints (W.failed out.new) (W.contents out.old) (W.contents out.new) bytes.now result }
 {
     out.put(bytes)
@@ -41,7 +41,7 @@ fn put_piece<W: Output>(out: &mut W, piece: Piece<'_>) -> Result<(), OutputFault
 }
 
 /// Prints pieces, one after another.
-pub(crate) fn put_pieces<W: Output>(out: &mut W, pieces: &[Piece<'_>]) -> Result<(), OutputFault>
+pub fn put_pieces<W: Output>(out: &mut W, pieces: &[Piece<'_>]) -> Result<(), OutputFault>
     ensures { Prints (W.failed out.new) (W.contents out.old) (W.contents out.new) (pieces_text pieces.now) result }
 {
     for place in 0..pieces.len() {

@@ -1,6 +1,8 @@
 //! The program's commands.
-ghost use Rattle.std.specs.Prelude.{OnOk, IfErr};
+ghost use Rattle.std.specs.Prelude.{◌≡◌, OnOk, IfErr};
+ghost use Rattle.program_words.specs.Grammar.{program_app};
 ghost use Rattle.program_words.specs.Met.{texts};
+ghost use Rattle.lab_commands.specs.Words as told;
 ghost use Rattle.lab_commands.specs.Program.{IsRefused, Obeyed, Runs, Written};
 
 use crate::arrange::arrange_command;
@@ -8,6 +10,7 @@ use crate::array::array_command;
 use crate::compare::compare_command;
 use crate::correct::correct_command;
 use crate::files::LabFiles;
+use crate::grammar::grammar;
 use crate::geometry::geometry_command;
 use crate::history::history_command;
 use crate::merge::merge_command;
@@ -16,8 +19,15 @@ use crate::repair::repair_command;
 use crate::survey::survey_command;
 use crate::text::{DONE, LabFault, tell};
 use crate::words::{Asked, parse};
-use program_words::WordsFault;
+use program_words::{Grammar, WordsFault};
 use std::alloc::Global;
+
+/// The commands that the program has. What the word `report` asks for, and the command `verify`, are of the crate above.
+pub fn commands_grammar() -> Grammar<'static>
+    ensures { program_app result ≡ told.grammar }
+{
+    grammar()
+}
 
 // Does what the words ask.
 fn obey<'a, F: LabFiles, W: Output>(

@@ -12,6 +12,7 @@ mod history_rows;
 mod merge_rows;
 mod pages;
 mod repair_rows;
+mod report_rows;
 mod runs;
 mod survey_rows;
 mod word_rows;

@@ -6,7 +6,8 @@ ghost use Rattle.std.specs.Prelude.{◌≡◌};
 mod progress;
 mod system;
 
-use lab_commands::{LabFault, Output, Stream, run, tell};
+use lab_commands::{LabFault, Output, Stream, tell};
+use lab_custody::run;
 use program_words::{WordsFault, word_slices, words_found};
 use std::env;
 use std::fs::File;

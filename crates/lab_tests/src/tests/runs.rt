@@ -1,7 +1,8 @@
 //! Runs of the program over files in memory, and what they have to answer: cases, each a list of steps over files of its own.
 use super::dumps::{Made, bytes_of};
 use super::files::{Closed, MemoryFiles, Trouble};
-use lab_commands::{Output, Stream, run};
+use lab_commands::{Output, Stream};
+use lab_custody::run;
 use std::alloc::{AllocError, Global};
 use std::fmt::Debug;
 use std::process::Abort;
@@ -18,6 +19,8 @@ pub enum Step {
     Closed(&'static str, usize),
     /// Runs a command line of which the first file is put in its place, and the second is not: its status, and what it says.
     Half(&'static str, u8, &'static str),
+    /// Runs a command line that puts no file in its place: its status, and what it says on standard output and on standard error.
+    Both(&'static str, u8, &'static str, &'static str),
     /// A file holds these bytes now.
     Holds(&'static str, Made),
     /// There is no such file.
@@ -100,6 +103,24 @@ fn expect_run(
     Ok(())
 }
 
+fn expect_both(
+    rt: &impl Abort,
+    files: &mut MemoryFiles,
+    line: &str,
+    status: u8,
+    said: (&str, &str),
+) -> Result<(), AllocError> {
+    let before = files.kept;
+    let mut out: Vec<u8> = Vec::new(files.alloc);
+    let mut err: Vec<u8> = Vec::new(files.alloc);
+    let answered = run_line(files, line, &mut out, &mut err)?;
+    hold(rt, &(files.case, line), &out.as_slice(), &said.0.as_bytes());
+    hold(rt, &(files.case, line), &err.as_slice(), &said.1.as_bytes());
+    hold(rt, &(files.case, line), &answered, &status);
+    hold(rt, &(files.case, line), &files.kept, &before);
+    Ok(())
+}
+
 fn expect_half(
     rt: &impl Abort,
     files: &mut MemoryFiles,
@@ -158,6 +179,9 @@ fn take(rt: &impl Abort, files: &mut MemoryFiles, step: &Step) -> Result<(), Fai
         Step::Run(line, status, said) => expect_run(rt, files, line, *status, said)?,
         Step::Closed(line, kept) => expect_closed(rt, files, line, *kept)?,
         Step::Half(line, status, said) => expect_half(rt, files, line, *status, said)?,
+        Step::Both(line, status, out, err) => {
+            expect_both(rt, files, line, *status, (*out, *err))?;
+        }
         Step::Holds(path, made) => {
             expect_contents(rt, files, path, &bytes_of(files.alloc, made)?)?;
         }

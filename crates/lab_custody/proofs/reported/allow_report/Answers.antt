@@ -1,0 +1,12 @@
+use Rattle.std.proofs.Common.{◌≡◌, ◌<◌, length, ◌∙◌, arith}
+use Rattle.lab_custody.proofs.ReportLemmas.{others_more}
+use Rattle.lab_custody.proofs.reported.allow_report.Goals as goal
+
+pub loop-place-preserved : goal.loop-place-preserved
+loop-place-preserved g c =
+    let inv = c.loop-place.invariant in
+    record {
+      same = c.is_report.ensures.same ∙ inv.same;
+      others = others_more g.F.LabFiles.answers c.args.files.now c.loop-place.files c.args.words.now.wrote.items c.loop-place.place c.index.result.now c.args.words.now.file.now c.in-Ok-false.field-0 inv.same (omega (arith, c.len-place-end.ensures)) c.index.ensures
+          c.in-Ok-false.field-0-test c.in-Ok-false.ensures.said inv.others;
+    }

@@ -1,0 +1,14 @@
+use Rattle.std.proofs.Common.{◌≡◌, length, map, take}
+use Rattle.program_words.specs.Met.{texts}
+use Rattle.lab_commands.specs.Files.{AnswersNoMore}
+use Rattle.lab_report.specs.Note.{note_of}
+use Rattle.lab_custody.specs.Reported.{AreNoted}
+use Rattle.lab_custody.proofs.reported.note_files.Given as goal
+
+abbrev pub invariant-loop-place : goal.invariant-loop-place
+invariant-loop-place g l = record {
+  no_more : AnswersNoMore (g.F.LabFiles.answers l.fn.files) (g.F.LabFiles.answers l.files);
+  kept : g.F.LabFiles.kept l.files ≡ g.F.LabFiles.kept l.fn.files;
+  noted : AreNoted (g.F.LabFiles.answers l.fn.files) (g.F.LabFiles.kept l.fn.files) (texts (take l.place l.paths)) (map note_of l.notes.items);
+  size : length l.buffer ≡ length l.fn.buffer;
+}
