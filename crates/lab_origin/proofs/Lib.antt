@@ -1,0 +1,4 @@
+pub mod MapLemmas
+pub mod OriginLemmas
+pub mod ReadingLemmas
+pub mod TracingLemmas

@@ -1,0 +1,169 @@
+-- What one page more makes of what is held.
+use Rattle.std.proofs.Common.{◌≡◌, ◌≢◌, inl, inr, ℕ, ◌+◌, ◌-◌, ◌*◌, ◌<◌, Bool, true, false, List, [], length, get_or, set, map, take, drop, replicate, Option, Some, None, refl, sym, ap, ◌∙◌, subst, arith, cond}
+use Rattle.std.specs.Prelude.{nat_lt, slice_get, slice_range}
+use Rattle.std.specs.List.{range_with_len}
+use Rattle.std.proofs.lemmas.Bool.{cases_eq}
+use Rattle.std.proofs.lemmas.List.{get_or-map, get_or-set_same, get_or-set_other, get_or-replicate, get_or_default, length-set, length-replicate, same_lists, take-take, drop-take, drop-drop}
+use Rattle.std.proofs.lemmas.List.FromFn.{get_or-map-range_with_len, length-map-range_with_len}
+use Rattle.page_layout.specs.declared.geometry.Geometry.{Geometry}
+use Rattle.page_layout.specs.declared.record.Record.{Record}
+use Rattle.page_layout.specs.declared.record.Key.TheVariants as key
+use Rattle.page_layout.specs.declared.newest.Latest.{Latest}
+use Rattle.page_layout.specs.declared.newest.Latest.TheVariants as latest
+use Rattle.page_layout.specs.Geometry.{page_bytes, row_count}
+use Rattle.page_layout.specs.Page.{Page, Image, page}
+use Rattle.page_layout.specs.Raw.{page_from, raw_image}
+use Rattle.page_layout.specs.Sound.{record_of}
+use Rattle.page_layout.specs.Key.{key_of}
+use Rattle.page_layout.specs.Greatest.{step}
+use Rattle.page_layout.specs.Newest.{latest_below, sequence_at}
+use Rattle.page_layout.specs.Array.{marks}
+use Rattle.page_layout.proofs.ArrayLemmas.{mark-page}
+use Rattle.page_layout.proofs.NewestLemmas.{sequence_at-none, sequence_at-other, sequence_at-key}
+use Rattle.page_layout.proofs.RawLemmas.{raw_image-at, length-raw_image}
+use Rattle.image_check.proofs.SurveyLemmas.{latest_more, latest_other, latest_start}
+use Rattle.lab_dump.specs.PageBytes.{page_of}
+use Rattle.lab_dump.specs.Until.{counted, page_until, until}
+use Rattle.lab_dump.specs.Writing.{sector_in}
+use Rattle.lab_dump.proofs.UntilLemmas.{counted_record, until_page, until_size}
+use Rattle.lab_dump.proofs.WritingLemmas.{within_is, other_none, unmarked_none, IsOfNone}
+use Rattle.lab_origin.specs.declared.mark.Mark.{Mark}
+use Rattle.lab_origin.specs.declared.mark.Mark.TheVariants as mark
+use Rattle.lab_origin.specs.declared.newest.Change.{Change}
+use Rattle.lab_origin.specs.declared.newest.Change.TheVariants as change
+use Rattle.lab_origin.specs.Origin.{image_of, is_read, mark_by, mark_of, marks_of, read_mark, row_bytes}
+use Rattle.lab_origin.specs.Tracing.{AreSized, Does, Shows}
+
+-- ---- what a page does
+
+pub stays_once : (b : Latest) (row s q t : ℕ) → step b row (Some s) ≡ latest.Once q t → q ≢ row → step b row (Some s) ≡ b
+stays_once latest.Never row s q t e ne = absurd (let same : row ≡ q = cc in ne (sym same))
+stays_once (latest.Once p u) row s q t e ne = by (nat_lt u s) (nat_lt s u) e
+  where
+    by : (more less : Bool) → cond more (latest.Once row s) (cond less (latest.Once p u) (latest.Tied p row u)) ≡ latest.Once q t → cond more (latest.Once row s) (cond less (latest.Once p u) (latest.Tied p row u)) ≡ latest.Once p u
+    by true less is = absurd (let same : row ≡ q = cc in ne (sym same))
+    by false true is = refl
+    by false false is = absurd (cc)
+stays_once (latest.Tied a b u) row s q t e ne = by (nat_lt u s) e
+  where
+    by : (more : Bool) → cond more (latest.Once row s) (latest.Tied a b u) ≡ latest.Once q t → cond more (latest.Once row s) (latest.Tied a b u) ≡ latest.Tied a b u
+    by true is = absurd (let same : row ≡ q = cc in ne (sym same))
+    by false is = refl
+
+pub never_never : (b : Latest) (row s : ℕ) → step b row (Some s) ≢ latest.Never
+never_never latest.Never row s e = cc
+never_never (latest.Once p u) row s e = by (nat_lt u s) (nat_lt s u) e
+  where
+    by : (more less : Bool) → cond more (latest.Once row s) (cond less (latest.Once p u) (latest.Tied p row u)) ≢ latest.Never
+    by true less is = cc
+    by false true is = cc
+    by false false is = cc
+never_never (latest.Tied a b u) row s e = by (nat_lt u s) e
+  where
+    by : (more : Bool) → cond more (latest.Once row s) (latest.Tied a b u) ≢ latest.Never
+    by true is = cc
+    by false is = cc
+
+-- the mark that it makes of one
+abbrev pub MarkIs : Change → Bool → Mark → Mark → Type 0
+MarkIs change.Stays read was new = new ≡ was
+MarkIs change.Newest read was new = new ≡ read_mark read
+MarkIs change.Tie read was new = new ≡ mark.Bad
+
+pub marked : (read : ℕ → Bool) (row : ℕ) (c : Change) (before after : Latest) (was new : Mark) → Does c row before after → was ≡ mark_by read before → MarkIs c (read row) was new → new ≡ mark_by read after
+marked read row change.Stays before after was new does held is = is ∙ (held ∙ ap (mark_by read) (sym does))
+marked read row change.Newest before after was new does held is = is ∙ sym (ap (mark_by read) does.1)
+marked read row change.Tie before after was new does held is = is ∙ sym (ap (mark_by read) does.3)
+
+-- ---- a row
+
+-- one that says nothing of a sector
+pub not_taken : (g : Geometry) (records : List (Option Record)) (read : ℕ → Bool) (row : ℕ) (ls : List Latest) (ms : List Mark) → Shows g records read row ls ms → IsOfNone g records row → Shows g records read (row + 1) ls ms
+not_taken g records read row ls ms h none = record {
+  latest_is = λ n l. h.latest_is n l ∙ sym (latest_other records (key.Sector n) row (none n l));
+  mark_is = λ n l. h.mark_is n l ∙ ap (mark_by read) (sym (latest_other records (key.Sector n) row (none n l)));
+}
+
+others : (records : List (Option Record)) (row n : ℕ) (r : Record) → get_or records row None ≡ Some r → key_of r ≡ key.Sector n → (m : ℕ) → m ≢ n → sequence_at records (key.Sector m) row ≡ None
+others records row n r at same m ne = sequence_at-other records (key.Sector m) row r at (λ e. ne (let k : key.Sector n ≡ key.Sector m = sym same ∙ e in cc))
+
+here : (records : List (Option Record)) (row n : ℕ) (r : Record) → get_or records row None ≡ Some r → key_of r ≡ key.Sector n → latest_below records (key.Sector n) (row + 1) ≡ step (latest_below records (key.Sector n) row) row (Some r.sequence)
+here records row n r at same =
+    let seen : sequence_at records (key.Sector n) row ≡ Some r.sequence = subst (λ k. sequence_at records k row ≡ Some r.sequence) same (sequence_at-key records row r at) in
+    latest_more records (key.Sector n) row ∙ ap (step (latest_below records (key.Sector n) row) row) seen
+
+-- one of a sound page of sector n, which makes this of what is held
+pub taken : (g : Geometry) (records : List (Option Record)) (read : ℕ → Bool) (row n : ℕ) (r : Record) (ls : List Latest) (ms : List Mark) (old next : Latest) (was new : Mark) (c : Change) → Shows g records read row ls ms → AreSized g ls ms
+    → sector_in g r ≡ Some n → get_or records row None ≡ Some r → old ≡ get_or ls n old → was ≡ get_or ms n was → next ≡ step old row (Some r.sequence) → Does c row old next → MarkIs c (read row) was new
+    → Shows g records read (row + 1) (set ls n next) (set ms n new)
+taken g records read row n r ls ms old next was new c h sized in_die at old_is was_is next_is does is =
+    let its = within_is g r n in_die in
+    let in_range : n < g.sectors = its.1 in
+    let ls_size : length ls ≡ g.sectors = sized.latest_size in
+    let ms_size : length ms ≡ g.sectors = sized.marks_size in
+    let more = here records row n r at its.0 in
+    let held : old ≡ latest_below records (key.Sector n) row = old_is ∙ (get_or_default ls n old latest.Never (omega arith) ∙ h.latest_is n in_range) in
+    let after : next ≡ latest_below records (key.Sector n) (row + 1) = next_is ∙ (ap (λ l. step l row (Some r.sequence)) held ∙ sym more) in
+    let stood : was ≡ mark_by read old = was_is ∙ (get_or_default ms n was mark.Untried (omega arith) ∙ (h.mark_is n in_range ∙ ap (mark_by read) (sym held))) in
+    let made : new ≡ mark_by read next = marked read row c old next was new does stood is in
+    record {
+      latest_is = λ m l. elim (cases_eq m n) [
+        | inl same ↦ ap (λ k. get_or (set ls n next) k latest.Never) same ∙ (get_or-set_same ls n next latest.Never (omega arith) ∙ (after ∙ ap (λ k. latest_below records (key.Sector k) (row + 1)) (sym same)))
+        | inr ne ↦ get_or-set_other ls n m next latest.Never ne ∙ (h.latest_is m l ∙ sym (latest_other records (key.Sector m) row (others records row n r at its.0 m ne)))
+      ];
+      mark_is = λ m l. elim (cases_eq m n) [
+        | inl same ↦ ap (λ k. get_or (set ms n new) k mark.Untried) same ∙ (get_or-set_same ms n new mark.Untried (omega arith) ∙ (made ∙ (ap (mark_by read) after ∙ ap (λ k. mark_by read (latest_below records (key.Sector k) (row + 1))) (sym same))))
+        | inr ne ↦ get_or-set_other ms n m new mark.Untried ne ∙ (h.mark_is m l ∙ ap (mark_by read) (sym (latest_other records (key.Sector m) row (others records row n r at its.0 m ne))))
+      ];
+    }
+
+pub taken_sized : (g : Geometry) (ls : List Latest) (ms : List Mark) (n : ℕ) (next : Latest) (new : Mark) → AreSized g ls ms → AreSized g (set ls n next) (set ms n new)
+taken_sized g ls ms n next new h = record { latest_size = length-set ls n next ∙ h.latest_size; marks_size = length-set ms n new ∙ h.marks_size }
+
+-- ---- before the first row, and behind the last one
+
+pub nothing_yet : (g : Geometry) (ls : List Latest) (ms : List Mark) → ls ≡ replicate g.sectors latest.Never → ms ≡ replicate g.sectors mark.Untried → (records : List (Option Record)) (read : ℕ → Bool) → Shows g records read 0 ls ms
+nothing_yet g ls ms a b records read = record {
+  latest_is = λ n l. ap (λ xs. get_or xs n latest.Never) a ∙ (get_or-replicate g.sectors n latest.Never latest.Never l ∙ sym (latest_start records (key.Sector n)));
+  mark_is = λ n l. ap (λ xs. get_or xs n mark.Untried) b ∙ (get_or-replicate g.sectors n mark.Untried mark.Untried l ∙ sym (ap (mark_by read) (latest_start records (key.Sector n))));
+}
+
+pub sized_first : (g : Geometry) (ls : List Latest) (ms : List Mark) → ls ≡ replicate g.sectors latest.Never → ms ≡ replicate g.sectors mark.Untried → AreSized g ls ms
+sized_first g ls ms a b = record { latest_size = ap length a ∙ length-replicate g.sectors latest.Never; marks_size = ap length b ∙ length-replicate g.sectors mark.Untried }
+
+pub all_marks : (g : Geometry) (last : Option ℕ) (all : List ℕ) (files : List (List ℕ)) (ls : List Latest) (ms : List Mark) → AreSized g ls ms → Shows g (marks (image_of g last all)) (is_read g all files) (row_count g) ls ms → ms ≡ marks_of g last all files
+unfolding mark_of
+all_marks g last all files ls ms sized h =
+    let f = mark_of g last all files in
+    let size : length (image_of g last all) ≡ row_count g = until_size g last (raw_image g all) ∙ length-raw_image g all in
+    same_lists ms (map f (range_with_len 0 g.sectors)) (sized.marks_size ∙ sym (length-map-range_with_len f 0 g.sectors)) (λ n d l.
+    let few = sized.marks_size in
+    let within : n < g.sectors = omega arith in
+    get_or_default ms n d mark.Untried l
+    ∙ (h.mark_is n within
+    ∙ (ap (λ k. mark_by (is_read g all files) (latest_below (marks (image_of g last all)) (key.Sector n) k)) (sym size)
+    ∙ sym (get_or-map-range_with_len f 0 g.sectors n n d within (omega arith)))))
+
+-- ---- the page of a row as its bytes
+
+page_sliced : (g : Geometry) (file : List ℕ) (at : ℕ) → page_of g.data_bytes (slice_range file at (at + page_bytes g)) ≡ page_from g file at
+page_sliced g file at =
+    let d : ℕ = g.data_bytes in
+    let s : ℕ = g.spare_bytes in
+    let all : at + page_bytes g - at ≡ d + s = omega arith in
+    let first : at + d - at ≡ d = omega arith in
+    let second : at + page_bytes g - (at + d) ≡ s = omega arith in
+    let whole : slice_range file at (at + page_bytes g) ≡ take (d + s) (drop at file) = ap (λ n. take n (drop at file)) all in
+    let body : take d (slice_range file at (at + page_bytes g)) ≡ slice_range file at (at + d) =
+    ap (take d) whole ∙ (take-take d (d + s) (drop at file) (omega arith) ∙ sym (ap (λ n. take n (drop at file)) first)) in
+    let spare : drop d (slice_range file at (at + page_bytes g)) ≡ slice_range file (at + d) (at + page_bytes g) =
+    ap (drop d) whole ∙ (drop-take d s (drop at file) ∙ (ap (take s) (drop-drop d at file) ∙ sym (ap (λ n. take n (drop (at + d) file)) second))) in
+    ap (λ b. page b (drop d (slice_range file at (at + page_bytes g)))) body ∙ ap (page (slice_range file at (at + d))) spare
+
+-- what counts of it
+pub record_at : (g : Geometry) (last : Option ℕ) (all piece : List ℕ) (row : ℕ) → row < row_count g → piece ≡ row_bytes g all row → get_or (marks (image_of g last all)) row None ≡ counted last (record_of (page_of g.data_bytes piece))
+record_at g last all piece row l is =
+    let p : Page = page_from g all (row * page_bytes g) in
+    let image : Image = raw_image g all in
+    let same : page_of g.data_bytes piece ≡ p = ap (page_of g.data_bytes) is ∙ page_sliced g all (row * page_bytes g) in
+    mark-page (until g last image) row (page_until g last p) (until_page g last image row p (raw_image-at g all row l)) ∙ (counted_record g last p ∙ ap (λ q. counted last (record_of q)) (sym same))

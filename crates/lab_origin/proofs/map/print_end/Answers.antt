@@ -1,0 +1,32 @@
+use Rattle.std.proofs.Common.{◌≡◌, true, sym, subst, ◌∙◌, arith}
+use Rattle.std.specs.Io.KnownBytes.{Appends}
+use Rattle.std.proofs.KnownBytes.{Appends-nil}
+use Rattle.lab_origin.specs.Map.{ends_at}
+use Rattle.lab_origin.proofs.MapLemmas.{first_after, first_low, first_still, line_is, line_none}
+use Rattle.lab_origin.proofs.map.print_end.Goals as goal
+
+pub returns-then-not-ends_at-clause-next : goal.returns-then-not-ends_at-clause-next
+returns-then-not-ends_at-clause-next g c =
+    c.requires.first ∙ sym (first_still c.args.marks.now c.args.sector (sym c.ends_at.ensures ∙ c.if-not-ends_at.true))
+
+pub returns-then-not-ends_at-clause-printed : goal.returns-then-not-ends_at-clause-printed
+returns-then-not-ends_at-clause-printed g c =
+    let o = g.W.MapWriter.contents c.args.out.now in
+    subst (λ t. Appends o o t) (sym (line_none c.args.geometry.now c.args.marks.now c.args.sector (sym c.ends_at.ensures ∙ c.if-not-ends_at.true))) (Appends-nil o)
+
+pub area_between-requires-clause-rising : goal.area_between-requires-clause-rising
+area_between-requires-clause-rising g c =
+    let is = c.requires.first in
+    let low = first_low c.args.marks.now c.args.sector in
+    omega arith
+
+pub returns-clause-next : goal.returns-clause-next
+returns-clause-next g c = sym (first_after c.args.marks.now c.args.sector (sym c.ends_at.ensures ∙ c.if-not-ends_at.false))
+
+pub returns-clause-printed : goal.returns-clause-printed
+returns-clause-printed g c =
+    let states = c.args.marks.now in
+    let e : ends_at states c.args.sector ≡ true = sym c.ends_at.ensures ∙ c.if-not-ends_at.false in
+    let its = c.area_between.ensures in
+    let text = line_is c.args.geometry.now states c.args.sector c.args.first _ _ _ e c.requires.first its.position its.size (its.state ∙ c.state_at-state.ensures) in
+    subst (λ t. Appends (g.W.MapWriter.contents c.args.out.now) (g.W.MapWriter.contents c.print_area.new.out) t) text c.in_ok-print_area.ensures.printed
