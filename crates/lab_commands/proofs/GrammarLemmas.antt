@@ -30,6 +30,7 @@ command_by (asked.Merge read) g words name given same is at = asked_by IsAt g gr
 command_by (asked.Repair read) g words name given same is at = asked_by IsAt g grammar words name given (asked.Repair read) same is at
 command_by (asked.Correct read) g words name given same is at = asked_by IsAt g grammar words name given (asked.Correct read) same is at
 command_by (asked.Arrange read) g words name given same is at = asked_by IsAt g grammar words name given (asked.Arrange read) same is at
+command_by (asked.Origin read) g words name given same is at = asked_by IsAt g grammar words name given (asked.Origin read) same is at
 command_by (asked.Text text) g words name given same is at = absurd at
 
 -- of all that a command with these words may ask for

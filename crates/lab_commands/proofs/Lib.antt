@@ -15,4 +15,5 @@ pub mod ArrangeLemmas
 pub mod MergeLemmas
 pub mod NameLemmas
 pub mod NameLaws
+pub mod OriginLemmas
 mod HistoryLemmas

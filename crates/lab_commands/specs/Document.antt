@@ -29,6 +29,7 @@ report_words report.Merge = codes "merge"
 report_words report.Repair = codes "repair"
 report_words report.Correct = codes "correct"
 report_words report.Arrange = codes "arrange"
+report_words report.Origin = codes "origin"
 
 -- what a document of this command begins with
 unfoldable pub head_text : Form → List ℕ → List ℕ

@@ -30,6 +30,7 @@ pub mod Repair
 pub mod Merge
 pub mod Correct
 pub mod Arrange
+pub mod Origin
 pub mod Program
 -- a text that is printed piece by piece
 pub mod Pieces

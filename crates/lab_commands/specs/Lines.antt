@@ -196,6 +196,10 @@ legible_words legible others =
 abbrev pub damaged_words : ℕ → List ℕ
 damaged_words n = codes "damaged " ++ (decimal n ++ codes ": so many sectors are shown as an unsound page reads, nothing sound being newer")
 
+-- how many are shown of a page that no reading has
+abbrev pub origin_words : ℕ → List ℕ
+origin_words n = codes "mended " ++ (decimal n ++ codes ": so many sectors are shown of a page that none of the readings has")
+
 -- how many pages of a sector are still there, and how many pages are neither erased nor sound
 abbrev pub history_words : ℕ → ℕ → List ℕ
 history_words pages unsound = codes "history " ++ (decimal pages ++ (codes " unsound " ++ (decimal unsound ++ codes ": of what is still there, newest first")))
@@ -237,6 +241,7 @@ line_words (Outside n) = codes "outside " ++ decimal n
 line_words (line.Says page) = said_words page
 line_words (line.Legible legible others) = legible_words legible others
 line_words (line.Damaged n) = damaged_words n
+line_words (line.Origin n) = origin_words n
 
 -- ---- which lines there are
 

@@ -17,11 +17,12 @@ use Rattle.lab_commands.specs.Repair.{WroteRepair, IsRepairFault}
 use Rattle.lab_commands.specs.Correct.{WroteCorrected, IsCorrectFault}
 use Rattle.lab_commands.specs.Arrange.{WroteArranged, IsArrangeFault}
 use Rattle.lab_commands.specs.Merge.{WroteMerge, IsMergeFault}
+use Rattle.lab_commands.specs.Origin.{WroteOrigin, IsOriginFault}
 use Rattle.lab_commands.specs.Undone.{IsHalfPrinted, LeavesAll}
 
 -- ---- done
 
--- the words asked for an array, a merge, a repair, a correction or a dump in order, which was written, or for geometries, a survey, a history, a comparison or a text, which was printed
+-- the words asked for an array, a merge, a repair, a correction, a dump in order or a map, which was written, or for geometries, a survey, a history, a comparison or a text, which was printed
 abbrev pub DoesAsked : Answers → Asked → Option Store → Option Store → Option (List ℕ) → Option (List ℕ) → Type 0
 DoesAsked a (asked.Geometry read) before after out printed = (after ≡ before) × ToldFits a read out printed
 DoesAsked a (asked.Array read) before after out printed = WroteArray a read before after out printed
@@ -32,6 +33,7 @@ DoesAsked a (asked.Merge read) before after out printed = WroteMerge a read befo
 DoesAsked a (asked.Repair read) before after out printed = WroteRepair a read before after out printed
 DoesAsked a (asked.Correct read) before after out printed = WroteCorrected a read before after out printed
 DoesAsked a (asked.Arrange read) before after out printed = WroteArranged a read before after out printed
+DoesAsked a (asked.Origin read) before after out printed = WroteOrigin a read before after out printed
 DoesAsked a (asked.Text text) before after out printed = (after ≡ before) × Appends out printed (string_bytes text)
 
 abbrev pub Obeyed : Answers → List (List ℕ) → Option Store → Option Store → Option (List ℕ) → Option (List ℕ) → Type 0
@@ -50,6 +52,7 @@ IsFaultOf a (asked.Merge read) before after opens opened broke out printed told 
 IsFaultOf a (asked.Repair read) before after opens opened broke out printed told = IsRepairFault a read before after opens opened broke out printed told
 IsFaultOf a (asked.Correct read) before after opens opened broke out printed told = IsCorrectFault a read before after opens opened broke out printed told
 IsFaultOf a (asked.Arrange read) before after opens opened broke out printed told = IsArrangeFault a read before after opens opened broke out printed told
+IsFaultOf a (asked.Origin read) before after opens opened broke out printed told = IsOriginFault a read before after opens opened broke out printed told
 IsFaultOf a (asked.Text text) before after opens opened broke out printed told = (after ≡ before) × IsHalfPrinted broke out printed (string_bytes text) told
 
 -- the words are no command, or memory for them was refused, before any file was opened

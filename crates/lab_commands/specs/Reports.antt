@@ -1,5 +1,5 @@
 -- What each command says.
-use Rattle.std.specs.Prelude.{ℕ, ◌+◌, Bool, false, List, [], ◌∷◌, ◌++◌, length, get_or, map, slice_get, codes, Option, Some, None, option_map, option_and_then}
+use Rattle.std.specs.Prelude.{ℕ, ◌+◌, Bool, false, List, [], ◌∷◌, ◌++◌, length, get_or, map, slice_get, count_by, codes, Option, Some, None, option_map, option_and_then}
 use Rattle.page_layout.specs.declared.geometry.Geometry.{Geometry}
 use Rattle.page_layout.specs.Geometry.{translation_pages, table_pages}
 use Rattle.certificate.specs.declared.block_state.BlockState.{BlockState}
@@ -15,6 +15,8 @@ use Rattle.lab_mend.specs.Tries.{tries_in}
 use Rattle.lab_correct.specs.declared.correcting.Loss.{Loss}
 use Rattle.lab_correct.specs.declared.found.FoundFit.{FoundFit}
 use Rattle.lab_mend.specs.declared.repairing.Mend.{Mend}
+use Rattle.lab_origin.specs.declared.mark.Mark.{Mark}
+use Rattle.lab_origin.specs.Origin.{is_mended}
 use Rattle.lab_mend.specs.Repairing.{mended_count}
 use Rattle.lab_dump.specs.declared.survey.DieSurvey.{DieSurvey}
 use Rattle.lab_dump.specs.Doubts.{most_others}
@@ -216,6 +218,10 @@ repair_text form tries mends =
 abbrev pub correct_text : Form → ℕ → ℕ → List Loss → List ℕ
 correct_text form turned touched losses =
     head_text form (codes "correct") ++ (text_below form (loss_at losses) (length losses) ++ (line_text form (line.Corrected turned touched (length losses)) ++ tail_text form))
+
+-- how many sectors are shown of a page that no reading has, by the mark of each
+abbrev pub origin_text : Form → List Mark → List ℕ
+origin_text form marks = head_text form (codes "origin") ++ (line_text form (line.Origin (count_by is_mended marks)) ++ tail_text form)
 
 -- the rows that differ, those that are unsound, those of which pages were tried, how many pages, and how many rows there are of each kind
 abbrev pub merge_text : Form → List ℕ → List ℕ → List TriedRow → Tally → List ℕ

@@ -195,6 +195,10 @@ legible_data legible others = object (member (codes "legible") (count legible) (
 abbrev pub damaged_data : ℕ → Data
 damaged_data n = object (member (codes "damaged") (count n) (member (codes "line") (text (codes "damaged")) no_members))
 
+-- how many are shown of a page that no reading has
+abbrev pub origin_data : ℕ → Data
+origin_data n = object (member (codes "line") (text (codes "origin")) (member (codes "mended") (count n) no_members))
+
 -- how JSON writes a truth
 abbrev pub truth_words : Bool → List ℕ
 truth_words is = if is then codes "true" else codes "false"
@@ -245,3 +249,4 @@ line_data (Outside n) = doubt_data (codes "outside") n
 line_data (line.Says page) = said_data page
 line_data (line.Legible legible others) = legible_data legible others
 line_data (line.Damaged n) = damaged_data n
+line_data (line.Origin n) = origin_data n

@@ -12,6 +12,7 @@ use Rattle.lab_commands.specs.declared.words.CompareWords.{CompareWords}
 use Rattle.lab_commands.specs.declared.words.GeometryWords.{GeometryWords}
 use Rattle.lab_commands.specs.declared.words.HistoryWords.{HistoryWords}
 use Rattle.lab_commands.specs.declared.words.MergeWords.{MergeWords}
+use Rattle.lab_commands.specs.declared.origin_words.OriginWords.{OriginWords}
 use Rattle.lab_commands.specs.declared.words.RepairWords.{RepairWords}
 use Rattle.lab_commands.specs.declared.words.Showing.{Showing}
 use Rattle.lab_commands.specs.declared.words.SurveyWords.{SurveyWords}
@@ -55,9 +56,12 @@ arrange = command_of (codes "arrange") (place (codes "GEOM") ∷ place (codes "D
 abbrev pub verify : Shape
 verify = command_of (codes "verify") (place (codes "REPORT") ∷ flag (codes "json") ∷ flag (codes "progress") ∷ [])
 
+abbrev pub origin : Shape
+origin = command_of (codes "origin") (place (codes "GEOM") ∷ place (codes "OUT") ∷ place (codes "DUMP") ∷ place_of Append (codes "READING") ∷ flag (codes "force") ∷ option (codes "until") ∷ showing)
+
 -- the commands that the program has
 abbrev pub grammar : App
-grammar = program_of (codes "nandlab") (geometry ∷ survey ∷ array ∷ history ∷ compare ∷ merge ∷ repair ∷ correct ∷ arrange ∷ verify ∷ [])
+grammar = program_of (codes "nandlab") (geometry ∷ survey ∷ array ∷ history ∷ compare ∷ merge ∷ repair ∷ correct ∷ arrange ∷ origin ∷ verify ∷ [])
 
 -- ---- what the words ask for
 
@@ -139,6 +143,16 @@ pub record IsArrangeAt (rows : List Row) (read : ArrangeWords) : Type 0 where
   pub from_is : first_of (codes "from") rows ≡ option_map (λ word. word.now) read.from
   pub showing : IsShowingAt rows read.showing
 
+-- those of the words of `origin` are these
+pub record IsOriginAt (rows : List Row) (read : OriginWords) : Type 0 where
+  pub geometry_is : first_of (codes "GEOM") rows ≡ Some read.geometry.now
+  pub out_is : first_of (codes "OUT") rows ≡ Some read.out.now
+  pub dump_is : first_of (codes "DUMP") rows ≡ Some read.dump.now
+  pub readings_are : all_of (codes "READING") rows ≡ Some (texts read.readings.items)
+  pub forced : stood (count_of (codes "force") rows) ≡ read.force
+  pub until_is : first_of (codes "until") rows ≡ option_map (λ word. word.now) read.until
+  pub showing : IsShowingAt rows read.showing
+
 -- the command of this name with these entries asks for that
 abbrev pub IsAt : List ℕ → List Row → Asked → Type 0
 IsAt name rows (asked.Geometry read) = (name ≡ codes "geometry") × IsGeometryAt rows read
@@ -150,6 +164,7 @@ IsAt name rows (asked.Merge read) = (name ≡ codes "merge") × IsMergeAt rows r
 IsAt name rows (asked.Repair read) = (name ≡ codes "repair") × IsRepairAt rows read
 IsAt name rows (asked.Correct read) = (name ≡ codes "correct") × IsArrayAt rows read
 IsAt name rows (asked.Arrange read) = (name ≡ codes "arrange") × IsArrangeAt rows read
+IsAt name rows (asked.Origin read) = (name ≡ codes "origin") × IsOriginAt rows read
 IsAt name rows (asked.Text text) = ⊥
 
 -- Of the words as `clap` reads them: they name a command, with these words, or they ask for help or for the version.
@@ -163,6 +178,7 @@ IsAsked words (asked.Merge read) = NamesCommand IsAt grammar words (asked.Merge 
 IsAsked words (asked.Repair read) = NamesCommand IsAt grammar words (asked.Repair read)
 IsAsked words (asked.Correct read) = NamesCommand IsAt grammar words (asked.Correct read)
 IsAsked words (asked.Arrange read) = NamesCommand IsAt grammar words (asked.Arrange read)
+IsAsked words (asked.Origin read) = NamesCommand IsAt grammar words (asked.Origin read)
 IsAsked words (asked.Text text) = AsksText grammar words
 
 -- `clap` finds another fault in them, or they name no command with its words

@@ -34,6 +34,7 @@ pub(crate) enum Report {
     Repair,
     Correct,
     Arrange,
+    Origin,
 }
 
 impl Report {
@@ -54,6 +55,7 @@ impl Report {
             Report::Repair => "repair",
             Report::Correct => "correct",
             Report::Arrange => "arrange",
+            Report::Origin => "origin",
         }
     }
 }

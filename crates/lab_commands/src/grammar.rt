@@ -197,11 +197,31 @@ const VERIFY: CommandRule<'static> = CommandRule {
     words: &[REPORT_PLACE, JSON, PROGRESS],
 };
 
+const MAP_OUT: WordRule<'static> = WordRule {
+    id: "OUT",
+    kind: WordKind::Place,
+    help: "The map to be written, as the mapfile of GNU ddrescue",
+};
+
+const READINGS: WordRule<'static> = WordRule {
+    id: "READING",
+    kind: WordKind::Places,
+    help: "The readings that the dump was made of",
+};
+
+const ORIGIN: CommandRule<'static> = CommandRule {
+    name: "origin",
+    about: "Writes the map of a dump's array, with a mark of its own for each sector whose page no reading has",
+    words: &[
+        GEOM, MAP_OUT, DUMP, READINGS, FORCE, UNTIL, JSON, PROGRESS, REPORT,
+    ],
+};
+
 static GRAMMAR: Grammar<'static> = Grammar {
     name: "nandlab",
     about: "Tools for recovery laboratories, on dumps of one NAND die",
     commands: &[
-        GEOMETRY, SURVEY, ARRAY, HISTORY, COMPARE, MERGE, REPAIR, CORRECT, ARRANGE, VERIFY,
+        GEOMETRY, SURVEY, ARRAY, HISTORY, COMPARE, MERGE, REPAIR, CORRECT, ARRANGE, ORIGIN, VERIFY,
     ],
 };
 

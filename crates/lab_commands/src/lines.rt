@@ -6,6 +6,7 @@ ghost use Rattle.lab_commands.specs.Lines.{class_words, label_words, made_words}
 ghost use Rattle.lab_commands.specs.Lines.{says_words, sort_words};
 ghost use Rattle.lab_commands.specs.Lines.{age_words, block_words, corrected_words, first_words, fit_words, found_words, history_words, kind_words, damaged_words, legible_words, line_words, moved_words, newer_words, page_words, said_words, tally_words, until_words, whole_words, wrote_words, tries_words, trial_words, turned_words};
 
+use crate::origin_lines::put_origin;
 use crate::output::{Output, OutputFault};
 use crate::pieces::Piece::{Number, Words};
 use crate::pieces::put_pieces;
@@ -108,6 +109,8 @@ pub enum Line {
     Legible(u32, u64),
     /// So many sectors are shown as pages have them that are not sound.
     Damaged(u64),
+    /// So many sectors are shown of a page that no reading has.
+    Origin(u64),
 }
 
 impl Label {
@@ -662,5 +665,6 @@ pub(crate) fn put_words<W: Output>(out: &mut W, line: Line) -> Result<(), Output
         Line::Says(page) => put_says(out, page),
         Line::Legible(legible, others) => put_legible(out, legible, others),
         Line::Damaged(sectors) => put_damaged(out, sectors),
+        Line::Origin(sectors) => put_origin(out, sectors),
     }
 }

@@ -2,6 +2,7 @@
 use crate::files::MapText;
 use lab_correct::{Loss, print_losses};
 use lab_dump::{Held, LineFault, MapWriter, print_map};
+use lab_origin::Mark;
 use page_layout::geometry::Geometry;
 
 /// The map of an array, by what is held of each sector.
@@ -22,6 +23,26 @@ impl MapText for ArrayMap<'_> {
 
     fn print<W: MapWriter>(&self, out: &mut W) -> Result<(), LineFault> {
         print_map(out, self.geometry, self.held)
+    }
+}
+
+/// The map of an array beside its readings, by the mark of each sector.
+#[derive(Clone, Copy)]
+pub(crate) struct OriginMap<'a> {
+    pub(crate) geometry: &'a Geometry,
+    pub(crate) marks: &'a [Mark],
+}
+
+impl MapText for OriginMap<'_> {
+    ghost use Rattle.std.specs.Prelude.{◌≡◌, length};
+    ghost use Rattle.lab_origin.specs.Map.{map_text};
+
+    ghost text = { λ m. map_text m.geometry.now m.marks.now };
+
+    ghost whole = { λ m. length m.marks.now ≡ m.geometry.now.sectors };
+
+    fn print<W: MapWriter>(&self, out: &mut W) -> Result<(), LineFault> {
+        lab_origin::print_map(out, self.geometry, self.marks)
     }
 }
 

@@ -21,8 +21,8 @@ use lab_mend::{MergeFault, MergeRoom, Merged, merge_dumps};
 use page_layout::geometry::Geometry;
 use std::alloc::{AllocError, Global};
 
-// Whether a path is that of one of the dumps.
-fn is_some_dump<'a, F: LabFiles>(
+/// Whether a path is that of one of the dumps.
+pub(crate) fn is_some_dump<'a, F: LabFiles>(
     files: &mut F,
     dumps: &[&'a str],
     path: &str,

@@ -14,6 +14,7 @@ use crate::grammar::grammar;
 use crate::geometry::geometry_command;
 use crate::history::history_command;
 use crate::merge::merge_command;
+use crate::origin::origin_command;
 use crate::output::Output;
 use crate::repair::repair_command;
 use crate::survey::survey_command;
@@ -49,6 +50,7 @@ fn obey<'a, F: LabFiles, W: Output>(
         Ok(Asked::Repair(read)) => repair_command(alloc, read, files, out),
         Ok(Asked::Correct(read)) => correct_command(alloc, read, files, out),
         Ok(Asked::Arrange(read)) => arrange_command(alloc, read, files, out),
+        Ok(Asked::Origin(read)) => origin_command(alloc, read, files, out),
         Ok(Asked::Text(text)) => match out.put(text.as_bytes()) {
             Ok(()) => Ok(()),
             Err(_) => Err(LabFault::Write("-")),

@@ -5,7 +5,7 @@ ghost use Rattle.lab_commands.specs.Document.{Prints, if_text, line_text, text_b
 ghost use Rattle.lab_mend.specs.Repairing.{mended_count};
 ghost use Rattle.lab_mend.specs.Tries.{tries_in};
 ghost use Rattle.lab_commands.specs.Lines.{tries_line};
-ghost use Rattle.lab_commands.specs.Reports.{age_text, arrange_text, array_text, blocks_text, compare_text, correct_text, count_lines, doubts_text, ending_text, fits_text, history_text, key_at, keys_text, left_text, losses_text, merge_text};
+ghost use Rattle.lab_commands.specs.Reports.{age_text, arrange_text, array_text, blocks_text, compare_text, correct_text, count_lines, doubts_text, ending_text, fits_text, history_text, key_at, keys_text, left_text, losses_text, merge_text, origin_text};
 ghost use Rattle.lab_commands.specs.Reports.{repair_text, some_text, survey_lines, survey_text, table_at, ties_text};
 
 use crate::document::{Printer, Report};
@@ -19,6 +19,7 @@ use crate::told_lines::{
 use lab_correct::{FoundFit, Loss};
 use lab_dump::{Compared, DieSurvey, Held, Rows, SectorPage, State, Unsettled, damaged_count};
 use lab_mend::{Mend, Tally, TriedRow, count_mended, count_tries};
+use lab_origin::{Mark, mended_count};
 use page_layout::geometry::Geometry;
 
 // The pages of each sort, and the reasons against a mount but for the tables.
@@ -396,6 +397,23 @@ pub fn print_arranged<W: Output>(
 {
     printer.begin(out, Report::Arrange)?;
     printer.line(out, Some(Line::Arranged(rows)))?;
+    printer.end(out)
+}
+
+/// Prints how many sectors are shown of a page that no reading has, by the mark of each.
+///
+/// # Errors
+///
+/// As of `print_survey`. (This project's.)
+pub fn print_origin<W: Output>(
+    printer: Printer,
+    out: &mut W,
+    marks: &[Mark],
+) -> Result<(), OutputFault>
+    ensures { Prints (W.failed out.new) (W.contents out.old) (W.contents out.new) (origin_text printer.form marks.now) result }
+{
+    printer.begin(out, Report::Origin)?;
+    printer.line(out, Some(Line::Origin(mended_count(marks))))?;
     printer.end(out)
 }
 

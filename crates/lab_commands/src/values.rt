@@ -7,6 +7,7 @@ ghost use Rattle.lab_commands.specs.Values.{age_data, age_until_data, arranged_d
 ghost use Rattle.lab_commands.specs.Values.{mended_count_data, mended_data, merged_data, nothing_data, page_data, pages_data, plain_block_data, reason_pages_data, reason_table_data, repeated_data, row_data, rows_age_data, rows_data, said_data, tried_data, tries_data, truth_words, turned_data};
 
 use crate::lines::{Label, Line, Sort, class_text, kind_text, made_text, says_text, wrote_text};
+use crate::origin_lines::put_origin_data;
 use crate::output::{Output, OutputFault};
 use crate::pieces::Piece::{Number, Words};
 use crate::pieces::put_pieces;
@@ -736,5 +737,6 @@ pub(crate) fn put_object<W: Output>(out: &mut W, line: Line) -> Result<(), Outpu
         Line::Says(page) => put_says(out, page),
         Line::Legible(legible, others) => put_legible(out, legible, others),
         Line::Damaged(sectors) => put_damaged(out, sectors),
+        Line::Origin(sectors) => put_origin_data(out, sectors),
     }
 }

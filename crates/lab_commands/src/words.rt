@@ -16,6 +16,7 @@ ghost use Rattle.lab_commands.specs.Words.{AreDumpsAt, IsArrayAt, IsAsked, IsAt,
 
 use crate::arrange_words::{ArrangeWords, arrange_words};
 use crate::grammar::grammar;
+use crate::origin_words::{OriginWords, origin_asked};
 use program_words::{CommandWords, Met, WordsFault, read_words};
 use std::alloc::Global;
 
@@ -135,6 +136,8 @@ pub enum Asked<'a> {
     Correct(ArrayWords<'a>),
     /// The dump of one in another arrangement.
     Arrange(ArrangeWords<'a>),
+    /// Which sectors of a dump are shown of a page that no reading has.
+    Origin(OriginWords<'a>),
     /// This text, of help or of the version.
     Text(String),
 }
@@ -282,10 +285,10 @@ fn merge_asked<'a>(alloc: Global, found: &CommandWords<'a>) -> Result<Asked<'a>,
     }
 }
 
-// What the command of this name asks for, with these words, but for `merge`.
+// What the command of this name asks for, with these words, but for `merge` and `origin`.
 fn other_asked<'a>(name: &str, found: &CommandWords<'a>) -> Option<Asked<'a>>
     ensures some { IfSome result (IsAt name.now (entries_of found.now)) }
-    ensures none { result ≡ None → name.now ≢ codes "merge" → (asked : Asked) → ¬ IsAt name.now (entries_of found.now) asked }
+    ensures none { result ≡ None → name.now ≢ codes "merge" → name.now ≢ codes "origin" → (asked : Asked) → ¬ IsAt name.now (entries_of found.now) asked }
 {
     match name {
         "geometry" => geometry_words(found).map(Asked::Geometry),
@@ -311,6 +314,7 @@ fn asked_at<'a>(
 {
     match name {
         "merge" => merge_asked(alloc, found),
+        "origin" => origin_asked(alloc, found),
         _ => match other_asked(name, found) {
             Some(asked) => Ok(asked),
             None => Err(WordsFault::NoSuchCommand),

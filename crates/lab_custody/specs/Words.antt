@@ -15,9 +15,9 @@ pub record IsVerifyAt (rows : List Row) (read : VerifyWords) : Type 0 where
   pub json_is : stood (count_of (codes "json") rows) ≡ read.json
   pub progress_is : stood (count_of (codes "progress") rows) ≡ read.progress
 
--- the files that a command reads: a certificate, if there is one, and its dumps
+-- the files that a command reads: a certificate, if there is one, its dumps, and the readings of these, if there are some
 abbrev pub read_of : List Row → List (List ℕ)
-read_of rows = option_to_list (first_of (codes "CERT") rows) ++ unwrap_or (all_of (codes "DUMP") rows) []
+read_of rows = (option_to_list (first_of (codes "CERT") rows) ++ unwrap_or (all_of (codes "DUMP") rows) []) ++ unwrap_or (all_of (codes "READING") rows) []
 
 -- and those that it writes: what it makes of them, and a map, if there are such
 abbrev pub wrote_of : List Row → List (List ℕ)

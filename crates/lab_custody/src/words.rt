@@ -73,6 +73,7 @@ fn reported<'a>(
     let mut read = Vec::new(alloc);
     add(&mut read, found.word("CERT"))?;
     add_all(&mut read, found.words("DUMP"))?;
+    add_all(&mut read, found.words("READING"))?;
     let mut wrote = Vec::new(alloc);
     add(&mut wrote, found.word("OUT"))?;
     add(&mut wrote, found.word("map"))?;

@@ -88,20 +88,20 @@ by_read false m e = (λ is. refl, λ is. absurd (cc))
 pub mended_law : MendedLaw
 mended_law g last dump readings n = (from (known g last dump n) refl, to)
   where
-    none : (row : ℕ) → is_read g dump readings row ≡ false → (i : ℕ) → i < length readings → row_bytes g (get_or readings i []) row ≢ row_bytes g dump row
-    none row e i l same = false≢true (sym e ∙ is_one g dump readings row (i, l, same))
+    none_has : (row : ℕ) → is_read g dump readings row ≡ false → (i : ℕ) → i < length readings → row_bytes g (get_or readings i []) row ≢ row_bytes g dump row
+    none_has row e i l same = false≢true (sym e ∙ is_one g dump readings row (i, l, same))
 
     from : (l : Latest) → known g last dump n ≡ l → mark_of g last dump readings n ≡ mark.Mended → (row : ℕ) × IsOfNone g last dump readings n row
     from latest.Never e is = absurd (let at = mark_is g last dump readings n latest.Never e in cc)
     from (latest.Tied a b s) e is = absurd (let at = mark_is g last dump readings n (latest.Tied a b s) e in cc)
     from (latest.Once row s) e is =
         let at = mark_is g last dump readings n (latest.Once row s) e in
-        (row, record { newest = newest_at g last dump n row s e; none = none row ((by_read (is_read g dump readings row) _ (sym at)).0 is) })
+        (row, record { newest = newest_at g last dump n row s e; none = none_has row ((by_read (is_read g dump readings row) _ (sym at)).0 is) })
 
     unread : (row : ℕ) → ((i : ℕ) → i < length readings → row_bytes g (get_or readings i []) row ≢ row_bytes g dump row) → is_read g dump readings row ≡ false
     unread row h = elim (cases_Bool (is_read g dump readings row)) [
-      | inl yes ↦ absurd (let one = has_one g dump readings row yes in h one.0 one.1 one.2)
-      | inr no ↦ no
+      | inl has ↦ absurd (let one = has_one g dump readings row has in h one.0 one.1 one.2)
+      | inr lacks ↦ lacks
     ]
 
     to : (row : ℕ) × IsOfNone g last dump readings n row → mark_of g last dump readings n ≡ mark.Mended

@@ -1,9 +1,10 @@
 -- What one page more makes of what is held.
 use Rattle.std.proofs.Common.{◌≡◌, ◌≢◌, inl, inr, ℕ, ◌+◌, ◌-◌, ◌*◌, ◌<◌, Bool, true, false, List, [], length, get_or, set, map, take, drop, replicate, Option, Some, None, refl, sym, ap, ◌∙◌, subst, arith, cond}
-use Rattle.std.specs.Prelude.{nat_lt, slice_get, slice_range}
+use Rattle.std.specs.Prelude.{nat_lt, option_map, slice_get, slice_range}
 use Rattle.std.specs.List.{range_with_len}
 use Rattle.std.proofs.lemmas.Bool.{cases_eq}
-use Rattle.std.proofs.lemmas.List.{get_or-map, get_or-set_same, get_or-set_other, get_or-replicate, get_or_default, length-set, length-replicate, same_lists, take-take, drop-take, drop-drop}
+use Rattle.std.proofs.lemmas.List.{get_or-map, get_or-set_same, get_or-set_other, get_or-replicate, get_or_default, length-map, length-set, length-replicate, same_lists, take-take, drop-take, drop-drop}
+use Rattle.std.proofs.lemmas.Option.{slice_get-map}
 use Rattle.std.proofs.lemmas.List.FromFn.{get_or-map-range_with_len, length-map-range_with_len}
 use Rattle.page_layout.specs.declared.geometry.Geometry.{Geometry}
 use Rattle.page_layout.specs.declared.record.Record.{Record}
@@ -11,6 +12,7 @@ use Rattle.page_layout.specs.declared.record.Key.TheVariants as key
 use Rattle.page_layout.specs.declared.newest.Latest.{Latest}
 use Rattle.page_layout.specs.declared.newest.Latest.TheVariants as latest
 use Rattle.page_layout.specs.Geometry.{page_bytes, row_count}
+use Rattle.page_layout.specs.Change.{erased_page}
 use Rattle.page_layout.specs.Page.{Page, Image, page}
 use Rattle.page_layout.specs.Raw.{page_from, raw_image}
 use Rattle.page_layout.specs.Sound.{record_of}
@@ -21,11 +23,11 @@ use Rattle.page_layout.specs.Array.{marks}
 use Rattle.page_layout.proofs.ArrayLemmas.{mark-page}
 use Rattle.page_layout.proofs.NewestLemmas.{sequence_at-none, sequence_at-other, sequence_at-key}
 use Rattle.page_layout.proofs.RawLemmas.{raw_image-at, length-raw_image}
+use Rattle.page_layout.proofs.StepLemmas.{erased_unsound}
 use Rattle.image_check.proofs.SurveyLemmas.{latest_more, latest_other, latest_start}
 use Rattle.lab_dump.specs.PageBytes.{page_of}
-use Rattle.lab_dump.specs.Until.{counted, page_until, until}
+use Rattle.lab_dump.specs.Until.{counted, is_later, page_until, until}
 use Rattle.lab_dump.specs.Writing.{sector_in}
-use Rattle.lab_dump.proofs.UntilLemmas.{counted_record, until_page, until_size}
 use Rattle.lab_dump.proofs.WritingLemmas.{within_is, other_none, unmarked_none, IsOfNone}
 use Rattle.lab_origin.specs.declared.mark.Mark.{Mark}
 use Rattle.lab_origin.specs.declared.mark.Mark.TheVariants as mark
@@ -93,10 +95,10 @@ here records row n r at same =
     latest_more records (key.Sector n) row ∙ ap (step (latest_below records (key.Sector n) row) row) seen
 
 -- one of a sound page of sector n, which makes this of what is held
-pub taken : (g : Geometry) (records : List (Option Record)) (read : ℕ → Bool) (row n : ℕ) (r : Record) (ls : List Latest) (ms : List Mark) (old next : Latest) (was new : Mark) (c : Change) → Shows g records read row ls ms → AreSized g ls ms
-    → sector_in g r ≡ Some n → get_or records row None ≡ Some r → old ≡ get_or ls n old → was ≡ get_or ms n was → next ≡ step old row (Some r.sequence) → Does c row old next → MarkIs c (read row) was new
+pub taken : (g : Geometry) (records : List (Option Record)) (read : ℕ → Bool) (row n : ℕ) (r : Record) (ls : List Latest) (ms : List Mark) (old next : Latest) (new : Mark) (c : Change) → Shows g records read row ls ms → AreSized g ls ms
+    → sector_in g r ≡ Some n → get_or records row None ≡ Some r → old ≡ get_or ls n old → next ≡ step old row (Some r.sequence) → Does c row old next → MarkIs c (read row) (get_or ms n mark.Untried) new
     → Shows g records read (row + 1) (set ls n next) (set ms n new)
-taken g records read row n r ls ms old next was new c h sized in_die at old_is was_is next_is does is =
+taken g records read row n r ls ms old next new c h sized in_die at old_is next_is does is =
     let its = within_is g r n in_die in
     let in_range : n < g.sectors = its.1 in
     let ls_size : length ls ≡ g.sectors = sized.latest_size in
@@ -104,8 +106,8 @@ taken g records read row n r ls ms old next was new c h sized in_die at old_is w
     let more = here records row n r at its.0 in
     let held : old ≡ latest_below records (key.Sector n) row = old_is ∙ (get_or_default ls n old latest.Never (omega arith) ∙ h.latest_is n in_range) in
     let after : next ≡ latest_below records (key.Sector n) (row + 1) = next_is ∙ (ap (λ l. step l row (Some r.sequence)) held ∙ sym more) in
-    let stood : was ≡ mark_by read old = was_is ∙ (get_or_default ms n was mark.Untried (omega arith) ∙ (h.mark_is n in_range ∙ ap (mark_by read) (sym held))) in
-    let made : new ≡ mark_by read next = marked read row c old next was new does stood is in
+    let stood : get_or ms n mark.Untried ≡ mark_by read old = h.mark_is n in_range ∙ ap (mark_by read) (sym held) in
+    let made : new ≡ mark_by read next = marked read row c old next (get_or ms n mark.Untried) new does stood is in
     record {
       latest_is = λ m l. elim (cases_eq m n) [
         | inl same ↦ ap (λ k. get_or (set ls n next) k latest.Never) same ∙ (get_or-set_same ls n next latest.Never (omega arith) ∙ (after ∙ ap (λ k. latest_below records (key.Sector k) (row + 1)) (sym same)))
@@ -119,6 +121,25 @@ taken g records read row n r ls ms old next was new c h sized in_die at old_is w
 
 pub taken_sized : (g : Geometry) (ls : List Latest) (ms : List Mark) (n : ℕ) (next : Latest) (new : Mark) → AreSized g ls ms → AreSized g (set ls n next) (set ms n new)
 taken_sized g ls ms n next new h = record { latest_size = length-set ls n next ∙ h.latest_size; marks_size = length-set ms n new ∙ h.marks_size }
+
+-- ---- the image as of a sequence
+
+until_size : (g : Geometry) (last : Option ℕ) (image : Image) → length (until g last image) ≡ length image
+unfolding until
+until_size g last image = length-map image (page_until g last)
+
+until_page : (g : Geometry) (last : Option ℕ) (image : Image) (row : ℕ) (p : Page) → slice_get image row ≡ Some p → slice_get (until g last image) row ≡ Some (page_until g last p)
+unfolding until
+until_page g last image row p at = slice_get-map (page_until g last) image row ∙ ap (option_map (page_until g last)) at
+
+-- a page that does not count has no record
+counted_record : (g : Geometry) (last : Option ℕ) (p : Page) → record_of (page_until g last p) ≡ counted last (record_of p)
+counted_record g None p = refl
+counted_record g (Some l) p = by (is_later l (record_of p))
+  where
+    by : (b : Bool) → record_of (cond b (erased_page g) p) ≡ cond b None (record_of p)
+    by true = erased_unsound g
+    by false = refl
 
 -- ---- before the first row, and behind the last one
 

@@ -1,5 +1,5 @@
 //! The readings that a dump was made of, which are read at whatever place.
-ghost use Rattle.std.specs.Prelude.{◌≡◌, ◌↔◌, ℕ, List, Some, true, length, map, IfOk, IfErr, OnOk, OnErr};
+ghost use Rattle.std.specs.Prelude.{◌≡◌, ◌↔◌, ◌<◌, ℕ, List, Some, true, false, length, get_or, map, IfOk, IfErr, OnOk, OnErr};
 ghost use Rattle.lab_dump.specs.Scan.{image_bytes};
 ghost use Rattle.lab_origin.specs.Origin.{has_at};
 ghost use Rattle.lab_origin.specs.Tracing.{Tell, have_at};
@@ -18,6 +18,12 @@ pub enum ReadingFault {
     /// It could not be read.
     #[error("reading {0} could not be read")]
     Source(usize),
+}
+
+// The reading of this number could not be read.
+#[derive(Clone, Copy)]
+pub(crate) struct Unread {
+    pub(crate) reading: usize,
 }
 
 // Whether a reading has these bytes from this place on.
@@ -43,19 +49,19 @@ pub(crate) fn have_piece<D: Dump>(
     at: u64,
     piece: &[u8],
     other: &mut [u8],
-) -> Result<bool, ReadingFault>
+) -> Result<bool, Unread>
     requires { length other.old ≡ length piece.now }
     ensures found { IfOk result (λ found. (files : List (List ℕ)) → Tell (map D.bytes readings.old) files → found ≡ have_at at piece.now files) }
     ensures same { map D.bytes readings.new ≡ map D.bytes readings.old }
     ensures size { length other.new ≡ length other.old }
-    ensures fault { IfErr result (IsPinned (map D.failed readings.new)) }
-    ensures reading { IfErr result (IsOfReading (length readings.old)) }
+    ensures failed { IfErr result (λ unread. get_or (map D.failed readings.new) unread.reading false ≡ true) }
+    ensures reading { IfErr result (λ unread. unread.reading < length readings.old) }
 {
     for place in 0..readings.len() {
         match has_piece(&mut readings[place], at, piece, other) {
             Ok(true) => return Ok(true),
             Ok(false) => (),
-            Err(_) => return Err(ReadingFault::Source(place)),
+            Err(_) => return Err(Unread { reading: place }),
         }
     }
     Ok(false)

@@ -1,5 +1,5 @@
 //! A dump is held beside the readings that it was made of, row by row.
-ghost use Rattle.std.specs.Prelude.{◌≡◌, ◌<◌, ◌+◌, ◌*◌, ◌^◌, ℕ, Bool, List, Option, Some, None, length, map, get_or, slice_range, IfOk, IfErr, OnOk, OnErr, true};
+ghost use Rattle.std.specs.Prelude.{◌≡◌, ◌<◌, ◌+◌, ◌*◌, ◌^◌, ℕ, Bool, List, Option, Some, None, length, map, get_or, slice_range, IfOk, IfErr, OnOk, OnErr, true, false};
 ghost use Rattle.page_layout.specs.declared.record.Record.{Record};
 ghost use Rattle.page_layout.specs.Geometry.{page_bytes, row_count};
 ghost use Rattle.page_layout.specs.Sound.{record_of};
@@ -9,11 +9,11 @@ ghost use Rattle.lab_dump.specs.Until.{counted};
 ghost use Rattle.page_layout.specs.Array.{marks};
 ghost use Rattle.lab_origin.specs.Origin.{image_of, is_read, read_mark};
 ghost use Rattle.lab_origin.specs.Tracing.{AreSized, IsOriginRoom, Shows, Tell, have_at};
-ghost use Rattle.lab_origin.specs.Traced.{AreWhole, ArePinned, IsOfReading, IsOfSome, IsPinned, IsTraced, IsUntraced};
+ghost use Rattle.lab_origin.specs.Traced.{AreWhole, ArePinned, IsOfSome, IsTraced, IsUntraced};
 
 use crate::mark::{Mark, read_mark};
 use crate::newest::{Change, counted, sector_in, step};
-use crate::readings::{ReadingFault, expect_whole, have_piece, is_whole};
+use crate::readings::{ReadingFault, Unread, expect_whole, have_piece, is_whole};
 use crate::room::OriginRoom;
 use lab_dump::{Dump, DumpFault};
 use page_layout::geometry::Geometry;
@@ -57,6 +57,18 @@ impl From<ReadingFault> for OriginFault {
     }
 }
 
+impl From<Unread> for OriginFault {
+    ghost use Rattle.std.specs.Prelude.{◌≡◌};
+    ghost use Rattle.lab_origin.specs.declared.readings.ReadingFault.{ReadingFault};
+    ghost use Rattle.lab_origin.specs.declared.trace.OriginFault.{OriginFault};
+
+    ghost from_gives = { λ unread fault. fault ≡ OriginFault.Reading (ReadingFault.Source unread.reading) };
+
+    fn from(unread: Unread) -> OriginFault {
+        OriginFault::Reading(ReadingFault::Source(unread.reading))
+    }
+}
+
 // What is held of each sector while the rows pass.
 #[derive(Drop)]
 struct Tracing {
@@ -72,13 +84,13 @@ fn mark_of<D: Dump>(
     at: u64,
     page: &[u8],
     other: &mut [u8],
-) -> Result<Mark, ReadingFault>
+) -> Result<Mark, Unread>
     requires { length other.old ≡ length page.now }
     ensures mark { IfOk result (λ mark. (files : List (List ℕ)) → Tell (map D.bytes readings.old) files → mark ≡ read_mark (have_at at page.now files)) }
     ensures same { map D.bytes readings.new ≡ map D.bytes readings.old }
     ensures size { length other.new ≡ length other.old }
-    ensures fault { IfErr result (IsPinned (map D.failed readings.new)) }
-    ensures reading { IfErr result (IsOfReading (length readings.old)) }
+    ensures failed { IfErr result (λ unread. get_or (map D.failed readings.new) unread.reading false ≡ true) }
+    ensures reading { IfErr result (λ unread. unread.reading < length readings.old) }
 {
     Ok(read_mark(have_piece(readings, at, page, other)?))
 }
@@ -93,7 +105,7 @@ impl Tracing {
         found: &Record,
         page: &[u8],
         other: &mut [u8],
-    ) -> Result<(), ReadingFault>
+    ) -> Result<(), Unread>
         requires row_in { row < row_count geometry.now }
         requires page_whole { length page.now ≡ page_bytes geometry.now }
         requires other_whole { length other.old ≡ page_bytes geometry.now }
@@ -105,8 +117,8 @@ impl Tracing {
         ensures until { self.new.until ≡ self.old.until }
         ensures same { map D.bytes readings.new ≡ map D.bytes readings.old }
         ensures size { length other.new ≡ length other.old }
-        ensures fault { IfErr result (IsPinned (map D.failed readings.new)) }
-        ensures reading { IfErr result (IsOfReading (length readings.old)) }
+        ensures failed { IfErr result (λ unread. get_or (map D.failed readings.new) unread.reading false ≡ true) }
+        ensures reading { IfErr result (λ unread. unread.reading < length readings.old) }
     {
         let Some(sector) = sector_in(geometry, found) else {
             return Ok(());
@@ -131,7 +143,7 @@ impl Tracing {
         row: u32,
         page: &[u8],
         other: &mut [u8],
-    ) -> Result<(), ReadingFault>
+    ) -> Result<(), Unread>
         requires row_in { row < row_count geometry.now }
         requires page_whole { length page.now ≡ page_bytes geometry.now }
         requires other_whole { length other.old ≡ page_bytes geometry.now }
@@ -144,8 +156,8 @@ impl Tracing {
         ensures until { self.new.until ≡ self.old.until }
         ensures same { map D.bytes readings.new ≡ map D.bytes readings.old }
         ensures size { length other.new ≡ length other.old }
-        ensures fault { IfErr result (IsPinned (map D.failed readings.new)) }
-        ensures reading { IfErr result (IsOfReading (length readings.old)) }
+        ensures failed { IfErr result (λ unread. get_or (map D.failed readings.new) unread.reading false ≡ true) }
+        ensures reading { IfErr result (λ unread. unread.reading < length readings.old) }
     {
         let (body, spare) = page.split_at(geometry.data_bytes());
         match counted(self.until, read_record(geometry, body, spare)) {

@@ -10,6 +10,7 @@ mod files;
 mod geometry_rows;
 mod history_rows;
 mod merge_rows;
+mod origin_rows;
 mod pages;
 mod repair_rows;
 mod report_rows;
