@@ -123,6 +123,14 @@ fn note_file<'a, F: LabFiles>(
     ensures no_more { AnswersNoMore (F.answers files.old) (F.answers files.new) }
     ensures kept { F.kept files.new ≡ F.kept files.old }
 {
+    // what is no file may not give its bytes twice
+    match files.standing(path) {
+        Ok(Standing::File | Standing::Nothing) => {}
+        Ok(Standing::Other) | Err(FileFault::Failed) => {
+            return Err(CustodyFault::Lab(LabFault::Read(path)));
+        }
+        Err(FileFault::OutOfMemory) => return Err(CustodyFault::Lab(LabFault::OutOfMemory)),
+    }
     let mut reader = match files.open(path, Progress::Hidden) {
         Ok(reader) => reader,
         Err(FileFault::Failed) => return Err(CustodyFault::Lab(LabFault::Read(path))),
@@ -138,7 +146,7 @@ fn note_file<'a, F: LabFiles>(
 ///
 /// # Errors
 ///
-/// `Read` of the first that cannot be read whole, `OutOfMemory` where the files had no memory to open it. (This project's.)
+/// `Read` of the first that cannot be read whole or is no file, `OutOfMemory` where the files had no memory to open it. (This project's.)
 pub(crate) fn note_files<'a, F: LabFiles>(
     files: &mut F,
     paths: &[&'a str],
