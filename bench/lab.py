@@ -1097,6 +1097,14 @@ def refusals(folder):
         (["merge", "64,32,8,32,32", "/dev/null", "dump.bin", "dump.bin", "--force"], (1, "", "refused out 3 NoFile\n")),
         (["geometry", "no\ndump\x1b[2J\x9b2J é\\\x7f"], (3, "", "fault read no\\x0adump\\x1b[2J\\xc2\\x9b2J é\\x5c\\x7f\n")),
         (["survey", "64,32\r", "dump.bin"], (2, "", "usage: bad number 64,32\\x0d\n")),
+        (["geometry", "dump.bin", "--report", "dump.bin"], (1, "", "refused report 1 Exists\n")),
+        (["array", "64,32,8,32,32", "dump.bin", "out.bin", "--report", "./out.bin"], (1, "", "refused report 2 IsOut\n")),
+        (["array", "64,32,8,32,32", "dump.bin", "out.bin", "--map", "told.json", "--report", "told.json"], (1, "", "refused report 2 IsOut\n")),
+        (["survey", "64,32,8,32,32", "/dev/zero", "--report", "told.json"], (3, "", "fault read /dev/zero\n")),
+        (["survey", "64,32,8,32,32", "none.bin", "--report", "told.json"], (3, "", "fault read none.bin\n")),
+        (["verify", "none.json"], (3, "", "fault read none.json\n")),
+        (["verify", "dump.bin"], (1, "", "refused verify 1 NotReport\n")),
+        (["verify", "dump.bin", "--report", "told.json"], (2, "", NONE)),
         (["arrays"], (2, "", NONE)),
         ([], (2, "", NONE)),
         (["--version"], (0, "nandlab 0.1.0\n", "")),
@@ -1149,6 +1157,7 @@ def full_dump(path, g):
 def spent(words, folder):
     best = None
     for _ in range(3):
+        (folder / "told.json").unlink(missing_ok=True)
         start = time.monotonic()
         subprocess.run(words, cwd=folder, check=True, capture_output=True)
         took = time.monotonic() - start
@@ -1177,6 +1186,21 @@ def times(folder):
     ]:
         made = spent([LAB, *words], folder)
         print(f"nandlab {words[0]} {made:.3f} s, {made / hashed:.2f} times, {measure.run([LAB, *words])[1]} KiB")
+    for words, names in [
+        (["survey", g.words(), "dump.bin"], ["dump.bin"]),
+        (["array", g.words(), "dump.bin", "out.bin", "--force", "--map", "out.map"], ["dump.bin", "out.bin", "out.map"]),
+        (["merge", g.words(), "out.bin", "dump.bin", "dump.bin", "--force"], ["dump.bin", "dump.bin", "out.bin"]),
+    ]:
+        plain = spent([LAB, *words], folder)
+        told = spent([LAB, *words, "--report", "told.json"], folder)
+        print(f"nandlab {words[0]} --report {told - plain:.3f} s more, sha256sum of its files {spent(['sha256sum', *names], folder):.3f} s")
+    print(f"nandlab verify {spent([LAB, 'verify', told_of(folder)], folder):.3f} s, sha256sum of its files {spent(['sha256sum', 'dump.bin'], folder):.3f} s")
+
+
+def told_of(folder):
+    """A report of a survey, under a name that stays."""
+    subprocess.run([LAB, "survey", "2048,64,64,512,20000", "dump.bin", "--report", "kept.json"], cwd=folder, check=True, capture_output=True)
+    return "kept.json"
 
 
 def main():

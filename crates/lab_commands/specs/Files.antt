@@ -1,5 +1,5 @@
 -- What the files that are read may answer, and those that were put in their places.
-use Rattle.std.specs.Prelude.{◌≡◌, ◌≢◌, ℕ, suc, ◌-◌, Bool, true, false, List, [], ◌∷◌, ◌++◌, Option, IfSome, IsSome, All, take, Result, Ok, Err}
+use Rattle.std.specs.Prelude.{◌≡◌, ◌≢◌, ℕ, suc, ◌-◌, Bool, true, false, List, [], ◌∷◌, ◌++◌, Option, Some, IfSome, IsSome, All, take, Result, Ok, Err}
 use Rattle.std.specs.List.{concat}
 use Rattle.std.specs.Option.{option_map}
 use Rattle.lab_commands.specs.declared.files.FileFault.{FileFault}
@@ -98,11 +98,11 @@ abbrev pub kept_after : Option Store → List ℕ → Option (List (List ℕ)) �
 kept_after store path pieces over (Ok done) = with_kept store path pieces over
 kept_after store path pieces over (Err fault) = store
 
--- what a file gives that was put in its place: what was put there last, where both are known
+-- a file that was put in its place tells what was put there last, where that is known
 abbrev pub IsAsPut : Option Store → List ℕ → Option (List ℕ) → Type 0
 IsAsPut store path known =
     IfSome store (λ s. (front back : List Kept) (last : Kept) → s.put ≡ front ++ last ∷ back → last.path ≡ path → All (λ other. other.path ≢ path) back
-    → IfSome last.pieces (λ pieces. IfSome known (λ bytes. bytes ≡ concat pieces)))
+    → IfSome last.pieces (λ pieces. known ≡ Some (concat pieces)))
 
 -- why a file does not get its name: a call failed, or another file has it meanwhile, and may not be replaced
 abbrev pub IsUnkept : Answers → List ℕ → Bool → KeepFault → Type 0

@@ -1,3 +1,4 @@
 pub mod LineLemmas
 pub mod CheckLemmas
 pub mod ReportLemmas
+pub mod LawLemmas

@@ -8,8 +8,8 @@ use Rattle.lab_commands.specs.declared.text.LabFault.{LabFault}
 use Rattle.lab_commands.specs.declared.text.LabFault.TheVariants as lab
 use Rattle.lab_commands.specs.Files.{Answers, AnswersNoMore, Store}
 use Rattle.lab_commands.proofs.UndoneLemmas.{opened_before}
-use Rattle.lab_report.specs.declared.note.FileNote.{FileNote}
-use Rattle.lab_report.specs.Note.{Note, note_of}
+use Rattle.lab_report.specs.declared.note.Noted.{Noted}
+use Rattle.lab_report.specs.Note.{Note, noted_of}
 use Rattle.lab_custody.specs.declared.fault.CustodyFault.{CustodyFault}
 use Rattle.lab_custody.specs.declared.fault.CustodyFault.TheVariants as fault
 use Rattle.lab_custody.specs.Reported.{AreNoted, IsNoted, IsSomeUnnoted, IsUnnoted, IsUnstored}
@@ -31,21 +31,21 @@ are_noted_more a kept (p ∷ ps) [] path note are is = absurd are
 are_noted_more a kept (p ∷ ps) (n ∷ ns) path note are is = (are.0, are_noted_more a kept ps ns path note are.1 is)
 
 -- one more file
-pub one_noted : (a b : Answers) (kept later : Option Store) (paths : List (Bor (List ℕ))) (i : ℕ) (d : Bor (List ℕ)) (notes longer : List FileNote) (note : FileNote) → i < length paths
-    → AnswersNoMore a b → later ≡ kept → AreNoted a kept (texts (take i paths)) (map note_of notes) → IsNoted b later (get_or paths i d).now (note_of note) → longer ≡ notes ++ note ∷ []
-    → AreNoted a kept (texts (take (i + 1) paths)) (map note_of longer)
+pub one_noted : (a b : Answers) (kept later : Option Store) (paths : List (Bor (List ℕ))) (i : ℕ) (d : Bor (List ℕ)) (notes longer : List Noted) (note : Noted) → i < length paths
+    → AnswersNoMore a b → later ≡ kept → AreNoted a kept (texts (take i paths)) (map noted_of notes) → IsNoted b later (get_or paths i d).now (noted_of note) → longer ≡ notes ++ note ∷ []
+    → AreNoted a kept (texts (take (i + 1) paths)) (map noted_of longer)
 one_noted a b kept later paths i d notes longer note within h same are is pushed =
     let at : texts (take (i + 1) paths) ≡ texts (take i paths) ++ (get_or paths i d).now ∷ [] =
     ap texts (take_more paths i d within) ∙ map-append (λ (w : Bor (List ℕ)). w.now) (take i paths) (get_or paths i d ∷ []) in
-    let noted : map note_of longer ≡ map note_of notes ++ note_of note ∷ [] = ap (map note_of) pushed ∙ map-append note_of notes (note ∷ []) in
-    let here : IsNoted a kept (get_or paths i d).now (note_of note) =
-    noted_before a b kept (get_or paths i d).now (note_of note) h (subst (λ k. IsNoted b k (get_or paths i d).now (note_of note)) same is) in
-    subst (λ ps. AreNoted a kept ps (map note_of longer)) (sym at) (subst (λ ns. AreNoted a kept (texts (take i paths) ++ (get_or paths i d).now ∷ []) ns) (sym noted)
-    (are_noted_more a kept (texts (take i paths)) (map note_of notes) (get_or paths i d).now (note_of note) are here))
+    let noted : map noted_of longer ≡ map noted_of notes ++ noted_of note ∷ [] = ap (map noted_of) pushed ∙ map-append noted_of notes (note ∷ []) in
+    let here : IsNoted a kept (get_or paths i d).now (noted_of note) =
+    noted_before a b kept (get_or paths i d).now (noted_of note) h (subst (λ k. IsNoted b k (get_or paths i d).now (noted_of note)) same is) in
+    subst (λ ps. AreNoted a kept ps (map noted_of longer)) (sym at) (subst (λ ns. AreNoted a kept (texts (take i paths) ++ (get_or paths i d).now ∷ []) ns) (sym noted)
+    (are_noted_more a kept (texts (take i paths)) (map noted_of notes) (get_or paths i d).now (noted_of note) are here))
 
 unnoted_before : (a b : Answers) (path : List ℕ) (told : CustodyFault) → AnswersNoMore a b → IsUnnoted b path told → IsUnnoted a path told
 unnoted_before a b path (fault.Lab (lab.Read word)) h k = (k.0, unread_before a b path h k.1)
-unnoted_before a b path (fault.Lab lab.OutOfMemory) h k = tt
+unnoted_before a b path (fault.Lab lab.OutOfMemory) h k = h.fails_same path file.OutOfMemory k
 unnoted_before a b path _ h k = absurd k
 
 -- the path in a place

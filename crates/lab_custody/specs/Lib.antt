@@ -5,3 +5,4 @@ pub mod Verified
 pub mod Words
 pub mod Reported
 pub mod Program
+pub mod Laws

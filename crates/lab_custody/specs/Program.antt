@@ -20,11 +20,11 @@ use Rattle.lab_custody.specs.Words.{IsCustody}
 
 -- ---- a report
 
--- why a command was not begun: no report may be written, memory was refused, or a file that it reads cannot be read
-abbrev pub IsUnbegun : Answers → ReportedWords → CustodyFault → Type 0
-IsUnbegun a asked told =
+-- why a command was not begun: no report may be written, memory was refused before a file was opened, or a file that it reads cannot be read
+abbrev pub IsUnbegun : Answers → ReportedWords → (opens opened : Option ℕ) → CustodyFault → Type 0
+IsUnbegun a asked opens opened told =
     MayNotReport a asked.file.now (texts asked.wrote.items) told
-    ⊎ (MayReport a asked.file.now (texts asked.wrote.items) × ((told ≡ fault.Lab lab.OutOfMemory) ⊎ IsSomeUnnoted a (texts asked.read.items) told))
+    ⊎ (MayReport a asked.file.now (texts asked.wrote.items) × (((told ≡ fault.Lab lab.OutOfMemory) × (opened ≡ opens)) ⊎ IsSomeUnnoted a (texts asked.read.items) told))
 
 -- why no report was written of one that was done: a file that it wrote cannot be read, or the report was not stored
 abbrev pub IsUnfinished : Answers → ReportedWords → CustodyFault → Type 0
@@ -55,9 +55,9 @@ pub record HasReported {F : Type 0} (answers : F → Answers) (kept : F → Opti
   pub wrote : WroteReport (answers done) words asked read (kept done) (kept new)
 
 -- it was not begun, and nothing was done
-pub record IsNotBegun {F : Type 0} (answers : F → Answers) (kept : F → Option Store) (asked : ReportedWords) (old new : F) (out err : Written) (status : ℕ) : Type 0 where
+pub record IsNotBegun {F : Type 0} (answers : F → Answers) (kept : F → Option Store) (opened : F → Option ℕ) (asked : ReportedWords) (old new : F) (out err : Written) (status : ℕ) : Type 0 where
   pub why : CustodyFault
-  pub is : IsUnbegun (answers old) asked why
+  pub is : IsUnbegun (answers old) asked (opened old) (opened new) why
   pub same : kept new ≡ kept old
   pub silent : Keeps out.before out.after
   pub told : IsTold why err.broke err.before err.after status
@@ -87,7 +87,7 @@ pub record IsNotReported {F : Type 0} (answers : F → Answers) (kept : F → Op
 abbrev pub IsRunReported : {F : Type 0} → (F → Answers) → (F → Option Store) → (F → Option ℕ) → List (List ℕ) → ReportedWords → (old new : F) → (out err : Written) → ℕ → Type 0
 IsRunReported answers kept opened words asked old new out err status =
     ((status ≡ 0) × HasReported answers kept opened words asked old new out err)
-    ⊎ IsNotBegun answers kept asked old new out err status
+    ⊎ IsNotBegun answers kept opened asked old new out err status
     ⊎ IsNotDone answers kept opened words asked old new out err status
     ⊎ IsNotReported answers kept opened words asked old new out err status
 

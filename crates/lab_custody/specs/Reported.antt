@@ -46,10 +46,10 @@ AreNoted a kept [] (note ∷ notes) = ⊥
 AreNoted a kept (path ∷ paths) [] = ⊥
 AreNoted a kept (path ∷ paths) (note ∷ notes) = IsNoted a kept path note × AreNoted a kept paths notes
 
--- one was not read whole, or memory was refused
+-- one was not read whole, or the files had no memory to open it
 abbrev pub IsUnnoted : Answers → List ℕ → CustodyFault → Type 0
 IsUnnoted a path (fault.Lab (lab.Read told)) = (told.now ≡ path) × IsUnread a path
-IsUnnoted a path (fault.Lab lab.OutOfMemory) = Unit {0}
+IsUnnoted a path (fault.Lab lab.OutOfMemory) = a.fails path file.OutOfMemory
 IsUnnoted a path _ = ⊥
 
 abbrev pub IsSomeUnnoted : Answers → List (List ℕ) → CustodyFault → Type 0

@@ -5,6 +5,7 @@
 mod checks;
 mod fault;
 mod hashing;
+mod laws;
 mod lines;
 mod program;
 mod reported;
@@ -12,4 +13,5 @@ mod verify;
 mod words;
 
 pub use checks::Verdict;
+pub use laws::custody_laws;
 pub use program::run;

@@ -1,38 +1,32 @@
 //! The program's commands, with reports and the command that reads them again.
-ghost use Rattle.std.specs.Prelude.{◌≡◌, ◌<◌, length, map, IfOk, IfErr, OnOk, OnErr};
+ghost use Rattle.std.specs.Prelude.{◌≡◌, ◌<◌, ◌≤◌, [], length, map, vec_capacity, IfOk, IfErr, OnOk, OnErr};
 ghost use Rattle.program_words.specs.Met.{texts};
 ghost use Rattle.lab_commands.specs.Files.{AnswersNoMore};
-ghost use Rattle.lab_report.specs.Note.{note_of};
+ghost use Rattle.lab_report.specs.Note.{noted_of};
 ghost use Rattle.lab_custody.specs.Program.{IsRun, IsRunReported, IsUnbegun, IsUnfinished, WroteReport};
 ghost use Rattle.lab_custody.specs.Reported.{AreNoted, MayReport};
 
 use crate::fault::{CustodyFault, tell};
-use crate::reported::{allow_report, note_files, store_report};
-use crate::verify::{BUFFER, verify_command};
+use crate::reported::{Notes, allow_report, note_files, store_report, take_notes};
+use crate::verify::verify_command;
 use crate::words::{Custody, ReportedWords, custody_of};
 use lab_commands::{LabFault, LabFiles, Output, run as run_lab};
-use lab_report::FileNote;
 use std::alloc::Global;
 
 const DONE: u8 = 0;
-
-// What is kept of a run until its report is written: the bytes that are hashed at once, and what is said of the files that were read.
-#[derive(Drop)]
-struct Begun {
-    buffer: Vec<u8>,
-    read: Vec<FileNote>,
-}
 
 // What comes before a command that is told in a report.
 fn begin<'a, F: LabFiles>(
     alloc: Global,
     asked: &ReportedWords<'a>,
     files: &mut F,
-) -> Result<Begun, CustodyFault<'a>>
+) -> Result<Notes<'a>, CustodyFault<'a>>
     ensures may { OnOk result (MayReport (F.answers files.old) asked.now.file.now (texts asked.now.wrote.items)) }
-    ensures buffer { IfOk result (λ begun. 0 < length begun.buffer.items) }
-    ensures noted { IfOk result (λ begun. AreNoted (F.answers files.old) (F.kept files.old) (texts asked.now.read.items) (map note_of begun.read.items)) }
-    ensures fault { IfErr result (IsUnbegun (F.answers files.old) asked.now) }
+    ensures noted { IfOk result (λ notes. AreNoted (F.answers files.old) (F.kept files.old) (texts asked.now.read.items) (map noted_of notes.read.items)) }
+    ensures buffer { IfOk result (λ notes. 0 < length notes.buffer.items) }
+    ensures none { IfOk result (λ notes. notes.wrote.items ≡ []) }
+    ensures places { IfOk result (λ notes. length asked.now.wrote.items ≤ vec_capacity notes.wrote) }
+    ensures fault { IfErr result (IsUnbegun (F.answers files.old) asked.now (F.opened files.old) (F.opened files.new)) }
     ensures no_more { AnswersNoMore (F.answers files.old) (F.answers files.new) }
     ensures kept { F.kept files.new ≡ F.kept files.old }
 {
@@ -40,12 +34,12 @@ fn begin<'a, F: LabFiles>(
         Ok(()) => {}
         Err(fault) => return Err(fault),
     }
-    let mut buffer = match vec![in alloc; 0u8; BUFFER] {
-        Ok(buffer) => buffer,
+    let mut notes = match take_notes(alloc, asked.read.len(), asked.wrote.len()) {
+        Ok(notes) => notes,
         Err(_) => return Err(CustodyFault::Lab(LabFault::OutOfMemory)),
     };
-    match note_files(alloc, files, &asked.read, &mut buffer) {
-        Ok(read) => Ok(Begun { buffer, read }),
+    match note_files(files, &asked.read, &mut notes.buffer, &mut notes.read) {
+        Ok(()) => Ok(notes),
         Err(fault) => Err(fault),
     }
 }
@@ -56,18 +50,19 @@ fn finish<'a, F: LabFiles>(
     words: &[&str],
     asked: &ReportedWords<'a>,
     files: &mut F,
-    begun: &mut Begun,
+    notes: &mut Notes<'a>,
 ) -> Result<(), CustodyFault<'a>>
-    requires { 0 < length begun.old.buffer.items }
-    ensures ok { OnOk result (WroteReport (F.answers files.old) (texts words.now) asked.now (map note_of begun.old.read.items) (F.kept files.old) (F.kept files.new)) }
+    requires buffer { 0 < length notes.old.buffer.items }
+    requires none { notes.old.wrote.items ≡ [] }
+    requires places { length asked.now.wrote.items ≤ vec_capacity notes.old.wrote }
+    ensures ok { OnOk result (WroteReport (F.answers files.old) (texts words.now) asked.now (map noted_of notes.old.read.items) (F.kept files.old) (F.kept files.new)) }
     ensures fault { IfErr result (IsUnfinished (F.answers files.old) asked.now) }
     ensures kept { OnErr result (F.kept files.new ≡ F.kept files.old) }
 {
-    let wrote = match note_files(alloc, files, &asked.wrote, &mut begun.buffer) {
-        Ok(wrote) => wrote,
-        Err(fault) => return Err(fault),
-    };
-    store_report(alloc, files, asked.file, words, &begun.read, &wrote)
+    match note_files(files, &asked.wrote, &mut notes.buffer, &mut notes.wrote) {
+        Ok(()) => store_report(alloc, files, asked.file, words, &notes.read, &notes.wrote),
+        Err(fault) => Err(fault),
+    }
 }
 
 // Runs a command that is told in a report.
@@ -83,15 +78,15 @@ fn run_reported<'a, F: LabFiles, W: Output, E: Output>(
         (record { before = W.contents out.old; after = W.contents out.new; broke = W.failed out.new })
         (record { before = E.contents err.old; after = E.contents err.new; broke = E.failed err.new }) result }
 {
-    let mut begun = match begin(alloc, asked, files) {
-        Ok(begun) => begun,
+    let mut notes = match begin(alloc, asked, files) {
+        Ok(notes) => notes,
         Err(fault) => return tell(alloc, &fault, err),
     };
     let status = run_lab(alloc, words, files, out, err);
     if status != DONE {
         return status;
     }
-    match finish(alloc, words, asked, files, &mut begun) {
+    match finish(alloc, words, asked, files, &mut notes) {
         Ok(()) => DONE,
         Err(fault) => tell(alloc, &fault, err),
     }

@@ -1,18 +1,19 @@
 //! A command whose run is told in a report: the files that it reads are hashed before it runs, and those that it wrote are read once more.
-ghost use Rattle.std.specs.Prelude.{◌≡◌, ◌<◌, ◌∷◌, [], false, length, map, Some, IfOk, IfErr, OnOk, OnErr};
+ghost use Rattle.std.specs.Prelude.{◌≡◌, ◌<◌, ◌≤◌, ◌∷◌, [], false, length, map, vec_capacity, Some, IfOk, IfErr, OnOk, OnErr};
 ghost use Rattle.program_words.specs.Met.{texts};
 ghost use Rattle.lab_commands.specs.Files.{AnswersNoMore, with_kept};
-ghost use Rattle.lab_report.specs.Note.{note_of};
+ghost use Rattle.lab_report.specs.Note.{named_as, noted_of};
 ghost use Rattle.lab_report.specs.Written.{report_text};
 ghost use Rattle.lab_custody.specs.Reported.{AreNoted, IsNoted, IsSomeUnnoted, IsUnasked, IsUnnoted, IsUnstored, MayNotReport, MayReport, told_of_run};
 
 use crate::fault::CustodyFault;
 use crate::hashing::read_content;
+use crate::verify::BUFFER;
 use crate::words::ReportedWords;
 use lab_commands::{FileFault, KeepFault, LabFault, LabFiles, MapText, Progress, Standing};
 use lab_dump::{LineFault, MapWriter};
-use lab_report::{FileNote, Run, report_line};
-use std::alloc::Global;
+use lab_report::{Content, Noted, Run, report_line};
+use std::alloc::{AllocError, Global};
 
 const PROGRAM: &str = "nandlab";
 
@@ -78,60 +79,97 @@ pub(crate) fn allow_report<'a, F: LabFiles>(
     Ok(())
 }
 
-// What a report says of a file. The buffer is scratch.
-fn note_file<'a, F: LabFiles>(
+/// What is kept of a run until its report is written. All of its memory is taken before a file is opened.
+#[derive(Drop)]
+pub(crate) struct Notes<'a> {
+    /// The bytes that are hashed at once.
+    pub(crate) buffer: Vec<u8>,
+    /// What is said of the files that the command reads.
+    pub(crate) read: Vec<Noted<'a>>,
+    /// What is said of those that it writes.
+    pub(crate) wrote: Vec<Noted<'a>>,
+}
+
+/// Takes the memory of what is said of so many files.
+///
+/// # Errors
+///
+/// `AllocError` where it was refused. (This project's.)
+pub(crate) fn take_notes<'a>(
     alloc: Global,
+    read: usize,
+    wrote: usize,
+) -> Result<Notes<'a>, AllocError>
+    ensures buffer { IfOk result (λ notes. 0 < length notes.buffer.items) }
+    ensures none { IfOk result (λ notes. (notes.read.items ≡ []) × (notes.wrote.items ≡ [])) }
+    ensures places { IfOk result (λ notes. (read ≤ vec_capacity notes.read) × (wrote ≤ vec_capacity notes.wrote)) }
+{
+    Ok(Notes {
+        buffer: vec![in alloc; 0u8; BUFFER]?,
+        read: Vec::with_capacity(alloc, read)?,
+        wrote: Vec::with_capacity(alloc, wrote)?,
+    })
+}
+
+// What a report says of a file's bytes. The buffer is scratch.
+fn note_file<'a, F: LabFiles>(
     files: &mut F,
     path: &'a str,
     buffer: &mut [u8],
-) -> Result<FileNote, CustodyFault<'a>>
+) -> Result<Content, CustodyFault<'a>>
     requires { 0 < length buffer.old }
-    ensures noted { IfOk result (λ note. IsNoted (F.answers files.old) (F.kept files.old) path.now (note_of note)) }
+    ensures noted { IfOk result (λ content. IsNoted (F.answers files.old) (F.kept files.old) path.now (named_as path.now content)) }
     ensures fault { IfErr result (IsUnnoted (F.answers files.old) path.now) }
     ensures no_more { AnswersNoMore (F.answers files.old) (F.answers files.new) }
     ensures kept { F.kept files.new ≡ F.kept files.old }
 {
-    let name = String::from_str(alloc, path)?;
+    // what is no file may not give its bytes twice
+    match files.standing(path) {
+        Ok(Standing::File | Standing::Nothing) => {}
+        Ok(Standing::Other) | Err(FileFault::Failed) => {
+            return Err(CustodyFault::Lab(LabFault::Read(path)));
+        }
+        Err(FileFault::OutOfMemory) => return Err(CustodyFault::Lab(LabFault::OutOfMemory)),
+    }
     let mut reader = match files.open(path, Progress::Hidden) {
         Ok(reader) => reader,
         Err(FileFault::Failed) => return Err(CustodyFault::Lab(LabFault::Read(path))),
         Err(FileFault::OutOfMemory) => return Err(CustodyFault::Lab(LabFault::OutOfMemory)),
     };
     match read_content(&mut reader, buffer) {
-        Ok(content) => Ok(FileNote { name, content }),
+        Ok(content) => Ok(content),
         Err(_) => Err(CustodyFault::Lab(LabFault::Read(path))),
     }
 }
 
-/// What a report says of files, one after another. The buffer is scratch.
+/// What a report says of files, one after another. There is room for it, and the buffer is scratch.
 ///
 /// # Errors
 ///
-/// `Read` of the first that cannot be read whole, `OutOfMemory` where a growth was refused. (This project's.)
+/// `Read` of the first that cannot be read whole or is no file, `OutOfMemory` where the files had no memory to open it. (This project's.)
 pub(crate) fn note_files<'a, F: LabFiles>(
-    alloc: Global,
     files: &mut F,
     paths: &[&'a str],
     buffer: &mut [u8],
-) -> Result<Vec<FileNote>, CustodyFault<'a>>
-    requires { 0 < length buffer.old }
-    ensures noted { IfOk result (λ notes. AreNoted (F.answers files.old) (F.kept files.old) (texts paths.now) (map note_of notes.items)) }
+    notes: &mut Vec<Noted<'a>>,
+) -> Result<(), CustodyFault<'a>>
+    requires buffer { 0 < length buffer.old }
+    requires none { notes.old.items ≡ [] }
+    requires places { length paths.now ≤ vec_capacity notes.old }
+    ensures noted { OnOk result (AreNoted (F.answers files.old) (F.kept files.old) (texts paths.now) (map noted_of notes.new.items)) }
     ensures fault { IfErr result (IsSomeUnnoted (F.answers files.old) (texts paths.now)) }
     ensures no_more { AnswersNoMore (F.answers files.old) (F.answers files.new) }
     ensures kept { F.kept files.new ≡ F.kept files.old }
 {
-    let mut notes = Vec::new(alloc);
     for place in 0..paths.len() {
-        let note = match note_file(alloc, files, paths[place], buffer) {
-            Ok(note) => note,
+        let name = paths[place];
+        let content = match note_file(files, name, buffer) {
+            Ok(content) => content,
             Err(fault) => return Err(fault),
         };
-        match notes.push(note) {
-            Ok(()) => {}
-            Err(_) => return Err(CustodyFault::Lab(LabFault::OutOfMemory)),
-        }
+        notes.push_reserved(Noted { name, content });
     }
-    Ok(notes)
+    Ok(())
 }
 
 /// Puts the report of a run in its place.
@@ -145,10 +183,10 @@ pub(crate) fn store_report<'a, F: LabFiles>(
     files: &mut F,
     file: &'a str,
     words: &[&str],
-    read: &[FileNote],
-    wrote: &[FileNote],
+    read: &[Noted<'_>],
+    wrote: &[Noted<'_>],
 ) -> Result<(), CustodyFault<'a>>
-    ensures stored { OnOk result (F.kept files.new ≡ with_kept (F.kept files.old) file.now (Some (report_text (told_of_run (texts words.now) (map note_of read.now) (map note_of wrote.now)) ∷ [])) false) }
+    ensures stored { OnOk result (F.kept files.new ≡ with_kept (F.kept files.old) file.now (Some (report_text (told_of_run (texts words.now) (map noted_of read.now) (map noted_of wrote.now)) ∷ [])) false) }
     ensures fault { IfErr result (IsUnstored (F.answers files.old) file.now) }
     ensures kept { OnErr result (F.kept files.new ≡ F.kept files.old) }
 {

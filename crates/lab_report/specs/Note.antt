@@ -2,6 +2,7 @@
 use Rattle.std.specs.Prelude.{ℕ, List, map, string_bytes}
 use Rattle.lab_report.specs.declared.content.Content.{Content}
 use Rattle.lab_report.specs.declared.note.FileNote.{FileNote}
+use Rattle.lab_report.specs.declared.note.Noted.{Noted}
 use Rattle.lab_report.specs.declared.note.Report.{Report}
 
 -- a file: its name, how many bytes it has, and their SHA-256
@@ -16,6 +17,9 @@ named_as name content = record { name = name; bytes = content.length; sha256 = c
 
 abbrev pub note_of : FileNote → Note
 note_of file = named_as (string_bytes file.name) file.content
+
+abbrev pub noted_of : Noted → Note
+noted_of file = named_as file.name.now file.content
 
 -- a run: the program and its version, its words, the files that it read and those that it wrote
 pub record Told : Type 0 where

@@ -2,27 +2,27 @@
 ghost use Rattle.std.specs.Prelude.{◌≡◌, ◌∷◌, [], ◌++◌, Some, IfOk, map, string_bytes};
 ghost use Rattle.serde_json.specs.View.{view};
 ghost use Rattle.lab_report.specs.Laws.{HasDigests};
-ghost use Rattle.lab_report.specs.Note.{note_of};
+ghost use Rattle.lab_report.specs.Note.{noted_of};
 ghost use Rattle.lab_report.specs.Reading.{report_in};
 ghost use Rattle.lab_report.specs.Run.{told_of};
 ghost use Rattle.lab_report.specs.Written.{note_data, notes_data, report_data, report_text, words_data};
 
-use crate::note::FileNote;
+use crate::note::Noted;
 use serde_json::{Value, json};
 use std::alloc::{AllocError, Global};
 
 // The object of a file.
-fn note_value(alloc: Global, note: &FileNote) -> Result<Value, AllocError>
-    ensures { IfOk result (λ value. view value ≡ note_data (note_of note.now)) }
+fn note_value(alloc: Global, note: &Noted<'_>) -> Result<Value, AllocError>
+    ensures { IfOk result (λ value. view value ≡ note_data (noted_of note.now)) }
 {
     let digits = hex::encode(alloc, &note.content.sha256[..])?;
-    let (bytes, name, sha256) = (note.content.length, note.name.as_str(), digits.as_str());
+    let (bytes, name, sha256) = (note.content.length, note.name, digits.as_str());
     json!(in alloc; {"bytes": bytes, "name": name, "sha256": sha256})
 }
 
 // The array of files.
-fn notes_value(alloc: Global, notes: &[FileNote]) -> Result<Value, AllocError>
-    ensures { IfOk result (λ value. view value ≡ notes_data (map note_of notes.now)) }
+fn notes_value(alloc: Global, notes: &[Noted<'_>]) -> Result<Value, AllocError>
+    ensures { IfOk result (λ value. view value ≡ notes_data (map noted_of notes.now)) }
 {
     let mut values = Vec::new(alloc);
     for note in notes {
@@ -48,8 +48,8 @@ pub struct Run<'a> {
     pub program: &'a str,
     pub version: &'a str,
     pub words: &'a [&'a str],
-    pub read: &'a [FileNote],
-    pub wrote: &'a [FileNote],
+    pub read: &'a [Noted<'a>],
+    pub wrote: &'a [Noted<'a>],
 }
 
 // The object of a run.

@@ -1,6 +1,14 @@
 //! A report: what it says of a run and of its files.
 use crate::content::Content;
 
+/// A file of a run that is to be told in a report.
+#[derive(Clone, Copy)]
+pub struct Noted<'a> {
+    /// Its name, as the words of the run give it.
+    pub name: &'a str,
+    pub content: Content,
+}
+
 /// A file, as a report tells it.
 #[derive(Drop)]
 pub struct FileNote {

@@ -1,6 +1,5 @@
 //! The digests of outside vectors, and a report in its text and back.
-use crate::{Content, FileNote, Hashing, Run, content_of, read_report, report_line};
-use std::alloc::{AllocError, Global};
+use crate::{Content, Hashing, Noted, Run, content_of, read_report, report_line};
 use std::test::Fail;
 
 // What `sha256sum` prints of the three bytes of `abc`, and of no bytes.
@@ -10,13 +9,6 @@ const NONE: &str = "e3b0c44298fc1c149afbf4c8996fb92427ae41e4649b934ca495991b7852
 
 const LINE: &str =
     "{\"program\":\"nandlab\",\"read\":[{\"bytes\":3,\"name\":\"dump.bin\",\"sha256\":\"ba7816bf8f01cfea414140de5dae2223b00361a396177a9cb410ff61f20015ad\"}],\"version\":\"0.1.0\",\"words\":[\"nandlab\",\"survey\"],\"wrote\":[]}";
-
-fn note(alloc: Global, name: &str, bytes: &[u8]) -> Result<FileNote, AllocError> {
-    Ok(FileNote {
-        name: String::from_str(alloc, name)?,
-        content: content_of(bytes),
-    })
-}
 
 #[test]
 fn digests_are_those_of_sha256sum(rt: HostRuntime) -> Result<(), Fail> {
@@ -38,7 +30,10 @@ fn digests_are_those_of_sha256sum(rt: HostRuntime) -> Result<(), Fail> {
 #[test]
 fn a_report_reads_back(rt: HostRuntime) -> Result<(), Fail> {
     let alloc = rt.alloc();
-    let read = vec![in alloc; note(alloc, "dump.bin", b"abc")?]?;
+    let read = [Noted {
+        name: "dump.bin",
+        content: content_of(b"abc"),
+    }];
     let run = Run {
         program: "nandlab",
         version: "0.1.0",

@@ -77,6 +77,12 @@ const CASES: [Case; 3] = [
                 "refused verify 2 Changed\n",
             ),
             Step::Closed("nandlab verify told.json", 0),
+            Step::Run(
+                "nandlab geometry device --report new.json",
+                3,
+                "fault read device\n",
+            ),
+            Step::Lacks("new.json"),
         ],
     },
     Case {
