@@ -4,7 +4,7 @@ _nandlab()
     local word="${COMP_WORDS[COMP_CWORD]}" before="${COMP_WORDS[COMP_CWORD-1]}"
     COMPREPLY=()
     if [ "$COMP_CWORD" -eq 1 ]; then
-        mapfile -t COMPREPLY < <(compgen -W "geometry survey array history compare merge repair correct arrange --help --version" -- "$word")
+        mapfile -t COMPREPLY < <(compgen -W "geometry survey array history compare merge repair correct arrange origin --help --version" -- "$word")
         return
     fi
     case "$before" in
@@ -25,6 +25,7 @@ _nandlab()
             repair) mapfile -t COMPREPLY < <(compgen -W "--force --rows --bits --json --progress --help" -- "$word") ;;
             correct) mapfile -t COMPREPLY < <(compgen -W "--force --map --json --progress --help" -- "$word") ;;
             arrange) mapfile -t COMPREPLY < <(compgen -W "--force --from --json --progress --help" -- "$word") ;;
+            origin) mapfile -t COMPREPLY < <(compgen -W "--force --until --json --progress --help" -- "$word") ;;
         esac
         return
     fi

@@ -13,7 +13,9 @@ use crate::files::{LabFiles, Progress, Standing};
 use crate::maps::OriginMap;
 use crate::merge::is_some_dump;
 use crate::numbers::last_at;
-use crate::opening::{geometry_at, is_dump, may_replace, open_dump, progress_of, standing, store_map};
+use crate::opening::{
+    geometry_at, is_dump, may_replace, open_dump, progress_of, standing, store_map,
+};
 use crate::origin_words::OriginWords;
 use crate::output::Output;
 use crate::printing::{printer, unprinted};
@@ -169,7 +171,12 @@ fn put_origin<'a, F: LabFiles>(
     ensures fault { IfErr result (IsUnplaced (F.answers files.old) words.now.out.now words.now.force) }
     ensures kept { OnErr result (F.kept files.new ≡ F.kept files.old) }
 {
-    match store_map(files, words.out, &OriginMap { geometry, marks }, words.force) {
+    match store_map(
+        files,
+        words.out,
+        &OriginMap { geometry, marks },
+        words.force,
+    ) {
         Err(LabFault::MapExists) => Err(LabFault::Exists),
         done => done,
     }
