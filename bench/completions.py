@@ -14,7 +14,7 @@ from pathlib import Path
 TOP = Path(__file__).resolve().parent.parent
 GRAMMARS = {"nandlab": "lab_commands", "nanddisk": "disk_commands"}
 # words that name a file; GEOM, numbers and sizes are typed
-FILES = {"DUMP", "OUT", "CERT", "DISK", "IMAGE", "IN", "FILE"}
+FILES = {"DUMP", "OUT", "CERT", "DISK", "IMAGE", "IN", "FILE", "READING"}
 # the two words that `--sync` takes
 CHOICES = {"WHEN": ("erases", "always")}
 

@@ -33,7 +33,7 @@ LAB = str(Path(os.environ.get("LAB", BUILT)).resolve())
 
 
 NONE = "usage: no such command, see nandlab --help\n"
-COMMANDS = ["geometry", "survey", "array", "history", "compare", "merge", "repair", "correct", "arrange"]
+COMMANDS = ["geometry", "survey", "array", "history", "compare", "merge", "repair", "correct", "arrange", "origin"]
 FORMS = random.Random("forms")
 # which of the last lines some dump had, and whether one with factory marks left nothing open
 SEEN = set()
@@ -47,6 +47,8 @@ KINDS = ["sound", "differ", "majority", "turned", "erased", "unsound"]
 TRIED = collections.Counter()
 # how many runs of each command were told in a report
 REPORTED = collections.Counter()
+# how many sectors `origin` marked by each sign
+ORIGINS = collections.Counter()
 # how many sectors had no page, one, two, or more
 FOUND = collections.Counter()
 
@@ -89,6 +91,8 @@ def line_of(told, outside, rewritten):
         return " ".join(f"{name} {told[name]}" for name in ["turned", "rows", "lost"])
     if kind == "arranged":
         return f"arranged {told['rows']}"
+    if kind == "origin":
+        return origin_text(told["mended"])
     if kind == "merged":
         return " ".join(f"{name} {told[name]}" for name in KINDS)
     if kind in ("tied_row", "tried") and "bits" not in told:
@@ -226,6 +230,10 @@ def says_text(row, kind, number, sequence, newer):
 
 def damaged_text(count):
     return f"damaged {count}: so many sectors are shown as an unsound page reads, nothing sound being newer"
+
+
+def origin_text(count):
+    return f"mended {count}: so many sectors are shown of a page that none of the readings has"
 
 
 def legible_text(legible, others):
@@ -1027,6 +1035,50 @@ def merge_case(rng, folder):
     stored(rng, folder, ["merge", g.words(), "out.bin", *names], want, b"".join(page for page, _, _ in chosen))
 
 
+def origins_of(image, readings, last):
+    """The map of the array, with a sign of its own for each sector whose newest page no reading has, and how many there are."""
+    g, counts, signs, position = image.g, as_of(image, last), [], 0
+    for n in range(g.sectors):
+        state = key_state(counts, "sector", n)
+        if state == "found":
+            row = counts.newest("sector", n)
+            page = image.data[row] + image.spare[row]
+            state = "found" if any(pages_of(g, raw)[row] == page for raw in readings) else "mended"
+        signs.append({"found": "+", "mended": "*", "tied": "-", "absent": "?"}[state])
+    text = "# Mapfile of an array beside its readings, made by nandlab\n0x0 + 1\n"
+    for sign, area in itertools.groupby(signs):
+        size = g.data * len(list(area))
+        text += f"{position:#x} {size:#x} {sign}\n"
+        position += size
+    ORIGINS.update(signs)
+    return text, signs.count("*")
+
+
+def origin_case(rng, folder):
+    g, image = dump_for(rng)
+    break_some(rng, image)
+    readings = [damaged(rng, g, image.raw()) for _ in range(rng.choice([1, 1, 2, 3]))]
+    if rng.random() < 0.3:
+        dump = image.raw()
+    elif len(readings) == 1:
+        dump = mended(g, readings[0], range(g.rows))[0]
+    else:
+        dump = b"".join(choice(g, list(pages))[0] for pages in zip(*(pages_of(g, raw) for raw in readings)))
+    last = some_sequence(rng, image)
+    out, count = origins_of(ref.Image(g, dump), readings, last)
+    want, names = (0, origin_text(count) + "\n", ""), [f"reading{place}.bin" for place in range(len(readings))]
+    if rng.random() < 0.1:
+        place = rng.randrange(len(readings))
+        readings[place] = rng.choice([readings[place][:-1], readings[place] + b"\0"])
+        want = (1, "", f"refused merge 1 DumpLength {names[place]}\n")
+        if rng.random() < 0.3:
+            dump, want = dump[:-1], (1, "", "refused image 1 WrongLength\n")
+    for name, raw in zip(["dump.bin", *names], [dump, *readings]):
+        (folder / name).write_bytes(raw)
+    words = ["origin", g.words(), "out.bin", "dump.bin", *names, *([] if last is None else ["--until", str(last)])]
+    stored(rng, folder, words, want, out.encode())
+
+
 def refusals(folder):
     """What is refused whatever the dump."""
     (folder / "dump.bin").write_bytes(b"x")
@@ -1057,6 +1109,10 @@ def refusals(folder):
         (["survey", "64,32,8,32,32", "none.bin", "--rows"], (2, "", NONE)),
         (["array", "64,32,8,32,32", "none.bin", "out.bin", "--rows", "0..9"], (2, "", NONE)),
         (["merge", "64,32,8,32,32", "out.bin", "dump.bin"], (2, "", NONE)),
+        (["origin", "64,32,8,32,32", "out.bin", "dump.bin"], (2, "", NONE)),
+        (["origin", "64,32,8,32,32", "./dump.bin", "dump.bin", "stood.map", "--force"], (1, "", "refused out 1 IsDump\n")),
+        (["origin", "64,32,8,32,32", "stood.map", "dump.bin", "./stood.map", "--force"], (1, "", "refused out 1 IsDump\n")),
+        (["origin", "64,32,8,32,32", "out.bin", "dump.bin", "none.bin"], (3, "", "fault read none.bin\n")),
         (["merge", "64,32,8,32", "out.bin", "dump.bin", "dump.bin"], (2, "", "usage: bad number 64,32,8,32\n")),
         (["merge", "64,32,8,32,32", "dump.bin", "--force", "stood.map", "./dump.bin"], (1, "", "refused out 1 IsDump\n")),
         (["merge", "64,32,8,32,32", "stood.map", "dump.bin", "dump.bin"], (1, "", "refused out 2 Exists\n")),
@@ -1220,14 +1276,16 @@ def main():
             repair_case(random.Random(f"repair {seed}.{i}"), folder)
             merge_case(random.Random(f"merge {seed}.{i}"), folder)
             correct_case(random.Random(f"correct {seed}.{i}"), folder)
+            origin_case(random.Random(f"origin {seed}.{i}"), folder)
         assert cases < 100 or SEEN == {"factory", "rewritten", "holes", "outside", "none", "newer", "not newer"}, SEEN
         assert cases < 100 or set(FITTED) == {"plain", "coded", "coded+plain", "none"}, FITTED
         assert cases < 100 or set(SHOWN) == {"one", "trim", "tied"}, SHOWN
         assert cases < 100 or {"turned", "tried"} <= set(TRIED), TRIED
+        assert cases < 100 or set(ORIGINS) == {"+", "*", "-", "?"}, ORIGINS
         assert cases < 100 or set(FOUND) == {0, 1, 2, 3}, FOUND
         assert cases < 100 or {0, 1} <= set(PAIRED), PAIRED
         assert cases < 100 or len(REPORTED) == 8, REPORTED
-        print(f"each of the eight commands over {cases} dumps agrees with the reference, and the refusals; geometry over {dict(FITTED)}; rows tried by merge {dict(TRIED)}; reports {dict(REPORTED)}")
+        print(f"each of the nine commands over {cases} dumps agrees with the reference, and the refusals; geometry over {dict(FITTED)}; rows tried by merge {dict(TRIED)}; reports {dict(REPORTED)}")
 
 
 if __name__ == "__main__":

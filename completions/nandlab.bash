@@ -4,7 +4,7 @@ _nandlab()
     local word="${COMP_WORDS[COMP_CWORD]}" before="${COMP_WORDS[COMP_CWORD-1]}"
     COMPREPLY=()
     if [ "$COMP_CWORD" -eq 1 ]; then
-        mapfile -t COMPREPLY < <(compgen -W "geometry survey array history compare merge repair correct arrange verify --help --version" -- "$word")
+        mapfile -t COMPREPLY < <(compgen -W "geometry survey array history compare merge repair correct arrange verify origin --help --version" -- "$word")
         return
     fi
     case "$before" in
@@ -27,6 +27,7 @@ _nandlab()
             correct) mapfile -t COMPREPLY < <(compgen -W "--force --map --json --progress --report --help" -- "$word") ;;
             arrange) mapfile -t COMPREPLY < <(compgen -W "--force --from --json --progress --report --help" -- "$word") ;;
             verify) mapfile -t COMPREPLY < <(compgen -W "--json --progress --help" -- "$word") ;;
+            origin) mapfile -t COMPREPLY < <(compgen -W "--force --until --json --progress --report --help" -- "$word") ;;
         esac
         return
     fi

@@ -51,6 +51,13 @@ untraced_as a words g known readings (origin.Reading (reading.WrongLength i)) (f
 untraced_as a words g known readings (origin.Reading (reading.Source i)) (fault.Read word) opened each of h reads one is = (inr (i, of, sym is), record { known = known; opened = opened }, (readings, each), one i refl)
 untraced_as a words g known readings (origin.Reading why) _ opened each of h reads one is = absurd is
 
+-- what was said of the readings once the dump was opened
+pub each_opened_before : (a b : Answers) (paths : List (List ℕ)) (known : List (Option (List ℕ))) → AnswersNoMore a b → AreOpened b paths known → AreOpened a paths known
+each_opened_before a b paths known more h = record { count = h.count; each = λ i l. opened_before a b (get_or paths i []) (get_or known i None) more (h.each i l) }
+
+pub some_unread_before : (a b : Answers) (paths : List (List ℕ)) (told : LabFault) → AnswersNoMore a b → IsSomeUnread b paths told → IsSomeUnread a paths told
+some_unread_before a b paths told more h = (h.0, h.1, unread_before a b (get_or paths h.0 []) told more h.2)
+
 -- ---- the map
 
 pub as_out : (a : Answers) (path : List ℕ) (force : Bool) (told : LabFault) → IsMapUnplaced a path force told → told ≢ fault.MapExists → IsUnplaced a path force told

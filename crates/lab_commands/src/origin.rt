@@ -1,5 +1,5 @@
 //! The command `origin GEOM OUT DUMP READING READING..`.
-ghost use Rattle.std.specs.Prelude.{◌≡◌, ◌≤◌, ◌<◌, [], ◌∷◌, Some, length, map, vec_capacity, true, OnOk, OnErr, IfOk, IfErr};
+ghost use Rattle.std.specs.Prelude.{◌≡◌, ◌≤◌, [], ◌∷◌, Some, length, map, vec_capacity, OnOk, OnErr, IfOk, IfErr};
 ghost use Rattle.program_words.specs.Met.{texts};
 ghost use Rattle.lab_origin.specs.Map.{map_text};
 ghost use Rattle.lab_origin.specs.Traced.{IsOfReading, IsOfSome};
@@ -13,7 +13,9 @@ use crate::files::{LabFiles, Progress, Standing};
 use crate::maps::OriginMap;
 use crate::merge::is_some_dump;
 use crate::numbers::last_at;
-use crate::opening::{geometry_at, is_dump, may_replace, open_dump, progress_of, standing, store_map};
+use crate::opening::{
+    geometry_at, is_dump, may_replace, open_dump, progress_of, standing, store_map,
+};
 use crate::origin_words::OriginWords;
 use crate::output::Output;
 use crate::printing::{printer, unprinted};
@@ -52,7 +54,6 @@ fn open_readings<'a, F: LabFiles>(
     requires none { readings.old.items ≡ [] }
     requires room { length paths.now ≤ vec_capacity readings.old }
     ensures opened { OnOk result (AreOpened (F.answers files.old) (texts paths.now) (map F.Dump.bytes readings.new.items)) }
-    ensures fails { OnOk result (0 < length paths.now → (reading : F.Dump) → F.Dump.failed reading ≡ true → (F.answers files.old).reads_fail) }
     ensures fault { IfErr result (IsSomeUnread (F.answers files.old) (texts paths.now)) }
     ensures no_more { AnswersNoMore (F.answers files.old) (F.answers files.new) }
     ensures kept { F.kept files.new ≡ F.kept files.old }
@@ -169,7 +170,8 @@ fn put_origin<'a, F: LabFiles>(
     ensures fault { IfErr result (IsUnplaced (F.answers files.old) words.now.out.now words.now.force) }
     ensures kept { OnErr result (F.kept files.new ≡ F.kept files.old) }
 {
-    match store_map(files, words.out, &OriginMap { geometry, marks }, words.force) {
+    let map = OriginMap { geometry, marks };
+    match store_map(files, words.out, &map, words.force) {
         Err(LabFault::MapExists) => Err(LabFault::Exists),
         done => done,
     }

@@ -131,7 +131,7 @@ const MARKS: [Step; 14] = [
 ];
 
 // What was mended, and what was put together by the majority.
-const MADE: [Step; 8] = [
+const MADE: [Step; 7] = [
     Step::Run(
         "nandlab repair 64,32,8,32,32 a.bin mended.bin",
         0,
@@ -154,11 +154,6 @@ const MADE: [Step; 8] = [
         "nandlab origin 64,32,8,32,32 majority merged.bin a.bin c.bin d.bin",
         0,
         MENDED_1,
-    ),
-    Step::Run(
-        "nandlab array 64,32,8,32,32 merged.bin array.bin --map found",
-        0,
-        "tied sector 5\nage 0 unsound 0: as of the last write, but for what no page says\n",
     ),
 ];
 

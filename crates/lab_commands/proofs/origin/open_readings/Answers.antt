@@ -22,5 +22,4 @@ loop-place-preserved g c =
       kept = c.in_ok-reading.ensures.kept ∙ inv.kept;
       opened = opened_more g.F.Dump.Dump.bytes a b c.args.paths.now c.loop-place.readings.items c.push_reserved.new.self.items c.in_ok-reading.reading c.loop-place.place _ (omega arith) inv.no_more inv.opened c.in_ok-reading.ensures.bytes c.push_reserved.ensures.items;
       places = c.push_reserved.ensures.capacity ∙ inv.places;
-      fails = λ some reader failed. inv.no_more.reads_same (c.in_ok-reading.ensures.fails reader failed);
     }
