@@ -18,27 +18,29 @@ use Rattle.lab_commands.specs.Undone.{IsHalfPrinted, IsUnread, IsUnroomed, Leave
 
 -- ---- done
 
--- These are the geometries that fit a dump that reads so, as it stands and with codes, best first: where its bytes are known just those that fit,
--- each once. There is one.
-pub record AreFound (a : Answers) (path : List ℕ) (fits : List FoundFit) : Type 0 where
-  pub known : Option (List ℕ)
-  pub opened : IsOpened a path known
+-- These are the geometries that fit, as the dump stands and with codes, best first: where its bytes are known just those that fit, each once. There is
+-- one.
+pub record AreFound (known : Option (List ℕ)) (fits : List FoundFit) : Type 0 where
   pub all : IfSome known (λ bytes. IsPermutation (found_of bytes) fits)
   pub ranked : IsSorted found_rank fits
   pub possible : ArePossible fits
   pub some : 0 < length fits
 
 -- None of them fits, and this is the geometry that fits best in another arrangement: where the dump's bytes are known, of all that are tried.
-pub record IsFoundElse (a : Answers) (path : List ℕ) (found : ArrangedFit) : Type 0 where
-  pub known : Option (List ℕ)
-  pub opened : IsOpened a path known
+pub record IsFoundElse (known : Option (List ℕ)) (found : ArrangedFit) : Type 0 where
   pub none : IfSome known (λ bytes. found_of bytes ≡ [])
   pub best : IfSome known (λ bytes. IsBest bytes (Some found))
   pub possible : IsPossibleAs found
 
-abbrev pub HasFound : Answers → List ℕ → Fitting → Type 0
-HasFound a path (fitting.Stands fits) = AreFound a path fits.items
-HasFound a path (fitting.Arranged found) = IsFoundElse a path found
+abbrev pub FitsAre : Option (List ℕ) → Fitting → Type 0
+FitsAre known (fitting.Stands fits) = AreFound known fits.items
+FitsAre known (fitting.Arranged found) = IsFoundElse known found
+
+-- of a dump that reads so
+pub record HasFound (a : Answers) (path : List ℕ) (fitting : Fitting) : Type 0 where
+  pub known : Option (List ℕ)
+  pub opened : IsOpened a path known
+  pub fits : FitsAre known fitting
 
 -- what is printed of it
 abbrev pub fitting_text : Form → Fitting → List ℕ
@@ -53,22 +55,26 @@ pub record AreTold (a : Answers) (words : GeometryWords) (out printed : Option (
 
 -- ---- not done
 
--- the dump was opened, and no geometry fits its bytes, as far as they are known, neither as they stand nor with codes nor in an arrangement that is tried
-pub record FitsNone (a : Answers) (path : List ℕ) : Type 0 where
-  pub known : Option (List ℕ)
-  pub opened : IsOpened a path known
+-- no geometry fits the bytes of a dump, as far as they are known, neither as they stand nor with codes nor in an arrangement that is tried
+pub record FitsNone (known : Option (List ℕ)) : Type 0 where
   pub none : IfSome known (λ bytes. found_of bytes ≡ [])
   pub nowhere : IfSome known (λ bytes. IsBest bytes None)
 
--- why nothing was found in another arrangement
-abbrev pub IsElseFault : (known : Option (List ℕ)) → (broke : Bool) → List ℕ → LabFault → Type 0
-IsElseFault known broke path fault.NoneFits = IfSome known (λ bytes. IsBest bytes None)
-IsElseFault known broke path (fault.Read told) = (told.now ≡ path) × (broke ≡ true)
-IsElseFault known broke path _ = ⊥
+-- why nothing was found: nothing fits, or a read failed
+abbrev pub FitNothing : (known : Option (List ℕ)) → (broke : Bool) → List ℕ → LabFault → Type 0
+FitNothing known broke path fault.NoneFits = FitsNone known
+FitNothing known broke path (fault.Read told) = (told.now ≡ path) × (broke ≡ true)
+FitNothing known broke path _ = ⊥
+
+-- the dump was opened, and nothing fits it
+pub record IsNoFit (a : Answers) (path : List ℕ) : Type 0 where
+  pub known : Option (List ℕ)
+  pub opened : IsOpened a path known
+  pub none : FitsNone known
 
 -- Why no geometries of a dump that was opened were found: a read failed, or none fits it.
 abbrev pub IsUnfitted : Answers → List ℕ → LabFault → Type 0
-IsUnfitted a path fault.NoneFits = FitsNone a path
+IsUnfitted a path fault.NoneFits = IsNoFit a path
 IsUnfitted a path (fault.Read told) = (told.now ≡ path) × Opens a path × a.reads_fail
 IsUnfitted a path _ = ⊥
 

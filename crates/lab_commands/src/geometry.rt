@@ -1,9 +1,8 @@
 //! The command `geometry DUMP`.
-ghost use Rattle.std.specs.Prelude.{◌≡◌, ◌⊎◌, List, ℕ, Some, None, OnOk, IfOk, IfErr, true};
+ghost use Rattle.std.specs.Prelude.{◌≡◌, OnOk, IfOk, IfErr};
 ghost use Rattle.lab_correct.specs.FoundRoom.{IsFoundRoom};
-ghost use Rattle.lab_shapes.specs.Arranged.{IsBest, IsPossibleAs};
 ghost use Rattle.lab_shapes.specs.Rooms.{IsShapeRoom};
-ghost use Rattle.lab_commands.specs.Geometry.{AreTold, HasFound, IsElseFault, IsGeometryFault, IsUnfound, fitting_text};
+ghost use Rattle.lab_commands.specs.Geometry.{AreTold, FitNothing, FitsAre, HasFound, IsGeometryFault, IsUnfound, fitting_text};
 ghost use Rattle.lab_commands.specs.Document.{Prints};
 
 use crate::document::Printer;
@@ -28,19 +27,27 @@ pub(crate) enum Fitting {
     Arranged(ArrangedFit),
 }
 
-// What fits best in another arrangement, where nothing does otherwise.
-fn find_else<'a, D: Dump>(
-    room: ShapeRoom,
+// What fits the bytes of a dump: as they stand and with codes, or else in another arrangement.
+fn search<'a, D: Dump>(
+    room: FoundRoom,
+    shapes: ShapeRoom,
     path: &'a str,
     dump: &mut D,
-) -> Result<ArrangedFit, LabFault<'a>>
-    requires { IsShapeRoom room }
-    ensures best { IfOk result (λ found. (all : List ℕ) → D.bytes dump.old ≡ Some all → IsBest all (Some found)) }
-    ensures possible { IfOk result IsPossibleAs }
-    ensures fault { IfErr result (IsElseFault (D.bytes dump.old) (D.failed dump.new) path.now) }
+) -> Result<Fitting, LabFault<'a>>
+    requires fits { IsFoundRoom room }
+    requires shapes { IsShapeRoom shapes }
+    ensures found { IfOk result (FitsAre (D.bytes dump.old)) }
+    ensures fault { IfErr result (FitNothing (D.bytes dump.old) (D.failed dump.new) path.now) }
 {
-    match find_arranged(room, dump) {
-        Ok(Some(found)) => Ok(found),
+    let fits = match find_all_geometries(room, dump) {
+        Ok(fits) => fits,
+        Err(_) => return Err(LabFault::Read(path)),
+    };
+    if !fits.is_empty() {
+        return Ok(Fitting::Stands(fits));
+    }
+    match find_arranged(shapes, dump) {
+        Ok(Some(found)) => Ok(Fitting::Arranged(found)),
         Ok(None) => Err(LabFault::NoneFits),
         Err(_) => Err(LabFault::Read(path)),
     }
@@ -61,17 +68,7 @@ fn find_fits<'a, F: LabFiles>(
     ensures kept { F.kept files.new ≡ F.kept files.old }
 {
     let mut dump = open_dump(files, path, progress_of(showing))?;
-    match find_all_geometries(room, &mut dump) {
-        Ok(fits) => {
-            if fits.is_empty() {
-                let found = find_else(shapes, path, &mut dump)?;
-                Ok(Fitting::Arranged(found))
-            } else {
-                Ok(Fitting::Stands(fits))
-            }
-        }
-        Err(_) => Err(LabFault::Read(path)),
-    }
+    search(room, shapes, path, &mut dump)
 }
 
 // Prints it.

@@ -9,7 +9,7 @@ use Rattle.page_layout.specs.declared.geometry.GeometryFault.{GeometryFault}
 use Rattle.std.proofs.Math.Bool.{Bool-set}
 use Rattle.std.proofs.Math.Bridge.{le_prop}
 use Rattle.std.proofs.Math.Nat.{mul-div_cancel, mul-mod_left}
-use Rattle.std.proofs.lemmas.Bool.{le-leb}
+use Rattle.std.proofs.lemmas.Bool.{le-leb, true≢false}
 use Rattle.std.proofs.lemmas.Option.{none-some}
 use Rattle.page_layout.specs.declared.geometry.Geometry.{Geometry}
 use Rattle.page_layout.specs.Geometry.{page_bytes, row_count}
@@ -200,4 +200,4 @@ whole_as g bytes d s p b is count pages blocks =
 pub shape_result : (r : Result Geometry GeometryFault) (bytes d s p b : ℕ) → b ≡ bytes / (d + s) / p → bytes % (d + s) ≡ 0 → bytes / (d + s) % p ≡ 0
     → (IsWithinLimits d s p b 1 → IsOk r) → IfOk r (HasNumbers d s p b 1) → IsShapeAs bytes d s p (result_ok r)
 shape_result (Ok g) bytes d s p b count pages blocks accepted is = (whole_as g bytes d s p b is count pages blocks, subst (λ n. HasNumbers d s p n 1 g) count is)
-shape_result (Err f) bytes d s p b count pages blocks accepted is = λ g de se pe whole. accepted (subst (λ n. IsWithinLimits d s p n 1) (sym count) (limits_of g bytes d s p de se pe whole))
+shape_result (Err f) bytes d s p b count pages blocks accepted is = λ g de se pe whole. true≢false (sym (accepted (subst (λ n. IsWithinLimits d s p n 1) (sym count) (limits_of g bytes d s p de se pe whole))))

@@ -104,10 +104,10 @@ words_law a tried other =
     let inverted = swapped || a.inverted in
     let planes = inverted || a.planes in
     let built = built_planes inverted _ a.header a.tail a.spares a.spare_first a.swapped a.inverted a.planes
-        (built_inverted swapped _ a.header a.tail a.spares a.spare_first a.swapped a.inverted
-        (built_swapped first _ a.header a.tail a.spares a.spare_first a.swapped
-        (built_first spares _ a.header a.tail a.spares a.spare_first
-        (built_spares before _ a.header a.tail a.spares (built_around a.header a.tail tried.around))))) in
+    (built_inverted swapped _ a.header a.tail a.spares a.spare_first a.swapped a.inverted
+    (built_swapped first _ a.header a.tail a.spares a.spare_first a.swapped
+    (built_first spares _ a.header a.tail a.spares a.spare_first
+    (built_spares before _ a.header a.tail a.spares (built_around a.header a.tail tried.around))))) in
     let is : made a.header a.tail a.spares a.spare_first a.swapped a.inverted a.planes ≡ a = same_whole a tried.whole in
     said planes (arrangement_words a) a (subst (Built planes (arrangement_words a)) is (subst (λ t. Built planes t (made a.header a.tail a.spares a.spare_first a.swapped a.inverted a.planes)) (together (around_words a.header a.tail) (spares_words before a.spares) (flag_words spares a.spare_first (codes "spare-first")) (flag_words first a.swapped (codes "swapped")) (flag_words swapped a.inverted (codes "inverted")) (flag_words inverted a.planes (codes "planes=2"))) built)) other
   where

@@ -165,7 +165,15 @@ fn try_areas<D: Dump>(
     ensures same { D.bytes dump.new ≡ D.bytes dump.old }
 {
     for pages in page_counts() {
-        try_shape(room, dump, size, arrangement, data_bytes, spare_bytes, pages)?;
+        try_shape(
+            room,
+            dump,
+            size,
+            arrangement,
+            data_bytes,
+            spare_bytes,
+            pages,
+        )?;
     }
     Ok(())
 }

@@ -8,10 +8,10 @@ ghost use Rattle.lab_shapes.specs.Better.{IsFoundAs, IsShapeAs};
 ghost use Rattle.lab_shapes.specs.Ordered.{in_turn_of, ordered, shows_sound};
 ghost use Rattle.lab_shapes.specs.Tried.{IsTried};
 
+use crate::evidence::fit_of;
 use crate::find::ArrangedFit;
 use crate::looking::{count_in_turn, sample_first, told_in_order};
 use lab_arrange::{Arrangement, fit_arrangement, wanted_length};
-use crate::evidence::fit_of;
 use lab_dump::{Dump, DumpFault, looked_count};
 use page_layout::geometry::Geometry;
 use std::cmp::Reverse;
@@ -40,7 +40,10 @@ pub(crate) fn shape_as(
     }
     let rows = bytes / page_bytes;
     let blocks = rows / u64::from(pages);
-    if rows % u64::from(pages) != 0 || blocks > MOST_BLOCKS {
+    if rows % u64::from(pages) != 0 {
+        return None;
+    }
+    if blocks > MOST_BLOCKS {
         return None;
     }
     Geometry::new(data_bytes, spare_bytes, pages, blocks as u32, 1).ok()

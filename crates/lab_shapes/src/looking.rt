@@ -52,8 +52,9 @@ pub(crate) fn sample_first<D: Dump>(
     ensures same { D.bytes dump.new ≡ D.bytes dump.old }
 {
     let rows = geometry.rows();
+    let looked = looked_count(rows);
     let mut sample = Sample {
-        looked: looked_count(rows),
+        looked,
         sound: 0,
         unsound: 0,
     };

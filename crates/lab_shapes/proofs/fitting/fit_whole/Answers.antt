@@ -24,11 +24,13 @@ returns-clause-found g c = λ all told size.
     let second = c.sample_first.ensures.same ∙ told in
     let third = c.sample_first-2.ensures.same ∙ second in
     let fourth = c.count_in_turn.ensures.same ∙ third in
-    let sample = sample_whole geo bytes c.in_ok-sample.sample c.looked_count-looked.result (c.looked_count-looked.ensures.is ∙ ap looked_count c.rows-rows.ensures) (c.in_ok-sample.ensures.sample all second size) in
-    (refl, record {
-      fits = c.requires.fits;
-      whole = sym size ∙ c.requires.whole;
-      sound = shows_some geo bytes c.in_ok-first.first c.min.result (c.min.ensures ∙ ap (λ k. min k 64) c.rows-rows.ensures) (c.in_ok-first.ensures.sample all told size) c.if-first-eq0.false;
-      in_turn_is = c.in_ok-in_turn.ensures.count all third size;
-      fit_is = c.fit_of.ensures ∙ (ap (λ x. fit_of d s geo.pages geo.blocks x c.in_ok-told.told) sample ∙ ap (fit_of d s geo.pages geo.blocks (sample_of d s (row_count geo) bytes)) (c.in_ok-told.ensures.told all fourth size));
-    })
+    let sample = sample_whole geo bytes c.in_ok-sample.sample c.looked_count-looked.result (c.looked_count-looked.ensures.is ∙ ap looked_count c.rows-rows.ensures) (c.in_ok-sample.ensures.sample all second size) in (
+      refl,
+      record {
+        fits = c.requires.fits;
+        whole = sym size ∙ c.requires.whole;
+        sound = shows_some geo bytes c.in_ok-first.first c.min.result (c.min.ensures ∙ ap (λ k. min k 64) c.rows-rows.ensures) (c.in_ok-first.ensures.sample all told size) c.if-first-eq0.false;
+        in_turn_is = c.in_ok-in_turn.ensures.count all third size;
+        fit_is = c.fit_of.ensures ∙ (ap (λ x. fit_of d s geo.pages geo.blocks x c.in_ok-told.told) sample ∙ ap (fit_of d s geo.pages geo.blocks (sample_of d s (row_count geo) bytes)) (c.in_ok-told.ensures.told all fourth size));
+      },
+    )

@@ -6,6 +6,18 @@ use Rattle.lab_dump.proofs.FitLawLemmas.{looked_in}
 use Rattle.lab_shapes.specs.Ordered.{look_in, ordered}
 use Rattle.lab_shapes.proofs.looking.sample_first.Goals as goal
 
+pub loop-place-init : goal.loop-place-init
+loop-place-init g c =
+    let looked = c.looked_count-looked.ensures.is ∙ ap looked_count c.rows-rows.ensures in
+    record {
+      raw_room = c.requires.raw_room;
+      page_room = c.requires.page_room;
+      few = omega arith;
+      looked_is = looked;
+      same = search rules;
+      sample = λ all told size. sample_none _ _ _ _ _ (ap (λ k. record { looked = k; sound = 0; unsound = 0 }) looked);
+    }
+
 pub loop-place-preserved : goal.loop-place-preserved
 loop-place-preserved g c =
     let inv = c.loop-place.invariant in
