@@ -23,6 +23,7 @@ import time
 import types
 from pathlib import Path
 
+import arrangements
 import compare
 import hamming
 import measure
@@ -774,16 +775,29 @@ def mixed(rng, g, coded):
     return b"".join(pages)
 
 
+def fit_line(numbers, *rest):
+    shape = ",".join(map(str, numbers))
+    return shape, "geometry {} looked {} sound {} unsound {} table {} blocks {} sectors {}".format(shape, *rest)
+
+
+def arranged_line(raw):
+    """The line of a dump that fits in another arrangement alone; empty where it fits in none."""
+    found = arrangements.best(raw)
+    if found is None:
+        return ""
+    shape, line = fit_line(*found[0])
+    return f"{line} arranged: first nandlab arrange {shape} DUMP OUT --from {found[1]}\n"
+
+
 def expect_fits(folder, raw):
     """Holds `geometry` to the reference over these bytes. Of each that fits, in their order: whether it is with codes, its areas, pages and blocks,
     and its line."""
     (folder / "dump.bin").write_bytes(raw)
     found = []
     for coded, numbers, *rest in ref.geometries(raw):
-        shape = ",".join(map(str, numbers))
-        line = "geometry {} looked {} sound {} unsound {} table {} blocks {} sectors {}".format(shape, *rest)
+        shape, line = fit_line(numbers, *rest)
         found.append((coded, shape.rpartition(",")[0], line + codes_text(coded, shape) + "\n"))
-    told = "".join(line for _, _, line in found)
+    told = "".join(line for _, _, line in found) or arranged_line(raw)
     want = (0, told, "") if told else (1, "", "refused geometry 6 NoneFits\n")
     answer = run(["geometry", "dump.bin"], folder)
     assert answer == want, (answer, want)

@@ -29,7 +29,7 @@ SECTIONS = {
     "sectors-as-a-disk": ["disk_server"],
     "the-block-device-as-sectors": ["disk_server"],
     "the-crates-of-nanddisk": ["disk_server", "disk_commands", "program_words"],
-    "the-crates-of-nandlab": ["lab_dump", "lab_mend", "lab_correct", "lab_arrange", "lab_origin", "lab_report", "lab_commands", "lab_custody", "program_words"],
+    "the-crates-of-nandlab": ["lab_dump", "lab_mend", "lab_correct", "lab_arrange", "lab_shapes", "lab_origin", "lab_report", "lab_commands", "lab_custody", "program_words"],
 }
 NAMED = re.compile(r"`([^`]+)`")
 METHODS = re.compile(r"methods of `(\w+)`")

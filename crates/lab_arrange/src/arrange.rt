@@ -59,8 +59,12 @@ impl ArrangeRoom {
     }
 }
 
-// Reads the page of a row from where its areas stand.
-fn read_page<D: Dump>(
+/// Reads the page of a row of a dump of this size from where its areas stand. `raw` is scratch, of two bytes more than a page has.
+///
+/// # Errors
+///
+/// `DumpFault` where a read of the dump failed. `raw` and `page` then hold anything. (This project's.)
+pub fn read_page<D: Dump>(
     dump: &mut D,
     size: u64,
     geometry: &Geometry,

@@ -3,7 +3,7 @@ ghost use Rattle.std.specs.Prelude.{◌≡◌};
 ghost use Rattle.lab_arrange.specs.Words.{in_order};
 
 /// The spare areas that stand together.
-#[derive(Clone, Copy, Debug, PartialEq, Eq)]
+#[derive(Clone, Copy, Debug, PartialEq, Eq, PartialOrd, Ord)]
 pub enum Spares {
     /// Those of a block, and so its data areas.
     Block,
@@ -12,8 +12,8 @@ pub enum Spares {
 }
 
 /// How the bytes of a die stand in a dump. Where nothing is told, they are the pages in row order, each its data area and then its spare area, and
-/// nothing else. (This project's.)
-#[derive(Clone, Copy, Debug, PartialEq, Eq)]
+/// nothing else. Of two the one comes first that lacks a word which the other has, by the fields in their order. (This project's.)
+#[derive(Clone, Copy, Debug, PartialEq, Eq, PartialOrd, Ord)]
 pub struct Arrangement {
     /// How many bytes stand before the first page, where some do.
     pub header: Option<u32>,

@@ -14,8 +14,9 @@ mod laws;
 mod places;
 mod words;
 
-pub use arrange::{ArrangeFault, ArrangeRoom, Unarranged, arrange_dump};
+pub use arrange::{ArrangeFault, ArrangeRoom, Unarranged, arrange_dump, read_page};
 pub use arrangement::{Arrangement, Spares, in_order};
 pub use fitting::{UnfitFault, fit_arrangement};
 pub use laws::{area_laws, byte_laws, order_laws, place_laws};
+pub use places::wanted_length;
 pub use words::{Told, arrangement_at};

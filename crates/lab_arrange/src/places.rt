@@ -25,7 +25,7 @@ pub(crate) fn image_bytes(geometry: &Geometry) -> u64
 }
 
 /// How many bytes a dump has of such a die.
-pub(crate) fn wanted_length(geometry: &Geometry, arrangement: &Arrangement) -> u64
+pub fn wanted_length(geometry: &Geometry, arrangement: &Arrangement) -> u64
     requires { IsFitting geometry.now arrangement.now }
     ensures { result ≡ length_of geometry.now arrangement.now }
 {

@@ -159,7 +159,7 @@ unfolding escape_byte
 lost_json sector r1 e1 = rw (e1) (refl)
 
 -- the members of a geometry that fits, behind its first one and that of codes
-fit_rest : (fit : Fit) → codes ",\"geometry\":[" ++ (decimal fit.data_bytes ++ (codes "," ++ (decimal fit.spare_bytes ++ (codes "," ++ (decimal fit.pages ++ (codes "," ++ (decimal fit.blocks ++ (codes "," ++ (decimal fit.sectors ++ (codes "],\"line\":\"geometry\",\"looked\":" ++ (decimal fit.looked ++ (codes ",\"sectors_told\":" ++ (decimal fit.sectors_told ++ (codes ",\"sound\":" ++ (decimal fit.sound.0 ++ (codes ",\"table\":\"" ++ (says_words fit.table ++ (codes "\",\"unsound\":" ++ (decimal fit.unsound ++ codes "}"))))))))))))))))))) ≡ members_text true (fit_members fit)
+pub fit_rest : (fit : Fit) → codes ",\"geometry\":[" ++ (decimal fit.data_bytes ++ (codes "," ++ (decimal fit.spare_bytes ++ (codes "," ++ (decimal fit.pages ++ (codes "," ++ (decimal fit.blocks ++ (codes "," ++ (decimal fit.sectors ++ (codes "],\"line\":\"geometry\",\"looked\":" ++ (decimal fit.looked ++ (codes ",\"sectors_told\":" ++ (decimal fit.sectors_told ++ (codes ",\"sound\":" ++ (decimal fit.sound.0 ++ (codes ",\"table\":\"" ++ (says_words fit.table ++ (codes "\",\"unsound\":" ++ (decimal fit.unsound ++ codes "}"))))))))))))))))))) ≡ members_text true (fit_members fit)
 unfolding escape_byte
 fit_rest fit = ap (λ t. codes ",\"geometry\":[" ++ (decimal fit.data_bytes ++ (codes "," ++ (decimal fit.spare_bytes ++ (codes "," ++ (decimal fit.pages ++ (codes "," ++ (decimal fit.blocks ++ (codes "," ++ (decimal fit.sectors ++ (codes "],\"line\":\"geometry\",\"looked\":" ++ (decimal fit.looked ++ (codes ",\"sectors_told\":" ++ (decimal fit.sectors_told ++ (codes ",\"sound\":" ++ (decimal fit.sound.0 ++ (codes ",\"table\":" ++ t))))))))))))))))) (sym (quoted_in (says_words fit.table) (codes ",\"unsound\":" ++ (decimal fit.unsound ++ codes "}")) (plain_says fit.table)))
     ∙ ap (λ t. codes ",\"geometry\":[" ++ t)

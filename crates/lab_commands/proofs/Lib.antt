@@ -1,6 +1,7 @@
 pub mod GrammarLemmas
 pub mod PrintLemmas
 pub mod PieceLemmas
+pub mod ArrangedLemmas
 pub mod JsonLemmas
 pub mod TextLemmas
 pub mod UndoneLemmas

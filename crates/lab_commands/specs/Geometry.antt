@@ -1,10 +1,15 @@
 -- What the command `geometry` comes to.
-use Rattle.std.specs.Prelude.{◌≡◌, ◌⊎◌, ◌<◌, ℕ, List, [], length, Option, IfSome, IsPermutation, Bool}
+use Rattle.std.specs.Prelude.{◌≡◌, ◌⊎◌, ◌<◌, ℕ, List, [], true, length, Option, Some, None, IfSome, IsPermutation, Bool}
 use Rattle.std.specs.List.Sorted.{IsSorted}
 use Rattle.std.specs.Io.KnownBytes.{Appends}
 use Rattle.lab_correct.specs.declared.found.FoundFit.{FoundFit}
 use Rattle.lab_correct.specs.Coded.{ArePossible, found_of, found_rank}
-use Rattle.lab_commands.specs.Reports.{fits_text}
+use Rattle.lab_shapes.specs.declared.find.ArrangedFit.{ArrangedFit}
+use Rattle.lab_shapes.specs.Arranged.{IsBest, IsPossibleAs}
+use Rattle.lab_commands.specs.declared.document.Form.{Form}
+use Rattle.lab_commands.specs.declared.geometry.Fitting.{Fitting}
+use Rattle.lab_commands.specs.declared.geometry.Fitting.TheVariants as fitting
+use Rattle.lab_commands.specs.Reports.{arranged_fit_text, fits_text}
 use Rattle.lab_commands.specs.declared.words.GeometryWords.{GeometryWords}
 use Rattle.lab_commands.specs.declared.text.LabFault.{LabFault}
 use Rattle.lab_commands.specs.declared.text.LabFault.TheVariants as fault
@@ -13,33 +18,63 @@ use Rattle.lab_commands.specs.Undone.{IsHalfPrinted, IsUnread, IsUnroomed, Leave
 
 -- ---- done
 
--- These are the geometries that fit a dump that reads so, as it stands and with codes, best first: where its bytes are known just those that fit,
--- each once. There is one.
-pub record AreFound (a : Answers) (path : List ℕ) (fits : List FoundFit) : Type 0 where
-  pub known : Option (List ℕ)
-  pub opened : IsOpened a path known
+-- These are the geometries that fit, as the dump stands and with codes, best first: where its bytes are known just those that fit, each once. There is
+-- one.
+pub record AreFound (known : Option (List ℕ)) (fits : List FoundFit) : Type 0 where
   pub all : IfSome known (λ bytes. IsPermutation (found_of bytes) fits)
   pub ranked : IsSorted found_rank fits
   pub possible : ArePossible fits
   pub some : 0 < length fits
 
--- and they were printed
-pub record ToldFits (a : Answers) (words : GeometryWords) (out printed : Option (List ℕ)) : Type 0 where
-  pub fits : List FoundFit
-  pub found : AreFound a words.dump.now fits
-  pub told : Appends out printed (fits_text (form_of words.showing) fits)
+-- None of them fits, and this is the geometry that fits best in another arrangement: where the dump's bytes are known, of all that are tried.
+pub record IsFoundElse (known : Option (List ℕ)) (found : ArrangedFit) : Type 0 where
+  pub none : IfSome known (λ bytes. found_of bytes ≡ [])
+  pub best : IfSome known (λ bytes. IsBest bytes (Some found))
+  pub possible : IsPossibleAs found
+
+abbrev pub FitsAre : Option (List ℕ) → Fitting → Type 0
+FitsAre known (fitting.Stands fits) = AreFound known fits.items
+FitsAre known (fitting.Arranged found) = IsFoundElse known found
+
+-- of a dump that reads so
+pub record HasFound (a : Answers) (path : List ℕ) (fitting : Fitting) : Type 0 where
+  pub known : Option (List ℕ)
+  pub opened : IsOpened a path known
+  pub fits : FitsAre known fitting
+
+-- what is printed of it
+abbrev pub fitting_text : Form → Fitting → List ℕ
+fitting_text form (fitting.Stands fits) = fits_text form fits.items
+fitting_text form (fitting.Arranged found) = arranged_fit_text form found
+
+-- and it was printed
+pub record AreTold (a : Answers) (words : GeometryWords) (out printed : Option (List ℕ)) : Type 0 where
+  pub fitting : Fitting
+  pub found : HasFound a words.dump.now fitting
+  pub told : Appends out printed (fitting_text (form_of words.showing) fitting)
 
 -- ---- not done
 
--- the dump was opened, and no geometry fits its bytes, as far as they are known, neither as they stand nor with codes
-pub record FitsNone (a : Answers) (path : List ℕ) : Type 0 where
+-- no geometry fits the bytes of a dump, as far as they are known, neither as they stand nor with codes nor in an arrangement that is tried
+pub record FitsNone (known : Option (List ℕ)) : Type 0 where
+  pub none : IfSome known (λ bytes. found_of bytes ≡ [])
+  pub nowhere : IfSome known (λ bytes. IsBest bytes None)
+
+-- why nothing was found: nothing fits, or a read failed
+abbrev pub FitNothing : (known : Option (List ℕ)) → (broke : Bool) → List ℕ → LabFault → Type 0
+FitNothing known broke path fault.NoneFits = FitsNone known
+FitNothing known broke path (fault.Read told) = (told.now ≡ path) × (broke ≡ true)
+FitNothing known broke path _ = ⊥
+
+-- the dump was opened, and nothing fits it
+pub record IsNoFit (a : Answers) (path : List ℕ) : Type 0 where
   pub known : Option (List ℕ)
   pub opened : IsOpened a path known
-  pub none : IfSome known (λ bytes. found_of bytes ≡ [])
+  pub none : FitsNone known
 
 -- Why no geometries of a dump that was opened were found: a read failed, or none fits it.
 abbrev pub IsUnfitted : Answers → List ℕ → LabFault → Type 0
-IsUnfitted a path fault.NoneFits = FitsNone a path
+IsUnfitted a path fault.NoneFits = IsNoFit a path
 IsUnfitted a path (fault.Read told) = (told.now ≡ path) × Opens a path × a.reads_fail
 IsUnfitted a path _ = ⊥
 
@@ -51,4 +86,4 @@ IsUnfound a path told = IsUnread a path told ⊎ IsUnfitted a path told
 abbrev pub IsGeometryFault : Answers → GeometryWords → Option Store → Option Store → (opens opened : Option ℕ) → (broke : Bool) → Option (List ℕ) → Option (List ℕ) → LabFault → Type 0
 IsGeometryFault a words before after opens opened broke out printed told =
     (LeavesAll before after out printed × (IsUnroomed opens opened told ⊎ IsUnfound a words.dump.now told))
-    ⊎ ((after ≡ before) × ((fits : List FoundFit) × AreFound a words.dump.now fits × IsHalfPrinted broke out printed (fits_text (form_of words.showing) fits) told))
+    ⊎ ((after ≡ before) × ((fitting : Fitting) × HasFound a words.dump.now fitting × IsHalfPrinted broke out printed (fitting_text (form_of words.showing) fitting) told))

@@ -21,6 +21,8 @@ use Rattle.page_layout.specs.declared.record.Kind.TheVariants as kind
 use Rattle.lab_dump.specs.declared.said.SaidPage.{SaidPage}
 use Rattle.lab_dump.specs.Doubts.{most_older}
 use Rattle.lab_correct.specs.declared.found.FoundFit.{FoundFit}
+use Rattle.lab_shapes.specs.declared.find.ArrangedFit.{ArrangedFit}
+use Rattle.lab_shapes.specs.Words.{arrangement_words}
 use Rattle.lab_mend.specs.declared.mending.Made.{Made}
 use Rattle.lab_mend.specs.declared.mending.Made.TheVariants as made
 use Rattle.lab_mend.specs.declared.merging.Tally.{Tally}
@@ -103,6 +105,14 @@ first_words f = codes " codes hamming: first nandlab correct " ++ (shape_words f
 -- a geometry that fits, as the dump stands or with codes
 abbrev pub found_words : FoundFit → List ℕ
 found_words found = if found.coded then fit_words found.fit ++ first_words found.fit else fit_words found.fit
+
+-- what comes first where the dump stands in another arrangement: the command that puts it in order, of this geometry, but for the words
+abbrev pub arrange_words : Fit → List ℕ
+arrange_words f = codes " arranged: first nandlab arrange " ++ (shape_words f ++ codes " DUMP OUT --from ")
+
+-- a geometry that fits in another arrangement, and its words
+abbrev pub arranged_fit_words : ArrangedFit → List ℕ
+arranged_fit_words found = fit_words found.fit ++ (arrange_words found.fit ++ arrangement_words found.arrangement)
 
 -- a block, its state, and its pages that are neither erased nor sound
 abbrev pub block_words : ℕ → BlockState → ℕ → List ℕ
@@ -218,6 +228,7 @@ line_words (Block block s unsound) = block_words block s unsound
 line_words (PlainBlock block unsound) = codes "block " ++ (decimal block ++ (codes " unsound " ++ decimal unsound))
 line_words (Lost sector) = codes "lost sector " ++ decimal sector
 line_words (line.Fit found) = found_words found
+line_words (line.ArrangedFit found) = arranged_fit_words found
 line_words (Mended row turn) = turn_words row turn
 line_words (MendedCount n) = codes "mended " ++ decimal n
 line_words (LostRow row chunks) = codes "lost row " ++ (decimal row ++ (codes " chunks " ++ decimal chunks))

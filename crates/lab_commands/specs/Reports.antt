@@ -14,6 +14,7 @@ use Rattle.lab_mend.specs.declared.merging.TriedRow.{TriedRow}
 use Rattle.lab_mend.specs.Tries.{tries_in}
 use Rattle.lab_correct.specs.declared.correcting.Loss.{Loss}
 use Rattle.lab_correct.specs.declared.found.FoundFit.{FoundFit}
+use Rattle.lab_shapes.specs.declared.find.ArrangedFit.{ArrangedFit}
 use Rattle.lab_mend.specs.declared.repairing.Mend.{Mend}
 use Rattle.lab_origin.specs.declared.mark.Mark.{Mark}
 use Rattle.lab_origin.specs.Origin.{is_mended}
@@ -208,6 +209,10 @@ history_text form g pages unsound =
 
 abbrev pub fits_text : Form → List FoundFit → List ℕ
 fits_text form fits = head_text form (codes "geometry") ++ (text_below form (fit_at fits) (length fits) ++ tail_text form)
+
+-- of the one in another arrangement
+abbrev pub arranged_fit_text : Form → ArrangedFit → List ℕ
+arranged_fit_text form found = head_text form (codes "geometry") ++ (line_text form (line.ArrangedFit found) ++ tail_text form)
 
 -- what came of the pages that were to be mended, how many pages were tried, and how many were mended
 abbrev pub repair_text : Form → ℕ → List Mend → List ℕ

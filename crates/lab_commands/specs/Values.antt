@@ -1,5 +1,5 @@
 -- The lines of the reports, as JSON values: objects, each with its members by rising name. `line` says which line it is.
-use Rattle.std.specs.Prelude.{ℕ, List, codes, Bool, true, false, if◌then◌else◌}
+use Rattle.std.specs.Prelude.{ℕ, List, ◌∷◌, codes, Bool, true, false, if◌then◌else◌}
 use Rattle.serde_json.specs.Data.{Data, Members, boolean, number, unsigned, string, array, object, item, no_items, member, no_members}
 use Rattle.certificate.specs.declared.block_state.BlockState.{BlockState}
 use Rattle.lab_dump.specs.declared.fit.Fit.{Fit}
@@ -9,6 +9,9 @@ use Rattle.lab_dump.specs.declared.history.SectorPage.{SectorPage}
 use Rattle.lab_dump.specs.declared.said.SaidPage.{SaidPage}
 use Rattle.lab_dump.specs.Doubts.{most_older}
 use Rattle.lab_correct.specs.declared.found.FoundFit.{FoundFit}
+use Rattle.lab_shapes.specs.declared.find.ArrangedFit.{ArrangedFit}
+use Rattle.lab_shapes.specs.Words.{arrangement_words}
+use Rattle.serde_json.specs.Written.{members_text}
 use Rattle.lab_mend.specs.declared.merging.Tally.{Tally}
 use Rattle.lab_mend.specs.declared.pairs.Pair.{Pair}
 use Rattle.lab_mend.specs.declared.pairs.Turn.{Turn}
@@ -89,6 +92,15 @@ coded_fit_data f = object (member (codes "blocks_told") (count f.blocks_told) (m
 -- a geometry that fits, as the dump stands or with codes
 abbrev pub found_data : FoundFit → Data
 found_data found = if found.coded then coded_fit_data found.fit else fit_data found.fit
+
+-- one that fits in another arrangement
+abbrev pub arranged_fit_data : ArrangedFit → Data
+arranged_fit_data found =
+    object (member (codes "arrange") (text (arrangement_words found.arrangement)) (member (codes "blocks_told") (count found.fit.blocks_told) (fit_members found.fit)))
+
+-- its text behind the words
+abbrev pub arranged_rest : Fit → List ℕ
+arranged_rest f = 34 ∷ members_text true (member (codes "blocks_told") (count f.blocks_told) (fit_members f))
 
 -- how its text goes on behind the first member, up to the five numbers
 abbrev pub front_words : Bool → List ℕ
@@ -226,6 +238,7 @@ line_data (Block block s n) = block_data block s n
 line_data (PlainBlock block n) = plain_block_data block n
 line_data (Lost n) = lost_data n
 line_data (line.Fit found) = found_data found
+line_data (line.ArrangedFit found) = arranged_fit_data found
 line_data (Mended row turn) = turn_data row turn
 line_data (MendedCount n) = mended_count_data n
 line_data (LostRow row chunks) = lost_row_data row chunks

@@ -1,50 +1,97 @@
 //! The command `geometry DUMP`.
 ghost use Rattle.std.specs.Prelude.{◌≡◌, OnOk, IfOk, IfErr};
 ghost use Rattle.lab_correct.specs.FoundRoom.{IsFoundRoom};
-ghost use Rattle.lab_commands.specs.Geometry.{AreFound, IsGeometryFault, IsUnfound, ToldFits};
+ghost use Rattle.lab_shapes.specs.Rooms.{IsShapeRoom};
+ghost use Rattle.lab_commands.specs.Geometry.{AreTold, FitNothing, FitsAre, HasFound, IsGeometryFault, IsUnfound, fitting_text};
+ghost use Rattle.lab_commands.specs.Document.{Prints};
 
+use crate::document::Printer;
 use crate::files::LabFiles;
 use crate::opening::{open_dump, progress_of};
-use crate::output::Output;
+use crate::output::{Output, OutputFault};
 use crate::printing::{printer, unprinted};
-use crate::reports::print_fits;
+use crate::reports::{print_arranged_fit, print_fits};
 use crate::text::LabFault;
 use crate::words::{GeometryWords, Showing};
 use lab_correct::{FoundFit, FoundRoom, find_all_geometries};
+use lab_dump::Dump;
+use lab_shapes::{ArrangedFit, ShapeRoom, find_arranged};
 use std::alloc::Global;
 
-// The geometries that fit a dump, as it stands and with codes.
-fn find_fits<'a, F: LabFiles>(
+/// What fits a dump.
+#[derive(Drop)]
+pub(crate) enum Fitting {
+    /// These geometries, as it stands and with codes.
+    Stands(Vec<FoundFit>),
+    /// None of them, and this one best in another arrangement.
+    Arranged(ArrangedFit),
+}
+
+// What fits the bytes of a dump: as they stand and with codes, or else in another arrangement.
+fn search<'a, D: Dump>(
     room: FoundRoom,
+    shapes: ShapeRoom,
     path: &'a str,
-    showing: Showing,
-    files: &mut F,
-) -> Result<Vec<FoundFit>, LabFault<'a>>
-    requires { IsFoundRoom room }
-    ensures found { IfOk result (λ fits. AreFound (F.answers files.old) path.now fits.items) }
-    ensures fault { IfErr result (IsUnfound (F.answers files.old) path.now) }
-    ensures kept { F.kept files.new ≡ F.kept files.old }
+    dump: &mut D,
+) -> Result<Fitting, LabFault<'a>>
+    requires fits { IsFoundRoom room }
+    requires shapes { IsShapeRoom shapes }
+    ensures found { IfOk result (FitsAre (D.bytes dump.old)) }
+    ensures fault { IfErr result (FitNothing (D.bytes dump.old) (D.failed dump.new) path.now) }
 {
-    let mut dump = open_dump(files, path, progress_of(showing))?;
-    match find_all_geometries(room, &mut dump) {
-        Ok(fits) => {
-            if fits.is_empty() {
-                Err(LabFault::NoneFits)
-            } else {
-                Ok(fits)
-            }
-        }
+    let fits = match find_all_geometries(room, dump) {
+        Ok(fits) => fits,
+        Err(_) => return Err(LabFault::Read(path)),
+    };
+    if !fits.is_empty() {
+        return Ok(Fitting::Stands(fits));
+    }
+    match find_arranged(shapes, dump) {
+        Ok(Some(found)) => Ok(Fitting::Arranged(found)),
+        Ok(None) => Err(LabFault::NoneFits),
         Err(_) => Err(LabFault::Read(path)),
     }
 }
 
+// What fits a dump.
+fn find_fits<'a, F: LabFiles>(
+    room: FoundRoom,
+    shapes: ShapeRoom,
+    path: &'a str,
+    showing: Showing,
+    files: &mut F,
+) -> Result<Fitting, LabFault<'a>>
+    requires fits { IsFoundRoom room }
+    requires shapes { IsShapeRoom shapes }
+    ensures found { IfOk result (HasFound (F.answers files.old) path.now) }
+    ensures fault { IfErr result (IsUnfound (F.answers files.old) path.now) }
+    ensures kept { F.kept files.new ≡ F.kept files.old }
+{
+    let mut dump = open_dump(files, path, progress_of(showing))?;
+    search(room, shapes, path, &mut dump)
+}
+
+// Prints it.
+fn print_fitting<W: Output>(
+    printer: Printer,
+    out: &mut W,
+    fitting: &Fitting,
+) -> Result<(), OutputFault>
+    ensures { Prints (W.failed out.new) (W.contents out.old) (W.contents out.new) (fitting_text printer.form fitting.now) result }
+{
+    match fitting {
+        Fitting::Stands(fits) => print_fits(printer, out, fits),
+        Fitting::Arranged(found) => print_arranged_fit(printer, out, found),
+    }
+}
+
 /// The command `geometry`: prints which geometries fit the dump DUMP, as it stands and as one of a chip whose pages have codes, best first, a line for
-/// each with what the dump says for it.
+/// each with what the dump says for it. Where none does, it prints the one that fits best in another arrangement, with what to type.
 ///
 /// # Errors
 ///
 /// The first of this order: `OutOfMemory` where a growth was refused, `Read` where DUMP cannot be opened, or its size cannot be known or a read of it
-/// fails, `NoneFits` where no geometry fits it. After each of these nothing was printed.
+/// fails, `NoneFits` where no geometry fits it, in no arrangement that is tried. After each of these nothing was printed.
 /// `Write` of `-` where `out` failed.
 ///
 /// (This project's.)
@@ -54,13 +101,14 @@ pub(crate) fn geometry_command<'a, F: LabFiles, W: Output>(
     files: &mut F,
     out: &mut W,
 ) -> Result<(), LabFault<'a>>
-    ensures ok { OnOk result (ToldFits (F.answers files.old) words.entry (W.contents out.old) (W.contents out.new)) }
+    ensures ok { OnOk result (AreTold (F.answers files.old) words.entry (W.contents out.old) (W.contents out.new)) }
     ensures kept { F.kept files.new ≡ F.kept files.old }
     ensures fault { IfErr result (IsGeometryFault (F.answers files.old) words.entry (F.kept files.old) (F.kept files.new) (F.opened files.old) (F.opened files.new) (W.failed out.new) (W.contents out.old) (W.contents out.new)) }
 {
     let room = FoundRoom::new(alloc)?;
-    let fits = find_fits(room, words.dump, words.showing, files)?;
-    match print_fits(printer(alloc, words.showing), out, &fits) {
+    let shapes = ShapeRoom::new(alloc)?;
+    let fitting = find_fits(room, shapes, words.dump, words.showing, files)?;
+    match print_fitting(printer(alloc, words.showing), out, &fitting) {
         Ok(()) => Ok(()),
         Err(fault) => Err(unprinted(fault)),
     }

@@ -4,6 +4,7 @@
 
 mod arrange;
 mod arrange_words;
+mod arranged_lines;
 mod array;
 mod bits;
 mod compare;

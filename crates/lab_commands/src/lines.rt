@@ -11,10 +11,12 @@ use crate::output::{Output, OutputFault};
 use crate::pieces::Piece::{Number, Words};
 use crate::pieces::put_pieces;
 use crate::turn_lines::put_turn;
+use crate::arranged_lines::put_arranged_fit;
 use certificate::BlockState;
 use lab_correct::FoundFit;
 use lab_dump::{Doubts, Fit, Rows, SaidPage, SectorPage, TableSays, Wrote};
 use lab_mend::{Made, Tally, Trial, Turn};
+use lab_shapes::ArrangedFit;
 use page_layout::record::Kind;
 
 /// What a page is of.
@@ -63,6 +65,8 @@ pub enum Line {
     Lost(u32),
     /// A geometry that fits, as the dump stands or with codes.
     Fit(FoundFit),
+    /// A geometry that fits in another arrangement.
+    ArrangedFit(ArrangedFit),
     /// What came of the page of a row that was to be mended.
     Mended(u32, Turn),
     /// So many pages were mended.
@@ -261,8 +265,8 @@ fn put_named<'x, W: Output>(
     )
 }
 
-// A geometry that fits, with all that is told of it.
-fn put_fit<W: Output>(out: &mut W, fit: Fit) -> Result<(), OutputFault>
+/// A geometry that fits, with all that is told of it.
+pub(crate) fn put_fit<W: Output>(out: &mut W, fit: Fit) -> Result<(), OutputFault>
     ensures { Prints (W.failed out.new) (W.contents out.old) (W.contents out.new) (fit_words fit) result }
 {
     put_pieces(
@@ -642,6 +646,7 @@ pub(crate) fn put_words<W: Output>(out: &mut W, line: Line) -> Result<(), Output
         Line::PlainBlock(block, unsound) => put_two(out, "block ", block, " unsound ", unsound),
         Line::Lost(sector) => put_one(out, "lost sector ", u64::from(sector)),
         Line::Fit(found) => put_found(out, found),
+        Line::ArrangedFit(found) => put_arranged_fit(out, &found),
         Line::Mended(row, turn) => put_turn(out, row, turn),
         Line::MendedCount(count) => put_one(out, "mended ", count),
         Line::LostRow(row, chunks) => put_two(out, "lost row ", row, " chunks ", chunks),

@@ -5,7 +5,7 @@ ghost use Rattle.lab_commands.specs.Document.{Prints, if_text, line_text, text_b
 ghost use Rattle.lab_mend.specs.Repairing.{mended_count};
 ghost use Rattle.lab_mend.specs.Tries.{tries_in};
 ghost use Rattle.lab_commands.specs.Lines.{tries_line};
-ghost use Rattle.lab_commands.specs.Reports.{age_text, arrange_text, array_text, blocks_text, compare_text, correct_text, count_lines, doubts_text, ending_text, fits_text, history_text, key_at, keys_text, left_text, losses_text, merge_text, origin_text};
+ghost use Rattle.lab_commands.specs.Reports.{age_text, arrange_text, arranged_fit_text, array_text, blocks_text, compare_text, correct_text, count_lines, doubts_text, ending_text, fits_text, history_text, key_at, keys_text, left_text, losses_text, merge_text, origin_text};
 ghost use Rattle.lab_commands.specs.Reports.{repair_text, some_text, survey_lines, survey_text, table_at, ties_text};
 
 use crate::document::{Printer, Report};
@@ -17,6 +17,7 @@ use crate::told_lines::{
     past_line, repeated_line, rewritten_line, rows_line, tries_line,
 };
 use lab_correct::{FoundFit, Loss};
+use lab_shapes::ArrangedFit;
 use lab_dump::{Compared, DieSurvey, Held, Rows, SectorPage, State, Unsettled, damaged_count};
 use lab_mend::{Mend, Tally, TriedRow, count_mended, count_tries};
 use lab_origin::{Mark, mended_count};
@@ -315,6 +316,23 @@ pub fn print_fits<W: Output>(
 {
     printer.begin(out, Report::Geometry)?;
     printer.list(out, &Lines::Fits(fits))?;
+    printer.end(out)
+}
+
+/// Prints the geometry that fits best in another arrangement, and the words of that.
+///
+/// # Errors
+///
+/// As of `print_survey`. (This project's.)
+pub fn print_arranged_fit<W: Output>(
+    printer: Printer,
+    out: &mut W,
+    found: &ArrangedFit,
+) -> Result<(), OutputFault>
+    ensures { Prints (W.failed out.new) (W.contents out.old) (W.contents out.new) (arranged_fit_text printer.form found.now) result }
+{
+    printer.begin(out, Report::Geometry)?;
+    printer.line(out, Some(Line::ArrangedFit(*found)))?;
     printer.end(out)
 }
 

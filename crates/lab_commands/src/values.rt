@@ -12,6 +12,7 @@ use crate::output::{Output, OutputFault};
 use crate::pieces::Piece::{Number, Words};
 use crate::pieces::put_pieces;
 use crate::turn_lines::put_turn_data;
+use crate::arranged_lines::put_arranged_object;
 use certificate::BlockState;
 use lab_correct::FoundFit;
 use lab_dump::{Doubts, Rows, SaidPage, SectorPage};
@@ -714,6 +715,7 @@ pub(crate) fn put_object<W: Output>(out: &mut W, line: Line) -> Result<(), Outpu
         Line::PlainBlock(block, unsound) => put_plain_block(out, block, unsound),
         Line::Lost(sector) => put_lost(out, sector),
         Line::Fit(found) => put_fit(out, found),
+        Line::ArrangedFit(found) => put_arranged_object(out, &found),
         Line::Mended(row, turn) => put_turn_data(out, row, turn),
         Line::MendedCount(count) => put_mended_count(out, count),
         Line::LostRow(row, chunks) => put_lost_row(out, row, chunks),

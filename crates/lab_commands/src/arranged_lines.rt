@@ -1,0 +1,193 @@
+//! A geometry that fits a dump in another arrangement, as plain text and as a JSON value.
+ghost use Rattle.std.specs.Prelude.{◌≡◌, ◌∷◌, None};
+ghost use Rattle.serde_json.specs.Written.{compact_text};
+ghost use Rattle.lab_shapes.specs.Words.{around_words, arrangement_words, flag_words, order_words, spares_words};
+ghost use Rattle.lab_commands.specs.Document.{Prints};
+ghost use Rattle.lab_commands.specs.Lines.{arranged_fit_words, arrange_words, fit_words};
+ghost use Rattle.lab_commands.specs.Values.{arranged_fit_data, arranged_rest};
+
+use crate::lines::{put_fit, says_text};
+use crate::output::{Output, OutputFault};
+use crate::pieces::Piece::{Number, Words};
+use crate::pieces::{put, put_pieces};
+use lab_arrange::{Arrangement, Spares};
+use lab_dump::Fit;
+use lab_shapes::ArrangedFit;
+
+// The word of a tail, where there is one.
+fn put_tail<W: Output>(out: &mut W, tail: Option<u32>) -> Result<(), OutputFault>
+    ensures { Prints (W.failed out.new) (W.contents out.old) (W.contents out.new) (around_words None tail) result }
+{
+    match tail {
+        Some(bytes) => put_pieces(out, &[Words("tail="), Number(u64::from(bytes))]),
+        None => Ok(()),
+    }
+}
+
+// The word of a header or of a tail, where there is one.
+fn put_around<W: Output>(
+    out: &mut W,
+    header: Option<u32>,
+    tail: Option<u32>,
+) -> Result<(), OutputFault>
+    ensures { Prints (W.failed out.new) (W.contents out.old) (W.contents out.new) (around_words header tail) result }
+{
+    match header {
+        Some(bytes) => put_pieces(out, &[Words("header="), Number(u64::from(bytes))]),
+        None => put_tail(out, tail),
+    }
+}
+
+// The word of spare areas that stand together, with a comma before it where a word stands before it.
+fn spares_text(before: bool, spares: Option<Spares>) -> &'static str
+    ensures { result.now ≡ spares_words before spares }
+{
+    match (before, spares) {
+        (false, Some(Spares::Block)) => "spares=block",
+        (true, Some(Spares::Block)) => ",spares=block",
+        (false, Some(Spares::Die)) => "spares=die",
+        (true, Some(Spares::Die)) => ",spares=die",
+        (_, None) => "",
+    }
+}
+
+// A word, where it is told, with a comma before it where one stands before it: `behind` is the word with the comma.
+fn flag_text(before: bool, told: bool, word: &'static str, behind: &'static str) -> &'static str
+    requires { behind.now ≡ 44 ∷ word.now }
+    ensures { result.now ≡ flag_words before told word.now }
+{
+    match (before, told) {
+        (false, true) => word,
+        (true, true) => behind,
+        (_, false) => "",
+    }
+}
+
+// The words of the order of the bytes.
+fn put_order<W: Output>(
+    out: &mut W,
+    before: bool,
+    arrangement: &Arrangement,
+) -> Result<(), OutputFault>
+    ensures { Prints (W.failed out.new) (W.contents out.old) (W.contents out.new) (order_words before arrangement.now) result }
+{
+    let spares = before || arrangement.spares.is_some();
+    let first = spares || arrangement.spare_first;
+    let swapped = first || arrangement.swapped;
+    let inverted = swapped || arrangement.inverted;
+    put_pieces(
+        out,
+        &[
+            Words(spares_text(before, arrangement.spares)),
+            Words(flag_text(
+                spares,
+                arrangement.spare_first,
+                "spare-first",
+                ",spare-first",
+            )),
+            Words(flag_text(first, arrangement.swapped, "swapped", ",swapped")),
+            Words(flag_text(
+                swapped,
+                arrangement.inverted,
+                "inverted",
+                ",inverted",
+            )),
+            Words(flag_text(
+                inverted,
+                arrangement.planes,
+                "planes=2",
+                ",planes=2",
+            )),
+        ],
+    )
+}
+
+// The words of an arrangement.
+fn put_arrangement<W: Output>(out: &mut W, arrangement: &Arrangement) -> Result<(), OutputFault>
+    ensures { Prints (W.failed out.new) (W.contents out.old) (W.contents out.new) (arrangement_words arrangement.now) result }
+{
+    put_around(out, arrangement.header, arrangement.tail)?;
+    let before = arrangement.header.is_some() || arrangement.tail.is_some();
+    put_order(out, before, arrangement)
+}
+
+// What comes first where the dump stands in another arrangement, but for its words.
+fn put_arrange<W: Output>(out: &mut W, fit: Fit) -> Result<(), OutputFault>
+    ensures { Prints (W.failed out.new) (W.contents out.old) (W.contents out.new) (arrange_words fit) result }
+{
+    put_pieces(
+        out,
+        &[
+            Words(" arranged: first nandlab arrange "),
+            Number(u64::from(fit.data_bytes)),
+            Words(","),
+            Number(u64::from(fit.spare_bytes)),
+            Words(","),
+            Number(u64::from(fit.pages)),
+            Words(","),
+            Number(u64::from(fit.blocks)),
+            Words(","),
+            Number(u64::from(fit.sectors)),
+            Words(" DUMP OUT --from "),
+        ],
+    )
+}
+
+/// Prints a geometry that fits in an arrangement as plain text, without its line feed.
+pub(crate) fn put_arranged_fit<W: Output>(
+    out: &mut W,
+    found: &ArrangedFit,
+) -> Result<(), OutputFault>
+    ensures { Prints (W.failed out.new) (W.contents out.old) (W.contents out.new) (arranged_fit_words found.now) result }
+{
+    put_fit(out, found.fit)?;
+    put_arrange(out, found.fit)?;
+    put_arrangement(out, &found.arrangement)
+}
+
+// What stands behind the words in the object of such a geometry.
+#[tactic(auto, unfolding(json::specs::Print::escape_byte))]
+fn put_rest<W: Output>(out: &mut W, fit: Fit) -> Result<(), OutputFault>
+    ensures { Prints (W.failed out.new) (W.contents out.old) (W.contents out.new) (arranged_rest fit) result }
+{
+    put_pieces(
+        out,
+        &[
+            Words("\",\"blocks_told\":"),
+            Number(fit.blocks_told),
+            Words(",\"geometry\":["),
+            Number(u64::from(fit.data_bytes)),
+            Words(","),
+            Number(u64::from(fit.spare_bytes)),
+            Words(","),
+            Number(u64::from(fit.pages)),
+            Words(","),
+            Number(u64::from(fit.blocks)),
+            Words(","),
+            Number(u64::from(fit.sectors)),
+            Words("],\"line\":\"geometry\",\"looked\":"),
+            Number(u64::from(fit.looked)),
+            Words(",\"sectors_told\":"),
+            Number(fit.sectors_told),
+            Words(",\"sound\":"),
+            Number(u64::from(fit.sound.0)),
+            Words(",\"table\":\""),
+            Words(says_text(fit.table)),
+            Words("\",\"unsound\":"),
+            Number(u64::from(fit.unsound)),
+            Words("}"),
+        ],
+    )
+}
+
+/// Prints a geometry that fits in an arrangement as an object.
+pub(crate) fn put_arranged_object<W: Output>(
+    out: &mut W,
+    found: &ArrangedFit,
+) -> Result<(), OutputFault>
+    ensures { Prints (W.failed out.new) (W.contents out.old) (W.contents out.new) (compact_text (arranged_fit_data found.now)) result }
+{
+    put(out, b"{\"arrange\":\"")?;
+    put_arrangement(out, &found.arrangement)?;
+    put_rest(out, found.fit)
+}

@@ -1,0 +1,37 @@
+use Rattle.std.proofs.Common.{◌≡◌, ◌<◌, ◌≤◌, length, ap, ◌∙◌, sym, subst, arith, rules}
+use Rattle.page_layout.specs.Geometry.{row_count}
+use Rattle.lab_dump.specs.Sample.{looked_count, looked_row}
+use Rattle.lab_dump.proofs.SampleLemmas.{sample_more, sample_none, noted_few, noted_looked}
+use Rattle.lab_dump.proofs.FitLawLemmas.{looked_in}
+use Rattle.lab_shapes.specs.Ordered.{look_in, ordered}
+use Rattle.lab_shapes.proofs.looking.sample_first.Goals as goal
+
+pub loop-place-init : goal.loop-place-init
+loop-place-init g c =
+    let looked = c.looked_count-looked.ensures.is ∙ ap looked_count c.rows-rows.ensures in
+    record {
+      raw_room = c.requires.raw_room;
+      page_room = c.requires.page_room;
+      few = omega arith;
+      looked_is = looked;
+      same = search rules;
+      sample = λ all told size. sample_none _ _ _ _ _ (ap (λ k. record { looked = k; sound = 0; unsound = 0 }) looked);
+    }
+
+pub loop-place-preserved : goal.loop-place-preserved
+loop-place-preserved g c =
+    let inv = c.loop-place.invariant in
+    let geo = c.args.geometry.now in
+    let a = c.args.arrangement.now in
+    let place = c.loop-place.place in
+    let row = c.looked_row-row.ensures ∙ ap (λ k. looked_row k place) c.rows-rows.ensures in
+    record {
+      raw_room = omega (arith, inv.raw_room, c.look_in_order.auto.raw);
+      page_room = omega (arith, inv.page_room, c.look_in_order.auto.page);
+      few = (let more = noted_few c.loop-place.sample c.in_ok-look.look in let is = c.noted-sample.ensures in let before = inv.few in rw is (omega arith));
+      looked_is = ap (λ x. x.looked) c.noted-sample.ensures ∙ (noted_looked c.loop-place.sample c.in_ok-look.look ∙ inv.looked_is);
+      same = c.look_in_order.ensures.same ∙ inv.same;
+      sample = λ all told size.
+          sample_more geo.data_bytes geo.spare_bytes (row_count geo) (ordered geo a all) place c.loop-place.sample _ c.in_ok-look.look (inv.sample all told size)
+          (c.in_ok-look.ensures.look all (inv.same ∙ told) size ∙ ap (look_in geo (ordered geo a all)) row) c.noted-sample.ensures;
+    }

@@ -1,0 +1,58 @@
+-- What is best so far, and one more is tried.
+use Rattle.std.specs.Prelude.{◌≡◌, ◌≢◌, ◌⊎◌, ℕ, ◌+◌, ◌-◌, ◌/◌, nat_le, if◌then◌else◌, List, Option, Some, None, IfSome}
+use Rattle.std.specs.Option.{unwrap_or}
+use Rattle.page_layout.specs.declared.geometry.Geometry.{Geometry}
+use Rattle.page_layout.specs.Faults.{HasNumbers}
+use Rattle.lab_dump.specs.Scan.{image_bytes}
+use Rattle.lab_arrange.specs.declared.arrangement.Arrangement.{Arrangement}
+use Rattle.lab_shapes.specs.declared.find.ArrangedFit.{ArrangedFit}
+use Rattle.lab_shapes.specs.Arranged.{FitsArranged, FitsAs, IsNotAfter, IsPossibleAs}
+
+-- there is one that comes no later than this one
+abbrev pub IsMatched : Option ArrangedFit → ArrangedFit → Type 0
+IsMatched None y = ⊥
+IsMatched (Some x) y = IsNotAfter x y
+
+-- After these were tried the best is what it was, or one of these; and neither what it was nor one of these comes before it.
+pub record Improves (Q : ArrangedFit → Type 0) (old new : Option ArrangedFit) : Type 0 where
+  pub among : (new ≡ old) ⊎ ((x : ArrangedFit) × (new ≡ Some x) × Q x)
+  pub kept : (y : ArrangedFit) → old ≡ Some y → IsMatched new y
+  pub best : (y : ArrangedFit) → Q y → IsMatched new y
+
+-- whatever the dump gave, what is best stays possible
+abbrev pub KeepsPossible : Option ArrangedFit → Option ArrangedFit → Type 0
+KeepsPossible old new = IfSome old IsPossibleAs → IfSome new IsPossibleAs
+
+-- ---- which ones are tried
+
+-- those in an arrangement
+abbrev pub InArrangement : List ℕ → Arrangement → ArrangedFit → Type 0
+InArrangement all a y = FitsArranged all y × (y.arrangement ≡ a)
+
+-- whose data areas have so many bytes
+abbrev pub InData : List ℕ → Arrangement → ℕ → ArrangedFit → Type 0
+InData all a data_bytes y = InArrangement all a y × (y.fit.data_bytes ≡ data_bytes)
+
+-- and whose spare areas so many
+abbrev pub InAreas : List ℕ → Arrangement → ℕ → ℕ → ArrangedFit → Type 0
+InAreas all a data_bytes spare_bytes y = InData all a data_bytes y × (y.fit.spare_bytes ≡ spare_bytes)
+
+-- and whose blocks so many pages
+abbrev pub InShape : List ℕ → Arrangement → ℕ → ℕ → ℕ → ArrangedFit → Type 0
+InShape all a data_bytes spare_bytes pages y = InAreas all a data_bytes spare_bytes y × (y.fit.pages ≡ pages)
+
+-- ---- one geometry
+
+-- what was found of a geometry and an arrangement: it fits, or nothing does
+abbrev pub IsFoundAs : List ℕ → Geometry → Arrangement → Option ArrangedFit → Type 0
+IsFoundAs all g a None = (y : ArrangedFit) → y.arrangement ≡ a → ¬ FitsAs all g y
+IsFoundAs all g a (Some x) = (x.arrangement ≡ a) × FitsAs all g x
+
+-- the geometry with one sector of such areas and blocks that comes to so many bytes, if there is one
+abbrev pub IsShapeAs : (bytes data_bytes spare_bytes pages : ℕ) → Option Geometry → Type 0
+IsShapeAs bytes d s p None = (g : Geometry) → g.data_bytes ≡ d → g.spare_bytes ≡ s → g.pages ≡ p → image_bytes g ≢ bytes
+IsShapeAs bytes d s p (Some g) = (image_bytes g ≡ bytes) × HasNumbers d s p (bytes / (d + s) / p) 1 g
+
+-- how many bytes the pages have of a dump of this size, if it has room for what stands around them
+abbrev pub pages_size : ℕ → Arrangement → Option ℕ
+pages_size size a = if nat_le (unwrap_or a.header 0 + unwrap_or a.tail 0) size then Some (size - (unwrap_or a.header 0 + unwrap_or a.tail 0)) else None

@@ -1,0 +1,49 @@
+-- A dump that is put in order, and what its pages are then.
+use Rattle.std.specs.Prelude.{◌≡◌, ℕ, ◌+◌, ◌-◌, ◌%◌, ◌==◌, nat_lt, min, if◌then◌else◌, Bool, true, false, List, count_by, Option, Some, None}
+use Rattle.std.specs.List.{concat, range_with_len}
+use Rattle.page_layout.specs.declared.geometry.Geometry.{Geometry}
+use Rattle.page_layout.specs.Geometry.{row_count}
+use Rattle.lab_dump.specs.declared.look.Look.{Look}
+use Rattle.lab_dump.specs.declared.look.Look.TheVariants.{Sound, Erased, Unsound}
+use Rattle.lab_dump.specs.declared.sample.Sample.{Sample}
+use Rattle.lab_dump.specs.Sample.{is_sound, is_unsound, look_at, looked_by, looked_count, looked_row}
+use Rattle.lab_arrange.specs.declared.arrangement.Arrangement.{Arrangement}
+use Rattle.lab_arrange.specs.Arranged.{pieces_below}
+
+-- THE DUMP PUT IN ORDER: its pages, row by row, as `arrange` writes them
+unfoldable pub ordered : Geometry → Arrangement → List ℕ → List ℕ
+ordered g a all = concat (pieces_below g a all (row_count g))
+
+-- what the page of a row is
+abbrev pub look_in : Geometry → List ℕ → ℕ → Look
+look_in g all row = look_at g.data_bytes g.spare_bytes all row
+
+-- what the pages are of the first places that are looked at
+abbrev pub sample_first : Geometry → List ℕ → ℕ → Sample
+sample_first g all places = record {
+  looked = looked_count (row_count g);
+  sound = looked_by is_sound g.data_bytes g.spare_bytes (row_count g) all places;
+  unsound = looked_by is_unsound g.data_bytes g.spare_bytes (row_count g) all places;
+}
+
+-- whether one of the first 64 of these pages is sound: of a geometry and an arrangement that show none no more is read
+abbrev pub shows_sound : Geometry → List ℕ → Bool
+shows_sound g all = nat_lt 0 (sample_first g all (min (row_count g) 64)).sound
+
+-- ---- pages in their turn
+
+-- whether a page may follow the one before it in its block: a block is programmed page by page, so that one is not erased, and each sequence is later
+abbrev pub follows : Look → Look → Bool
+follows (Sound q) (Sound r) = nat_lt q.sequence r.sequence
+follows Erased (Sound r) = false
+follows Unsound (Sound r) = true
+follows x Erased = false
+follows x Unsound = false
+
+-- whether the page of a row is sound, and in its turn
+abbrev pub is_in_turn : Geometry → List ℕ → ℕ → Bool
+is_in_turn g all row = if row % g.pages == 0 then is_sound (look_in g all row) else follows (look_in g all (row - 1)) (look_in g all row)
+
+-- how many are of those that are looked at
+unfoldable pub in_turn_of : Geometry → List ℕ → ℕ
+in_turn_of g all = count_by (λ place. is_in_turn g all (looked_row (row_count g) place)) (range_with_len 0 (looked_count (row_count g)))

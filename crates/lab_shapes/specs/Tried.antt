@@ -1,0 +1,47 @@
+-- Which arrangements are tried where no geometry fits a dump as it stands.
+use Rattle.std.specs.Prelude.{◌≡◌, ◌↔◌, ℕ, ◌-◌, ◌/◌, ◌%◌, ◌<◌, ◌==◌, nat_lt, if◌then◌else◌, List, [], ◌∷◌, get_or, Option, Some, None}
+use Rattle.std.specs.List.{Contains}
+use Rattle.lab_arrange.specs.declared.arrangement.Arrangement.{Arrangement}
+use Rattle.lab_arrange.specs.declared.arrangement.Spares.{Spares}
+use Rattle.lab_arrange.specs.declared.arrangement.Spares.TheVariants.{Block, Die}
+
+-- how many bytes a header may have that is tried, or a tail: a power of two from 16 to 65536
+abbrev pub around_sizes : List ℕ
+around_sizes = 16 ∷ 32 ∷ 64 ∷ 128 ∷ 256 ∷ 512 ∷ 1024 ∷ 2048 ∷ 4096 ∷ 8192 ∷ 16384 ∷ 32768 ∷ 65536 ∷ []
+
+-- nothing stands around the pages, or a header, or a tail
+abbrev pub IsAround : (header tail : Option ℕ) → Type 0
+IsAround None None = Unit {0}
+IsAround (Some n) None = Contains around_sizes n
+IsAround None (Some n) = Contains around_sizes n
+IsAround (Some n) (Some m) = ⊥
+
+-- AN ARRANGEMENT IS TRIED where nothing was cut off, and at most a header or a tail stands around the pages: in each order of the bytes.
+pub record IsTried (a : Arrangement) : Type 0 where
+  pub around : IsAround a.header a.tail
+  pub whole : a.cut ≡ None
+
+-- ---- their numbers
+
+abbrev pub around_of : ℕ → Option ℕ × Option ℕ
+around_of n = if n == 0 then (None, None) else (if nat_lt n 14 then (Some (get_or around_sizes (n - 1) 0), None) else (None, Some (get_or around_sizes (n - 14) 0)))
+
+abbrev pub spares_of : ℕ → Option Spares
+spares_of n = if n == 1 then Some Block else (if n == 2 then Some Die else None)
+
+-- the arrangement of a number
+-- Law: those of the numbers below 1296 are just those that are tried (`TriedLaw`).
+unfoldable pub numbered : ℕ → Arrangement
+numbered n = record {
+  header = (around_of (n / 48)).0;
+  tail = (around_of (n / 48)).1;
+  cut = None;
+  spares = spares_of (n % 3);
+  spare_first = n / 3 % 2 == 1;
+  swapped = n / 6 % 2 == 1;
+  inverted = n / 12 % 2 == 1;
+  planes = n / 24 % 2 == 1;
+}
+
+abbrev pub TriedLaw : Type 0
+TriedLaw = (a : Arrangement) → IsTried a ↔ ((n : ℕ) × (n < 1296) × (numbered n ≡ a))

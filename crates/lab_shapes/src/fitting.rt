@@ -1,0 +1,125 @@
+//! Whether a geometry fits a dump in an arrangement.
+ghost use Rattle.std.specs.Prelude.{◌≡◌, ◌+◌, ◌≤◌, List, ℕ, length, IfOk, IfSome, OnErr, Some, true};
+ghost use Rattle.page_layout.specs.Geometry.{page_bytes, row_count};
+ghost use Rattle.page_layout.specs.Limits.{IsDataSize, IsPageCount, IsSpareSize};
+ghost use Rattle.lab_arrange.specs.Place.{IsFitting, length_of};
+ghost use Rattle.lab_shapes.specs.Arranged.{FitsAs, IsPossibleAs, fit_in_order};
+ghost use Rattle.lab_shapes.specs.Better.{IsFoundAs, IsShapeAs};
+ghost use Rattle.lab_shapes.specs.Ordered.{in_turn_of, ordered, shows_sound};
+ghost use Rattle.lab_shapes.specs.Tried.{IsTried};
+
+use crate::evidence::fit_of;
+use crate::find::ArrangedFit;
+use crate::looking::{count_in_turn, sample_first, told_in_order};
+use lab_arrange::{Arrangement, fit_arrangement, wanted_length};
+use lab_dump::{Dump, DumpFault, looked_count};
+use page_layout::geometry::Geometry;
+use std::cmp::Reverse;
+
+// So many of the pages that are looked at have to show a sound one.
+const PROBED: u32 = 64;
+
+// The most blocks that a die may have.
+const MOST_BLOCKS: u64 = 4096;
+
+/// The geometry with one sector of such areas and blocks that comes to so many bytes, if there is one.
+pub(crate) fn shape_as(
+    bytes: u64,
+    data_bytes: u32,
+    spare_bytes: u32,
+    pages: u32,
+) -> Option<Geometry>
+    requires data_size { IsDataSize data_bytes }
+    requires spare_size { IsSpareSize spare_bytes }
+    requires page_count { IsPageCount pages }
+    ensures { IsShapeAs bytes data_bytes spare_bytes pages result }
+{
+    let page_bytes = u64::from(data_bytes + spare_bytes);
+    if bytes % page_bytes != 0 {
+        return None;
+    }
+    let rows = bytes / page_bytes;
+    let blocks = rows / u64::from(pages);
+    if rows % u64::from(pages) != 0 {
+        return None;
+    }
+    if blocks > MOST_BLOCKS {
+        return None;
+    }
+    Geometry::new(data_bytes, spare_bytes, pages, blocks as u32, 1).ok()
+}
+
+// A die of this geometry stands in this arrangement, and the dump has its bytes: what it tells when it is put in order, where one of the first pages
+// is sound. `raw` and `page` are scratch.
+fn fit_whole<D: Dump>(
+    dump: &mut D,
+    size: u64,
+    geometry: &Geometry,
+    arrangement: &Arrangement,
+    raw: &mut [u8],
+    page: &mut [u8],
+) -> Result<Option<ArrangedFit>, DumpFault>
+    requires fits { IsFitting geometry.now arrangement.now }
+    requires whole { size ≡ length_of geometry.now arrangement.now }
+    requires tried { IsTried arrangement.now }
+    requires page_room { length page.old ≡ page_bytes geometry.now }
+    requires raw_room { length raw.old ≡ page_bytes geometry.now + 2 }
+    ensures found { IfOk result (λ found. (all : List ℕ) → D.bytes dump.old ≡ Some all → size ≡ length all → IsFoundAs all geometry.now arrangement.now found) }
+    ensures possible { IfOk result (λ found. IfSome found IsPossibleAs) }
+    ensures source { OnErr result (D.failed dump.new ≡ true) }
+    ensures same { D.bytes dump.new ≡ D.bytes dump.old }
+{
+    let rows = geometry.rows();
+    let first = sample_first(
+        dump,
+        size,
+        geometry,
+        arrangement,
+        rows.min(PROBED),
+        raw,
+        page,
+    )?;
+    if first.sound == 0 {
+        return Ok(None);
+    }
+    let looked = looked_count(rows);
+    let sample = sample_first(dump, size, geometry, arrangement, looked, raw, page)?;
+    if sample.sound == 0 {
+        return Ok(None);
+    }
+    let in_turn = count_in_turn(dump, size, geometry, arrangement, raw, page)?;
+    let told = told_in_order(dump, size, geometry, arrangement, raw, page)?;
+    Ok(Some(ArrangedFit {
+        in_turn: Reverse(in_turn),
+        fit: fit_of(geometry, sample, told),
+        arrangement: *arrangement,
+    }))
+}
+
+/// What a dump of this size tells for this geometry in this arrangement, if it fits so. `raw` and `page` are scratch.
+pub(crate) fn fit_as<D: Dump>(
+    dump: &mut D,
+    size: u64,
+    geometry: &Geometry,
+    arrangement: &Arrangement,
+    raw: &mut [u8],
+    page: &mut [u8],
+) -> Result<Option<ArrangedFit>, DumpFault>
+    requires tried { IsTried arrangement.now }
+    requires page_room { 4352 ≤ length page.old }
+    requires raw_room { 4354 ≤ length raw.old }
+    ensures found { IfOk result (λ found. (all : List ℕ) → D.bytes dump.old ≡ Some all → size ≡ length all → IsFoundAs all geometry.now arrangement.now found) }
+    ensures possible { IfOk result (λ found. IfSome found IsPossibleAs) }
+    ensures source { OnErr result (D.failed dump.new ≡ true) }
+    ensures same { D.bytes dump.new ≡ D.bytes dump.old }
+{
+    if fit_arrangement(geometry, arrangement).is_err() {
+        return Ok(None);
+    }
+    if wanted_length(geometry, arrangement) != size {
+        return Ok(None);
+    }
+    let bytes = geometry.data_bytes() + geometry.spare_bytes();
+    let (raw, page) = (&mut raw[..bytes + 2], &mut page[..bytes]);
+    fit_whole(dump, size, geometry, arrangement, raw, page)
+}

@@ -1,0 +1,169 @@
+//! What the pages of a dump are, and what they tell, when they are put in order.
+ghost use Rattle.std.specs.Prelude.{◌≡◌, ◌+◌, ◌*◌, ◌%◌, ◌<◌, ◌≤◌, ◌^◌, List, ℕ, length, IfOk, OnErr, Some, true};
+ghost use Rattle.page_layout.specs.Geometry.{page_bytes, row_count};
+ghost use Rattle.lab_arrange.specs.Place.{IsFitting};
+ghost use Rattle.lab_dump.specs.Sample.{looked_count};
+ghost use Rattle.lab_dump.specs.Told.{told_of};
+ghost use Rattle.lab_shapes.specs.Ordered.{follows, in_turn_of, is_in_turn, look_in, ordered, sample_first};
+
+use lab_arrange::{Arrangement, read_page};
+use lab_dump::{Dump, DumpFault, Look, Sample, Told, look_in, looked_count, looked_row};
+use page_layout::geometry::Geometry;
+
+// What the page of a row is, when the dump is put in order. `raw` and `page` are scratch.
+fn look_in_order<D: Dump>(
+    dump: &mut D,
+    size: u64,
+    geometry: &Geometry,
+    arrangement: &Arrangement,
+    row: u32,
+    raw: &mut [u8],
+    page: &mut [u8],
+) -> Result<Look, DumpFault>
+    requires fits { IsFitting geometry.now arrangement.now }
+    requires row { row < row_count geometry.now }
+    requires page_room { length page.old ≡ page_bytes geometry.now }
+    requires raw_room { length raw.old ≡ page_bytes geometry.now + 2 }
+    ensures look { IfOk result (λ look. (all : List ℕ) → D.bytes dump.old ≡ Some all → size ≡ length all → look ≡ look_in geometry.now (ordered geometry.now arrangement.now all) row) }
+    ensures failed { OnErr result (D.failed dump.new ≡ true) }
+    ensures same { D.bytes dump.new ≡ D.bytes dump.old }
+{
+    read_page(dump, size, geometry, arrangement, row, raw, page)?;
+    Ok(look_in(geometry, page))
+}
+
+/// What the pages are of the first places that are looked at, when the dump is put in order. `raw` and `page` are scratch.
+pub(crate) fn sample_first<D: Dump>(
+    dump: &mut D,
+    size: u64,
+    geometry: &Geometry,
+    arrangement: &Arrangement,
+    places: u32,
+    raw: &mut [u8],
+    page: &mut [u8],
+) -> Result<Sample, DumpFault>
+    requires fits { IsFitting geometry.now arrangement.now }
+    requires places { places ≤ looked_count (row_count geometry.now) }
+    requires page_room { length page.old ≡ page_bytes geometry.now }
+    requires raw_room { length raw.old ≡ page_bytes geometry.now + 2 }
+    ensures sample { IfOk result (λ sample. (all : List ℕ) → D.bytes dump.old ≡ Some all → size ≡ length all → sample ≡ sample_first geometry.now (ordered geometry.now arrangement.now all) places) }
+    ensures few { IfOk result (λ sample. sample.sound + sample.unsound ≤ sample.looked) }
+    ensures failed { OnErr result (D.failed dump.new ≡ true) }
+    ensures same { D.bytes dump.new ≡ D.bytes dump.old }
+{
+    let rows = geometry.rows();
+    let looked = looked_count(rows);
+    let mut sample = Sample {
+        looked,
+        sound: 0,
+        unsound: 0,
+    };
+    for place in 0..places {
+        let row = looked_row(rows, place);
+        let look = look_in_order(dump, size, geometry, arrangement, row, raw, page)?;
+        sample = sample.noted(look);
+    }
+    Ok(sample)
+}
+
+/// What all pages tell together, when the dump is put in order. `raw` and `page` are scratch.
+pub(crate) fn told_in_order<D: Dump>(
+    dump: &mut D,
+    size: u64,
+    geometry: &Geometry,
+    arrangement: &Arrangement,
+    raw: &mut [u8],
+    page: &mut [u8],
+) -> Result<Told, DumpFault>
+    requires fits { IsFitting geometry.now arrangement.now }
+    requires page_room { length page.old ≡ page_bytes geometry.now }
+    requires raw_room { length raw.old ≡ page_bytes geometry.now + 2 }
+    ensures told { IfOk result (λ told. (all : List ℕ) → D.bytes dump.old ≡ Some all → size ≡ length all
+        → told ≡ told_of geometry.now.data_bytes geometry.now.spare_bytes (row_count geometry.now) (ordered geometry.now arrangement.now all)) }
+    ensures failed { OnErr result (D.failed dump.new ≡ true) }
+    ensures same { D.bytes dump.new ≡ D.bytes dump.old }
+{
+    let mut told = Told {
+        blocks: 0,
+        sectors: 0,
+    };
+    for row in 0..geometry.rows() {
+        read_page(dump, size, geometry, arrangement, row, raw, page)?;
+        told = told.noted(geometry, page);
+    }
+    Ok(told)
+}
+
+// Whether a page may follow the one before it in its block.
+fn follows(before: Look, look: Look) -> bool
+    ensures { result ≡ follows before look }
+{
+    let Look::Sound(found) = look else {
+        return false;
+    };
+    match before {
+        Look::Sound(last) => last.sequence < found.sequence,
+        Look::Erased => false,
+        Look::Unsound => true,
+    }
+}
+
+// Whether a page is sound.
+fn is_sound(look: Look) -> bool
+    ensures { result ≡ Rattle.lab_dump.specs.Sample.is_sound look }
+{
+    matches!(look, Look::Sound(_))
+}
+
+// Whether the page of a row is sound and in its turn, when the dump is put in order. `raw` and `page` are scratch.
+fn is_in_turn<D: Dump>(
+    dump: &mut D,
+    size: u64,
+    geometry: &Geometry,
+    arrangement: &Arrangement,
+    row: u32,
+    raw: &mut [u8],
+    page: &mut [u8],
+) -> Result<bool, DumpFault>
+    requires fits { IsFitting geometry.now arrangement.now }
+    requires row { row < row_count geometry.now }
+    requires page_room { length page.old ≡ page_bytes geometry.now }
+    requires raw_room { length raw.old ≡ page_bytes geometry.now + 2 }
+    ensures turn { IfOk result (λ turn. (all : List ℕ) → D.bytes dump.old ≡ Some all → size ≡ length all → turn ≡ is_in_turn geometry.now (ordered geometry.now arrangement.now all) row) }
+    ensures failed { OnErr result (D.failed dump.new ≡ true) }
+    ensures same { D.bytes dump.new ≡ D.bytes dump.old }
+{
+    let look = look_in_order(dump, size, geometry, arrangement, row, raw, page)?;
+    if row % geometry.pages() == 0 {
+        return Ok(is_sound(look));
+    }
+    let before = look_in_order(dump, size, geometry, arrangement, row - 1, raw, page)?;
+    Ok(follows(before, look))
+}
+
+/// How many of the pages that are looked at are sound and in their turn, when the dump is put in order. `raw` and `page` are scratch.
+pub(crate) fn count_in_turn<D: Dump>(
+    dump: &mut D,
+    size: u64,
+    geometry: &Geometry,
+    arrangement: &Arrangement,
+    raw: &mut [u8],
+    page: &mut [u8],
+) -> Result<u32, DumpFault>
+    requires fits { IsFitting geometry.now arrangement.now }
+    requires page_room { length page.old ≡ page_bytes geometry.now }
+    requires raw_room { length raw.old ≡ page_bytes geometry.now + 2 }
+    ensures count { IfOk result (λ count. (all : List ℕ) → D.bytes dump.old ≡ Some all → size ≡ length all → count ≡ in_turn_of geometry.now (ordered geometry.now arrangement.now all)) }
+    ensures failed { OnErr result (D.failed dump.new ≡ true) }
+    ensures same { D.bytes dump.new ≡ D.bytes dump.old }
+{
+    let rows = geometry.rows();
+    let mut count = 0;
+    for place in 0..looked_count(rows) {
+        let row = looked_row(rows, place);
+        if is_in_turn(dump, size, geometry, arrangement, row, raw, page)? {
+            count += 1;
+        }
+    }
+    Ok(count)
+}
