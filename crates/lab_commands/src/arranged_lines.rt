@@ -86,18 +86,8 @@ fn put_order<W: Output>(
                 ",spare-first",
             )),
             Words(flag_text(first, arrangement.swapped, "swapped", ",swapped")),
-            Words(flag_text(
-                swapped,
-                arrangement.inverted,
-                "inverted",
-                ",inverted",
-            )),
-            Words(flag_text(
-                inverted,
-                arrangement.planes,
-                "planes=2",
-                ",planes=2",
-            )),
+            Words(flag_text(swapped, arrangement.inverted, "inverted", ",inverted")),
+            Words(flag_text(inverted, arrangement.planes, "planes=2", ",planes=2")),
         ],
     )
 }
