@@ -7,12 +7,15 @@ making, of more shapes than those of lab.py; with `--time`, times it on dumps of
 
 LAB is the program, as of lab.py. It is counted in how many dumps the dump's own geometry comes first."""
 
+import collections
 import random
 import subprocess
 import sys
 import tempfile
 from pathlib import Path
 
+import arrange
+import arrangements
 import compare
 import lab
 import measure
@@ -20,6 +23,10 @@ import reference as ref
 
 # Others than those of compare.py: of sizes that many areas divide.
 MORE = [(64, 128, 8, 48, 40), (64, 64, 16, 64, 300), (128, 32, 16, 20, 100), (256, 64, 8, 30, 90), (512, 128, 16, 36, 200)]
+
+
+# of dumps in another arrangement: for how many one is told, and how many come back as they were
+ARRANGED = collections.Counter()
 
 
 def dump_for(rng):
@@ -44,6 +51,26 @@ def has_table(image):
     return formed and {image.records[row].number for row in rows} == set(range(g.tables))
 
 
+def arranged_case(rng, folder, g, raw):
+    """The dump in another arrangement: what is told makes pages in order of it again, to the byte where its own geometry and arrangement are told. Of
+    how many that is so is counted."""
+    told = dict(rng.choice([order for order in arrangements.orders() if g.blocks % 2 == 0 or "planes" not in order]))
+    sizes = {name: rng.choice(arrangements.AROUND) for name in rng.choice([[], ["header"], ["tail"]])}
+    made = bytes(arrange.put(g, raw, told))
+    made = made.translate(bytes(range(255, -1, -1))) if "inverted" in told else made
+    made = rng.randbytes(sizes.get("header", 0)) + made + rng.randbytes(sizes.get("tail", 0))
+    lab.expect_fits(folder, made)
+    found = None if ref.geometries(made) else arrangements.best(made)
+    ARRANGED["told" if found else "none"] += 1
+    if found:
+        numbers, rows = ",".join(map(str, found[0][0])), found[0][0][2] * found[0][0][3]
+        (folder / "dump.bin").write_bytes(made)
+        assert lab.run(["arrange", numbers, "dump.bin", "out.bin", "--from", found[1]], folder) == (0, f"arranged {rows}\n", "")
+        ARRANGED["own"] += (folder / "out.bin").read_bytes() == raw
+    lab.clear(folder)
+    return None
+
+
 def case(rng, folder):
     """Whether the dump's own geometry comes first, and whether it has a whole table of blocks; none where no page is sound."""
     g, image = dump_for(rng)
@@ -52,6 +79,8 @@ def case(rng, folder):
         # as on a chip, with codes and wrong bits
         raw = lab.spoiled(rng, g, raw)
         page = len(raw) // g.rows
+    elif rng.random() < 0.3:
+        return arranged_case(rng, folder, g, raw)
     if rng.random() < 0.1:
         raw = raw[: rng.randrange(len(raw))]
     want = lab.expect_fits(folder, raw)
@@ -113,7 +142,7 @@ def main():
         told = [answer for i in range(cases) if (answer := case(random.Random(f"geometry {seed}.{i}"), folder))]
         whole = [first for first, has_whole in told if has_whole]
         print(f"{cases} dumps as the reference. The own geometry is first in {sum(first for first, _ in told)} of {len(told)} with a sound page,")
-        print(f"and in {sum(whole)} of {len(whole)} with a whole table of blocks")
+        print(f"and in {sum(whole)} of {len(whole)} with a whole table of blocks. In other arrangements: {dict(ARRANGED)}")
 
 
 if __name__ == "__main__":

@@ -1,6 +1,6 @@
 -- A geometry that fits in another arrangement, piece by piece.
 use Rattle.std.proofs.Common.{◌≡◌, ℕ, zero, suc, ◌+◌, ◌/◌, ◌%◌, ◌<◌, Bool, true, false, cond, List, [], ◌∷◌, ◌++◌, Option, Some, None, refl, sym, ap, ◌∙◌, subst, append_assoc, append-nil, arith}
-use Rattle.std.specs.Prelude.{codes, nat_eq}
+use Rattle.std.specs.Prelude.{◌||◌, codes, is_some, nat_eq}
 use Rattle.std.specs.Fmt.{decimal, digit_glyph, digits_onto, digits}
 use Rattle.std.specs.List.{flat_map}
 use Rattle.std.proofs.lemmas.Bool.{lt-ltb}
@@ -27,6 +27,11 @@ arrange_flat f = simp append_assoc
 pub arrange_pieces : (f : Fit) (r1 r2 r3 r4 r5 : ℕ) → r1 ≡ f.data_bytes → r2 ≡ f.spare_bytes → r3 ≡ f.pages → r4 ≡ f.blocks → r5 ≡ f.sectors
     → codes " arranged: first nandlab arrange " ++ (decimal r1 ++ (codes "," ++ (decimal r2 ++ (codes "," ++ (decimal r3 ++ (codes "," ++ (decimal r4 ++ (codes "," ++ (decimal r5 ++ codes " DUMP OUT --from "))))))))) ≡ arrange_words f
 arrange_pieces f r1 r2 r3 r4 r5 e1 e2 e3 e4 e5 = rw (e1, e2, e3, e4, e5) (arrange_flat f)
+
+pub order_pieces : (before : Bool) (a : Arrangement) (b1 b2 b3 b4 : Bool) (w1 w2 w3 w4 w5 : List ℕ) → b1 ≡ (before || is_some a.spares) → b2 ≡ (before || is_some a.spares || a.spare_first) → b3 ≡ (before || is_some a.spares || a.spare_first || a.swapped)
+    → b4 ≡ (before || is_some a.spares || a.spare_first || a.swapped || a.inverted) → w1 ≡ spares_words before a.spares → w2 ≡ flag_words b1 a.spare_first (codes "spare-first") → w3 ≡ flag_words b2 a.swapped (codes "swapped")
+    → w4 ≡ flag_words b3 a.inverted (codes "inverted") → w5 ≡ flag_words b4 a.planes (codes "planes=2") → w1 ++ (w2 ++ (w3 ++ (w4 ++ w5))) ≡ order_words before a
+order_pieces before a b1 b2 b3 b4 w1 w2 w3 w4 w5 f1 f2 f3 f4 e1 e2 e3 e4 e5 = rw (e1, e2, e3, e4, e5, f1, f2, f3, f4) refl
 
 -- ---- words that stand in JSON as they are
 
@@ -55,14 +60,13 @@ plain_glyph n acc h =
 
 plain_onto : (k n : ℕ) (acc : List ℕ) → escape acc ≡ acc → escape (digits_onto k 10 false n acc) ≡ digits_onto k 10 false n acc
 plain_onto zero n acc h = h
-plain_onto (suc k) n acc h = by (nat_eq (n / 10) 0)
+plain_onto (suc k) n acc h = by (nat_eq (n / 10) 0) (plain_glyph n acc h) (plain_onto k (n / 10) (digit_glyph false (n % 10) ∷ acc) (plain_glyph n acc h))
   where
-    next : escape (digit_glyph false (n % 10) ∷ acc) ≡ digit_glyph false (n % 10) ∷ acc
-    next = plain_glyph n acc h
-
-    by : (b : Bool) → escape (cond b (digit_glyph false (n % 10) ∷ acc) (digits_onto k 10 false (n / 10) (digit_glyph false (n % 10) ∷ acc))) ≡ cond b (digit_glyph false (n % 10) ∷ acc) (digits_onto k 10 false (n / 10) (digit_glyph false (n % 10) ∷ acc))
-    by true = next
-    by false = plain_onto k (n / 10) (digit_glyph false (n % 10) ∷ acc) next
+    by : (b : Bool) → escape (digit_glyph false (n % 10) ∷ acc) ≡ digit_glyph false (n % 10) ∷ acc
+        → escape (digits_onto k 10 false (n / 10) (digit_glyph false (n % 10) ∷ acc)) ≡ digits_onto k 10 false (n / 10) (digit_glyph false (n % 10) ∷ acc)
+        → escape (cond b (digit_glyph false (n % 10) ∷ acc) (digits_onto k 10 false (n / 10) (digit_glyph false (n % 10) ∷ acc))) ≡ cond b (digit_glyph false (n % 10) ∷ acc) (digits_onto k 10 false (n / 10) (digit_glyph false (n % 10) ∷ acc))
+    by true last more = last
+    by false last more = more
 
 plain_decimal : (n : ℕ) → escape (decimal n) ≡ decimal n
 unfolding digits

@@ -1,5 +1,5 @@
 //! A geometry that fits a dump in another arrangement, as plain text and as a JSON value.
-ghost use Rattle.std.specs.Prelude.{◌≡◌, ◌∷◌, None};
+ghost use Rattle.std.specs.Prelude.{◌≡◌, ◌∷◌, ◌||◌, None, is_some};
 ghost use Rattle.serde_json.specs.Written.{compact_text};
 ghost use Rattle.lab_shapes.specs.Words.{around_words, arrangement_words, flag_words, order_words, spares_words};
 ghost use Rattle.lab_commands.specs.Document.{Prints};
@@ -63,6 +63,41 @@ fn flag_text(before: bool, told: bool, word: &'static str, behind: &'static str)
     }
 }
 
+// Whether a word stands before that of spare areas before data areas, where `before` says whether one stands before all these.
+fn behind_spares(before: bool, arrangement: &Arrangement) -> bool
+    ensures { result ≡ (before || is_some arrangement.now.spares) }
+{
+    before || arrangement.spares.is_some()
+}
+
+// The same of `swapped`.
+fn behind_first(before: bool, arrangement: &Arrangement) -> bool
+    ensures { result ≡ (before || is_some arrangement.now.spares || arrangement.now.spare_first) }
+{
+    behind_spares(before, arrangement) || arrangement.spare_first
+}
+
+// The same of `inverted`.
+fn behind_swapped(before: bool, arrangement: &Arrangement) -> bool
+    ensures { result ≡ (before || is_some arrangement.now.spares || arrangement.now.spare_first || arrangement.now.swapped) }
+{
+    behind_first(before, arrangement) || arrangement.swapped
+}
+
+// The same of `planes=2`.
+fn behind_inverted(before: bool, arrangement: &Arrangement) -> bool
+    ensures { result ≡ (before || is_some arrangement.now.spares || arrangement.now.spare_first || arrangement.now.swapped || arrangement.now.inverted) }
+{
+    behind_swapped(before, arrangement) || arrangement.inverted
+}
+
+// Whether a header or a tail is told.
+fn has_around(arrangement: &Arrangement) -> bool
+    ensures { result ≡ (is_some arrangement.now.header || is_some arrangement.now.tail) }
+{
+    arrangement.header.is_some() || arrangement.tail.is_some()
+}
+
 // The words of the order of the bytes.
 fn put_order<W: Output>(
     out: &mut W,
@@ -71,10 +106,10 @@ fn put_order<W: Output>(
 ) -> Result<(), OutputFault>
     ensures { Prints (W.failed out.new) (W.contents out.old) (W.contents out.new) (order_words before arrangement.now) result }
 {
-    let spares = before || arrangement.spares.is_some();
-    let first = spares || arrangement.spare_first;
-    let swapped = first || arrangement.swapped;
-    let inverted = swapped || arrangement.inverted;
+    let spares = behind_spares(before, arrangement);
+    let first = behind_first(before, arrangement);
+    let swapped = behind_swapped(before, arrangement);
+    let inverted = behind_inverted(before, arrangement);
     put_pieces(
         out,
         &[
@@ -86,18 +121,8 @@ fn put_order<W: Output>(
                 ",spare-first",
             )),
             Words(flag_text(first, arrangement.swapped, "swapped", ",swapped")),
-            Words(flag_text(
-                swapped,
-                arrangement.inverted,
-                "inverted",
-                ",inverted",
-            )),
-            Words(flag_text(
-                inverted,
-                arrangement.planes,
-                "planes=2",
-                ",planes=2",
-            )),
+            Words(flag_text(swapped, arrangement.inverted, "inverted", ",inverted")),
+            Words(flag_text(inverted, arrangement.planes, "planes=2", ",planes=2")),
         ],
     )
 }
@@ -107,8 +132,7 @@ fn put_arrangement<W: Output>(out: &mut W, arrangement: &Arrangement) -> Result<
     ensures { Prints (W.failed out.new) (W.contents out.old) (W.contents out.new) (arrangement_words arrangement.now) result }
 {
     put_around(out, arrangement.header, arrangement.tail)?;
-    let before = arrangement.header.is_some() || arrangement.tail.is_some();
-    put_order(out, before, arrangement)
+    put_order(out, has_around(arrangement), arrangement)
 }
 
 // What comes first where the dump stands in another arrangement, but for its words.

@@ -182,7 +182,9 @@ const ANY_DUMP: WordRule<'static> = WordRule {
 const ARRANGE: CommandRule<'static> = CommandRule {
     name: "arrange",
     about: "Writes a dump in another arrangement as pages in order",
-    words: &[GEOM, ANY_DUMP, DUMP_OUT, FORCE, FROM, JSON, PROGRESS, REPORT],
+    words: &[
+        GEOM, ANY_DUMP, DUMP_OUT, FORCE, FROM, JSON, PROGRESS, REPORT,
+    ],
 };
 
 const REPORT_PLACE: WordRule<'static> = WordRule {

@@ -6,12 +6,12 @@ ghost use Rattle.lab_commands.specs.Lines.{class_words, label_words, made_words}
 ghost use Rattle.lab_commands.specs.Lines.{says_words, sort_words};
 ghost use Rattle.lab_commands.specs.Lines.{age_words, block_words, corrected_words, first_words, fit_words, found_words, history_words, kind_words, damaged_words, legible_words, line_words, moved_words, newer_words, page_words, said_words, tally_words, until_words, whole_words, wrote_words, tries_words, trial_words, turned_words};
 
+use crate::arranged_lines::put_arranged_fit;
 use crate::origin_lines::put_origin;
 use crate::output::{Output, OutputFault};
 use crate::pieces::Piece::{Number, Words};
 use crate::pieces::put_pieces;
 use crate::turn_lines::put_turn;
-use crate::arranged_lines::put_arranged_fit;
 use certificate::BlockState;
 use lab_correct::FoundFit;
 use lab_dump::{Doubts, Fit, Rows, SaidPage, SectorPage, TableSays, Wrote};

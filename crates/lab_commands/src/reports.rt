@@ -17,10 +17,10 @@ use crate::told_lines::{
     past_line, repeated_line, rewritten_line, rows_line, tries_line,
 };
 use lab_correct::{FoundFit, Loss};
-use lab_shapes::ArrangedFit;
 use lab_dump::{Compared, DieSurvey, Held, Rows, SectorPage, State, Unsettled, damaged_count};
 use lab_mend::{Mend, Tally, TriedRow, count_mended, count_tries};
 use lab_origin::{Mark, mended_count};
+use lab_shapes::ArrangedFit;
 use page_layout::geometry::Geometry;
 
 // The pages of each sort, and the reasons against a mount but for the tables.

@@ -6,13 +6,13 @@ ghost use Rattle.lab_commands.specs.Lines.{label_words};
 ghost use Rattle.lab_commands.specs.Values.{age_data, age_until_data, arranged_data, block_data, corrected_data, damaged_data, doubt_data, found_data, front_words, head_data, history_data, key_data, legible_data, line_data, lost_data, lost_row_data};
 ghost use Rattle.lab_commands.specs.Values.{mended_count_data, mended_data, merged_data, nothing_data, page_data, pages_data, plain_block_data, reason_pages_data, reason_table_data, repeated_data, row_data, rows_age_data, rows_data, said_data, tried_data, tries_data, truth_words, turned_data};
 
+use crate::arranged_lines::put_arranged_object;
 use crate::lines::{Label, Line, Sort, class_text, kind_text, made_text, says_text, wrote_text};
 use crate::origin_lines::put_origin_data;
 use crate::output::{Output, OutputFault};
 use crate::pieces::Piece::{Number, Words};
 use crate::pieces::put_pieces;
 use crate::turn_lines::put_turn_data;
-use crate::arranged_lines::put_arranged_object;
 use certificate::BlockState;
 use lab_correct::FoundFit;
 use lab_dump::{Doubts, Rows, SaidPage, SectorPage};

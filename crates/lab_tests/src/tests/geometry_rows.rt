@@ -1,4 +1,5 @@
 //! Which geometries `geometry` tells, and each of its refusals.
+use super::arranged::{PLAIN, Stands};
 use super::dumps::Made;
 use super::files::Trouble;
 use super::runs::{Case, Step, expect_cases};
@@ -60,6 +61,96 @@ const STEPS_CODED: [Step; 5] = [
     Step::Run("nandlab geometry out.bin", 0, TOLD),
 ];
 
+// The die of the first case, of which no page is damaged, in four arrangements: each word stands in one of them.
+const BY_DIE: Made = Made::Arranged(
+    &PAGES,
+    Stands {
+        header: 512,
+        run: 256,
+        inverted: true,
+        ..PLAIN
+    },
+);
+
+const BY_BLOCK: Made = Made::Arranged(
+    &PAGES,
+    Stands {
+        tail: 16,
+        run: 8,
+        spare_first: true,
+        ..PLAIN
+    },
+);
+
+const SWAPPED: Made = Made::Arranged(
+    &PAGES,
+    Stands {
+        swapped: true,
+        ..PLAIN
+    },
+);
+
+// Two planes, of which the first blocks are programmed page by page: read as one plane, a page stands behind an erased one.
+const TURNS: [Written; 6] = [
+    TABLE_0,
+    TABLE_1,
+    page!(8, Sector 3, sequence 5, fill 0x31),
+    page!(9, Sector 30, sequence 6, fill 0x33),
+    page!(10, Sector 4, sequence 7, fill 0x34),
+    page!(11, Sector 5, sequence 8, fill 0x35),
+];
+
+const PLANES: Made = Made::Arranged(
+    &TURNS,
+    Stands {
+        inverted: true,
+        planes: true,
+        ..PLAIN
+    },
+);
+
+const STEPS_ARRANGED: [Step; 10] = [
+    Step::Run(
+        "nandlab geometry die.bin",
+        0,
+        "geometry 64,32,8,32,31 looked 256 sound 4 unsound 0 table agrees blocks 32 sectors 31 arranged: first nandlab arrange 64,32,8,32,31 DUMP OUT --from header=512,spares=die,inverted\n",
+    ),
+    Step::Run("nandlab geometry die.bin --json", 0, DOCUMENT_ARRANGED),
+    Step::Closed("nandlab geometry die.bin", 0),
+    Step::Run(
+        "nandlab geometry block.bin",
+        0,
+        "geometry 64,32,8,32,31 looked 256 sound 4 unsound 0 table agrees blocks 32 sectors 31 arranged: first nandlab arrange 64,32,8,32,31 DUMP OUT --from tail=16,spares=block,spare-first\n",
+    ),
+    Step::Run(
+        "nandlab geometry swapped.bin",
+        0,
+        "geometry 64,32,8,32,31 looked 256 sound 4 unsound 0 table agrees blocks 32 sectors 31 arranged: first nandlab arrange 64,32,8,32,31 DUMP OUT --from swapped\n",
+    ),
+    Step::Run(
+        "nandlab geometry planes.bin",
+        0,
+        "geometry 64,32,8,32,31 looked 256 sound 6 unsound 0 table agrees blocks 32 sectors 31 arranged: first nandlab arrange 64,32,8,32,31 DUMP OUT --from inverted,planes=2\n",
+    ),
+    Step::Run(
+        "nandlab arrange 64,32,8,32,31 die.bin o1 --from header=512,spares=die,inverted",
+        0,
+        "arranged 256\n",
+    ),
+    Step::Holds("o1", Made::Dump(&PAGES)),
+    Step::Run(
+        "nandlab arrange 64,32,8,32,31 planes.bin o2 --from inverted,planes=2",
+        0,
+        "arranged 256\n",
+    ),
+    Step::Holds("o2", Made::Dump(&TURNS)),
+];
+
+const DOCUMENT_ARRANGED: &str = r#"[{"command":"geometry","line":"command","program":"nandlab"},
+{"arrange":"header=512,spares=die,inverted","blocks_told":32,"geometry":[64,32,8,32,31],"line":"geometry","looked":256,"sectors_told":31,"sound":4,"table":"agrees","unsound":0}
+]
+"#;
+
 const TROUBLES: [Step; 9] = [
     Step::Trouble(Trouble::ReadsEnd(24575)),
     Step::Run(GEOMETRY, 3, "fault read dump.bin\n"),
@@ -84,7 +175,7 @@ const TROUBLES: [Step; 9] = [
     ),
 ];
 
-const CASES: [Case; 3] = [
+const CASES: [Case; 4] = [
     Case {
         name: "the shapes",
         files: &[("dump.bin", Made::Changed(&PAGES, &[(1632, 0)]))],
@@ -98,6 +189,16 @@ const CASES: [Case; 3] = [
         name: "with codes",
         files: &[("dump.bin", CODED)],
         steps: &STEPS_CODED,
+    },
+    Case {
+        name: "in other arrangements",
+        files: &[
+            ("die.bin", BY_DIE),
+            ("block.bin", BY_BLOCK),
+            ("swapped.bin", SWAPPED),
+            ("planes.bin", PLANES),
+        ],
+        steps: &STEPS_ARRANGED,
     },
     Case {
         name: "refusals",
