@@ -41,8 +41,8 @@ def blocks(told):
 
 
 def areas(mapfile):
-    """Bytes of each state in a mapfile of GNU ddrescue: finished, bad, not tried."""
-    sums = {"+": 0, "-": 0, "?": 0}
+    """Bytes of each state in a mapfile of GNU ddrescue: finished, bad, not tried, and of a page that no reading has."""
+    sums = {"+": 0, "-": 0, "?": 0, "*": 0}
     for words in map(str.split, mapfile):
         if len(words) == 3 and words[2] in sums and words[0].startswith("0x"):
             sums[words[2]] += int(words[1], 16)
@@ -78,22 +78,28 @@ class Die:
         self.survey = lines(folder / "survey.txt")
         self.array = lines(folder / "array.txt")
         self.verified = lines(folder / "verify.txt")
+        self.ordered = next((lines(path)[:1] for path in sorted(folder.glob("*.order.txt"))), [])
+        self.damaged = sum(int(line.split()[1]) for line in lines(folder / "damaged.txt") if line.startswith("damaged "))
+        self.made = areas(lines(folder / "origin.map"))["*"]
         self.areas = areas(lines(folder / "disk.map"))
 
     def row(self):
         if self.shape is None:
-            return f'<tr><td>{self.name}</td><td class="text bad" colspan="10">{html.escape(self.refusal)}</td></tr>'
+            return f'<tr><td>{self.name}</td><td class="text bad" colspan="13">{html.escape(self.refusal)}</td></tr>'
         data = int(self.shape.split(",")[0])
         before = " ".join(str(count.get("unsound", "?")) for count in self.first)
         left, marked = counts(self.survey).get("unsound", 0), sum(n for kind, n in blocks(self.survey) if kind == "factory")
         states = [self.areas[state] // data for state in "+-?"]
         reasons = sum(line.startswith("reason") for line in self.survey)
-        cells = [self.shape, before, self.mended, self.conflicts(), left - marked, marked, *states, reasons]
-        flags = [0, 0, 0, self.conflicts(), left - marked, 0, 0, states[1], 0, reasons]
+        cells = [self.shape, before, self.mended, self.turned(), self.conflicts(), left - marked, marked, *states, self.made // data, self.damaged, reasons]
+        flags = [0, 0, 0, 0, self.conflicts(), left - marked, 0, 0, states[1], 0, 0, self.damaged, reasons]
         marks = ["text"] + ["bad" if flag else "" for flag in flags[1:]]
         return f'<tr><td><a href="#{self.place}">{self.name}</a></td>' + "".join(
             f'<td class="{mark}">{html.escape(str(cell))}</td>' for mark, cell in zip(marks, cells)
         ) + "</tr>"
+
+    def turned(self):
+        return sum(line.startswith("turned row") for line in self.merged)
 
     def conflicts(self):
         return sum(line.startswith("differ row") for line in self.merged)
@@ -103,12 +109,12 @@ class Die:
             return ""
         pages = int(self.shape.split(",")[2])
         reasons = [line for line in self.survey if line.startswith(("reason", "tied", "missing"))]
-        told = self.merged[-1:] + reasons[:12] + self.array[-1:] + self.verified
+        told = self.ordered + self.merged[-1:] + reasons[:12] + self.array[-1:] + self.verified
         return f'<section id="{self.place}"><h3>{self.name}</h3>{picture(self.name, blocks(self.survey), pages)}<pre>{html.escape(chr(10).join(told))}</pre></section>'
 
 
-HEADS = ["die", "shape", "unsound pages, by reading", "pages mended", "rows in conflict", "unsound pages left", "and in blocks marked bad by the factory"]
-HEADS += ["sectors found", "sectors tied", "sectors without a page", "reasons against a mount"]
+HEADS = ["die", "shape", "unsound pages, by reading", "pages mended", "rows put together by bits", "rows in conflict", "unsound pages left", "and in blocks marked bad by the factory"]
+HEADS += ["sectors found", "sectors tied", "sectors without a page", "sectors of a page that no reading has", "sectors that an unsound page may tell", "reasons against a mount"]
 
 
 def main(results, out):
