@@ -83,8 +83,8 @@ fn sectors_from(told: u64) -> u32
     told.max(1).min(1_048_576) as u32
 }
 
-/// A geometry of one sector, with what the dump says for it.
-pub(crate) fn fit_of(geometry: &Geometry, sample: Sample, told: Told) -> Fit
+/// A geometry, with what the dump says for it by a sample of its pages and by what all of them tell. Its sectors are the fewest that are told. (This project's.)
+pub fn fit_of(geometry: &Geometry, sample: Sample, told: Told) -> Fit
     ensures { result ≡ fit_of geometry.now.data_bytes geometry.now.spare_bytes geometry.now.pages geometry.now.blocks sample told }
 {
     let data_bytes = geometry.data_bytes() as u32;

@@ -57,7 +57,7 @@ pub use damaged::damaged_laws;
 pub use doubts::{Doubts, Unsettled};
 pub use dump::{Dump, DumpFault, DumpReader};
 pub use find::{FitRoom, add_shapes, find_geometries};
-pub use fit::{Fit, TableSays};
+pub use fit::{Fit, TableSays, fit_of};
 pub use held::{Held, Shown, State, damaged_count};
 pub use history::{History, HistoryRoom, SectorPage, Wrote, history_laws, survey_sector};
 pub use laws::{

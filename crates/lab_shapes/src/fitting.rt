@@ -8,11 +8,10 @@ ghost use Rattle.lab_shapes.specs.Better.{IsFoundAs, IsShapeAs};
 ghost use Rattle.lab_shapes.specs.Ordered.{in_turn_of, ordered, shows_sound};
 ghost use Rattle.lab_shapes.specs.Tried.{IsTried};
 
-use crate::evidence::fit_of;
 use crate::find::ArrangedFit;
 use crate::looking::{count_in_turn, sample_first, told_in_order};
 use lab_arrange::{Arrangement, fit_arrangement, wanted_length};
-use lab_dump::{Dump, DumpFault, looked_count};
+use lab_dump::{Dump, DumpFault, fit_of, looked_count};
 use page_layout::geometry::Geometry;
 use std::cmp::Reverse;
 

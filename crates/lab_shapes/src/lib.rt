@@ -6,7 +6,6 @@
 
 #![tactic(auto)]
 
-mod evidence;
 mod find;
 mod fitting;
 mod laws;
