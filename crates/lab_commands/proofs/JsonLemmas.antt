@@ -101,6 +101,7 @@ plain_report report.Merge = refl
 plain_report report.Repair = refl
 plain_report report.Correct = refl
 plain_report report.Arrange = refl
+plain_report report.Origin = refl
 
 -- the numbers of a list, and what follows it
 pub list_of_two : (a b rest : List ℕ) → (a ++ 44 ∷ (b ++ 93 ∷ [])) ++ rest ≡ a ++ 44 ∷ (b ++ 93 ∷ rest)

@@ -41,8 +41,8 @@ returns-in-Ok-clause-followed g c =
       traced = λ all files dumped told. c.in-Ok.ensures.ok all files dumped (ap (map bytes) c.deref_mut.ensures.value ∙ told);
     }
 
-pub returns-in-Err-clause-fault : goal.returns-in-Err-clause-fault
-returns-in-Err-clause-fault g c =
+pub returns-clause-fault : goal.returns-clause-fault
+returns-clause-fault g c =
     let a = g.F.LabFiles.answers c.args.files.now in
     let b = g.F.LabFiles.answers c.open_dump.new.files in
     let words = c.args.words.now in

@@ -143,3 +143,7 @@ returns-in-Tried g c = subst (λ l. Prints (g.W.Output.failed c.put_tried.new.ou
 pub returns-in-Tries : goal.returns-in-Tries
 unfolding line_data
 returns-in-Tries g c = subst (λ l. Prints (g.W.Output.failed c.put_tries.new.out) (g.W.Output.contents c.args.out.now) (g.W.Output.contents c.put_tries.new.out) (compact_text (line_data l)) c.put_tries.result) (sym c.in-Tries.is) c.put_tries.ensures
+
+pub returns-in-Origin : goal.returns-in-Origin
+unfolding line_data
+returns-in-Origin g c = subst (λ l. Prints (g.W.Output.failed c.put_origin_data.new.out) (g.W.Output.contents c.args.out.now) (g.W.Output.contents c.put_origin_data.new.out) (compact_text (line_data l)) c.put_origin_data.result) (sym c.in-Origin.is) c.put_origin_data.ensures
