@@ -143,3 +143,8 @@ returns-in-Tried g c = subst (λ l. Prints (g.W.Output.failed c.put_tried.new.ou
 pub returns-in-Tries : goal.returns-in-Tries
 unfolding line_data
 returns-in-Tries g c = subst (λ l. Prints (g.W.Output.failed c.put_tries.new.out) (g.W.Output.contents c.args.out.now) (g.W.Output.contents c.put_tries.new.out) (compact_text (line_data l)) c.put_tries.result) (sym c.in-Tries.is) c.put_tries.ensures
+
+pub returns-in-ArrangedFit : goal.returns-in-ArrangedFit
+unfolding line_data
+returns-in-ArrangedFit g c =
+    subst (λ l. Prints (g.W.Output.failed c.put_arranged_object.new.out) (g.W.Output.contents c.args.out.now) (g.W.Output.contents c.put_arranged_object.new.out) (compact_text (line_data l)) c.put_arranged_object.result) (sym c.in-ArrangedFit.is) c.put_arranged_object.ensures
