@@ -35,5 +35,5 @@ found_in a path known (Err f) opened h = tt
 pub nothing_in : (a : Answers) (path : List ℕ) (known : Option (List ℕ)) (broke : Bool) (r : Result Fitting LabFault) → IsOpened a path known → (broke ≡ true → a.reads_fail) → IfErr r (FitNothing known broke path) → IfErr r (IsUnfound a path)
 nothing_in a path known broke (Ok fitting) opened fails h = tt
 nothing_in a path known broke (Err fault.NoneFits) opened fails h = inr (record { known = known; opened = opened; none = h })
-nothing_in a path known broke (Err (fault.Read told)) opened fails (named, failed) = inr (named, (record { known = known; opened = opened }, fails failed))
+nothing_in a path known broke (Err (fault.Read told)) opened fails (named, failed) = inr (named, record { known = known; opened = opened }, fails failed)
 nothing_in a path known broke (Err _) opened fails h = absurd h

@@ -56,3 +56,13 @@ unfolding line_words
 returns-in-Unsound g c =
     subst (λ l. Prints (g.W.Output.failed c.put_one-in-Unsound.new.out) (g.W.Output.contents c.args.out.now) (g.W.Output.contents c.put_one-in-Unsound.new.out) (line_words l) c.put_one-in-Unsound.result) (sym c.in-Unsound.is)
     (subst (λ (n : ℕ). Prints (g.W.Output.failed c.put_one-in-Unsound.new.out) (g.W.Output.contents c.args.out.now) (g.W.Output.contents c.put_one-in-Unsound.new.out) (codes "unsound row " ++ decimal n) c.put_one-in-Unsound.result) c.from-in-Unsound.ensures c.put_one-in-Unsound.ensures)
+
+pub returns-in-ArrangedFit : goal.returns-in-ArrangedFit
+unfolding line_words
+returns-in-ArrangedFit g c =
+    subst (λ l. Prints (g.W.Output.failed c.put_arranged_fit.new.out) (g.W.Output.contents c.args.out.now) (g.W.Output.contents c.put_arranged_fit.new.out) (line_words l) c.put_arranged_fit.result) (sym c.in-ArrangedFit.is) c.put_arranged_fit.ensures
+
+pub returns-in-Says : goal.returns-in-Says
+unfolding line_words
+returns-in-Says g c =
+    subst (λ l. Prints (g.W.Output.failed c.put_says.new.out) (g.W.Output.contents c.args.out.now) (g.W.Output.contents c.put_says.new.out) (line_words l) c.put_says.result) (sym c.in-Says.is) c.put_says.ensures

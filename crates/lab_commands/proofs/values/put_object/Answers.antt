@@ -147,3 +147,8 @@ returns-in-Tries g c = subst (λ l. Prints (g.W.Output.failed c.put_tries.new.ou
 pub returns-in-Origin : goal.returns-in-Origin
 unfolding line_data
 returns-in-Origin g c = subst (λ l. Prints (g.W.Output.failed c.put_origin_data.new.out) (g.W.Output.contents c.args.out.now) (g.W.Output.contents c.put_origin_data.new.out) (compact_text (line_data l)) c.put_origin_data.result) (sym c.in-Origin.is) c.put_origin_data.ensures
+
+pub returns-in-ArrangedFit : goal.returns-in-ArrangedFit
+unfolding line_data
+returns-in-ArrangedFit g c =
+    subst (λ l. Prints (g.W.Output.failed c.put_arranged_object.new.out) (g.W.Output.contents c.args.out.now) (g.W.Output.contents c.put_arranged_object.new.out) (compact_text (line_data l)) c.put_arranged_object.result) (sym c.in-ArrangedFit.is) c.put_arranged_object.ensures
