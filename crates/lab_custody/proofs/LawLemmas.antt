@@ -1,6 +1,6 @@
 -- The laws of what is said of files.
-use Rattle.std.proofs.Common.{◌≡◌, ◌≢◌, ◌∙◌, ◌+◌, sym, ℕ, List, [], ◌∷◌, ◌++◌, Option, Some, refl, arith}
-use Rattle.std.specs.Prelude.{All, ◌↔◌, cond}
+use Rattle.std.proofs.Common.{◌≡◌, ◌≢◌, ◌∙◌, ◌+◌, sym, ℕ, List, [], ◌∷◌, Some, refl, arith}
+use Rattle.std.specs.Prelude.{All, cond}
 use Rattle.std.proofs.lemmas.List.Elements.{All-cons, All-head, All-nil, All-tail}
 use Rattle.std.proofs.lemmas.List.Sums.{sum_by-cons}
 use Rattle.lab_commands.specs.Files.{Kept}
@@ -8,22 +8,25 @@ use Rattle.lab_custody.specs.declared.checks.Checked.{Checked}
 use Rattle.lab_custody.specs.declared.checks.Verdict.{Verdict}
 use Rattle.lab_custody.specs.declared.checks.Verdict.TheVariants as verdict
 use Rattle.lab_custody.specs.Laws.{NoneChanged, PutReadsBack}
-use Rattle.lab_custody.specs.Verify.{changed_count, changes, is_changed}
+use Rattle.lab_custody.specs.Verify.{changed_count, changes}
 
 abbrev IsSame : Checked → Type 0
 IsSame check = check.verdict ≡ verdict.Same
 
 -- how much a file counts
-abbrev counts : Checked → ℕ
-counts check = cond (is_changed check) 1 0
+abbrev count_of : Verdict → ℕ
+count_of v = cond (changes v) 1 0
 
-same_where : (v : Verdict) → cond (changes v) 1 0 ≡ 0 → v ≡ verdict.Same
+abbrev counts : Checked → ℕ
+counts check = count_of check.verdict
+
+same_where : (v : Verdict) → count_of v ≡ 0 → v ≡ verdict.Same
 same_where verdict.Same none = refl
 same_where verdict.Differs none = absurd (omega (arith, none))
 same_where verdict.Missing none = absurd (omega (arith, none))
 same_where verdict.Unread none = absurd (omega (arith, none))
 
-none_where : (v : Verdict) → v ≡ verdict.Same → cond (changes v) 1 0 ≡ 0
+none_where : (v : Verdict) → v ≡ verdict.Same → count_of v ≡ 0
 none_where v same = rw same refl
 
 each_same : (checks : List Checked) → changed_count checks ≡ 0 → All IsSame checks

@@ -4,7 +4,7 @@ ghost use Rattle.program_words.specs.Met.{texts};
 ghost use Rattle.lab_commands.specs.Files.{AnswersNoMore};
 ghost use Rattle.lab_report.specs.Note.{noted_of};
 ghost use Rattle.lab_custody.specs.Program.{IsRun, IsRunReported, IsUnbegun, IsUnfinished, WroteReport};
-ghost use Rattle.lab_custody.specs.Reported.{AreNoted, MayReport};
+ghost use Rattle.lab_custody.specs.Reported.{AreNoted, IsSomeUnnoted, MayReport};
 
 use crate::fault::{CustodyFault, tell};
 use crate::reported::{Notes, allow_report, note_files, store_report, take_notes};
@@ -14,6 +14,25 @@ use lab_commands::{LabFault, LabFiles, Output, run as run_lab};
 use std::alloc::Global;
 
 const DONE: u8 = 0;
+
+// What is said of the files that a command reads.
+fn note_read<'a, F: LabFiles>(
+    asked: &ReportedWords<'a>,
+    files: &mut F,
+    notes: &mut Notes<'a>,
+) -> Result<(), CustodyFault<'a>>
+    requires buffer { 0 < length notes.old.buffer.items }
+    requires none { notes.old.read.items ≡ [] }
+    requires places { length asked.now.read.items ≤ vec_capacity notes.old.read }
+    ensures noted { OnOk result (AreNoted (F.answers files.old) (F.kept files.old) (texts asked.now.read.items) (map noted_of notes.new.read.items)) }
+    ensures fault { IfErr result (IsSomeUnnoted (F.answers files.old) (texts asked.now.read.items)) }
+    ensures no_more { AnswersNoMore (F.answers files.old) (F.answers files.new) }
+    ensures kept { F.kept files.new ≡ F.kept files.old }
+    ensures buffer { 0 < length notes.new.buffer.items }
+    ensures wrote { notes.new.wrote ≡ notes.old.wrote }
+{
+    note_files(files, &asked.read, &mut notes.buffer, &mut notes.read)
+}
 
 // What comes before a command that is told in a report.
 fn begin<'a, F: LabFiles>(
@@ -38,7 +57,7 @@ fn begin<'a, F: LabFiles>(
         Ok(notes) => notes,
         Err(_) => return Err(CustodyFault::Lab(LabFault::OutOfMemory)),
     };
-    match note_files(files, &asked.read, &mut notes.buffer, &mut notes.read) {
+    match note_read(asked, files, &mut notes) {
         Ok(()) => Ok(notes),
         Err(fault) => Err(fault),
     }
