@@ -48,7 +48,7 @@ fitting_text form (fitting.Stands fits) = fits_text form fits.items
 fitting_text form (fitting.Arranged found) = arranged_fit_text form found
 
 -- and it was printed
-pub record AreTold (a : Answers) (words : GeometryWords) (out printed : Option (List ℕ)) : Type 0 where
+pub record ToldFits (a : Answers) (words : GeometryWords) (out printed : Option (List ℕ)) : Type 0 where
   pub fitting : Fitting
   pub found : HasFound a words.dump.now fitting
   pub told : Appends out printed (fitting_text (form_of words.showing) fitting)

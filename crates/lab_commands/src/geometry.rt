@@ -2,7 +2,7 @@
 ghost use Rattle.std.specs.Prelude.{◌≡◌, OnOk, IfOk, IfErr};
 ghost use Rattle.lab_correct.specs.FoundRoom.{IsFoundRoom};
 ghost use Rattle.lab_shapes.specs.Rooms.{IsShapeRoom};
-ghost use Rattle.lab_commands.specs.Geometry.{AreTold, FitNothing, FitsAre, HasFound, IsGeometryFault, IsUnfound, fitting_text};
+ghost use Rattle.lab_commands.specs.Geometry.{ToldFits, FitNothing, FitsAre, HasFound, IsGeometryFault, IsUnfound, fitting_text};
 ghost use Rattle.lab_commands.specs.Document.{Prints};
 
 use crate::document::Printer;
@@ -101,7 +101,7 @@ pub(crate) fn geometry_command<'a, F: LabFiles, W: Output>(
     files: &mut F,
     out: &mut W,
 ) -> Result<(), LabFault<'a>>
-    ensures ok { OnOk result (AreTold (F.answers files.old) words.entry (W.contents out.old) (W.contents out.new)) }
+    ensures ok { OnOk result (ToldFits (F.answers files.old) words.entry (W.contents out.old) (W.contents out.new)) }
     ensures kept { F.kept files.new ≡ F.kept files.old }
     ensures fault { IfErr result (IsGeometryFault (F.answers files.old) words.entry (F.kept files.old) (F.kept files.new) (F.opened files.old) (F.opened files.new) (W.failed out.new) (W.contents out.old) (W.contents out.new)) }
 {
