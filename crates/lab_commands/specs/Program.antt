@@ -12,7 +12,7 @@ use Rattle.lab_commands.specs.Array.{WroteArray, IsArrayFault}
 use Rattle.lab_commands.specs.History.{ToldHistory, IsHistoryFault}
 use Rattle.lab_commands.specs.Survey.{ToldSurvey, IsSurveyFault}
 use Rattle.lab_commands.specs.Compare.{ToldCompared, IsCompareFault}
-use Rattle.lab_commands.specs.Geometry.{AreTold, IsGeometryFault}
+use Rattle.lab_commands.specs.Geometry.{ToldFits, IsGeometryFault}
 use Rattle.lab_commands.specs.Repair.{WroteRepair, IsRepairFault}
 use Rattle.lab_commands.specs.Correct.{WroteCorrected, IsCorrectFault}
 use Rattle.lab_commands.specs.Arrange.{WroteArranged, IsArrangeFault}
@@ -24,7 +24,7 @@ use Rattle.lab_commands.specs.Undone.{IsHalfPrinted, LeavesAll}
 
 -- the words asked for an array, a merge, a repair, a correction, a dump in order or a map, which was written, or for geometries, a survey, a history, a comparison or a text, which was printed
 abbrev pub DoesAsked : Answers → Asked → Option Store → Option Store → Option (List ℕ) → Option (List ℕ) → Type 0
-DoesAsked a (asked.Geometry read) before after out printed = (after ≡ before) × AreTold a read out printed
+DoesAsked a (asked.Geometry read) before after out printed = (after ≡ before) × ToldFits a read out printed
 DoesAsked a (asked.Array read) before after out printed = WroteArray a read before after out printed
 DoesAsked a (asked.History read) before after out printed = (after ≡ before) × ToldHistory a read out printed
 DoesAsked a (asked.Survey read) before after out printed = (after ≡ before) × ToldSurvey a read out printed
