@@ -1,0 +1,54 @@
+#!/usr/bin/env python3
+"""Lists the names that stand for more than one thing: definitions of specs/ and public types of src/ that several crates have.
+
+    bench/names.py            the public types, and the words of docs/PROMISES.md, that several crates have
+    bench/names.py --all      each definition that several crates have, too
+
+A line for each name: how many crates have it, and which. Crates of tests and programs count for no type. It changes nothing, and gives no verdict."""
+
+import collections
+import re
+import sys
+from pathlib import Path
+
+TOP = Path(__file__).resolve().parent.parent
+DECLARES = re.compile(r"^(?:pub record|pub data|abbrev pub|unfoldable pub|opaque pub)\s+([A-Za-z_]\w*)", re.MULTILINE)
+TYPE = re.compile(r"^pub (?:struct|enum|trait|type) (\w+)", re.MULTILINE)
+PROGRAMS = {"nandctl", "nandctl_serve", "nandlab", "nanddisk", "system_program", "firmware", "ftl_c"}
+
+
+def having(pattern, files):
+    """Of each name that the pattern finds, the crates in whose files it stands."""
+    found = collections.defaultdict(set)
+    for path in files:
+        crate = path.relative_to(TOP / "crates").parts[0]
+        for name in pattern.findall(path.read_text(encoding="utf-8")):
+            found[name].add(crate)
+    return {name: crates for name, crates in found.items() if len(crates) > 1}
+
+
+def is_library(path):
+    crate = path.relative_to(TOP / "crates").parts[0]
+    return crate not in PROGRAMS and not crate.endswith(("_tests", "_bench"))
+
+
+def show(title, names):
+    print(f"{title}: {len(names)}")
+    for name, crates in sorted(names.items(), key=lambda it: (-len(it[1]), it[0])):
+        print(f"  {len(crates)} {name}: {' '.join(sorted(crates))}")
+
+
+def main():
+    specs = having(DECLARES, sorted(TOP.glob("crates/*/specs/**/*.antt")))
+    types = having(TYPE, [path for path in sorted(TOP.glob("crates/*/src/**/*.rt")) if is_library(path)])
+    promised = set(re.findall(r"`(\w+)[`.]", (TOP / "docs/PROMISES.md").read_text(encoding="utf-8")))
+    show("public types", types)
+    show("words of PROMISES", {name: crates for name, crates in specs.items() if name in promised})
+    if sys.argv[1:] == ["--all"]:
+        show("definitions", specs)
+    else:
+        print(f"definitions: {len(specs)}")
+
+
+if __name__ == "__main__":
+    main()
