@@ -1,4 +1,4 @@
-use Rattle.std.proofs.Common.{◌≡◌, ap, ◌∙◌, arith, string_bytes, length, ◌+◌}
+use Rattle.std.proofs.Common.{ap, ◌∙◌, arith}
 use Rattle.lab_commands.proofs.UndoneLemmas.{no_more_then}
 use Rattle.lab_report.specs.Note.{named_as}
 use Rattle.lab_custody.proofs.CheckLemmas.{one_checked}

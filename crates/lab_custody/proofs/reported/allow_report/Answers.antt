@@ -1,4 +1,4 @@
-use Rattle.std.proofs.Common.{◌≡◌, ◌<◌, length, ◌∙◌, arith}
+use Rattle.std.proofs.Common.{◌∙◌, arith}
 use Rattle.lab_custody.proofs.ReportLemmas.{others_more}
 use Rattle.lab_custody.proofs.reported.allow_report.Goals as goal
 

@@ -1,4 +1,4 @@
-use Rattle.std.proofs.Common.{◌≡◌, ◌∙◌, arith, length, ◌+◌}
+use Rattle.std.proofs.Common.{◌∙◌, arith}
 use Rattle.lab_commands.proofs.UndoneLemmas.{no_more_then}
 use Rattle.lab_custody.proofs.ReportLemmas.{one_noted, some_unnoted}
 use Rattle.lab_custody.proofs.reported.note_files.Goals as goal

@@ -1,4 +1,4 @@
-use Rattle.std.proofs.Common.{◌≡◌, Err, ap, inl, inr, refl, subst, ◌∙◌}
+use Rattle.std.proofs.Common.{Err, ap, inl, inr, refl, subst, ◌∙◌}
 use Rattle.std.proofs.lemmas.Result.{IfOk-weaker}
 use Rattle.program_words.specs.Grammar.{program_app}
 use Rattle.program_words.specs.Met.{AsksText, IsUnmet, texts}
