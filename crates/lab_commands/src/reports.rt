@@ -1,9 +1,10 @@
 //! What each command says.
-ghost use Rattle.std.specs.Prelude.{◌≡◌, option_map, map};
+ghost use Rattle.std.specs.Prelude.{◌≡◌, count_by, option_map, map};
 ghost use Rattle.lab_dump.specs.Held.{shown_in};
 ghost use Rattle.lab_commands.specs.Document.{Prints, if_text, line_text, text_below};
 ghost use Rattle.lab_mend.specs.Repairing.{mended_count};
 ghost use Rattle.lab_mend.specs.Tries.{tries_in};
+ghost use Rattle.lab_origin.specs.Origin.{is_mended};
 ghost use Rattle.lab_commands.specs.Lines.{tries_line};
 ghost use Rattle.lab_commands.specs.Reports.{age_text, arrange_text, arranged_fit_text, array_text, blocks_text, compare_text, correct_text, count_lines, doubts_text, ending_text, fits_text, history_text, key_at, keys_text, left_text, losses_text, merge_text, origin_text};
 ghost use Rattle.lab_commands.specs.Reports.{repair_text, some_text, survey_lines, survey_text, table_at, ties_text};
@@ -418,6 +419,17 @@ pub fn print_arranged<W: Output>(
     printer.end(out)
 }
 
+// How many sectors are shown of a page that no reading has.
+fn print_origin_count<W: Output>(
+    printer: Printer,
+    out: &mut W,
+    marks: &[Mark],
+) -> Result<(), OutputFault>
+    ensures { Prints (W.failed out.new) (W.contents out.old) (W.contents out.new) (line_text printer.form (Line.Origin (count_by is_mended marks.now))) result }
+{
+    printer.line(out, Some(Line::Origin(mended_count(marks))))
+}
+
 /// Prints how many sectors are shown of a page that no reading has, by the mark of each.
 ///
 /// # Errors
@@ -431,7 +443,7 @@ pub fn print_origin<W: Output>(
     ensures { Prints (W.failed out.new) (W.contents out.old) (W.contents out.new) (origin_text printer.form marks.now) result }
 {
     printer.begin(out, Report::Origin)?;
-    printer.line(out, Some(Line::Origin(mended_count(marks))))?;
+    print_origin_count(printer, out, marks)?;
     printer.end(out)
 }
 
