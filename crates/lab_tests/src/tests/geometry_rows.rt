@@ -61,9 +61,18 @@ const STEPS_CODED: [Step; 5] = [
     Step::Run("nandlab geometry out.bin", 0, TOLD),
 ];
 
-// The die of the first case, of which no page is damaged, in four arrangements: each word stands in one of them.
+// Blocks that were programmed page by page, in four arrangements: each word stands in one of them.
+const PROGRAMMED: [Written; 6] = [
+    TABLE_0,
+    TABLE_1,
+    page!(8, Sector 3, sequence 5, fill 0x31),
+    page!(9, Sector 30, sequence 6, fill 0x33),
+    page!(10, Sector 4, sequence 7, fill 0x34),
+    page!(11, Sector 5, sequence 8, fill 0x35),
+];
+
 const BY_DIE: Made = Made::Arranged(
-    &PAGES,
+    &PROGRAMMED,
     Stands {
         header: 512,
         run: 256,
@@ -73,7 +82,7 @@ const BY_DIE: Made = Made::Arranged(
 );
 
 const BY_BLOCK: Made = Made::Arranged(
-    &PAGES,
+    &PROGRAMMED,
     Stands {
         tail: 16,
         run: 8,
@@ -83,25 +92,16 @@ const BY_BLOCK: Made = Made::Arranged(
 );
 
 const SWAPPED: Made = Made::Arranged(
-    &PAGES,
+    &PROGRAMMED,
     Stands {
         swapped: true,
         ..PLAIN
     },
 );
 
-// Two planes, of which the first blocks are programmed page by page: read as one plane, a page stands behind an erased one.
-const TURNS: [Written; 6] = [
-    TABLE_0,
-    TABLE_1,
-    page!(8, Sector 3, sequence 5, fill 0x31),
-    page!(9, Sector 30, sequence 6, fill 0x33),
-    page!(10, Sector 4, sequence 7, fill 0x34),
-    page!(11, Sector 5, sequence 8, fill 0x35),
-];
-
+// Read as one plane, a page stands behind an erased one.
 const PLANES: Made = Made::Arranged(
-    &TURNS,
+    &PROGRAMMED,
     Stands {
         inverted: true,
         planes: true,
@@ -113,19 +113,19 @@ const STEPS_ARRANGED: [Step; 10] = [
     Step::Run(
         "nandlab geometry die.bin",
         0,
-        "geometry 64,32,8,32,31 looked 256 sound 4 unsound 0 table agrees blocks 32 sectors 31 arranged: first nandlab arrange 64,32,8,32,31 DUMP OUT --from header=512,spares=die,inverted\n",
+        "geometry 64,32,8,32,31 looked 256 sound 6 unsound 0 table agrees blocks 32 sectors 31 arranged: first nandlab arrange 64,32,8,32,31 DUMP OUT --from header=512,spares=die,inverted\n",
     ),
     Step::Run("nandlab geometry die.bin --json", 0, DOCUMENT_ARRANGED),
     Step::Closed("nandlab geometry die.bin", 0),
     Step::Run(
         "nandlab geometry block.bin",
         0,
-        "geometry 64,32,8,32,31 looked 256 sound 4 unsound 0 table agrees blocks 32 sectors 31 arranged: first nandlab arrange 64,32,8,32,31 DUMP OUT --from tail=16,spares=block,spare-first\n",
+        "geometry 64,32,8,32,31 looked 256 sound 6 unsound 0 table agrees blocks 32 sectors 31 arranged: first nandlab arrange 64,32,8,32,31 DUMP OUT --from tail=16,spares=block,spare-first\n",
     ),
     Step::Run(
         "nandlab geometry swapped.bin",
         0,
-        "geometry 64,32,8,32,31 looked 256 sound 4 unsound 0 table agrees blocks 32 sectors 31 arranged: first nandlab arrange 64,32,8,32,31 DUMP OUT --from swapped\n",
+        "geometry 64,32,8,32,31 looked 256 sound 6 unsound 0 table agrees blocks 32 sectors 31 arranged: first nandlab arrange 64,32,8,32,31 DUMP OUT --from swapped\n",
     ),
     Step::Run(
         "nandlab geometry planes.bin",
@@ -137,17 +137,17 @@ const STEPS_ARRANGED: [Step; 10] = [
         0,
         "arranged 256\n",
     ),
-    Step::Holds("o1", Made::Dump(&PAGES)),
+    Step::Holds("o1", Made::Dump(&PROGRAMMED)),
     Step::Run(
         "nandlab arrange 64,32,8,32,31 planes.bin o2 --from inverted,planes=2",
         0,
         "arranged 256\n",
     ),
-    Step::Holds("o2", Made::Dump(&TURNS)),
+    Step::Holds("o2", Made::Dump(&PROGRAMMED)),
 ];
 
 const DOCUMENT_ARRANGED: &str = r#"[{"command":"geometry","line":"command","program":"nandlab"},
-{"arrange":"header=512,spares=die,inverted","blocks_told":32,"geometry":[64,32,8,32,31],"line":"geometry","looked":256,"sectors_told":31,"sound":4,"table":"agrees","unsound":0}
+{"arrange":"header=512,spares=die,inverted","blocks_told":32,"geometry":[64,32,8,32,31],"line":"geometry","looked":256,"sectors_told":31,"sound":6,"table":"agrees","unsound":0}
 ]
 "#;
 
