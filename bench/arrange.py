@@ -13,7 +13,6 @@ import sys
 import tempfile
 from pathlib import Path
 
-import compare
 import lab
 import measure
 import reference as ref
