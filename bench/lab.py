@@ -145,7 +145,7 @@ def files_of(words):
     if words[0] == "compare":
         return places[1:], []
     wrote = places[2:] if words[0] in ("array", "repair", "correct", "arrange") else []
-    return places[1:2], wrote + [named["--map"]] * ("--map" in named)
+    return places[1:2], wrote + ([named["--map"]] if "--map" in named else [])
 
 
 def verified(folder, names, changed):
@@ -187,7 +187,7 @@ def run(words, folder):
     words = [words[0], "--json", *words[1:]] if asks else words
     if words[:1] != [] and words[0] in COMMANDS and FORMS.random() < 0.3:
         with tempfile.TemporaryDirectory() as copy:
-            shutil.copytree(folder, copy, dirs_exist_ok=True)
+            shutil.copytree(folder, copy, dirs_exist_ok=True, symlinks=True)
             done = subprocess.run([LAB, *words], cwd=folder, capture_output=True, stdin=subprocess.DEVNULL)
             if done.returncode == 0:
                 reported(words, copy, (done.returncode, done.stdout, done.stderr))
