@@ -134,7 +134,7 @@ def files_of(words):
     places, named = [], {}
     left = iter(words[1:])
     for word in left:
-        if word in ("--rows", "--until", "--map", "--from"):
+        if word in ("--rows", "--until", "--map", "--from", "--bits"):
             named[word] = next(left)
         elif not word.startswith("--"):
             places.append(word)
