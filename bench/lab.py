@@ -63,7 +63,7 @@ from lab_made import (
     spoiled,
     turned,
 )
-from lab_told import KINDS, codes_text, lines_of, origin_text, tries_text
+from lab_told import KINDS, arranged_text, codes_text, lines_of, origin_text, tries_text
 
 BUILT = Path(__file__).resolve().parent.parent / "crates/nandlab/out/nandlab"
 LAB = str(Path(os.environ.get("LAB", BUILT)).resolve())
@@ -309,7 +309,7 @@ def arranged_line(raw):
     if found is None:
         return ""
     shape, line = fit_line(*found[0])
-    return f"{line} arranged: first nandlab arrange {shape} DUMP OUT --from {found[1]}\n"
+    return line + arranged_text(shape, found[1]) + "\n"
 
 
 def expect_fits(folder, raw):

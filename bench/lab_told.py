@@ -27,7 +27,8 @@ def line_of(told, outside, rewritten):
         names = {"looked": "looked", "sound": "sound", "unsound": "unsound", "table": "table", "blocks": "blocks_told", "sectors": "sectors_told"}
         shape = ",".join(map(str, told["geometry"]))
         assert told.get("codes", "hamming") == "hamming", told
-        return f"geometry {shape} " + " ".join(f"{name} {told[key]}" for name, key in names.items()) + codes_text("codes" in told, shape)
+        line = f"geometry {shape} " + " ".join(f"{name} {told[key]}" for name, key in names.items()) + codes_text("codes" in told, shape)
+        return line + arranged_text(shape, told["arrange"]) if "arrange" in told else line
     if kind == "mended" and "bits" in told:
         return f"mended row {told['row']} bits " + " ".join(map(str, told["bits"]))
     if kind in ("mended", "erased"):
@@ -88,6 +89,10 @@ def lines_of(command, text):
 
 def codes_text(coded, shape):
     return f" codes hamming: first nandlab correct {shape} DUMP OUT" if coded else ""
+
+
+def arranged_text(shape, words):
+    return f" arranged: first nandlab arrange {shape} DUMP OUT --from {words}"
 
 
 def age_text(unsound, older, outside, rewritten):
