@@ -79,7 +79,7 @@ class Die:
         self.array = lines(folder / "array.txt")
         self.verified = lines(folder / "verify.txt")
         self.ordered = next((lines(path)[:1] for path in sorted(folder.glob("*.order.txt"))), [])
-        self.damaged = sum(int(line.split()[1]) for line in lines(folder / "damaged.txt") if line.startswith("damaged "))
+        self.damaged = sum(int(line.split()[1].rstrip(":")) for line in lines(folder / "damaged.txt") if line.startswith("damaged "))
         self.made = areas(lines(folder / "origin.map"))["*"]
         self.areas = areas(lines(folder / "disk.map"))
 
