@@ -11,8 +11,8 @@ from pathlib import Path
 
 COLOURS = {"free": "#e8e8e8", "data": "#8cc4f0", "mapping": "#a6dba0", "closed": "#4a86c5", "factory": "#444", "grown": "#8b1a1a", "unknown": "#cbb7e0"}
 STYLE = """
-body { font: 15px/1.45 sans-serif; margin: 2em auto; max-width: 66em; color: #222 }
-table { border-collapse: collapse } th, td { padding: .25em .8em; border-bottom: 1px solid #ddd; text-align: right }
+body { font: 14px/1.45 sans-serif; margin: 2em auto; max-width: 76em; color: #222 }
+table { border-collapse: collapse } th, td { padding: .25em .5em; border-bottom: 1px solid #ddd; text-align: right }
 th:first-child, td:first-child, td.text { text-align: left } td.bad { background: #fbe3e0 }
 svg { vertical-align: top } section { margin: 1.6em 0 } .key span { display: inline-block; padding: 0 .7em; margin-right: .5em }
 """
@@ -113,8 +113,8 @@ class Die:
         return f'<section id="{self.place}"><h3>{self.name}</h3>{picture(self.name, blocks(self.survey), pages)}<pre>{html.escape(chr(10).join(told))}</pre></section>'
 
 
-HEADS = ["die", "shape", "unsound pages, by reading", "pages mended", "rows put together by bits", "rows in conflict", "unsound pages left", "and in blocks marked bad by the factory"]
-HEADS += ["sectors found", "sectors tied", "sectors without a page", "sectors of a page that no reading has", "sectors that an unsound page may tell", "reasons against a mount"]
+HEADS = ["die", "shape", "unsound pages, by reading", "pages mended", "rows put together by bits", "rows in conflict", "unsound pages left", "in blocks marked bad by the factory"]
+HEADS += ["sectors found", "sectors tied", "sectors without a page", "sectors of a page in no reading", "sectors that an unsound page tells", "reasons against a mount"]
 
 
 def main(results, out):
