@@ -27,3 +27,4 @@ pub mod MemberLemmas
 pub mod OnceLemmas
 mod UntilLemmas
 mod HistoryLemmas
+mod NearestLemmas

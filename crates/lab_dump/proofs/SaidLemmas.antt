@@ -39,7 +39,7 @@ use Rattle.lab_dump.proofs.BadLemmas.{in_range, within_range}
 
 -- ---- what a spare area spells, but for its seal
 
-abbrev spelled_by : (first : List ℕ) (version code n : ℕ) (gap rest number sequence wear : List ℕ) → Option Record
+abbrev pub spelled_by : (first : List ℕ) (version code n : ℕ) (gap rest number sequence wear : List ℕ) → Option Record
 spelled_by first version code n gap rest number sequence wear =
     cond (((is_filled first && ((version == 1) || ((version == 2) && nat_le 40 n))) && is_filled gap) && is_filled rest)
     (option_map (λ k. record { kind = k; number = little_number 4 number; sequence = little_number 8 sequence; wear = little_number 4 wear }) (kind_from code)) None
@@ -60,7 +60,7 @@ tail_is head seal rest size h k =
     rw (left, ← append_assoc head seal rest, drop_at (head ++ seal) rest (24 + size) both, take-length rest)
 
 -- by its head, its length and what stands behind the seal
-spelled_head : (head seal rest : List ℕ) → length head ≡ 24 → length seal ≡ seal_size (slice_index head 2)
+pub spelled_head : (head seal rest : List ℕ) → length head ≡ 24 → length seal ≡ seal_size (slice_index head 2)
     → spelled (head ++ (seal ++ rest)) ≡ spelled_by (take 2 head) (slice_index head 2) (slice_index head 3) (24 + seal_size (slice_index head 2) + length rest) (slice_range head 20 24) rest (slice_range head 4 8) (slice_range head 8 16) (slice_range head 16 20)
 spelled_head head seal rest h k =
     let xs : List ℕ = seal ++ rest in

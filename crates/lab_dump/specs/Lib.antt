@@ -62,5 +62,7 @@ pub mod Shape
 pub mod Fits
 -- what the definitions of what fits come to
 pub mod FitLaws
+-- what can be read where none fits
+pub mod Nearest
 -- the memory of each run
 pub mod Rooms

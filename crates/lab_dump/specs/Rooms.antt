@@ -10,6 +10,7 @@ use Rattle.lab_dump.specs.declared.array.ArrayRoom.{ArrayRoom}
 use Rattle.lab_dump.specs.declared.compare.CompareRoom.{CompareRoom}
 use Rattle.lab_dump.specs.declared.find.FitRoom.{FitRoom}
 use Rattle.lab_dump.specs.declared.history.HistoryRoom.{HistoryRoom}
+use Rattle.lab_dump.specs.declared.nearest.NearestRoom.{NearestRoom}
 use Rattle.lab_dump.specs.declared.survey.SurveyRoom.{SurveyRoom}
 use Rattle.lab_dump.specs.Doubting as doubting
 use Rattle.lab_dump.specs.Doubting.{IsDoubting}
@@ -52,3 +53,7 @@ pub record IsFitRoom (room : FitRoom) : Type 0 where
   pub page : length room.page.items ≡ 4352
   pub none : room.fits.items ≡ []
   pub places : 11025 ≤ vec_capacity room.fits
+
+-- the bytes between two reads have room, with a spare area behind them
+abbrev pub IsNearestRoom : NearestRoom → Type 0
+IsNearestRoom room = length room.bytes.items ≡ 65575

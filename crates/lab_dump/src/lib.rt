@@ -10,8 +10,9 @@
 //!   mount.
 //! - `find_geometries`: which geometries fit a dump of unknown shape, best first, each with what the dump says for it. It reads page by
 //!   page, at whatever place.
+//! - `find_nearest`: which record can be read in a dump that none fits, at whatever byte.
 //!
-//! Each of the last five takes no memory but that of its room (`ArrayRoom`, ..), which is made before the dump is opened: so no refusal for memory
+//! Each of the last six takes no memory but that of its room (`ArrayRoom`, ..), which is made before the dump is opened: so no refusal for memory
 //! depends on what a dump holds.
 #![tactic(auto)]
 
@@ -34,6 +35,7 @@ mod look;
 mod make_fault;
 mod map;
 mod map_writer;
+mod nearest;
 mod page_bytes;
 mod pass;
 mod repeated;
@@ -68,6 +70,7 @@ pub use look::{Look, look_at, look_with};
 pub use make_fault::MakeFault;
 pub use map::print_map;
 pub use map_writer::{LineFault, MapWriter};
+pub use nearest::{Legible, NearestRoom, find_nearest, nearest_laws};
 pub use page_bytes::{is_broken, is_sound, join_page};
 pub use pass::{Cut, ScanFault, Stopped, Taker, expect_end, fill, scan, scan_rows};
 pub use row_page::look_in;

@@ -48,7 +48,7 @@ fn is_filled(bytes: &[u8]) -> bool
 }
 
 // How many bytes the seal of a version has.
-fn seal_size(version: u8) -> usize
+pub(crate) fn seal_size(version: u8) -> usize
     ensures { result ≡ seal_size version }
 {
     if version == 2 { 16 } else { 8 }
@@ -93,7 +93,7 @@ fn kind_from(code: u8) -> Option<Kind>
 
 // The record that a spare area spells, whatever its seal.
 #[tactic(auto, unfolding(page_layout::specs::Sound::spelled))]
-fn spelled(spare: &[u8]) -> Option<Record>
+pub(crate) fn spelled(spare: &[u8]) -> Option<Record>
     requires { 32 ≤ length spare.now }
     ensures { result ≡ spelled spare.now }
 {
