@@ -63,7 +63,7 @@ from lab_made import (
     spoiled,
     turned,
 )
-from lab_told import KINDS, arranged_text, codes_text, lines_of, origin_text, tries_text
+from lab_told import KINDS, arranged_text, codes_text, lines_of, nearest_text, origin_text, tries_text
 
 BUILT = Path(__file__).resolve().parent.parent / "crates/nandlab/out/nandlab"
 LAB = str(Path(os.environ.get("LAB", BUILT)).resolve())
@@ -321,7 +321,7 @@ def expect_fits(folder, raw):
         shape, line = fit_line(numbers, *rest)
         found.append((coded, shape.rpartition(",")[0], line + codes_text(coded, shape) + "\n"))
     told = "".join(line for _, _, line in found) or arranged_line(raw)
-    want = (0, told, "") if told else (1, "", "refused geometry 6 NoneFits\n")
+    want = (0, told, "") if told else (1, "", f"refused geometry 6 NoneFits{nearest_text(raw)}\n")
     answer = run(["geometry", "dump.bin"], folder)
     assert answer == want, (answer, want)
     assert left_in(folder, "dump.bin") == {}

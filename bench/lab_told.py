@@ -1,6 +1,8 @@
 """The lines that nandlab prints, and what an object of its JSON stands for: a part of lab.py."""
 
 import json
+import re
+import struct
 
 # the origins of the rows of a merge, as they are counted
 KINDS = ["sound", "differ", "majority", "turned", "erased", "unsound"]
@@ -93,6 +95,21 @@ def codes_text(coded, shape):
 
 def arranged_text(shape, words):
     return f" arranged: first nandlab arrange {shape} DUMP OUT --from {words}"
+
+
+# a spare area of version 1 or 2 up to the end of its seal, whatever that is, at whatever byte
+LEGIBLE = re.compile(rb"(?=\xff\xff(?:\x01([\x01-\x04].{16})\xff{4}.{8}|\x02([\x01-\x04].{16})\xff{4}.{16}))", re.DOTALL)
+
+KIND_NAMES = [None, "sector", "trim", "translation", "table"]
+
+
+def nearest_text(raw):
+    """What came nearest in a dump that nothing fits: the first record of a table page that can be read in it, or else the first one."""
+    found = [(match.start(), struct.unpack("<BIQI", match[1] or match[2])) for match in LEGIBLE.finditer(raw)]
+    if not found:
+        return ""
+    at, (kind, number, sequence, _) = min(found, key=lambda one: (KIND_NAMES[one[1][0]] != "table", one[0]))
+    return f" byte {at} says {KIND_NAMES[kind]} {number} sequence {sequence}"
 
 
 def age_text(unsound, older, outside, rewritten):

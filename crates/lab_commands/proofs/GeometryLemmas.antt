@@ -1,5 +1,7 @@
 -- The geometries of a dump that none fits.
 use Rattle.std.proofs.Common.{◌≡◌, ℕ, Bool, true, List, [], length, Option, Some, None, IfSome, Result, Ok, Err, IfOk, IfErr, inr, refl, sym, ◌∙◌}
+use Rattle.lab_dump.specs.declared.nearest.Legible.{Legible}
+use Rattle.lab_dump.specs.Nearest.{nearest_of}
 use Rattle.lab_shapes.specs.declared.find.ArrangedFit.{ArrangedFit}
 use Rattle.lab_shapes.specs.Arranged.{IsBest}
 use Rattle.lab_commands.specs.declared.geometry.Fitting.{Fitting}
@@ -23,6 +25,10 @@ pub known_best : (known : Option (List ℕ)) (found : Option ArrangedFit) → ((
 known_best None found h = tt
 known_best (Some all) found h = h all refl
 
+pub known_nearest : (known : Option (List ℕ)) (nearest : Option Legible) → ((all : List ℕ) → known ≡ Some all → nearest ≡ nearest_of all) → IfSome known (λ bytes. nearest ≡ nearest_of bytes)
+known_nearest None nearest h = tt
+known_nearest (Some all) nearest h = h all refl
+
 pub known_all : (known : Option (List ℕ)) (items : List FoundFit) → ((all : List ℕ) → known ≡ Some all → IsPermutation (found_of all) items) → IfSome known (λ bytes. IsPermutation (found_of bytes) items)
 known_all None items h = tt
 known_all (Some all) items h = h all refl
@@ -34,6 +40,6 @@ found_in a path known (Err f) opened h = tt
 
 pub nothing_in : (a : Answers) (path : List ℕ) (known : Option (List ℕ)) (broke : Bool) (r : Result Fitting LabFault) → IsOpened a path known → (broke ≡ true → a.reads_fail) → IfErr r (FitNothing known broke path) → IfErr r (IsUnfound a path)
 nothing_in a path known broke (Ok fitting) opened fails h = tt
-nothing_in a path known broke (Err fault.NoneFits) opened fails h = inr (record { known = known; opened = opened; none = h })
+nothing_in a path known broke (Err (fault.NoneFits nearest)) opened fails h = inr (record { known = known; opened = opened; none = h })
 nothing_in a path known broke (Err (fault.Read told)) opened fails (named, failed) = inr (named, record { known = known; opened = opened }, fails failed)
 nothing_in a path known broke (Err _) opened fails h = absurd h

@@ -2,11 +2,17 @@
 use Rattle.std.specs.Prelude.{◌≡◌, ◌⊎◌, ◌<◌, ℕ, List, [], true, length, Option, Some, None, IfSome, IsPermutation, Bool}
 use Rattle.std.specs.List.Sorted.{IsSorted}
 use Rattle.std.specs.Io.KnownBytes.{Appends}
+use Rattle.lab_dump.specs.declared.nearest.Legible.{Legible}
+use Rattle.lab_dump.specs.Nearest.{nearest_of}
 use Rattle.lab_correct.specs.declared.found.FoundFit.{FoundFit}
 use Rattle.lab_correct.specs.Coded.{ArePossible, found_of, found_rank}
 use Rattle.lab_shapes.specs.declared.find.ArrangedFit.{ArrangedFit}
 use Rattle.lab_shapes.specs.Arranged.{IsBest, IsPossibleAs}
 use Rattle.lab_commands.specs.declared.document.Form.{Form}
+use Rattle.lab_dump.specs.Rooms.{IsNearestRoom}
+use Rattle.lab_correct.specs.FoundRoom.{IsFoundRoom}
+use Rattle.lab_shapes.specs.Rooms.{IsShapeRoom}
+use Rattle.lab_commands.specs.declared.geometry.GeometryRooms.{GeometryRooms}
 use Rattle.lab_commands.specs.declared.geometry.Fitting.{Fitting}
 use Rattle.lab_commands.specs.declared.geometry.Fitting.TheVariants as fitting
 use Rattle.lab_commands.specs.Reports.{arranged_fit_text, fits_text}
@@ -15,6 +21,14 @@ use Rattle.lab_commands.specs.declared.text.LabFault.{LabFault}
 use Rattle.lab_commands.specs.declared.text.LabFault.TheVariants as fault
 use Rattle.lab_commands.specs.Files.{Answers, IsOpened, Store}
 use Rattle.lab_commands.specs.Undone.{IsHalfPrinted, IsUnread, IsUnroomed, LeavesAll, Opens, form_of}
+
+-- ---- before the dump is opened
+
+-- the memory of each search, in which nothing was found yet
+pub record HasRooms (rooms : GeometryRooms) : Type 0 where
+  pub fits : IsFoundRoom rooms.fits
+  pub shapes : IsShapeRoom rooms.shapes
+  pub nearest : IsNearestRoom rooms.nearest
 
 -- ---- done
 
@@ -55,26 +69,28 @@ pub record ToldFits (a : Answers) (words : GeometryWords) (out printed : Option 
 
 -- ---- not done
 
--- no geometry fits the bytes of a dump, as far as they are known, neither as they stand nor with codes nor in an arrangement that is tried
-pub record FitsNone (known : Option (List ℕ)) : Type 0 where
+-- No geometry fits the bytes of a dump, as far as they are known, neither as they stand nor with codes nor in an arrangement that is tried; and this
+-- is the nearest record that can be read in them, if one can.
+pub record FitsNone (known : Option (List ℕ)) (nearest : Option Legible) : Type 0 where
   pub none : IfSome known (λ bytes. found_of bytes ≡ [])
   pub nowhere : IfSome known (λ bytes. IsBest bytes None)
+  pub nearest_is : IfSome known (λ bytes. nearest ≡ nearest_of bytes)
 
 -- why nothing was found: nothing fits, or a read failed
 abbrev pub FitNothing : (known : Option (List ℕ)) → (broke : Bool) → List ℕ → LabFault → Type 0
-FitNothing known broke path fault.NoneFits = FitsNone known
+FitNothing known broke path (fault.NoneFits nearest) = FitsNone known nearest
 FitNothing known broke path (fault.Read told) = (told.now ≡ path) × (broke ≡ true)
 FitNothing known broke path _ = ⊥
 
 -- the dump was opened, and nothing fits it
-pub record IsNoFit (a : Answers) (path : List ℕ) : Type 0 where
+pub record IsNoFit (a : Answers) (path : List ℕ) (nearest : Option Legible) : Type 0 where
   pub known : Option (List ℕ)
   pub opened : IsOpened a path known
-  pub none : FitsNone known
+  pub none : FitsNone known nearest
 
 -- Why no geometries of a dump that was opened were found: a read failed, or none fits it.
 abbrev pub IsUnfitted : Answers → List ℕ → LabFault → Type 0
-IsUnfitted a path fault.NoneFits = IsNoFit a path
+IsUnfitted a path (fault.NoneFits nearest) = IsNoFit a path nearest
 IsUnfitted a path (fault.Read told) = (told.now ≡ path) × Opens a path × a.reads_fail
 IsUnfitted a path _ = ⊥
 

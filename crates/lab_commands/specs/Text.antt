@@ -1,5 +1,5 @@
 -- What the program says of a command that ended before it was done.
-use Rattle.std.specs.Prelude.{◌≡◌, ◌⊎◌, ℕ, Bool, true, List, [], ◌∷◌, ◌++◌, codes, Option}
+use Rattle.std.specs.Prelude.{◌≡◌, ◌⊎◌, ℕ, Bool, true, List, [], ◌∷◌, ◌++◌, codes, Option, Some, None}
 use Rattle.std.specs.Io.KnownBytes.{Appends}
 use Rattle.request_stream.specs.Frames.{AppendsPart}
 use Rattle.page_layout.specs.declared.geometry.GeometryFault.{GeometryFault}
@@ -9,12 +9,15 @@ use Rattle.lab_arrange.specs.declared.fitting.UnfitFault.{UnfitFault}
 use Rattle.lab_arrange.specs.declared.fitting.UnfitFault.TheVariants as unfit
 use Rattle.certificate.specs.declared.fault.CertFault.{CertFault}
 use Rattle.certificate.specs.declared.fault.CertFault.TheVariants as certificate
+use Rattle.lab_dump.specs.declared.nearest.Legible.{Legible}
 use Rattle.lab_commands.specs.declared.text.LabFault.{LabFault}
 use Rattle.lab_commands.specs.declared.text.LabFault.TheVariants.{NoSuchCommand, BadNumber, Geometry, NoneFits, RowRange, SectorRange, WrongLength, DumpLength, OutOfMemory, Certificate, GeometryDiffers, BadArrangement, Unfit}
 use Rattle.lab_commands.specs.declared.text.LabFault.TheVariants.{ArrangedLength, BitRange, PageSize}
 use Rattle.lab_commands.specs.declared.text.LabFault.TheVariants.{IsDump, Exists, NoFile, MapIsOut, MapIsDump, MapExists, MapNoFile, Read, Write}
 use Rattle.lab_commands.specs.declared.text.Rest.{Rest}
 use Rattle.lab_commands.specs.declared.text.Rest.TheVariants.{Words, Name, Lengths}
+use Rattle.lab_commands.specs.declared.text.Rest.TheVariants as rest
+use Rattle.lab_commands.specs.Lines.{kind_words}
 use Rattle.lab_commands.specs.Names.{shown}
 
 -- the number and the name of a limit that is broken
@@ -44,18 +47,25 @@ unfit_words unfit.CutRange = codes "3 CutRange"
 abbrev pub lengths_words : ℕ → ℕ → List ℕ
 lengths_words wanted found = codes "wanted " ++ (decimal wanted ++ (codes " found " ++ decimal found))
 
+-- what can be read at a byte of a dump, whatever its seal
+abbrev pub legible_words : Legible → List ℕ
+legible_words x =
+    codes "byte " ++ (decimal x.at ++ (codes " says " ++ (kind_words x.says.kind ++ (codes " " ++ (decimal x.says.number ++ (codes " sequence " ++ decimal x.says.sequence))))))
+
 -- what a line ends with
 abbrev pub rest_words : Rest → List ℕ
 rest_words (Words words) = words.now
 rest_words (Name name) = shown name.now
 rest_words (Lengths wanted found) = lengths_words wanted found
+rest_words (rest.Legible found) = legible_words found
 
 -- the line, without its line feed; a name in it is as it is printed
 abbrev pub line_of : LabFault → List ℕ
 line_of NoSuchCommand = codes "usage: no such command, see nandlab --help"
 line_of (BadNumber word) = codes "usage: bad number " ++ shown word.now
 line_of (Geometry fault) = codes "refused geometry " ++ limit_words fault
-line_of NoneFits = codes "refused geometry 6 NoneFits"
+line_of (NoneFits None) = codes "refused geometry 6 NoneFits"
+line_of (NoneFits (Some nearest)) = codes "refused geometry 6 NoneFits " ++ legible_words nearest
 line_of RowRange = codes "refused rows 1 RowRange"
 line_of BitRange = codes "refused bits 1 BitRange"
 line_of PageSize = codes "refused bits 2 PageSize"
@@ -83,7 +93,7 @@ abbrev pub status_of : LabFault → ℕ
 status_of NoSuchCommand = 2
 status_of (BadNumber word) = 2
 status_of (Geometry fault) = 1
-status_of NoneFits = 1
+status_of (NoneFits nearest) = 1
 status_of RowRange = 1
 status_of BitRange = 1
 status_of PageSize = 1

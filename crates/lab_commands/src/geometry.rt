@@ -1,8 +1,6 @@
 //! The command `geometry DUMP`.
 ghost use Rattle.std.specs.Prelude.{◌≡◌, OnOk, IfOk, IfErr};
-ghost use Rattle.lab_correct.specs.FoundRoom.{IsFoundRoom};
-ghost use Rattle.lab_shapes.specs.Rooms.{IsShapeRoom};
-ghost use Rattle.lab_commands.specs.Geometry.{ToldFits, FitNothing, FitsAre, HasFound, IsGeometryFault, IsUnfound, fitting_text};
+ghost use Rattle.lab_commands.specs.Geometry.{ToldFits, FitNothing, FitsAre, HasFound, HasRooms, IsGeometryFault, IsUnfound, fitting_text};
 ghost use Rattle.lab_commands.specs.Document.{Prints};
 
 use crate::document::Printer;
@@ -14,9 +12,32 @@ use crate::reports::{print_arranged_fit, print_fits};
 use crate::text::LabFault;
 use crate::words::{GeometryWords, Showing};
 use lab_correct::{FoundFit, FoundRoom, find_all_geometries};
-use lab_dump::Dump;
+use lab_dump::{Dump, NearestRoom, find_nearest};
 use lab_shapes::{ArrangedFit, ShapeRoom, find_arranged};
-use std::alloc::Global;
+use std::alloc::{AllocError, Global};
+
+/// The memory of the command, all that it takes for its searches.
+#[derive(Drop)]
+pub(crate) struct GeometryRooms {
+    pub(crate) fits: FoundRoom,
+    pub(crate) shapes: ShapeRoom,
+    pub(crate) nearest: NearestRoom,
+}
+
+impl GeometryRooms {
+    ghost use Rattle.std.specs.Prelude.{IfOk};
+    ghost use Rattle.lab_commands.specs.Geometry.{HasRooms};
+
+    fn new(alloc: Global) -> Result<GeometryRooms, AllocError>
+        ensures { IfOk result HasRooms }
+    {
+        Ok(GeometryRooms {
+            fits: FoundRoom::new(alloc)?,
+            shapes: ShapeRoom::new(alloc)?,
+            nearest: NearestRoom::new(alloc)?,
+        })
+    }
+}
 
 /// What fits a dump.
 #[derive(Drop)]
@@ -27,48 +48,47 @@ pub(crate) enum Fitting {
     Arranged(ArrangedFit),
 }
 
-// What fits the bytes of a dump: as they stand and with codes, or else in another arrangement.
+// What fits the bytes of a dump: as they stand and with codes, or else in another arrangement. Where nothing does, what came nearest.
 fn search<'a, D: Dump>(
-    room: FoundRoom,
-    shapes: ShapeRoom,
+    rooms: GeometryRooms,
     path: &'a str,
     dump: &mut D,
 ) -> Result<Fitting, LabFault<'a>>
-    requires fits { IsFoundRoom room }
-    requires shapes { IsShapeRoom shapes }
+    requires { HasRooms rooms }
     ensures found { IfOk result (FitsAre (D.bytes dump.old)) }
     ensures fault { IfErr result (FitNothing (D.bytes dump.old) (D.failed dump.new) path.now) }
 {
-    let fits = match find_all_geometries(room, dump) {
+    let fits = match find_all_geometries(rooms.fits, dump) {
         Ok(fits) => fits,
         Err(_) => return Err(LabFault::Read(path)),
     };
     if !fits.is_empty() {
         return Ok(Fitting::Stands(fits));
     }
-    match find_arranged(shapes, dump) {
+    match find_arranged(rooms.shapes, dump) {
         Ok(Some(found)) => Ok(Fitting::Arranged(found)),
-        Ok(None) => Err(LabFault::NoneFits),
+        Ok(None) => match find_nearest(rooms.nearest, dump) {
+            Ok(nearest) => Err(LabFault::NoneFits(nearest)),
+            Err(_) => Err(LabFault::Read(path)),
+        },
         Err(_) => Err(LabFault::Read(path)),
     }
 }
 
 // What fits a dump.
 fn find_fits<'a, F: LabFiles>(
-    room: FoundRoom,
-    shapes: ShapeRoom,
+    rooms: GeometryRooms,
     path: &'a str,
     showing: Showing,
     files: &mut F,
 ) -> Result<Fitting, LabFault<'a>>
-    requires fits { IsFoundRoom room }
-    requires shapes { IsShapeRoom shapes }
+    requires { HasRooms rooms }
     ensures found { IfOk result (HasFound (F.answers files.old) path.now) }
     ensures fault { IfErr result (IsUnfound (F.answers files.old) path.now) }
     ensures kept { F.kept files.new ≡ F.kept files.old }
 {
     let mut dump = open_dump(files, path, progress_of(showing))?;
-    search(room, shapes, path, &mut dump)
+    search(rooms, path, &mut dump)
 }
 
 // Prints it.
@@ -91,7 +111,8 @@ fn print_fitting<W: Output>(
 /// # Errors
 ///
 /// The first of this order: `OutOfMemory` where a growth was refused, `Read` where DUMP cannot be opened, or its size cannot be known or a read of it
-/// fails, `NoneFits` where no geometry fits it, in no arrangement that is tried. After each of these nothing was printed.
+/// fails, `NoneFits` where no geometry fits it, in no arrangement that is tried, with the nearest record that can be read in it. After each of these
+/// nothing was printed.
 /// `Write` of `-` where `out` failed.
 ///
 /// (This project's.)
@@ -105,9 +126,8 @@ pub(crate) fn geometry_command<'a, F: LabFiles, W: Output>(
     ensures kept { F.kept files.new ≡ F.kept files.old }
     ensures fault { IfErr result (IsGeometryFault (F.answers files.old) words.entry (F.kept files.old) (F.kept files.new) (F.opened files.old) (F.opened files.new) (W.failed out.new) (W.contents out.old) (W.contents out.new)) }
 {
-    let room = FoundRoom::new(alloc)?;
-    let shapes = ShapeRoom::new(alloc)?;
-    let fitting = find_fits(room, shapes, words.dump, words.showing, files)?;
+    let rooms = GeometryRooms::new(alloc)?;
+    let fitting = find_fits(rooms, words.dump, words.showing, files)?;
     match print_fitting(printer(alloc, words.showing), out, &fitting) {
         Ok(()) => Ok(()),
         Err(fault) => Err(unprinted(fault)),

@@ -1,13 +1,15 @@
 //! What the program says when a command ends before it is done: one line, and the exit status.
 ghost use Rattle.std.specs.Prelude.{◌≡◌, ◌∷◌, [], ◌++◌, true, OnErr};
 ghost use Rattle.lab_commands.specs.Output.{Puts};
-ghost use Rattle.lab_commands.specs.Text.{IsTold, lengths_words, line_of, rest_words, status_of, told_line};
+ghost use Rattle.lab_commands.specs.Text.{IsTold, legible_words, lengths_words, line_of, rest_words, status_of, told_line};
 
+use crate::lines::kind_text;
 use crate::names::put_name;
 use crate::output::{Output, OutputFault};
 use crate::pieces::{Piece, put_pieces};
 use certificate::CertFault;
 use lab_arrange::UnfitFault;
+use lab_dump::Legible;
 use page_layout::geometry::GeometryFault;
 use std::alloc::{AllocError, Global};
 
@@ -29,8 +31,8 @@ pub enum LabFault<'a> {
     BadNumber(&'a str),
     /// The numbers are no geometry.
     Geometry(GeometryFault),
-    /// No geometry fits the dump.
-    NoneFits,
+    /// No geometry fits the dump: the nearest record that can be read in it, if one can.
+    NoneFits(Option<Legible>),
     /// The numbers are no rows of the die.
     RowRange,
     /// The number is not how many bits of a page may be turned: one or two.
@@ -97,7 +99,7 @@ impl LabFault<'_> {
         match self {
             LabFault::NoSuchCommand | LabFault::BadNumber(_) | LabFault::BadArrangement(_) => USAGE,
             LabFault::Geometry(_)
-            | LabFault::NoneFits
+            | LabFault::NoneFits(_)
             | LabFault::RowRange
             | LabFault::BitRange
             | LabFault::PageSize
@@ -168,6 +170,8 @@ enum Rest<'a> {
     Name(&'a str),
     // How many bytes were wanted, and how many were found.
     Lengths(u64, u64),
+    // What can be read at a byte.
+    Legible(Legible),
 }
 
 // The line of a fault, without its line feed: its first words, and the rest.
@@ -181,7 +185,10 @@ fn line<'a>(fault: &LabFault<'a>) -> (&'static str, Rest<'a>)
         ),
         LabFault::BadNumber(word) => ("usage: bad number ", Rest::Name(word)),
         LabFault::Geometry(broken) => ("refused geometry ", Rest::Words(limit(broken))),
-        LabFault::NoneFits => ("refused geometry ", Rest::Words("6 NoneFits")),
+        LabFault::NoneFits(None) => ("refused geometry ", Rest::Words("6 NoneFits")),
+        LabFault::NoneFits(Some(nearest)) => {
+            ("refused geometry 6 NoneFits ", Rest::Legible(nearest))
+        }
         LabFault::RowRange => ("refused rows ", Rest::Words("1 RowRange")),
         LabFault::BitRange => ("refused bits ", Rest::Words("1 BitRange")),
         LabFault::PageSize => ("refused bits ", Rest::Words("2 PageSize")),
@@ -228,6 +235,26 @@ fn put_lengths<W: Output>(out: &mut W, wanted: u64, found: u64) -> Result<(), Ou
     )
 }
 
+// Writes what can be read at a byte.
+fn put_legible<W: Output>(out: &mut W, found: Legible) -> Result<(), OutputFault>
+    ensures bytes { Puts (W.contents out.old) (W.contents out.new) (legible_words found) result }
+    ensures failed { OnErr result (W.failed out.new ≡ true) }
+{
+    put_pieces(
+        out,
+        &[
+            Piece::Words("byte "),
+            Piece::Number(found.at),
+            Piece::Words(" says "),
+            Piece::Words(kind_text(found.says.kind)),
+            Piece::Words(" "),
+            Piece::Number(u64::from(found.says.number)),
+            Piece::Words(" sequence "),
+            Piece::Number(found.says.sequence),
+        ],
+    )
+}
+
 // Writes the rest of a line.
 fn put_rest<W: Output>(out: &mut W, rest: Rest<'_>) -> Result<(), OutputFault>
     ensures bytes { Puts (W.contents out.old) (W.contents out.new) (rest_words rest.entry) result }
@@ -237,6 +264,7 @@ fn put_rest<W: Output>(out: &mut W, rest: Rest<'_>) -> Result<(), OutputFault>
         Rest::Words(words) => out.put(words.as_bytes()),
         Rest::Name(name) => put_name(out, name),
         Rest::Lengths(wanted, found) => put_lengths(out, wanted, found),
+        Rest::Legible(found) => put_legible(out, found),
     }
 }
 

@@ -2,7 +2,6 @@
 //!
 //! - `find_arranged`: the geometry and the arrangement in which the dump fits best, of every order of the bytes of a die that the words of `lab_arrange`
 //!   say, with nothing around the pages or a header or a tail.
-//! - `find_nearest`: where the first table of blocks, or the first record at all, can be read in the dump.
 
 #![tactic(auto)]
 

@@ -146,6 +146,60 @@ const STEPS_ARRANGED: [Step; 10] = [
     Step::Holds("o2", Made::Dump(&PROGRAMMED)),
 ];
 
+// Behind a header that is not tried: what can be read in the dump is told, of a table page first.
+const BEHIND: Made = Made::Arranged(
+    &PROGRAMMED,
+    Stands {
+        header: 100,
+        ..PLAIN
+    },
+);
+
+const NO_TABLE: [Written; 2] = [
+    page!(9, Sector 3, sequence 5, fill 0x31),
+    page!(17, Trim 30, sequence 7, fill 0x33),
+];
+
+const BEHIND_NO_TABLE: Made = Made::Arranged(
+    &NO_TABLE,
+    Stands {
+        header: 100,
+        ..PLAIN
+    },
+);
+
+// The sector's page comes before the one of the table.
+const SECTOR_FIRST: [Written; 2] = [
+    page!(3, Sector 3, sequence 5, fill 0x31),
+    page!(9, Table 1, sequence 2, fill 0),
+];
+
+const BEHIND_SECTOR: Made = Made::Arranged(
+    &SECTOR_FIRST,
+    Stands {
+        header: 100,
+        ..PLAIN
+    },
+);
+
+const STEPS_BEHIND: [Step; 3] = [
+    Step::Run(
+        "nandlab geometry behind.bin",
+        1,
+        "refused geometry 6 NoneFits byte 164 says table 0 sequence 1\n",
+    ),
+    Step::Run(
+        "nandlab geometry none.bin",
+        1,
+        "refused geometry 6 NoneFits byte 1028 says sector 3 sequence 5\n",
+    ),
+    Step::Run(
+        "nandlab geometry first.bin",
+        1,
+        "refused geometry 6 NoneFits byte 1028 says table 1 sequence 2\n",
+    ),
+];
+
 const DOCUMENT_ARRANGED: &str = r#"[{"command":"geometry","line":"command","program":"nandlab"},
 {"arrange":"header=512,spares=die,inverted","blocks_told":32,"geometry":[64,32,8,32,31],"line":"geometry","looked":256,"sectors_told":31,"sound":6,"table":"agrees","unsound":0}
 ]
@@ -175,7 +229,7 @@ const TROUBLES: [Step; 9] = [
     ),
 ];
 
-const CASES: [Case; 4] = [
+const CASES: [Case; 5] = [
     Case {
         name: "the shapes",
         files: &[("dump.bin", Made::Changed(&PAGES, &[(1632, 0)]))],
@@ -199,6 +253,15 @@ const CASES: [Case; 4] = [
             ("planes.bin", PLANES),
         ],
         steps: &STEPS_ARRANGED,
+    },
+    Case {
+        name: "what came nearest",
+        files: &[
+            ("behind.bin", BEHIND),
+            ("none.bin", BEHIND_NO_TABLE),
+            ("first.bin", BEHIND_SECTOR),
+        ],
+        steps: &STEPS_BEHIND,
     },
     Case {
         name: "refusals",

@@ -13,10 +13,5 @@ returns-in-Ok-Some-clause-found g c =
       possible = subst (λ o. IfSome o IsPossibleAs) c.in-Ok-Some.field-0-is c.in-Ok-Some.ensures.possible;
     }
 
-pub returns-in-Ok-None-clause-fault : goal.returns-in-Ok-None-clause-fault
-returns-in-Ok-None-clause-fault g c =
-    let known = g.D.Dump.bytes c.args.dump.now in
-    record {
-      none = none_fit known c.in-Ok.fits.items c.in-Ok.ensures.found (omega (arith, eqb-true _ 0 (sym c.is_empty.ensures ∙ c.if-not-is_empty.false)));
-      nowhere = subst (λ o. IfSome known (λ bytes. IsBest bytes o)) c.in-Ok-None.field-0-is (known_best known c.in-Ok-None.field-0 (λ all told. c.in-Ok-None.ensures.best all (c.find_all_geometries.ensures.same ∙ told)));
-    }
+pub returns-in-Ok-None-in-Ok-clause-fault : goal.returns-in-Ok-None-in-Ok-clause-fault
+returns-in-Ok-None-in-Ok-clause-fault g c = ?
