@@ -22,6 +22,9 @@ const PROGRAM: &str = "nandlab";
 // The bytes that a dump's reader asks the system for at once.
 const READ_AHEAD: usize = 262_144;
 
+// So many of the files that were read are held.
+const MOST_HELD: usize = 256;
+
 // The bytes of a map that are written at once.
 const MAP_BUFFER: usize = 65_536;
 
@@ -68,10 +71,14 @@ impl<'a, R: Files<File = File> + AllocGlobal, E: Write> SystemFiles<'a, R, E> {
         }
     }
 
-    // A file that is read. As long as the program runs it is held with whoever else reads it, where the file system has locks.
+    // A file that is read. As long as the program runs it is held with whoever else reads it, where the file system has locks; of many files the
+    // first ones alone, so that `verify` of a long report does not come to the system's limit of open files.
     fn open_held(&mut self, path: &str) -> Result<File, FileFault> {
         let file = fs::open(self.rt, path).map_err(fault_of)?;
         let _ = file.try_lock_shared();
+        if self.held.len() >= MOST_HELD {
+            return Ok(file);
+        }
         match file.try_clone() {
             Ok(same) => match self.held.push(same) {
                 Ok(()) => Ok(file),
