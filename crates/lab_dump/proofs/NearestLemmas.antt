@@ -1,8 +1,8 @@
 -- What can be read at a byte of a dump, and which one is the nearest.
-use Rattle.std.proofs.Common.{◌≡◌, ◌⊎◌, inl, inr, ℕ, zero, suc, ◌+◌, ◌-◌, ◌<◌, ◌≤◌, List, [], ◌∷◌, ◌++◌, length, take, drop, Option, Some, None}
+use Rattle.std.proofs.Common.{◌≡◌, ◌⊎◌, inl, inr, ℕ, zero, suc, ◌+◌, ◌-◌, ◌<◌, ◌≤◌, List, [], ◌++◌, length, take, drop, Option, Some, None}
 use Rattle.std.proofs.Common.{Bool, true, false, refl, sym, ap, ◌∙◌, subst, arith, cond}
-use Rattle.std.specs.Prelude.{◌==◌, ◌&&◌, ◌||◌, not, min, nat_le, slice_index, slice_range, option_map}
-use Rattle.std.proofs.lemmas.Bool.{and_from, and_left, and_parts, and_right, or_cases, or_from, or_left, or_right, cases_Bool, cases_lt, eqb-true, leb-true, le-leb, lt-leb}
+use Rattle.std.specs.Prelude.{◌==◌, ◌&&◌, ◌||◌, not, nat_le, slice_index, slice_range, option_map}
+use Rattle.std.proofs.lemmas.Bool.{and_from, and_left, and_parts, and_right, or_cases, or_from, or_left, or_right, cases_lt, eqb-true, leb-true, le-leb, lt-leb}
 use Rattle.std.proofs.lemmas.List.{append_assoc, append-nil, drop_at, drop-drop, drop-take, get_or_append_left, get_or-drop, get_or-take, length-append, length-drop, length-take, take_all, take_at, take-append-drop, take-append-le, take-take}
 use Rattle.lab_dump.proofs.SaidLemmas.{spelled_head}
 use Rattle.byteorder.specs.Endian.{little_number}

@@ -1,4 +1,4 @@
-use Rattle.std.proofs.Common.{◌≡◌, refl, sym, ◌∙◌, ap, arith, ◌+◌, ◌-◌, ◌*◌, min, ◌++◌, drop, length}
+use Rattle.std.proofs.Common.{◌≡◌, sym, ◌∙◌, ap, arith, ◌+◌, ◌-◌, ◌*◌, min, ◌++◌, drop, length}
 use Rattle.std.proofs.lemmas.List.{length-append, length-drop, length-take}
 use Rattle.lab_dump.specs.Nearest.{nearest_below}
 use Rattle.lab_dump.proofs.NearestLemmas.{settled_nearest}

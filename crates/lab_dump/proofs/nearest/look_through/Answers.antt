@@ -1,4 +1,4 @@
-use Rattle.std.proofs.Common.{◌≡◌, refl, sym, ◌∙◌, ap, arith, ◌+◌}
+use Rattle.std.proofs.Common.{◌≡◌, sym, ◌∙◌, ap, arith, ◌+◌}
 use Rattle.lab_dump.specs.Nearest.{nearest_below}
 use Rattle.lab_dump.proofs.NearestLemmas.{look_more, pass_more}
 use Rattle.lab_dump.proofs.nearest.look_through.Goals.{then-names_version, else-names_version}

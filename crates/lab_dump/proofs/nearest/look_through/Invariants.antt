@@ -1,4 +1,4 @@
-use Rattle.std.proofs.Common.{◌≡◌, ◌+◌, ◌≤◌, List, ℕ, length}
+use Rattle.std.proofs.Common.{◌≡◌, ◌+◌, List, ℕ}
 use Rattle.lab_dump.specs.Nearest.{HasBehind, nearest_below}
 use Rattle.lab_dump.proofs.nearest.look_through.Given as goal
 

@@ -1,4 +1,4 @@
-use Rattle.std.proofs.Common.{◌≡◌, refl, sym, ◌∙◌, arith, true, false, ◌+◌, ◌<◌, length}
+use Rattle.std.proofs.Common.{refl, sym, ◌+◌, ◌<◌, length}
 use Rattle.std.proofs.lemmas.Bool.{ltb-false, ltb-true, ne_eqb}
 use Rattle.std.proofs.lemmas.List.{get_or_read_under}
 use Rattle.lab_dump.proofs.NearestLemmas.{few_at, unnamed_at}
