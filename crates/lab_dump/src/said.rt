@@ -91,9 +91,10 @@ fn kind_from(code: u8) -> Option<Kind>
     }
 }
 
-// The record that a spare area spells, whatever its seal.
+/// The record that a spare area spells, of 32 bytes or more, whatever its seal: its kind, its number, its sequence and its wear, a count of erases. The other
+/// bytes are as a sound page has them, but for the seal. (The layout is this project's.)
 #[tactic(auto, unfolding(page_layout::specs::Sound::spelled))]
-fn spelled(spare: &[u8]) -> Option<Record>
+pub fn spelled(spare: &[u8]) -> Option<Record>
     requires { 32 ≤ length spare.now }
     ensures { result ≡ spelled spare.now }
 {
