@@ -33,7 +33,9 @@ mod laws;
 mod look;
 mod make_fault;
 mod map;
+mod map_head;
 mod map_writer;
+mod mark;
 mod page_bytes;
 mod pass;
 mod repeated;
@@ -50,6 +52,7 @@ mod trace;
 mod until;
 mod writing;
 
+pub use area::Area;
 pub use array::{ArrayRoom, Unwritten, Written, write_array, write_damaged};
 pub use compare::{CompareFault, CompareRoom, Compared, compare_dump};
 pub use counts::{PageCounts, sorts_law};
@@ -67,7 +70,9 @@ pub use laws::{
 pub use look::{Look, look_at, look_with};
 pub use make_fault::MakeFault;
 pub use map::print_map;
+pub use map_head::{Remark, print_map_head};
 pub use map_writer::{LineFault, MapWriter};
+pub use mark::{Mark, Marked};
 pub use page_bytes::{is_broken, is_sound, join_page};
 pub use pass::{Cut, ScanFault, Stopped, Taker, expect_end, fill, scan, scan_rows};
 pub use row_page::look_in;

@@ -22,8 +22,8 @@ use Rattle.page_layout.proofs.ArrayLemmas.{latest-newest, length-marks}
 use Rattle.page_layout.proofs.NewestLemmas.{newest-is, newest_from}
 use Rattle.lab_dump.specs.Held.{shown_by}
 use Rattle.lab_dump.specs.Written.{state_of}
-use Rattle.lab_origin.specs.declared.mark.Mark.{Mark}
-use Rattle.lab_origin.specs.declared.mark.Mark.TheVariants as mark
+use Rattle.lab_dump.specs.declared.mark.Mark.{Mark}
+use Rattle.lab_dump.specs.declared.mark.Mark.TheVariants as mark
 use Rattle.lab_origin.specs.Origin.{AlikeLaw, FinishedLaw, MendedLaw, IsOf, IsOfNone, has_at, image_of, is_read, mark_by, mark_of, plain, read_mark, row_bytes}
 
 -- ---- the page of a row

@@ -29,8 +29,8 @@ use Rattle.lab_dump.specs.PageBytes.{page_of}
 use Rattle.lab_dump.specs.Until.{counted, is_later, page_until, until}
 use Rattle.lab_dump.specs.Writing.{sector_in}
 use Rattle.lab_dump.proofs.WritingLemmas.{within_is, other_none, unmarked_none, IsOfNone}
-use Rattle.lab_origin.specs.declared.mark.Mark.{Mark}
-use Rattle.lab_origin.specs.declared.mark.Mark.TheVariants as mark
+use Rattle.lab_dump.specs.declared.mark.Mark.{Mark}
+use Rattle.lab_dump.specs.declared.mark.Mark.TheVariants as mark
 use Rattle.lab_origin.specs.declared.newest.Change.{Change}
 use Rattle.lab_origin.specs.declared.newest.Change.TheVariants as change
 use Rattle.lab_origin.specs.Origin.{image_of, is_read, mark_by, mark_of, marks_of, read_mark, row_bytes}

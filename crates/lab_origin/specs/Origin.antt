@@ -15,8 +15,8 @@ use Rattle.lab_dump.specs.Until.{until}
 use Rattle.lab_dump.specs.Written.{state_of}
 use Rattle.lab_dump.specs.declared.held.Shown.{Shown}
 use Rattle.lab_dump.specs.declared.held.Shown.TheVariants as shown
-use Rattle.lab_origin.specs.declared.mark.Mark.{Mark}
-use Rattle.lab_origin.specs.declared.mark.Mark.TheVariants as mark
+use Rattle.lab_dump.specs.declared.mark.Mark.{Mark}
+use Rattle.lab_dump.specs.declared.mark.Mark.TheVariants as mark
 
 -- ---- the page of a row
 
