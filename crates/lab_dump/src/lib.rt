@@ -2,16 +2,17 @@
 //!
 //! - `scan`: one pass over its pages, in row order: what each page is, handed to a taker.
 //! - `write_array`: every sector, as of a sequence where one is said. Each page that is newer than what was seen of its sector is put in the sector's place of a target, so
-//!   that in the end the target holds the array of the image, sector by sector (`write_damaged`: also of pages that are not sound, where nothing sound is newer). And the map of the array: how each part of it stands, as
-//!   the mapfile of GNU ddrescue says it, so that tools that read such maps can tell a sector that was found from one that was not.
+//!   that in the end the target holds the array of the image, sector by sector (`write_damaged`: also of pages that are not sound, where nothing sound is newer).
 //! - `survey_sector`: the history of a sector, the sound pages of it that the dump still has, newest first.
 //! - `compare_dump`: which sectors have lost a page since a certificate was made of its die.
 //! - `survey_dump`: how many pages are of each sort, how the keys stand, the state of each block, and each reason why the die would not
 //!   mount.
 //! - `find_geometries`: which geometries fit a dump of unknown shape, best first, each with what the dump says for it. It reads page by
 //!   page, at whatever place.
+//! - `print_map`: the map of an array, by whatever is `Marked`: how each part of it stands, as the mapfile of GNU ddrescue says it, so that tools that read such maps can
+//!   tell a sector that was found from one that was not. Other maps of the laboratory print its head and its lines (`print_map_head`, `Area`).
 //!
-//! Each of the last five takes no memory but that of its room (`ArrayRoom`, ..), which is made before the dump is opened: so no refusal for memory
+//! Each of these but `scan` and `print_map` takes no memory but that of its room (`ArrayRoom`, ..), which is made before the dump is opened: so no refusal for memory
 //! depends on what a dump holds.
 #![tactic(auto)]
 

@@ -1,4 +1,4 @@
-use Rattle.std.proofs.Common.{◌≡◌, ◌∙◌, OnOk, subst}
+use Rattle.std.proofs.Common.{◌∙◌, OnOk, subst}
 use Rattle.std.specs.Io.KnownBytes.{Appends}
 use Rattle.page_layout.specs.Geometry.{page_bytes}
 use Rattle.lab_dump.proofs.MapLemmas.{then_last}

@@ -1,7 +1,7 @@
 use Rattle.std.proofs.Common.{◌≡◌, ℕ, map, sym, subst, arith}
 use Rattle.std.specs.Io.KnownBytes.{Appends}
 use Rattle.std.proofs.KnownBytes.{Appends-trans}
-use Rattle.lab_dump.specs.Map.{areas_below}
+use Rattle.lab_dump.specs.Map.{area_line, areas_below}
 use Rattle.lab_dump.proofs.MapLemmas.{below_more, below_none, first_zero}
 use Rattle.lab_dump.proofs.map.print_areas.Goals as goal
 
@@ -17,7 +17,7 @@ loop-sector-preserved g c =
     let d = g.W.MapWriter.contents c.print_end.new.out in
     record {
       first_is = c.in_ok-first.ensures.next;
-      printed = subst (λ t. Appends a d t) (below_more c.args.geometry.now marks c.loop-sector.sector) (Appends-trans a (g.W.MapWriter.contents c.loop-sector.out) d _ _ c.loop-sector.invariant.printed c.in_ok-first.ensures.printed);
+      printed = subst (λ t. Appends a d t) (below_more c.args.geometry.now marks c.loop-sector.sector) (Appends-trans a (g.W.MapWriter.contents c.loop-sector.out) d (areas_below c.args.geometry.now marks c.loop-sector.sector) (area_line c.args.geometry.now marks c.loop-sector.sector) c.loop-sector.invariant.printed c.in_ok-first.ensures.printed);
     }
 
 pub returns-clause-printed : goal.returns-clause-printed
