@@ -5,7 +5,8 @@ use Rattle.std.specs.Io.KnownBytes.{Appends, Keeps}
 use Rattle.page_layout.specs.declared.geometry.Geometry.{Geometry}
 use Rattle.lab_dump.specs.declared.doubts.Unsettled.{Unsettled}
 use Rattle.lab_dump.specs.declared.held.Held.{Held}
-use Rattle.lab_dump.specs.Held.{shown_in}
+use Rattle.lab_dump.specs.declared.map_head.Remark.TheVariants as remark
+use Rattle.lab_dump.specs.Held.{mark_in, shown_in}
 use Rattle.lab_dump.specs.Written.{IsWritten}
 use Rattle.lab_dump.specs.Map.{map_text}
 use Rattle.lab_commands.specs.Reports.{array_text}
@@ -52,7 +53,7 @@ with_map kept words text = option_map_or (λ file. with_kept kept file.now (Some
 pub record PutArray (a : Answers) (words : UntilWords) (before after : Option Store) (g : Geometry) (last : Option ℕ) (held : List Held) (left : Unsettled) : Type 0 where
   pub pieces : Option (List (List ℕ))
   pub made : MadeArray a words g last pieces held left
-  pub put : after ≡ with_map (with_kept before words.array.out.now pieces words.array.force) words.array (map_text g (map shown_in held))
+  pub put : after ≡ with_map (with_kept before words.array.out.now pieces words.array.force) words.array (map_text remark.Array g (map mark_in held))
 
 -- and the report printed
 pub record WroteArray (a : Answers) (words : UntilWords) (before after : Option Store) (out printed : Option (List ℕ)) : Type 0 where

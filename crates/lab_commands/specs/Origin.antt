@@ -2,13 +2,14 @@
 use Rattle.std.specs.Prelude.{◌≡◌, ◌⊎◌, ℕ, ◌<◌, Bool, true, false, List, [], ◌∷◌, length, get_or, Option, Some, None, IfSome}
 use Rattle.std.specs.Io.KnownBytes.{Appends}
 use Rattle.page_layout.specs.declared.geometry.Geometry.{Geometry}
+use Rattle.lab_dump.specs.Map.{map_text}
 use Rattle.lab_dump.specs.Scan.{image_bytes}
-use Rattle.lab_origin.specs.declared.mark.Mark.{Mark}
+use Rattle.lab_dump.specs.declared.map_head.Remark.TheVariants as remark
+use Rattle.lab_dump.specs.declared.mark.Mark.{Mark}
 use Rattle.lab_origin.specs.declared.readings.ReadingFault.{ReadingFault}
 use Rattle.lab_origin.specs.declared.readings.ReadingFault.TheVariants as reading
 use Rattle.lab_origin.specs.declared.trace.OriginFault.{OriginFault}
 use Rattle.lab_origin.specs.declared.trace.OriginFault.TheVariants as origin
-use Rattle.lab_origin.specs.Map.{map_text}
 use Rattle.lab_origin.specs.Tracing.{Tell}
 use Rattle.lab_origin.specs.Traced.{IsTraced}
 use Rattle.program_words.specs.Met.{texts}
@@ -58,7 +59,7 @@ pub record PutOrigin (a : Answers) (words : OriginWords) (before after : Option 
   pub last_is : IsLastAt words.until last
   pub allowed : MayMap a words
   pub followed : IsFollowed a words g last marks
-  pub put : after ≡ with_kept before words.out.now (Some (map_text g marks ∷ [])) words.force
+  pub put : after ≡ with_kept before words.out.now (Some (map_text remark.Readings g marks ∷ [])) words.force
 
 -- and it was printed how many sectors no reading has the page of
 pub record WroteOrigin (a : Answers) (words : OriginWords) (before after : Option Store) (out printed : Option (List ℕ)) : Type 0 where

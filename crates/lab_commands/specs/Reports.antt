@@ -16,7 +16,7 @@ use Rattle.lab_correct.specs.declared.correcting.Loss.{Loss}
 use Rattle.lab_correct.specs.declared.found.FoundFit.{FoundFit}
 use Rattle.lab_shapes.specs.declared.find.ArrangedFit.{ArrangedFit}
 use Rattle.lab_mend.specs.declared.repairing.Mend.{Mend}
-use Rattle.lab_origin.specs.declared.mark.Mark.{Mark}
+use Rattle.lab_dump.specs.declared.mark.Mark.{Mark}
 use Rattle.lab_origin.specs.Origin.{is_mended}
 use Rattle.lab_mend.specs.Repairing.{mended_count}
 use Rattle.lab_dump.specs.declared.survey.DieSurvey.{DieSurvey}

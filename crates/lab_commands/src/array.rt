@@ -1,7 +1,8 @@
 //! The command `array GEOM DUMP OUT [--map FILE] [--until SEQUENCE] [--damaged]`.
 ghost use Rattle.std.specs.Prelude.{◌≡◌, OnOk, OnErr, IfOk, IfErr, IfSome, true, false, length, map, replicate};
 ghost use Rattle.page_layout.specs.Array.{zeros};
-ghost use Rattle.lab_dump.specs.Held.{shown_in};
+ghost use Rattle.lab_dump.specs.declared.map_head.Remark.TheVariants as remark;
+ghost use Rattle.lab_dump.specs.Held.{mark_in};
 ghost use Rattle.lab_dump.specs.Map.{map_text};
 ghost use Rattle.lab_dump.specs.Rooms.{IsArrayRoom};
 ghost use Rattle.lab_dump.specs.Unmade as made;
@@ -88,7 +89,7 @@ fn put_map<'a, F: LabFiles>(
     files: &mut F,
 ) -> Result<(), LabFault<'a>>
     requires { length held.now ≡ geometry.now.sectors }
-    ensures ok { OnOk result (F.kept files.new ≡ with_map (F.kept files.old) words.now (map_text geometry.now (map shown_in held.now))) }
+    ensures ok { OnOk result (F.kept files.new ≡ with_map (F.kept files.old) words.now (map_text remark.Array geometry.now (map mark_in held.now))) }
     ensures fault { IfErr result (IsUnmapped (F.answers files.old) words.now) }
     ensures kept { OnErr result (F.kept files.new ≡ F.kept files.old) }
 {

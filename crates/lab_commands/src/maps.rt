@@ -1,8 +1,7 @@
 //! The maps that commands store.
 use crate::files::MapText;
 use lab_correct::{Loss, print_losses};
-use lab_dump::{Held, LineFault, MapWriter, print_map};
-use lab_origin::Mark;
+use lab_dump::{Held, LineFault, MapWriter, Mark, Remark, print_map};
 use page_layout::geometry::Geometry;
 
 /// The map of an array, by what is held of each sector.
@@ -14,15 +13,16 @@ pub(crate) struct ArrayMap<'a> {
 
 impl MapText for ArrayMap<'_> {
     ghost use Rattle.std.specs.Prelude.{◌≡◌, length, map};
-    ghost use Rattle.lab_dump.specs.Held.{shown_in};
+    ghost use Rattle.lab_dump.specs.declared.map_head.Remark.TheVariants as remark;
+    ghost use Rattle.lab_dump.specs.Held.{mark_in};
     ghost use Rattle.lab_dump.specs.Map.{map_text};
 
-    ghost text = { λ m. map_text m.geometry.now (map shown_in m.held.now) };
+    ghost text = { λ m. map_text remark.Array m.geometry.now (map mark_in m.held.now) };
 
     ghost whole = { λ m. length m.held.now ≡ m.geometry.now.sectors };
 
     fn print<W: MapWriter>(&self, out: &mut W) -> Result<(), LineFault> {
-        print_map(out, self.geometry, self.held)
+        print_map(out, Remark::Array, self.geometry, self.held)
     }
 }
 
@@ -35,14 +35,15 @@ pub(crate) struct OriginMap<'a> {
 
 impl MapText for OriginMap<'_> {
     ghost use Rattle.std.specs.Prelude.{◌≡◌, length};
-    ghost use Rattle.lab_origin.specs.Map.{map_text};
+    ghost use Rattle.lab_dump.specs.declared.map_head.Remark.TheVariants as remark;
+    ghost use Rattle.lab_dump.specs.Map.{map_text};
 
-    ghost text = { λ m. map_text m.geometry.now m.marks.now };
+    ghost text = { λ m. map_text remark.Readings m.geometry.now m.marks.now };
 
     ghost whole = { λ m. length m.marks.now ≡ m.geometry.now.sectors };
 
     fn print<W: MapWriter>(&self, out: &mut W) -> Result<(), LineFault> {
-        lab_origin::print_map(out, self.geometry, self.marks)
+        print_map(out, Remark::Readings, self.geometry, self.marks)
     }
 }
 

@@ -1,7 +1,8 @@
 //! The command `origin GEOM OUT DUMP READING READING..`.
 ghost use Rattle.std.specs.Prelude.{◌≡◌, ◌≤◌, [], ◌∷◌, Some, length, map, vec_capacity, OnOk, OnErr, IfOk, IfErr};
 ghost use Rattle.program_words.specs.Met.{texts};
-ghost use Rattle.lab_origin.specs.Map.{map_text};
+ghost use Rattle.lab_dump.specs.declared.map_head.Remark.TheVariants as remark;
+ghost use Rattle.lab_dump.specs.Map.{map_text};
 ghost use Rattle.lab_origin.specs.Traced.{IsOfReading, IsOfSome};
 ghost use Rattle.lab_origin.specs.Tracing.{IsOriginRoom};
 ghost use Rattle.lab_commands.specs.Files.{AnswersNoMore, with_kept};
@@ -21,8 +22,8 @@ use crate::output::Output;
 use crate::printing::{printer, unprinted};
 use crate::reports::print_origin;
 use crate::text::LabFault;
-use lab_dump::Dump;
-use lab_origin::{Mark, OriginFault, OriginRoom, ReadingFault, trace_origins};
+use lab_dump::{Dump, Mark};
+use lab_origin::{OriginFault, OriginRoom, ReadingFault, trace_origins};
 use page_layout::geometry::Geometry;
 use std::alloc::{AllocError, Global};
 
@@ -166,7 +167,7 @@ fn put_origin<'a, F: LabFiles>(
     files: &mut F,
 ) -> Result<(), LabFault<'a>>
     requires { length marks.now ≡ geometry.now.sectors }
-    ensures ok { OnOk result (F.kept files.new ≡ with_kept (F.kept files.old) words.now.out.now (Some (map_text geometry.now marks.now ∷ [])) words.now.force) }
+    ensures ok { OnOk result (F.kept files.new ≡ with_kept (F.kept files.old) words.now.out.now (Some (map_text remark.Readings geometry.now marks.now ∷ [])) words.now.force) }
     ensures fault { IfErr result (IsUnplaced (F.answers files.old) words.now.out.now words.now.force) }
     ensures kept { OnErr result (F.kept files.new ≡ F.kept files.old) }
 {

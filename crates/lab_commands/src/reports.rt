@@ -18,9 +18,11 @@ use crate::told_lines::{
     past_line, repeated_line, rewritten_line, rows_line, tries_line,
 };
 use lab_correct::{FoundFit, Loss};
-use lab_dump::{Compared, DieSurvey, Held, Rows, SectorPage, State, Unsettled, damaged_count};
+use lab_dump::{
+    Compared, DieSurvey, Held, Mark, Rows, SectorPage, State, Unsettled, damaged_count,
+};
 use lab_mend::{Mend, Tally, TriedRow, count_mended, count_tries};
-use lab_origin::{Mark, mended_count};
+use lab_origin::mended_count;
 use lab_shapes::ArrangedFit;
 use page_layout::geometry::Geometry;
 

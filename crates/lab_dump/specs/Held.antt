@@ -7,8 +7,8 @@ use Rattle.lab_dump.specs.declared.held.Held.{Held}
 use Rattle.lab_dump.specs.declared.held.Held.TheVariants as held
 use Rattle.lab_dump.specs.declared.held.State.{State}
 use Rattle.lab_dump.specs.declared.held.State.TheVariants as state
-use Rattle.lab_dump.specs.declared.held.Mark.{Mark}
-use Rattle.lab_dump.specs.declared.held.Mark.TheVariants as mark
+use Rattle.lab_dump.specs.declared.mark.Mark.{Mark}
+use Rattle.lab_dump.specs.declared.mark.Mark.TheVariants as mark
 use Rattle.lab_dump.specs.declared.held.Shown.{Shown}
 use Rattle.lab_dump.specs.declared.held.Shown.TheVariants as shown
 use Rattle.lab_dump.specs.declared.held.Change.{Change}
@@ -62,7 +62,7 @@ shown_in (held.Once kept) = shown.Found
 shown_in (held.Tied kept) = shown.Tied
 shown_in (held.Damaged kept) = shown.Damaged
 
--- how a map marks it: finished, bad or not tried
+-- how the array's map marks it: finished, bad or not tried
 abbrev pub mark_by : Shown → Mark
 mark_by shown.Absent = mark.Untried
 mark_by shown.Found = mark.Finished

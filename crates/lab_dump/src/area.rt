@@ -1,43 +1,44 @@
-//! A part of the array whose sectors stand alike.
+//! A part that a map marks alike.
 ghost use Rattle.std.specs.Prelude.{◌≡◌, ◌+◌, ◌-◌, ◌*◌, ◌<◌, ◌≤◌};
 ghost use Rattle.lab_dump.specs.Map.{status_words};
 
-use crate::held::Mark;
+use crate::mark::Mark;
 use page_layout::geometry::Geometry;
 use std::fmt;
 
-/// A part of the array whose sectors stand alike, by its bytes.
+/// A part that a map marks alike, by its bytes.
 #[derive(Clone, Copy)]
-pub(crate) struct Area {
+pub struct Area {
     /// Its first byte, counted from 0.
-    pub(crate) position: u64,
+    pub position: u64,
     /// How many bytes it has.
-    pub(crate) size: u64,
-    /// How its sectors stand.
-    pub(crate) state: Mark,
+    pub size: u64,
+    /// How it is marked.
+    pub mark: Mark,
 }
 
-// The character of a state: finished, a bad sector, not tried.
-fn status_text(state: Mark) -> &'static str
-    ensures { result.now ≡ status_words state }
+// The character of a mark: finished, not trimmed, a bad sector, not tried.
+fn status_text(mark: Mark) -> &'static str
+    ensures { result.now ≡ status_words mark }
 {
-    match state {
+    match mark {
         Mark::Finished => "+",
+        Mark::Mended => "*",
         Mark::Bad => "-",
         Mark::Untried => "?",
     }
 }
 
-/// The line, without its line feed.
+/// Its line in a map, without the line feed: position and size in base 16, and the character of its mark. (The form is that of GNU ddrescue's mapfile.)
 impl fmt::Display for Area {
     ghost use Rattle.std.specs.Prelude.{Some};
     ghost use Rattle.lab_dump.specs.Map.{area_words};
 
-    ghost output = { λ area. Some (area_words area.position area.size area.state) };
+    ghost output = { λ area. Some (area_words area.position area.size area.mark) };
 
     fn fmt<W: fmt::Write>(&self, f: &mut fmt::Formatter<W>) -> fmt::Result {
         let (position, size) = (self.position, self.size);
-        let status = status_text(self.state);
+        let status = status_text(self.mark);
         write!(f, "0x{position:x} 0x{size:x} {status}")
     }
 }
@@ -50,16 +51,16 @@ fn bytes_of(geometry: &Geometry, sectors: u32) -> u64
 }
 
 /// The area from one sector to another one.
-pub(crate) fn area_between(geometry: &Geometry, first: u32, last: u32, state: Mark) -> Area
+pub(crate) fn area_between(geometry: &Geometry, first: u32, last: u32, mark: Mark) -> Area
     requires within { last < geometry.now.sectors }
     requires rising { first ≤ last }
     ensures position { result.position ≡ first * geometry.now.data_bytes }
     ensures size { result.size ≡ (last + 1 - first) * geometry.now.data_bytes }
-    ensures state { result.state ≡ state }
+    ensures mark { result.mark ≡ mark }
 {
     Area {
         position: bytes_of(geometry, first),
         size: bytes_of(geometry, last + 1 - first),
-        state,
+        mark,
     }
 }

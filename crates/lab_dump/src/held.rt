@@ -5,6 +5,8 @@ ghost use Rattle.page_layout.specs.declared.newest.Latest.{Latest};
 ghost use Rattle.lab_dump.specs.Damaged.{Broken, Whole, place_by};
 ghost use Rattle.lab_dump.specs.Held.{Moves, Tells, damaged_of, greatest_in, is_damaged, mark_in, shown_in};
 
+use crate::mark::{Mark, Marked};
+
 /// What is known of the page that a sector is shown from once some rows were looked at: what `Latest` says but for the rows.
 #[derive(Clone, Copy, Debug, PartialEq, Eq)]
 pub enum Held {
@@ -29,17 +31,6 @@ pub enum Shown {
     Tied,
     /// As a page has it that is not sound, and newer than each sound one.
     Damaged,
-}
-
-/// How a map of an array marks a sector.
-#[derive(Clone, Copy, Debug, PartialEq, Eq)]
-pub enum Mark {
-    /// Nothing was found of it.
-    Untried,
-    /// It was found.
-    Finished,
-    /// What was found of it is in doubt.
-    Bad,
 }
 
 /// How a sector, or another key, stands in an image.
@@ -161,17 +152,6 @@ impl Held {
         self.shown() == Shown::Damaged
     }
 
-    // How a map marks the sector.
-    pub(crate) fn mark(self) -> Mark
-        ensures { result ≡ mark_in self }
-    {
-        match self.shown() {
-            Shown::Absent => Mark::Untried,
-            Shown::Found => Mark::Finished,
-            Shown::Tied | Shown::Damaged => Mark::Bad,
-        }
-    }
-
     /// How the sector is shown.
     pub fn shown(self) -> Shown
         ensures { result ≡ shown_in self }
@@ -181,6 +161,19 @@ impl Held {
             Held::Once(_) => Shown::Found,
             Held::Tied(_) => Shown::Tied,
             Held::Damaged(_) => Shown::Damaged,
+        }
+    }
+}
+
+/// The map of an array marks a sector by how it is shown, never as `Mended`: it knows of no reading.
+impl Marked for Held {
+    ghost marked = { mark_in };
+
+    fn mark(&self) -> Mark {
+        match self.shown() {
+            Shown::Absent => Mark::Untried,
+            Shown::Found => Mark::Finished,
+            Shown::Tied | Shown::Damaged => Mark::Bad,
         }
     }
 }

@@ -2,8 +2,7 @@
 //!
 //! - `scan`: one pass over its pages, in row order: what each page is, handed to a taker.
 //! - `write_array`: every sector, as of a sequence where one is said. Each page that is newer than what was seen of its sector is put in the sector's place of a target, so
-//!   that in the end the target holds the array of the image, sector by sector (`write_damaged`: also of pages that are not sound, where nothing sound is newer). And the map of the array: how each part of it stands, as
-//!   the mapfile of GNU ddrescue says it, so that tools that read such maps can tell a sector that was found from one that was not.
+//!   that in the end the target holds the array of the image, sector by sector (`write_damaged`: also of pages that are not sound, where nothing sound is newer).
 //! - `survey_sector`: the history of a sector, the sound pages of it that the dump still has, newest first.
 //! - `compare_dump`: which sectors have lost a page since a certificate was made of its die.
 //! - `survey_dump`: how many pages are of each sort, how the keys stand, the state of each block, and each reason why the die would not
@@ -11,8 +10,10 @@
 //! - `find_geometries`: which geometries fit a dump of unknown shape, best first, each with what the dump says for it. It reads page by
 //!   page, at whatever place.
 //! - `find_nearest`: which record can be read in a dump that none fits, at whatever byte.
+//! - `print_map`: the map of an array, by whatever is `Marked`: how each part of it stands, as the mapfile of GNU ddrescue says it, so that tools that read such maps can
+//!   tell a sector that was found from one that was not. Other maps of the laboratory print its head and its lines (`print_map_head`, `Area`).
 //!
-//! Each of the last six takes no memory but that of its room (`ArrayRoom`, ..), which is made before the dump is opened: so no refusal for memory
+//! Each of these but `scan` and `print_map` takes no memory but that of its room (`ArrayRoom`, ..), which is made before the dump is opened: so no refusal for memory
 //! depends on what a dump holds.
 #![tactic(auto)]
 
@@ -34,7 +35,9 @@ mod laws;
 mod look;
 mod make_fault;
 mod map;
+mod map_head;
 mod map_writer;
+mod mark;
 mod nearest;
 mod page_bytes;
 mod pass;
@@ -52,6 +55,7 @@ mod trace;
 mod until;
 mod writing;
 
+pub use area::Area;
 pub use array::{ArrayRoom, Unwritten, Written, write_array, write_damaged};
 pub use compare::{CompareFault, CompareRoom, Compared, compare_dump};
 pub use counts::{PageCounts, sorts_law};
@@ -69,7 +73,9 @@ pub use laws::{
 pub use look::{Look, look_at, look_with};
 pub use make_fault::MakeFault;
 pub use map::print_map;
+pub use map_head::{Remark, print_map_head};
 pub use map_writer::{LineFault, MapWriter};
+pub use mark::{Mark, Marked};
 pub use nearest::{Legible, NearestRoom, find_nearest, nearest_laws};
 pub use page_bytes::{is_broken, is_sound, join_page};
 pub use pass::{Cut, ScanFault, Stopped, Taker, expect_end, fill, scan, scan_rows};
@@ -77,7 +83,7 @@ pub use row_page::look_in;
 pub use rows::{Rows, asked_law, each_law, is_asked, within_law};
 pub use said::{SaidPage, said_laws};
 pub use sample::{Sample, looked_count, looked_row};
-pub use shape::{data_sizes, first_shape};
+pub use shape::{data_sizes, first_shape, page_counts};
 pub use survey::{DieSurvey, SurveyFault, SurveyRoom, mounts_law, survey_dump};
 pub use target::{DamagedTarget, PageTarget, Pieces, Target, TargetFault};
 pub use told::Told;

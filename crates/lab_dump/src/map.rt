@@ -1,134 +1,108 @@
 //! The lines of a map.
 ghost use Rattle.std.specs.Prelude.{◌≡◌, ◌+◌, ◌<◌, ◌++◌, ◌∷◌, [], true, IfOk, OnOk, OnErr, map, length, get_or};
 ghost use Rattle.std.specs.Io.KnownBytes.{Appends};
-ghost use Rattle.lab_dump.specs.Held.{mark_in, shown_in};
-ghost use Rattle.lab_dump.specs.Map.{area_line, area_words, areas_below, ends_at, first_of, is_like, map_head, map_text, remark_line, status_line};
+ghost use Rattle.lab_dump.specs.Map.{area_line, area_words, areas_below, ends_at, first_of, is_like, map_text};
 
 use crate::area::{Area, area_between};
-use crate::held::{Held, Mark};
+use crate::map_head::{Remark, print_map_head};
 use crate::map_writer::{LineFault, MapWriter};
+use crate::mark::{Mark, Marked};
 use page_layout::geometry::Geometry;
 
-// How a sector stands.
-fn state_at(held: &[Held], sector: usize) -> Mark
-    requires { sector < length held.now }
-    ensures { result ≡ get_or (map mark_in held.now) sector Mark.Untried }
+// How a sector is marked.
+fn mark_at<M: Marked>(sectors: &[M], sector: usize) -> Mark
+    requires { sector < length sectors.now }
+    ensures { result ≡ get_or (map M.marked sectors.now) sector Mark.Untried }
 {
-    let kept = held[sector];
-    kept.mark()
+    sectors[sector].mark()
 }
 
-// Whether two sectors that stand so stand alike.
-fn is_like(state: Mark, next: Mark) -> bool
-    ensures { result ≡ is_like state next }
+// Whether two sectors that are marked so are marked alike.
+fn is_like(mark: Mark, next: Mark) -> bool
+    ensures { result ≡ is_like mark next }
 {
-    match (state, next) {
+    match (mark, next) {
         (Mark::Untried, Mark::Untried)
         | (Mark::Finished, Mark::Finished)
+        | (Mark::Mended, Mark::Mended)
         | (Mark::Bad, Mark::Bad) => true,
         _ => false,
     }
 }
 
-// Whether an area ends with a sector: the next one stands otherwise, or there is none.
-fn ends_at(held: &[Held], sector: usize) -> bool
-    requires { sector < length held.now }
-    ensures { result ≡ ends_at (map mark_in held.now) sector }
+// Whether an area ends with a sector: the next one is marked otherwise, or there is none.
+fn ends_at<M: Marked>(sectors: &[M], sector: usize) -> bool
+    requires { sector < length sectors.now }
+    ensures { result ≡ ends_at (map M.marked sectors.now) sector }
 {
-    sector + 1 == held.len() || !is_like(state_at(held, sector), state_at(held, sector + 1))
+    sector + 1 == sectors.len() || !is_like(mark_at(sectors, sector), mark_at(sectors, sector + 1))
 }
 
 // Prints the line of an area.
 fn print_area<W: MapWriter>(out: &mut W, area: &Area) -> Result<(), LineFault>
-    ensures printed { OnOk result (Appends (W.contents out.old) (W.contents out.new) (area_words area.now.position area.now.size area.now.state ++ (10 ∷ []))) }
+    ensures printed { OnOk result (Appends (W.contents out.old) (W.contents out.new) (area_words area.now.position area.now.size area.now.mark ++ (10 ∷ []))) }
     ensures failed { OnErr result (W.failed out.new ≡ true) }
 {
     out.line(*area)
 }
 
 // Prints the line of the area that ends with a sector, if one does, and answers the first sector of the area that the next one is of.
-fn print_end<W: MapWriter>(
+fn print_end<W: MapWriter, M: Marked>(
     out: &mut W,
     geometry: &Geometry,
-    held: &[Held],
+    sectors: &[M],
     first: u32,
     sector: u32,
 ) -> Result<u32, LineFault>
-    requires sized { length held.now ≡ geometry.now.sectors }
+    requires sized { length sectors.now ≡ geometry.now.sectors }
     requires within { sector < geometry.now.sectors }
-    requires first { first ≡ first_of (map mark_in held.now) sector }
-    ensures next { IfOk result (λ next. next ≡ first_of (map mark_in held.now) (sector + 1)) }
-    ensures printed { OnOk result (Appends (W.contents out.old) (W.contents out.new) (area_line geometry.now (map mark_in held.now) sector)) }
+    requires first { first ≡ first_of (map M.marked sectors.now) sector }
+    ensures next { IfOk result (λ next. next ≡ first_of (map M.marked sectors.now) (sector + 1)) }
+    ensures printed { OnOk result (Appends (W.contents out.old) (W.contents out.new) (area_line geometry.now (map M.marked sectors.now) sector)) }
     ensures failed { OnErr result (W.failed out.new ≡ true) }
 {
-    if !ends_at(held, sector as usize) {
+    if !ends_at(sectors, sector as usize) {
         return Ok(first);
     }
-    let state = state_at(held, sector as usize);
-    print_area(out, &area_between(geometry, first, sector, state))?;
+    let mark = mark_at(sectors, sector as usize);
+    print_area(out, &area_between(geometry, first, sector, mark))?;
     Ok(sector + 1)
 }
 
 // Prints the lines of all areas.
-fn print_areas<W: MapWriter>(
+fn print_areas<W: MapWriter, M: Marked>(
     out: &mut W,
     geometry: &Geometry,
-    held: &[Held],
+    sectors: &[M],
 ) -> Result<(), LineFault>
-    requires { length held.now ≡ geometry.now.sectors }
-    ensures printed { OnOk result (Appends (W.contents out.old) (W.contents out.new) (areas_below geometry.now (map mark_in held.now) geometry.now.sectors)) }
+    requires { length sectors.now ≡ geometry.now.sectors }
+    ensures printed { OnOk result (Appends (W.contents out.old) (W.contents out.new) (areas_below geometry.now (map M.marked sectors.now) geometry.now.sectors)) }
     ensures failed { OnErr result (W.failed out.new ≡ true) }
 {
     let mut first = 0;
     for sector in 0..geometry.sectors() {
-        first = print_end(out, geometry, held, first, sector)?;
+        first = print_end(out, geometry, sectors, first, sector)?;
     }
     Ok(())
 }
 
-// Prints the remark.
-#[tactic(auto, unfolding(crate::specs::Map::remark_line))]
-fn print_remark<W: MapWriter>(out: &mut W) -> Result<(), LineFault>
-    ensures printed { OnOk result (Appends (W.contents out.old) (W.contents out.new) remark_line) }
-    ensures failed { OnErr result (W.failed out.new ≡ true) }
-{
-    out.line("# Mapfile of an array, made by nandlab")
-}
-
-// Prints that the run has ended.
-#[tactic(auto, unfolding(crate::specs::Map::status_line))]
-fn print_status<W: MapWriter>(out: &mut W) -> Result<(), LineFault>
-    ensures printed { OnOk result (Appends (W.contents out.old) (W.contents out.new) status_line) }
-    ensures failed { OnErr result (W.failed out.new ≡ true) }
-{
-    out.line("0x0 + 1")
-}
-
-// Prints the lines before those of the areas.
-fn print_head<W: MapWriter>(out: &mut W) -> Result<(), LineFault>
-    ensures printed { OnOk result (Appends (W.contents out.old) (W.contents out.new) map_head) }
-    ensures failed { OnErr result (W.failed out.new ≡ true) }
-{
-    print_remark(out)?;
-    print_status(out)
-}
-
-/// Prints the map of an array of this geometry whose sectors are held so, all of them: one line an area, by rising position. Positions and
-/// sizes are bytes of the array.
+/// Prints the map of an array of this geometry, of whose sectors each is marked, all of them: the remark says what it is of. It has one line an area, by rising position.
+/// Positions and sizes are bytes of the array.
 ///
 /// # Errors
 ///
 /// `LineFault` where a line could not be printed: a beginning of the map may stand there. (The form of the lines is that of GNU ddrescue's mapfile, the remark this
 /// project's.)
-pub fn print_map<W: MapWriter>(
+pub fn print_map<W: MapWriter, M: Marked>(
     out: &mut W,
+    remark: Remark,
     geometry: &Geometry,
-    held: &[Held],
+    sectors: &[M],
 ) -> Result<(), LineFault>
-    requires { length held.now ≡ geometry.now.sectors }
-    ensures printed { OnOk result (Appends (W.contents out.old) (W.contents out.new) (map_text geometry.now (map shown_in held.now))) }
+    requires { length sectors.now ≡ geometry.now.sectors }
+    ensures printed { OnOk result (Appends (W.contents out.old) (W.contents out.new) (map_text remark geometry.now (map M.marked sectors.now))) }
     ensures failed { OnErr result (W.failed out.new ≡ true) }
 {
-    print_head(out)?;
-    print_areas(out, geometry, held)
+    print_map_head(out, remark)?;
+    print_areas(out, geometry, sectors)
 }

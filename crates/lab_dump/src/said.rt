@@ -91,7 +91,7 @@ fn kind_from(code: u8) -> Option<Kind>
     }
 }
 
-// The record that a spare area spells, whatever its seal.
+/// The record that a spare area spells, whatever its seal.
 #[tactic(auto, unfolding(page_layout::specs::Sound::spelled))]
 pub(crate) fn spelled(spare: &[u8]) -> Option<Record>
     requires { 32 ≤ length spare.now }

@@ -14,8 +14,8 @@ pub fn data_sizes() -> [u32; 7]
     [64, 128, 256, 512, 1024, 2048, 4096]
 }
 
-// The pages that a block may have, a power of two from 4 to 256.
-pub(crate) fn page_counts() -> [u32; 7]
+/// The pages that a block may have, a power of two from 4 to 256.
+pub fn page_counts() -> [u32; 7]
     ensures is { result ≡ page_counts }
     ensures counts { All IsPageCount result }
 {

@@ -1,4 +1,3 @@
-pub mod MapLemmas
 pub mod OriginLemmas
 pub mod ReadingLemmas
 pub mod TracingLemmas

@@ -1,9 +1,9 @@
 -- What one page more makes of what is held.
-use Rattle.std.proofs.Common.{◌≡◌, ◌≢◌, inl, inr, ℕ, ◌+◌, ◌-◌, ◌*◌, ◌<◌, Bool, true, false, List, [], length, get_or, set, map, take, drop, replicate, Option, Some, None, refl, sym, ap, ◌∙◌, subst, arith, cond}
+use Rattle.std.proofs.Common.{◌≡◌, ◌≢◌, inl, inr, ℕ, ◌+◌, ◌-◌, ◌*◌, ◌<◌, Bool, true, false, List, length, get_or, set, map, take, drop, replicate, Option, Some, None, refl, sym, ap, ◌∙◌, subst, arith, cond}
 use Rattle.std.specs.Prelude.{nat_lt, option_map, slice_get, slice_range}
 use Rattle.std.specs.List.{range_with_len}
 use Rattle.std.proofs.lemmas.Bool.{cases_eq}
-use Rattle.std.proofs.lemmas.List.{get_or-map, get_or-set_same, get_or-set_other, get_or-replicate, get_or_default, length-map, length-set, length-replicate, same_lists, take-take, drop-take, drop-drop}
+use Rattle.std.proofs.lemmas.List.{get_or-set_same, get_or-set_other, get_or-replicate, get_or_default, length-map, length-set, length-replicate, same_lists, take-take, drop-take, drop-drop}
 use Rattle.std.proofs.lemmas.Option.{slice_get-map}
 use Rattle.std.proofs.lemmas.List.FromFn.{get_or-map-range_with_len, length-map-range_with_len}
 use Rattle.page_layout.specs.declared.geometry.Geometry.{Geometry}
@@ -21,16 +21,16 @@ use Rattle.page_layout.specs.Greatest.{step}
 use Rattle.page_layout.specs.Newest.{latest_below, sequence_at}
 use Rattle.page_layout.specs.Array.{marks}
 use Rattle.page_layout.proofs.ArrayLemmas.{mark-page}
-use Rattle.page_layout.proofs.NewestLemmas.{sequence_at-none, sequence_at-other, sequence_at-key}
+use Rattle.page_layout.proofs.NewestLemmas.{sequence_at-other, sequence_at-key}
 use Rattle.page_layout.proofs.RawLemmas.{raw_image-at, length-raw_image}
 use Rattle.page_layout.proofs.StepLemmas.{erased_unsound}
 use Rattle.image_check.proofs.SurveyLemmas.{latest_more, latest_other, latest_start}
 use Rattle.lab_dump.specs.PageBytes.{page_of}
 use Rattle.lab_dump.specs.Until.{counted, is_later, page_until, until}
 use Rattle.lab_dump.specs.Writing.{sector_in}
-use Rattle.lab_dump.proofs.WritingLemmas.{within_is, other_none, unmarked_none, IsOfNone}
-use Rattle.lab_origin.specs.declared.mark.Mark.{Mark}
-use Rattle.lab_origin.specs.declared.mark.Mark.TheVariants as mark
+use Rattle.lab_dump.proofs.WritingLemmas.{within_is, IsOfNone}
+use Rattle.lab_dump.specs.declared.mark.Mark.{Mark}
+use Rattle.lab_dump.specs.declared.mark.Mark.TheVariants as mark
 use Rattle.lab_origin.specs.declared.newest.Change.{Change}
 use Rattle.lab_origin.specs.declared.newest.Change.TheVariants as change
 use Rattle.lab_origin.specs.Origin.{image_of, is_read, mark_by, mark_of, marks_of, read_mark, row_bytes}

@@ -4,5 +4,3 @@ pub mod Origin
 pub mod Tracing
 -- what it comes to
 pub mod Traced
--- the map of the array
-pub mod Map

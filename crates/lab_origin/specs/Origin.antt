@@ -1,5 +1,5 @@
 -- Where the page comes from that a sector of a dump is shown from: a reading has it, as it stands, or none has.
-use Rattle.std.specs.Prelude.{◌≡◌, ◌≢◌, ◌↔◌, ℕ, ◌+◌, ◌*◌, ◌<◌, Bool, true, false, if◌then◌else◌, List, [], length, get_or, map, slice_range, Option}
+use Rattle.std.specs.Prelude.{◌≡◌, ◌≢◌, ◌↔◌, ℕ, ◌+◌, ◌*◌, ◌<◌, Bool, true, false, List, [], length, get_or, map, slice_range, Option}
 use Rattle.std.specs.List.{list_any, range_with_len}
 use Rattle.std.specs.Str.{bytes_eq}
 use Rattle.page_layout.specs.declared.geometry.Geometry.{Geometry}
@@ -15,8 +15,8 @@ use Rattle.lab_dump.specs.Until.{until}
 use Rattle.lab_dump.specs.Written.{state_of}
 use Rattle.lab_dump.specs.declared.held.Shown.{Shown}
 use Rattle.lab_dump.specs.declared.held.Shown.TheVariants as shown
-use Rattle.lab_origin.specs.declared.mark.Mark.{Mark}
-use Rattle.lab_origin.specs.declared.mark.Mark.TheVariants as mark
+use Rattle.lab_dump.specs.declared.mark.Mark.{Mark}
+use Rattle.lab_dump.specs.declared.mark.Mark.TheVariants as mark
 
 -- ---- the page of a row
 

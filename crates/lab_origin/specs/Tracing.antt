@@ -1,5 +1,5 @@
 -- What is held of each sector while the rows pass.
-use Rattle.std.specs.Prelude.{◌≡◌, ◌≢◌, ℕ, ◌<◌, Bool, List, [], length, get_or, replicate, map, Option, Some, None}
+use Rattle.std.specs.Prelude.{◌≡◌, ℕ, ◌<◌, Bool, List, length, get_or, replicate, map, Option, Some}
 use Rattle.std.specs.List.{list_any}
 use Rattle.page_layout.specs.declared.geometry.Geometry.{Geometry}
 use Rattle.page_layout.specs.Geometry.{page_bytes}
@@ -8,8 +8,8 @@ use Rattle.page_layout.specs.declared.record.Key.TheVariants.{Sector}
 use Rattle.page_layout.specs.declared.newest.Latest.{Latest}
 use Rattle.page_layout.specs.declared.newest.Latest.TheVariants.{Never, Once, Tied}
 use Rattle.page_layout.specs.Newest.{latest_below}
-use Rattle.lab_origin.specs.declared.mark.Mark.{Mark}
-use Rattle.lab_origin.specs.declared.mark.Mark.TheVariants.{Untried}
+use Rattle.lab_dump.specs.declared.mark.Mark.{Mark}
+use Rattle.lab_dump.specs.declared.mark.Mark.TheVariants.{Untried}
 use Rattle.lab_origin.specs.declared.newest.Change.{Change}
 use Rattle.lab_origin.specs.declared.newest.Change.TheVariants as change
 use Rattle.lab_origin.specs.declared.room.OriginRoom.{OriginRoom}

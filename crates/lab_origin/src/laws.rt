@@ -1,5 +1,4 @@
 //! What the marks of a map of origins come to.
-ghost use Rattle.lab_origin.specs.Map.{AreasLaw};
 ghost use Rattle.lab_origin.specs.Origin.{AlikeLaw, FinishedLaw, MendedLaw};
 
 /// A sector is marked `Mended` just where its newest page stands in no reading, and `Finished` just where it stands in one. But for that each is marked as
@@ -8,9 +7,4 @@ pub fn origin_laws()
     ensures mended { MendedLaw }
     ensures finished { FinishedLaw }
     ensures alike { AlikeLaw }
-{}
-
-/// The areas of a map have each sector once, in order; those of an area are marked alike, and neighbours differ.
-pub fn areas_law()
-    ensures { AreasLaw }
 {}

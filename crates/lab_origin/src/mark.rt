@@ -1,19 +1,8 @@
-//! How a map marks a sector.
+//! Which sectors no reading has.
 ghost use Rattle.std.specs.Prelude.{◌≡◌, count_by};
 ghost use Rattle.lab_origin.specs.Origin.{is_mended, read_mark};
 
-/// How a map of an array marks a sector, by the page that it is shown from.
-#[derive(Clone, Copy, Debug, PartialEq, Eq)]
-pub enum Mark {
-    /// It has no sound page.
-    Untried,
-    /// A reading has its newest page, as it stands.
-    Finished,
-    /// No reading has its newest page: that was mended, or put together of several.
-    Mended,
-    /// Two of its pages share its greatest sequence.
-    Bad,
-}
+use lab_dump::Mark;
 
 // How a sector is marked whose newest page a reading has, or none.
 pub(crate) fn read_mark(read: bool) -> Mark
@@ -22,15 +11,13 @@ pub(crate) fn read_mark(read: bool) -> Mark
     if read { Mark::Finished } else { Mark::Mended }
 }
 
-impl Mark {
-    // Whether no reading has the sector's newest page.
-    fn is_mended(self) -> bool
-        ensures { result ≡ is_mended self }
-    {
-        match self {
-            Mark::Mended => true,
-            Mark::Untried | Mark::Finished | Mark::Bad => false,
-        }
+// Whether no reading has the newest page of a sector that is marked so.
+fn is_mended(mark: Mark) -> bool
+    ensures { result ≡ is_mended mark }
+{
+    match mark {
+        Mark::Mended => true,
+        Mark::Untried | Mark::Finished | Mark::Bad => false,
     }
 }
 
@@ -38,7 +25,7 @@ impl Mark {
 fn count_mended(marks: &[Mark]) -> usize
     ensures { result ≡ count_by is_mended marks.now }
 {
-    marks.iter().filter(|mark| mark.is_mended()).count()
+    marks.iter().filter(|mark| is_mended(**mark)).count()
 }
 
 /// How many sectors have a newest page that no reading has, by the mark of each. (This project's.)

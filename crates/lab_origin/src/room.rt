@@ -1,5 +1,5 @@
 //! The memory of a run that holds a dump beside its readings.
-use crate::mark::Mark;
+use lab_dump::Mark;
 use page_layout::geometry::Geometry;
 use page_layout::newest::Latest;
 use std::alloc::{AllocError, Global};

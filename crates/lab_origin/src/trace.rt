@@ -11,11 +11,11 @@ ghost use Rattle.lab_origin.specs.Origin.{image_of, is_read, read_mark};
 ghost use Rattle.lab_origin.specs.Tracing.{AreSized, IsOriginRoom, Shows, Tell, have_at};
 ghost use Rattle.lab_origin.specs.Traced.{AreWhole, ArePinned, IsOfSome, IsTraced, IsUntraced};
 
-use crate::mark::{Mark, read_mark};
+use crate::mark::read_mark;
 use crate::newest::{Change, counted, sector_in, step};
 use crate::readings::{ReadingFault, Unread, expect_whole, have_piece, is_whole};
 use crate::room::OriginRoom;
-use lab_dump::{Dump, DumpFault};
+use lab_dump::{Dump, DumpFault, Mark};
 use page_layout::geometry::Geometry;
 use page_layout::newest::Latest;
 use page_layout::record::{Record, read_record};
@@ -226,7 +226,8 @@ fn expect_sizes<D: Dump>(
     Ok(())
 }
 
-/// Tells of each sector of a dump whether one of the readings has its newest page just as the dump has it, in the same row. The newest page of a sector is its
+/// Marks each sector of a dump: `Finished` where one of the readings has its newest page just as the dump has it, in the same row, `Mended` where none has: the page was mended, or put
+/// together of several. It is `Bad` where two of its pages share its greatest sequence, and `Untried` where it has no sound page. The newest page of a sector is its
 /// sound page of greatest sequence; where a sequence `until` is said, just the pages of this sequence or an earlier one count. The dump is read once. A page of
 /// a reading is read where the dump's page of that row is newer than what was seen of its sector, and is not hashed. It takes no memory but that of the room.
 ///

@@ -1,7 +1,6 @@
 //! The geometry and the arrangement in which a dump fits best.
 ghost use Rattle.std.specs.Prelude.{◌≡◌, ◌⊎◌, ◌<◌, ◌≤◌, All, List, ℕ, length, IfOk, IfSome, OnOk, OnErr, Some, true};
 ghost use Rattle.page_layout.specs.Limits.{IsDataSize, IsPageCount, IsSpareSize};
-ghost use Rattle.lab_dump.specs.Shape.{page_counts};
 ghost use Rattle.lab_arrange.specs.declared.arrangement.Arrangement.{Arrangement};
 ghost use Rattle.lab_shapes.specs.declared.find.ArrangedFit.{ArrangedFit};
 ghost use Rattle.std.specs.Ordering.{is_lt};
@@ -14,7 +13,7 @@ ghost use Rattle.lab_shapes.specs.Tried.{IsTried};
 use crate::fitting::{fit_as, shape_as};
 use crate::tried::{TRIED, arrangement_of};
 use lab_arrange::Arrangement;
-use lab_dump::{Dump, DumpFault, Fit, data_sizes};
+use lab_dump::{Dump, DumpFault, Fit, data_sizes, page_counts};
 use std::alloc::{AllocError, Global};
 use std::cmp::Reverse;
 
@@ -85,14 +84,6 @@ fn better(so_far: Option<ArrangedFit>, found: ArrangedFit) -> ArrangedFit
     } else {
         best
     }
-}
-
-// The pages that a block may have, a power of two from 4 to 256.
-fn page_counts() -> [u32; 7]
-    ensures is { result ≡ page_counts }
-    ensures counts { All IsPageCount result }
-{
-    [4, 8, 16, 32, 64, 128, 256]
 }
 
 // How many bytes the pages have of a dump of this size, if it has room for what stands around them.

@@ -1,7 +1,8 @@
 use Rattle.std.proofs.Common.{refl, inl, inr, map, List, ap, subst, ◌∙◌}
 use Rattle.std.specs.Io.KnownBytes.{Appends}
 use Rattle.std.proofs.KnownBytes.{Keeps-refl}
-use Rattle.lab_dump.specs.Held.{shown_in}
+use Rattle.lab_dump.specs.declared.map_head.Remark.TheVariants as remark
+use Rattle.lab_dump.specs.Held.{mark_in, shown_in}
 use Rattle.lab_dump.specs.declared.held.Held.{Held}
 use Rattle.lab_dump.specs.Map.{map_text}
 use Rattle.lab_commands.specs.Undone.{IsUnmade}
@@ -133,8 +134,8 @@ returns-in-Ok-clause-ok g c =
           made = subst (λ f. IsMade (g.F.LabFiles.answers f) words.dump.now geometry last c.args.words.damaged pieces held left) same c.in_ok-written.ensures.made;
         };
         put = c.in_ok-put_map.ensures.ok
-            ∙ (ap (λ (hs : List Held). with_map (g.F.LabFiles.kept c.keep.new.files) words (map_text geometry (map shown_in hs))) c.deref.ensures.value
-            ∙ ap (λ x. with_map x words (map_text geometry (map shown_in held))) (c.in_ok-keep.ensures.ok ∙ ap (λ x. with_kept x words.out.now pieces words.force) (c.in_ok-written.ensures.beside ∙ ap g.F.LabFiles.kept same)));
+            ∙ (ap (λ (hs : List Held). with_map (g.F.LabFiles.kept c.keep.new.files) words (map_text remark.Array geometry (map mark_in hs))) c.deref.ensures.value
+            ∙ ap (λ x. with_map x words (map_text remark.Array geometry (map mark_in held))) (c.in_ok-keep.ensures.ok ∙ ap (λ x. with_kept x words.out.now pieces words.force) (c.in_ok-written.ensures.beside ∙ ap g.F.LabFiles.kept same)));
       };
       told = subst (λ f. Appends (g.W.Output.contents c.args.out.now) (g.W.Output.contents c.print_array.new.out) (array_text f geometry last (map shown_in held) left)) c.printer-printer.ensures
           (subst (λ (hs : List Held). Appends (g.W.Output.contents c.args.out.now) (g.W.Output.contents c.print_array.new.out) (array_text c.printer-printer.result.form geometry last (map shown_in hs) left)) c.deref-2.ensures.value c.in-Ok.ensures);
@@ -159,8 +160,8 @@ returns-clause-fault g c =
         made = subst (λ f. IsMade (g.F.LabFiles.answers f) words.dump.now geometry last c.args.words.damaged pieces held left) same c.in_ok-written.ensures.made;
       };
       put = c.in_ok-put_map.ensures.ok
-          ∙ (ap (λ (hs : List Held). with_map (g.F.LabFiles.kept c.keep.new.files) words (map_text geometry (map shown_in hs))) c.deref.ensures.value
-          ∙ ap (λ x. with_map x words (map_text geometry (map shown_in held))) (c.in_ok-keep.ensures.ok ∙ ap (λ x. with_kept x words.out.now pieces words.force) (c.in_ok-written.ensures.beside ∙ ap g.F.LabFiles.kept same)));
+          ∙ (ap (λ (hs : List Held). with_map (g.F.LabFiles.kept c.keep.new.files) words (map_text remark.Array geometry (map mark_in hs))) c.deref.ensures.value
+          ∙ ap (λ x. with_map x words (map_text remark.Array geometry (map mark_in held))) (c.in_ok-keep.ensures.ok ∙ ap (λ x. with_kept x words.out.now pieces words.force) (c.in_ok-written.ensures.beside ∙ ap g.F.LabFiles.kept same)));
     } in
     inr (inr (
       geometry,

@@ -1,7 +1,8 @@
 use Rattle.std.proofs.Common.{List, [], ◌∷◌, Some, refl, inl, inr, ap, subst, ◌∙◌}
 use Rattle.std.specs.Io.KnownBytes.{Appends}
-use Rattle.lab_origin.specs.declared.mark.Mark.{Mark}
-use Rattle.lab_origin.specs.Map.{map_text}
+use Rattle.lab_dump.specs.declared.map_head.Remark.TheVariants as remark
+use Rattle.lab_dump.specs.declared.mark.Mark.{Mark}
+use Rattle.lab_dump.specs.Map.{map_text}
 use Rattle.lab_commands.specs.Document.{Stops}
 use Rattle.lab_commands.specs.Files.{AnswersNoMore, with_kept}
 use Rattle.lab_commands.specs.Reports.{origin_text}
@@ -90,8 +91,8 @@ returns-in-Ok-clause-ok g c =
         allowed = c.in_ok-allow_origin.ensures.ok;
         followed = subst (λ f. IsFollowed (g.F.LabFiles.answers f) words geometry last marks) same c.in_ok-marks.ensures.followed;
         put = c.in_ok-put_origin.ensures.ok
-            ∙ (ap (λ (ms : List Mark). with_kept (g.F.LabFiles.kept c.follow.new.files) words.out.now (Some (map_text geometry ms ∷ [])) words.force) c.deref.ensures.value
-            ∙ ap (λ x. with_kept x words.out.now (Some (map_text geometry marks ∷ [])) words.force) (c.follow.ensures.kept ∙ ap g.F.LabFiles.kept same));
+            ∙ (ap (λ (ms : List Mark). with_kept (g.F.LabFiles.kept c.follow.new.files) words.out.now (Some (map_text remark.Readings geometry ms ∷ [])) words.force) c.deref.ensures.value
+            ∙ ap (λ x. with_kept x words.out.now (Some (map_text remark.Readings geometry marks ∷ [])) words.force) (c.follow.ensures.kept ∙ ap g.F.LabFiles.kept same));
       };
       told = subst (λ f. Appends (g.W.Output.contents c.args.out.now) (g.W.Output.contents c.print_origin.new.out) (origin_text f marks)) c.printer.ensures
           (subst (λ (ms : List Mark). Appends (g.W.Output.contents c.args.out.now) (g.W.Output.contents c.print_origin.new.out) (origin_text c.printer.result.form ms)) c.deref-2.ensures.value c.in-Ok.ensures);
@@ -111,8 +112,8 @@ returns-clause-fault g c =
       allowed = c.in_ok-allow_origin.ensures.ok;
       followed = subst (λ f. IsFollowed (g.F.LabFiles.answers f) words geometry last marks) same c.in_ok-marks.ensures.followed;
       put = c.in_ok-put_origin.ensures.ok
-          ∙ (ap (λ (ms : List Mark). with_kept (g.F.LabFiles.kept c.follow.new.files) words.out.now (Some (map_text geometry ms ∷ [])) words.force) c.deref.ensures.value
-          ∙ ap (λ x. with_kept x words.out.now (Some (map_text geometry marks ∷ [])) words.force) (c.follow.ensures.kept ∙ ap g.F.LabFiles.kept same));
+          ∙ (ap (λ (ms : List Mark). with_kept (g.F.LabFiles.kept c.follow.new.files) words.out.now (Some (map_text remark.Readings geometry ms ∷ [])) words.force) c.deref.ensures.value
+          ∙ ap (λ x. with_kept x words.out.now (Some (map_text remark.Readings geometry marks ∷ [])) words.force) (c.follow.ensures.kept ∙ ap g.F.LabFiles.kept same));
     } in
     inr (
       geometry,

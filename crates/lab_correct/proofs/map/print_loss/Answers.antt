@@ -1,4 +1,4 @@
-use Rattle.lab_correct.proofs.MapLemmas.{then_last}
+use Rattle.lab_dump.proofs.MapLemmas.{then_last}
 use Rattle.lab_correct.proofs.map.print_loss.Goals as goal
 
 pub returns-clause-printed : goal.returns-clause-printed

@@ -1,4 +1,4 @@
-use Rattle.std.proofs.Common.{◌≡◌, ◌∙◌, inl, inr, [], length, get_or, map, sym, subst, arith}
+use Rattle.std.proofs.Common.{◌≡◌, ◌∙◌, inl, inr, [], length, get_or, sym, subst, arith}
 use Rattle.std.proofs.lemmas.Bool.{cases_eq}
 use Rattle.lab_dump.specs.Scan.{image_bytes}
 use Rattle.lab_origin.proofs.ReadingLemmas.{asked_same, failed_at, tell_at}

@@ -1,5 +1,5 @@
-use Rattle.std.proofs.Common.{◌∙◌, [], length, get_or, map, sym, arith}
-use Rattle.lab_origin.proofs.ReadingLemmas.{asked_same, failed_at, none_more, none_of_all, none_yet, one_has, tell_at, tell_count}
+use Rattle.std.proofs.Common.{◌∙◌, [], get_or, sym, arith}
+use Rattle.lab_origin.proofs.ReadingLemmas.{asked_same, failed_at, none_more, none_of_all, one_has, tell_at, tell_count}
 use Rattle.lab_origin.proofs.readings.have_piece.Goals as goal
 
 pub returns-in-Ok-true-clause-found : goal.returns-in-Ok-true-clause-found

@@ -1,0 +1,36 @@
+//! How a map marks a part.
+
+/// How a map marks a part, by its character.
+#[derive(Clone, Copy, Debug, PartialEq, Eq)]
+pub enum Mark {
+    /// Nothing was found of it: `?`.
+    Untried,
+    /// It was found: `+`.
+    Finished,
+    /// It was found, but stands so in no reading: `*`.
+    Mended,
+    /// It was lost, or what was found of it is in doubt: `-`.
+    Bad,
+}
+
+/// What a map marks. (This project's.)
+pub trait Marked {
+    ghost use Rattle.std.specs.Prelude.{◌≡◌};
+    ghost use Rattle.lab_dump.specs.declared.mark.Mark.{Mark};
+
+    /// How a map marks it.
+    ghost marked: { Self → Mark };
+
+    /// How a map marks it.
+    fn mark(&self) -> Mark
+        ensures { result ≡ marked self.now };
+}
+
+/// A mark itself.
+impl Marked for Mark {
+    ghost marked = { λ mark. mark };
+
+    fn mark(&self) -> Mark {
+        *self
+    }
+}
