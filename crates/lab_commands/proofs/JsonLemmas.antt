@@ -16,8 +16,8 @@ use Rattle.page_layout.specs.declared.record.Kind.TheVariants as kind
 use Rattle.serde_json.specs.Data.{boolean}
 use Rattle.lab_dump.specs.declared.said.SaidPage.{SaidPage}
 use Rattle.lab_dump.specs.Doubts.{most_older}
-use Rattle.lab_mend.specs.declared.merging.Tally.{Tally}
-use Rattle.lab_mend.specs.declared.pairs.Pair.{Pair}
+use Rattle.lab_mend.specs.declared.merging.RowTally.{RowTally}
+use Rattle.lab_mend.specs.declared.pairs.BitPair.{BitPair}
 use Rattle.lab_commands.specs.Values.{age_data, age_until_data, arranged_data, block_data, corrected_data, damaged_data, doubt_data, fit_members, found_data, front_words, head_data, history_data, key_data, legible_data, lost_data, lost_row_data}
 use Rattle.lab_commands.specs.Values.{mended_count_data, mended_data, merged_data, nothing_data, page_data, pages_data, pair_data, plain_block_data, reason_pages_data, reason_table_data, repeated_data, row_data, rows_age_data, rows_data, said_data, tries_data, truth_words, turned_data}
 use Rattle.std.specs.Prelude.{codes, ◌==◌, if◌then◌else◌}
@@ -181,7 +181,7 @@ pub mended_json : (made : Made) (row : ℕ) (bit : ℕ) (r1 : ℕ) (w : List ℕ
 unfolding escape_byte
 mended_json made row bit r1 w r2 e1 ew e2 = rw (e1, ew, e2) (ap (λ t. codes "{\"bit\":" ++ (decimal bit ++ (codes ",\"line\":" ++ t))) (sym (quoted_in (made_words made) (codes ",\"row\":" ++ (decimal row ++ codes "}")) (plain_made made))))
 
-pub pair_json : (row : ℕ) (b : Pair) (r1 r2 r3 : ℕ) → r1 ≡ b.low → r2 ≡ b.high → r3 ≡ row
+pub pair_json : (row : ℕ) (b : BitPair) (r1 r2 r3 : ℕ) → r1 ≡ b.low → r2 ≡ b.high → r3 ≡ row
     → codes "{\"bits\":[" ++ (decimal r1 ++ (codes "," ++ (decimal r2 ++ (codes "],\"line\":\"mended\",\"row\":" ++ (decimal r3 ++ codes "}"))))) ≡ compact_text (pair_data row b)
 unfolding escape_byte
 pair_json row b r1 r2 r3 e1 e2 e3 = rw (e1, e2, e3) (ap (λ t. codes "{\"bits\":[" ++ t) (sym (list_of_two (decimal b.low) (decimal b.high) (codes ",\"line\":\"mended\",\"row\":" ++ (decimal row ++ codes "}")))))
@@ -218,7 +218,7 @@ pub unsound_json : (row : ℕ) (r1 : ℕ) → r1 ≡ row → codes "{\"line\":\"
 unfolding escape_byte
 unsound_json row r1 e1 = rw (e1) (refl)
 
-pub merged_json : (differ : ℕ) (tally : Tally) (r1 : ℕ) (r2 : ℕ) (r3 : ℕ) (r4 : ℕ) (r5 : ℕ) → r1 ≡ tally.erased → r2 ≡ tally.majority → r3 ≡ tally.sound → r4 ≡ tally.turned → r5 ≡ tally.unsound
+pub merged_json : (differ : ℕ) (tally : RowTally) (r1 : ℕ) (r2 : ℕ) (r3 : ℕ) (r4 : ℕ) (r5 : ℕ) → r1 ≡ tally.erased → r2 ≡ tally.majority → r3 ≡ tally.sound → r4 ≡ tally.turned → r5 ≡ tally.unsound
     → codes "{\"differ\":" ++ (decimal differ ++ (codes ",\"erased\":" ++ (decimal r1 ++ (codes ",\"line\":\"merged\",\"majority\":" ++ (decimal r2 ++ (codes ",\"sound\":" ++ (decimal r3 ++ (codes ",\"turned\":" ++ (decimal r4 ++ (codes ",\"unsound\":" ++ (decimal r5 ++ codes "}"))))))))))) ≡ compact_text (merged_data differ tally)
 unfolding escape_byte
 merged_json differ tally r1 r2 r3 r4 r5 e1 e2 e3 e4 e5 = rw (e1, e2, e3, e4, e5) (refl)

@@ -10,7 +10,7 @@ use Rattle.lab_commands.specs.declared.text.LabFault.{LabFault}
 use Rattle.lab_commands.specs.declared.text.LabFault.TheVariants as fault
 use Rattle.lab_commands.specs.Undone.{IsHalfPrinted, TellsPrint}
 use Rattle.lab_commands.specs.declared.lines.Line.{Line}
-use Rattle.lab_commands.specs.declared.document.Form.{Form}
+use Rattle.lab_commands.specs.declared.document.ReportForm.{ReportForm}
 use Rattle.lab_commands.specs.declared.output.OutputFault.{OutputFault}
 use Rattle.lab_commands.specs.Document.{Prints, Stops, if_text, text_below}
 
@@ -35,7 +35,7 @@ half_printed e _ broke a b due tells stops = absurd tells
 -- ---- the lines of a list
 
 -- those of the first numbers, those of the next, and the rest
-below_last : (form : Form) (f : ℕ → Option Line) (n k : ℕ) → ((l : n < k) → (rest : List ℕ) × (text_below form f n ++ (if_text form (f n) ++ rest) ≡ text_below form f k))
+below_last : (form : ReportForm) (f : ℕ → Option Line) (n k : ℕ) → ((l : n < k) → (rest : List ℕ) × (text_below form f n ++ (if_text form (f n) ++ rest) ≡ text_below form f k))
     → (n ≡ k) ⊎ (n < k) → (rest : List ℕ) × (text_below form f n ++ (if_text form (f n) ++ rest) ≡ text_below form f k ++ if_text form (f k))
 below_last form f n k before (inl is) =
     ([], subst (λ m. text_below form f n ++ (if_text form (f n) ++ []) ≡ text_below form f m ++ if_text form (f m)) is (ap (λ t. text_below form f n ++ t) (append-nil (if_text form (f n)))))
@@ -43,23 +43,23 @@ below_last form f n k before (inr below) =
     let found = before below in
     (found.0 ++ if_text form (f k), sym (append_assoc (text_below form f n) (if_text form (f n) ++ found.0) (if_text form (f k)) ∙ ap (λ t. text_below form f n ++ t) (append_assoc (if_text form (f n)) found.0 (if_text form (f k)))) ∙ ap (λ t. t ++ if_text form (f k)) found.1)
 
-below_split : (form : Form) (f : ℕ → Option Line) (n k : ℕ) → n < k → (rest : List ℕ) × (text_below form f n ++ (if_text form (f n) ++ rest) ≡ text_below form f k)
+below_split : (form : ReportForm) (f : ℕ → Option Line) (n k : ℕ) → n < k → (rest : List ℕ) × (text_below form f n ++ (if_text form (f n) ++ rest) ≡ text_below form f k)
 unfolding text_below
 below_split form f n zero l = absurd (omega arith)
 below_split form f n (suc k) l = below_last form f n k (λ below. below_split form f n k below) (eq-or-lt_of_le (omega arith))
 
 -- where it stopped in the line of one of them, behind those before it
-pub stops_below : (e : OutputFault) (broke : Bool) (form : Form) (f : ℕ → Option Line) (n k : ℕ) (a b d : Option (List ℕ)) → n < k → Appends a b (text_below form f n) → Stops e broke b d (if_text form (f n)) → Stops e broke a d (text_below form f k)
+pub stops_below : (e : OutputFault) (broke : Bool) (form : ReportForm) (f : ℕ → Option Line) (n k : ℕ) (a b d : Option (List ℕ)) → n < k → Appends a b (text_below form f n) → Stops e broke b d (if_text form (f n)) → Stops e broke a d (text_below form f k)
 stops_below e broke form f n k a b d l first last =
     let split = below_split form f n k l in
     subst (λ t. Stops e broke a d t) split.1 (stops_after e broke a b d (text_below form f n) (if_text form (f n) ++ split.0) first (stops_more e broke b d (if_text form (f n)) split.0 last))
 
-pub none_below : (form : Form) (f : ℕ → Option Line) (a : Option (List ℕ)) → Appends a a (text_below form f 0)
+pub none_below : (form : ReportForm) (f : ℕ → Option Line) (a : Option (List ℕ)) → Appends a a (text_below form f 0)
 unfolding text_below
 none_below form f a = Appends-nil a
 
 -- one line more
-pub one_more : (form : Form) (f : ℕ → Option Line) (n : ℕ) (a b d : Option (List ℕ)) → Appends a b (text_below form f n) → Appends b d (if_text form (f n)) → Appends a d (text_below form f (n + 1))
+pub one_more : (form : ReportForm) (f : ℕ → Option Line) (n : ℕ) (a b d : Option (List ℕ)) → Appends a b (text_below form f n) → Appends b d (if_text form (f n)) → Appends a d (text_below form f (n + 1))
 unfolding text_below
 one_more form f n a b d first last =
     let next : suc n ≡ n + 1 = omega arith in

@@ -10,7 +10,7 @@ use Rattle.lab_dump.specs.declared.make_fault.MakeFault.TheVariants as make
 use Rattle.lab_dump.specs.Unmade.{IsUnmade as IsUnmadeBy}
 use Rattle.lab_commands.specs.declared.text.LabFault.{LabFault}
 use Rattle.lab_commands.specs.declared.text.LabFault.TheVariants as fault
-use Rattle.lab_commands.specs.declared.files.FileFault.TheVariants as file
+use Rattle.lab_commands.specs.declared.files.LabFileFault.TheVariants as file
 use Rattle.lab_commands.specs.declared.files.Standing.{Standing}
 use Rattle.lab_commands.specs.declared.files.Standing.TheVariants as standing
 use Rattle.lab_commands.specs.Files.{Answers, AnswersNoMore, IsOpened, Stands, Store}

@@ -5,8 +5,8 @@ use Rattle.std.specs.Io.KnownBytes.{Appends}
 use Rattle.serde_json.specs.Written.{compact_text}
 use Rattle.request_stream.specs.Frames.{AppendsPart}
 use Rattle.lab_commands.specs.declared.lines.Line.{Line}
-use Rattle.lab_commands.specs.declared.document.Form.{Form}
-use Rattle.lab_commands.specs.declared.document.Form.TheVariants.{Text, Json}
+use Rattle.lab_commands.specs.declared.document.ReportForm.{ReportForm}
+use Rattle.lab_commands.specs.declared.document.ReportForm.TheVariants.{Text, Json}
 use Rattle.lab_commands.specs.declared.document.Report.{Report}
 use Rattle.lab_commands.specs.declared.document.Report.TheVariants as report
 use Rattle.lab_commands.specs.declared.output.OutputFault.{OutputFault}
@@ -14,7 +14,7 @@ use Rattle.lab_commands.specs.Lines.{line_words}
 use Rattle.lab_commands.specs.Values.{head_data, line_data}
 
 -- a line in this form, of a document that has begun
-unfoldable pub line_text : Form → Line → List ℕ
+unfoldable pub line_text : ReportForm → Line → List ℕ
 line_text Text line = line_words line ++ (10 ∷ [])
 line_text Json line = codes ",\n" ++ compact_text (line_data line)
 
@@ -32,22 +32,22 @@ report_words report.Arrange = codes "arrange"
 report_words report.Origin = codes "origin"
 
 -- what a document of this command begins with
-unfoldable pub head_text : Form → List ℕ → List ℕ
+unfoldable pub head_text : ReportForm → List ℕ → List ℕ
 head_text Text command = []
 head_text Json command = codes "[" ++ compact_text (head_data command)
 
 -- and what it ends with
-abbrev pub tail_text : Form → List ℕ
+abbrev pub tail_text : ReportForm → List ℕ
 tail_text Text = []
 tail_text Json = codes "\n]\n"
 
 -- a line, if there is one
-abbrev pub if_text : Form → Option Line → List ℕ
+abbrev pub if_text : ReportForm → Option Line → List ℕ
 if_text form None = []
 if_text form (Some line) = line_text form line
 
 -- the lines of the numbers below this one, in order
-unfoldable pub text_below : Form → (ℕ → Option Line) → ℕ → List ℕ
+unfoldable pub text_below : ReportForm → (ℕ → Option Line) → ℕ → List ℕ
 text_below form f zero = []
 text_below form f (suc n) = text_below form f n ++ if_text form (f n)
 

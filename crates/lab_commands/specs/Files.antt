@@ -2,7 +2,7 @@
 use Rattle.std.specs.Prelude.{◌≡◌, ◌≢◌, ℕ, suc, ◌-◌, Bool, true, false, List, [], ◌∷◌, ◌++◌, Option, Some, IfSome, IsSome, All, take, Result, Ok, Err}
 use Rattle.std.specs.List.{concat}
 use Rattle.std.specs.Option.{option_map}
-use Rattle.lab_commands.specs.declared.files.FileFault.{FileFault}
+use Rattle.lab_commands.specs.declared.files.LabFileFault.{LabFileFault}
 use Rattle.lab_commands.specs.declared.files.KeepFault.{KeepFault}
 use Rattle.lab_commands.specs.declared.files.KeepFault.TheVariants as keep
 use Rattle.lab_commands.specs.declared.files.Standing.{Standing}
@@ -19,7 +19,7 @@ pub record Answers : Type 1 where
   -- whether two paths name one file
   pub says_same : List ℕ → List ℕ → Bool → Type 0
   -- how a call that names a path may fail: of two paths the first
-  pub fails : List ℕ → FileFault → Type 0
+  pub fails : List ℕ → LabFileFault → Type 0
   -- a read of a file that was opened failed
   pub reads_fail : Type 0
   -- a write to a file that was made failed
@@ -44,7 +44,7 @@ unknown = record {
 pub record AnswersNoMore (old new : Answers) : Type 0 where
   pub gives_same : (at bytes : List ℕ) → new.gives at bytes → old.gives at bytes
   pub tells_same : new.tells ≡ old.tells
-  pub fails_same : (at : List ℕ) (fault : FileFault) → new.fails at fault → old.fails at fault
+  pub fails_same : (at : List ℕ) (fault : LabFileFault) → new.fails at fault → old.fails at fault
   pub reads_same : new.reads_fail → old.reads_fail
   pub writes_same : new.writes_fail → old.writes_fail
   pub taken_same : (at : List ℕ) → new.taken at → old.taken at

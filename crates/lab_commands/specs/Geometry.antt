@@ -8,7 +8,7 @@ use Rattle.lab_correct.specs.declared.found.FoundFit.{FoundFit}
 use Rattle.lab_correct.specs.Coded.{ArePossible, found_of, found_rank}
 use Rattle.lab_shapes.specs.declared.find.ArrangedFit.{ArrangedFit}
 use Rattle.lab_shapes.specs.Arranged.{IsBest, IsPossibleAs}
-use Rattle.lab_commands.specs.declared.document.Form.{Form}
+use Rattle.lab_commands.specs.declared.document.ReportForm.{ReportForm}
 use Rattle.lab_dump.specs.Rooms.{IsNearestRoom}
 use Rattle.lab_correct.specs.FoundRoom.{IsFoundRoom}
 use Rattle.lab_shapes.specs.Rooms.{IsShapeRoom}
@@ -57,7 +57,7 @@ pub record HasFound (a : Answers) (path : List ℕ) (fitting : Fitting) : Type 0
   pub fits : FitsAre known fitting
 
 -- what is printed of it
-abbrev pub fitting_text : Form → Fitting → List ℕ
+abbrev pub fitting_text : ReportForm → Fitting → List ℕ
 fitting_text form (fitting.Stands fits) = fits_text form fits.items
 fitting_text form (fitting.Arranged found) = arranged_fit_text form found
 

@@ -3,10 +3,10 @@ use Rattle.std.specs.Prelude.{ℕ, zero, suc, ◌/◌, ◌==◌, ◌&&◌, not, 
 use Rattle.std.specs.Fmt.{decimal}
 use Rattle.std.specs.Option.{is_none}
 use Rattle.certificate.specs.declared.block_state.BlockState.{BlockState}
-use Rattle.lab_dump.specs.declared.held.State.{State}
-use Rattle.lab_dump.specs.declared.held.State.TheVariants as state
-use Rattle.lab_dump.specs.declared.held.Shown.{Shown}
-use Rattle.lab_dump.specs.declared.held.Shown.TheVariants as shown
+use Rattle.lab_dump.specs.declared.held.KeyState.{KeyState}
+use Rattle.lab_dump.specs.declared.held.KeyState.TheVariants as state
+use Rattle.lab_dump.specs.declared.held.SectorShown.{SectorShown}
+use Rattle.lab_dump.specs.declared.held.SectorShown.TheVariants as shown
 use Rattle.lab_dump.specs.declared.fit.Fit.{Fit}
 use Rattle.lab_dump.specs.declared.fit.TableSays.{TableSays}
 use Rattle.lab_dump.specs.declared.fit.TableSays.TheVariants.{Agrees, Short, Silent, Differs}
@@ -25,7 +25,7 @@ use Rattle.lab_shapes.specs.declared.find.ArrangedFit.{ArrangedFit}
 use Rattle.lab_shapes.specs.Words.{arrangement_words}
 use Rattle.lab_mend.specs.declared.mending.Made.{Made}
 use Rattle.lab_mend.specs.declared.mending.Made.TheVariants as made
-use Rattle.lab_mend.specs.declared.merging.Tally.{Tally}
+use Rattle.lab_mend.specs.declared.merging.RowTally.{RowTally}
 use Rattle.lab_mend.specs.declared.pairs.Turn.{Turn}
 use Rattle.lab_mend.specs.declared.pairs.Turn.TheVariants as turn
 use Rattle.lab_mend.specs.declared.trial.Trial.{Trial}
@@ -121,7 +121,7 @@ block_words block s unsound =
     decimal s.live ++ (codes " wear " ++ (decimal s.wear ++ (codes " unsound " ++ decimal unsound))))))))))
 
 -- how many rows of a merge there are of each kind
-abbrev pub tally_words : ℕ → Tally → List ℕ
+abbrev pub tally_words : ℕ → RowTally → List ℕ
 tally_words differ t =
     codes "sound " ++ (decimal t.sound ++ (codes " differ " ++ (decimal differ ++ (codes " majority " ++ (decimal t.majority ++ (
     codes " turned " ++ (decimal t.turned ++ (codes " erased " ++ (decimal t.erased ++ (codes " unsound " ++ decimal t.unsound))))))))))
@@ -318,14 +318,14 @@ abbrev pub repeated_line : Option (ℕ × ℕ) → Option Line
 repeated_line rows = option_map (λ pair. Repeated pair.0 pair.1) rows
 
 -- what a table page is a reason for: it has no newest page, or one that isn't well formed
-abbrev pub table_line : ℕ → State → Bool → Option Line
+abbrev pub table_line : ℕ → KeyState → Bool → Option Line
 table_line page state.Found true = None
 table_line page state.Found false = Some (TableDamaged page)
 table_line page state.Absent formed = Some (NotFormatted page)
 table_line page state.Tied formed = Some (NotFormatted page)
 
 -- a key that is tied, or that has no sound page where it should have one
-abbrev pub key_line : Label → ℕ → State → Option Line
+abbrev pub key_line : Label → ℕ → KeyState → Option Line
 key_line of number state.Found = None
 key_line of number state.Tied = Some (Tied of number)
 key_line label.Sector number state.Absent = None
@@ -333,7 +333,7 @@ key_line label.Translation number state.Absent = Some (Missing label.Translation
 key_line label.Table number state.Absent = Some (Missing label.Table number)
 
 -- a sector of which two pages share the greatest sequence
-abbrev pub tie_line : ℕ → Shown → Option Line
+abbrev pub tie_line : ℕ → SectorShown → Option Line
 tie_line n shown.Absent = None
 tie_line n shown.Found = None
 tie_line n shown.Damaged = None

@@ -5,7 +5,7 @@ use Rattle.page_layout.specs.declared.geometry.Geometry.{Geometry}
 use Rattle.lab_dump.specs.Scan.{image_bytes}
 use Rattle.lab_mend.specs.declared.merge.MergeFault.{MergeFault}
 use Rattle.lab_mend.specs.declared.merge.MergeFault.TheVariants as merge
-use Rattle.lab_mend.specs.declared.merging.Tally.{Tally}
+use Rattle.lab_mend.specs.declared.merging.RowTally.{RowTally}
 use Rattle.lab_mend.specs.declared.merging.TriedRow.{TriedRow}
 use Rattle.lab_mend.specs.InStep.{Tell}
 use Rattle.lab_mend.specs.Merged.{IsMerged, IsOwnMerge}
@@ -64,14 +64,14 @@ MayNotMerge a words told = IsUnwritten a words.out.now told ⊎ (Stands a words.
 -- The pieces are made of dumps that read so: where the bytes of all are known, the pieces, the rows that differ, those that are unsound, those of
 -- which pages were tried and the counts are those of the images that they are. Whatever the dumps gave, the rows are named once each, by rising row, and 00h bytes stand for those
 -- that differ.
-pub record IsJoined (a : Answers) (paths : List (List ℕ)) (g : Geometry) (pieces : Option (List (List ℕ))) (conflicts unsound : List ℕ) (tried : List TriedRow) (tally : Tally) : Type 0 where
+pub record IsJoined (a : Answers) (paths : List (List ℕ)) (g : Geometry) (pieces : Option (List (List ℕ))) (conflicts unsound : List ℕ) (tried : List TriedRow) (tally : RowTally) : Type 0 where
   pub known : List (Option (List ℕ))
   pub opened : AreOpened a paths known
   pub merged : (files : List (List ℕ)) → Tell known files → IsMerged g files conflicts unsound tried tally pieces
   pub own : IsOwnMerge g conflicts unsound tried pieces
 
 -- the one dump was put in the place of OUT
-pub record PutMerge (a : Answers) (words : MergeWords) (before after : Option Store) (conflicts unsound : List ℕ) (tried : List TriedRow) (tally : Tally) : Type 0 where
+pub record PutMerge (a : Answers) (words : MergeWords) (before after : Option Store) (conflicts unsound : List ℕ) (tried : List TriedRow) (tally : RowTally) : Type 0 where
   pub g : Geometry
   pub pieces : Option (List (List ℕ))
   pub geometry_is : IsGeometryAt words.geometry.now g
@@ -84,7 +84,7 @@ pub record WroteMerge (a : Answers) (words : MergeWords) (before after : Option 
   pub conflicts : List ℕ
   pub unsound : List ℕ
   pub tried : List TriedRow
-  pub tally : Tally
+  pub tally : RowTally
   pub put : PutMerge a words before after conflicts unsound tried tally
   pub told : Appends out printed (merge_text (form_of words.showing) conflicts unsound tried tally)
 
@@ -136,5 +136,5 @@ IsUnmergedBy a words opens opened told =
 abbrev pub IsMergeFault : Answers → MergeWords → Option Store → Option Store → (opens opened : Option ℕ) → (broke : Bool) → Option (List ℕ) → Option (List ℕ) → LabFault → Type 0
 IsMergeFault a words before after opens opened broke out printed told =
     (LeavesAll before after out printed × IsUnmergedBy a words opens opened told)
-    ⊎ ((conflicts : List ℕ) × (unsound : List ℕ) × (tried : List TriedRow) × (tally : Tally) × PutMerge a words before after conflicts unsound tried tally
+    ⊎ ((conflicts : List ℕ) × (unsound : List ℕ) × (tried : List TriedRow) × (tally : RowTally) × PutMerge a words before after conflicts unsound tried tally
     × IsHalfPrinted broke out printed (merge_text (form_of words.showing) conflicts unsound tried tally) told)

@@ -5,7 +5,7 @@ use Rattle.page_layout.specs.declared.geometry.Geometry.{Geometry}
 use Rattle.lab_dump.specs.Map.{map_text}
 use Rattle.lab_dump.specs.Scan.{image_bytes}
 use Rattle.lab_dump.specs.declared.map_head.Remark.TheVariants as remark
-use Rattle.lab_dump.specs.declared.mark.Mark.{Mark}
+use Rattle.lab_dump.specs.declared.mark.MapMark.{MapMark}
 use Rattle.lab_origin.specs.declared.readings.ReadingFault.{ReadingFault}
 use Rattle.lab_origin.specs.declared.readings.ReadingFault.TheVariants as reading
 use Rattle.lab_origin.specs.declared.trace.OriginFault.{OriginFault}
@@ -46,7 +46,7 @@ MayNotMap a words told = IsUnwritten a words.out.now told ⊎ (Stands a words.ou
 
 -- the marks are made of a dump and readings that read so: where the bytes of all are known, they are those of the sectors of the dump that they are, as of a
 -- sequence where one is said
-pub record IsFollowed (a : Answers) (words : OriginWords) (g : Geometry) (last : Option ℕ) (marks : List Mark) : Type 0 where
+pub record IsFollowed (a : Answers) (words : OriginWords) (g : Geometry) (last : Option ℕ) (marks : List MapMark) : Type 0 where
   pub known : Option (List ℕ)
   pub readings : List (Option (List ℕ))
   pub opened : IsOpened a words.dump.now known
@@ -54,7 +54,7 @@ pub record IsFollowed (a : Answers) (words : OriginWords) (g : Geometry) (last :
   pub traced : (all : List ℕ) (files : List (List ℕ)) → known ≡ Some all → Tell readings files → IsTraced g last all files marks
 
 -- the map of these marks was put in the place of OUT
-pub record PutOrigin (a : Answers) (words : OriginWords) (before after : Option Store) (g : Geometry) (last : Option ℕ) (marks : List Mark) : Type 0 where
+pub record PutOrigin (a : Answers) (words : OriginWords) (before after : Option Store) (g : Geometry) (last : Option ℕ) (marks : List MapMark) : Type 0 where
   pub geometry_is : IsGeometryAt words.geometry.now g
   pub last_is : IsLastAt words.until last
   pub allowed : MayMap a words
@@ -65,7 +65,7 @@ pub record PutOrigin (a : Answers) (words : OriginWords) (before after : Option 
 pub record WroteOrigin (a : Answers) (words : OriginWords) (before after : Option Store) (out printed : Option (List ℕ)) : Type 0 where
   pub g : Geometry
   pub last : Option ℕ
-  pub marks : List Mark
+  pub marks : List MapMark
   pub put : PutOrigin a words before after g last marks
   pub told : Appends out printed (origin_text (form_of words.showing) marks)
 
@@ -117,4 +117,4 @@ IsUndone a words opens opened told =
 abbrev pub IsOriginFault : Answers → OriginWords → Option Store → Option Store → (opens opened : Option ℕ) → (broke : Bool) → Option (List ℕ) → Option (List ℕ) → LabFault → Type 0
 IsOriginFault a words before after opens opened broke out printed told =
     (LeavesAll before after out printed × IsUndone a words opens opened told)
-    ⊎ ((g : Geometry) × (last : Option ℕ) × (marks : List Mark) × PutOrigin a words before after g last marks × IsHalfPrinted broke out printed (origin_text (form_of words.showing) marks) told)
+    ⊎ ((g : Geometry) × (last : Option ℕ) × (marks : List MapMark) × PutOrigin a words before after g last marks × IsHalfPrinted broke out printed (origin_text (form_of words.showing) marks) told)

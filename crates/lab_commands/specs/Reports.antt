@@ -3,20 +3,20 @@ use Rattle.std.specs.Prelude.{ℕ, ◌+◌, Bool, false, List, [], ◌∷◌, �
 use Rattle.page_layout.specs.declared.geometry.Geometry.{Geometry}
 use Rattle.page_layout.specs.Geometry.{translation_pages, table_pages}
 use Rattle.certificate.specs.declared.block_state.BlockState.{BlockState}
-use Rattle.lab_dump.specs.declared.held.State.{State}
-use Rattle.lab_dump.specs.declared.held.State.TheVariants as state
-use Rattle.lab_dump.specs.declared.held.Shown.{Shown}
-use Rattle.lab_dump.specs.declared.held.Shown.TheVariants as shown
+use Rattle.lab_dump.specs.declared.held.KeyState.{KeyState}
+use Rattle.lab_dump.specs.declared.held.KeyState.TheVariants as state
+use Rattle.lab_dump.specs.declared.held.SectorShown.{SectorShown}
+use Rattle.lab_dump.specs.declared.held.SectorShown.TheVariants as shown
 use Rattle.lab_dump.specs.Held.{damaged_of, shown_in}
 use Rattle.lab_dump.specs.declared.compare.Compared.{Compared}
-use Rattle.lab_mend.specs.declared.merging.Tally.{Tally}
+use Rattle.lab_mend.specs.declared.merging.RowTally.{RowTally}
 use Rattle.lab_mend.specs.declared.merging.TriedRow.{TriedRow}
 use Rattle.lab_mend.specs.Tries.{tries_in}
 use Rattle.lab_correct.specs.declared.correcting.Loss.{Loss}
 use Rattle.lab_correct.specs.declared.found.FoundFit.{FoundFit}
 use Rattle.lab_shapes.specs.declared.find.ArrangedFit.{ArrangedFit}
 use Rattle.lab_mend.specs.declared.repairing.Mend.{Mend}
-use Rattle.lab_dump.specs.declared.mark.Mark.{Mark}
+use Rattle.lab_dump.specs.declared.mark.MapMark.{MapMark}
 use Rattle.lab_origin.specs.Origin.{is_mended}
 use Rattle.lab_mend.specs.Repairing.{mended_count}
 use Rattle.lab_dump.specs.declared.survey.DieSurvey.{DieSurvey}
@@ -32,17 +32,17 @@ use Rattle.lab_commands.specs.declared.lines.Line.{Line}
 use Rattle.lab_commands.specs.declared.lists.Lines.{Lines}
 use Rattle.lab_commands.specs.declared.lists.Lines.TheVariants as lists
 use Rattle.lab_commands.specs.declared.lines.Line.TheVariants as line
-use Rattle.lab_commands.specs.declared.document.Form.{Form}
+use Rattle.lab_commands.specs.declared.document.ReportForm.{ReportForm}
 use Rattle.lab_commands.specs.Document.{head_text, if_text, line_text, tail_text, text_below}
 use Rattle.lab_commands.specs.Lines.{age_line, block_line, damaged_line, factory_line, hole_line, key_line, last_line, legible_line, lost_line, newer_line, outside_line, page_line, past_line, repeated_line, rewritten_line, rows_line, table_line, tie_line, tries_line}
 
 -- ---- lists
 
 -- keys that stand one behind another in a list of states, from this place on
-abbrev pub key_at : Label → List State → ℕ → ℕ → Option Line
+abbrev pub key_at : Label → List KeyState → ℕ → ℕ → Option Line
 key_at of states from n = key_line of n (get_or states (from + n) state.Absent)
 
-abbrev pub table_at : List State → ℕ → List Bool → ℕ → Option Line
+abbrev pub table_at : List KeyState → ℕ → List Bool → ℕ → Option Line
 table_at states from formed u = table_line u (get_or states (from + u) state.Absent) (get_or formed u false)
 
 abbrev pub state_at : Option (List BlockState) → ℕ → Option BlockState
@@ -55,7 +55,7 @@ block_at states unsound b = block_line b (state_at states b) (get_or unsound b 0
 abbrev pub lost_at : List Bool → ℕ → Option Line
 lost_at lost n = lost_line n (get_or lost n false)
 
-abbrev pub tie_at : List Shown → ℕ → Option Line
+abbrev pub tie_at : List SectorShown → ℕ → Option Line
 tie_at states n = tie_line n (get_or states n shown.Absent)
 
 abbrev pub page_at : Geometry → List SectorPage → ℕ → Option Line
@@ -126,7 +126,7 @@ size_of (lists.Tried rows) = length rows.now
 size_of (lists.Said pages) = length pages.now
 size_of (lists.Newer last pages) = length pages.now
 
-abbrev pub some_text : Form → List (Option Line) → List ℕ
+abbrev pub some_text : ReportForm → List (Option Line) → List ℕ
 some_text form lines = text_below form (some_at lines) (length lines)
 
 -- ---- what a dump leaves open
@@ -138,11 +138,11 @@ doubt_lines last left =
     factory_line left.doubts.factory ∷ rewritten_line left.doubts.rewritten ∷ hole_line left.doubts.holes ∷ past_line left.doubts.outside
     ∷ legible_line last left.legible (most_others left.doubts left.legible) ∷ Some (age_line last left.doubts) ∷ []
 
-abbrev pub doubts_text : Form → Option ℕ → Unsettled → List ℕ
+abbrev pub doubts_text : ReportForm → Option ℕ → Unsettled → List ℕ
 doubts_text form last left = some_text form (doubt_lines last left)
 
 -- the same behind the pages that say something newer than what is shown, where the array is the whole one
-abbrev pub left_text : Form → Option ℕ → Unsettled → List ℕ
+abbrev pub left_text : ReportForm → Option ℕ → Unsettled → List ℕ
 left_text form last left = text_below form (newer_at last left.said.items) (length left.said.items) ++ doubts_text form last left
 
 -- ---- survey
@@ -159,82 +159,82 @@ abbrev pub first_table : Geometry → ℕ
 first_table g = g.sectors + translation_pages g
 
 -- the table pages that are a reason against a mount, and the keys that are tied or missing
-unfoldable pub keys_text : Form → Geometry → List State → List Bool → List ℕ
+unfoldable pub keys_text : ReportForm → Geometry → List KeyState → List Bool → List ℕ
 keys_text form g states formed =
     text_below form (table_at states (first_table g) formed) (table_pages g)
     ++ (text_below form (key_at label.Sector states 0) g.sectors
     ++ (text_below form (key_at label.Translation states g.sectors) (translation_pages g) ++ text_below form (key_at label.Table states (first_table g)) (table_pages g)))
 
-abbrev pub blocks_text : Form → Geometry → DieSurvey → List ℕ
+abbrev pub blocks_text : ReportForm → Geometry → DieSurvey → List ℕ
 blocks_text form g s = text_below form (block_at (option_map (λ states. states.items) s.blocks) s.unsound.items) g.blocks
 
 -- its last lines: what the dump leaves open, or where some rows alone were looked at, how many of them are neither erased nor sound
-abbrev pub age_text : Form → Option Rows → DieSurvey → List ℕ
+abbrev pub age_text : ReportForm → Option Rows → DieSurvey → List ℕ
 age_text form None s = doubts_text form None s.left
 age_text form (Some rows) s = line_text form (line.AgeOfRows s.counts.unsound)
 
 -- what a survey ends with: what pages say that are neither erased nor sound, and the last lines
-abbrev pub ending_text : Form → Option Rows → DieSurvey → List ℕ
+abbrev pub ending_text : ReportForm → Option Rows → DieSurvey → List ℕ
 ending_text form rows s = text_below form (said_at s.left.said.items) (length s.left.said.items) ++ age_text form rows s
 
 -- all lines of a survey
-unfoldable pub survey_lines : Form → Geometry → Option Rows → DieSurvey → List ℕ
+unfoldable pub survey_lines : ReportForm → Geometry → Option Rows → DieSurvey → List ℕ
 survey_lines form g rows s =
     if_text form (rows_line rows) ++ (some_text form (count_lines s) ++ (keys_text form g s.keys.items s.formed.items
     ++ (blocks_text form g s ++ ending_text form rows s)))
 
-abbrev pub survey_text : Form → Geometry → Option Rows → DieSurvey → List ℕ
+abbrev pub survey_text : ReportForm → Geometry → Option Rows → DieSurvey → List ℕ
 survey_text form g rows s = head_text form (codes "survey") ++ (survey_lines form g rows s ++ tail_text form)
 
 -- ---- the others
 
-abbrev pub losses_text : Form → Geometry → List Bool → List ℕ
+abbrev pub losses_text : ReportForm → Geometry → List Bool → List ℕ
 losses_text form g lost = text_below form (lost_at lost) g.sectors
 
-abbrev pub compare_text : Form → Geometry → Compared → List ℕ
+abbrev pub compare_text : ReportForm → Geometry → Compared → List ℕ
 compare_text form g told = head_text form (codes "compare") ++ (losses_text form g told.lost.items ++ (left_text form None told.left ++ tail_text form))
 
 -- the sectors that are tied, and how many are shown as pages have them that are not sound, by how all sectors are shown
-abbrev pub ties_text : Form → Geometry → List Shown → List ℕ
+abbrev pub ties_text : ReportForm → Geometry → List SectorShown → List ℕ
 ties_text form g states = text_below form (tie_at states) g.sectors ++ if_text form (damaged_line (damaged_of states))
 
 -- of an array, as of a sequence where one is said
-abbrev pub array_text : Form → Geometry → Option ℕ → List Shown → Unsettled → List ℕ
+abbrev pub array_text : ReportForm → Geometry → Option ℕ → List SectorShown → Unsettled → List ℕ
 array_text form g last states left = head_text form (codes "array") ++ (ties_text form g states ++ (left_text form last left ++ tail_text form))
 
 -- of the sound pages of a sector, beside so many pages that are neither erased nor sound
-abbrev pub history_text : Form → Geometry → List SectorPage → ℕ → List ℕ
+abbrev pub history_text : ReportForm → Geometry → List SectorPage → ℕ → List ℕ
 history_text form g pages unsound =
     head_text form (codes "history") ++ (text_below form (page_at g pages) (length pages) ++ (line_text form (line.History (length pages) unsound) ++ tail_text form))
 
-abbrev pub fits_text : Form → List FoundFit → List ℕ
+abbrev pub fits_text : ReportForm → List FoundFit → List ℕ
 fits_text form fits = head_text form (codes "geometry") ++ (text_below form (fit_at fits) (length fits) ++ tail_text form)
 
 -- of the one in another arrangement
-abbrev pub arranged_fit_text : Form → ArrangedFit → List ℕ
+abbrev pub arranged_fit_text : ReportForm → ArrangedFit → List ℕ
 arranged_fit_text form found = head_text form (codes "geometry") ++ (line_text form (line.ArrangedFit found) ++ tail_text form)
 
 -- what came of the pages that were to be mended, how many pages were tried, and how many were mended
-abbrev pub repair_text : Form → ℕ → List Mend → List ℕ
+abbrev pub repair_text : ReportForm → ℕ → List Mend → List ℕ
 repair_text form tries mends =
     head_text form (codes "repair") ++ (text_below form (mend_at mends) (length mends)
     ++ (if_text form (tries_line tries) ++ (line_text form (line.MendedCount (mended_count mends)) ++ tail_text form)))
 
-abbrev pub correct_text : Form → ℕ → ℕ → List Loss → List ℕ
+abbrev pub correct_text : ReportForm → ℕ → ℕ → List Loss → List ℕ
 correct_text form turned touched losses =
     head_text form (codes "correct") ++ (text_below form (loss_at losses) (length losses) ++ (line_text form (line.Corrected turned touched (length losses)) ++ tail_text form))
 
 -- how many sectors are shown of a page that no reading has, by the mark of each
-abbrev pub origin_text : Form → List Mark → List ℕ
+abbrev pub origin_text : ReportForm → List MapMark → List ℕ
 origin_text form marks = head_text form (codes "origin") ++ (line_text form (line.Origin (count_by is_mended marks)) ++ tail_text form)
 
 -- the rows that differ, those that are unsound, those of which pages were tried, how many pages, and how many rows there are of each kind
-abbrev pub merge_text : Form → List ℕ → List ℕ → List TriedRow → Tally → List ℕ
+abbrev pub merge_text : ReportForm → List ℕ → List ℕ → List TriedRow → RowTally → List ℕ
 merge_text form conflicts unsound tried t =
     head_text form (codes "merge") ++ (text_below form (differ_at conflicts) (length conflicts)
     ++ (text_below form (unsound_at unsound) (length unsound) ++ (text_below form (tried_at tried) (length tried)
     ++ (if_text form (tries_line (tries_in tried)) ++ (line_text form (line.Merged (length conflicts) t) ++ tail_text form)))))
 
 -- how many pages were put in order
-abbrev pub arrange_text : Form → ℕ → List ℕ
+abbrev pub arrange_text : ReportForm → ℕ → List ℕ
 arrange_text form rows = head_text form (codes "arrange") ++ (line_text form (line.Arranged rows) ++ tail_text form)

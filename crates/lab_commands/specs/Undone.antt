@@ -10,10 +10,10 @@ use Rattle.command_words.specs.Numbers.{SpellsGeometry}
 use Rattle.lab_dump.specs.declared.make_fault.MakeFault.{MakeFault}
 use Rattle.lab_dump.specs.declared.make_fault.MakeFault.TheVariants as make
 use Rattle.lab_dump.specs.Scan.{image_bytes}
-use Rattle.lab_commands.specs.declared.document.Form.{Form}
-use Rattle.lab_commands.specs.declared.document.Form.TheVariants.{Text, Json}
+use Rattle.lab_commands.specs.declared.document.ReportForm.{ReportForm}
+use Rattle.lab_commands.specs.declared.document.ReportForm.TheVariants.{Text, Json}
 use Rattle.lab_commands.specs.declared.words.Showing.{Showing}
-use Rattle.lab_commands.specs.declared.files.FileFault.TheVariants as file
+use Rattle.lab_commands.specs.declared.files.LabFileFault.TheVariants as file
 use Rattle.lab_commands.specs.declared.files.Standing.{Standing}
 use Rattle.lab_commands.specs.declared.files.Standing.TheVariants as standing
 use Rattle.lab_commands.specs.declared.output.OutputFault.{OutputFault}
@@ -135,5 +135,5 @@ IsHalfPrinted broke before after due (fault.Write told) = (told.now ≡ codes "-
 IsHalfPrinted broke before after due _ = ⊥
 
 -- the form that was asked for
-abbrev pub form_of : Showing → Form
+abbrev pub form_of : Showing → ReportForm
 form_of showing = if showing.json then Json else Text

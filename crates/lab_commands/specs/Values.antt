@@ -12,8 +12,8 @@ use Rattle.lab_correct.specs.declared.found.FoundFit.{FoundFit}
 use Rattle.lab_shapes.specs.declared.find.ArrangedFit.{ArrangedFit}
 use Rattle.lab_shapes.specs.Words.{arrangement_words}
 use Rattle.serde_json.specs.Written.{members_text}
-use Rattle.lab_mend.specs.declared.merging.Tally.{Tally}
-use Rattle.lab_mend.specs.declared.pairs.Pair.{Pair}
+use Rattle.lab_mend.specs.declared.merging.RowTally.{RowTally}
+use Rattle.lab_mend.specs.declared.pairs.BitPair.{BitPair}
 use Rattle.lab_mend.specs.declared.pairs.Turn.{Turn}
 use Rattle.lab_mend.specs.declared.pairs.Turn.TheVariants as turn
 use Rattle.lab_mend.specs.declared.trial.Trial.{Trial}
@@ -138,7 +138,7 @@ abbrev pub row_data : List ℕ → ℕ → Data
 row_data name row = object (member (codes "line") (text name) (member (codes "row") (count row) no_members))
 
 -- a row of which these two bits are turned
-abbrev pub pair_data : ℕ → Pair → Data
+abbrev pub pair_data : ℕ → BitPair → Data
 pair_data row b =
     object (member (codes "bits") (array (item (count b.low) (item (count b.high) no_items))) (member (codes "line") (text (codes "mended")) (member (codes "row") (count row) no_members)))
 
@@ -168,7 +168,7 @@ tried_data row (trial.Nothing d) = nothing_data row d
 abbrev pub tries_data : ℕ → Data
 tries_data n = object (member (codes "line") (text (codes "tries")) (member (codes "seal_bits") (count 64) (member (codes "tries") (count n) no_members)))
 
-abbrev pub merged_data : ℕ → Tally → Data
+abbrev pub merged_data : ℕ → RowTally → Data
 merged_data differ t =
     object (member (codes "differ") (count differ) (member (codes "erased") (count t.erased) (member (codes "line") (text (codes "merged")) (
     member (codes "majority") (count t.majority) (member (codes "sound") (count t.sound) (member (codes "turned") (count t.turned) (

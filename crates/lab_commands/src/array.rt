@@ -24,7 +24,7 @@ use crate::reports::print_array;
 use crate::text::LabFault;
 use crate::words::{ArrayWords, UntilWords};
 use lab_dump::{
-    ArrayRoom, DamagedTarget, DumpReader, Held, MakeFault, Unwritten, Written, write_array,
+    ArrayRoom, ArrayWritten, DamagedTarget, DumpReader, Held, MakeFault, Unwritten, write_array,
     write_damaged,
 };
 use page_layout::geometry::Geometry;
@@ -107,7 +107,7 @@ fn write_sectors<R: DumpReader, T: DamagedTarget + Drop>(
     last: Option<u64>,
     damaged: bool,
     target: T,
-) -> Result<Written<T>, Unwritten<T>>
+) -> Result<ArrayWritten<T>, Unwritten<T>>
     requires room { IsArrayRoom geometry.now room }
     requires pieces { IfSome (T.pieces target) (λ ps. ps ≡ replicate geometry.now.sectors (zeros geometry.now)) }
     ensures ok { IfOk result (λ written. IfSome (R.remaining dump.old) (IsWritten geometry.now last damaged (T.pieces written.target) written.held.items written.left)) }
@@ -131,7 +131,7 @@ fn make<'a, F: LabFiles>(
     last: Option<u64>,
     damaged: bool,
     files: &mut F,
-) -> Result<Written<F::Target>, LabFault<'a>>
+) -> Result<ArrayWritten<F::Target>, LabFault<'a>>
     requires { IsArrayRoom geometry.now room }
     ensures made { IfOk result (λ written. IsMade (F.answers files.old) words.now.dump.now geometry.now last damaged (F.Target.pieces written.target) written.held.items written.left) }
     ensures sized { IfOk result (λ written. length written.held.items ≡ geometry.now.sectors) }

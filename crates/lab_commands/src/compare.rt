@@ -5,7 +5,7 @@ ghost use Rattle.lab_dump.specs.Rooms.{IsCompareRoom};
 ghost use Rattle.lab_commands.specs.Files.{AnswersNoMore};
 ghost use Rattle.lab_commands.specs.Compare.{HasNone, IsCertificateAt, IsCompareFault, IsCompared, IsUnheld, ToldCompared};
 
-use crate::files::{FileFault, LabFiles};
+use crate::files::{LabFileFault, LabFiles};
 use crate::opening::{geometry_at, open_file, progress_of};
 use crate::output::Output;
 use crate::printing::{printer, unprinted};
@@ -34,8 +34,8 @@ fn load_certificate<'a, F: LabFiles>(
 {
     let bytes = match files.load(path, MOST_BYTES) {
         Ok(bytes) => bytes,
-        Err(FileFault::Failed) => return Err(LabFault::Read(path)),
-        Err(FileFault::OutOfMemory) => return Err(LabFault::OutOfMemory),
+        Err(LabFileFault::Failed) => return Err(LabFault::Read(path)),
+        Err(LabFileFault::OutOfMemory) => return Err(LabFault::OutOfMemory),
     };
     match read_certificate(alloc, &bytes) {
         Ok(certificate) => Ok(certificate),

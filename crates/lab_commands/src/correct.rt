@@ -19,7 +19,7 @@ use crate::printing::{printer, unprinted};
 use crate::reports::print_corrected;
 use crate::text::LabFault;
 use crate::words::ArrayWords;
-use lab_correct::{CorrectRoom, Corrected, Loss, correct_dump};
+use lab_correct::{CorrectRoom, DumpCorrected, Loss, correct_dump};
 use page_code::chip::ChipGeometry;
 use page_layout::geometry::{Geometry, GeometryFault};
 use std::alloc::Global;
@@ -59,7 +59,7 @@ fn put_right<'a, F: LabFiles>(
     geometry: &Geometry,
     chip: &ChipGeometry,
     files: &mut F,
-) -> Result<Corrected<F::Target>, LabFault<'a>>
+) -> Result<DumpCorrected<F::Target>, LabFault<'a>>
     requires chip { IsChipOf geometry.now chip.now.raw }
     requires room { IsCorrectRoom geometry.now chip.now.raw room }
     ensures made { IfOk result (λ told. IsPutRight (F.answers files.old) words.now.dump.now geometry.now chip.now.raw (F.Target.pieces told.target) (record { turned = told.turned; touched = told.touched; losses = told.losses.items })) }

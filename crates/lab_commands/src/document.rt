@@ -15,7 +15,7 @@ use std::alloc::Global;
 
 /// The form of a document.
 #[derive(Clone, Copy, Debug, PartialEq, Eq)]
-pub enum Form {
+pub enum ReportForm {
     /// Plain text, a line each.
     Text,
     /// One JSON array.
@@ -64,7 +64,7 @@ impl Report {
 #[derive(Clone, Copy)]
 pub struct Printer {
     alloc: Global,
-    form: Form,
+    form: ReportForm,
 }
 
 // Prints a line as plain text, with its line feed.
@@ -85,12 +85,12 @@ fn put_next<W: Output>(out: &mut W, line: Line) -> Result<(), OutputFault>
 
 // Prints a line in a form.
 #[tactic(auto, unfolding(crate::specs::Document::line_text))]
-fn put_line<W: Output>(out: &mut W, form: Form, line: Line) -> Result<(), OutputFault>
+fn put_line<W: Output>(out: &mut W, form: ReportForm, line: Line) -> Result<(), OutputFault>
     ensures { Prints (W.failed out.new) (W.contents out.old) (W.contents out.new) (line_text form line) result }
 {
     match form {
-        Form::Text => put_plain(out, line),
-        Form::Json => put_next(out, line),
+        ReportForm::Text => put_plain(out, line),
+        ReportForm::Json => put_next(out, line),
     }
 }
 
@@ -115,7 +115,7 @@ impl Printer {
     ghost use Rattle.lab_commands.specs.Reports.{line_at, size_of};
 
     /// One that prints in this form.
-    pub fn new(alloc: Global, form: Form) -> Printer
+    pub fn new(alloc: Global, form: ReportForm) -> Printer
         ensures { result.form ≡ form }
     {
         Printer { alloc, form }
@@ -158,8 +158,8 @@ impl Printer {
         ensures { Prints (W.failed out.new) (W.contents out.old) (W.contents out.new) (head_text self.form (report_words report)) result }
     {
         match self.form {
-            Form::Text => Ok(()),
-            Form::Json => put_head(out, report),
+            ReportForm::Text => Ok(()),
+            ReportForm::Json => put_head(out, report),
         }
     }
 
@@ -168,8 +168,8 @@ impl Printer {
         ensures { Prints (W.failed out.new) (W.contents out.old) (W.contents out.new) (tail_text self.form) result }
     {
         match self.form {
-            Form::Text => Ok(()),
-            Form::Json => put(out, b"\n]\n"),
+            ReportForm::Text => Ok(()),
+            ReportForm::Json => put(out, b"\n]\n"),
         }
     }
 }

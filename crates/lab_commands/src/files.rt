@@ -5,7 +5,7 @@ use thiserror::Error;
 
 /// A file was not read, asked about, written or put in its place.
 #[derive(Clone, Copy, Debug, PartialEq, Eq, Error)]
-pub enum FileFault {
+pub enum LabFileFault {
     /// The system refused it.
     #[error("a file could not be read or written")]
     Failed,
@@ -22,7 +22,7 @@ pub enum KeepFault {
     Taken,
     /// A call failed.
     #[error("a file could not be put in its place")]
-    Fails(FileFault),
+    Fails(LabFileFault),
 }
 
 /// What stands at a path.
@@ -97,19 +97,19 @@ pub trait LabFiles {
     ghost opened: { Self → Option ℕ };
 
     /// What stands at this path.
-    fn standing(&mut self, path: &str) -> Result<Standing, FileFault>
+    fn standing(&mut self, path: &str) -> Result<Standing, LabFileFault>
         ensures said { IfOk result ((answers self.old).says path.now) }
         ensures failed { IfErr result ((answers self.old).fails path.now) }
         ensures same { self.new ≡ self.old };
 
     /// Whether two paths name one file, which need not be there.
-    fn is_same(&mut self, first: &str, second: &str) -> Result<bool, FileFault>
+    fn is_same(&mut self, first: &str, second: &str) -> Result<bool, LabFileFault>
         ensures said { IfOk result ((answers self.old).says_same first.now second.now) }
         ensures failed { IfErr result ((answers self.old).fails first.now) }
         ensures same { self.new ≡ self.old };
 
     /// A reader of a file, from its first byte on: of one that was put in its place, of what was put there last. No file is changed.
-    fn open(&mut self, path: &str, progress: Progress) -> Result<Self::Reader, FileFault>
+    fn open(&mut self, path: &str, progress: Progress) -> Result<Self::Reader, LabFileFault>
         ensures bytes { IfOk result (λ reader. IsOpened (answers self.old) path.now (Self.Reader.remaining reader)) }
         ensures as_put { IfOk result (λ reader. IsAsPut (kept self.old) path.now (Self.Reader.remaining reader)) }
         ensures fails { (reader : Self.Reader) → Self.Reader.failed reader ≡ true → (answers self.old).reads_fail }
@@ -119,7 +119,7 @@ pub trait LabFiles {
         ensures opened { opened self.new ≡ option_map suc (opened self.old) };
 
     /// The first bytes of a file, at most so many. No file is changed.
-    fn load(&mut self, path: &str, most: u64) -> Result<Vec<u8>, FileFault>
+    fn load(&mut self, path: &str, most: u64) -> Result<Vec<u8>, LabFileFault>
         ensures bytes { IfOk result (λ bytes. IsLoaded (answers self.old) path.now most bytes.items) }
         ensures failed { IfErr result ((answers self.old).fails path.now) }
         ensures no_more { AnswersNoMore (answers self.old) (answers self.new) }
@@ -127,7 +127,7 @@ pub trait LabFiles {
         ensures opened { opened self.new ≡ option_map suc (opened self.old) };
 
     /// A dump of a file, to be read at whatever place. No file is changed.
-    fn open_dump(&mut self, path: &str, progress: Progress) -> Result<Self::Dump, FileFault>
+    fn open_dump(&mut self, path: &str, progress: Progress) -> Result<Self::Dump, LabFileFault>
         ensures bytes { IfOk result (λ dump. IsOpened (answers self.old) path.now (Self.Dump.bytes dump)) }
         ensures fails { (dump : Self.Dump) → Self.Dump.failed dump ≡ true → (answers self.old).reads_fail }
         ensures failed { IfErr result ((answers self.old).fails path.now) }
@@ -142,7 +142,7 @@ pub trait LabFiles {
         ensures opened { opened self.new ≡ opened self.old };
 
     /// A new file beside that of this path, of so many pieces of so many zeros. Where that fails none stands there.
-    fn create(&mut self, path: &str, count: u32, size: usize) -> Result<Self::Target, FileFault>
+    fn create(&mut self, path: &str, count: u32, size: usize) -> Result<Self::Target, LabFileFault>
         ensures fails { (target : Self.Target) → Self.Target.failed target ≡ true → (answers self.old).writes_fail }
         ensures blank { IfOk result (λ target. IfSome (Self.Target.pieces target) (λ ps. ps ≡ replicate count (replicate size 0))) }
         ensures failed { IfErr result ((answers self.old).fails path.now) }

@@ -38,10 +38,10 @@ mod turn_lines;
 mod values;
 mod words;
 
-pub use document::Form;
-pub use files::{FileFault, KeepFault, LabFiles, MapText, Progress, Standing};
+pub use document::ReportForm;
+pub use files::{KeepFault, LabFileFault, LabFiles, MapText, Progress, Standing};
 pub use names::{name_laws, put_name};
-pub use output::{Output, OutputFault, Stream};
+pub use output::{Output, OutputFault, OutputStream};
 pub use pieces::{Piece, put, put_pieces};
 pub use program::{commands_grammar, run};
 pub use text::{LabFault, tell};

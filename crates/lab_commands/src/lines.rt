@@ -15,7 +15,7 @@ use crate::turn_lines::put_turn;
 use certificate::BlockState;
 use lab_correct::FoundFit;
 use lab_dump::{Doubts, Fit, Rows, SaidPage, SectorPage, TableSays, Wrote};
-use lab_mend::{Made, Tally, Trial, Turn};
+use lab_mend::{Made, RowTally, Trial, Turn};
 use lab_shapes::ArrangedFit;
 use page_layout::record::Kind;
 
@@ -84,7 +84,7 @@ pub enum Line {
     /// What came of the pages that were tried of a row.
     Tried(u32, Trial),
     /// So many rows differ, and how many others there are of each kind.
-    Merged(u64, Tally),
+    Merged(u64, RowTally),
     /// So many pages were tried at most.
     Tries(u64),
     /// So far the array may be from the last write.
@@ -361,7 +361,7 @@ fn put_block<W: Output>(
 }
 
 // How many rows of a merge are of each kind.
-fn put_tally<W: Output>(out: &mut W, differ: u64, tally: Tally) -> Result<(), OutputFault>
+fn put_tally<W: Output>(out: &mut W, differ: u64, tally: RowTally) -> Result<(), OutputFault>
     ensures { Prints (W.failed out.new) (W.contents out.old) (W.contents out.new) (tally_words differ tally) result }
 {
     put_pieces(

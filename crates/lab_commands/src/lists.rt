@@ -1,7 +1,7 @@
 //! Lists of lines, each made when it is printed.
 ghost use Rattle.std.specs.Prelude.{◌≡◌, ◌<◌, get_or, map, option_map};
-ghost use Rattle.lab_dump.specs.declared.held.Shown.TheVariants as shown;
-ghost use Rattle.lab_dump.specs.declared.held.State.TheVariants.{Absent};
+ghost use Rattle.lab_dump.specs.declared.held.SectorShown.TheVariants as shown;
+ghost use Rattle.lab_dump.specs.declared.held.KeyState.TheVariants.{Absent};
 ghost use Rattle.lab_dump.specs.Held.{shown_in};
 ghost use Rattle.lab_commands.specs.Reports.{differ_at, fit_at, loss_at, mend_at, newer_at, page_at, said_at, some_at, state_at, tried_at, unsound_at};
 
@@ -11,7 +11,7 @@ use crate::told_lines::{
 };
 use certificate::BlockState;
 use lab_correct::{FoundFit, Loss};
-use lab_dump::{DieSurvey, Held, SaidPage, SectorPage, Shown, State};
+use lab_dump::{DieSurvey, Held, KeyState, SaidPage, SectorPage, SectorShown};
 use lab_mend::{Mend, TriedRow};
 use page_layout::geometry::Geometry;
 
@@ -21,9 +21,9 @@ pub(crate) enum Lines<'a> {
     /// These, of which some may be left out.
     Fixed(&'a [Option<Line>]),
     /// So many keys of one kind that are tied or missing, by how those stand from a place on.
-    Keys(Label, &'a [State], u32, u32),
+    Keys(Label, &'a [KeyState], u32, u32),
     /// So many table pages that are a reason against a mount, by how those stand from a place on and whether each is well formed.
-    Tables(&'a [State], u32, &'a [bool], u32),
+    Tables(&'a [KeyState], u32, &'a [bool], u32),
     /// So many blocks.
     Blocks(&'a DieSurvey, u32),
     /// Those of so many sectors that have lost a page.
@@ -59,10 +59,10 @@ fn narrow(number: usize, count: u32) -> u32
 }
 
 // How a key stands, by its place.
-fn key_state(states: &[State], place: usize) -> State
+fn key_state(states: &[KeyState], place: usize) -> KeyState
     ensures { result ≡ get_or states.now place Absent }
 {
-    states.get(place).copied().unwrap_or(State::Absent)
+    states.get(place).copied().unwrap_or(KeyState::Absent)
 }
 
 // Whether a flag of a list is set.
@@ -90,12 +90,12 @@ fn unsound_pages(survey: &DieSurvey, block: usize) -> u32
 }
 
 // How a sector is shown.
-fn sector_shown(held: &[Held], sector: usize) -> Shown
+fn sector_shown(held: &[Held], sector: usize) -> SectorShown
     ensures { result ≡ get_or (map shown_in held.now) sector shown.Absent }
 {
     match held.get(sector) {
         Some(kept) => kept.shown(),
-        None => Shown::Absent,
+        None => SectorShown::Absent,
     }
 }
 

@@ -1,7 +1,7 @@
 //! The maps that commands store.
 use crate::files::MapText;
 use lab_correct::{Loss, print_losses};
-use lab_dump::{Held, LineFault, MapWriter, Mark, Remark, print_map};
+use lab_dump::{Held, LineFault, MapMark, MapWriter, Remark, print_map};
 use page_layout::geometry::Geometry;
 
 /// The map of an array, by what is held of each sector.
@@ -30,7 +30,7 @@ impl MapText for ArrayMap<'_> {
 #[derive(Clone, Copy)]
 pub(crate) struct OriginMap<'a> {
     pub(crate) geometry: &'a Geometry,
-    pub(crate) marks: &'a [Mark],
+    pub(crate) marks: &'a [MapMark],
 }
 
 impl MapText for OriginMap<'_> {

@@ -4,7 +4,7 @@ ghost use Rattle.lab_commands.specs.declared.files.Standing.TheVariants.{Nothing
 ghost use Rattle.lab_commands.specs.Files.{AnswersNoMore, IsOpened, with_kept, without_part};
 ghost use Rattle.lab_commands.specs.Undone.{IsGeometryAt, IsKeptThere, IsMapUnplaced, IsNoGeometry, IsReplaceable, IsUnplaced, IsUnread, IsUnwritten, MayNotWrite, MayWrite, unmade_as};
 
-use crate::files::{FileFault, KeepFault, LabFiles, MapText, Progress, Standing};
+use crate::files::{KeepFault, LabFileFault, LabFiles, MapText, Progress, Standing};
 use crate::text::LabFault;
 use crate::words::Showing;
 use command_words::geometry_numbers;
@@ -54,8 +54,8 @@ pub(crate) fn open_file<'a, F: LabFiles>(
 {
     match files.open(path, progress) {
         Ok(reader) => Ok(reader),
-        Err(FileFault::Failed) => Err(LabFault::Read(path)),
-        Err(FileFault::OutOfMemory) => Err(LabFault::OutOfMemory),
+        Err(LabFileFault::Failed) => Err(LabFault::Read(path)),
+        Err(LabFileFault::OutOfMemory) => Err(LabFault::OutOfMemory),
     }
 }
 
@@ -73,8 +73,8 @@ pub(crate) fn open_dump<'a, F: LabFiles>(
 {
     match files.open_dump(path, progress) {
         Ok(dump) => Ok(dump),
-        Err(FileFault::Failed) => Err(LabFault::Read(path)),
-        Err(FileFault::OutOfMemory) => Err(LabFault::OutOfMemory),
+        Err(LabFileFault::Failed) => Err(LabFault::Read(path)),
+        Err(LabFileFault::OutOfMemory) => Err(LabFault::OutOfMemory),
     }
 }
 
@@ -100,8 +100,8 @@ pub(crate) fn standing<'a, F: LabFiles>(
 {
     match files.standing(path) {
         Ok(standing) => Ok(standing),
-        Err(FileFault::Failed) => Err(LabFault::Write(path)),
-        Err(FileFault::OutOfMemory) => Err(LabFault::OutOfMemory),
+        Err(LabFileFault::Failed) => Err(LabFault::Write(path)),
+        Err(LabFileFault::OutOfMemory) => Err(LabFault::OutOfMemory),
     }
 }
 
@@ -117,8 +117,8 @@ pub(crate) fn is_dump<'a, F: LabFiles>(
 {
     match files.is_same(dump, path) {
         Ok(same) => Ok(same),
-        Err(FileFault::Failed) => Err(LabFault::Read(dump)),
-        Err(FileFault::OutOfMemory) => Err(LabFault::OutOfMemory),
+        Err(LabFileFault::Failed) => Err(LabFault::Read(dump)),
+        Err(LabFileFault::OutOfMemory) => Err(LabFault::OutOfMemory),
     }
 }
 
@@ -134,8 +134,8 @@ pub(crate) fn is_out<'a, F: LabFiles>(
 {
     match files.is_same(out, path) {
         Ok(same) => Ok(same),
-        Err(FileFault::Failed) => Err(LabFault::Write(out)),
-        Err(FileFault::OutOfMemory) => Err(LabFault::OutOfMemory),
+        Err(LabFileFault::Failed) => Err(LabFault::Write(out)),
+        Err(LabFileFault::OutOfMemory) => Err(LabFault::OutOfMemory),
     }
 }
 
@@ -191,8 +191,8 @@ pub(crate) fn create_beside<'a, F: LabFiles>(
 {
     match files.create(path, count, size) {
         Ok(target) => Ok(target),
-        Err(FileFault::Failed) => Err(LabFault::Write(path)),
-        Err(FileFault::OutOfMemory) => Err(LabFault::OutOfMemory),
+        Err(LabFileFault::Failed) => Err(LabFault::Write(path)),
+        Err(LabFileFault::OutOfMemory) => Err(LabFault::OutOfMemory),
     }
 }
 
@@ -211,8 +211,8 @@ pub(crate) fn keep<'a, F: LabFiles>(
     match files.keep(path, target, force) {
         Ok(()) => Ok(()),
         Err(KeepFault::Taken) => Err(LabFault::Exists),
-        Err(KeepFault::Fails(FileFault::Failed)) => Err(LabFault::Write(path)),
-        Err(KeepFault::Fails(FileFault::OutOfMemory)) => Err(LabFault::OutOfMemory),
+        Err(KeepFault::Fails(LabFileFault::Failed)) => Err(LabFault::Write(path)),
+        Err(KeepFault::Fails(LabFileFault::OutOfMemory)) => Err(LabFault::OutOfMemory),
     }
 }
 
@@ -231,7 +231,7 @@ pub(crate) fn store_map<'a, F: LabFiles, M: MapText>(
     match files.store(path, map, force) {
         Ok(()) => Ok(()),
         Err(KeepFault::Taken) => Err(LabFault::MapExists),
-        Err(KeepFault::Fails(FileFault::Failed)) => Err(LabFault::Write(path)),
-        Err(KeepFault::Fails(FileFault::OutOfMemory)) => Err(LabFault::OutOfMemory),
+        Err(KeepFault::Fails(LabFileFault::Failed)) => Err(LabFault::Write(path)),
+        Err(KeepFault::Fails(LabFileFault::OutOfMemory)) => Err(LabFault::OutOfMemory),
     }
 }

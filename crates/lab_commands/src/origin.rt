@@ -22,7 +22,7 @@ use crate::output::Output;
 use crate::printing::{printer, unprinted};
 use crate::reports::print_origin;
 use crate::text::LabFault;
-use lab_dump::{Dump, Mark};
+use lab_dump::{Dump, MapMark};
 use lab_origin::{OriginFault, OriginRoom, ReadingFault, trace_origins};
 use page_layout::geometry::Geometry;
 use std::alloc::{AllocError, Global};
@@ -120,7 +120,7 @@ fn follow_by<'a, F: LabFiles>(
     last: Option<u64>,
     files: &mut F,
     readings: &mut Vec<F::Dump>,
-) -> Result<Vec<Mark>, LabFault<'a>>
+) -> Result<Vec<MapMark>, LabFault<'a>>
     requires room { IsOriginRoom geometry.now room }
     requires none { readings.old.items ≡ [] }
     requires places { length words.now.readings.items ≤ vec_capacity readings.old }
@@ -145,7 +145,7 @@ fn follow<'a, F: LabFiles>(
     geometry: &Geometry,
     last: Option<u64>,
     files: &mut F,
-) -> Result<Vec<Mark>, LabFault<'a>>
+) -> Result<Vec<MapMark>, LabFault<'a>>
     requires origin { IsOriginRoom geometry.now room.origin }
     requires none { room.readings.items ≡ [] }
     requires places { length words.now.readings.items ≤ vec_capacity room.readings }
@@ -163,7 +163,7 @@ fn follow<'a, F: LabFiles>(
 fn put_origin<'a, F: LabFiles>(
     words: &OriginWords<'a>,
     geometry: &Geometry,
-    marks: &[Mark],
+    marks: &[MapMark],
     files: &mut F,
 ) -> Result<(), LabFault<'a>>
     requires { length marks.now ≡ geometry.now.sectors }

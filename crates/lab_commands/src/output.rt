@@ -27,22 +27,22 @@ pub trait Output {
 
 /// A writer of the standard library, of whose failures nothing is known.
 #[derive(Drop)]
-pub struct Stream<W> {
+pub struct OutputStream<W> {
     writer: W,
 }
 
-impl<W: Write> Stream<W> {
+impl<W: Write> OutputStream<W> {
     ghost use Rattle.std.specs.Prelude.{◌≡◌};
 
     /// One of this writer.
-    pub fn new(writer: W) -> Stream<W>
+    pub fn new(writer: W) -> OutputStream<W>
         ensures { result.writer ≡ writer }
     {
-        Stream { writer }
+        OutputStream { writer }
     }
 }
 
-impl<W: Write> Output for Stream<W> {
+impl<W: Write> Output for OutputStream<W> {
     ghost use Rattle.std.specs.Prelude.{true};
 
     ghost contents = { λ stream. W.contents stream.writer };

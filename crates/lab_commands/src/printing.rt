@@ -2,7 +2,7 @@
 ghost use Rattle.std.specs.Prelude.{◌≡◌};
 ghost use Rattle.lab_commands.specs.Undone.{TellsPrint, form_of};
 
-use crate::document::{Form, Printer};
+use crate::document::{Printer, ReportForm};
 use crate::output::OutputFault;
 use crate::text::LabFault;
 use crate::words::Showing;
@@ -12,7 +12,14 @@ use std::alloc::Global;
 pub(crate) fn printer(alloc: Global, showing: Showing) -> Printer
     ensures { result.form ≡ form_of showing }
 {
-    Printer::new(alloc, if showing.json { Form::Json } else { Form::Text })
+    Printer::new(
+        alloc,
+        if showing.json {
+            ReportForm::Json
+        } else {
+            ReportForm::Text
+        },
+    )
 }
 
 /// How it is told that standard output did not take all.

@@ -19,9 +19,9 @@ use crate::told_lines::{
 };
 use lab_correct::{FoundFit, Loss};
 use lab_dump::{
-    Compared, DieSurvey, Held, Mark, Rows, SectorPage, State, Unsettled, damaged_count,
+    Compared, DieSurvey, Held, KeyState, MapMark, Rows, SectorPage, Unsettled, damaged_count,
 };
-use lab_mend::{Mend, Tally, TriedRow, count_mended, count_tries};
+use lab_mend::{Mend, RowTally, TriedRow, count_mended, count_tries};
 use lab_origin::mended_count;
 use lab_shapes::ArrangedFit;
 use page_layout::geometry::Geometry;
@@ -55,7 +55,7 @@ fn print_counts<W: Output>(
 fn print_tables<W: Output>(
     printer: Printer,
     out: &mut W,
-    states: &[State],
+    states: &[KeyState],
     formed: &[bool],
     from: u32,
     count: u32,
@@ -70,7 +70,7 @@ fn print_keys<W: Output>(
     printer: Printer,
     out: &mut W,
     geometry: &Geometry,
-    states: &[State],
+    states: &[KeyState],
     formed: &[bool],
 ) -> Result<(), OutputFault>
     ensures { Prints (W.failed out.new) (W.contents out.old) (W.contents out.new) (keys_text printer.form geometry.now states.now formed.now) result }
@@ -94,7 +94,7 @@ fn print_keys<W: Output>(
 fn print_kind<W: Output>(
     printer: Printer,
     out: &mut W,
-    states: &[State],
+    states: &[KeyState],
     of: Label,
     from: u32,
     count: u32,
@@ -425,7 +425,7 @@ pub fn print_arranged<W: Output>(
 fn print_origin_count<W: Output>(
     printer: Printer,
     out: &mut W,
-    marks: &[Mark],
+    marks: &[MapMark],
 ) -> Result<(), OutputFault>
     ensures { Prints (W.failed out.new) (W.contents out.old) (W.contents out.new) (line_text printer.form (Line.Origin (count_by is_mended marks.now))) result }
 {
@@ -440,7 +440,7 @@ fn print_origin_count<W: Output>(
 pub fn print_origin<W: Output>(
     printer: Printer,
     out: &mut W,
-    marks: &[Mark],
+    marks: &[MapMark],
 ) -> Result<(), OutputFault>
     ensures { Prints (W.failed out.new) (W.contents out.old) (W.contents out.new) (origin_text printer.form marks.now) result }
 {
@@ -472,7 +472,7 @@ pub fn print_merged<W: Output>(
     conflicts: &[u32],
     unsound: &[u32],
     tried: &[TriedRow],
-    tally: Tally,
+    tally: RowTally,
 ) -> Result<(), OutputFault>
     ensures { Prints (W.failed out.new) (W.contents out.old) (W.contents out.new) (merge_text printer.form conflicts.now unsound.now tried.now tally) result }
 {

@@ -4,7 +4,7 @@ ghost use Rattle.lab_commands.specs.Lines.{age_line, block_line, damaged_line, f
 
 use crate::lines::{Label, Line};
 use certificate::BlockState;
-use lab_dump::{Doubts, Rows, SaidPage, SectorPage, Shown, State};
+use lab_dump::{Doubts, KeyState, Rows, SaidPage, SectorPage, SectorShown};
 use page_layout::geometry::Geometry;
 
 /// The reason that so many pages have a number out of range, if some have.
@@ -150,34 +150,34 @@ pub(crate) fn repeated_line(rows: Option<(u32, u32)>) -> Option<Line>
 }
 
 /// What a table page is a reason for.
-pub(crate) fn table_line(page: u32, state: State, formed: bool) -> Option<Line>
+pub(crate) fn table_line(page: u32, state: KeyState, formed: bool) -> Option<Line>
     ensures { result ≡ table_line page state formed }
 {
     match state {
-        State::Found if formed => None,
-        State::Found => Some(Line::TableDamaged(page)),
-        State::Absent | State::Tied => Some(Line::NotFormatted(page)),
+        KeyState::Found if formed => None,
+        KeyState::Found => Some(Line::TableDamaged(page)),
+        KeyState::Absent | KeyState::Tied => Some(Line::NotFormatted(page)),
     }
 }
 
 /// The line of a key that is tied, or that has no sound page where it should have one.
-pub(crate) fn key_line(of: Label, number: u32, state: State) -> Option<Line>
+pub(crate) fn key_line(of: Label, number: u32, state: KeyState) -> Option<Line>
     ensures { result ≡ key_line of number state }
 {
     match (state, of) {
-        (State::Found, _) | (State::Absent, Label::Sector) => None,
-        (State::Tied, of) => Some(Line::Tied(of, number)),
-        (State::Absent, of) => Some(Line::Missing(of, number)),
+        (KeyState::Found, _) | (KeyState::Absent, Label::Sector) => None,
+        (KeyState::Tied, of) => Some(Line::Tied(of, number)),
+        (KeyState::Absent, of) => Some(Line::Missing(of, number)),
     }
 }
 
 /// The line of a sector that is tied.
-pub(crate) fn tie_line(sector: u32, state: Shown) -> Option<Line>
+pub(crate) fn tie_line(sector: u32, state: SectorShown) -> Option<Line>
     ensures { result ≡ tie_line sector state }
 {
     match state {
-        Shown::Tied => Some(Line::Tied(Label::Sector, sector)),
-        Shown::Absent | Shown::Found | Shown::Damaged => None,
+        SectorShown::Tied => Some(Line::Tied(Label::Sector, sector)),
+        SectorShown::Absent | SectorShown::Found | SectorShown::Damaged => None,
     }
 }
 

@@ -10,7 +10,7 @@ use crate::lines::made_text;
 use crate::output::{Output, OutputFault};
 use crate::pieces::Piece::{Number, Words};
 use crate::pieces::put_pieces;
-use lab_mend::{Made, Pair, Turn};
+use lab_mend::{BitPair, Made, Turn};
 
 // A page that was mended, what it is now, and the bit that was turned.
 fn put_mended<W: Output>(out: &mut W, made: Made, row: u32, bit: u32) -> Result<(), OutputFault>
@@ -29,7 +29,7 @@ fn put_mended<W: Output>(out: &mut W, made: Made, row: u32, bit: u32) -> Result<
 }
 
 // A page of which two bits were turned.
-fn put_pair<W: Output>(out: &mut W, row: u32, pair: Pair) -> Result<(), OutputFault>
+fn put_pair<W: Output>(out: &mut W, row: u32, pair: BitPair) -> Result<(), OutputFault>
     ensures { Prints (W.failed out.new) (W.contents out.old) (W.contents out.new) (codes "mended row " ++ (decimal row ++ (codes " bits " ++ (decimal pair.low ++ (codes " " ++ decimal pair.high))))) result }
 {
     put_pieces(
@@ -90,7 +90,7 @@ fn put_mended_data<W: Output>(
 
 // A page of which two bits were turned.
 #[tactic(auto, unfolding(json::specs::Print::escape_byte))]
-fn put_pair_data<W: Output>(out: &mut W, row: u32, pair: Pair) -> Result<(), OutputFault>
+fn put_pair_data<W: Output>(out: &mut W, row: u32, pair: BitPair) -> Result<(), OutputFault>
     ensures { Prints (W.failed out.new) (W.contents out.old) (W.contents out.new) (compact_text (pair_data row pair)) result }
 {
     put_pieces(

@@ -16,7 +16,7 @@ use crate::turn_lines::put_turn_data;
 use certificate::BlockState;
 use lab_correct::FoundFit;
 use lab_dump::{Doubts, Rows, SaidPage, SectorPage};
-use lab_mend::{Tally, Trial};
+use lab_mend::{RowTally, Trial};
 
 // So many pages are of a sort.
 #[tactic(auto, unfolding(json::specs::Print::escape_byte))]
@@ -353,7 +353,7 @@ fn put_unsound<W: Output>(out: &mut W, row: u32) -> Result<(), OutputFault>
 
 // How many rows of a merge are of each kind.
 #[tactic(auto, unfolding(json::specs::Print::escape_byte))]
-fn put_merged<W: Output>(out: &mut W, differ: u64, tally: Tally) -> Result<(), OutputFault>
+fn put_merged<W: Output>(out: &mut W, differ: u64, tally: RowTally) -> Result<(), OutputFault>
     ensures { Prints (W.failed out.new) (W.contents out.old) (W.contents out.new) (compact_text (merged_data differ tally)) result }
 {
     put_pieces(

@@ -7,7 +7,7 @@ use Rattle.page_layout.specs.declared.geometry.Geometry.{Geometry}
 use Rattle.page_layout.specs.Geometry.{row_count}
 use Rattle.lab_dump.specs.declared.fit.Fit.{Fit}
 use Rattle.lab_dump.specs.declared.sample.Sample.{Sample}
-use Rattle.lab_dump.specs.declared.told.Told.{Told}
+use Rattle.lab_dump.specs.declared.told.PagesTold.{PagesTold}
 use Rattle.lab_dump.specs.Sample.{sample_of}
 use Rattle.lab_dump.specs.Told.{told_of}
 use Rattle.lab_dump.specs.Shape.{page_counts, has_shape}
@@ -46,7 +46,7 @@ sample_of_areas g d s all x e f rows h =
     h (rows ∙ sym (ap (λ k. length all / raw_size k g.spare_bytes) e ∙ ap (λ k. length all / raw_size d k) f))
     ∙ ap (sample_of g.data_bytes g.spare_bytes (row_count g)) (ap (λ k. decoded_bytes k g.spare_bytes all) e ∙ ap (λ k. decoded_bytes d k all) f)
 
-pub told_of_areas : (g : Geometry) (d s : ℕ) (all : List ℕ) (x : Told) → g.data_bytes ≡ d → g.spare_bytes ≡ s → row_count g ≡ length all / raw_size d s
+pub told_of_areas : (g : Geometry) (d s : ℕ) (all : List ℕ) (x : PagesTold) → g.data_bytes ≡ d → g.spare_bytes ≡ s → row_count g ≡ length all / raw_size d s
     → (row_count g ≡ length all / raw_size g.data_bytes g.spare_bytes → x ≡ told_of g.data_bytes g.spare_bytes (row_count g) (decoded_bytes g.data_bytes g.spare_bytes all))
     → x ≡ told_of g.data_bytes g.spare_bytes (row_count g) (decoded_bytes d s all)
 told_of_areas g d s all x e f rows h =

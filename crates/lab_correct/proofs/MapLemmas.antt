@@ -3,7 +3,7 @@ use Rattle.std.proofs.Common.{◌≡◌, ℕ, suc, ◌+◌, ◌<◌, List, ◌++
 use Rattle.std.specs.Io.KnownBytes.{Appends}
 use Rattle.std.proofs.KnownBytes.{Appends-nil, Appends-trans}
 use Rattle.std.proofs.lemmas.List.{get_or-map}
-use Rattle.lab_dump.specs.declared.mark.Mark.TheVariants.{Finished}
+use Rattle.lab_dump.specs.declared.mark.MapMark.TheVariants.{Finished}
 use Rattle.lab_correct.specs.declared.correcting.Loss.{Loss}
 use Rattle.lab_correct.specs.Map.{parts_below, part_text, loss_text, next_row, row_at}
 

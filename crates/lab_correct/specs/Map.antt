@@ -3,13 +3,13 @@ use Rattle.std.specs.Prelude.{ℕ, zero, suc, ◌+◌, ◌-◌, ◌*◌, nat_le,
 use Rattle.page_layout.specs.declared.geometry.Geometry.{Geometry}
 use Rattle.page_layout.specs.Geometry.{page_bytes, row_count}
 use Rattle.lab_dump.specs.declared.map_head.Remark.TheVariants.{Dump}
-use Rattle.lab_dump.specs.declared.mark.Mark.{Mark}
-use Rattle.lab_dump.specs.declared.mark.Mark.TheVariants.{Finished, Bad}
+use Rattle.lab_dump.specs.declared.mark.MapMark.{MapMark}
+use Rattle.lab_dump.specs.declared.mark.MapMark.TheVariants.{Finished, Bad}
 use Rattle.lab_dump.specs.Map.{area_words, map_head}
 use Rattle.lab_correct.specs.declared.correcting.Loss.{Loss}
 
 -- the line of the rows from the first one to the one before the end, if there are any, of pages of this size
-abbrev pub part_text : ℕ → ℕ → ℕ → Mark → List ℕ
+abbrev pub part_text : ℕ → ℕ → ℕ → MapMark → List ℕ
 part_text size first end mark = if nat_le end first then [] else area_words (first * size) ((end - first) * size) mark ++ (10 ∷ [])
 
 -- the lines of a lost row, and of the rows since this one

@@ -6,7 +6,7 @@ ghost use Rattle.lab_dump.specs.Told.{told_of};
 ghost use Rattle.lab_correct.specs.Decoded.{decoded_bytes, raw_size};
 
 use crate::coded_page::read_decoded;
-use lab_dump::{Dump, DumpFault, Sample, Told, look_in, looked_count, looked_row};
+use lab_dump::{Dump, DumpFault, PagesTold, Sample, look_in, looked_count, looked_row};
 use page_layout::geometry::Geometry;
 
 /// What the pages are of the rows that are looked at, each put right.
@@ -45,7 +45,7 @@ pub(crate) fn told_decoded<D: Dump>(
     geometry: &Geometry,
     raw: &mut [u8],
     page: &mut [u8],
-) -> Result<Told, DumpFault>
+) -> Result<PagesTold, DumpFault>
     requires raw_whole { length raw.old ≡ raw_size geometry.now.data_bytes geometry.now.spare_bytes }
     requires page_whole { length page.old ≡ page_bytes geometry.now }
     ensures told { IfOk result (λ told. (all : List ℕ) → D.bytes dump.old ≡ Some all → row_count geometry.now ≡ length all / raw_size geometry.now.data_bytes geometry.now.spare_bytes
@@ -53,7 +53,7 @@ pub(crate) fn told_decoded<D: Dump>(
     ensures failed { OnErr result (D.failed dump.new ≡ true) }
     ensures same { D.bytes dump.new ≡ D.bytes dump.old }
 {
-    let mut told = Told {
+    let mut told = PagesTold {
         blocks: 0,
         sectors: 0,
     };

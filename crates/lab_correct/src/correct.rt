@@ -14,7 +14,7 @@ use std::alloc::{AllocError, Global};
 
 /// What was written, and what is to be told of it.
 #[derive(Drop)]
-pub struct Corrected<T> {
+pub struct DumpCorrected<T> {
     /// How many bits were turned back.
     pub turned: u64,
     /// In how many rows.
@@ -82,7 +82,7 @@ pub fn correct_dump<R: DumpReader, T: PageTarget + Drop>(
     geometry: &Geometry,
     chip: &ChipGeometry,
     target: T,
-) -> Result<Corrected<T>, Unwritten<T>>
+) -> Result<DumpCorrected<T>, Unwritten<T>>
     requires chip { IsChipOf geometry.now chip.now.raw }
     requires room { IsCorrectRoom geometry.now chip.now.raw room }
     requires pieces { IfSome (T.pieces target) (λ ps. length ps ≡ row_count geometry.now) }
@@ -103,7 +103,7 @@ pub fn correct_dump<R: DumpReader, T: PageTarget + Drop>(
         target,
     };
     match scan(reader, chip.raw(), &mut correcting, &mut body, &mut outer) {
-        Ok(()) => Ok(Corrected {
+        Ok(()) => Ok(DumpCorrected {
             turned: correcting.turned,
             touched: correcting.touched,
             losses: correcting.losses,

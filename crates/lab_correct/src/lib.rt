@@ -16,7 +16,7 @@ mod found;
 mod laws;
 mod map;
 
-pub use correct::{CorrectRoom, Corrected, correct_dump};
+pub use correct::{CorrectRoom, DumpCorrected, correct_dump};
 pub use correcting::{Correcting, Loss};
 pub use found::{FoundFit, FoundRoom, find_all_geometries};
 pub use laws::{corrected_law, decoded_laws};

@@ -5,7 +5,7 @@ ghost use Rattle.page_layout.specs.Geometry.{page_bytes};
 ghost use Rattle.lab_correct.specs.Map.{map_text, next_row, part_text, parts_below, row_at, loss_text};
 
 use crate::correcting::Loss;
-use lab_dump::{Area, LineFault, MapWriter, Mark, Remark, print_map_head};
+use lab_dump::{Area, LineFault, MapMark, MapWriter, Remark, print_map_head};
 use page_layout::geometry::Geometry;
 
 // The bytes of so many rows.
@@ -22,7 +22,7 @@ fn print_part<W: MapWriter>(
     geometry: &Geometry,
     first: u64,
     end: u64,
-    mark: Mark,
+    mark: MapMark,
 ) -> Result<(), LineFault>
     requires { end ≤ 4294967296 }
     ensures printed { OnOk result (Appends (W.contents out.old) (W.contents out.new) (part_text (page_bytes geometry.now) first end mark)) }
@@ -72,8 +72,8 @@ fn print_loss<W: MapWriter>(
     ensures printed { OnOk result (Appends (W.contents out.old) (W.contents out.new) (loss_text (page_bytes geometry.now) next row)) }
     ensures failed { OnErr result (W.failed out.new ≡ true) }
 {
-    print_part(out, geometry, next, row, Mark::Finished)?;
-    print_part(out, geometry, row, row + 1, Mark::Bad)
+    print_part(out, geometry, next, row, MapMark::Finished)?;
+    print_part(out, geometry, row, row + 1, MapMark::Bad)
 }
 
 // Prints the lines of all losses, and of the rows between them.
@@ -114,6 +114,6 @@ pub fn print_losses<W: MapWriter>(
         geometry,
         next,
         u64::from(geometry.rows()),
-        Mark::Finished,
+        MapMark::Finished,
     )
 }

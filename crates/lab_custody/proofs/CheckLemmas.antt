@@ -4,7 +4,7 @@ use Rattle.std.specs.Prelude.{All}
 use Rattle.std.proofs.lemmas.List.{map-append, take_more}
 use Rattle.std.proofs.lemmas.List.Elements.{All-append, All-cons, All-nil, All-weaker}
 use Rattle.lab_commands.specs.declared.files.Standing.TheVariants as standing
-use Rattle.lab_commands.specs.declared.document.Form.{Form}
+use Rattle.lab_commands.specs.declared.document.ReportForm.{ReportForm}
 use Rattle.lab_commands.specs.Files.{Answers, AnswersNoMore, IsLoaded}
 use Rattle.lab_commands.proofs.UndoneLemmas.{opened_before}
 use Rattle.lab_report.specs.declared.note.FileNote.{FileNote}
@@ -78,5 +78,5 @@ opens_none a path bytes given loaded same not = record { known = loaded.known; o
     of_known (Some all) is = subst IsNoReport (same ∙ is) not
 
 -- what is due, by the form and the files
-pub due_is : (form other : Form) (checks others : List Checked) → form ≡ other → checks ≡ others → verify_text form checks ≡ verify_text other others
+pub due_is : (form other : ReportForm) (checks others : List Checked) → form ≡ other → checks ≡ others → verify_text form checks ≡ verify_text other others
 due_is form other checks others same are = ap (λ f. verify_text f checks) same ∙ ap (verify_text other) are

@@ -5,8 +5,8 @@ use Rattle.std.specs.Prelude.{codes, decimal}
 use Rattle.std.specs.Io.KnownBytes.{Appends}
 use Rattle.std.proofs.KnownBytes.{Appends-trans}
 use Rattle.json.specs.Print.{escape, escape_byte}
-use Rattle.lab_commands.specs.declared.document.Form.{Form}
-use Rattle.lab_commands.specs.declared.document.Form.TheVariants.{Text, Json}
+use Rattle.lab_commands.specs.declared.document.ReportForm.{ReportForm}
+use Rattle.lab_commands.specs.declared.document.ReportForm.TheVariants.{Text, Json}
 use Rattle.lab_commands.specs.declared.output.OutputFault.{OutputFault}
 use Rattle.lab_commands.specs.Document.{Prints, Stops}
 use Rattle.lab_commands.proofs.PrintLemmas.{prints_after, stops_after, stops_more}
@@ -46,17 +46,17 @@ escape_one x = append-nil (escape_byte x)
 
 -- ---- the lines of files
 
-pub checks_both : (form : Form) (xs ys : List Checked) → checks_text form (xs ++ ys) ≡ checks_text form xs ++ checks_text form ys
+pub checks_both : (form : ReportForm) (xs ys : List Checked) → checks_text form (xs ++ ys) ≡ checks_text form xs ++ checks_text form ys
 checks_both form [] ys = refl
 checks_both form (x ∷ xs) ys =
     ap (λ s. check_text form x.verdict x.name.now ++ s) (checks_both form xs ys) ∙ sym (append_assoc (check_text form x.verdict x.name.now) (checks_text form xs) (checks_text form ys))
 
-pub checks_one : (form : Form) (x : Checked) → checks_text form (x ∷ []) ≡ check_text form x.verdict x.name.now
+pub checks_one : (form : ReportForm) (x : Checked) → checks_text form (x ∷ []) ≡ check_text form x.verdict x.name.now
 checks_one form x = append-nil (check_text form x.verdict x.name.now)
 
 -- ---- the parts of a line
 
-pub parts_of_line : (form : Form) (v : Verdict) (name : List ℕ) → front_text form v ++ (name_text form name ++ end_text form) ≡ check_text form v name
+pub parts_of_line : (form : ReportForm) (v : Verdict) (name : List ℕ) → front_text form v ++ (name_text form name ++ end_text form) ≡ check_text form v name
 unfolding escape_byte
 parts_of_line Text v name = refl
 parts_of_line Json verdict.Same name = simp append_assoc

@@ -3,7 +3,7 @@ use Rattle.std.proofs.Common.{◌≡◌, ◌⊎◌, inl, inr, ℕ, zero, suc, �
 use Rattle.std.specs.Borrow.{Bor}
 use Rattle.std.proofs.lemmas.List.{get_or-map, length-map, map-append, take_more}
 use Rattle.program_words.specs.Met.{texts}
-use Rattle.lab_commands.specs.declared.files.FileFault.TheVariants as file
+use Rattle.lab_commands.specs.declared.files.LabFileFault.TheVariants as file
 use Rattle.lab_commands.specs.declared.text.LabFault.{LabFault}
 use Rattle.lab_commands.specs.declared.text.LabFault.TheVariants as lab
 use Rattle.lab_commands.specs.Files.{Answers, AnswersNoMore, Store}

@@ -3,8 +3,8 @@ use Rattle.std.specs.Prelude.{ℕ, List, [], ◌∷◌, ◌++◌, codes, length,
 use Rattle.serde_json.specs.Data.{Data, member, no_members, number, object, string, unsigned}
 use Rattle.serde_json.specs.Written.{compact_text}
 use Rattle.json.specs.Print.{escape}
-use Rattle.lab_commands.specs.declared.document.Form.{Form}
-use Rattle.lab_commands.specs.declared.document.Form.TheVariants.{Text, Json}
+use Rattle.lab_commands.specs.declared.document.ReportForm.{ReportForm}
+use Rattle.lab_commands.specs.declared.document.ReportForm.TheVariants.{Text, Json}
 use Rattle.lab_commands.specs.Names.{shown}
 use Rattle.lab_commands.specs.Values.{head_data}
 use Rattle.lab_custody.specs.declared.checks.Checked.{Checked}
@@ -32,35 +32,35 @@ verified_words files changed = codes "verified " ++ (decimal files ++ (codes " c
 
 -- ---- in a form
 
-abbrev pub check_text : Form → Verdict → List ℕ → List ℕ
+abbrev pub check_text : ReportForm → Verdict → List ℕ → List ℕ
 check_text Text v name = (verdict_words v ++ codes " ") ++ (shown name ++ (10 ∷ []))
 check_text Json v name = codes ",\n" ++ compact_text (verdict_data v name)
 
 -- what stands before a name and behind it, which a JSON string has with its escapes
-abbrev pub front_text : Form → Verdict → List ℕ
+abbrev pub front_text : ReportForm → Verdict → List ℕ
 front_text Text v = verdict_words v ++ codes " "
 front_text Json v = codes ",\n{\"line\":\"" ++ (verdict_words v ++ codes "\",\"name\":\"")
 
-abbrev pub name_text : Form → List ℕ → List ℕ
+abbrev pub name_text : ReportForm → List ℕ → List ℕ
 name_text Text name = shown name
 name_text Json name = escape name
 
-abbrev pub end_text : Form → List ℕ
+abbrev pub end_text : ReportForm → List ℕ
 end_text Text = codes "\n"
 end_text Json = codes "\"}"
 
-abbrev pub checks_text : Form → List Checked → List ℕ
+abbrev pub checks_text : ReportForm → List Checked → List ℕ
 checks_text form [] = []
 checks_text form (check ∷ checks) = check_text form check.verdict check.name.now ++ checks_text form checks
 
-abbrev pub verified_text : Form → ℕ → ℕ → List ℕ
+abbrev pub verified_text : ReportForm → ℕ → ℕ → List ℕ
 verified_text Text files changed = verified_words files changed ++ (10 ∷ [])
 verified_text Json files changed = codes ",\n" ++ (compact_text (verified_data files changed) ++ codes "\n]\n")
 
-abbrev pub begin_text : Form → List ℕ
+abbrev pub begin_text : ReportForm → List ℕ
 begin_text Text = []
 begin_text Json = codes "[" ++ compact_text (head_data (codes "verify"))
 
 -- ALL THAT `verify` PRINTS
-abbrev pub verify_text : Form → List Checked → List ℕ
+abbrev pub verify_text : ReportForm → List Checked → List ℕ
 verify_text form checks = begin_text form ++ (checks_text form checks ++ verified_text form (length checks) (changed_count checks))

@@ -1,6 +1,6 @@
 -- A command whose run is told in a report.
 use Rattle.std.specs.Prelude.{◌≡◌, ◌≢◌, ◌⊎◌, ◌<◌, ℕ, true, false, All, List, [], ◌∷◌, codes, length, get_or, Option, Some, IfSome}
-use Rattle.lab_commands.specs.declared.files.FileFault.TheVariants as file
+use Rattle.lab_commands.specs.declared.files.LabFileFault.TheVariants as file
 use Rattle.lab_commands.specs.declared.files.Standing.TheVariants as standing
 use Rattle.lab_commands.specs.declared.text.LabFault.TheVariants as lab
 use Rattle.lab_commands.specs.Files.{Answers, IsAsPut, IsOpened, Stands, Store}

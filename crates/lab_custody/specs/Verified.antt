@@ -2,8 +2,8 @@
 use Rattle.std.specs.Prelude.{◌≡◌, ◌⊎◌, ◌<◌, ◌^◌, ◌++◌, ℕ, suc, Bool, true, if◌then◌else◌, All, List, codes, map, take, Option, Some, option_map, IfSome}
 use Rattle.std.specs.Io.KnownBytes.{Appends, Keeps}
 use Rattle.request_stream.specs.Frames.{AppendsPart}
-use Rattle.lab_commands.specs.declared.document.Form.{Form}
-use Rattle.lab_commands.specs.declared.document.Form.TheVariants.{Text, Json}
+use Rattle.lab_commands.specs.declared.document.ReportForm.{ReportForm}
+use Rattle.lab_commands.specs.declared.document.ReportForm.TheVariants.{Text, Json}
 use Rattle.lab_commands.specs.declared.text.LabFault.TheVariants as lab
 use Rattle.lab_commands.specs.Files.{Answers, IsOpened}
 use Rattle.lab_commands.specs.Undone.{IsUnread}
@@ -48,7 +48,7 @@ pub record AreAllChecked (a : Answers) (told : Told) (checks : List Checked) : T
   pub each : All (IsChecked a) checks
   pub noted : map noted_in checks ≡ told.read ++ told.wrote
 
-abbrev pub form_of : VerifyWords → Form
+abbrev pub form_of : VerifyWords → ReportForm
 form_of words = if words.json then Json else Text
 
 -- the file is a report, and this is said of its files

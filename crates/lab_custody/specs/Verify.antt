@@ -1,7 +1,7 @@
 -- What `verify` says of the files of a report.
 use Rattle.std.specs.Prelude.{◌≡◌, ◌⊎◌, ◌≤◌, ◌^◌, ◌++◌, ℕ, Bool, true, false, All, List, length, map, count_by, Option, IfSome}
 use Rattle.sha2.specs.Sha256.{sha256}
-use Rattle.lab_commands.specs.declared.files.FileFault.{FileFault}
+use Rattle.lab_commands.specs.declared.files.LabFileFault.{LabFileFault}
 use Rattle.lab_commands.specs.declared.files.Standing.TheVariants as standing
 use Rattle.lab_commands.specs.Files.{Answers, IsOpened}
 use Rattle.lab_report.specs.Note.{Note, named_as}
@@ -34,7 +34,7 @@ pub record ReadsNot (a : Answers) (path : List ℕ) : Type 0 where
 
 -- a call that names it failed, or what stands there is no file, or it was not read whole
 abbrev pub IsUnread : Answers → List ℕ → Type 0
-IsUnread a path = ((fault : FileFault) × a.fails path fault) ⊎ a.says path standing.Other ⊎ ReadsNot a path
+IsUnread a path = ((fault : LabFileFault) × a.fails path fault) ⊎ a.says path standing.Other ⊎ ReadsNot a path
 
 -- WHAT IS SAID OF A FILE IS SO
 abbrev pub IsVerdict : Answers → Note → Verdict → Type 0

@@ -9,21 +9,21 @@ ghost use Rattle.lab_custody.specs.Lines as told;
 ghost use Rattle.lab_custody.specs.Verify.{changed_count};
 
 use crate::checks::{Checked, Verdict};
-use lab_commands::{Form, Output, OutputFault, Piece, put, put_name, put_pieces};
+use lab_commands::{Output, OutputFault, Piece, ReportForm, put, put_name, put_pieces};
 
 // What the line of a file begins with.
-fn front(form: Form, verdict: Verdict) -> &'static str
+fn front(form: ReportForm, verdict: Verdict) -> &'static str
     ensures { result.now ≡ told.front_text form verdict }
 {
     match (form, verdict) {
-        (Form::Text, Verdict::Same) => "same ",
-        (Form::Text, Verdict::Differs) => "differs ",
-        (Form::Text, Verdict::Missing) => "missing ",
-        (Form::Text, Verdict::Unread) => "unread ",
-        (Form::Json, Verdict::Same) => ",\n{\"line\":\"same\",\"name\":\"",
-        (Form::Json, Verdict::Differs) => ",\n{\"line\":\"differs\",\"name\":\"",
-        (Form::Json, Verdict::Missing) => ",\n{\"line\":\"missing\",\"name\":\"",
-        (Form::Json, Verdict::Unread) => ",\n{\"line\":\"unread\",\"name\":\"",
+        (ReportForm::Text, Verdict::Same) => "same ",
+        (ReportForm::Text, Verdict::Differs) => "differs ",
+        (ReportForm::Text, Verdict::Missing) => "missing ",
+        (ReportForm::Text, Verdict::Unread) => "unread ",
+        (ReportForm::Json, Verdict::Same) => ",\n{\"line\":\"same\",\"name\":\"",
+        (ReportForm::Json, Verdict::Differs) => ",\n{\"line\":\"differs\",\"name\":\"",
+        (ReportForm::Json, Verdict::Missing) => ",\n{\"line\":\"missing\",\"name\":\"",
+        (ReportForm::Json, Verdict::Unread) => ",\n{\"line\":\"unread\",\"name\":\"",
     }
 }
 
@@ -90,17 +90,21 @@ fn put_shown<W: Output>(out: &mut W, name: &str) -> Result<(), OutputFault>
 }
 
 // Prints a name in a form.
-fn put_named<W: Output>(out: &mut W, form: Form, name: &str) -> Result<(), OutputFault>
+fn put_named<W: Output>(out: &mut W, form: ReportForm, name: &str) -> Result<(), OutputFault>
     ensures { Prints (W.failed out.new) (W.contents out.old) (W.contents out.new) (told.name_text form name.now) result }
 {
     match form {
-        Form::Text => put_shown(out, name),
-        Form::Json => put_bytes(out, name.as_bytes()),
+        ReportForm::Text => put_shown(out, name),
+        ReportForm::Json => put_bytes(out, name.as_bytes()),
     }
 }
 
 // Prints the line of a file.
-fn put_check<W: Output>(out: &mut W, form: Form, check: &Checked<'_>) -> Result<(), OutputFault>
+fn put_check<W: Output>(
+    out: &mut W,
+    form: ReportForm,
+    check: &Checked<'_>,
+) -> Result<(), OutputFault>
     ensures { Prints (W.failed out.new) (W.contents out.old) (W.contents out.new) (told.check_text form check.now.verdict check.now.name.now) result }
 {
     put(out, front(form, check.verdict).as_bytes())?;
@@ -109,17 +113,21 @@ fn put_check<W: Output>(out: &mut W, form: Form, check: &Checked<'_>) -> Result<
 }
 
 // What the line of a file ends with.
-fn end(form: Form) -> &'static str
+fn end(form: ReportForm) -> &'static str
     ensures { result.now ≡ told.end_text form }
 {
     match form {
-        Form::Text => "\n",
-        Form::Json => "\"}",
+        ReportForm::Text => "\n",
+        ReportForm::Json => "\"}",
     }
 }
 
 // Prints the lines of files.
-fn put_checks<W: Output>(out: &mut W, form: Form, checks: &[Checked<'_>]) -> Result<(), OutputFault>
+fn put_checks<W: Output>(
+    out: &mut W,
+    form: ReportForm,
+    checks: &[Checked<'_>],
+) -> Result<(), OutputFault>
     ensures { Prints (W.failed out.new) (W.contents out.old) (W.contents out.new) (told.checks_text form checks.now) result }
 {
     for place in 0..checks.len() {
@@ -132,14 +140,14 @@ fn put_checks<W: Output>(out: &mut W, form: Form, checks: &[Checked<'_>]) -> Res
 #[tactic(auto, unfolding(json::specs::Print::escape_byte))]
 fn put_verified<W: Output>(
     out: &mut W,
-    form: Form,
+    form: ReportForm,
     files: u64,
     changed: u64,
 ) -> Result<(), OutputFault>
     ensures { Prints (W.failed out.new) (W.contents out.old) (W.contents out.new) (told.verified_text form files changed) result }
 {
     match form {
-        Form::Text => put_pieces(
+        ReportForm::Text => put_pieces(
             out,
             &[
                 Piece::Words("verified "),
@@ -149,7 +157,7 @@ fn put_verified<W: Output>(
                 Piece::Words("\n"),
             ],
         ),
-        Form::Json => put_pieces(
+        ReportForm::Json => put_pieces(
             out,
             &[
                 Piece::Words(",\n{\"changed\":"),
@@ -164,12 +172,13 @@ fn put_verified<W: Output>(
 
 // What a document begins with.
 #[tactic(auto, unfolding(json::specs::Print::escape_byte))]
-fn begin(form: Form) -> &'static str
+fn begin(form: ReportForm) -> &'static str
     ensures { result.now ≡ told.begin_text form }
 {
     match form {
-        Form::Text => "",
-        Form::Json => "[{\"command\":\"verify\",\"line\":\"command\",\"program\":\"nandlab\"}",
+        ReportForm::Text => "",
+        ReportForm::Json =>
+            "[{\"command\":\"verify\",\"line\":\"command\",\"program\":\"nandlab\"}",
     }
 }
 
@@ -180,7 +189,7 @@ fn begin(form: Form) -> &'static str
 /// `OutputFault` where `out` failed: a beginning stands there, and never all. (This project's.)
 pub(crate) fn print_checks<W: Output>(
     out: &mut W,
-    form: Form,
+    form: ReportForm,
     checks: &[Checked<'_>],
     changed: usize,
 ) -> Result<(), OutputFault>

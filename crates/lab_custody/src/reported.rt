@@ -10,7 +10,7 @@ use crate::fault::CustodyFault;
 use crate::hashing::read_content;
 use crate::verify::BUFFER;
 use crate::words::ReportedWords;
-use lab_commands::{FileFault, KeepFault, LabFault, LabFiles, MapText, Progress, Standing};
+use lab_commands::{KeepFault, LabFault, LabFileFault, LabFiles, MapText, Progress, Standing};
 use lab_dump::{LineFault, MapWriter};
 use lab_report::{Content, Noted, Run, report_line};
 use std::alloc::{AllocError, Global};
@@ -49,8 +49,8 @@ fn is_report<'a, F: LabFiles>(
 {
     match files.is_same(out, file) {
         Ok(same) => Ok(same),
-        Err(FileFault::Failed) => Err(CustodyFault::Lab(LabFault::Write(out))),
-        Err(FileFault::OutOfMemory) => Err(CustodyFault::Lab(LabFault::OutOfMemory)),
+        Err(LabFileFault::Failed) => Err(CustodyFault::Lab(LabFault::Write(out))),
+        Err(LabFileFault::OutOfMemory) => Err(CustodyFault::Lab(LabFault::OutOfMemory)),
     }
 }
 
@@ -66,8 +66,8 @@ pub(crate) fn allow_report<'a, F: LabFiles>(
     match files.standing(words.file) {
         Ok(Standing::Nothing) => {}
         Ok(Standing::File | Standing::Other) => return Err(CustodyFault::ReportExists),
-        Err(FileFault::Failed) => return Err(CustodyFault::Lab(LabFault::Write(words.file))),
-        Err(FileFault::OutOfMemory) => return Err(CustodyFault::Lab(LabFault::OutOfMemory)),
+        Err(LabFileFault::Failed) => return Err(CustodyFault::Lab(LabFault::Write(words.file))),
+        Err(LabFileFault::OutOfMemory) => return Err(CustodyFault::Lab(LabFault::OutOfMemory)),
     }
     for place in 0..words.wrote.len() {
         match is_report(files, words.wrote[place], words.file) {
@@ -126,15 +126,15 @@ fn note_file<'a, F: LabFiles>(
     // what is no file may not give its bytes twice
     match files.standing(path) {
         Ok(Standing::File | Standing::Nothing) => {}
-        Ok(Standing::Other) | Err(FileFault::Failed) => {
+        Ok(Standing::Other) | Err(LabFileFault::Failed) => {
             return Err(CustodyFault::Lab(LabFault::Read(path)));
         }
-        Err(FileFault::OutOfMemory) => return Err(CustodyFault::Lab(LabFault::OutOfMemory)),
+        Err(LabFileFault::OutOfMemory) => return Err(CustodyFault::Lab(LabFault::OutOfMemory)),
     }
     let mut reader = match files.open(path, Progress::Hidden) {
         Ok(reader) => reader,
-        Err(FileFault::Failed) => return Err(CustodyFault::Lab(LabFault::Read(path))),
-        Err(FileFault::OutOfMemory) => return Err(CustodyFault::Lab(LabFault::OutOfMemory)),
+        Err(LabFileFault::Failed) => return Err(CustodyFault::Lab(LabFault::Read(path))),
+        Err(LabFileFault::OutOfMemory) => return Err(CustodyFault::Lab(LabFault::OutOfMemory)),
     };
     match read_content(&mut reader, buffer) {
         Ok(content) => Ok(content),
@@ -204,8 +204,10 @@ pub(crate) fn store_report<'a, F: LabFiles>(
     match files.store(file, &text, false) {
         Ok(()) => Ok(()),
         Err(KeepFault::Taken) => Err(CustodyFault::ReportExists),
-        Err(KeepFault::Fails(FileFault::Failed)) => Err(CustodyFault::Lab(LabFault::Write(file))),
-        Err(KeepFault::Fails(FileFault::OutOfMemory)) => {
+        Err(KeepFault::Fails(LabFileFault::Failed)) => Err(CustodyFault::Lab(LabFault::Write(
+            file,
+        ))),
+        Err(KeepFault::Fails(LabFileFault::OutOfMemory)) => {
             Err(CustodyFault::Lab(LabFault::OutOfMemory))
         }
     }

@@ -8,8 +8,8 @@ use crate::checks::{Checked, changed_count, check_files};
 use crate::fault::CustodyFault;
 use crate::lines::print_checks;
 use crate::words::VerifyWords;
-use lab_commands::{FileFault, Form, LabFault, LabFiles, Output, Progress};
-use lab_report::{Report, ReportFault, read_report};
+use lab_commands::{LabFault, LabFileFault, LabFiles, Output, Progress, ReportForm};
+use lab_report::{ReportFault, RunReport, read_report};
 use std::alloc::{AllocError, Global};
 
 // So many bytes of a report's file are looked at: a longer one is none.
@@ -23,7 +23,7 @@ fn load_report<'a, F: LabFiles>(
     alloc: Global,
     path: &'a str,
     files: &mut F,
-) -> Result<Report, CustodyFault<'a>>
+) -> Result<RunReport, CustodyFault<'a>>
     ensures ok { IfOk result (λ report. IsReportAt (F.answers files.old) path.now (told_by report)) }
     ensures fault { IfErr result (IsNoReportAt (F.answers files.old) path.now) }
     ensures opened { F.opened files.new ≡ option_map suc (F.opened files.old) }
@@ -32,8 +32,8 @@ fn load_report<'a, F: LabFiles>(
 {
     let bytes = match files.load(path, MOST_BYTES) {
         Ok(bytes) => bytes,
-        Err(FileFault::Failed) => return Err(CustodyFault::Lab(LabFault::Read(path))),
-        Err(FileFault::OutOfMemory) => return Err(CustodyFault::Lab(LabFault::OutOfMemory)),
+        Err(LabFileFault::Failed) => return Err(CustodyFault::Lab(LabFault::Read(path))),
+        Err(LabFileFault::OutOfMemory) => return Err(CustodyFault::Lab(LabFault::OutOfMemory)),
     };
     match read_report(alloc, &bytes) {
         Ok(report) => Ok(report),
@@ -62,7 +62,7 @@ fn take_room<'r>(alloc: Global, count: usize) -> Result<Room<'r>, AllocError>
 }
 
 // How many files a report is of.
-fn count_files(report: &Report) -> Result<usize, AllocError>
+fn count_files(report: &RunReport) -> Result<usize, AllocError>
     ensures { IfOk result (λ count. count ≡ length report.now.read.items + length report.now.wrote.items) }
 {
     match report.read.len().checked_add(report.wrote.len()) {
@@ -74,7 +74,7 @@ fn count_files(report: &Report) -> Result<usize, AllocError>
 // Checks all files of a report: those that were read, and then those that were written.
 fn check_all<'r, F: LabFiles>(
     files: &mut F,
-    report: &'r Report,
+    report: &'r RunReport,
     progress: Progress,
     room: &mut Room<'r>,
 )
@@ -101,10 +101,14 @@ fn check_all<'r, F: LabFiles>(
 }
 
 // How it is told.
-fn form(words: &VerifyWords<'_>) -> Form
+fn form(words: &VerifyWords<'_>) -> ReportForm
     ensures { result ≡ form_of words.now }
 {
-    if words.json { Form::Json } else { Form::Text }
+    if words.json {
+        ReportForm::Json
+    } else {
+        ReportForm::Text
+    }
 }
 
 // Whether a file shows how far it was read.

@@ -18,7 +18,7 @@ use Rattle.page_layout.specs.Block.{is_broken}
 use Rattle.page_layout.proofs.ArrayLemmas.{latest-newest, length-marks}
 use Rattle.page_layout.proofs.GreatestLemmas.{Says, best_says}
 use Rattle.page_layout.proofs.NewestLemmas.{sequence_at-is, sequence_at-key}
-use Rattle.lab_dump.specs.declared.held.Shown.TheVariants as shown
+use Rattle.lab_dump.specs.declared.held.SectorShown.TheVariants as shown
 use Rattle.lab_dump.specs.Damaged.{DamagedLaw, IsSaidNewer, IsShown, OtherwiseLaw, Broken, content_in, damaged_sector, over, placed, said_content, said_marks, said_reads, shown_place}
 use Rattle.lab_dump.specs.Held.{shown_by, shown_with}
 use Rattle.lab_dump.specs.Said.{is_after, says}

@@ -28,7 +28,7 @@ use Rattle.lab_dump.specs.declared.look.Look.TheVariants.{Sound, Erased, Unsound
 use Rattle.lab_dump.specs.Pages.{page_at}
 use Rattle.lab_dump.specs.Sample.{look_at}
 use Rattle.lab_dump.specs.Told.{blocks_of, sectors_of, blocks_by, sectors_by, blocks_at, sectors_at, greatest, told_of}
-use Rattle.lab_dump.specs.declared.told.Told.{Told}
+use Rattle.lab_dump.specs.declared.told.PagesTold.{PagesTold}
 use Rattle.lab_dump.specs.FitLaws.{IsWithin, WithinLaw, PageLaw, LookedLaw, LookedRiseLaw, LookedAllLaw, GreatestLaw, LowerLaw, TableLaw, ShortLaw, FewerLaw}
 use Rattle.lab_dump.specs.declared.fit.TableSays.TheVariants.{Agrees, Short, Silent, Differs}
 use Rattle.lab_dump.specs.Fits.{table_says, place}
@@ -145,7 +145,7 @@ body_size d s rows row all whole l =
     let page_size : length (slice_range all at (at + n)) ≡ at + n - at = length-take-le (at + n - at) (drop at all) rest in
     length-take-le d (slice_range all at (at + n)) (omega arith)
 
-kind_within : (k : Kind) (n entries : ℕ) (body : List ℕ) (t : Told) → length body / 4 ≡ entries → blocks_of k n body ≤ t.blocks → sectors_of k n entries ≤ t.sectors → IsWithin (key_from k n) entries t
+kind_within : (k : Kind) (n entries : ℕ) (body : List ℕ) (t : PagesTold) → length body / 4 ≡ entries → blocks_of k n body ≤ t.blocks → sectors_of k n entries ≤ t.sectors → IsWithin (key_from k n) entries t
 kind_within kind.Sector n entries body t size blocks sectors = omega arith
 kind_within kind.Trim n entries body t size blocks sectors = omega arith
 kind_within kind.Translation n entries body t size blocks sectors = omega arith

@@ -8,7 +8,7 @@ use Rattle.page_layout.specs.declared.geometry.Geometry.{Geometry}
 use Rattle.page_layout.specs.Limits.{IsSectorCount}
 use Rattle.lab_dump.specs.declared.fit.Fit.{Fit}
 use Rattle.lab_dump.specs.declared.sample.Sample.{Sample}
-use Rattle.lab_dump.specs.declared.told.Told.{Told}
+use Rattle.lab_dump.specs.declared.told.PagesTold.{PagesTold}
 use Rattle.page_layout.specs.Geometry.{row_count}
 use Rattle.lab_dump.specs.Sample.{sample_of}
 use Rattle.lab_dump.specs.Told.{told_of}
@@ -21,7 +21,7 @@ use Rattle.lab_dump.proofs.SampleLemmas.{range_last}
 pub within : (told : ℕ) → IsSectorCount (sectors_from told)
 within told = record { least = omega arith; most = omega arith }
 
-pub possible_fit : (g : Geometry) (sample : Sample) (told : Told) (f : Fit) → f ≡ fit_of g.data_bytes g.spare_bytes g.pages g.blocks sample told → 0 < sample.sound → sample.sound + sample.unsound ≤ sample.looked → IsPossible f
+pub possible_fit : (g : Geometry) (sample : Sample) (told : PagesTold) (f : Fit) → f ≡ fit_of g.data_bytes g.spare_bytes g.pages g.blocks sample told → 0 < sample.sound → sample.sound + sample.unsound ≤ sample.looked → IsPossible f
 possible_fit g sample told f e some looked = subst IsPossible (sym e) (record {
   limits = record {
     data_size = g.limits.data_size;
@@ -97,7 +97,7 @@ sample_here : (g : Geometry) (size d s : ℕ) (all : List ℕ) (x : Sample) → 
 sample_here g size d s all x like size_is e =
     e ∙ (ap (λ k. sample_of k g.spare_bytes (row_count g) all) like.data_is ∙ (ap (λ k. sample_of d k (row_count g) all) like.spare_is ∙ ap (λ k. sample_of d s k all) (like.rows_is ∙ ap (λ n. rows_of n d s) size_is)))
 
-told_here : (g : Geometry) (size d s : ℕ) (all : List ℕ) (x : Told) → IsAsOf g size d s → size ≡ length all → x ≡ told_of g.data_bytes g.spare_bytes (row_count g) all → x ≡ told_of d s (rows_of (length all) d s) all
+told_here : (g : Geometry) (size d s : ℕ) (all : List ℕ) (x : PagesTold) → IsAsOf g size d s → size ≡ length all → x ≡ told_of g.data_bytes g.spare_bytes (row_count g) all → x ≡ told_of d s (rows_of (length all) d s) all
 told_here g size d s all x like size_is e =
     e ∙ (ap (λ k. told_of k g.spare_bytes (row_count g) all) like.data_is ∙ (ap (λ k. told_of d k (row_count g) all) like.spare_is ∙ ap (λ k. told_of d s k all) (like.rows_is ∙ ap (λ n. rows_of n d s) size_is)))
 
@@ -107,7 +107,7 @@ area_unsound g size d s all sample items like size_is shaped is none =
     let here = sample_here g size d s all sample like size_is is in
     nothing_more items (area_fits all d s) (area_when all d s true false (ap (λ n. has_shape n d s) (sym size_is) ∙ shaped) (ap (nat_lt 0) (ap (λ x. x.sound) (sym here) ∙ none)))
 
-pub area_is : (g : Geometry) (size d s : ℕ) (all : List ℕ) (sample : Sample) (told : Told) (items new : List Fit) → IsAsOf g size d s → size ≡ length all → has_shape size d s ≡ true
+pub area_is : (g : Geometry) (size d s : ℕ) (all : List ℕ) (sample : Sample) (told : PagesTold) (items new : List Fit) → IsAsOf g size d s → size ≡ length all → has_shape size d s ≡ true
     → sample ≡ sample_of g.data_bytes g.spare_bytes (row_count g) all → told ≡ told_of g.data_bytes g.spare_bytes (row_count g) all → ¬ (sample.sound ≡ 0)
     → new ≡ items ++ flat_map (shape_fits size d s sample told) page_counts → new ≡ items ++ area_fits all d s
 area_is g size d s all sample told items new like size_is shaped is told_is some e =

@@ -21,8 +21,8 @@ use Rattle.image_check.specs.Survey.{index_of}
 use Rattle.image_check.proofs.TableLemmas.{step_place}
 use Rattle.image_check.proofs.TablesLemmas.{table_is}
 use Rattle.image_check.proofs.SurveyLemmas.{latest_more, latest_other, latest_start, index_within}
-use Rattle.lab_dump.specs.declared.held.State.{State}
-use Rattle.lab_dump.specs.declared.held.State.TheVariants.{Absent, Found}
+use Rattle.lab_dump.specs.declared.held.KeyState.{KeyState}
+use Rattle.lab_dump.specs.declared.held.KeyState.TheVariants.{Absent, Found}
 use Rattle.lab_dump.specs.Held.{state_by}
 use Rattle.lab_dump.specs.declared.trace.Trace.{Trace}
 use Rattle.lab_dump.specs.declared.trace.Trace.TheVariants as trace
@@ -91,11 +91,11 @@ formed_start g image formed size = record {
 -- ---- how a key stands
 
 -- the first n states are those
-pub record AreStated (traces : List Trace) (n : ℕ) (states : List State) : Type 0 where
+pub record AreStated (traces : List Trace) (n : ℕ) (states : List KeyState) : Type 0 where
   pub size : length states ≡ length traces
   pub each : (i : ℕ) → i < n → get_or states i Absent ≡ state_in (get_or traces i trace.Never)
 
-pub stated_more : (traces : List Trace) (n : ℕ) (states : List State) (d : Trace) (x : State) → AreStated traces n states → n < length traces → x ≡ state_in (get_or traces n d) → AreStated traces (n + 1) (set states n x)
+pub stated_more : (traces : List Trace) (n : ℕ) (states : List KeyState) (d : Trace) (x : KeyState) → AreStated traces n states → n < length traces → x ≡ state_in (get_or traces n d) → AreStated traces (n + 1) (set states n x)
 stated_more traces n states d x h within is = record {
   size = length-set states n x ∙ h.size;
   each = λ i l. elim (cases_eq i n) [
@@ -108,7 +108,7 @@ stated_more traces n states d x h within is = record {
     below : (i n : ℕ) → i < n + 1 → i ≢ n → i < n
     below i n l ne = elim (cases_order i n) [ inl same ↦ absurd (ne same) | inr (inl less) ↦ less | inr (inr more) ↦ absurd (omega arith) ]
 
-pub keys_stated : (g : Geometry) (image : Image) (traces : List Trace) (states : List State) → length image ≡ row_count g → HasTraces g (marks image) (row_count g) traces
+pub keys_stated : (g : Geometry) (image : Image) (traces : List Trace) (states : List KeyState) → length image ≡ row_count g → HasTraces g (marks image) (row_count g) traces
     → ((i : ℕ) → i < length traces → get_or states i Absent ≡ state_in (get_or traces i trace.Never)) → (key : Key) → IsKeyOf g key → get_or states (index_of g key) Absent ≡ key_state image key
 unfolding key_state
 keys_stated g image traces states whole h each key within =

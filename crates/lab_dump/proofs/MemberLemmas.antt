@@ -12,7 +12,7 @@ use Rattle.page_layout.specs.Geometry.{row_count}
 use Rattle.page_layout.specs.Limits.{IsDataSize, IsSpareSize, IsPageCount, IsBlockCount}
 use Rattle.lab_dump.specs.declared.fit.Fit.{Fit}
 use Rattle.lab_dump.specs.declared.sample.Sample.{Sample}
-use Rattle.lab_dump.specs.declared.told.Told.{Told}
+use Rattle.lab_dump.specs.declared.told.PagesTold.{PagesTold}
 use Rattle.lab_dump.specs.Sample.{looked_count, looked_row, look_at, is_sound, looked_by, sample_of}
 use Rattle.lab_dump.specs.Told.{told_of}
 use Rattle.lab_dump.specs.Shape.{data_sizes, page_counts, rows_of, are_blocks, is_shape, has_shape}
@@ -127,7 +127,7 @@ from_fits all f h =
     let n : ℕ = length all in
     let rows : ℕ = rows_of n d s in
     let sample : Sample = sample_of d s rows all in
-    let told : Told = told_of d s rows all in
+    let told : PagesTold = told_of d s rows all in
     let chosen = from_choice (has_shape n d s && nat_lt 0 sample.sound) (flat_map (shape_fits n d s sample told) page_counts) f
     (subst (λ l. Contains l f) (area_when all d s (has_shape n d s) (nat_lt 0 sample.sound) refl refl) by_spare.2) in
     let tests = and_parts (has_shape n d s) (nat_lt 0 sample.sound) chosen.0 in
@@ -152,7 +152,7 @@ into_fits all f h =
     let rows_is : rows ≡ b * p = rows_are n b p (d + s) (let least = h.limits.data_size.least in omega arith) h.whole in
     let count : rows / p ≡ b = ap (λ k. k / p) rows_is ∙ mul-div_cancel b (let least = h.limits.page_count.least in omega arith) in
     let sample : Sample = sample_of d s rows all in
-    let told : Told = told_of d s rows all in
+    let told : PagesTold = told_of d s rows all in
     let shape : is_shape n d s p ≡ true = is_shaped n d s p b (let least = h.limits.data_size.least in omega arith) (let least = h.limits.page_count.least in omega arith) h.limits.block_count h.whole in
     let among = count_among p h.limits.page_count in
     let sound_is : f.sound.0 ≡ sample.sound = ap (λ x. x.sound.0) h.evidence ∙ ap (λ k. (sample_of d s k all).sound) (sym rows_is) in

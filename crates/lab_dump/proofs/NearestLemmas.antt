@@ -83,7 +83,7 @@ legible_within all first places bytes place h less within =
     let rest : ℕ = length bytes - place in
     let size : first + length bytes - first ≡ place + rest = omega arith in
     let here : drop place bytes ≡ take rest (drop place (drop first all)) =
-      ap (drop place) (h.bytes_are ∙ ap (λ n. take n (drop first all)) size) ∙ drop-take place rest (drop first all) in
+    ap (drop place) (h.bytes_are ∙ ap (λ n. take n (drop first all)) size) ∙ drop-take place rest (drop first all) in
     let there : drop place (drop first all) ≡ drop (first + place) all = drop-drop place first all in
     ap legible (here ∙ ap (take rest) there) ∙ elim h.behind [
       | inl end ↦ ap legible (take_all rest (drop (first + place) all) (omega (arith, length-drop (first + place) all)))
@@ -160,9 +160,9 @@ head_spells head seal rest r h k e =
     let before = (and_parts ((f && room n) && gap) (is_filled rest) whole.0).0 in
     let front = (and_parts (f && room n) gap before).0 in
     let short : (((f && room (24 + seal_size v + 0)) && gap) && is_filled []) ≡ true =
-      and_from ((f && room (24 + seal_size v + 0)) && gap) (is_filled [])
-      (and_from (f && room (24 + seal_size v + 0)) gap (and_from f (room (24 + seal_size v + 0)) (and_parts f (room n) front).0 (version_room v n (and_parts f (room n) front).1)) (and_parts (f && room n) gap before).1)
-      nothing_filled in
+    and_from ((f && room (24 + seal_size v + 0)) && gap) (is_filled [])
+    (and_from (f && room (24 + seal_size v + 0)) gap (and_from f (room (24 + seal_size v + 0)) (and_parts f (room n) front).0 (version_room v n (and_parts f (room n) front).1)) (and_parts (f && room n) gap before).1)
+    nothing_filled in
     spelled_head head seal [] h k ∙ (ap (λ b. cond b (option_map says (kind_from (slice_index head 3))) None) short ∙ whole.1)
 
 spelled_form : (s : List ℕ) (r : Record) → spelled s ≡ Some r → has_form s ≡ true
@@ -189,7 +189,7 @@ spelled_front s r many e =
     let seal_is : length seal ≡ seal_size (slice_index head 2) = plain ∙ ap seal_size (sym version) in
     let both : length (head ++ seal) ≡ seal_end s = omega (arith, length-append head seal) in
     let front : take (seal_end s) s ≡ head ++ (seal ++ []) =
-      ap (take (seal_end s)) (sym parts ∙ sym (append_assoc head seal rest)) ∙ (take_at (head ++ seal) rest (seal_end s) both ∙ ap (λ t. head ++ t) (sym (append-nil seal))) in
+    ap (take (seal_end s)) (sym parts ∙ sym (append_assoc head seal rest)) ∙ (take_at (head ++ seal) rest (seal_end s) both ∙ ap (λ t. head ++ t) (sym (append-nil seal))) in
     ap spelled front ∙ head_spells head seal rest r head_size seal_is (ap spelled parts ∙ e)
 
 front_legible : (spare behind : List ℕ) (r : Record) → 32 ≤ length spare → spelled spare ≡ Some r → legible (spare ++ behind) ≡ Some r
@@ -235,19 +235,31 @@ step_some : (all : List ℕ) (n : ℕ) (best next : Legible) → next.at ≡ n �
 step_some all n best next place read h = by (is_table next) (is_table best) refl refl
   where
     behind : (y : Legible) → y.at < n + 1 → (y.at < n) ⊎ (y.at ≡ n)
-    behind y less = elim (cases_lt y.at n) [ | inl l ↦ inl l | inr le ↦ inr (omega arith) ]
+    behind y less = elim (cases_lt y.at n) [ inl l ↦ inl l | inr le ↦ inr (omega arith) ]
+
     same : (y : Legible) → y.at ≡ n → read_at all y.at ≡ Some y → y ≡ next
     same y e r = (let a : read_at all n ≡ Some y = ap (read_at all) (sym e) ∙ r in let both : Some y ≡ Some next = sym a ∙ read in cc)
+
     stays : (is_table next ≡ true → is_table best ≡ true) → IsNearestBelow all (n + 1) (Some best)
-    stays table = (omega (arith, h.0), h.1, λ y less r. elim (behind y less) [
-      | inl before ↦ h.2 y before r
-      | inr here ↦ subst (IsNoLater best) (sym (same y here r)) (record { table = table; byte = λ e. (let l = h.0 in omega arith) })
-    ])
+    stays table = (
+      omega (arith, h.0),
+      h.1,
+      λ y less r. elim (behind y less) [
+        | inl before ↦ h.2 y before r
+        | inr here ↦ subst (IsNoLater best) (sym (same y here r)) (record { table = table; byte = λ e. (let l = h.0 in omega arith) })
+      ],
+    )
+
     goes : is_table next ≡ true → is_table best ≡ false → IsNearestBelow all (n + 1) (Some next)
-    goes table other = (omega arith, ap (read_at all) place ∙ read, λ y less r. elim (behind y less) [
-      | inl before ↦ record { table = λ t. table; byte = λ e. absurd (let first = (h.2 y before r).table (sym e ∙ table) in let clash : false ≡ true = sym other ∙ first in cc) }
-      | inr here ↦ subst (IsNoLater next) (sym (same y here r)) (no_later_self next)
-    ])
+    goes table other = (
+      omega arith,
+      ap (read_at all) place ∙ read,
+      λ y less r. elim (behind y less) [
+        | inl before ↦ record { table = λ t. table; byte = λ e. absurd (let first = (h.2 y before r).table (sym e ∙ table) in let clash : false ≡ true = sym other ∙ first in cc) }
+        | inr here ↦ subst (IsNoLater next) (sym (same y here r)) (no_later_self next)
+      ],
+    )
+
     by : (a b : Bool) → is_table next ≡ a → is_table best ≡ b → IsNearestBelow all (n + 1) (nearer (Some best) (Some next))
     by true true p q = subst (IsNearestBelow all (n + 1)) (sym (ap (λ t. cond (t && not (is_table best)) (Some next) (Some best)) p ∙ ap (λ t. cond (true && not t) (Some next) (Some best)) q)) (stays (λ t. q))
     by true false p q = subst (IsNearestBelow all (n + 1)) (sym (ap (λ t. cond (t && not (is_table best)) (Some next) (Some best)) p ∙ ap (λ t. cond (true && not t) (Some next) (Some best)) q)) (goes p q)
@@ -259,15 +271,22 @@ step all n None None read h = λ at less. elim (cases_lt at n) [
   | inr le ↦ (let here : at ≡ n = omega arith in ap (read_at all) here ∙ read)
 ]
 step all n None (Some next) read h =
-    let place : next.at ≡ n = place_is all n next read in
-    (omega arith, ap (read_at all) place ∙ read, λ y less r. elim (cases_lt y.at n) [
-      | inl before ↦ absurd (let none = h y.at before in let clash : None ≡ Some y = sym none ∙ r in cc)
-      | inr le ↦ (let here : y.at ≡ n = omega arith in let a : read_at all n ≡ Some y = ap (read_at all) (sym here) ∙ r in let both : Some next ≡ Some y = sym read ∙ a in subst (IsNoLater next) (let e : next ≡ y = cc in e) (no_later_self next))
-    ])
-step all n (Some best) None read h = (omega (arith, h.0), h.1, λ y less r. elim (cases_lt y.at n) [
-  | inl before ↦ h.2 y before r
-  | inr le ↦ absurd (let here : y.at ≡ n = omega arith in let a : read_at all n ≡ Some y = ap (read_at all) (sym here) ∙ r in let clash : None ≡ Some y = sym read ∙ a in cc)
-])
+    let place : next.at ≡ n = place_is all n next read in (
+      omega arith,
+      ap (read_at all) place ∙ read,
+      λ y less r. elim (cases_lt y.at n) [
+        | inl before ↦ absurd (let none = h y.at before in let clash : None ≡ Some y = sym none ∙ r in cc)
+        | inr le ↦ (let here : y.at ≡ n = omega arith in let a : read_at all n ≡ Some y = ap (read_at all) (sym here) ∙ r in let both : Some next ≡ Some y = sym read ∙ a in subst (IsNoLater next) (let e : next ≡ y = cc in e) (no_later_self next))
+      ],
+    )
+step all n (Some best) None read h = (
+  omega (arith, h.0),
+  h.1,
+  λ y less r. elim (cases_lt y.at n) [
+    | inl before ↦ h.2 y before r
+    | inr le ↦ absurd (let here : y.at ≡ n = omega arith in let a : read_at all n ≡ Some y = ap (read_at all) (sym here) ∙ r in let clash : None ≡ Some y = sym read ∙ a in cc)
+  ],
+)
 step all n (Some best) (Some next) read h = step_some all n best next (place_is all n next read) read h
 
 pub nearest_is : (all : List ℕ) (n : ℕ) → IsNearestBelow all n (nearest_below all n)
@@ -311,6 +330,7 @@ none_law all = (λ e at. nothing e at, λ h. by (nearest_of all) refl h)
       | inl less ↦ subst (IsNearestBelow all (length all)) e (nearest_is all (length all)) at less
       | inr past ↦ past_none all at past
     ]
+
     by : (o : Option Legible) → nearest_of all ≡ o → ((at : ℕ) → read_at all at ≡ None) → o ≡ None
     by None e h = refl
     by (Some x) e h = absurd (let clash : None ≡ Some x = sym (h x.at) ∙ (from_nearest all x e).read in cc)

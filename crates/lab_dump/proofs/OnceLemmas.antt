@@ -6,7 +6,7 @@ use Rattle.std.proofs.lemmas.Bool.{cases_eq, eq-eqb, ne_eqb, and_left, and_right
 use Rattle.std.proofs.lemmas.List.Sums.{sum_by-cons, sum_by-append}
 use Rattle.lab_dump.specs.declared.fit.Fit.{Fit}
 use Rattle.lab_dump.specs.declared.sample.Sample.{Sample}
-use Rattle.lab_dump.specs.declared.told.Told.{Told}
+use Rattle.lab_dump.specs.declared.told.PagesTold.{PagesTold}
 use Rattle.lab_dump.specs.Sample.{sample_of}
 use Rattle.lab_dump.specs.Told.{told_of}
 use Rattle.lab_dump.specs.Shape.{data_sizes, page_counts, rows_of, is_shape, has_shape}
@@ -116,12 +116,12 @@ apart d s p x y z (inl ne) = and_left ((x == d) && (y == s)) (z == p) (and_left 
 apart d s p x y z (inr (inl ne)) = and_left ((x == d) && (y == s)) (z == p) (and_right (x == d) (y == s) (ne_eqb y s ne))
 apart d s p x y z (inr (inr ne)) = and_right ((x == d) && (y == s)) (z == p) (ne_eqb z p ne)
 
-shape_none : (d s p n x y z : ℕ) (sample : Sample) (told : Told) → (x ≢ d) ⊎ ((y ≢ s) ⊎ (z ≢ p)) → count_by (has_numbers d s p) (shape_fits n x y sample told z) ≡ 0
+shape_none : (d s p n x y z : ℕ) (sample : Sample) (told : PagesTold) → (x ≢ d) ⊎ ((y ≢ s) ⊎ (z ≢ p)) → count_by (has_numbers d s p) (shape_fits n x y sample told z) ≡ 0
 shape_none d s p n x y z sample told ne =
     let f : Fit = fit_of x y z (rows_of n x y / z) sample told in
     choice_none (has_numbers d s p) (is_shape n x y z) (f ∷ []) (single (has_numbers d s p) f ∙ ap one (apart d s p x y z ne))
 
-shape_one : (d s p n x y z : ℕ) (sample : Sample) (told : Told) → count_by (has_numbers d s p) (shape_fits n x y sample told z) ≤ 1
+shape_one : (d s p n x y z : ℕ) (sample : Sample) (told : PagesTold) → count_by (has_numbers d s p) (shape_fits n x y sample told z) ≤ 1
 shape_one d s p n x y z sample told =
     let f : Fit = fit_of x y z (rows_of n x y / z) sample told in
     choice_one (has_numbers d s p) (is_shape n x y z) (f ∷ []) (subst (λ k. k ≤ 1) (sym (single (has_numbers d s p) f)) (one_most (has_numbers d s p f)))
@@ -130,7 +130,7 @@ area_none : (all : List ℕ) (d s p x y : ℕ) → (x ≢ d) ⊎ (y ≢ s) → c
 area_none all d s p x y ne =
     let n : ℕ = length all in
     let sample : Sample = sample_of x y (rows_of n x y) all in
-    let told : Told = told_of x y (rows_of n x y) all in
+    let told : PagesTold = told_of x y (rows_of n x y) all in
     let pieces = no_pieces (has_numbers d s p) (shape_fits n x y sample told) page_counts (λ z. shape_none d s p n x y z sample told (wider z ne)) in
     ap (count_by (has_numbers d s p)) (area_when all x y (has_shape n x y) (nat_lt 0 sample.sound) refl refl)
     ∙ choice_none (has_numbers d s p) (has_shape n x y && nat_lt 0 sample.sound) (flat_map (shape_fits n x y sample told) page_counts) pieces
@@ -143,7 +143,7 @@ area_one : (all : List ℕ) (d s p : ℕ) → count_by (has_numbers d s p) (area
 area_one all d s p =
     let n : ℕ = length all in
     let sample : Sample = sample_of d s (rows_of n d s) all in
-    let told : Told = told_of d s (rows_of n d s) all in
+    let told : PagesTold = told_of d s (rows_of n d s) all in
     let pieces = one_piece (has_numbers d s p) (shape_fits n d s sample told) p 0 page_counts counts_rise (λ z ne. shape_none d s p n d s z sample told (inr (inr ne))) (shape_one d s p n d s p sample told) in
     subst (λ l. count_by (has_numbers d s p) l ≤ 1) (sym (area_when all d s (has_shape n d s) (nat_lt 0 sample.sound) refl refl))
     (choice_one (has_numbers d s p) (has_shape n d s && nat_lt 0 sample.sound) (flat_map (shape_fits n d s sample told) page_counts) pieces)

@@ -14,8 +14,8 @@ use Rattle.page_layout.specs.Raw.{raw_image, page_from}
 use Rattle.page_layout.proofs.RawLemmas.{raw_image-at}
 use Rattle.lab_dump.specs.declared.pass.Cut.{Cut}
 use Rattle.lab_dump.specs.declared.pass.Cut.TheVariants.{Ended, Failed}
-use Rattle.lab_dump.specs.declared.pass.ScanFault.{ScanFault}
-use Rattle.lab_dump.specs.declared.pass.ScanFault.TheVariants as fault
+use Rattle.lab_dump.specs.declared.pass.PassFault.{PassFault}
+use Rattle.lab_dump.specs.declared.pass.PassFault.TheVariants as fault
 use Rattle.lab_dump.specs.Scan.{image_bytes, HasMore, IsCut, IsReadTo, IsTaken, IsUntaken, fault_of}
 
 -- ---- known bytes
@@ -148,12 +148,12 @@ short_of g (Some ys) (Some zs) xs read few e =
     let same : length ys ≡ length xs = ap length (read ∙ (ap (λ z. xs ++ z) e ∙ append-nil xs)) in
     λ whole. absurd (omega arith)
 
-pub cut_untaken : (g : Geometry) (a b : Option (List ℕ)) (cut : Cut) (f : ScanFault) → IsCut (image_bytes g) a b cut → f ≡ fault_of cut → IfSome a (IsUntaken g f)
-cut_untaken g a b Ended f h e = subst (λ (x : ScanFault). IfSome a (IsUntaken g x)) (sym e) (short_of g a b h.bytes h.read h.few h.ends)
-cut_untaken g a b Failed f h e = subst (λ (x : ScanFault). IfSome a (IsUntaken g x)) (sym e) (if_all a (IsUntaken g fault.Source) (λ bytes. tt))
+pub cut_untaken : (g : Geometry) (a b : Option (List ℕ)) (cut : Cut) (f : PassFault) → IsCut (image_bytes g) a b cut → f ≡ fault_of cut → IfSome a (IsUntaken g f)
+cut_untaken g a b Ended f h e = subst (λ (x : PassFault). IfSome a (IsUntaken g x)) (sym e) (short_of g a b h.bytes h.read h.few h.ends)
+cut_untaken g a b Failed f h e = subst (λ (x : PassFault). IfSome a (IsUntaken g x)) (sym e) (if_all a (IsUntaken g fault.Source) (λ bytes. tt))
 
-pub stopped_untaken : (g : Geometry) (a : Option (List ℕ)) (f : ScanFault) → f ≡ fault.Stopped → IfSome a (IsUntaken g f)
-stopped_untaken g a f e = subst (λ (x : ScanFault). IfSome a (IsUntaken g x)) (sym e) (if_all a (IsUntaken g fault.Stopped) (λ bytes. tt))
+pub stopped_untaken : (g : Geometry) (a : Option (List ℕ)) (f : PassFault) → f ≡ fault.Stopped → IfSome a (IsUntaken g f)
+stopped_untaken g a f e = subst (λ (x : PassFault). IfSome a (IsUntaken g x)) (sym e) (if_all a (IsUntaken g fault.Stopped) (λ bytes. tt))
 
 long_of : (g : Geometry) (a b : Option (List ℕ)) (xs : List ℕ) → Consumes a b xs → length xs ≡ image_bytes g → HasMore b → IfSome a (IsUntaken g fault.WrongLength)
 long_of g None b xs read size more = tt
@@ -162,6 +162,6 @@ long_of g (Some ys) (Some zs) xs read size more =
     let long : length ys ≡ length (xs ++ zs) = ap length read in
     λ whole. absurd (omega (arith, length-append xs zs))
 
-pub end_untaken : (g : Geometry) (a b : Option (List ℕ)) (shows : Image → Type 0) (f : ScanFault) → IsReadTo g (row_count g) a b shows → (f ≡ fault.Source) ⊎ ((f ≡ fault.WrongLength) × HasMore b) → IfSome a (IsUntaken g f)
-end_untaken g a b shows f h (inl e) = subst (λ (x : ScanFault). IfSome a (IsUntaken g x)) (sym e) (if_all a (IsUntaken g fault.Source) (λ bytes. tt))
-end_untaken g a b shows f h (inr w) = subst (λ (x : ScanFault). IfSome a (IsUntaken g x)) (sym w.0) (long_of g a b h.bytes h.read h.size w.1)
+pub end_untaken : (g : Geometry) (a b : Option (List ℕ)) (shows : Image → Type 0) (f : PassFault) → IsReadTo g (row_count g) a b shows → (f ≡ fault.Source) ⊎ ((f ≡ fault.WrongLength) × HasMore b) → IfSome a (IsUntaken g f)
+end_untaken g a b shows f h (inl e) = subst (λ (x : PassFault). IfSome a (IsUntaken g x)) (sym e) (if_all a (IsUntaken g fault.Source) (λ bytes. tt))
+end_untaken g a b shows f h (inr w) = subst (λ (x : PassFault). IfSome a (IsUntaken g x)) (sym w.0) (long_of g a b h.bytes h.read h.size w.1)

@@ -14,7 +14,7 @@ use Rattle.page_layout.specs.Sound.{code_of, record_of, is_erased_page, Spells, 
 use Rattle.page_layout.proofs.RecordLemmas.{is_sound}
 use Rattle.lab_dump.specs.Look.{look_by, look_of}
 use Rattle.lab_dump.specs.declared.look.Look.{Look}
-use Rattle.lab_dump.specs.declared.told.Told.{Told}
+use Rattle.lab_dump.specs.declared.told.PagesTold.{PagesTold}
 use Rattle.lab_dump.specs.Pages.{page_at}
 use Rattle.lab_dump.specs.Sample.{look_at}
 use Rattle.lab_dump.specs.Told.{words_used, blocks_of, sectors_of, blocks_by, sectors_by, blocks_at, sectors_at, greatest, told_of, raised, most_by}
@@ -39,11 +39,11 @@ greatest_more : (f : ℕ → ℕ) (n : ℕ) → greatest f (n + 1) ≡ max (grea
 unfolding greatest
 greatest_more f n = let next : n + 1 ≡ suc n = omega arith in ap (greatest f) next
 
-pub told_none : (d s : ℕ) (all : List ℕ) (t : Told) → t ≡ record { blocks = 0; sectors = 0 } → t ≡ told_of d s 0 all
+pub told_none : (d s : ℕ) (all : List ℕ) (t : PagesTold) → t ≡ record { blocks = 0; sectors = 0 } → t ≡ told_of d s 0 all
 unfolding told_of greatest
 told_none d s all t e = e
 
-pub told_more : (d s row : ℕ) (all body : List ℕ) (t new : Told) (look : Look) → t ≡ told_of d s row all → look ≡ look_at d s all row → body ≡ (page_at d s all row).body → length body ≡ d
+pub told_more : (d s row : ℕ) (all body : List ℕ) (t new : PagesTold) (look : Look) → t ≡ told_of d s row all → look ≡ look_at d s all row → body ≡ (page_at d s all row).body → length body ≡ d
     → new ≡ raised t look body → new ≡ told_of d s (row + 1) all
 unfolding told_of
 told_more d s row all body t new look old is there size e =
@@ -75,7 +75,7 @@ sectors_most kind.Trim n entries = omega arith
 sectors_most kind.Translation n entries = omega arith
 sectors_most kind.Table n entries = omega arith
 
-told_kept : (a b : ℕ) (t : Told) → a ≤ t.blocks → b ≤ t.sectors → t ≡ record { blocks = max t.blocks a; sectors = max t.sectors b }
+told_kept : (a b : ℕ) (t : PagesTold) → a ≤ t.blocks → b ≤ t.sectors → t ≡ record { blocks = max t.blocks a; sectors = max t.sectors b }
 told_kept a b t x y =
     let first : t.blocks ≡ max t.blocks a = omega arith in
     let second : t.sectors ≡ max t.sectors b = omega arith in
@@ -86,7 +86,7 @@ says : (p : Page) (r : Record) → IsSound p r → Spells p.spare r
 says p r (inl x) = x.spells
 says p r (inr x) = x.spells
 
-pub told_same : (t : Told) (p : Page) (entries n code : ℕ) → entries ≡ length p.body / 4 → code ≡ slice_index p.spare 3 → n ≡ little_number 4 (slice_range p.spare 4 8)
+pub told_same : (t : PagesTold) (p : Page) (entries n code : ℕ) → entries ≡ length p.body / 4 → code ≡ slice_index p.spare 3 → n ≡ little_number 4 (slice_range p.spare 4 8)
     → (most_by code n entries).blocks ≤ t.blocks → (most_by code n entries).sectors ≤ t.sectors → t ≡ raised t (look_of p) p.body
 unfolding look_of
 told_same t p entries n code size code_is n_is blocks sectors = by_record (record_of p) refl

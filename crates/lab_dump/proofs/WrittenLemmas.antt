@@ -23,8 +23,8 @@ use Rattle.image_check.specs.Sector.{IsAmbiguous}
 use Rattle.lab_dump.specs.Scan.{IsTaken}
 use Rattle.lab_dump.specs.declared.held.Held.{Held}
 use Rattle.lab_dump.specs.declared.held.Held.TheVariants as held
-use Rattle.lab_dump.specs.declared.held.Shown.{Shown}
-use Rattle.lab_dump.specs.declared.held.Shown.TheVariants as shown
+use Rattle.lab_dump.specs.declared.held.SectorShown.{SectorShown}
+use Rattle.lab_dump.specs.declared.held.SectorShown.TheVariants as shown
 use Rattle.lab_dump.specs.Held.{Tells, TellsBy, TellsSaid, TellsSound, shown_by, shown_in, shown_with}
 use Rattle.lab_dump.specs.declared.doubting.Doubting.{Doubting}
 use Rattle.lab_dump.specs.declared.doubts.Unsettled.{Unsettled}
@@ -94,7 +94,7 @@ told_by h l d None t = told_sound h l t
 told_by h l d (Some row) t = told_said h d t
 
 -- what is held of each sector says how it is shown
-all_told : (g : Geometry) (f : ℕ → Shown) (hs : List Held) → length hs ≡ g.sectors → ((n : ℕ) → n < g.sectors → shown_in (get_or hs n held.Never) ≡ f n) → map shown_in hs ≡ map f (range_with_len 0 g.sectors)
+all_told : (g : Geometry) (f : ℕ → SectorShown) (hs : List Held) → length hs ≡ g.sectors → ((n : ℕ) → n < g.sectors → shown_in (get_or hs n held.Never) ≡ f n) → map shown_in hs ≡ map f (range_with_len 0 g.sectors)
 all_told g f hs few told = same_lists (map shown_in hs) (map f (range_with_len 0 g.sectors)) (length-map hs shown_in ∙ (few ∙ sym (length-map-range_with_len f 0 g.sectors))) (λ n d l.
     let inside : n < length hs = omega (arith, length-map hs shown_in) in
     let within : n < g.sectors = omega arith in

@@ -4,8 +4,8 @@ use Rattle.page_layout.specs.declared.geometry.Geometry.{Geometry}
 use Rattle.page_layout.specs.Raw.{raw_image}
 use Rattle.certificate.specs.Claim.{Claim}
 use Rattle.lab_dump.specs.Scan.{image_bytes}
-use Rattle.lab_dump.specs.declared.pass.ScanFault.{ScanFault}
-use Rattle.lab_dump.specs.declared.pass.ScanFault.TheVariants as scan
+use Rattle.lab_dump.specs.declared.pass.PassFault.{PassFault}
+use Rattle.lab_dump.specs.declared.pass.PassFault.TheVariants as scan
 use Rattle.lab_dump.specs.Doubts.{doubts_of, legible_of}
 use Rattle.lab_dump.specs.Said.{said_of}
 use Rattle.lab_dump.specs.declared.compare.Compared.{Compared}
@@ -22,7 +22,7 @@ pub record IsComparedTo (g : Geometry) (c : Claim) (told : Compared) (bytes : Li
   pub doubts_is : told.left.doubts ≡ doubts_of g (raw_image g bytes)
 
 -- the fault for that of a pass: what takes the pages never stops
-abbrev pub fault_of : ScanFault → CompareFault
+abbrev pub fault_of : PassFault → CompareFault
 fault_of scan.WrongLength = fault.WrongLength
 fault_of scan.Source = fault.Source
 fault_of scan.Stopped = fault.Source

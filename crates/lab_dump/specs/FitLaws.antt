@@ -14,7 +14,7 @@ use Rattle.page_layout.specs.Raw.{raw_image}
 use Rattle.bad_blocks.specs.TablePage.{IsWellFormed}
 use Rattle.lab_dump.specs.declared.look.Look.TheVariants.{Sound}
 use Rattle.lab_dump.specs.declared.fit.Fit.{Fit}
-use Rattle.lab_dump.specs.declared.told.Told.{Told}
+use Rattle.lab_dump.specs.declared.told.PagesTold.{PagesTold}
 use Rattle.lab_dump.specs.Pages.{page_at}
 use Rattle.lab_dump.specs.Sample.{looked_count, looked_row, look_at, is_sound, sample_of}
 use Rattle.lab_dump.specs.Told.{blocks_of, greatest, told_of}
@@ -92,7 +92,7 @@ GreatestLaw = (f : ℕ → ℕ) (rows : ℕ) → ((row : ℕ) → row < rows →
 
 -- What is told has room for what this is a page of, where a page has so many entries: for its sector, for the first sector of its translation
 -- page, or for the blocks before its table page.
-abbrev pub IsWithin : Key → ℕ → Told → Type 0
+abbrev pub IsWithin : Key → ℕ → PagesTold → Type 0
 IsWithin (Sector n) entries t = n < t.sectors
 IsWithin (Translation n) entries t = n * entries < t.sectors
 IsWithin (Table u) entries t = u * entries ≤ t.blocks

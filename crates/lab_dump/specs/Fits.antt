@@ -8,7 +8,7 @@ use Rattle.lab_dump.specs.declared.fit.Fit.{Fit}
 use Rattle.lab_dump.specs.declared.fit.TableSays.{TableSays}
 use Rattle.lab_dump.specs.declared.fit.TableSays.TheVariants.{Agrees, Short, Silent, Differs}
 use Rattle.lab_dump.specs.declared.sample.Sample.{Sample}
-use Rattle.lab_dump.specs.declared.told.Told.{Told}
+use Rattle.lab_dump.specs.declared.told.PagesTold.{PagesTold}
 use Rattle.lab_dump.specs.Sample.{sample_of}
 use Rattle.lab_dump.specs.Told.{told_of}
 use Rattle.lab_dump.specs.Shape.{data_sizes, page_counts, rows_of, is_shape, has_shape}
@@ -28,7 +28,7 @@ abbrev pub sectors_from : ℕ → ℕ
 sectors_from told = min (max told 1) 1048576
 
 -- a geometry with what the dump says for it
-abbrev pub fit_of : ℕ → ℕ → ℕ → ℕ → Sample → Told → Fit
+abbrev pub fit_of : ℕ → ℕ → ℕ → ℕ → Sample → PagesTold → Fit
 fit_of data_bytes spare_bytes pages blocks sample told = record {
   sound = record { 0 = sample.sound };
   table = table_says blocks told.blocks;
@@ -48,7 +48,7 @@ fit_of data_bytes spare_bytes pages blocks sample told = record {
 -- ---- all that fit
 
 -- the one with such areas and so many pages in a block, if so many bytes are whole blocks of it
-abbrev pub shape_fits : ℕ → ℕ → ℕ → Sample → Told → ℕ → List Fit
+abbrev pub shape_fits : ℕ → ℕ → ℕ → Sample → PagesTold → ℕ → List Fit
 shape_fits size data_bytes spare_bytes sample told pages =
     if is_shape size data_bytes spare_bytes pages then fit_of data_bytes spare_bytes pages (rows_of size data_bytes spare_bytes / pages) sample told ∷ [] else []
 

@@ -5,12 +5,12 @@ use Rattle.page_layout.specs.declared.newest.Latest.{Latest}
 use Rattle.page_layout.specs.declared.newest.Latest.TheVariants as latest
 use Rattle.lab_dump.specs.declared.held.Held.{Held}
 use Rattle.lab_dump.specs.declared.held.Held.TheVariants as held
-use Rattle.lab_dump.specs.declared.held.State.{State}
-use Rattle.lab_dump.specs.declared.held.State.TheVariants as state
-use Rattle.lab_dump.specs.declared.mark.Mark.{Mark}
-use Rattle.lab_dump.specs.declared.mark.Mark.TheVariants as mark
-use Rattle.lab_dump.specs.declared.held.Shown.{Shown}
-use Rattle.lab_dump.specs.declared.held.Shown.TheVariants as shown
+use Rattle.lab_dump.specs.declared.held.KeyState.{KeyState}
+use Rattle.lab_dump.specs.declared.held.KeyState.TheVariants as state
+use Rattle.lab_dump.specs.declared.mark.MapMark.{MapMark}
+use Rattle.lab_dump.specs.declared.mark.MapMark.TheVariants as mark
+use Rattle.lab_dump.specs.declared.held.SectorShown.{SectorShown}
+use Rattle.lab_dump.specs.declared.held.SectorShown.TheVariants as shown
 use Rattle.lab_dump.specs.declared.held.Change.{Change}
 use Rattle.lab_dump.specs.declared.held.Change.TheVariants.{Stays, Newest, Tie}
 use Rattle.lab_dump.specs.Damaged.{Place, Nowhere, over}
@@ -56,46 +56,46 @@ pieces_after Newest n bytes blank pieces = option_map (λ ps. set ps n bytes) pi
 pieces_after Tie n bytes blank pieces = option_map (λ ps. set ps n blank) pieces
 
 -- how a sector is shown of which this is known
-abbrev pub shown_in : Held → Shown
+abbrev pub shown_in : Held → SectorShown
 shown_in held.Never = shown.Absent
 shown_in (held.Once kept) = shown.Found
 shown_in (held.Tied kept) = shown.Tied
 shown_in (held.Damaged kept) = shown.Damaged
 
 -- how the array's map marks it: finished, bad or not tried
-abbrev pub mark_by : Shown → Mark
+abbrev pub mark_by : SectorShown → MapMark
 mark_by shown.Absent = mark.Untried
 mark_by shown.Found = mark.Finished
 mark_by shown.Tied = mark.Bad
 mark_by shown.Damaged = mark.Bad
 
-abbrev pub mark_in : Held → Mark
+abbrev pub mark_in : Held → MapMark
 mark_in h = mark_by (shown_in h)
 
 -- whether as a page has it that is not sound
-abbrev pub is_damaged : Shown → Bool
+abbrev pub is_damaged : SectorShown → Bool
 is_damaged shown.Absent = false
 is_damaged shown.Found = false
 is_damaged shown.Tied = false
 is_damaged shown.Damaged = true
 
 -- how many sectors are shown so
-unfoldable pub damaged_of : List Shown → ℕ
+unfoldable pub damaged_of : List SectorShown → ℕ
 damaged_of states = count_by is_damaged states
 
 -- how it is shown by its sound pages alone
-abbrev pub shown_by : Latest → Shown
+abbrev pub shown_by : Latest → SectorShown
 shown_by latest.Never = shown.Absent
 shown_by (latest.Once row s) = shown.Found
 shown_by (latest.Tied a b s) = shown.Tied
 
 -- how it is shown where this is the row of a page that is not sound, if one is newer
-abbrev pub shown_with : (damaged : Option ℕ) → Latest → Shown
+abbrev pub shown_with : (damaged : Option ℕ) → Latest → SectorShown
 shown_with (Some row) sound = shown.Damaged
 shown_with None sound = shown_by sound
 
 -- how a key stands
-abbrev pub state_by : Latest → State
+abbrev pub state_by : Latest → KeyState
 state_by latest.Never = state.Absent
 state_by (latest.Once row s) = state.Found
 state_by (latest.Tied a b s) = state.Tied

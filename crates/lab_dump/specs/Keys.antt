@@ -9,11 +9,11 @@ use Rattle.page_layout.specs.Greatest.{place_of}
 use Rattle.page_layout.specs.Newest.{latest_below}
 use Rattle.page_layout.specs.Array.{marks}
 use Rattle.bad_blocks.specs.TablePage.{IsWellFormed}
-use Rattle.lab_dump.specs.declared.held.State.{State}
+use Rattle.lab_dump.specs.declared.held.KeyState.{KeyState}
 use Rattle.lab_dump.specs.Held.{state_by}
 
 -- how a key stands
-unfoldable pub key_state : Image → Key → State
+unfoldable pub key_state : Image → Key → KeyState
 key_state image key = state_by (latest_below (marks image) key (length image))
 
 -- of each table page that has a newest page among the first rows whether that is well formed

@@ -7,8 +7,8 @@ use Rattle.page_layout.specs.Page.{Image}
 use Rattle.page_layout.specs.Raw.{raw_image}
 use Rattle.lab_dump.specs.declared.pass.Cut.{Cut}
 use Rattle.lab_dump.specs.declared.pass.Cut.TheVariants.{Ended, Failed}
-use Rattle.lab_dump.specs.declared.pass.ScanFault.{ScanFault}
-use Rattle.lab_dump.specs.declared.pass.ScanFault.TheVariants as fault
+use Rattle.lab_dump.specs.declared.pass.PassFault.{PassFault}
+use Rattle.lab_dump.specs.declared.pass.PassFault.TheVariants as fault
 
 -- as many bytes as the die's pages have
 abbrev pub image_bytes : Geometry → ℕ
@@ -20,7 +20,7 @@ EndsAs Ended after = IsAtEnd after
 EndsAs Failed after = Unit {0}
 
 -- the fault for a cut
-abbrev pub fault_of : Cut → ScanFault
+abbrev pub fault_of : Cut → PassFault
 fault_of Ended = fault.WrongLength
 fault_of Failed = fault.Source
 
@@ -48,7 +48,7 @@ pub record IsTaken (g : Geometry) (shows : Image → Type 0) (bytes : List ℕ) 
   pub shown : shows (raw_image g bytes)
 
 -- Why a dump of these bytes was not taken: they are not as many as an image has, a read failed, or the taker stopped.
-abbrev pub IsUntaken : Geometry → ScanFault → List ℕ → Type 0
+abbrev pub IsUntaken : Geometry → PassFault → List ℕ → Type 0
 IsUntaken g fault.WrongLength bytes = ¬ (length bytes ≡ image_bytes g)
 IsUntaken g fault.Source bytes = Unit {0}
 IsUntaken g fault.Stopped bytes = Unit {0}

@@ -21,9 +21,9 @@ use Rattle.image_check.specs.Survey.{index_of}
 use Rattle.lab_dump.specs.Scan.{image_bytes}
 use Rattle.lab_dump.specs.Rows.{within}
 use Rattle.lab_dump.specs.declared.rows.Rows.{Rows}
-use Rattle.lab_dump.specs.declared.pass.ScanFault.{ScanFault}
-use Rattle.lab_dump.specs.declared.pass.ScanFault.TheVariants as scan
-use Rattle.lab_dump.specs.declared.held.State.TheVariants as state
+use Rattle.lab_dump.specs.declared.pass.PassFault.{PassFault}
+use Rattle.lab_dump.specs.declared.pass.PassFault.TheVariants as scan
+use Rattle.lab_dump.specs.declared.held.KeyState.TheVariants as state
 use Rattle.lab_dump.specs.declared.survey.SurveyFault.{SurveyFault}
 use Rattle.lab_dump.specs.declared.survey.SurveyFault.TheVariants as fault
 use Rattle.lab_dump.specs.declared.survey.DieSurvey.{DieSurvey}
@@ -82,7 +82,7 @@ pub record IsWhole (g : Geometry) (s : DieSurvey) : Type 0 where
 
 -- ---- why there is none
 
-abbrev pub fault_of : ScanFault → SurveyFault
+abbrev pub fault_of : PassFault → SurveyFault
 fault_of scan.WrongLength = fault.WrongLength
 fault_of scan.Source = fault.Source
 fault_of scan.Stopped = fault.Source

@@ -6,7 +6,7 @@ use Rattle.page_layout.specs.declared.record.Kind.TheVariants as kind
 use Rattle.page_layout.specs.Word.{word_at}
 use Rattle.lab_dump.specs.declared.look.Look.{Look}
 use Rattle.lab_dump.specs.declared.look.Look.TheVariants.{Sound, Erased, Unsound}
-use Rattle.lab_dump.specs.declared.told.Told.{Told}
+use Rattle.lab_dump.specs.declared.told.PagesTold.{PagesTold}
 use Rattle.lab_dump.specs.Pages.{page_at}
 use Rattle.lab_dump.specs.Sample.{look_at}
 
@@ -54,21 +54,21 @@ greatest f zero = 0
 greatest f (suc rows) = max (greatest f rows) (f rows)
 
 -- what the pages of so many rows tell together
-unfoldable pub told_of : ℕ → ℕ → ℕ → List ℕ → Told
+unfoldable pub told_of : ℕ → ℕ → ℕ → List ℕ → PagesTold
 told_of data_bytes spare_bytes rows all = record {
   blocks = greatest (blocks_at data_bytes spare_bytes all) rows;
   sectors = greatest (sectors_at data_bytes spare_bytes all) rows;
 }
 
 -- what is told, with what one page more tells
-abbrev pub raised : Told → Look → List ℕ → Told
+abbrev pub raised : PagesTold → Look → List ℕ → PagesTold
 raised t look body = record {
   blocks = max t.blocks (blocks_by look body);
   sectors = max t.sectors (sectors_by look (length body / 4));
 }
 
 -- the most that a page can tell whose spare bytes name a kind by this code, and this number
-abbrev pub most_by : ℕ → ℕ → ℕ → Told
+abbrev pub most_by : ℕ → ℕ → ℕ → PagesTold
 most_by code n entries =
     if code == 4 then record { blocks = (n + 1) * entries; sectors = 0 } else (
     if code == 3 then record { blocks = 0; sectors = n * entries + 1 } else (

@@ -5,8 +5,8 @@ use Rattle.page_layout.specs.declared.newest.Latest.{Latest}
 use Rattle.page_layout.specs.declared.newest.Latest.TheVariants as latest
 use Rattle.lab_dump.specs.declared.trace.Trace.{Trace}
 use Rattle.lab_dump.specs.declared.trace.Trace.TheVariants.{Never, Once, Tied}
-use Rattle.lab_dump.specs.declared.held.State.{State}
-use Rattle.lab_dump.specs.declared.held.State.TheVariants as state
+use Rattle.lab_dump.specs.declared.held.KeyState.{KeyState}
+use Rattle.lab_dump.specs.declared.held.KeyState.TheVariants as state
 use Rattle.lab_dump.specs.Lost.{is_there}
 
 -- it says as much, but for the rows of a tie
@@ -41,7 +41,7 @@ is_tied_in (Once row kept) = false
 is_tied_in (Tied kept) = true
 
 -- how the key stands
-abbrev pub state_in : Trace → State
+abbrev pub state_in : Trace → KeyState
 state_in Never = state.Absent
 state_in (Once row kept) = state.Found
 state_in (Tied kept) = state.Tied

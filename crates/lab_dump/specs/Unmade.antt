@@ -2,13 +2,13 @@
 use Rattle.std.specs.Prelude.{◌≡◌, ℕ, List, length}
 use Rattle.page_layout.specs.declared.geometry.Geometry.{Geometry}
 use Rattle.lab_dump.specs.Scan.{image_bytes}
-use Rattle.lab_dump.specs.declared.pass.ScanFault.{ScanFault}
-use Rattle.lab_dump.specs.declared.pass.ScanFault.TheVariants as scan
+use Rattle.lab_dump.specs.declared.pass.PassFault.{PassFault}
+use Rattle.lab_dump.specs.declared.pass.PassFault.TheVariants as scan
 use Rattle.lab_dump.specs.declared.make_fault.MakeFault.{MakeFault}
 use Rattle.lab_dump.specs.declared.make_fault.MakeFault.TheVariants as fault
 
 -- the fault for that of a pass
-abbrev pub fault_of : ScanFault → MakeFault
+abbrev pub fault_of : PassFault → MakeFault
 fault_of scan.WrongLength = fault.WrongLength
 fault_of scan.Source = fault.Source
 fault_of scan.Stopped = fault.Target

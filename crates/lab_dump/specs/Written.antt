@@ -10,8 +10,8 @@ use Rattle.page_layout.specs.Array.{marks}
 use Rattle.image_check.specs.Sector.{IsAmbiguous}
 use Rattle.lab_dump.specs.Scan.{image_bytes}
 use Rattle.lab_dump.specs.declared.held.Held.{Held}
-use Rattle.lab_dump.specs.declared.held.Shown.{Shown}
-use Rattle.lab_dump.specs.declared.held.Shown.TheVariants as shown
+use Rattle.lab_dump.specs.declared.held.SectorShown.{SectorShown}
+use Rattle.lab_dump.specs.declared.held.SectorShown.TheVariants as shown
 use Rattle.lab_dump.specs.Held.{shown_by, shown_in, shown_with}
 use Rattle.lab_dump.specs.declared.doubts.Unsettled.{Unsettled}
 use Rattle.lab_dump.specs.Doubts.{doubts_of, legible_of}
@@ -20,24 +20,24 @@ use Rattle.lab_dump.specs.Until.{until}
 use Rattle.lab_dump.specs.Damaged.{IsSaidNewer, array_with, over, said_marks}
 
 -- how sector n stands: with no sound page, with a newest one, or with two that share its greatest sequence
-unfoldable pub state_of : Image → ℕ → Shown
+unfoldable pub state_of : Image → ℕ → SectorShown
 state_of image n = shown_by (latest_below (marks image) (Sector n) (length image))
 
 -- how each sector stands, in order
-unfoldable pub states_of : Geometry → Image → List Shown
+unfoldable pub states_of : Geometry → Image → List SectorShown
 states_of g image = map (state_of image) (range_with_len 0 g.sectors)
 
 -- the same with pages shown that are not sound
 -- Law: a sector is shown so just where such a page is newer than each sound one (`MarkedLaw`).
-unfoldable pub damaged_state : Geometry → Option ℕ → Image → ℕ → Shown
+unfoldable pub damaged_state : Geometry → Option ℕ → Image → ℕ → SectorShown
 damaged_state g last image n =
     shown_with (over (latest_below (marks (until g last image)) (Sector n) (length image)) (latest_below (said_marks g last image) (Sector n) (length image))) (latest_below (marks (until g last image)) (Sector n) (length image))
 
-unfoldable pub damaged_states : Geometry → Option ℕ → Image → List Shown
+unfoldable pub damaged_states : Geometry → Option ℕ → Image → List SectorShown
 damaged_states g last image = map (damaged_state g last image) (range_with_len 0 g.sectors)
 
 -- how each sector is shown, with such pages or without
-abbrev pub states_with : Geometry → Option ℕ → (damaged : Bool) → Image → List Shown
+abbrev pub states_with : Geometry → Option ℕ → (damaged : Bool) → Image → List SectorShown
 states_with g last true image = damaged_states g last image
 states_with g last false image = states_of g (until g last image)
 

@@ -2,7 +2,7 @@
 ghost use Rattle.std.specs.Prelude.{◌≡◌, ◌+◌, ◌-◌, ◌*◌, ◌<◌, ◌≤◌};
 ghost use Rattle.lab_dump.specs.Map.{status_words};
 
-use crate::mark::Mark;
+use crate::mark::MapMark;
 use page_layout::geometry::Geometry;
 use std::fmt;
 
@@ -14,18 +14,18 @@ pub struct Area {
     /// How many bytes it has.
     pub size: u64,
     /// How it is marked.
-    pub mark: Mark,
+    pub mark: MapMark,
 }
 
 // The character of a mark: finished, not trimmed, a bad sector, not tried.
-fn status_text(mark: Mark) -> &'static str
+fn status_text(mark: MapMark) -> &'static str
     ensures { result.now ≡ status_words mark }
 {
     match mark {
-        Mark::Finished => "+",
-        Mark::Mended => "*",
-        Mark::Bad => "-",
-        Mark::Untried => "?",
+        MapMark::Finished => "+",
+        MapMark::Mended => "*",
+        MapMark::Bad => "-",
+        MapMark::Untried => "?",
     }
 }
 
@@ -51,7 +51,7 @@ fn bytes_of(geometry: &Geometry, sectors: u32) -> u64
 }
 
 /// The area from one sector to another one.
-pub(crate) fn area_between(geometry: &Geometry, first: u32, last: u32, mark: Mark) -> Area
+pub(crate) fn area_between(geometry: &Geometry, first: u32, last: u32, mark: MapMark) -> Area
     requires within { last < geometry.now.sectors }
     requires rising { first ≤ last }
     ensures position { result.position ≡ first * geometry.now.data_bytes }

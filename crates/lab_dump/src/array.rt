@@ -22,7 +22,7 @@ use std::alloc::{AllocError, Global};
 
 /// What was written, and what is to be told of it.
 #[derive(Drop)]
-pub struct Written<T> {
+pub struct ArrayWritten<T> {
     /// What is held of each sector.
     pub held: Vec<Held>,
     /// What the dump leaves open, over all sequences.
@@ -82,7 +82,7 @@ pub fn tied_law()
 {}
 
 // What is to be told once all pages were taken.
-fn conclude<T>(geometry: &Geometry, writing: Writing<T>) -> Written<T>
+fn conclude<T>(geometry: &Geometry, writing: Writing<T>) -> ArrayWritten<T>
     requires { Stands geometry.now (row_count geometry.now) writing.doubting }
     ensures held { result.held.items ≡ writing.held.items }
     ensures target { result.target ≡ writing.target }
@@ -95,7 +95,7 @@ fn conclude<T>(geometry: &Geometry, writing: Writing<T>) -> Written<T>
         legible: doubting.legible,
         said: doubting.said,
     };
-    Written {
+    ArrayWritten {
         held: writing.held,
         left,
         target: writing.target,
@@ -122,7 +122,7 @@ pub fn write_array<R: DumpReader, T: Target + Drop>(
     geometry: &Geometry,
     until: Option<u64>,
     target: T,
-) -> Result<Written<T>, Unwritten<T>>
+) -> Result<ArrayWritten<T>, Unwritten<T>>
     requires room { IsArrayRoom geometry.now room }
     requires pieces { IfSome (T.pieces target) (λ ps. ps ≡ replicate geometry.now.sectors (zeros geometry.now)) }
     ensures ok { IfOk result (λ written. IfSome (R.remaining reader.old) (IsWritten geometry.now until false (T.pieces written.target) written.held.items written.left)) }
@@ -163,7 +163,7 @@ pub fn write_damaged<R: DumpReader, T: DamagedTarget + Drop>(
     geometry: &Geometry,
     until: Option<u64>,
     target: T,
-) -> Result<Written<T>, Unwritten<T>>
+) -> Result<ArrayWritten<T>, Unwritten<T>>
     requires room { IsArrayRoom geometry.now room }
     requires pieces { IfSome (T.pieces target) (λ ps. ps ≡ replicate geometry.now.sectors (zeros geometry.now)) }
     ensures ok { IfOk result (λ written. IfSome (R.remaining reader.old) (IsWritten geometry.now until true (T.pieces written.target) written.held.items written.left)) }

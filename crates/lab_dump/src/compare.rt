@@ -9,7 +9,7 @@ ghost use Rattle.lab_dump.specs.Rooms.{IsCompareRoom};
 use crate::doubting::Doubting;
 use crate::doubts::Unsettled;
 use crate::dump::DumpReader;
-use crate::pass::{ScanFault, scan};
+use crate::pass::{PassFault, scan};
 use crate::trace::Trace;
 use certificate::Certificate;
 use page_layout::geometry::Geometry;
@@ -30,15 +30,15 @@ pub enum CompareFault {
     Source,
 }
 
-impl From<ScanFault> for CompareFault {
+impl From<PassFault> for CompareFault {
     ghost use Rattle.lab_dump.specs.Compared.{fault_of};
 
     ghost from_gives = { λ scan fault. fault ≡ fault_of scan };
 
-    fn from(fault: ScanFault) -> CompareFault {
+    fn from(fault: PassFault) -> CompareFault {
         match fault {
-            ScanFault::WrongLength => CompareFault::WrongLength,
-            ScanFault::Source | ScanFault::Stopped => CompareFault::Source,
+            PassFault::WrongLength => CompareFault::WrongLength,
+            PassFault::Source | PassFault::Stopped => CompareFault::Source,
         }
     }
 }

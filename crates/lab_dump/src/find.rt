@@ -11,7 +11,7 @@ use crate::dump::{Dump, DumpFault};
 use crate::fit::{Fit, fit_of};
 use crate::sample::{Sample, take_sample};
 use crate::shape::{data_sizes, first_shape, page_counts, shape};
-use crate::told::{Told, read_told};
+use crate::told::{PagesTold, read_told};
 use std::alloc::{AllocError, Global};
 
 // The most bytes that a page may have.
@@ -55,7 +55,7 @@ fn add_shape(
     spare_bytes: u32,
     pages: u32,
     sample: Sample,
-    told: Told,
+    told: PagesTold,
 )
     requires data_size { IsDataSize data_bytes }
     requires spare_size { IsSpareSize spare_bytes }
@@ -81,7 +81,7 @@ pub fn add_shapes(
     data_bytes: u32,
     spare_bytes: u32,
     sample: Sample,
-    told: Told,
+    told: PagesTold,
 )
     requires data_size { IsDataSize data_bytes }
     requires spare_size { IsSpareSize spare_bytes }

@@ -3,7 +3,7 @@ ghost use Rattle.std.specs.Prelude.{◌≡◌, ◌≤◌};
 ghost use Rattle.lab_dump.specs.Fits.{fit_of, missing_pages, table_says, sectors_from};
 
 use crate::sample::Sample;
-use crate::told::Told;
+use crate::told::PagesTold;
 use page_layout::geometry::Geometry;
 use std::cmp::Reverse;
 
@@ -84,7 +84,7 @@ fn sectors_from(told: u64) -> u32
 }
 
 /// A geometry, with what the dump says for it by a sample of its pages and by what all of them tell. Its sectors are the fewest that are told. (This project's.)
-pub fn fit_of(geometry: &Geometry, sample: Sample, told: Told) -> Fit
+pub fn fit_of(geometry: &Geometry, sample: Sample, told: PagesTold) -> Fit
     ensures { result ≡ fit_of geometry.now.data_bytes geometry.now.spare_bytes geometry.now.pages geometry.now.blocks sample told }
 {
     let data_bytes = geometry.data_bytes() as u32;

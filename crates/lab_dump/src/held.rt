@@ -5,7 +5,7 @@ ghost use Rattle.page_layout.specs.declared.newest.Latest.{Latest};
 ghost use Rattle.lab_dump.specs.Damaged.{Broken, Whole, place_by};
 ghost use Rattle.lab_dump.specs.Held.{Moves, Tells, damaged_of, greatest_in, is_damaged, mark_in, shown_in};
 
-use crate::mark::{Mark, Marked};
+use crate::mark::{MapMark, Marked};
 
 /// What is known of the page that a sector is shown from once some rows were looked at: what `Latest` says but for the rows.
 #[derive(Clone, Copy, Debug, PartialEq, Eq)]
@@ -22,7 +22,7 @@ pub enum Held {
 
 /// How a sector is shown in an array.
 #[derive(Clone, Copy, Debug, PartialEq, Eq)]
-pub enum Shown {
+pub enum SectorShown {
     /// It has no sound page.
     Absent,
     /// As its newest page has it.
@@ -35,7 +35,7 @@ pub enum Shown {
 
 /// How a sector, or another key, stands in an image.
 #[derive(Clone, Copy, Debug, PartialEq, Eq)]
-pub enum State {
+pub enum KeyState {
     /// It has no sound page.
     Absent,
     /// It has a newest page.
@@ -149,18 +149,18 @@ impl Held {
     fn is_damaged(self) -> bool
         ensures { result ≡ is_damaged (shown_in self) }
     {
-        self.shown() == Shown::Damaged
+        self.shown() == SectorShown::Damaged
     }
 
     /// How the sector is shown.
-    pub fn shown(self) -> Shown
+    pub fn shown(self) -> SectorShown
         ensures { result ≡ shown_in self }
     {
         match self {
-            Held::Never => Shown::Absent,
-            Held::Once(_) => Shown::Found,
-            Held::Tied(_) => Shown::Tied,
-            Held::Damaged(_) => Shown::Damaged,
+            Held::Never => SectorShown::Absent,
+            Held::Once(_) => SectorShown::Found,
+            Held::Tied(_) => SectorShown::Tied,
+            Held::Damaged(_) => SectorShown::Damaged,
         }
     }
 }
@@ -169,11 +169,11 @@ impl Held {
 impl Marked for Held {
     ghost marked = { mark_in };
 
-    fn mark(&self) -> Mark {
+    fn mark(&self) -> MapMark {
         match self.shown() {
-            Shown::Absent => Mark::Untried,
-            Shown::Found => Mark::Finished,
-            Shown::Tied | Shown::Damaged => Mark::Bad,
+            SectorShown::Absent => MapMark::Untried,
+            SectorShown::Found => MapMark::Finished,
+            SectorShown::Tied | SectorShown::Damaged => MapMark::Bad,
         }
     }
 }

@@ -56,7 +56,7 @@ mod until;
 mod writing;
 
 pub use area::Area;
-pub use array::{ArrayRoom, Unwritten, Written, write_array, write_damaged};
+pub use array::{ArrayRoom, ArrayWritten, Unwritten, write_array, write_damaged};
 pub use compare::{CompareFault, CompareRoom, Compared, compare_dump};
 pub use counts::{PageCounts, sorts_law};
 pub use damaged::damaged_laws;
@@ -64,7 +64,7 @@ pub use doubts::{Doubts, Unsettled};
 pub use dump::{Dump, DumpFault, DumpReader};
 pub use find::{FitRoom, add_shapes, find_geometries};
 pub use fit::{Fit, TableSays, fit_of};
-pub use held::{Held, Shown, State, damaged_count};
+pub use held::{Held, KeyState, SectorShown, damaged_count};
 pub use history::{History, HistoryRoom, SectorPage, Wrote, history_laws, survey_sector};
 pub use laws::{
     areas_law, bad_block_laws, bound_laws, fit_laws, hole_laws, looked_laws, lost_law,
@@ -75,10 +75,10 @@ pub use make_fault::MakeFault;
 pub use map::print_map;
 pub use map_head::{Remark, print_map_head};
 pub use map_writer::{LineFault, MapWriter};
-pub use mark::{Mark, Marked};
+pub use mark::{MapMark, Marked};
 pub use nearest::{Legible, NearestRoom, find_nearest, nearest_laws};
 pub use page_bytes::{is_broken, is_sound, join_page};
-pub use pass::{Cut, ScanFault, Stopped, Taker, expect_end, fill, scan, scan_rows};
+pub use pass::{Cut, PassFault, Stopped, Taker, expect_end, fill, scan, scan_rows};
 pub use row_page::look_in;
 pub use rows::{Rows, asked_law, each_law, is_asked, within_law};
 pub use said::{SaidPage, said_laws};
@@ -86,6 +86,6 @@ pub use sample::{Sample, looked_count, looked_row};
 pub use shape::{data_sizes, first_shape, page_counts};
 pub use survey::{DieSurvey, SurveyFault, SurveyRoom, mounts_law, survey_dump};
 pub use target::{DamagedTarget, PageTarget, Pieces, Target, TargetFault};
-pub use told::Told;
+pub use told::PagesTold;
 pub use until::until_laws;
 pub use writing::Writing;

@@ -1,7 +1,7 @@
 //! Why no file was made of a dump.
 ghost use Rattle.std.specs.Prelude.{◌≡◌};
 
-use crate::pass::ScanFault;
+use crate::pass::PassFault;
 use thiserror::Error;
 
 /// Why no file of sectors or of pages was made of a dump.
@@ -18,16 +18,16 @@ pub enum MakeFault {
     Target,
 }
 
-impl From<ScanFault> for MakeFault {
+impl From<PassFault> for MakeFault {
     ghost use Rattle.lab_dump.specs.Unmade.{fault_of};
 
     ghost from_gives = { λ scan fault. fault ≡ fault_of scan };
 
-    fn from(fault: ScanFault) -> MakeFault {
+    fn from(fault: PassFault) -> MakeFault {
         match fault {
-            ScanFault::WrongLength => MakeFault::WrongLength,
-            ScanFault::Source => MakeFault::Source,
-            ScanFault::Stopped => MakeFault::Target,
+            PassFault::WrongLength => MakeFault::WrongLength,
+            PassFault::Source => MakeFault::Source,
+            PassFault::Stopped => MakeFault::Target,
         }
     }
 }

@@ -6,26 +6,26 @@ ghost use Rattle.lab_dump.specs.Map.{area_line, area_words, areas_below, ends_at
 use crate::area::{Area, area_between};
 use crate::map_head::{Remark, print_map_head};
 use crate::map_writer::{LineFault, MapWriter};
-use crate::mark::{Mark, Marked};
+use crate::mark::{MapMark, Marked};
 use page_layout::geometry::Geometry;
 
 // How a sector is marked.
-fn mark_at<M: Marked>(sectors: &[M], sector: usize) -> Mark
+fn mark_at<M: Marked>(sectors: &[M], sector: usize) -> MapMark
     requires { sector < length sectors.now }
-    ensures { result ≡ get_or (map M.marked sectors.now) sector Mark.Untried }
+    ensures { result ≡ get_or (map M.marked sectors.now) sector MapMark.Untried }
 {
     sectors[sector].mark()
 }
 
 // Whether two sectors that are marked so are marked alike.
-fn is_like(mark: Mark, next: Mark) -> bool
+fn is_like(mark: MapMark, next: MapMark) -> bool
     ensures { result ≡ is_like mark next }
 {
     match (mark, next) {
-        (Mark::Untried, Mark::Untried)
-        | (Mark::Finished, Mark::Finished)
-        | (Mark::Mended, Mark::Mended)
-        | (Mark::Bad, Mark::Bad) => true,
+        (MapMark::Untried, MapMark::Untried)
+        | (MapMark::Finished, MapMark::Finished)
+        | (MapMark::Mended, MapMark::Mended)
+        | (MapMark::Bad, MapMark::Bad) => true,
         _ => false,
     }
 }

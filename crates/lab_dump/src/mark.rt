@@ -2,7 +2,7 @@
 
 /// How a map marks a part, by its character.
 #[derive(Clone, Copy, Debug, PartialEq, Eq)]
-pub enum Mark {
+pub enum MapMark {
     /// Nothing was found of it: `?`.
     Untried,
     /// It was found: `+`.
@@ -16,21 +16,21 @@ pub enum Mark {
 /// What a map marks. (This project's.)
 pub trait Marked {
     ghost use Rattle.std.specs.Prelude.{◌≡◌};
-    ghost use Rattle.lab_dump.specs.declared.mark.Mark.{Mark};
+    ghost use Rattle.lab_dump.specs.declared.mark.MapMark.{MapMark};
 
     /// How a map marks it.
-    ghost marked: { Self → Mark };
+    ghost marked: { Self → MapMark };
 
     /// How a map marks it.
-    fn mark(&self) -> Mark
+    fn mark(&self) -> MapMark
         ensures { result ≡ marked self.now };
 }
 
 /// A mark itself.
-impl Marked for Mark {
+impl Marked for MapMark {
     ghost marked = { λ mark. mark };
 
-    fn mark(&self) -> Mark {
+    fn mark(&self) -> MapMark {
         *self
     }
 }

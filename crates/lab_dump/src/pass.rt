@@ -6,7 +6,7 @@ ghost use Rattle.page_layout.specs.Page.{Image};
 ghost use Rattle.lab_dump.specs.Rows.{within};
 ghost use Rattle.lab_dump.specs.Scan.{HasMore, IsCut, IsReadTo, IsTaken, IsUntaken};
 ghost use Rattle.lab_dump.specs.declared.pass.Cut.TheVariants as cuts;
-ghost use Rattle.lab_dump.specs.declared.pass.ScanFault.TheVariants as faults;
+ghost use Rattle.lab_dump.specs.declared.pass.PassFault.TheVariants as faults;
 
 use crate::dump::DumpReader;
 use crate::rows::{Rows, show_page};
@@ -15,7 +15,7 @@ use thiserror::Error;
 
 /// Why a dump was not taken whole.
 #[derive(Clone, Copy, Debug, PartialEq, Eq, Error)]
-pub enum ScanFault {
+pub enum PassFault {
     /// It has not as many bytes as the die's pages have.
     #[error("the dump has not as many bytes as the geometry says")]
     WrongLength,
@@ -31,14 +31,14 @@ pub enum ScanFault {
 #[derive(Clone, Copy, Debug, PartialEq, Eq)]
 pub struct Stopped;
 
-impl From<Stopped> for ScanFault {
+impl From<Stopped> for PassFault {
     ghost use Rattle.std.specs.Prelude.{◌≡◌};
-    ghost use Rattle.lab_dump.specs.declared.pass.ScanFault.{ScanFault};
+    ghost use Rattle.lab_dump.specs.declared.pass.PassFault.{PassFault};
 
-    ghost from_gives = { λ _ fault. fault ≡ ScanFault.Stopped };
+    ghost from_gives = { λ _ fault. fault ≡ PassFault.Stopped };
 
-    fn from(_stopped: Stopped) -> ScanFault {
-        ScanFault::Stopped
+    fn from(_stopped: Stopped) -> PassFault {
+        PassFault::Stopped
     }
 }
 
@@ -97,15 +97,15 @@ pub enum Cut {
     Failed,
 }
 
-impl From<Cut> for ScanFault {
+impl From<Cut> for PassFault {
     ghost use Rattle.lab_dump.specs.Scan.{fault_of};
 
     ghost from_gives = { λ cut fault. fault ≡ fault_of cut };
 
-    fn from(cut: Cut) -> ScanFault {
+    fn from(cut: Cut) -> PassFault {
         match cut {
-            Cut::Ended => ScanFault::WrongLength,
-            Cut::Failed => ScanFault::Source,
+            Cut::Ended => PassFault::WrongLength,
+            Cut::Failed => PassFault::Source,
         }
     }
 }
@@ -150,7 +150,7 @@ fn take_pages<R: DumpReader, T: Taker>(
     taker: &mut T,
     body: &mut [u8],
     spare: &mut [u8],
-) -> Result<(), ScanFault>
+) -> Result<(), PassFault>
     requires stands { T.stands taker.old geometry.now 0 }
     requires shows { (image : Image) → T.shows taker.old geometry.now 0 image }
     requires body_whole { length body.old ≡ geometry.now.data_bytes }
@@ -177,16 +177,16 @@ fn take_pages<R: DumpReader, T: Taker>(
 ///
 /// `WrongLength` where a byte is left, `Source` where a read failed or was interrupted. (This project's rules.)
 #[tactic(auto, using(crate::proofs::ScanLemmas::end_of_cut, crate::proofs::ScanLemmas::one_more))]
-pub fn expect_end<R: DumpReader>(reader: &mut R) -> Result<(), ScanFault>
+pub fn expect_end<R: DumpReader>(reader: &mut R) -> Result<(), PassFault>
     ensures ok { OnOk result (IsAtEnd (R.remaining reader.old)) }
     ensures err { IfErr result (λ fault. (fault ≡ faults.Source) ⊎ ((fault ≡ faults.WrongLength) × HasMore (R.remaining reader.old))) }
     ensures source { result ≡ Err faults.Source → R.failed reader.new ≡ true }
 {
     let mut byte = [0];
     match fill(reader, &mut byte) {
-        Ok(()) => Err(ScanFault::WrongLength),
+        Ok(()) => Err(PassFault::WrongLength),
         Err(Cut::Ended) => Ok(()),
-        Err(Cut::Failed) => Err(ScanFault::Source),
+        Err(Cut::Failed) => Err(PassFault::Source),
     }
 }
 
@@ -204,7 +204,7 @@ pub fn scan<R: DumpReader, T: Taker>(
     taker: &mut T,
     body: &mut [u8],
     spare: &mut [u8],
-) -> Result<(), ScanFault>
+) -> Result<(), PassFault>
     requires stands { T.stands taker.old geometry.now 0 }
     requires shows { (image : Image) → T.shows taker.old geometry.now 0 image }
     requires body_whole { length body.old ≡ geometry.now.data_bytes }
@@ -234,7 +234,7 @@ pub fn scan_rows<R: DumpReader, T: Taker>(
     taker: &mut T,
     body: &mut [u8],
     spare: &mut [u8],
-) -> Result<(), ScanFault>
+) -> Result<(), PassFault>
     requires stands { T.stands taker.old geometry.now 0 }
     requires shows { (image : Image) → T.shows taker.old geometry.now 0 image }
     requires body_whole { length body.old ≡ geometry.now.data_bytes }

@@ -5,7 +5,7 @@ ghost use Rattle.lab_dump.specs.Noted.{Stands, Shows};
 
 use crate::counts::PageCounts;
 use crate::doubting::Doubting;
-use crate::held::State;
+use crate::held::KeyState;
 use crate::keys::{blank_table, note_formed};
 use crate::pass::{Stopped, Taker};
 use bad_blocks::Table;
@@ -24,7 +24,7 @@ pub(crate) struct Seeing {
     pub(crate) formed: Vec<bool>,
     pub(crate) doubting: Doubting,
     // room for how each key stands, which is known in the end
-    pub(crate) keys: Vec<State>,
+    pub(crate) keys: Vec<KeyState>,
     // room for the state of each block, which is known in the end
     pub(crate) desk: Desk,
     // scratch, to read table pages into
@@ -43,7 +43,7 @@ impl Seeing {
             counts: PageCounts::none(),
             formed: vec![in alloc; false; geometry.table_pages() as usize]?,
             doubting: Doubting::new(alloc, geometry)?,
-            keys: vec![in alloc; State::Absent; keys as usize]?,
+            keys: vec![in alloc; KeyState::Absent; keys as usize]?,
             desk: Desk::new(alloc, geometry)?,
             table: blank_table(alloc, geometry.blocks())?,
         })

@@ -4,7 +4,7 @@ ghost use Rattle.page_layout.specs.Geometry.{row_count};
 ghost use Rattle.page_layout.specs.Page.{Image};
 ghost use Rattle.image_check.specs.Room.{IsDesk};
 ghost use Rattle.image_check.specs.Surveyed.{IsSized, Surveys};
-ghost use Rattle.lab_dump.specs.declared.held.State.TheVariants.{Absent};
+ghost use Rattle.lab_dump.specs.declared.held.KeyState.TheVariants.{Absent};
 ghost use Rattle.lab_dump.specs.declared.trace.Trace.TheVariants.{Never};
 ghost use Rattle.lab_dump.specs.Noted.{Stands, Shows};
 ghost use Rattle.lab_dump.specs.Rooms.{IsSurveyRoom};
@@ -14,8 +14,8 @@ ghost use Rattle.lab_dump.specs.Trace.{state_in};
 use crate::counts::PageCounts;
 use crate::doubts::Unsettled;
 use crate::dump::DumpReader;
-use crate::held::State;
-use crate::pass::{ScanFault, scan_rows};
+use crate::held::KeyState;
+use crate::pass::{PassFault, scan_rows};
 use crate::repeated::first_repeated;
 use crate::rows::Rows;
 use crate::seeing::Seeing;
@@ -37,15 +37,15 @@ pub enum SurveyFault {
     Source,
 }
 
-impl From<ScanFault> for SurveyFault {
+impl From<PassFault> for SurveyFault {
     ghost use Rattle.lab_dump.specs.Surveyed.{fault_of};
 
     ghost from_gives = { λ scan fault. fault ≡ fault_of scan };
 
-    fn from(fault: ScanFault) -> SurveyFault {
+    fn from(fault: PassFault) -> SurveyFault {
         match fault {
-            ScanFault::WrongLength => SurveyFault::WrongLength,
-            ScanFault::Source | ScanFault::Stopped => SurveyFault::Source,
+            PassFault::WrongLength => SurveyFault::WrongLength,
+            PassFault::Source | PassFault::Stopped => SurveyFault::Source,
         }
     }
 }
@@ -58,7 +58,7 @@ pub struct DieSurvey {
     /// The rows of two sound pages that share a sequence, if some do: of all such pairs the one whose second row is lowest.
     pub repeated: Option<(u32, u32)>,
     /// How each key stands: the sectors, then the translation pages, then the table pages.
-    pub keys: Vec<State>,
+    pub keys: Vec<KeyState>,
     /// Of each table page that has a newest page, whether that is well formed.
     pub formed: Vec<bool>,
     /// Of each block how many pages are neither erased nor sound.
@@ -77,7 +77,7 @@ pub fn mounts_law()
 {}
 
 // Notes how each key stands.
-fn note_keys(traces: &[Trace], keys: &mut [State])
+fn note_keys(traces: &[Trace], keys: &mut [KeyState])
     requires room { length keys.old ≡ length traces.now }
     ensures size { length keys.new ≡ length traces.now }
     ensures each { (i : ℕ) → i < length traces.now → get_or keys.new i Absent ≡ state_in (get_or traces.now i Never) }

@@ -18,7 +18,7 @@ const CLASSES: u32 = 3;
 
 /// What all sound pages of a dump tell together.
 #[derive(Clone, Copy, Debug, PartialEq, Eq)]
-pub struct Told {
+pub struct PagesTold {
     /// The blocks that the table of blocks has words for, or 0 where there is no sound table page.
     pub blocks: u64,
     /// At least so many sectors the die has.
@@ -75,7 +75,7 @@ fn sectors_by(look: Look, entries: u32) -> u64
 }
 
 // The most that a page can tell whose spare bytes name a kind by this code, and this number.
-fn most_by(code: u8, number: u32, entries: u32) -> Told
+fn most_by(code: u8, number: u32, entries: u32) -> PagesTold
     requires { entries ≤ 1024 }
     ensures { result ≡ most_by code number entries }
 {
@@ -86,24 +86,24 @@ fn most_by(code: u8, number: u32, entries: u32) -> Told
         1 | 2 => (0, number + 1),
         _ => (0, 0),
     };
-    Told { blocks, sectors }
+    PagesTold { blocks, sectors }
 }
 
-impl Told {
+impl PagesTold {
     // What is told with one page more.
-    fn raised(self, look: Look, body: &[u8]) -> Told
+    fn raised(self, look: Look, body: &[u8]) -> PagesTold
         requires { length body.now ≤ 4096 }
         ensures { result ≡ raised self look body.now }
     {
         let entries = body.len() as u32 / 4;
-        Told {
+        PagesTold {
             blocks: self.blocks.max(blocks_by(look, body)),
             sectors: self.sectors.max(sectors_by(look, entries)),
         }
     }
 
     /// What is told with one page more, by its bytes. A page is not hashed that could not tell more if it were sound.
-    pub fn noted(self, geometry: &Geometry, page: &[u8]) -> Told
+    pub fn noted(self, geometry: &Geometry, page: &[u8]) -> PagesTold
         requires { length page.now ≡ page_bytes geometry.now }
         ensures { result ≡ raised self (look_of (page_in geometry.now.data_bytes page.now)) (take geometry.now.data_bytes page.now) }
     {
@@ -125,13 +125,13 @@ pub(crate) fn read_told<D: Dump>(
     dump: &mut D,
     geometry: &Geometry,
     page: &mut [u8],
-) -> Result<Told, DumpFault>
+) -> Result<PagesTold, DumpFault>
     requires { length page.old ≡ page_bytes geometry.now }
     ensures told { IfOk result (λ told. (all : List ℕ) → D.bytes dump.old ≡ Some all → told ≡ told_of geometry.now.data_bytes geometry.now.spare_bytes (row_count geometry.now) all) }
     ensures failed { OnErr result (D.failed dump.new ≡ true) }
     ensures same { D.bytes dump.new ≡ D.bytes dump.old }
 {
-    let mut told = Told {
+    let mut told = PagesTold {
         blocks: 0,
         sectors: 0,
     };

@@ -5,7 +5,7 @@ ghost use Rattle.page_layout.specs.declared.newest.Latest.{Latest};
 ghost use Rattle.lab_dump.specs.Lost;
 ghost use Rattle.lab_dump.specs.Trace.{Tells, is_before, lost_in, place_in, is_tied_in, state_in};
 
-use crate::held::State;
+use crate::held::KeyState;
 
 /// What is known of the newest page of a key once some rows were looked at: what `Latest` says, but for the rows of a tie. A sequence stands
 /// lowest byte first: as a number it would be padded.
@@ -59,13 +59,13 @@ impl Trace {
     }
 
     // How the key stands.
-    pub(crate) fn state(self) -> State
+    pub(crate) fn state(self) -> KeyState
         ensures { result ≡ state_in self }
     {
         match self {
-            Trace::Never => State::Absent,
-            Trace::Once(..) => State::Found,
-            Trace::Tied(_) => State::Tied,
+            Trace::Never => KeyState::Absent,
+            Trace::Once(..) => KeyState::Found,
+            Trace::Tied(_) => KeyState::Tied,
         }
     }
 

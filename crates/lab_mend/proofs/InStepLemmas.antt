@@ -9,8 +9,8 @@ use Rattle.std.proofs.lemmas.Slice.{between_is, take-put_mid_below, between-put_
 use borrow.Rule.Slice.PartMut.{put_mid}
 use Rattle.lab_dump.specs.declared.pass.Cut.{Cut}
 use Rattle.lab_dump.specs.declared.pass.Cut.TheVariants.{Ended, Failed}
-use Rattle.lab_dump.specs.declared.pass.ScanFault.{ScanFault}
-use Rattle.lab_dump.specs.declared.pass.ScanFault.TheVariants as fault
+use Rattle.lab_dump.specs.declared.pass.PassFault.{PassFault}
+use Rattle.lab_dump.specs.declared.pass.PassFault.TheVariants as fault
 use Rattle.lab_dump.specs.Scan.{IsCut, HasMore}
 use Rattle.lab_mend.specs.Pages.{piece_at}
 use Rattle.lab_mend.specs.InStep.{IsAt, AreAt, Tell, AreBetween, AreRead, CutAt, LongAt}
@@ -68,7 +68,7 @@ has_more (Some xs) file at h e =
     let size = ap length same in
     omega (arith, length-drop at file)
 
-pub long_at : (known : Option (List ℕ)) (files : List (List ℕ)) (i at : ℕ) (f : ScanFault) → i < length files → IsAt known (get_or files i []) at → (f ≡ fault.Source) ⊎ ((f ≡ fault.WrongLength) × HasMore known) → LongAt files at i f
+pub long_at : (known : Option (List ℕ)) (files : List (List ℕ)) (i at : ℕ) (f : PassFault) → i < length files → IsAt known (get_or files i []) at → (f ≡ fault.Source) ⊎ ((f ≡ fault.WrongLength) × HasMore known) → LongAt files at i f
 long_at known files i at f within h (inl e) = subst (LongAt files at i) (sym e) within
 long_at known files i at f within h (inr w) = subst (LongAt files at i) (sym w.0) (record { within = within; long = has_more known (get_or files i []) at h w.1 })
 

@@ -13,10 +13,10 @@ use Rattle.lab_dump.specs.Scan.{image_bytes}
 use Rattle.lab_dump.specs.PageBytes.{page_of}
 use Rattle.lab_dump.specs.declared.pass.Cut.{Cut}
 use Rattle.lab_dump.specs.declared.pass.Cut.TheVariants as cut
-use Rattle.lab_dump.specs.declared.pass.ScanFault.{ScanFault}
-use Rattle.lab_dump.specs.declared.pass.ScanFault.TheVariants as scan
+use Rattle.lab_dump.specs.declared.pass.PassFault.{PassFault}
+use Rattle.lab_dump.specs.declared.pass.PassFault.TheVariants as scan
 use Rattle.lab_dump.proofs.ScanLemmas.{if_both}
-use Rattle.lab_mend.specs.declared.merging.Tally.{Tally}
+use Rattle.lab_mend.specs.declared.merging.RowTally.{RowTally}
 use Rattle.lab_mend.specs.declared.merging.TriedRow.{TriedRow}
 use Rattle.lab_mend.specs.declared.merge.MergeFault.{MergeFault}
 use Rattle.lab_mend.specs.declared.merge.MergeFault.TheVariants as fault
@@ -63,7 +63,7 @@ row_next g known files row size pieces one h =
 
 -- ---- all of them
 
-pub merged : (g : Geometry) (files : List (List ℕ)) (conflicts unsound : List ℕ) (tried : List TriedRow) (tally : Tally) (scratch : List ℕ) (pieces : Option (List (List ℕ))) → Stands g (row_count g) conflicts tally scratch pieces
+pub merged : (g : Geometry) (files : List (List ℕ)) (conflicts unsound : List ℕ) (tried : List TriedRow) (tally : RowTally) (scratch : List ℕ) (pieces : Option (List (List ℕ))) → Stands g (row_count g) conflicts tally scratch pieces
     → Shows g (row_of g files) (row_count g) conflicts tally pieces → unsound ≡ unsound_below g (row_of g files) (row_count g) → tried ≡ tried_below g (row_of g files) (row_count g) → HaveEnded files (image_bytes g)
     → IsMerged g files conflicts unsound tried tally pieces
 merged g files conflicts unsound tried tally scratch pieces stands h are tried_are ended = record {
@@ -88,7 +88,7 @@ unmerged_cut g files n i cut.Ended f within h e =
     subst (IsUnmerged g files) (sym e) (h.within, λ whole. (omega arith))
 unmerged_cut g files n i cut.Failed f within h e = subst (IsUnmerged g files) (sym e) h
 
-pub unmerged_end : (g : Geometry) (files : List (List ℕ)) (i : ℕ) (s : ScanFault) (f : MergeFault) → LongAt files (image_bytes g) i s → f ≡ fault_of_end i s → IsUnmerged g files f
+pub unmerged_end : (g : Geometry) (files : List (List ℕ)) (i : ℕ) (s : PassFault) (f : MergeFault) → LongAt files (image_bytes g) i s → f ≡ fault_of_end i s → IsUnmerged g files f
 unmerged_end g files i scan.WrongLength f h e = let long = h.long in subst (IsUnmerged g files) (sym e) (h.within, λ whole. (omega arith))
 unmerged_end g files i scan.Source f h e = subst (IsUnmerged g files) (sym e) h
 unmerged_end g files i scan.Stopped f h e = absurd h
@@ -103,7 +103,7 @@ pub pinned_cut : (failed : List Bool) (target : Bool) (i : ℕ) (c : Cut) (f : M
 pinned_cut failed target i cut.Ended f h e = subst (IsPinned failed target) (sym e) tt
 pinned_cut failed target i cut.Failed f h e = subst (IsPinned failed target) (sym e) (h refl)
 
-pub pinned_end : (failed : List Bool) (target : Bool) (i : ℕ) (s : ScanFault) (f : MergeFault) → (s ≡ scan.WrongLength) ⊎ (get_or failed i false ≡ true) → f ≡ fault_of_end i s → IsPinned failed target f
+pub pinned_end : (failed : List Bool) (target : Bool) (i : ℕ) (s : PassFault) (f : MergeFault) → (s ≡ scan.WrongLength) ⊎ (get_or failed i false ≡ true) → f ≡ fault_of_end i s → IsPinned failed target f
 pinned_end failed target i scan.WrongLength f h e = subst (IsPinned failed target) (sym e) tt
 pinned_end failed target i scan.Source f (inl other) e = absurd (cc)
 pinned_end failed target i scan.Source f (inr h) e = subst (IsPinned failed target) (sym e) h

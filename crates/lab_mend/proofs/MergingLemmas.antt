@@ -17,7 +17,7 @@ use Rattle.lab_dump.proofs.ScanLemmas.{if_more}
 use Rattle.lab_mend.specs.declared.choice.Origin.{Origin}
 use Rattle.lab_mend.specs.declared.choice.Origin.TheVariants.{Sound, Conflict, Majority, Tried, Erased, Unsound}
 use Rattle.lab_mend.specs.declared.trial.Trial.TheVariants.{Taken, Tied, Nothing}
-use Rattle.lab_mend.specs.declared.merging.Tally.{Tally}
+use Rattle.lab_mend.specs.declared.merging.RowTally.{RowTally}
 use Rattle.lab_mend.specs.declared.merging.TriedRow.{TriedRow}
 use Rattle.lab_mend.specs.Majority.{majority}
 use Rattle.lab_mend.specs.Trial.{bits_apart, with_turned, is_tried}
@@ -132,14 +132,14 @@ room_tried all n tried new o old_room new_room h is same = record {
 
 -- ---- the counts
 
-abbrev pub the_tally : ℕ → ℕ → ℕ → ℕ → ℕ → Tally
+abbrev pub the_tally : ℕ → ℕ → ℕ → ℕ → ℕ → RowTally
 the_tally s a k b c = record { sound = s; majority = a; turned = k; erased = b; unsound = c }
 
 tally_same : (s a k b c w x v y z : ℕ) → s ≡ w → a ≡ x → k ≡ v → b ≡ y → c ≡ z → the_tally s a k b c ≡ the_tally w x v y z
 tally_same s a k b c w x v y z d e i f h =
     ap (λ n. the_tally n a k b c) d ∙ (ap (λ n. the_tally w n k b c) e ∙ (ap (λ n. the_tally w x n b c) i ∙ (ap (λ n. the_tally w x v n c) f ∙ ap (the_tally w x v y) h)))
 
-counted_is : (t : Tally) (o : Origin) → the_tally (t.sound + cond (eqb (place_of o) 0) 1 0) (t.majority + cond (eqb (place_of o) 2) 1 0) (t.turned + cond (eqb (place_of o) 5) 1 0) (t.erased + cond (eqb (place_of o) 3) 1 0)
+counted_is : (t : RowTally) (o : Origin) → the_tally (t.sound + cond (eqb (place_of o) 0) 1 0) (t.majority + cond (eqb (place_of o) 2) 1 0) (t.turned + cond (eqb (place_of o) 5) 1 0) (t.erased + cond (eqb (place_of o) 3) 1 0)
     (t.unsound + cond (eqb (place_of o) 4) 1 0) ≡ counted t o
 counted_is t Sound = tally_same (t.sound + 1) (t.majority + 0) (t.turned + 0) (t.erased + 0) (t.unsound + 0) (t.sound + 1) t.majority t.turned t.erased t.unsound refl (add-zero t.majority) (add-zero t.turned) (add-zero t.erased) (add-zero t.unsound)
 counted_is t Conflict = tally_same (t.sound + 0) (t.majority + 0) (t.turned + 0) (t.erased + 0) (t.unsound + 0) t.sound t.majority t.turned t.erased t.unsound (add-zero t.sound) (add-zero t.majority) (add-zero t.turned) (add-zero t.erased) (add-zero t.unsound)
@@ -166,7 +166,7 @@ tally_more g rows n =
     (count_more (is_from g rows Sound) n) (count_more (is_from g rows Majority) n) (count_more (is_turned g rows) n) (count_more (is_from g rows Erased) n) (count_more (is_from g rows Unsound) n)
     ∙ counted_is (the_tally s m k e u) o
 
-few_more : (n : ℕ) (t : Tally) (o : Origin) → AreFew n t → AreFew (n + 1) (counted t o)
+few_more : (n : ℕ) (t : RowTally) (o : Origin) → AreFew n t → AreFew (n + 1) (counted t o)
 few_more n t Sound h = let d = h.sound in let a = h.majority in let i = h.turned in let b = h.erased in let c = h.unsound in record { sound = omega arith; majority = omega arith; turned = omega arith; erased = omega arith; unsound = omega arith }
 few_more n t Conflict h = let d = h.sound in let a = h.majority in let i = h.turned in let b = h.erased in let c = h.unsound in record { sound = omega arith; majority = omega arith; turned = omega arith; erased = omega arith; unsound = omega arith }
 few_more n t Majority h = let d = h.sound in let a = h.majority in let i = h.turned in let b = h.erased in let c = h.unsound in record { sound = omega arith; majority = omega arith; turned = omega arith; erased = omega arith; unsound = omega arith }
@@ -287,7 +287,7 @@ both_set : (pieces : Option (List (List ℕ))) (P Q R : List (List ℕ) → Type
 both_set None P Q R n piece p q more = tt
 both_set (Some ps) P Q R n piece p q more = more ps p q
 
-pub stands_more : (g : Geometry) (n : ℕ) (rows : List ℕ) (t : Tally) (o : Origin) (old scratch : List ℕ) (pieces : Option (List (List ℕ))) → n < row_count g → Stands g n rows t old pieces → length scratch ≡ page_bytes g
+pub stands_more : (g : Geometry) (n : ℕ) (rows : List ℕ) (t : RowTally) (o : Origin) (old scratch : List ℕ) (pieces : Option (List (List ℕ))) → n < row_count g → Stands g n rows t old pieces → length scratch ≡ page_bytes g
     → (o ≡ Conflict → scratch ≡ replicate (page_bytes g) 0) → Stands g (n + 1) (named rows n o) (counted t o) scratch (option_map (λ ps. set ps n scratch) pieces)
 stands_more g n rows t o old scratch pieces within h size zero = record {
   scratch_size = size;
@@ -303,7 +303,7 @@ written_more g of n piece ps inside is h row l = elim (cases_eq row n) [
   | inr ne ↦ get_or-set_other ps n row piece [] ne ∙ h row (omega arith)
 ]
 
-pub shows_more : (g : Geometry) (of : ℕ → List Page) (n : ℕ) (rows : List ℕ) (t : Tally) (pages : List Page) (o : Origin) (old scratch : List ℕ) (pieces : Option (List (List ℕ))) → n < row_count g → Stands g n rows t old pieces
+pub shows_more : (g : Geometry) (of : ℕ → List Page) (n : ℕ) (rows : List ℕ) (t : RowTally) (pages : List Page) (o : Origin) (old scratch : List ℕ) (pieces : Option (List (List ℕ))) → n < row_count g → Stands g n rows t old pieces
     → Shows g of n rows t pieces → of n ≡ pages → WritesChoice (choice g pages) o scratch → Shows g of (n + 1) (named rows n o) (counted t o) (option_map (λ ps. set ps n scratch) pieces)
 shows_more g of n rows t pages o old scratch pieces within stands h are written =
     let origin : o ≡ (choice g (of n)).origin = written.origin_is ∙ ap (λ ps. (choice g ps).origin) (sym are) in
@@ -366,8 +366,8 @@ pub conflict_zero : (g : Geometry) (pages : List Page) (o : Origin) (scratch : L
 conflict_zero g pages o scratch h e = h.bytes_are ∙ (ap bytes_of_page (conflict_page g pages (sym h.origin_is ∙ e)) ∙ replicate-append-replicate g.data_bytes g.spare_bytes 0)
 
 -- the same, of what the code holds after it
-pub stands_next : (g : Geometry) (n : ℕ) (rows : List ℕ) (t : Tally) (pages : List Page) (o : Origin) (old out : List ℕ) (pieces : Option (List (List ℕ))) → n < row_count g → Stands g n rows t old pieces → length out ≡ page_bytes g
-    → WritesChoice (choice g pages) o out → (rows' : List ℕ) (t' : Tally) (scratch : List ℕ) (pieces' : Option (List (List ℕ))) → rows' ≡ named rows n o → t' ≡ counted t o → scratch ≡ out
+pub stands_next : (g : Geometry) (n : ℕ) (rows : List ℕ) (t : RowTally) (pages : List Page) (o : Origin) (old out : List ℕ) (pieces : Option (List (List ℕ))) → n < row_count g → Stands g n rows t old pieces → length out ≡ page_bytes g
+    → WritesChoice (choice g pages) o out → (rows' : List ℕ) (t' : RowTally) (scratch : List ℕ) (pieces' : Option (List (List ℕ))) → rows' ≡ named rows n o → t' ≡ counted t o → scratch ≡ out
     → pieces' ≡ option_map (λ ps. set ps n scratch) pieces → Stands g (n + 1) rows' t' scratch pieces'
 stands_next g n rows t pages o old out pieces within h size written rows' t' scratch pieces' a b c d =
     let whole : length scratch ≡ page_bytes g = ap length c ∙ size in
@@ -376,11 +376,11 @@ stands_next g n rows t pages o old out pieces within h size written rows' t' scr
     let first : Stands g (n + 1) rows' (counted t o) scratch (option_map (λ ps. set ps n scratch) pieces) =
     subst (λ (x : List ℕ). Stands g (n + 1) x (counted t o) scratch (option_map (λ ps. set ps n scratch) pieces)) (sym a) next in
     let second : Stands g (n + 1) rows' t' scratch (option_map (λ ps. set ps n scratch) pieces) =
-    subst (λ (x : Tally). Stands g (n + 1) rows' x scratch (option_map (λ ps. set ps n scratch) pieces)) (sym b) first in
+    subst (λ (x : RowTally). Stands g (n + 1) rows' x scratch (option_map (λ ps. set ps n scratch) pieces)) (sym b) first in
     subst (λ (x : Option (List (List ℕ))). Stands g (n + 1) rows' t' scratch x) (sym d) second
 
-pub shows_next : (g : Geometry) (of : ℕ → List Page) (n : ℕ) (rows : List ℕ) (t : Tally) (pages : List Page) (o : Origin) (old out : List ℕ) (pieces : Option (List (List ℕ))) → n < row_count g → Stands g n rows t old pieces
-    → Shows g of n rows t pieces → of n ≡ pages → WritesChoice (choice g pages) o out → (rows' : List ℕ) (t' : Tally) (scratch : List ℕ) (pieces' : Option (List (List ℕ))) → rows' ≡ named rows n o → t' ≡ counted t o → scratch ≡ out
+pub shows_next : (g : Geometry) (of : ℕ → List Page) (n : ℕ) (rows : List ℕ) (t : RowTally) (pages : List Page) (o : Origin) (old out : List ℕ) (pieces : Option (List (List ℕ))) → n < row_count g → Stands g n rows t old pieces
+    → Shows g of n rows t pieces → of n ≡ pages → WritesChoice (choice g pages) o out → (rows' : List ℕ) (t' : RowTally) (scratch : List ℕ) (pieces' : Option (List (List ℕ))) → rows' ≡ named rows n o → t' ≡ counted t o → scratch ≡ out
     → pieces' ≡ option_map (λ ps. set ps n scratch) pieces → Shows g of (n + 1) rows' t' pieces'
 shows_next g of n rows t pages o old out pieces within stands h are written rows' t' scratch pieces' a b c d =
     let its : WritesChoice (choice g pages) o scratch = subst (λ (x : List ℕ). WritesChoice (choice g pages) o x) (sym c) written in
@@ -388,7 +388,7 @@ shows_next g of n rows t pages o old out pieces within stands h are written rows
     let first : Shows g of (n + 1) rows' (counted t o) (option_map (λ ps. set ps n scratch) pieces) =
     subst (λ (x : List ℕ). Shows g of (n + 1) x (counted t o) (option_map (λ ps. set ps n scratch) pieces)) (sym a) next in
     let second : Shows g of (n + 1) rows' t' (option_map (λ ps. set ps n scratch) pieces) =
-    subst (λ (x : Tally). Shows g of (n + 1) rows' x (option_map (λ ps. set ps n scratch) pieces)) (sym b) first in
+    subst (λ (x : RowTally). Shows g of (n + 1) rows' x (option_map (λ ps. set ps n scratch) pieces)) (sym b) first in
     subst (λ (x : Option (List (List ℕ))). Shows g of (n + 1) rows' t' x) (sym d) second
 
 -- ---- before the first row

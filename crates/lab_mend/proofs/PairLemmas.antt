@@ -9,7 +9,7 @@ use Rattle.page_layout.specs.Page.{Page}
 use Rattle.page_layout.specs.Block.{is_broken}
 use Rattle.lab_dump.specs.PageBytes.{is_sound, bit_count, page_bit}
 use Rattle.lab_mend.specs.declared.mending.Turned.{Turned}
-use Rattle.lab_mend.specs.declared.pairs.Pair.{Pair}
+use Rattle.lab_mend.specs.declared.pairs.BitPair.{BitPair}
 use Rattle.lab_mend.specs.declared.pairs.Turn.{Turn}
 use Rattle.lab_mend.specs.declared.pairs.Turn.TheVariants.{One, Two, Tied, Nothing}
 use Rattle.lab_mend.specs.Bits.{turned, DiffersAt}
@@ -28,7 +28,7 @@ abbrev pub bits_from : Page → ℕ → ℕ → List ℕ
 bits_from p k size = filter (λ l. is_sound (turned p l)) (range_with_len k size)
 
 -- the pairs from this lower bit on
-abbrev pub pairs_from : Page → ℕ → ℕ → List Pair
+abbrev pub pairs_from : Page → ℕ → ℕ → List BitPair
 pairs_from p k size = flat_map (λ j. pairs_with j (second_bits (turned p j) j)) (range_with_len k size)
 
 pub second_is : (p : Page) (k : ℕ) → bits_from p (k + 1) (bit_count p - (k + 1)) ≡ second_bits p k
@@ -60,15 +60,15 @@ pairs_ended p k n l = let none : n - k ≡ 0 = omega arith in ap (pairs_from p k
 
 -- ---- which pairs there are
 
-abbrev pair_of : ℕ → ℕ → Pair
+abbrev pair_of : ℕ → ℕ → BitPair
 pair_of k l = record { low = k; high = l }
 
 -- the pair is of this bit and one of those
-record IsWith (k : ℕ) (bits : List ℕ) (b : Pair) : Type 0 where
+record IsWith (k : ℕ) (bits : List ℕ) (b : BitPair) : Type 0 where
   low_is : b.low ≡ k
   high_in : Contains bits b.high
 
-with_from : (k : ℕ) (bits : List ℕ) (b : Pair) → Contains (pairs_with k bits) b → IsWith k bits b
+with_from : (k : ℕ) (bits : List ℕ) (b : BitPair) → Contains (pairs_with k bits) b → IsWith k bits b
 with_from k [] b at = absurd (let l = at.1 in omega arith)
 with_from k (l ∷ ls) b at = elim (either_in (pair_of k l) b (pairs_with k ls) at) [
   | inl same ↦ subst (IsWith k (l ∷ ls)) same (record { low_is = refl; high_in = (0, omega arith, refl) })
@@ -97,11 +97,11 @@ second_in p k l h =
     (record { low = (let up = h.rising in omega arith); high = (let up = h.rising in let within = h.within in omega arith); passes = h.sound })
 
 -- the pair makes the page sound, and its lower bit is this one or a later one
-record IsFrom (p : Page) (from : ℕ) (b : Pair) : Type 0 where
+record IsFrom (p : Page) (from : ℕ) (b : BitPair) : Type 0 where
   late : from ≤ b.low
   makes : MakeSound p b.low b.high
 
-pairs_out : (p : Page) (from size : ℕ) (b : Pair) → from + size ≤ bit_count p → Contains (pairs_from p from size) b → IsFrom p from b
+pairs_out : (p : Page) (from size : ℕ) (b : BitPair) → from + size ≤ bit_count p → Contains (pairs_from p from size) b → IsFrom p from b
 pairs_out p from zero b le at = absurd (let l = at.1 in omega arith)
 pairs_out p from (suc size) b le at = elim (Contains-append_cases (pairs_with from (second_bits (turned p from) from)) (pairs_from p (from + 1) size) b at) [
   | inl here ↦
@@ -121,7 +121,7 @@ pairs_in p from (suc size) k l low high h = elim (cases_eq from k) [
       (pairs_in p (from + 1) size k l (omega arith) (omega arith) h)
 ]
 
-pub sound_out : (p : Page) (b : Pair) → Contains (sound_pairs p) b → MakeSound p b.low b.high
+pub sound_out : (p : Page) (b : BitPair) → Contains (sound_pairs p) b → MakeSound p b.low b.high
 sound_out p b at = (pairs_out p 0 (bit_count p) b (omega arith) (subst (λ bs. Contains bs b) (sym (pairs_are p)) at)).makes
 
 pub sound_in : (p : Page) (k l : ℕ) → MakeSound p k l → Contains (sound_pairs p) (pair_of k l)
@@ -130,7 +130,7 @@ sound_in p k l h =
 
 -- ---- each of them once
 
-abbrev AreOnce : List Pair → Type 0
+abbrev AreOnce : List BitPair → Type 0
 AreOnce [] = Unit {0}
 AreOnce (b ∷ bs) = (Contains bs b → ⊥) × AreOnce bs
 
@@ -138,7 +138,7 @@ once_with : (n k : ℕ) (bits : List ℕ) → AreBits n bits → AreOnce (pairs_
 once_with n k [] are = tt
 once_with n k (l ∷ ls) are = (λ at. are.1 ((with_from k ls (pair_of k l) at).high_in), once_with n k ls are.2)
 
-once_append : (xs ys : List Pair) → AreOnce xs → AreOnce ys → ((b : Pair) → Contains xs b → Contains ys b → ⊥) → AreOnce (xs ++ ys)
+once_append : (xs ys : List BitPair) → AreOnce xs → AreOnce ys → ((b : BitPair) → Contains xs b → Contains ys b → ⊥) → AreOnce (xs ++ ys)
 once_append [] ys left right apart = right
 once_append (x ∷ xs) ys left right apart = (
   λ at. elim (Contains-append_cases xs ys x at) [ inl here ↦ left.0 here | inr later ↦ apart x (0, omega arith, refl) later ],
@@ -167,23 +167,23 @@ sound_once p = subst AreOnce (pairs_are p) (pairs_once p 0 (bit_count p) (omega 
 -- ---- what is told
 
 -- one pair
-record IsOnly (p : Page) (b : Pair) : Type 0 where
+record IsOnly (p : Page) (b : BitPair) : Type 0 where
   makes : MakeSound p b.low b.high
   only : (k l : ℕ) → MakeSound p k l → (k ≡ b.low) × (l ≡ b.high)
 
-only_from : (p : Page) (b : Pair) → sound_pairs p ≡ b ∷ [] → IsOnly p b
+only_from : (p : Page) (b : BitPair) → sound_pairs p ≡ b ∷ [] → IsOnly p b
 only_from p b e = record {
   makes = sound_out p b (subst (λ bs. Contains bs b) (sym e) (0, omega arith, refl));
   only = λ k l h. (
       let at : Contains (b ∷ []) (pair_of k l) = subst (λ bs. Contains bs (pair_of k l)) e (sound_in p k l h) in
       elim (either_in b (pair_of k l) [] at) [
-        | inl same ↦ (ap (λ (x : Pair). x.low) (sym same), ap (λ (x : Pair). x.high) (sym same))
+        | inl same ↦ (ap (λ (x : BitPair). x.low) (sym same), ap (λ (x : BitPair). x.high) (sym same))
         | inr none ↦ absurd (let m = none.1 in omega arith)
       ]
       );
 }
 
-two_from : (p : Page) (b c : Pair) (more : List Pair) → sound_pairs p ≡ b ∷ c ∷ more → HasTwoPairs p
+two_from : (p : Page) (b c : BitPair) (more : List BitPair) → sound_pairs p ≡ b ∷ c ∷ more → HasTwoPairs p
 two_from p b c more e = record {
   first = b;
   second = c;
@@ -198,7 +198,7 @@ none_left p e k l h = let at : Contains [] (pair_of k l) = subst (λ bs. Contain
 same_turn : {t u : Turn} → Some t ≡ Some u → t ≡ u
 same_turn e = cc
 
-told_pairs : (p : Page) (t : Turn) → mend_of p ≡ None → (bs : List Pair) → sound_pairs p ≡ bs → by_pairs bs ≡ t → Tells p t
+told_pairs : (p : Page) (t : Turn) → mend_of p ≡ None → (bs : List BitPair) → sound_pairs p ≡ bs → by_pairs bs ≡ t → Tells p t
 told_pairs p t none [] e is = subst (Tells p) is (none, none_left p e)
 told_pairs p t none (b ∷ []) e is = let h = only_from p b e in subst (Tells p) is (none, h.makes, h.only)
 told_pairs p t none (b ∷ c ∷ more) e is = subst (Tells p) is (none, two_from p b c more e)
@@ -237,15 +237,15 @@ turn_none bits p few is e =
     sym (turn_broken bits p is ∙ (ap (one_or_two bits p) (mend_broken p is ∙ sym e) ∙ ap (λ b. cond b (Some (by_pairs (sound_pairs p))) None) test))
 
 -- the pair that is turned
-pub two_makes : (p : Page) (b : Pair) (t : Turn) → t ≡ by_pairs (sound_pairs p) → t ≡ Two b → MakeSound p b.low b.high
+pub two_makes : (p : Page) (b : BitPair) (t : Turn) → t ≡ by_pairs (sound_pairs p) → t ≡ Two b → MakeSound p b.low b.high
 two_makes p b t found is = by (sound_pairs p) refl (sym found ∙ is)
   where
-    same_pair : (x : Pair) → Two x ≡ Two b → x ≡ b
+    same_pair : (x : BitPair) → Two x ≡ Two b → x ≡ b
     same_pair x e = cc
 
-    by : (bs : List Pair) → sound_pairs p ≡ bs → by_pairs bs ≡ Two b → MakeSound p b.low b.high
+    by : (bs : List BitPair) → sound_pairs p ≡ bs → by_pairs bs ≡ Two b → MakeSound p b.low b.high
     by [] e none = absurd (cc)
-    by (x ∷ []) e one = subst (λ (y : Pair). MakeSound p y.low y.high) (same_pair x one) (only_from p x e).makes
+    by (x ∷ []) e one = subst (λ (y : BitPair). MakeSound p y.low y.high) (same_pair x one) (only_from p x e).makes
     by (x ∷ y ∷ more) e many = absurd (cc)
 
 pub turn_law : TurnLaw
@@ -329,7 +329,7 @@ again_law bits p = by (turn_of bits p) refl
 -- ---- two bits
 
 -- a page that differs at one bit, and one that differs from that one at another
-differs_twice : (p q r : Page) (b : Pair) → b.low < b.high → b.high < bit_count p → DiffersAt p q b.low → DiffersAt q r b.high → DiffersInTwo p r b
+differs_twice : (p q r : Page) (b : BitPair) → b.low < b.high → b.high < bit_count p → DiffersAt p q b.low → DiffersAt q r b.high → DiffersInTwo p r b
 differs_twice p q r b up within one two = record {
   apart = up;
   within = within;
@@ -350,7 +350,7 @@ differs_twice p q r b up within one two = record {
         (two.others j).0 (same ∙ sym kept) e
 
 -- two bits away, where two were turned
-two_off : (bits : ℕ) (p : Page) (b : Pair) → turn_of bits p ≡ Some (Two b) → AreTwoBitsOff bits p (repaired bits p)
+two_off : (bits : ℕ) (p : Page) (b : BitPair) → turn_of bits p ≡ Some (Two b) → AreTwoBitsOff bits p (repaired bits p)
 two_off bits p b e =
     let makes = (turn_law bits p (Two b) e).1.1 in
     let is : turned (turned p b.low) b.high ≡ repaired bits p = sym (repaired_by bits p (Some (Two b)) e) in

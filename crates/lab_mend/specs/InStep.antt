@@ -2,8 +2,8 @@
 use Rattle.std.specs.Prelude.{◌≡◌, ℕ, ◌+◌, ◌<◌, ◌≤◌, List, [], length, get_or, map, drop, slice_range, Option, Some, None}
 use Rattle.lab_dump.specs.declared.pass.Cut.{Cut}
 use Rattle.lab_dump.specs.declared.pass.Cut.TheVariants.{Ended, Failed}
-use Rattle.lab_dump.specs.declared.pass.ScanFault.{ScanFault}
-use Rattle.lab_dump.specs.declared.pass.ScanFault.TheVariants as fault
+use Rattle.lab_dump.specs.declared.pass.PassFault.{PassFault}
+use Rattle.lab_dump.specs.declared.pass.PassFault.TheVariants as fault
 use Rattle.lab_mend.specs.declared.in_step.ReadingCut.{ReadingCut}
 use Rattle.lab_mend.specs.declared.in_step.ReadingFault.{ReadingFault}
 use Rattle.lab_mend.specs.Pages.{piece_at}
@@ -56,7 +56,7 @@ pub record EndsLate (files : List (List ℕ)) (i at : ℕ) : Type 0 where
   pub within : i < length files
   pub long : at < length (get_or files i [])
 
-abbrev pub LongAt : List (List ℕ) → ℕ → ℕ → ScanFault → Type 0
+abbrev pub LongAt : List (List ℕ) → ℕ → ℕ → PassFault → Type 0
 LongAt files at i fault.WrongLength = EndsLate files i at
 LongAt files at i fault.Source = i < length files
 LongAt files at i fault.Stopped = ⊥

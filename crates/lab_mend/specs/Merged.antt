@@ -8,9 +8,9 @@ use Rattle.page_layout.specs.Raw.{page_from}
 use Rattle.lab_dump.specs.Scan.{image_bytes}
 use Rattle.lab_dump.specs.declared.pass.Cut.{Cut}
 use Rattle.lab_dump.specs.declared.pass.Cut.TheVariants as cut
-use Rattle.lab_dump.specs.declared.pass.ScanFault.{ScanFault}
-use Rattle.lab_dump.specs.declared.pass.ScanFault.TheVariants as scan
-use Rattle.lab_mend.specs.declared.merging.Tally.{Tally}
+use Rattle.lab_dump.specs.declared.pass.PassFault.{PassFault}
+use Rattle.lab_dump.specs.declared.pass.PassFault.TheVariants as scan
+use Rattle.lab_mend.specs.declared.merging.RowTally.{RowTally}
 use Rattle.lab_mend.specs.declared.merging.TriedRow.{TriedRow}
 use Rattle.lab_mend.specs.declared.merge.MergeFault.{MergeFault}
 use Rattle.lab_mend.specs.declared.merge.MergeFault.TheVariants as fault
@@ -23,7 +23,7 @@ row_of g files row = map (λ file. page_from g file (row * page_bytes g)) files
 -- Each reading has as many bytes as an image. The pieces are the pages that are written of the rows, in order; the rows that are named are those of
 -- which two sound pages differ, those of which a page was written as it is that is neither erased nor sound, and those of which pages were tried, by
 -- rising row; and the others are counted by what was written of them.
-pub record IsMerged (g : Geometry) (files : List (List ℕ)) (conflicts unsound : List ℕ) (tried : List TriedRow) (tally : Tally) (pieces : Option (List (List ℕ))) : Type 0 where
+pub record IsMerged (g : Geometry) (files : List (List ℕ)) (conflicts unsound : List ℕ) (tried : List TriedRow) (tally : RowTally) (pieces : Option (List (List ℕ))) : Type 0 where
   pub whole : (i : ℕ) → i < length files → length (get_or files i []) ≡ image_bytes g
   pub pages : IfSome pieces (λ ps. ps ≡ map (λ row. piece_of g (row_of g files row)) (range_with_len 0 (row_count g)))
   pub conflicts_are : conflicts ≡ conflicts_below g (row_of g files) (row_count g)
@@ -62,7 +62,7 @@ fault_of_cut i cut.Ended = fault.WrongLength i
 fault_of_cut i cut.Failed = fault.Source i
 
 -- of one that is not at its end
-abbrev pub fault_of_end : ℕ → ScanFault → MergeFault
+abbrev pub fault_of_end : ℕ → PassFault → MergeFault
 fault_of_end i scan.WrongLength = fault.WrongLength i
 fault_of_end i scan.Source = fault.Source i
 fault_of_end i scan.Stopped = fault.Source i

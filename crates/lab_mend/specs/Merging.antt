@@ -9,7 +9,7 @@ use Rattle.lab_mend.specs.declared.choice.Origin.{Origin}
 use Rattle.lab_mend.specs.declared.choice.Origin.TheVariants.{Sound, Conflict, Majority, Tried, Erased, Unsound}
 use Rattle.lab_mend.specs.declared.trial.Trial.{Trial}
 use Rattle.lab_mend.specs.declared.trial.Trial.TheVariants.{Taken, Tied, Nothing}
-use Rattle.lab_mend.specs.declared.merging.Tally.{Tally}
+use Rattle.lab_mend.specs.declared.merging.RowTally.{RowTally}
 use Rattle.lab_mend.specs.declared.merging.TriedRow.{TriedRow}
 use Rattle.lab_mend.specs.Choice.{choice}
 
@@ -53,7 +53,7 @@ abbrev pub with_tried : List TriedRow → Option TriedRow → List TriedRow
 with_tried rows None = rows
 with_tried rows (Some r) = rows ++ (r ∷ [])
 
-abbrev pub counted : Tally → Origin → Tally
+abbrev pub counted : RowTally → Origin → RowTally
 counted t Sound = record { sound = t.sound + 1; majority = t.majority; turned = t.turned; erased = t.erased; unsound = t.unsound }
 counted t Conflict = t
 counted t Majority = record { sound = t.sound; majority = t.majority + 1; turned = t.turned; erased = t.erased; unsound = t.unsound }
@@ -97,7 +97,7 @@ unfoldable pub tried_below : Geometry → (ℕ → List Page) → ℕ → List T
 tried_below g rows n = filter_map (λ row. tried_row row (choice g (rows row)).origin) (range_with_len 0 n)
 
 -- how many of the first rows are of each origin but `Conflict`
-unfoldable pub tally_below : Geometry → (ℕ → List Page) → ℕ → Tally
+unfoldable pub tally_below : Geometry → (ℕ → List Page) → ℕ → RowTally
 tally_below g rows n = record {
   sound = count_by (is_from g rows Sound) (range_with_len 0 n);
   majority = count_by (is_from g rows Majority) (range_with_len 0 n);
@@ -111,7 +111,7 @@ abbrev pub piece_of : Geometry → List Page → List ℕ
 piece_of g pages = bytes_of_page (choice g pages).its
 
 -- what the first rows come to
-pub record Shows (g : Geometry) (rows : ℕ → List Page) (n : ℕ) (conflicts : List ℕ) (tally : Tally) (pieces : Option (List (List ℕ))) : Type 0 where
+pub record Shows (g : Geometry) (rows : ℕ → List Page) (n : ℕ) (conflicts : List ℕ) (tally : RowTally) (pieces : Option (List (List ℕ))) : Type 0 where
   pub conflicts_are : conflicts ≡ conflicts_below g rows n
   pub tally_is : tally ≡ tally_below g rows n
   pub pieces_are : IfSome pieces (λ ps. (row : ℕ) → row < n → get_or ps row [] ≡ piece_of g (rows row))
@@ -143,14 +143,14 @@ pub record HasTriedRoom (rows n : ℕ) (tried : List TriedRow) (capacity : ℕ) 
   pub few : length tried ≤ n
   pub room : rows ≤ capacity
 
-pub record AreFew (n : ℕ) (tally : Tally) : Type 0 where
+pub record AreFew (n : ℕ) (tally : RowTally) : Type 0 where
   pub sound : tally.sound ≤ n
   pub majority : tally.majority ≤ n
   pub turned : tally.turned ≤ n
   pub erased : tally.erased ≤ n
   pub unsound : tally.unsound ≤ n
 
-pub record Stands (g : Geometry) (n : ℕ) (conflicts : List ℕ) (tally : Tally) (scratch : List ℕ) (pieces : Option (List (List ℕ))) : Type 0 where
+pub record Stands (g : Geometry) (n : ℕ) (conflicts : List ℕ) (tally : RowTally) (scratch : List ℕ) (pieces : Option (List (List ℕ))) : Type 0 where
   pub scratch_size : length scratch ≡ page_bytes g
   pub few : AreFew n tally
   pub listed : AreListed n conflicts

@@ -7,7 +7,7 @@ use Rattle.page_layout.specs.Sound.{record_of}
 use Rattle.page_layout.specs.Block.{is_broken}
 use Rattle.lab_dump.specs.PageBytes.{is_sound, bit_count, page_bit}
 use Rattle.lab_mend.specs.declared.mending.Turned.{Turned}
-use Rattle.lab_mend.specs.declared.pairs.Pair.{Pair}
+use Rattle.lab_mend.specs.declared.pairs.BitPair.{BitPair}
 use Rattle.lab_mend.specs.declared.pairs.Turn.{Turn}
 use Rattle.lab_mend.specs.declared.pairs.Turn.TheVariants.{One, Two, Tied, Nothing}
 use Rattle.lab_mend.specs.declared.pairs.Seen.{Seen}
@@ -21,15 +21,15 @@ unfoldable pub second_bits : Page → ℕ → List ℕ
 second_bits p k = filter (λ l. is_sound (turned p l)) (range_with_len (k + 1) (bit_count p - (k + 1)))
 
 -- these bits, each with bit k
-abbrev pub pairs_with : ℕ → List ℕ → List Pair
+abbrev pub pairs_with : ℕ → List ℕ → List BitPair
 pairs_with k bits = map (λ l. record { low = k; high = l }) bits
 
 -- the pairs of bits whose turning makes the page sound, by rising lower bit
-unfoldable pub sound_pairs : Page → List Pair
+unfoldable pub sound_pairs : Page → List BitPair
 sound_pairs p = flat_map (λ k. pairs_with k (second_bits (turned p k) k)) (range_with_len 0 (bit_count p))
 
 -- what these pairs come to: the one, where there is just one
-abbrev pub by_pairs : List Pair → Turn
+abbrev pub by_pairs : List BitPair → Turn
 by_pairs [] = Nothing
 by_pairs (b ∷ []) = Two b
 by_pairs (b ∷ c ∷ more) = Tied
@@ -66,7 +66,7 @@ repaired bits p = turned_by p (turn_of bits p)
 -- ---- while pairs are tried
 
 -- what the pairs that were seen come to with these behind them
-abbrev pub seen_with : Seen → List Pair → Turn
+abbrev pub seen_with : Seen → List BitPair → Turn
 seen_with Never more = by_pairs more
 seen_with (Once b) more = by_pairs (b ∷ more)
 seen_with Twice more = Tied
@@ -81,8 +81,8 @@ pub record MakeSound (p : Page) (k l : ℕ) : Type 0 where
 
 -- two pairs of bits make it sound
 pub record HasTwoPairs (p : Page) : Type 0 where
-  pub first : Pair
-  pub second : Pair
+  pub first : BitPair
+  pub second : BitPair
   pub one : MakeSound p first.low first.high
   pub other : MakeSound p second.low second.high
   pub apart : ¬ (first ≡ second)
@@ -99,7 +99,7 @@ abbrev pub TurnLaw : Type 0
 TurnLaw = (bits : ℕ) (p : Page) (t : Turn) → turn_of bits p ≡ Some t → (is_broken p ≡ true) × Tells p t
 
 -- the other page has areas of the same lengths, and differs in these two bits and in no other
-pub record DiffersInTwo (p q : Page) (b : Pair) : Type 0 where
+pub record DiffersInTwo (p q : Page) (b : BitPair) : Type 0 where
   pub apart : b.low < b.high
   pub within : b.high < bit_count p
   pub body_size : length q.body ≡ length p.body
@@ -115,7 +115,7 @@ pub record IsOneBitOff (p q : Page) : Type 0 where
 
 -- the other page is sound, and two bits away
 pub record AreTwoBitsOff (bits : ℕ) (p q : Page) : Type 0 where
-  pub pair : Pair
+  pub pair : BitPair
   pub turn_is : turn_of bits p ≡ Some (Two pair)
   pub sound : IsSome (record_of q)
   pub differs : DiffersInTwo p q pair
@@ -126,7 +126,7 @@ RepairedLaw = (bits : ℕ) (p : Page) → (repaired bits p ≡ p) ⊎ IsOneBitOf
 
 -- No other sound page differs in two bits or in fewer from one of which two are turned.
 abbrev pub OnlyLaw : Type 0
-OnlyLaw = (bits : ℕ) (p q : Page) (b : Pair) → turn_of bits p ≡ Some (Two b) → HasBytes p → HasBytes q → length q.body ≡ length p.body → length q.spare ≡ length p.spare
+OnlyLaw = (bits : ℕ) (p q : Page) (b : BitPair) → turn_of bits p ≡ Some (Two b) → HasBytes p → HasBytes q → length q.body ≡ length p.body → length q.spare ≡ length p.spare
     → IsSome (record_of q) → turned_count p q ≤ 2 → q ≡ repaired bits p
 
 -- A sound page and an erased one stay as they are.

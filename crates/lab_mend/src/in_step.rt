@@ -1,10 +1,10 @@
 //! Readers of one die that are read in step, a page of each at a time.
 ghost use Rattle.std.specs.Prelude.{◌≡◌, ◌⊎◌, ◌<◌, ◌+◌, ◌*◌, ℕ, List, length, map, get_or, true, false, OnOk, IfErr};
 ghost use Rattle.lab_dump.specs.declared.pass.Cut.TheVariants as cuts;
-ghost use Rattle.lab_dump.specs.declared.pass.ScanFault.TheVariants as faults;
+ghost use Rattle.lab_dump.specs.declared.pass.PassFault.TheVariants as faults;
 ghost use Rattle.lab_mend.specs.InStep.{AreAt, AreRead, HaveEnded, IsLongAt, IsShortAt};
 
-use lab_dump::{Cut, DumpReader, ScanFault, expect_end, fill};
+use lab_dump::{Cut, DumpReader, PassFault, expect_end, fill};
 
 // Why a page was not read: of which reader, counted from 0, and why.
 #[derive(Clone, Copy)]
@@ -17,7 +17,7 @@ pub(crate) struct ReadingCut {
 #[derive(Clone, Copy)]
 pub(crate) struct ReadingFault {
     pub(crate) reading: usize,
-    pub(crate) fault: ScanFault,
+    pub(crate) fault: PassFault,
 }
 
 // Reads a piece of this size from each, one behind another.

@@ -30,8 +30,8 @@ pub use laws::{
 };
 pub use mending::{Made, Turned};
 pub use merge::{MergeFault, MergeRoom, Merged, Unmerged, merge_dumps};
-pub use merging::{Tally, TriedRow};
-pub use pairs::{Pair, Turn, Watch};
+pub use merging::{RowTally, TriedRow};
+pub use pairs::{BitPair, Turn, Watch};
 pub use repair::{RepairRoom, Repaired, repair_dump};
 pub use repairing::{Mend, RepairAsked, Repairing, count_mended};
 pub use trial::Trial;

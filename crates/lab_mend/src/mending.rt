@@ -11,7 +11,7 @@ ghost use Rattle.lab_mend.specs.Pairs.{by_pairs, repaired, sound_pairs, turn_of,
 ghost use Rattle.lab_mend.specs.Repairing.{IsOwn, piece_at, turn_at};
 
 use crate::bits::turn;
-use crate::pairs::{Pair, Turn, Watch, try_pairs};
+use crate::pairs::{BitPair, Turn, Watch, try_pairs};
 use crate::repairing::RepairAsked;
 use crate::seal::Prefix;
 use lab_dump::{is_asked, is_broken, join_page};
@@ -104,7 +104,7 @@ fn turn_first(geometry: &Geometry, bytes: &mut [u8]) -> Option<Turned>
 }
 
 // Turns these two bits.
-fn turn_both(geometry: &Geometry, bytes: &mut [u8], pair: Pair)
+fn turn_both(geometry: &Geometry, bytes: &mut [u8], pair: BitPair)
     requires whole { length bytes.old ≡ page_bytes geometry.now }
     requires low_in { pair.low < bits_of bytes.old }
     requires high_in { pair.high < bits_of bytes.old }

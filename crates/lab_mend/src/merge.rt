@@ -10,9 +10,9 @@ ghost use Rattle.lab_mend.specs.Merged.{IsMerged, IsOfReading, IsOwnMerge, IsPin
 ghost use Rattle.lab_mend.specs.Rooms.{IsMergeRoom};
 
 use crate::in_step::{ReadingCut, ReadingFault, expect_ends, read_row};
-use crate::merging::{Merging, Tally, TriedRow};
+use crate::merging::{Merging, RowTally, TriedRow};
 use crate::trial::{MOST_BITS, TrialRoom};
-use lab_dump::{Cut, DumpReader, PageTarget, ScanFault, TargetFault};
+use lab_dump::{Cut, DumpReader, PageTarget, PassFault, TargetFault};
 use page_layout::geometry::Geometry;
 use std::alloc::{AllocError, Global};
 use thiserror::Error;
@@ -51,8 +51,8 @@ impl From<ReadingFault> for MergeFault {
 
     fn from(end: ReadingFault) -> MergeFault {
         match end.fault {
-            ScanFault::WrongLength => MergeFault::WrongLength(end.reading),
-            ScanFault::Source | ScanFault::Stopped => MergeFault::Source(end.reading),
+            PassFault::WrongLength => MergeFault::WrongLength(end.reading),
+            PassFault::Source | PassFault::Stopped => MergeFault::Source(end.reading),
         }
     }
 }
@@ -87,7 +87,7 @@ pub struct Merged<T> {
     /// The rows of which pages were tried, and what came of them, by rising row.
     pub tried: Vec<TriedRow>,
     /// How many of the other rows there are, by what was written of them.
-    pub tally: Tally,
+    pub tally: RowTally,
     /// The file of pages.
     pub target: T,
 }
@@ -253,7 +253,7 @@ pub fn merge_dumps<R: DumpReader, T: PageTarget + Drop>(
         unsound: room.unsound,
         tried: room.tried,
         room: room.trial,
-        tally: Tally {
+        tally: RowTally {
             sound: 0,
             majority: 0,
             turned: 0,

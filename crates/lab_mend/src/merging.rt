@@ -13,7 +13,7 @@ use page_layout::geometry::Geometry;
 
 /// How many rows there are whose sound pages do not differ, by what was written of them.
 #[derive(Clone, Copy, Debug, PartialEq, Eq)]
-pub struct Tally {
+pub struct RowTally {
     /// The page that is sound in some reading.
     pub sound: u32,
     /// The majority of each bit, which is sound.
@@ -44,16 +44,16 @@ pub(crate) struct Merging<T> {
     pub(crate) unsound: Vec<u32>,
     // those of which pages were tried
     pub(crate) tried: Vec<TriedRow>,
-    pub(crate) tally: Tally,
+    pub(crate) tally: RowTally,
     pub(crate) room: TrialRoom,
     // the page at hand
     pub(crate) scratch: Vec<u8>,
     pub(crate) target: T,
 }
 
-impl Tally {
+impl RowTally {
     // With one row more.
-    fn count(self, origin: Origin) -> Tally
+    fn count(self, origin: Origin) -> RowTally
         requires sound { self.sound + 1 < 2 ^ 32 }
         requires majority { self.majority + 1 < 2 ^ 32 }
         requires turned { self.turned + 1 < 2 ^ 32 }

@@ -2,7 +2,7 @@
 ghost use Rattle.std.specs.Prelude.{◌≡◌, ◌<◌, ◌++◌, List, [], ◌∷◌, length};
 ghost use Rattle.page_layout.specs.Geometry.{page_bytes};
 ghost use Rattle.lab_dump.specs.PageBytes.{bits_of, page_of};
-ghost use Rattle.lab_mend.specs.declared.pairs.Pair.{Pair};
+ghost use Rattle.lab_mend.specs.declared.pairs.BitPair.{BitPair};
 ghost use Rattle.lab_mend.specs.Pairs.{by_pairs, pairs_with, second_bits, seen_with, sound_pairs};
 ghost use Rattle.lab_mend.specs.Seal.{HasTaken};
 
@@ -13,7 +13,7 @@ use page_layout::geometry::Geometry;
 
 /// Two bits of a page.
 #[derive(Clone, Copy, Debug, PartialEq, Eq)]
-pub struct Pair {
+pub struct BitPair {
     /// The lower one.
     pub low: u32,
     /// The higher one.
@@ -26,7 +26,7 @@ pub enum Turn {
     /// One bit was turned.
     One(Turned),
     /// Two bits were turned, which alone make the page sound.
-    Two(Pair),
+    Two(BitPair),
     /// None was: several pairs of bits make the page sound.
     Tied,
     /// None was: no pair does.
@@ -45,19 +45,19 @@ pub(crate) enum Seen {
     // there is none
     Never,
     // there is this one
-    Once(Pair),
+    Once(BitPair),
     // there are several
     Twice,
 }
 
 impl Seen {
     ghost use Rattle.std.specs.Prelude.{◌≡◌, List, [], ◌∷◌};
-    ghost use Rattle.lab_mend.specs.declared.pairs.Pair.{Pair};
+    ghost use Rattle.lab_mend.specs.declared.pairs.BitPair.{BitPair};
     ghost use Rattle.lab_mend.specs.Pairs.{seen_with};
 
     // With one pair more.
-    fn with(self, pair: Pair) -> Seen
-        ensures { (more : List Pair) → seen_with result more ≡ seen_with self (pair ∷ more) }
+    fn with(self, pair: BitPair) -> Seen
+        ensures { (more : List BitPair) → seen_with result more ≡ seen_with self (pair ∷ more) }
     {
         match self {
             Seen::Never => Seen::Once(pair),
@@ -84,7 +84,7 @@ fn try_second(geometry: &Geometry, bytes: &mut [u8], prefix: &Prefix, low: u32, 
     requires low_in { low < bits_of bytes.old }
     requires taken { HasTaken geometry.now.data_bytes bytes.old low prefix.now }
     ensures same { bytes.new ≡ bytes.old }
-    ensures seen { (more : List Pair) → seen_with result more ≡ seen_with seen (pairs_with low (second_bits (page_of geometry.now.data_bytes bytes.old) low) ++ more) }
+    ensures seen { (more : List BitPair) → seen_with result more ≡ seen_with seen (pairs_with low (second_bits (page_of geometry.now.data_bytes bytes.old) low) ++ more) }
 {
     let bits = 8 * bytes.len() as u32;
     let mut prefix = prefix.copy();
@@ -92,7 +92,7 @@ fn try_second(geometry: &Geometry, bytes: &mut [u8], prefix: &Prefix, low: u32, 
     for high in low + 1..bits {
         turn(bytes, high);
         if prefix.is_sound(geometry, bytes, high) {
-            seen = seen.with(Pair { low, high });
+            seen = seen.with(BitPair { low, high });
         }
         turn(bytes, high);
         prefix.pass(geometry, bytes, high);

@@ -20,8 +20,8 @@ use Rattle.page_layout.proofs.ArrayLemmas.{latest-newest, length-marks}
 use Rattle.page_layout.proofs.NewestLemmas.{newest-is, newest_from}
 use Rattle.lab_dump.specs.Held.{shown_by}
 use Rattle.lab_dump.specs.Written.{state_of}
-use Rattle.lab_dump.specs.declared.mark.Mark.{Mark}
-use Rattle.lab_dump.specs.declared.mark.Mark.TheVariants as mark
+use Rattle.lab_dump.specs.declared.mark.MapMark.{MapMark}
+use Rattle.lab_dump.specs.declared.mark.MapMark.TheVariants as mark
 use Rattle.lab_origin.specs.Origin.{AlikeLaw, FinishedLaw, MendedLaw, IsOf, IsOfNone, has_at, image_of, is_read, mark_by, mark_of, plain, read_mark, row_bytes}
 
 -- ---- the page of a row
@@ -79,7 +79,7 @@ once_at g last dump n row h =
 
 -- ---- laws
 
-by_read : (b : Bool) (m : Mark) → read_mark b ≡ m → (m ≡ mark.Mended → b ≡ false) × (m ≡ mark.Finished → b ≡ true)
+by_read : (b : Bool) (m : MapMark) → read_mark b ≡ m → (m ≡ mark.Mended → b ≡ false) × (m ≡ mark.Finished → b ≡ true)
 by_read true m e = (λ is. absurd (cc), λ is. refl)
 by_read false m e = (λ is. refl, λ is. absurd (cc))
 

@@ -29,8 +29,8 @@ use Rattle.lab_dump.specs.PageBytes.{page_of}
 use Rattle.lab_dump.specs.Until.{counted, is_later, page_until, until}
 use Rattle.lab_dump.specs.Writing.{sector_in}
 use Rattle.lab_dump.proofs.WritingLemmas.{within_is, IsOfNone}
-use Rattle.lab_dump.specs.declared.mark.Mark.{Mark}
-use Rattle.lab_dump.specs.declared.mark.Mark.TheVariants as mark
+use Rattle.lab_dump.specs.declared.mark.MapMark.{MapMark}
+use Rattle.lab_dump.specs.declared.mark.MapMark.TheVariants as mark
 use Rattle.lab_origin.specs.declared.newest.Change.{Change}
 use Rattle.lab_origin.specs.declared.newest.Change.TheVariants as change
 use Rattle.lab_origin.specs.Origin.{image_of, is_read, mark_by, mark_of, marks_of, read_mark, row_bytes}
@@ -67,12 +67,12 @@ never_never (latest.Tied a b u) row s e = by (nat_lt u s) e
     by false is = cc
 
 -- the mark that it makes of one
-abbrev pub MarkIs : Change → Bool → Mark → Mark → Type 0
+abbrev pub MarkIs : Change → Bool → MapMark → MapMark → Type 0
 MarkIs change.Stays read was new = new ≡ was
 MarkIs change.Newest read was new = new ≡ read_mark read
 MarkIs change.Tie read was new = new ≡ mark.Bad
 
-pub marked : (read : ℕ → Bool) (row : ℕ) (c : Change) (before after : Latest) (was new : Mark) → Does c row before after → was ≡ mark_by read before → MarkIs c (read row) was new → new ≡ mark_by read after
+pub marked : (read : ℕ → Bool) (row : ℕ) (c : Change) (before after : Latest) (was new : MapMark) → Does c row before after → was ≡ mark_by read before → MarkIs c (read row) was new → new ≡ mark_by read after
 marked read row change.Stays before after was new does held is = is ∙ (held ∙ ap (mark_by read) (sym does))
 marked read row change.Newest before after was new does held is = is ∙ sym (ap (mark_by read) does.1)
 marked read row change.Tie before after was new does held is = is ∙ sym (ap (mark_by read) does.3)
@@ -80,7 +80,7 @@ marked read row change.Tie before after was new does held is = is ∙ sym (ap (m
 -- ---- a row
 
 -- one that says nothing of a sector
-pub not_taken : (g : Geometry) (records : List (Option Record)) (read : ℕ → Bool) (row : ℕ) (ls : List Latest) (ms : List Mark) → Shows g records read row ls ms → IsOfNone g records row → Shows g records read (row + 1) ls ms
+pub not_taken : (g : Geometry) (records : List (Option Record)) (read : ℕ → Bool) (row : ℕ) (ls : List Latest) (ms : List MapMark) → Shows g records read row ls ms → IsOfNone g records row → Shows g records read (row + 1) ls ms
 not_taken g records read row ls ms h none = record {
   latest_is = λ n l. h.latest_is n l ∙ sym (latest_other records (key.Sector n) row (none n l));
   mark_is = λ n l. h.mark_is n l ∙ ap (mark_by read) (sym (latest_other records (key.Sector n) row (none n l)));
@@ -95,7 +95,7 @@ here records row n r at same =
     latest_more records (key.Sector n) row ∙ ap (step (latest_below records (key.Sector n) row) row) seen
 
 -- one of a sound page of sector n, which makes this of what is held
-pub taken : (g : Geometry) (records : List (Option Record)) (read : ℕ → Bool) (row n : ℕ) (r : Record) (ls : List Latest) (ms : List Mark) (old next : Latest) (new : Mark) (c : Change) → Shows g records read row ls ms → AreSized g ls ms
+pub taken : (g : Geometry) (records : List (Option Record)) (read : ℕ → Bool) (row n : ℕ) (r : Record) (ls : List Latest) (ms : List MapMark) (old next : Latest) (new : MapMark) (c : Change) → Shows g records read row ls ms → AreSized g ls ms
     → sector_in g r ≡ Some n → get_or records row None ≡ Some r → old ≡ get_or ls n old → next ≡ step old row (Some r.sequence) → Does c row old next → MarkIs c (read row) (get_or ms n mark.Untried) new
     → Shows g records read (row + 1) (set ls n next) (set ms n new)
 taken g records read row n r ls ms old next new c h sized in_die at old_is next_is does is =
@@ -119,7 +119,7 @@ taken g records read row n r ls ms old next new c h sized in_die at old_is next_
       ];
     }
 
-pub taken_sized : (g : Geometry) (ls : List Latest) (ms : List Mark) (n : ℕ) (next : Latest) (new : Mark) → AreSized g ls ms → AreSized g (set ls n next) (set ms n new)
+pub taken_sized : (g : Geometry) (ls : List Latest) (ms : List MapMark) (n : ℕ) (next : Latest) (new : MapMark) → AreSized g ls ms → AreSized g (set ls n next) (set ms n new)
 taken_sized g ls ms n next new h = record { latest_size = length-set ls n next ∙ h.latest_size; marks_size = length-set ms n new ∙ h.marks_size }
 
 -- ---- the image as of a sequence
@@ -143,16 +143,16 @@ counted_record g (Some l) p = by (is_later l (record_of p))
 
 -- ---- before the first row, and behind the last one
 
-pub nothing_yet : (g : Geometry) (ls : List Latest) (ms : List Mark) → ls ≡ replicate g.sectors latest.Never → ms ≡ replicate g.sectors mark.Untried → (records : List (Option Record)) (read : ℕ → Bool) → Shows g records read 0 ls ms
+pub nothing_yet : (g : Geometry) (ls : List Latest) (ms : List MapMark) → ls ≡ replicate g.sectors latest.Never → ms ≡ replicate g.sectors mark.Untried → (records : List (Option Record)) (read : ℕ → Bool) → Shows g records read 0 ls ms
 nothing_yet g ls ms a b records read = record {
   latest_is = λ n l. ap (λ xs. get_or xs n latest.Never) a ∙ (get_or-replicate g.sectors n latest.Never latest.Never l ∙ sym (latest_start records (key.Sector n)));
   mark_is = λ n l. ap (λ xs. get_or xs n mark.Untried) b ∙ (get_or-replicate g.sectors n mark.Untried mark.Untried l ∙ sym (ap (mark_by read) (latest_start records (key.Sector n))));
 }
 
-pub sized_first : (g : Geometry) (ls : List Latest) (ms : List Mark) → ls ≡ replicate g.sectors latest.Never → ms ≡ replicate g.sectors mark.Untried → AreSized g ls ms
+pub sized_first : (g : Geometry) (ls : List Latest) (ms : List MapMark) → ls ≡ replicate g.sectors latest.Never → ms ≡ replicate g.sectors mark.Untried → AreSized g ls ms
 sized_first g ls ms a b = record { latest_size = ap length a ∙ length-replicate g.sectors latest.Never; marks_size = ap length b ∙ length-replicate g.sectors mark.Untried }
 
-pub all_marks : (g : Geometry) (last : Option ℕ) (all : List ℕ) (files : List (List ℕ)) (ls : List Latest) (ms : List Mark) → AreSized g ls ms → Shows g (marks (image_of g last all)) (is_read g all files) (row_count g) ls ms → ms ≡ marks_of g last all files
+pub all_marks : (g : Geometry) (last : Option ℕ) (all : List ℕ) (files : List (List ℕ)) (ls : List Latest) (ms : List MapMark) → AreSized g ls ms → Shows g (marks (image_of g last all)) (is_read g all files) (row_count g) ls ms → ms ≡ marks_of g last all files
 unfolding mark_of
 all_marks g last all files ls ms sized h =
     let f = mark_of g last all files in

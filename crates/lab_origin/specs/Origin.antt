@@ -13,10 +13,10 @@ use Rattle.page_layout.specs.Array.{marks}
 use Rattle.page_layout.specs.Raw.{raw_image}
 use Rattle.lab_dump.specs.Until.{until}
 use Rattle.lab_dump.specs.Written.{state_of}
-use Rattle.lab_dump.specs.declared.held.Shown.{Shown}
-use Rattle.lab_dump.specs.declared.held.Shown.TheVariants as shown
-use Rattle.lab_dump.specs.declared.mark.Mark.{Mark}
-use Rattle.lab_dump.specs.declared.mark.Mark.TheVariants as mark
+use Rattle.lab_dump.specs.declared.held.SectorShown.{SectorShown}
+use Rattle.lab_dump.specs.declared.held.SectorShown.TheVariants as shown
+use Rattle.lab_dump.specs.declared.mark.MapMark.{MapMark}
+use Rattle.lab_dump.specs.declared.mark.MapMark.TheVariants as mark
 
 -- ---- the page of a row
 
@@ -34,12 +34,12 @@ is_read g dump readings row = list_any (λ reading. bytes_eq (row_bytes g readin
 
 -- ---- a sector
 
-abbrev pub read_mark : Bool → Mark
+abbrev pub read_mark : Bool → MapMark
 read_mark true = mark.Finished
 read_mark false = mark.Mended
 
 -- how it is marked by what is known of its newest page, where this says of which rows a reading has the page
-abbrev pub mark_by : (ℕ → Bool) → Latest → Mark
+abbrev pub mark_by : (ℕ → Bool) → Latest → MapMark
 mark_by read Never = mark.Untried
 mark_by read (Once row s) = read_mark (read row)
 mark_by read (Tied a b s) = mark.Bad
@@ -50,14 +50,14 @@ image_of g last dump = until g last (raw_image g dump)
 
 -- HOW SECTOR N IS MARKED
 -- Laws: `Mended` just where no reading has its newest page (`MendedLaw`), and else as the array's own map has it (`AlikeLaw`).
-unfoldable pub mark_of : Geometry → Option ℕ → List ℕ → List (List ℕ) → ℕ → Mark
+unfoldable pub mark_of : Geometry → Option ℕ → List ℕ → List (List ℕ) → ℕ → MapMark
 mark_of g last dump readings n = mark_by (is_read g dump readings) (latest_below (marks (image_of g last dump)) (Sector n) (length (image_of g last dump)))
 
 -- all sectors, in order
-abbrev pub marks_of : Geometry → Option ℕ → List ℕ → List (List ℕ) → List Mark
+abbrev pub marks_of : Geometry → Option ℕ → List ℕ → List (List ℕ) → List MapMark
 marks_of g last dump readings = map (mark_of g last dump readings) (range_with_len 0 g.sectors)
 
-abbrev pub is_mended : Mark → Bool
+abbrev pub is_mended : MapMark → Bool
 is_mended mark.Untried = false
 is_mended mark.Finished = false
 is_mended mark.Mended = true
@@ -86,7 +86,7 @@ abbrev pub FinishedLaw : Type 0
 FinishedLaw = (g : Geometry) (last : Option ℕ) (dump : List ℕ) (readings : List (List ℕ)) (n : ℕ) → (mark_of g last dump readings n ≡ mark.Finished) ↔ ((row : ℕ) × IsOf g last dump readings n row)
 
 -- how the array's own map has it, which knows of no reading
-abbrev pub plain : Mark → Shown
+abbrev pub plain : MapMark → SectorShown
 plain mark.Untried = shown.Absent
 plain mark.Finished = shown.Found
 plain mark.Mended = shown.Found

@@ -2,7 +2,7 @@
 use Rattle.std.specs.Prelude.{◌≡◌, ℕ, ◌<◌, Bool, true, false, List, [], length, get_or, Option, None, IfSome}
 use Rattle.page_layout.specs.declared.geometry.Geometry.{Geometry}
 use Rattle.lab_dump.specs.Scan.{image_bytes}
-use Rattle.lab_dump.specs.declared.mark.Mark.{Mark}
+use Rattle.lab_dump.specs.declared.mark.MapMark.{MapMark}
 use Rattle.lab_origin.specs.declared.readings.ReadingFault.{ReadingFault}
 use Rattle.lab_origin.specs.declared.readings.ReadingFault.TheVariants as reading
 use Rattle.lab_origin.specs.declared.trace.OriginFault.{OriginFault}
@@ -16,7 +16,7 @@ abbrev pub AreWhole : Geometry → List (List ℕ) → Type 0
 AreWhole g files = (i : ℕ) → i < length files → length (get_or files i []) ≡ image_bytes g
 
 -- So have the dump and its readings, and the marks are those of its sectors.
-pub record IsTraced (g : Geometry) (last : Option ℕ) (dump : List ℕ) (readings : List (List ℕ)) (marks : List Mark) : Type 0 where
+pub record IsTraced (g : Geometry) (last : Option ℕ) (dump : List ℕ) (readings : List (List ℕ)) (marks : List MapMark) : Type 0 where
   pub whole : length dump ≡ image_bytes g
   pub readings_whole : AreWhole g readings
   pub marks_are : marks ≡ marks_of g last dump readings

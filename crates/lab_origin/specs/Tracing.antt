@@ -8,8 +8,8 @@ use Rattle.page_layout.specs.declared.record.Key.TheVariants.{Sector}
 use Rattle.page_layout.specs.declared.newest.Latest.{Latest}
 use Rattle.page_layout.specs.declared.newest.Latest.TheVariants.{Never, Once, Tied}
 use Rattle.page_layout.specs.Newest.{latest_below}
-use Rattle.lab_dump.specs.declared.mark.Mark.{Mark}
-use Rattle.lab_dump.specs.declared.mark.Mark.TheVariants.{Untried}
+use Rattle.lab_dump.specs.declared.mark.MapMark.{MapMark}
+use Rattle.lab_dump.specs.declared.mark.MapMark.TheVariants.{Untried}
 use Rattle.lab_origin.specs.declared.newest.Change.{Change}
 use Rattle.lab_origin.specs.declared.newest.Change.TheVariants as change
 use Rattle.lab_origin.specs.declared.room.OriginRoom.{OriginRoom}
@@ -30,12 +30,12 @@ abbrev pub have_at : ℕ → List ℕ → List (List ℕ) → Bool
 have_at at piece files = list_any (has_at at piece) files
 
 -- there is a place for each sector
-pub record AreSized (g : Geometry) (latest : List Latest) (marks : List Mark) : Type 0 where
+pub record AreSized (g : Geometry) (latest : List Latest) (marks : List MapMark) : Type 0 where
   pub latest_size : length latest ≡ g.sectors
   pub marks_size : length marks ≡ g.sectors
 
 -- what is held of each sector is what the first rows say, where this says of which rows a reading has the page
-pub record Shows (g : Geometry) (records : List (Option Record)) (read : ℕ → Bool) (rows : ℕ) (latest : List Latest) (marks : List Mark) : Type 0 where
+pub record Shows (g : Geometry) (records : List (Option Record)) (read : ℕ → Bool) (rows : ℕ) (latest : List Latest) (marks : List MapMark) : Type 0 where
   pub latest_is : (n : ℕ) → n < g.sectors → get_or latest n Never ≡ latest_below records (Sector n) rows
   pub mark_is : (n : ℕ) → n < g.sectors → get_or marks n Untried ≡ mark_by read (latest_below records (Sector n) rows)
 

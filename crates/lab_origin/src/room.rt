@@ -1,5 +1,5 @@
 //! The memory of a run that holds a dump beside its readings.
-use lab_dump::Mark;
+use lab_dump::MapMark;
 use page_layout::geometry::Geometry;
 use page_layout::newest::Latest;
 use std::alloc::{AllocError, Global};
@@ -12,7 +12,7 @@ pub struct OriginRoom {
     pub(crate) other: Vec<u8>,
     // what is held of each sector
     pub(crate) latest: Vec<Latest>,
-    pub(crate) marks: Vec<Mark>,
+    pub(crate) marks: Vec<MapMark>,
 }
 
 impl OriginRoom {
@@ -33,7 +33,7 @@ impl OriginRoom {
             page: vec![in alloc; 0; size]?,
             other: vec![in alloc; 0; size]?,
             latest: vec![in alloc; Latest::Never; sectors]?,
-            marks: vec![in alloc; Mark::Untried; sectors]?,
+            marks: vec![in alloc; MapMark::Untried; sectors]?,
         })
     }
 }

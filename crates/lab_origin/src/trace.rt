@@ -15,7 +15,7 @@ use crate::mark::read_mark;
 use crate::newest::{Change, counted, sector_in, step};
 use crate::readings::{ReadingFault, Unread, expect_whole, have_piece, is_whole};
 use crate::room::OriginRoom;
-use lab_dump::{Dump, DumpFault, Mark};
+use lab_dump::{Dump, DumpFault, MapMark};
 use page_layout::geometry::Geometry;
 use page_layout::newest::Latest;
 use page_layout::record::{Record, read_record};
@@ -75,7 +75,7 @@ struct Tracing {
     // the last sequence that counts, where not all do
     until: Option<u64>,
     latest: Vec<Latest>,
-    marks: Vec<Mark>,
+    marks: Vec<MapMark>,
 }
 
 // How a sector is marked that is shown from this page, which stands at this place of the dump.
@@ -84,7 +84,7 @@ fn mark_of<D: Dump>(
     at: u64,
     page: &[u8],
     other: &mut [u8],
-) -> Result<Mark, Unread>
+) -> Result<MapMark, Unread>
     requires { length other.old ≡ length page.now }
     ensures mark { IfOk result (λ mark. (files : List (List ℕ)) → Tell (map D.bytes readings.old) files → mark ≡ read_mark (have_at at page.now files)) }
     ensures same { map D.bytes readings.new ≡ map D.bytes readings.old }
@@ -128,7 +128,7 @@ impl Tracing {
         let mark = match change {
             Change::Stays => self.marks[place],
             Change::Newest => mark_of(readings, u64::from(row) * page.len() as u64, page, other)?,
-            Change::Tie => Mark::Bad,
+            Change::Tie => MapMark::Bad,
         };
         self.latest[place] = latest;
         self.marks[place] = mark;
@@ -243,7 +243,7 @@ pub fn trace_origins<D: Dump>(
     readings: &mut [D],
     geometry: &Geometry,
     until: Option<u64>,
-) -> Result<Vec<Mark>, OriginFault>
+) -> Result<Vec<MapMark>, OriginFault>
     requires { IsOriginRoom geometry.now room }
     ensures ok { IfOk result (λ marks. (all : List ℕ) (files : List (List ℕ)) → D.bytes dump.old ≡ Some all → Tell (map D.bytes readings.old) files → IsTraced geometry.now until all files marks.items) }
     ensures sized { IfOk result (λ marks. length marks.items ≡ geometry.now.sectors) }

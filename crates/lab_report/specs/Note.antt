@@ -3,7 +3,7 @@ use Rattle.std.specs.Prelude.{ℕ, List, map, string_bytes}
 use Rattle.lab_report.specs.declared.content.Content.{Content}
 use Rattle.lab_report.specs.declared.note.FileNote.{FileNote}
 use Rattle.lab_report.specs.declared.note.Noted.{Noted}
-use Rattle.lab_report.specs.declared.note.Report.{Report}
+use Rattle.lab_report.specs.declared.note.RunReport.{RunReport}
 
 -- a file: its name, how many bytes it has, and their SHA-256
 pub record Note : Type 0 where
@@ -29,7 +29,7 @@ pub record Told : Type 0 where
   pub read : List Note
   pub wrote : List Note
 
-abbrev pub told_by : Report → Told
+abbrev pub told_by : RunReport → Told
 told_by r = record {
   program = string_bytes r.program;
   version = string_bytes r.version;

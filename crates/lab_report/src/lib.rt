@@ -12,5 +12,5 @@ mod tests;
 pub use content::{Content, Hashing, TooLong, content_of};
 pub use json_text::{Run, report_line};
 pub use laws::report_laws;
-pub use note::{FileNote, Noted, Report};
+pub use note::{FileNote, Noted, RunReport};
 pub use reading::{ReportFault, read_report};

@@ -19,7 +19,7 @@ pub struct FileNote {
 
 /// A report of a run. (This project's.)
 #[derive(Drop)]
-pub struct Report {
+pub struct RunReport {
     /// The program's name.
     pub program: String,
     /// The program's version.

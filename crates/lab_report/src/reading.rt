@@ -7,7 +7,7 @@ ghost use Rattle.lab_report.specs.Note.{named_as, note_of, told_by};
 ghost use Rattle.lab_report.specs.Reading.{IsNoReport, all_in, digest_in, each_in, note_in, number_in, report_in, text_in, told_in, without_feed};
 
 use crate::content::Content;
-use crate::note::{FileNote, Report};
+use crate::note::{FileNote, RunReport};
 use hex::FromHex;
 use serde_json::Value;
 use std::alloc::{AllocError, Global};
@@ -177,7 +177,7 @@ fn string_at(alloc: Global, value: &Value, name: &str) -> Result<String, ReportF
 
 // What an object says of a run.
 #[tactic(auto, unfolding(crate::specs::Reading::told_in))]
-fn report_at(alloc: Global, value: &Value) -> Result<Report, ReportFault>
+fn report_at(alloc: Global, value: &Value) -> Result<RunReport, ReportFault>
     ensures ok { IfOk result (λ report. told_in (view value.now) ≡ Some (told_by report)) }
     ensures none { result ≡ Err ReportFault.NotReport → told_in (view value.now) ≡ None }
 {
@@ -186,7 +186,7 @@ fn report_at(alloc: Global, value: &Value) -> Result<Report, ReportFault>
     let words = words_at(alloc, value, "words")?;
     let read = notes_at(alloc, value, "read")?;
     let wrote = notes_at(alloc, value, "wrote")?;
-    Ok(Report {
+    Ok(RunReport {
         program,
         version,
         words,
@@ -213,7 +213,7 @@ fn without_line_feed(text: &[u8]) -> &[u8]
 /// `NotReport` where they say none, `OutOfMemory` where a growth was refused.
 ///
 /// (The form is this project's.)
-pub fn read_report(alloc: Global, bytes: &[u8]) -> Result<Report, ReportFault>
+pub fn read_report(alloc: Global, bytes: &[u8]) -> Result<RunReport, ReportFault>
     ensures ok { IfOk result (λ report. report_in bytes.now ≡ Some (told_by report)) }
     ensures none { result ≡ Err ReportFault.NotReport → IsNoReport bytes.now }
 {

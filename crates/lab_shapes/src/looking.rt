@@ -7,7 +7,7 @@ ghost use Rattle.lab_dump.specs.Told.{told_of};
 ghost use Rattle.lab_shapes.specs.Ordered.{follows, in_turn_of, is_in_turn, look_in, ordered, sample_first};
 
 use lab_arrange::{Arrangement, read_page};
-use lab_dump::{Dump, DumpFault, Look, Sample, Told, look_in, looked_count, looked_row};
+use lab_dump::{Dump, DumpFault, Look, PagesTold, Sample, look_in, looked_count, looked_row};
 use page_layout::geometry::Geometry;
 
 // What the page of a row is, when the dump is put in order. `raw` and `page` are scratch.
@@ -74,7 +74,7 @@ pub(crate) fn told_in_order<D: Dump>(
     arrangement: &Arrangement,
     raw: &mut [u8],
     page: &mut [u8],
-) -> Result<Told, DumpFault>
+) -> Result<PagesTold, DumpFault>
     requires fits { IsFitting geometry.now arrangement.now }
     requires page_room { length page.old ≡ page_bytes geometry.now }
     requires raw_room { length raw.old ≡ page_bytes geometry.now + 2 }
@@ -83,7 +83,7 @@ pub(crate) fn told_in_order<D: Dump>(
     ensures failed { OnErr result (D.failed dump.new ≡ true) }
     ensures same { D.bytes dump.new ≡ D.bytes dump.old }
 {
-    let mut told = Told {
+    let mut told = PagesTold {
         blocks: 0,
         sectors: 0,
     };

@@ -6,7 +6,7 @@ ghost use Rattle.std.specs.Prelude.{◌≡◌};
 mod progress;
 mod system;
 
-use lab_commands::{LabFault, Output, Stream, tell};
+use lab_commands::{LabFault, Output, OutputStream, tell};
 use lab_custody::run;
 use program_words::{WordsFault, word_slices, words_found};
 use std::env;
@@ -51,8 +51,8 @@ fn run_over<
 fn main(rt: HostRuntime) -> ExitCode {
     ExitCode::from(run_over(
         &rt,
-        &mut Stream::new(rt.stdout()),
-        &mut Stream::new(rt.stderr()),
+        &mut OutputStream::new(rt.stdout()),
+        &mut OutputStream::new(rt.stderr()),
         rt.stderr(),
         rt.stderr(),
     ))

@@ -3,7 +3,7 @@ ghost use Rattle.std.specs.Prelude.{ℕ, List, false, IfErr};
 ghost use Rattle.lab_commands.specs.Files.{IsUnkept, unknown};
 
 use crate::progress::{Meter, Metered, Trials, size_of};
-use lab_commands::{FileFault, KeepFault, LabFiles, MapText, Progress, Standing};
+use lab_commands::{KeepFault, LabFileFault, LabFiles, MapText, Progress, Standing};
 use lab_dump::{
     DamagedTarget, Dump, DumpFault, LineFault, MapWriter, PageTarget, Pieces, Target, TargetFault,
 };
@@ -73,7 +73,7 @@ impl<'a, R: Files<File = File> + AllocGlobal, E: Write> SystemFiles<'a, R, E> {
 
     // A file that is read. As long as the program runs it is held with whoever else reads it, where the file system has locks; of many files the
     // first ones alone, so that `verify` of a long report does not come to the system's limit of open files.
-    fn open_held(&mut self, path: &str) -> Result<File, FileFault> {
+    fn open_held(&mut self, path: &str) -> Result<File, LabFileFault> {
         let file = fs::open(self.rt, path).map_err(fault_of)?;
         let _ = file.try_lock_shared();
         if self.held.len() >= MOST_HELD {
@@ -82,7 +82,7 @@ impl<'a, R: Files<File = File> + AllocGlobal, E: Write> SystemFiles<'a, R, E> {
         match file.try_clone() {
             Ok(same) => match self.held.push(same) {
                 Ok(()) => Ok(file),
-                Err(_) => Err(FileFault::OutOfMemory),
+                Err(_) => Err(LabFileFault::OutOfMemory),
             },
             Err(_) => Ok(file),
         }
@@ -108,19 +108,19 @@ impl<'a, R: Files<File = File> + AllocGlobal, E: Write> SystemFiles<'a, R, E> {
 }
 
 // Why a call of the system failed.
-fn fault_of(error: Error) -> FileFault {
+fn fault_of(error: Error) -> LabFileFault {
     if error.kind() == ErrorKind::OutOfMemory {
-        FileFault::OutOfMemory
+        LabFileFault::OutOfMemory
     } else {
-        FileFault::Failed
+        LabFileFault::Failed
     }
 }
 
 // Why a part was not made.
-fn part_fault_of(fault: PartFault) -> FileFault {
+fn part_fault_of(fault: PartFault) -> LabFileFault {
     match fault {
-        PartFault::OutOfMemory => FileFault::OutOfMemory,
-        PartFault::InUse | PartFault::Exists | PartFault::Failed => FileFault::Failed,
+        PartFault::OutOfMemory => LabFileFault::OutOfMemory,
+        PartFault::InUse | PartFault::Exists | PartFault::Failed => LabFileFault::Failed,
     }
 }
 
@@ -138,9 +138,9 @@ fn keep_fault_of(fault: PartFault) -> KeepFault
 fn new_beside<R: Files<File = File> + AllocGlobal>(
     rt: &R,
     path: &str,
-) -> Result<(File, String), FileFault> {
+) -> Result<(File, String), LabFileFault> {
     let Ok(name) = part_name(rt.alloc(), path, PROGRAM) else {
-        return Err(FileFault::OutOfMemory);
+        return Err(LabFileFault::OutOfMemory);
     };
     match new_part(&mut SystemNames::new(rt), name.as_str()) {
         Ok(file) => Ok((file, name)),
@@ -153,7 +153,7 @@ fn new_zeros<R: Files<File = File> + AllocGlobal>(
     rt: &R,
     path: &str,
     size: u64,
-) -> Result<(File, String), FileFault> {
+) -> Result<(File, String), LabFileFault> {
     let (file, name) = new_beside(rt, path)?;
     match file.set_len(size) {
         Ok(()) => Ok((file, name)),
@@ -232,14 +232,14 @@ impl<W: Write + Drop> MapWriter for LineFile<W> {
 }
 
 // Prints a map to a file, whole.
-fn print_map<M: MapText>(alloc: Global, file: &File, map: &M) -> Result<(), FileFault>
+fn print_map<M: MapText>(alloc: Global, file: &File, map: &M) -> Result<(), LabFileFault>
     requires { M.whole map.now }
 {
     let writer = BufWriter::with_capacity(alloc, MAP_BUFFER, file).map_err(fault_of)?;
     let mut lines = LineFile { writer };
     match map.print(&mut lines) {
         Ok(()) => lines.writer.flush().map_err(fault_of),
-        Err(_) => Err(FileFault::Failed),
+        Err(_) => Err(LabFileFault::Failed),
     }
 }
 
@@ -253,7 +253,7 @@ fn standing_of(found: &Metadata) -> Standing {
 }
 
 // What stands where a link leads: nothing that may be replaced, where it leads nowhere.
-fn behind_link<R: Files>(rt: &R, path: &str) -> Result<Standing, FileFault> {
+fn behind_link<R: Files>(rt: &R, path: &str) -> Result<Standing, LabFileFault> {
     match fs::metadata(rt, path) {
         Ok(found) => Ok(standing_of(&found)),
         Err(error) if error.kind() == ErrorKind::NotFound => Ok(Standing::Other),
@@ -365,7 +365,7 @@ impl<R: Files<File = File> + AllocGlobal, E: Write + Drop> LabFiles for SystemFi
 
     ghost opened = { λ _. None };
 
-    fn standing(&mut self, path: &str) -> Result<Standing, FileFault> {
+    fn standing(&mut self, path: &str) -> Result<Standing, LabFileFault> {
         match fs::symlink_metadata(self.rt, path) {
             Ok(found) if found.is_symlink() => behind_link(self.rt, path),
             Ok(found) => Ok(standing_of(&found)),
@@ -374,7 +374,7 @@ impl<R: Files<File = File> + AllocGlobal, E: Write + Drop> LabFiles for SystemFi
         }
     }
 
-    fn is_same(&mut self, first: &str, second: &str) -> Result<bool, FileFault> {
+    fn is_same(&mut self, first: &str, second: &str) -> Result<bool, LabFileFault> {
         let first = real_path(self.rt, first).map_err(fault_of)?;
         match real_path(self.rt, second) {
             Ok(second) => Ok(first.as_str() == second.as_str()),
@@ -388,14 +388,14 @@ impl<R: Files<File = File> + AllocGlobal, E: Write + Drop> LabFiles for SystemFi
         &mut self,
         path: &str,
         progress: Progress,
-    ) -> Result<Metered<BufReader<File>, E>, FileFault> {
+    ) -> Result<Metered<BufReader<File>, E>, LabFileFault> {
         let mut file = self.open_held(path)?;
         let meter = self.meter(&mut file, progress);
         let reader = BufReader::with_capacity(self.rt.alloc(), READ_AHEAD, file).map_err(fault_of)?;
         Ok(Metered::new(reader, meter))
     }
 
-    fn load(&mut self, path: &str, most: u64) -> Result<Vec<u8>, FileFault> {
+    fn load(&mut self, path: &str, most: u64) -> Result<Vec<u8>, LabFileFault> {
         let file = self.open_held(path)?;
         let mut bytes = Vec::new(self.rt.alloc());
         match file.take(most).read_to_end(&mut bytes) {
@@ -408,7 +408,7 @@ impl<R: Files<File = File> + AllocGlobal, E: Write + Drop> LabFiles for SystemFi
         &mut self,
         path: &str,
         progress: Progress,
-    ) -> Result<DumpFile<File, E>, FileFault> {
+    ) -> Result<DumpFile<File, E>, LabFileFault> {
         let mut file = self.open_held(path)?;
         let meter = self.meter(&mut file, progress);
         Ok(DumpFile { file, meter })
@@ -422,9 +422,9 @@ impl<R: Files<File = File> + AllocGlobal, E: Write + Drop> LabFiles for SystemFi
         }
     }
 
-    fn create(&mut self, path: &str, count: u32, size: usize) -> Result<PieceFile, FileFault> {
+    fn create(&mut self, path: &str, count: u32, size: usize) -> Result<PieceFile, LabFileFault> {
         let Ok(size) = u32::try_from(size) else {
-            return Err(FileFault::Failed);
+            return Err(LabFileFault::Failed);
         };
         let all = u64::from(count) * u64::from(size);
         let (file, name) = new_zeros(self.rt, path, all)?;

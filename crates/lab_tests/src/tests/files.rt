@@ -2,7 +2,7 @@
 ghost use Rattle.std.specs.Prelude.{IfErr};
 ghost use Rattle.lab_commands.specs.Files.{IsUnkept, unknown};
 
-use lab_commands::{FileFault, KeepFault, LabFiles, MapText, Progress, Standing};
+use lab_commands::{KeepFault, LabFileFault, LabFiles, MapText, Progress, Standing};
 use lab_dump::{
     DamagedTarget, Dump, DumpFault, DumpReader, PageTarget, Pieces, Target, TargetFault,
 };
@@ -251,9 +251,9 @@ impl MemoryFiles {
     }
 
     // The bytes that a reader of a file gives before it ends or fails.
-    fn given(&self, path: &str) -> Result<Vec<u8>, FileFault> {
+    fn given(&self, path: &str) -> Result<Vec<u8>, LabFileFault> {
         let Some(all) = self.contents(path) else {
-            return Err(FileFault::Failed);
+            return Err(LabFileFault::Failed);
         };
         let end = match self.trouble {
             Trouble::ReadsEnd(n) | Trouble::Ends(n) => n.min(all.len()),
@@ -261,22 +261,22 @@ impl MemoryFiles {
         };
         match Vec::from_slice(self.alloc, &all[..end]) {
             Ok(given) => Ok(given),
-            Err(_) => Err(FileFault::OutOfMemory),
+            Err(_) => Err(LabFileFault::OutOfMemory),
         }
     }
 
     // A file of so many pieces of zeros.
-    fn beside(&self, count: u32, size: usize) -> Result<Beside, FileFault> {
+    fn beside(&self, count: u32, size: usize) -> Result<Beside, LabFileFault> {
         let left = match self.trouble {
-            Trouble::Full => return Err(FileFault::Failed),
-            Trouble::NoMemoryBeside => return Err(FileFault::OutOfMemory),
+            Trouble::Full => return Err(LabFileFault::Failed),
+            Trouble::NoMemoryBeside => return Err(LabFileFault::OutOfMemory),
             Trouble::WritesEnd(n) => n,
             _ => u32::MAX,
         };
         let length = (count as usize).saturating_mul(size);
         match vec![in self.alloc; 0u8; length] {
             Ok(bytes) => Ok(Beside { bytes, size, left }),
-            Err(_) => Err(FileFault::OutOfMemory),
+            Err(_) => Err(LabFileFault::OutOfMemory),
         }
     }
 
@@ -286,14 +286,14 @@ impl MemoryFiles {
     {
         let trouble = self.trouble;
         match trouble {
-            Trouble::Unkept => return Err(KeepFault::Fails(FileFault::Failed)),
+            Trouble::Unkept => return Err(KeepFault::Fails(LabFileFault::Failed)),
             Trouble::Raced(name) if !over && name == plain(path) => return Err(KeepFault::Taken),
             _ => (),
         }
         self.kept = self.kept.saturating_add(1);
         match self.put(path, bytes) {
             Ok(()) => Ok(()),
-            Err(_) => Err(KeepFault::Fails(FileFault::OutOfMemory)),
+            Err(_) => Err(KeepFault::Fails(LabFileFault::OutOfMemory)),
         }
     }
 }
@@ -316,26 +316,26 @@ impl LabFiles for MemoryFiles {
 
     ghost opened = { λ _. None };
 
-    fn standing(&mut self, path: &str) -> Result<Standing, FileFault> {
+    fn standing(&mut self, path: &str) -> Result<Standing, LabFileFault> {
         let trouble = self.trouble;
         match trouble {
-            Trouble::Unasked => Err(FileFault::Failed),
+            Trouble::Unasked => Err(LabFileFault::Failed),
             Trouble::Device(name) if name == plain(path) => Ok(Standing::Other),
             _ if self.contents(path).is_some() => Ok(Standing::File),
             _ => Ok(Standing::Nothing),
         }
     }
 
-    fn is_same(&mut self, first: &str, second: &str) -> Result<bool, FileFault> {
+    fn is_same(&mut self, first: &str, second: &str) -> Result<bool, LabFileFault> {
         if matches!(self.trouble, Trouble::Unasked) {
-            return Err(FileFault::Failed);
+            return Err(LabFileFault::Failed);
         }
         Ok(plain(first) == plain(second))
     }
 
-    fn open(&mut self, path: &str, _progress: Progress) -> Result<MemoryReader, FileFault> {
+    fn open(&mut self, path: &str, _progress: Progress) -> Result<MemoryReader, LabFileFault> {
         if matches!(self.trouble, Trouble::NoMemory) {
-            return Err(FileFault::OutOfMemory);
+            return Err(LabFileFault::OutOfMemory);
         }
         let most = match self.trouble {
             Trouble::Pieces(n) => n,
@@ -356,23 +356,23 @@ impl LabFiles for MemoryFiles {
         }
     }
 
-    fn load(&mut self, path: &str, _most: u64) -> Result<Vec<u8>, FileFault> {
+    fn load(&mut self, path: &str, _most: u64) -> Result<Vec<u8>, LabFileFault> {
         if matches!(self.trouble, Trouble::NoMemory) {
-            return Err(FileFault::OutOfMemory);
+            return Err(LabFileFault::OutOfMemory);
         }
         let fails = match self.trouble {
             Trouble::ReadsEnd(n) => n < self.length(path),
             _ => false,
         };
         if fails {
-            return Err(FileFault::Failed);
+            return Err(LabFileFault::Failed);
         }
         self.given(path)
     }
 
-    fn open_dump(&mut self, path: &str, _progress: Progress) -> Result<MemoryDump, FileFault> {
+    fn open_dump(&mut self, path: &str, _progress: Progress) -> Result<MemoryDump, LabFileFault> {
         if matches!(self.trouble, Trouble::NoMemory) {
-            return Err(FileFault::OutOfMemory);
+            return Err(LabFileFault::OutOfMemory);
         }
         let size = self.length(path) as u64;
         match self.given(path) {
@@ -381,7 +381,7 @@ impl LabFiles for MemoryFiles {
         }
     }
 
-    fn create(&mut self, _path: &str, count: u32, size: usize) -> Result<Beside, FileFault> {
+    fn create(&mut self, _path: &str, count: u32, size: usize) -> Result<Beside, LabFileFault> {
         match self.beside(count, size) {
             Ok(made) => {
                 self.beside = self.beside.saturating_add(1);
@@ -401,12 +401,12 @@ impl LabFiles for MemoryFiles {
 
     fn store<M: MapText>(&mut self, path: &str, map: &M, over: bool) -> Result<(), KeepFault> {
         if matches!(self.trouble, Trouble::Unstored) {
-            return Err(KeepFault::Fails(FileFault::Failed));
+            return Err(KeepFault::Fails(LabFileFault::Failed));
         }
         let mut bytes: Vec<u8> = Vec::new(self.alloc);
         match map.print(&mut bytes) {
             Ok(()) => (),
-            Err(_) => return Err(KeepFault::Fails(FileFault::OutOfMemory)),
+            Err(_) => return Err(KeepFault::Fails(LabFileFault::OutOfMemory)),
         }
         match self.keep_bytes(path, bytes, over) {
             Ok(()) => Ok(()),

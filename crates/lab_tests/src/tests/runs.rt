@@ -1,7 +1,7 @@
 //! Runs of the program over files in memory, and what they have to answer: cases, each a list of steps over files of its own.
 use super::dumps::{Made, bytes_of};
 use super::files::{Closed, MemoryFiles, Trouble};
-use lab_commands::{Output, Stream};
+use lab_commands::{Output, OutputStream};
 use lab_custody::run;
 use std::alloc::{AllocError, Global};
 use std::fmt::Debug;
@@ -147,7 +147,7 @@ fn expect_closed(
 ) -> Result<(), AllocError> {
     let before = files.kept;
     let mut err: Vec<u8> = Vec::new(files.alloc);
-    let answered = run_line(files, line, &mut Stream::new(Closed), &mut err)?;
+    let answered = run_line(files, line, &mut OutputStream::new(Closed), &mut err)?;
     let said: &[u8] = b"fault write -\n";
     hold(rt, &(files.case, line), &err.as_slice(), &said);
     hold(rt, &(files.case, line), &answered, &3);

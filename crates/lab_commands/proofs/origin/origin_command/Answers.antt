@@ -1,7 +1,7 @@
 use Rattle.std.proofs.Common.{List, [], ◌∷◌, Some, refl, inl, inr, ap, subst, ◌∙◌}
 use Rattle.std.specs.Io.KnownBytes.{Appends}
 use Rattle.lab_dump.specs.declared.map_head.Remark.TheVariants as remark
-use Rattle.lab_dump.specs.declared.mark.Mark.{Mark}
+use Rattle.lab_dump.specs.declared.mark.MapMark.{MapMark}
 use Rattle.lab_dump.specs.Map.{map_text}
 use Rattle.lab_commands.specs.Document.{Stops}
 use Rattle.lab_commands.specs.Files.{AnswersNoMore, with_kept}
@@ -91,11 +91,11 @@ returns-in-Ok-clause-ok g c =
         allowed = c.in_ok-allow_origin.ensures.ok;
         followed = subst (λ f. IsFollowed (g.F.LabFiles.answers f) words geometry last marks) same c.in_ok-marks.ensures.followed;
         put = c.in_ok-put_origin.ensures.ok
-            ∙ (ap (λ (ms : List Mark). with_kept (g.F.LabFiles.kept c.follow.new.files) words.out.now (Some (map_text remark.Readings geometry ms ∷ [])) words.force) c.deref.ensures.value
+            ∙ (ap (λ (ms : List MapMark). with_kept (g.F.LabFiles.kept c.follow.new.files) words.out.now (Some (map_text remark.Readings geometry ms ∷ [])) words.force) c.deref.ensures.value
             ∙ ap (λ x. with_kept x words.out.now (Some (map_text remark.Readings geometry marks ∷ [])) words.force) (c.follow.ensures.kept ∙ ap g.F.LabFiles.kept same));
       };
       told = subst (λ f. Appends (g.W.Output.contents c.args.out.now) (g.W.Output.contents c.print_origin.new.out) (origin_text f marks)) c.printer.ensures
-          (subst (λ (ms : List Mark). Appends (g.W.Output.contents c.args.out.now) (g.W.Output.contents c.print_origin.new.out) (origin_text c.printer.result.form ms)) c.deref-2.ensures.value c.in-Ok.ensures);
+          (subst (λ (ms : List MapMark). Appends (g.W.Output.contents c.args.out.now) (g.W.Output.contents c.print_origin.new.out) (origin_text c.printer.result.form ms)) c.deref-2.ensures.value c.in-Ok.ensures);
     }
 
 pub returns-clause-fault : goal.returns-clause-fault
@@ -112,7 +112,7 @@ returns-clause-fault g c =
       allowed = c.in_ok-allow_origin.ensures.ok;
       followed = subst (λ f. IsFollowed (g.F.LabFiles.answers f) words geometry last marks) same c.in_ok-marks.ensures.followed;
       put = c.in_ok-put_origin.ensures.ok
-          ∙ (ap (λ (ms : List Mark). with_kept (g.F.LabFiles.kept c.follow.new.files) words.out.now (Some (map_text remark.Readings geometry ms ∷ [])) words.force) c.deref.ensures.value
+          ∙ (ap (λ (ms : List MapMark). with_kept (g.F.LabFiles.kept c.follow.new.files) words.out.now (Some (map_text remark.Readings geometry ms ∷ [])) words.force) c.deref.ensures.value
           ∙ ap (λ x. with_kept x words.out.now (Some (map_text remark.Readings geometry marks ∷ [])) words.force) (c.follow.ensures.kept ∙ ap g.F.LabFiles.kept same));
     } in
     inr (
@@ -122,5 +122,5 @@ returns-clause-fault g c =
       put,
       half_printed c.in-Err.fault _ _ _ _ _ c.unprinted.ensures
           (subst (λ f. Stops c.in-Err.fault (g.W.Output.failed c.print_origin.new.out) (g.W.Output.contents c.args.out.now) (g.W.Output.contents c.print_origin.new.out) (origin_text f marks)) c.printer.ensures
-          (subst (λ (ms : List Mark). Stops c.in-Err.fault (g.W.Output.failed c.print_origin.new.out) (g.W.Output.contents c.args.out.now) (g.W.Output.contents c.print_origin.new.out) (origin_text c.printer.result.form ms)) c.deref-2.ensures.value c.in-Err.ensures)),
+          (subst (λ (ms : List MapMark). Stops c.in-Err.fault (g.W.Output.failed c.print_origin.new.out) (g.W.Output.contents c.args.out.now) (g.W.Output.contents c.print_origin.new.out) (origin_text c.printer.result.form ms)) c.deref-2.ensures.value c.in-Err.ensures)),
     )

@@ -1,6 +1,6 @@
 use Rattle.std.proofs.Common.{Bool, List, subst}
 use Rattle.std.specs.Io.KnownBytes.{Appends}
-use Rattle.lab_dump.specs.declared.held.State.{State}
+use Rattle.lab_dump.specs.declared.held.KeyState.{KeyState}
 use Rattle.lab_commands.specs.Document.{Stops, if_text}
 use Rattle.lab_commands.specs.Reports.{keys_text, survey_lines}
 use Rattle.lab_commands.proofs.PrintLemmas.{failed, prints_after, stops_after, stops_more}
@@ -27,7 +27,7 @@ returns-in_err-print_keys g c =
     let geo = c.args.geometry.now in
     let rows = subst (λ l. Appends (o c.args.out.now) (o c.line.new.out) (if_text form l)) c.rows_line.ensures c.in_ok-line.ensures in
     let keys = subst (λ (fs : List Bool). Stops c.in_err-print_keys.field-0.0 (g.W.Output.failed c.print_keys.new.out) (o c.print_counts.new.out) (o c.print_keys.new.out) (keys_text form geo c.args.survey.now.keys.items fs)) c.deref-2.ensures.value
-    (subst (λ (ss : List State). Stops c.in_err-print_keys.field-0.0 (g.W.Output.failed c.print_keys.new.out) (o c.print_counts.new.out) (o c.print_keys.new.out) (keys_text form geo ss c.deref-2.result.now)) c.deref.ensures.value c.in_err-print_keys.ensures) in
+    (subst (λ (ss : List KeyState). Stops c.in_err-print_keys.field-0.0 (g.W.Output.failed c.print_keys.new.out) (o c.print_counts.new.out) (o c.print_keys.new.out) (keys_text form geo ss c.deref-2.result.now)) c.deref.ensures.value c.in_err-print_keys.ensures) in
     failed c.in_err-print_keys.field-0.0 c.from_residual-in_err-print_keys.result (g.W.Output.failed c.print_keys.new.out) _ _ _ c.from_residual-in_err-print_keys.ensures.1
     (stops_after c.in_err-print_keys.field-0.0 (g.W.Output.failed c.print_keys.new.out) _ _ _ _ _ rows (stops_after c.in_err-print_keys.field-0.0 (g.W.Output.failed c.print_keys.new.out) _ _ _ _ _ c.in_ok-print_counts.ensures (stops_more c.in_err-print_keys.field-0.0 (g.W.Output.failed c.print_keys.new.out) _ _ _ _ keys)))
 
@@ -39,7 +39,7 @@ returns-in_err-print_blocks g c =
     let geo = c.args.geometry.now in
     let rows = subst (λ l. Appends (o c.args.out.now) (o c.line.new.out) (if_text form l)) c.rows_line.ensures c.in_ok-line.ensures in
     let keys = subst (λ (fs : List Bool). Appends (o c.print_counts.new.out) (o c.print_keys.new.out) (keys_text form geo c.args.survey.now.keys.items fs)) c.deref-2.ensures.value
-    (subst (λ (ss : List State). Appends (o c.print_counts.new.out) (o c.print_keys.new.out) (keys_text form geo ss c.deref-2.result.now)) c.deref.ensures.value c.in_ok-print_keys.ensures) in
+    (subst (λ (ss : List KeyState). Appends (o c.print_counts.new.out) (o c.print_keys.new.out) (keys_text form geo ss c.deref-2.result.now)) c.deref.ensures.value c.in_ok-print_keys.ensures) in
     failed _ c.from_residual-in_err-print_blocks.result _ _ _ _ c.from_residual-in_err-print_blocks.ensures.1
     (stops_after _ _ _ _ _ _ _ rows (stops_after _ _ _ _ _ _ _ c.in_ok-print_counts.ensures (stops_after _ _ _ _ _ _ _ keys (stops_more _ _ _ _ _ _ c.in_err-print_blocks.ensures))))
 
@@ -52,5 +52,5 @@ returns g c =
     let r = c.print_ending.result in
     let rows = subst (λ l. Appends (o c.args.out.now) (o c.line.new.out) (if_text form l)) c.rows_line.ensures c.in_ok-line.ensures in
     let keys = subst (λ (fs : List Bool). Appends (o c.print_counts.new.out) (o c.print_keys.new.out) (keys_text form geo c.args.survey.now.keys.items fs)) c.deref-2.ensures.value
-    (subst (λ (ss : List State). Appends (o c.print_counts.new.out) (o c.print_keys.new.out) (keys_text form geo ss c.deref-2.result.now)) c.deref.ensures.value c.in_ok-print_keys.ensures) in
+    (subst (λ (ss : List KeyState). Appends (o c.print_counts.new.out) (o c.print_keys.new.out) (keys_text form geo ss c.deref-2.result.now)) c.deref.ensures.value c.in_ok-print_keys.ensures) in
     prints_after _ _ _ _ _ _ r rows (prints_after _ _ _ _ _ _ r c.in_ok-print_counts.ensures (prints_after _ _ _ _ _ _ r keys (prints_after _ _ _ _ _ _ r c.in_ok-print_blocks.ensures c.print_ending.ensures)))

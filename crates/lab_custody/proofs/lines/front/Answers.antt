@@ -1,5 +1,5 @@
 use Rattle.std.proofs.Common.{sym, ap, ◌∙◌}
-use Rattle.lab_commands.specs.declared.document.Form.TheVariants.{Json}
+use Rattle.lab_commands.specs.declared.document.ReportForm.TheVariants.{Json}
 use Rattle.lab_custody.specs.Lines.{front_text}
 use Rattle.lab_custody.proofs.lines.front.Goals as goal
 

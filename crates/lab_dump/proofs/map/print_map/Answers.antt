@@ -1,14 +1,14 @@
 use Rattle.std.proofs.Common.{◌≡◌, ℕ, List, OnOk, length, map, sym, subst, ◌∙◌}
 use Rattle.std.specs.Io.KnownBytes.{Appends}
 use Rattle.std.proofs.lemmas.List.{length-map}
-use Rattle.lab_dump.specs.declared.mark.Mark.{Mark}
+use Rattle.lab_dump.specs.declared.mark.MapMark.{MapMark}
 use Rattle.lab_dump.specs.Map.{areas_below}
 use Rattle.lab_dump.proofs.MapLemmas.{then_last}
 use Rattle.lab_dump.proofs.map.print_map.Goals as goal
 
 pub returns-clause-printed : goal.returns-clause-printed
 returns-clause-printed g c =
-    let marks : List Mark = map g.M.Marked.marked c.args.sectors.now in
+    let marks : List MapMark = map g.M.Marked.marked c.args.sectors.now in
     let all : length marks ≡ c.args.geometry.now.sectors = length-map c.args.sectors.now g.M.Marked.marked ∙ c.requires in
     let b = g.W.MapWriter.contents c.print_map_head.new.out in
     let d = g.W.MapWriter.contents c.print_areas.new.out in

@@ -10,11 +10,11 @@ loop-place-init c = record { nearest = λ all h is. (let e : c.args.first + 0 �
 pub loop-place-preserved : goal.loop-place-preserved
 loop-place-preserved c = record {
   nearest = λ all h is.
-    let before = c.loop-place.invariant.nearest all h is in
-    elim c.if-names_version.branch [
-      | then-names_version w ↦ w.nearest-is ∙ look_more all c.args.first c.args.places c.loop-place.place c.args.bytes.now c.loop-place.nearest _ h c.loop-place-test.true c.requires.within before w.look-nearest.ensures
-      | else-names_version w ↦ w.nearest-is ∙ pass_more all c.args.first c.args.places c.loop-place.place c.args.bytes.now c.loop-place.nearest h c.loop-place-test.true c.requires.within before (c.names_version.ensures w.if-names_version.false)
-    ];
+      let before = c.loop-place.invariant.nearest all h is in
+      elim c.if-names_version.branch [
+        | then-names_version w ↦ w.nearest-is ∙ look_more all c.args.first c.args.places c.loop-place.place c.args.bytes.now c.loop-place.nearest _ h c.loop-place-test.true c.requires.within before w.look-nearest.ensures
+        | else-names_version w ↦ w.nearest-is ∙ pass_more all c.args.first c.args.places c.loop-place.place c.args.bytes.now c.loop-place.nearest h c.loop-place-test.true c.requires.within before (c.names_version.ensures w.if-names_version.false)
+      ];
 }
 
 pub returns : goal.returns

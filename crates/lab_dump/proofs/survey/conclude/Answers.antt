@@ -5,7 +5,7 @@ use Rattle.std.specs.Vec.{with_items}
 use Rattle.std.proofs.lemmas.List.{with_items_is}
 use Rattle.certificate.specs.declared.block_state.BlockState.{BlockState}
 use Rattle.image_check.specs.Surveyed.{Surveys}
-use Rattle.lab_dump.specs.declared.held.State.{State}
+use Rattle.lab_dump.specs.declared.held.KeyState.{KeyState}
 use Rattle.lab_dump.specs.declared.trace.Trace.{Trace}
 use Rattle.lab_dump.specs.Count.{unsound_below}
 use Rattle.lab_dump.specs.Surveyed.{BlocksAs}
@@ -18,7 +18,7 @@ returns-clause-whole c =
     let s = c.args.seeing in
     let keys_is : (with_items s.keys c.note_keys.new.keys).items ≡ c.note_keys.new.keys = with_items_is s.keys c.note_keys.new.keys (c.note_keys.auto.keys ∙ c.deref_mut.ensures.len) in
     record {
-      keys = ap (λ (xs : List State). length xs) keys_is ∙ (c.note_keys.ensures.size ∙ (ap (λ (xs : List Trace). length xs) c.deref.ensures.value ∙ c.requires.doubting.traces));
+      keys = ap (λ (xs : List KeyState). length xs) keys_is ∙ (c.note_keys.ensures.size ∙ (ap (λ (xs : List Trace). length xs) c.deref.ensures.value ∙ c.requires.doubting.traces));
       formed = c.requires.formed;
       unsound = ap (λ (v : Vec ℕ). length v.items) c.conclude-doubts.ensures.unsound ∙ c.requires.doubting.unsound;
       blocks = subst (λ k. IfSome c.blocks_of-blocks.result (λ states. length states.items ≡ k.blocks)) c.requires.geometry_is c.blocks_of-blocks.ensures.size;

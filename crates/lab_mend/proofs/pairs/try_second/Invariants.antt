@@ -1,6 +1,6 @@
 use Rattle.std.proofs.Common.{◌≡◌, ◌-◌, ◌++◌, List}
 use Rattle.lab_dump.specs.PageBytes.{bits_of, page_of}
-use Rattle.lab_mend.specs.declared.pairs.Pair.{Pair}
+use Rattle.lab_mend.specs.declared.pairs.BitPair.{BitPair}
 use Rattle.lab_mend.specs.Pairs.{pairs_with, second_bits, seen_with}
 use Rattle.lab_mend.specs.Seal.{HasTaken}
 use Rattle.lab_mend.proofs.PairLemmas.{bits_from}
@@ -11,6 +11,6 @@ invariant-loop-high l =
     record {
       same : l.bytes ≡ l.initial.bytes;
       taken : HasTaken l.geometry.data_bytes l.initial.bytes l.high l.prefix;
-      seen : (more : List Pair) → seen_with l.seen (pairs_with l.low (bits_from (page_of l.geometry.data_bytes l.initial.bytes) l.high (bits_of l.initial.bytes - l.high)) ++ more)
+      seen : (more : List BitPair) → seen_with l.seen (pairs_with l.low (bits_from (page_of l.geometry.data_bytes l.initial.bytes) l.high (bits_of l.initial.bytes - l.high)) ++ more)
           ≡ seen_with l.fn.seen (pairs_with l.low (second_bits (page_of l.geometry.data_bytes l.initial.bytes) l.low) ++ more);
     }

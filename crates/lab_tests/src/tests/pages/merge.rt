@@ -2,7 +2,7 @@
 use super::{PAGE, PAGES};
 use crate::tests::dumps::{changed, set};
 use crate::tests::files::{Beside, MemoryReader};
-use lab_mend::{MergeFault, MergeRoom, Tally, Trial, TriedRow, count_tries, merge_dumps};
+use lab_mend::{MergeFault, MergeRoom, RowTally, Trial, TriedRow, count_tries, merge_dumps};
 use page_layout::geometry::Geometry;
 use std::alloc::Global;
 use std::test::Fail;
@@ -28,7 +28,7 @@ const SECOND: &[(usize, u8)] = &[(PAGE + 9, 3), (PAGE * 20 + 3, 0x7F), (PAGE * 2
 
 const THIRD: &[(usize, u8)] = &[(PAGE + 11, 3), (PAGE * 9 + 7, 3), (PAGE * 21 + 99, 7)];
 
-const TALLY: Tally = Tally {
+const TALLY: RowTally = RowTally {
     sound: 2,
     majority: 1,
     turned: 0,

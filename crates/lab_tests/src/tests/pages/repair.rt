@@ -2,7 +2,7 @@
 use super::{PAGE, PAGES};
 use crate::tests::files::{Beside, MemoryReader, Unwatched};
 use lab_dump::Rows;
-use lab_mend::{Made, Mend, Pair, RepairAsked, RepairRoom, Turn, Turned, repair_dump};
+use lab_mend::{BitPair, Made, Mend, RepairAsked, RepairRoom, Turn, Turned, repair_dump};
 use page_layout::geometry::Geometry;
 use std::alloc::Global;
 use std::test::Fail;
@@ -44,7 +44,7 @@ const ROW_21: Mend = Mend {
 
 const ROW_1: Mend = Mend {
     row: 1,
-    turn: Turn::Two(Pair { low: 56, high: 57 }),
+    turn: Turn::Two(BitPair { low: 56, high: 57 }),
 };
 
 // Two bits make it erased, and none make it sound.

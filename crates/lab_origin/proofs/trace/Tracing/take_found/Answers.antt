@@ -2,7 +2,7 @@ use Rattle.std.proofs.Common.{◌≡◌, ◌*◌, ◌<◌, ◌∙◌, length, ge
 use Rattle.std.proofs.lemmas.List.{get_or_default}
 use Rattle.page_layout.specs.Geometry.{page_bytes}
 use Rattle.lab_dump.proofs.WritingLemmas.{other_none, within_is}
-use Rattle.lab_dump.specs.declared.mark.Mark.TheVariants as mark
+use Rattle.lab_dump.specs.declared.mark.MapMark.TheVariants as mark
 use Rattle.lab_origin.specs.Origin.{read_mark}
 use Rattle.lab_origin.specs.Tracing.{have_at}
 use Rattle.lab_origin.proofs.TracingLemmas.{MarkIs, not_taken, taken}
