@@ -4,7 +4,7 @@
     bench/names.py            the public types, and the words of docs/PROMISES.md, that several crates have
     bench/names.py --all      each definition that several crates have, too
 
-A line for each name: how many crates have it, and which. Crates of tests and programs count for no type. It changes nothing, and gives no verdict."""
+A line for each name: how many crates have it, and which. Crates of tests, what makes their images too, and programs count for no type. It changes nothing, and gives no verdict."""
 
 import collections
 import re
@@ -14,7 +14,7 @@ from pathlib import Path
 TOP = Path(__file__).resolve().parent.parent
 DECLARES = re.compile(r"^(?:pub record|pub data|abbrev pub|unfoldable pub|opaque pub)\s+([A-Za-z_]\w*)", re.MULTILINE)
 TYPE = re.compile(r"^pub (?:struct|enum|trait|type) (\w+)", re.MULTILINE)
-PROGRAMS = {"nandctl", "nandctl_serve", "nandlab", "nanddisk", "system_program", "firmware", "ftl_c"}
+PROGRAMS = {"test_images", "nandctl", "nandctl_serve", "nandlab", "nanddisk", "system_program", "firmware", "ftl_c"}
 
 
 def having(pattern, files):

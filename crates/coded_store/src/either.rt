@@ -3,7 +3,7 @@ ghost use Rattle.std.specs.Prelude.{◌≡◌};
 ghost use Rattle.coded_store.specs.Coded.{nothing_wrong};
 
 use crate::coded::{CodedStore, Mended};
-use file_die::{ByteFile, FileStore, MemoryStore, Store, StoreFault, TellsFull};
+use file_die::{ByteFile, DieFile, MemoryStore, Store, StoreFault, TellsFull};
 use page_layout::geometry::Geometry;
 
 // Nothing.
@@ -26,7 +26,7 @@ pub trait TellsMended {
         ensures { result ≡ mended self.now };
 }
 
-impl<F: ByteFile> TellsMended for FileStore<F> {
+impl<F: ByteFile> TellsMended for DieFile<F> {
     ghost mended = { λ _. nothing_wrong };
 
     fn mended(&self) -> Mended {

@@ -9,4 +9,4 @@ mod slot;
 pub use laws::call_laws;
 pub use power::{PowerFault, start, start_checked, start_mounted, stop};
 pub use report::Report;
-pub use slot::{CallFault, Shortage, Slot};
+pub use slot::{CallFault, DeviceSlot, Shortage};

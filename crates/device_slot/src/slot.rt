@@ -34,12 +34,12 @@ pub struct Shortage {
 /// A place for a device: it is empty before power comes and after it goes. Whatever the die does, what stands there is a device, and over an
 /// honest die it is well unless it was stopped. (This project's.)
 #[derive(Drop)]
-pub struct Slot<N: Nand> {
+pub struct DeviceSlot<N: Nand> {
     device: Option<Device<N>>,
     shortage: Option<Shortage>,
 }
 
-impl<N: Nand> Model for Slot<N> {
+impl<N: Nand> Model for DeviceSlot<N> {
     ghost use Rattle.std.specs.Prelude.{IfSome};
     ghost use Rattle.device_slot.specs.Begun.{IsKept};
     ghost use Rattle.device_slot.specs.Slot.{SlotState};
@@ -144,7 +144,7 @@ fn write<N: Nand>(
     told_only(device, shortage, Command::Write { sector, body })
 }
 
-impl<N: Nand> Slot<N> {
+impl<N: Nand> DeviceSlot<N> {
     ghost use Rattle.std.specs.Prelude.{◌≡◌, [], None, length, IsSome, IfSome, ◌↔◌, true, option_copied};
     ghost use Rattle.std.specs.Option.{is_some};
     ghost use Rattle.promises.specs.Step as step;
@@ -152,10 +152,10 @@ impl<N: Nand> Slot<N> {
     ghost use Rattle.device_slot.specs.Slot.{Reports, nand_in};
 
     /// An empty one.
-    pub fn new() -> Slot<N>
+    pub fn new() -> DeviceSlot<N>
         ensures { result ≡ record { device = None; shortage = None } }
     {
-        Slot {
+        DeviceSlot {
             device: None,
             shortage: None,
         }
@@ -268,7 +268,7 @@ impl<N: Nand> Slot<N> {
     }
 }
 
-impl<N: Nand + Drop> Slot<N> {
+impl<N: Nand + Drop> DeviceSlot<N> {
     ghost use Rattle.std.specs.Prelude.{◌≡◌, None, Some};
     ghost use Rattle.device_slot.specs.Begun.{IsKept};
 
@@ -290,7 +290,7 @@ impl<N: Nand + Drop> Slot<N> {
     }
 }
 
-impl<N: Nand> Slot<N> {
+impl<N: Nand> DeviceSlot<N> {
     ghost use Rattle.std.specs.Prelude.{◌≡◌, IfSome};
     ghost use Rattle.device_slot.specs.Begun.{IsKept};
 

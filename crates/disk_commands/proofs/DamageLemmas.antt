@@ -19,10 +19,10 @@ use Rattle.disk_commands.specs.declared.printed.Info.{Info}
 use Rattle.disk_commands.specs.Info.{info_text, object_of}
 use Rattle.disk_commands.specs.declared.mark.FoundMark.{FoundMark}
 use Rattle.disk_commands.specs.declared.shape_text.DiskText.{DiskText}
-use Rattle.disk_commands.specs.declared.text.DiskFault.{DiskFault}
-use Rattle.disk_commands.specs.declared.text.DiskFault.TheVariants as fault
+use Rattle.disk_commands.specs.declared.text.DiskCommandFault.{DiskCommandFault}
+use Rattle.disk_commands.specs.declared.text.DiskCommandFault.TheVariants as fault
 use Rattle.disk_commands.specs.Damage.{IsListAt, IsListBy, IsLookedAt, IsNoListAt, IsUnlookedAt}
-use Rattle.disk_commands.specs.declared.files.FileFault.{FileFault}
+use Rattle.disk_commands.specs.declared.files.DiskFileFault.{DiskFileFault}
 use Rattle.disk_commands.specs.Files.{Answers, AnswersNoMore, SaysNoMore}
 use Rattle.disk_commands.specs.Opening.{file_bytes, IsFaultAt, IsMarkAt, IsNotAt, IsShapeFault, IsStoreAt, IsTextAt, told_at}
 use Rattle.disk_commands.proofs.OpeningLemmas.{no_file}
@@ -35,7 +35,7 @@ pub list_back : (a b : Answers) (path : List ℕ) (listed : Bool) (sectors : ℕ
 list_back a b path true sectors lost less h = (h.0, less.lists path h.0 h.1, h.2)
 list_back a b path false sectors lost less h = h
 
-pub fault_back : (a b : Answers) (path : List ℕ) (wanted : ℕ) (why : DiskFault) → SaysNoMore a b → IsFaultAt b path wanted why → IsFaultAt a path wanted why
+pub fault_back : (a b : Answers) (path : List ℕ) (wanted : ℕ) (why : DiskCommandFault) → SaysNoMore a b → IsFaultAt b path wanted why → IsFaultAt a path wanted why
 fault_back a b path wanted (fault.Read told) less h = (h.0, less.fails path _ h.1)
 fault_back a b path wanted (fault.Write told) less h = (h.0, less.fails path _ h.1)
 fault_back a b path wanted (fault.InUse told) less h = (h.0, less.fails path _ h.1)
@@ -44,14 +44,14 @@ fault_back a b path wanted (fault.Length told found due) less h = (h.0, h.1, les
 fault_back a b path wanted fault.OutOfMemory less h = less.fails path _ h
 fault_back a b path wanted why less h = h
 
-pub no_list_back : (a b : Answers) (path : List ℕ) (told : DiskText) (why : DiskFault) → SaysNoMore a b → IsNoListAt b path told why → IsNoListAt a path told why
+pub no_list_back : (a b : Answers) (path : List ℕ) (told : DiskText) (why : DiskCommandFault) → SaysNoMore a b → IsNoListAt b path told why → IsNoListAt a path told why
 no_list_back a b path told (fault.List at reason) less h = (h.0, h.1, (h.2.0, less.lists path h.2.0 h.2.1, h.2.2))
 no_list_back a b path told (fault.ReadList at) less h = (h.0, h.1, (h.2.0, less.fails path h.2.0 h.2.1, h.2.2))
 no_list_back a b path told why less h = h
 
 -- ---- a disk that is locked, and then opened
 
-shape_of : (a : Answers) (path : List ℕ) (why : DiskFault) → IsFaultAt a path 0 why → IsShapeFault a path why
+shape_of : (a : Answers) (path : List ℕ) (why : DiskCommandFault) → IsFaultAt a path 0 why → IsShapeFault a path why
 shape_of a path (fault.Read told) h = h
 shape_of a path (fault.Write told) h = h
 shape_of a path (fault.InUse told) h = h
@@ -61,14 +61,14 @@ shape_of a path fault.OutOfMemory h = h
 shape_of a path why h = absurd h
 
 -- its mark was not read
-pub mark_fault : (a b : Answers) (path : List ℕ) (why : DiskFault) → SaysNoMore a b → IsFaultAt b path 0 why → IsNotAt a path why
+pub mark_fault : (a b : Answers) (path : List ℕ) (why : DiskCommandFault) → SaysNoMore a b → IsFaultAt b path 0 why → IsNotAt a path why
 mark_fault a b path why less h = inl (shape_of a path why (fault_back a b path 0 why less h))
 
 pub text_back : (a m : Answers) (path : List ℕ) (told : DiskText) → AnswersNoMore a m → IsTextAt m path told → IsTextAt a path told
 text_back a m path told less h = record { text = h.text; tells = less.tells path h.text h.tells; says = h.says }
 
 -- its shape was not told
-pub shape_back : (a m : Answers) (path : List ℕ) (why : DiskFault) → AnswersNoMore a m → IsShapeFault m path why → IsShapeFault a path why
+pub shape_back : (a m : Answers) (path : List ℕ) (why : DiskCommandFault) → AnswersNoMore a m → IsShapeFault m path why → IsShapeFault a path why
 shape_back a m path (fault.Shape told why) less h = (h.0, (h.1.0, less.tells path h.1.0 h.1.1, h.1.2))
 shape_back a m path (fault.Read told) less h = fault_back a m path 0 (fault.Read told) less.says h
 shape_back a m path (fault.Write told) less h = fault_back a m path 0 (fault.Write told) less.says h
@@ -80,7 +80,7 @@ shape_back a m path why less h = absurd h
 
 -- with the answers that it had once it was locked
 module _ (a m t : Answers) (path : Bor (List ℕ)) (text : DiskText) (less : AnswersNoMore a m) (same : t ≡ m) (at : IsTextAt m path.now text) where
-  pub not_opened : (f : FileFault) (wanted : ℕ) (told : DiskFault) → t.fails path.now f → wanted ≡ file_bytes text.shape → told ≡ told_at f path wanted → IsNotAt a path.now told
+  pub not_opened : (f : DiskFileFault) (wanted : ℕ) (told : DiskCommandFault) → t.fails path.now f → wanted ≡ file_bytes text.shape → told ≡ told_at f path wanted → IsNotAt a path.now told
   not_opened f wanted told fails bytes is =
       no_file a f path wanted text told (text_back a m path.now text less at) (less.says.fails path.now f (subst (λ x. x.fails path.now f) same fails)) bytes is
 

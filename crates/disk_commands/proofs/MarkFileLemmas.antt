@@ -3,12 +3,12 @@ use Rattle.std.proofs.Common.{◌≡◌, ◌∙◌, ℕ, ◌+◌, ◌≤◌, Boo
 use Rattle.file_die.specs.Bytes.{Bytes, over}
 use Rattle.file_die.specs.Rows.{WritesAll}
 use Rattle.file_die.proofs.BytesLemmas.{length_mixed, length_over}
-use Rattle.disk_server.specs.declared.mark.Mark.{Mark}
+use Rattle.disk_server.specs.declared.mark.SyncMark.{SyncMark}
 use Rattle.disk_commands.specs.declared.mark_file.MarkFile.{MarkFile}
 use Rattle.disk_commands.specs.Mark.{file_length, slot_at, slot_text}
 use Rattle.disk_commands.specs.MarkFile.{BeginsMark, IsMarkBytes, KeepsIn, KeepsMark, WritesSlot, slot_after}
 
-slot_long : (m : Mark) → length (slot_text m) ≡ 32
+slot_long : (m : SyncMark) → length (slot_text m) ≡ 32
 slot_long m = refl
 
 slot_within : (second : Bool) → slot_at second + 32 ≤ file_length
@@ -16,7 +16,7 @@ slot_within true = omega arith
 slot_within false = omega arith
 
 -- a mark over a slot leaves the file as long as it was
-pub wrote : (s t : Bytes) (second : Bool) (m : Mark) (at : ℕ) (given : List ℕ) (done : Bool) → at ≡ slot_at second → given ≡ slot_text m → IsMarkBytes s
+pub wrote : (s t : Bytes) (second : Bool) (m : SyncMark) (at : ℕ) (given : List ℕ) (done : Bool) → at ≡ slot_at second → given ≡ slot_text m → IsMarkBytes s
     → (at ≤ length s.bytes → WritesAll s at given done t) → WritesSlot s second m done t × IsMarkBytes t
 wrote s t second m at given done at_is given_is long writes =
     let fits : slot_at second + length (slot_text m) ≤ length s.bytes = omega (arith, slot_within second, slot_long m, long) in
@@ -26,20 +26,20 @@ wrote s t second m at given done at_is given_is long writes =
 
 module _ {F : Type 0} (held : F → Bytes) (honest : F → Bool) where
   -- what a write of a mark into the slot that is next says
-  pub record Puts (old : MarkFile F) (m : Mark) (done : Bool) (new : MarkFile F) : Type 0 where
+  pub record Puts (old : MarkFile F) (m : SyncMark) (done : Bool) (new : MarkFile F) : Type 0 where
     pub writes : honest old.file ≡ true → IsMarkBytes (held old.file) → WritesSlot (held old.file) old.second m done (held new.file) × IsMarkBytes (held new.file)
     pub as_honest : honest new.file ≡ honest old.file
     pub same_second : new.second ≡ old.second
     pub same_fresh : new.fresh ≡ old.fresh
 
   -- and the first one, made to last
-  pub record Begins (old : MarkFile F) (m : Mark) (new : MarkFile F) : Type 0 where
+  pub record Begins (old : MarkFile F) (m : SyncMark) (new : MarkFile F) : Type 0 where
     pub begins : honest old.file ≡ true → IsMarkBytes (held old.file) → BeginsMark (held old.file) old.second m true (held new.file) × IsMarkBytes (held new.file)
     pub as_honest : honest new.file ≡ honest old.file
     pub other : new.second ≡ not old.second
     pub begun : new.fresh ≡ false
 
-  pub kept_first : (old mid new : MarkFile F) (m : Mark) (done : Bool) → old.fresh ≡ true → Begins old m mid → Puts mid m done new → KeepsIn held honest old m done new
+  pub kept_first : (old mid new : MarkFile F) (m : SyncMark) (done : Bool) → old.fresh ≡ true → Begins old m mid → Puts mid m done new → KeepsIn held honest old m done new
   kept_first old mid new m done fresh first then = record {
     keeps = λ h long.
         let b = first.begins h long in
@@ -53,7 +53,7 @@ module _ {F : Type 0} (held : F → Bytes) (honest : F → Bool) where
     next = λ ok. then.same_second ∙ first.other ∙ sym (ap (λ (f : Bool). slot_after f old.second) fresh);
   }
 
-  pub kept_later : (old new : MarkFile F) (m : Mark) (done : Bool) → old.fresh ≡ false → Puts old m done new → KeepsIn held honest old m done new
+  pub kept_later : (old new : MarkFile F) (m : SyncMark) (done : Bool) → old.fresh ≡ false → Puts old m done new → KeepsIn held honest old m done new
   kept_later old new m done fresh then = record {
     keeps = λ h long.
         let w = then.writes h long in

@@ -4,7 +4,7 @@ use Rattle.std.specs.Prelude.{take, drop, Option, Some, None}
 use Rattle.std.specs.Int.{w64, to_le_bytes, from_le_bytes}
 use Rattle.std.proofs.lemmas.Nat.{from_le_bytes-to_le_bytes_8}
 use Rattle.std.proofs.lemmas.Bool.{cases_lt}
-use Rattle.disk_server.specs.declared.mark.Mark.{Mark}
+use Rattle.disk_server.specs.declared.mark.SyncMark.{SyncMark}
 use Rattle.disk_commands.specs.declared.mark.FoundMark.{FoundMark}
 use Rattle.disk_commands.specs.Mark.{HasSlots, IsEither, IsNumberText, IsSlotRead, IsSlotText, IsSmall, IsTornBeside, SlotLaw, TornFileLaw, TornSlotLaw, found_in, number_text, slot_text, torn_slot}
 
@@ -75,7 +75,7 @@ slot_back m (Some read) small is = both (read_back read.synced m.synced small.sy
     both synced flushed = ap Some (search (rules, synced, flushed))
 
 -- torn in its first number, or in its second one
-torn_at : (old new m : Mark) (count : ℕ) → IsSmall old → IsSmall new → IsSlotText (torn_slot count old new) m → (count < 16) ⊎ (16 ≤ count) → IsEither old.synced new.synced m.synced × IsEither old.flushed new.flushed m.flushed
+torn_at : (old new m : SyncMark) (count : ℕ) → IsSmall old → IsSmall new → IsSlotText (torn_slot count old new) m → (count < 16) ⊎ (16 ≤ count) → IsEither old.synced new.synced m.synced × IsEither old.flushed new.flushed m.flushed
 torn_at old new m count small small_new is (inl few) = (
   either_of old.synced new.synced m.synced count small.synced small_new.synced
       (subst (λ l. IsNumberText l m.synced) (front_torn 16 count (slot_text new) (slot_text old) (omega (arith, few)) refl) is.synced),
@@ -95,16 +95,16 @@ torn_slots old new m count small small_new is = torn_at old new m count small sm
 -- ---- the file
 
 -- a slot that was left alone counts, or one that is later
-later_second : (kept : Mark) (other : Option Mark) (found : FoundMark) → found ≡ found_in (Some kept) other
-    → (found.mark ≡ kept) ⊎ ((m : Mark) × (other ≡ Some m) × (found.mark ≡ m) × (kept.synced ≤ m.synced))
+later_second : (kept : SyncMark) (other : Option SyncMark) (found : FoundMark) → found ≡ found_in (Some kept) other
+    → (found.mark ≡ kept) ⊎ ((m : SyncMark) × (other ≡ Some m) × (found.mark ≡ m) × (kept.synced ≤ m.synced))
 later_second kept None found is = inl (ap (λ (f : FoundMark). f.mark) is)
 later_second kept (Some m) found is = elim (cases_lt kept.synced m.synced) [
   | inl less ↦ inr (m, refl, search (rules, is, less), omega (arith, less))
   | inr most ↦ inl (search (rules, is, most))
 ]
 
-later_first : (kept : Mark) (other : Option Mark) (found : FoundMark) → found ≡ found_in other (Some kept)
-    → (found.mark ≡ kept) ⊎ ((m : Mark) × (other ≡ Some m) × (found.mark ≡ m) × (kept.synced ≤ m.synced))
+later_first : (kept : SyncMark) (other : Option SyncMark) (found : FoundMark) → found ≡ found_in other (Some kept)
+    → (found.mark ≡ kept) ⊎ ((m : SyncMark) × (other ≡ Some m) × (found.mark ≡ m) × (kept.synced ≤ m.synced))
 later_first kept None found is = inl (ap (λ (f : FoundMark). f.mark) is)
 later_first kept (Some m) found is = elim (cases_lt m.synced kept.synced) [
   | inl less ↦ inl (search (rules, is, less))
@@ -112,17 +112,17 @@ later_first kept (Some m) found is = elim (cases_lt m.synced kept.synced) [
 ]
 
 -- so of the mark that is found
-found_so : (kept old new : Mark) (count : ℕ) (other : Option Mark) (found : FoundMark) → IsSmall old → IsSmall new → IsSlotRead (torn_slot count old new) other
-    → (found.mark ≡ kept) ⊎ ((m : Mark) × (other ≡ Some m) × (found.mark ≡ m) × (kept.synced ≤ m.synced))
+found_so : (kept old new : SyncMark) (count : ℕ) (other : Option SyncMark) (found : FoundMark) → IsSmall old → IsSmall new → IsSlotRead (torn_slot count old new) other
+    → (found.mark ≡ kept) ⊎ ((m : SyncMark) × (other ≡ Some m) × (found.mark ≡ m) × (kept.synced ≤ m.synced))
     → (kept.synced ≤ found.mark.synced) × ((found.mark.synced ≡ kept.synced) ⊎ IsEither old.synced new.synced found.mark.synced)
-found_so kept old new count other found small small_new read (inl is) = (omega (arith, ap (λ (m : Mark). m.synced) is), inl (ap (λ (m : Mark). m.synced) is))
+found_so kept old new count other found small small_new read (inl is) = (omega (arith, ap (λ (m : SyncMark). m.synced) is), inl (ap (λ (m : SyncMark). m.synced) is))
 found_so kept old new count other found small small_new read (inr is) =
-    let number = ap (λ (m : Mark). m.synced) is.2 in (
+    let number = ap (λ (m : SyncMark). m.synced) is.2 in (
       omega (arith, number, is.3),
       inr (subst (IsEither old.synced new.synced) (sym number) (torn_slots old new is.0 count small small_new (subst (IsSlotRead (torn_slot count old new)) is.1 read)).0),
     )
 
-by_place : (bytes : List ℕ) (kept old new : Mark) (count : ℕ) (found : FoundMark) → IsSmall kept → IsSmall old → IsSmall new → IsTornBeside bytes kept old new count → HasSlots bytes found
+by_place : (bytes : List ℕ) (kept old new : SyncMark) (count : ℕ) (found : FoundMark) → IsSmall kept → IsSmall old → IsSmall new → IsTornBeside bytes kept old new count → HasSlots bytes found
     → (kept.synced ≤ found.mark.synced) × ((found.mark.synced ≡ kept.synced) ⊎ IsEither old.synced new.synced found.mark.synced)
 by_place bytes kept old new count found small_kept small small_new (inl at) has =
     found_so kept old new count has.second found small small_new (subst (λ l. IsSlotRead l has.second) at.1 has.second_is)

@@ -5,9 +5,9 @@ use Rattle.file_die.specs.Store.{Held}
 use Rattle.disk_commands.specs.declared.files.Access.{Access}
 use Rattle.disk_commands.specs.declared.mark.FoundMark.{FoundMark}
 use Rattle.disk_commands.specs.declared.shape_text.DiskText.{DiskText}
-use Rattle.disk_commands.specs.declared.text.DiskFault.{DiskFault}
-use Rattle.disk_commands.specs.declared.text.DiskFault.TheVariants as fault
-use Rattle.disk_commands.specs.declared.words.ServeWords.{ServeWords}
+use Rattle.disk_commands.specs.declared.text.DiskCommandFault.{DiskCommandFault}
+use Rattle.disk_commands.specs.declared.text.DiskCommandFault.TheVariants as fault
+use Rattle.disk_commands.specs.declared.words.DiskServeWords.{DiskServeWords}
 use Rattle.disk_commands.specs.Damage.{IsLookedAt}
 use Rattle.disk_commands.specs.Files.{Answers, Opened, Opens, OpensMarked, OpensMarkedIf, SaysNoMore, with_mark, with_opened}
 use Rattle.disk_commands.specs.Guard.{IsUnlistedAt}
@@ -29,13 +29,13 @@ marks_if true path access before mid after is (inl same) = inl (same ∙ is)
 marks_if true path access before mid after is (inr marked) = inr (marked ∙ ap (λ x. with_mark x path) is)
 marks_if false path access before mid after is same = same ∙ is
 
-pub marks_then : (words : ServeWords) (a : Access) (before mid after : Option (List Opened)) → a ≡ access_of words → mid ≡ with_opened before words.disk.now a → MarksBy (not words.read_only) words.disk.now mid after
+pub marks_then : (words : DiskServeWords) (a : Access) (before mid after : Option (List Opened)) → a ≡ access_of words → mid ≡ with_opened before words.disk.now a → MarksBy (not words.read_only) words.disk.now mid after
     → OpensMarked words.disk.now (access_of words) before after
 marks_then words a before mid after same is marks = marks_if (not words.read_only) words.disk.now (access_of words) before mid after (is ∙ ap (with_opened before words.disk.now) same) marks
 
 -- ---- why it is not ready
 
-pub unlisted_back : (a b : Answers) (path : List ℕ) (why : DiskFault) → SaysNoMore a b → IsUnlistedAt b path why → IsUnlistedAt a path why
+pub unlisted_back : (a b : Answers) (path : List ℕ) (why : DiskCommandFault) → SaysNoMore a b → IsUnlistedAt b path why → IsUnlistedAt a path why
 unlisted_back a b path fault.OutOfMemory less h = tt
 unlisted_back a b path (fault.Read told) less h = fault_back a b path 0 (fault.Read told) less h
 unlisted_back a b path (fault.Write told) less h = fault_back a b path 0 (fault.Write told) less h
@@ -44,11 +44,11 @@ unlisted_back a b path (fault.Exists told) less h = fault_back a b path 0 (fault
 unlisted_back a b path (fault.Length told found due) less h = fault_back a b path 0 (fault.Length told found due) less h
 unlisted_back a b path why less h = absurd h
 
-unkept_back : {Y : Type 0} (missed : Y → ℕ) (a b : Answers) (path : List ℕ) (why : DiskFault) → SaysNoMore a b → IsUnkeptAt missed b path why → IsUnkeptAt missed a path why
+unkept_back : {Y : Type 0} (missed : Y → ℕ) (a b : Answers) (path : List ℕ) (why : DiskCommandFault) → SaysNoMore a b → IsUnkeptAt missed b path why → IsUnkeptAt missed a path why
 unkept_back missed a b path why less (inl h) = inl (fault_back a b path 0 why less h)
 unkept_back missed a b path why less (inr h) = inr h
 
-pub unkept_by : {Y : Type 0} (read_only : Bool) (missed : Y → ℕ) (a b : Answers) (path : List ℕ) (why : DiskFault) → SaysNoMore a b → IsUnkeptBy read_only missed b path why → IsUnkeptBy read_only missed a path why
+pub unkept_by : {Y : Type 0} (read_only : Bool) (missed : Y → ℕ) (a b : Answers) (path : List ℕ) (why : DiskCommandFault) → SaysNoMore a b → IsUnkeptBy read_only missed b path why → IsUnkeptBy read_only missed a path why
 unkept_by true missed a b path why less h = h
 unkept_by false missed a b path why less h = unkept_back missed a b path why less h
 

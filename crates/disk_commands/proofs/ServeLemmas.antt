@@ -6,11 +6,11 @@ use Rattle.request_stream.specs.declared.reply.ServeFault.{ServeFault}
 use Rattle.file_die.specs.Store.{Held}
 use Rattle.coded_store.specs.declared.coded.Mended.{Mended}
 use Rattle.disk_server.specs.declared.guarded.GuardedSectors.{GuardedSectors}
-use Rattle.disk_server.specs.declared.mark.Mark.{Mark}
+use Rattle.disk_server.specs.declared.mark.SyncMark.{SyncMark}
 use Rattle.disk_server.specs.Reopened.{Reopened, holds_in, next_in, takes_in}
 use Rattle.disk_server.specs.Guarded.{PassesOn, ReadsGuarded}
-use Rattle.nbd_stream.specs.declared.fault.DiskFault.{DiskFault as NbdFault}
-use Rattle.nbd_stream.specs.declared.request.End.{End}
+use Rattle.nbd_stream.specs.declared.fault.DiskCommandFault.{DiskCommandFault as NbdFault}
+use Rattle.nbd_stream.specs.declared.request.StreamEnd.{StreamEnd}
 use Rattle.nbd_stream.specs.declared.task.Task.{Task}
 use Rattle.nbd_stream.specs.declared.task.Task.TheVariants.{Flush}
 use Rattle.nbd_stream.specs.Disk.{Contents, Performs, answer_from}
@@ -18,19 +18,19 @@ use Rattle.nbd_stream.specs.declared.export.Export.{Export}
 use Rattle.nbd_stream.specs.Transmission.{Serves}
 use Rattle.disk_commands.specs.declared.serve.Terms.{Terms}
 use Rattle.disk_commands.specs.declared.shape_text.DiskText.{DiskText}
-use Rattle.disk_commands.specs.declared.words.ServeWords.{ServeWords}
+use Rattle.disk_commands.specs.declared.words.DiskServeWords.{DiskServeWords}
 use Rattle.disk_server.specs.declared.synced.SyncedDisk.{SyncedDisk}
 use Rattle.disk_server.specs.Synced.{Closes}
-use Rattle.disk_commands.specs.declared.text.DiskFault.{DiskFault}
-use Rattle.disk_commands.specs.declared.text.DiskFault.TheVariants as fault
+use Rattle.disk_commands.specs.declared.text.DiskCommandFault.{DiskCommandFault}
+use Rattle.disk_commands.specs.declared.text.DiskCommandFault.TheVariants as fault
 use Rattle.disk_commands.specs.Damage.{NamesAll}
 use Rattle.disk_commands.specs.Files.{Answers}
 use Rattle.disk_commands.specs.Ready.{IsReadyAt}
 use Rattle.disk_commands.specs.Serve.{HasNotServed, HasReadDisk, HasServedAt, HasServedDisk, HasServedOn, IsClosed, ServedBy, does_in, reads_in, rests_in, shown_in, terms_of, told_at_end}
 
 -- by how the disk was closed
-pub closed : {D Y : Type 0} (contents : D → Contents) (honest : D → Bool) (does : D → Task → Result (Unit {0}) NbdFault → D → Type 0) (next : D → ℕ) (takes : D → Bool) (synced failed : Y → ℕ) (marked : Y → Mark)
-    (counts : Bool) (path : Bor (List ℕ)) (last left : SyncedDisk D Y) (answer : Result End ServeFault) (done said : Result (Unit {0}) NbdFault) (result : Result (Unit {0}) DiskFault)
+pub closed : {D Y : Type 0} (contents : D → Contents) (honest : D → Bool) (does : D → Task → Result (Unit {0}) NbdFault → D → Type 0) (next : D → ℕ) (takes : D → Bool) (synced failed : Y → ℕ) (marked : Y → SyncMark)
+    (counts : Bool) (path : Bor (List ℕ)) (last left : SyncedDisk D Y) (answer : Result StreamEnd ServeFault) (done said : Result (Unit {0}) NbdFault) (result : Result (Unit {0}) DiskCommandFault)
     → Performs (λ s. contents s.disk) (λ s. honest s.disk) (λ _. false) Flush [] last (answer_from done []) left → Closes does synced failed marked next takes counts last done left
     → done ≡ said → result ≡ told_at_end said path answer → IsClosed contents honest does next takes synced failed marked counts path last answer result
 closed contents honest does next takes synced failed marked counts path last left answer done said result performs closes is told =
@@ -38,15 +38,15 @@ closed contents honest does next takes synced failed marked counts path last lef
 
 -- a disk that was only read, and one that was written
 pub was_read : {D Y : Type 0} (contents : D → Contents) (honest : D → Bool) (does : D → Task → Result (Unit {0}) NbdFault → D → Type 0) (rests : D → Result (Unit {0}) NbdFault → D → Type 0) (reads : D → D → Type 0)
-    (next : D → ℕ) (takes : D → Bool) (synced failed : Y → ℕ) (marked : Y → Mark)
-    (terms : Terms) (path : Bor (List ℕ)) (disk : D) (syncs : Y) (unread left before after : Option (List ℕ)) (result : Result (Unit {0}) DiskFault) → terms.offer.read_only ≡ true
+    (next : D → ℕ) (takes : D → Bool) (synced failed : Y → ℕ) (marked : Y → SyncMark)
+    (terms : Terms) (path : Bor (List ℕ)) (disk : D) (syncs : Y) (unread left before after : Option (List ℕ)) (result : Result (Unit {0}) DiskCommandFault) → terms.offer.read_only ≡ true
     → HasReadDisk contents honest reads terms disk unread left before after result → HasServedOn contents honest does rests reads next takes synced failed marked terms path disk syncs unread left before after result
 was_read contents honest does rests reads next takes synced failed marked terms path disk syncs unread left before after result is =
     subst (λ b. ServedBy b contents honest does rests reads next takes synced failed marked terms path disk syncs unread left before after result) (sym is)
 
 pub was_written : {D Y : Type 0} (contents : D → Contents) (honest : D → Bool) (does : D → Task → Result (Unit {0}) NbdFault → D → Type 0) (rests : D → Result (Unit {0}) NbdFault → D → Type 0) (reads : D → D → Type 0)
-    (next : D → ℕ) (takes : D → Bool) (synced failed : Y → ℕ) (marked : Y → Mark)
-    (terms : Terms) (path : Bor (List ℕ)) (disk : D) (syncs : Y) (unread left before after : Option (List ℕ)) (result : Result (Unit {0}) DiskFault) → terms.offer.read_only ≡ false
+    (next : D → ℕ) (takes : D → Bool) (synced failed : Y → ℕ) (marked : Y → SyncMark)
+    (terms : Terms) (path : Bor (List ℕ)) (disk : D) (syncs : Y) (unread left before after : Option (List ℕ)) (result : Result (Unit {0}) DiskCommandFault) → terms.offer.read_only ≡ false
     → HasServedDisk contents honest does rests next takes synced failed marked terms path disk syncs unread left before after result
     → HasServedOn contents honest does rests reads next takes synced failed marked terms path disk syncs unread left before after result
 was_written contents honest does rests reads next takes synced failed marked terms path disk syncs unread left before after result is =
@@ -54,13 +54,13 @@ was_written contents honest does rests reads next takes synced failed marked ter
 
 -- a session with a buffer of just so many bytes
 pub limited : {D : Type 0} (contents : D → Contents) (honest calm : D → Bool) (does : D → Task → Result (Unit {0}) NbdFault → D → Type 0) (rests : D → Result (Unit {0}) NbdFault → D → Type 0) (e : Export) (room most : ℕ) (first last : D)
-    (unread left before after : Option (List ℕ)) (result : Result End ServeFault) → room ≡ most
+    (unread left before after : Option (List ℕ)) (result : Result StreamEnd ServeFault) → room ≡ most
     → Serves contents honest calm does rests e room first last unread left before after result → Serves contents honest calm does rests e most first last unread left before after result
 limited contents honest calm does rests e room most first last unread left before after result is = subst (λ n. Serves contents honest calm does rests e n first last unread left before after result) is
 
 -- it was served, or memory for its requests was refused
-pub served_at : {S Y K : Type 0} (held : S → Held) (honest full : S → Bool) (mended_in : S → Mended) (failed : S → ℕ) (synced missed : Y → ℕ) (marked : Y → Mark) (kept : K → List Bool) (unlisted : K → ℕ) (a : Answers) (words : ServeWords) (told : DiskText) (mended : Mended)
-    (disk : GuardedSectors (Reopened S) K) (syncs : Y) (terms : Terms) (unread left before after telling told_after : Option (List ℕ)) (result : Result (Unit {0}) DiskFault)
+pub served_at : {S Y K : Type 0} (held : S → Held) (honest full : S → Bool) (mended_in : S → Mended) (failed : S → ℕ) (synced missed : Y → ℕ) (marked : Y → SyncMark) (kept : K → List Bool) (unlisted : K → ℕ) (a : Answers) (words : DiskServeWords) (told : DiskText) (mended : Mended)
+    (disk : GuardedSectors (Reopened S) K) (syncs : Y) (terms : Terms) (unread left before after telling told_after : Option (List ℕ)) (result : Result (Unit {0}) DiskCommandFault)
     → IsReadyAt held honest mended_in marked kept a words.disk.now words.read_only words.sync_always told mended disk syncs → NamesAll disk.lost.items told.shape.code mended telling told_after → terms ≡ terms_of told words.read_only
     → HasServedOn (shown_in held honest) (λ d. holds_in honest d.sectors) (does_in held honest full failed) (PassesOn (rests_in held honest full failed)) (ReadsGuarded (reads_in held honest))
     (λ d. next_in d.sectors) (λ d. takes_in d.sectors) synced missed marked terms words.disk disk syncs unread left before after result

@@ -10,7 +10,7 @@ use Rattle.page_layout.specs.declared.geometry.Geometry.{Geometry}
 use Rattle.page_layout.specs.Limits.{IsPageCount, IsWithinLimits}
 use Rattle.page_layout.specs.Geometry.{need}
 use Rattle.disk_commands.specs.declared.shapes.Code.TheVariants.{Plain}
-use Rattle.disk_commands.specs.declared.shapes.Shape.{Shape}
+use Rattle.disk_commands.specs.declared.shapes.DiskShape.{DiskShape}
 use Rattle.disk_commands.specs.declared.shapes.SizeFault.{SizeFault}
 use Rattle.disk_commands.specs.declared.shapes.SizeFault.TheVariants.{Zero, TooLarge}
 use Rattle.disk_commands.specs.Shapes.{Formats, IsDie, IsDieFor, IsLeast, IsNoSize, IsPages, IsPagesFor, IsShapeFor, cache_of, most_sectors}
@@ -191,7 +191,7 @@ no_die bytes TooLarge over p known g is =
 
 -- ---- the shape
 
-pub shaped : (bytes s p b spare : ℕ) (shape : Shape) → s ≡ div_ceil bytes 4096 → spare ≡ div_ceil b 20 → IsPagesFor s p → IsLeast p s b → IsDie p (b + spare) s shape.geometry → shape.cache ≡ cache_of shape.geometry → shape.code ≡ Plain → IsShapeFor bytes shape
+pub shaped : (bytes s p b spare : ℕ) (shape : DiskShape) → s ≡ div_ceil bytes 4096 → spare ≡ div_ceil b 20 → IsPagesFor s p → IsLeast p s b → IsDie p (b + spare) s shape.geometry → shape.cache ≡ cache_of shape.geometry → shape.code ≡ Plain → IsShapeFor bytes shape
 shaped bytes s p b spare shape s_is spare_is its least die cache code =
     let g = shape.geometry in
     let same : p ≡ g.pages = sym die.pages_is in

@@ -4,7 +4,7 @@ use Rattle.std.specs.Borrow.{Bor}
 use Rattle.page_layout.specs.declared.geometry.Geometry.{Geometry}
 use Rattle.command_words.specs.Numbers.{number_of}
 use Rattle.disk_commands.specs.declared.shapes.Code.TheVariants.{Plain}
-use Rattle.disk_commands.specs.declared.shapes.Shape.{Shape}
+use Rattle.disk_commands.specs.declared.shapes.DiskShape.{DiskShape}
 use Rattle.disk_commands.specs.declared.shape_words.GeometryWordFault.TheVariants as word
 use Rattle.disk_commands.specs.Shapes.{IsNoSize, IsShapeFor, cache_of}
 use Rattle.disk_commands.specs.Sizes.{SpellsPart, SpellsSize}
@@ -13,8 +13,8 @@ use Rattle.disk_commands.specs.ShapeWords.{SaysGeometry, SaysNone}
 use Rattle.disk_commands.specs.declared.words.CreateWords.{CreateWords}
 use Rattle.disk_commands.specs.declared.words.MakeWords.{MakeWords}
 use Rattle.disk_commands.specs.declared.words.MakeWords.TheVariants as make
-use Rattle.disk_commands.specs.declared.text.DiskFault.{DiskFault}
-use Rattle.disk_commands.specs.declared.text.DiskFault.TheVariants as fault
+use Rattle.disk_commands.specs.declared.text.DiskCommandFault.{DiskCommandFault}
+use Rattle.disk_commands.specs.declared.text.DiskCommandFault.TheVariants as fault
 
 -- ---- what is asked for
 
@@ -37,34 +37,34 @@ abbrev pub IsCacheAsked : Option (Bor (List ℕ)) → Geometry → ℕ → Type 
 IsCacheAsked None g cache = cache ≡ cache_of g
 IsCacheAsked (Some word) g cache = IsCacheAt word.now cache
 
-abbrev pub IsShapeAsked : CreateWords → Shape → Type 0
+abbrev pub IsShapeAsked : CreateWords → DiskShape → Type 0
 IsShapeAsked words s = IsGeometryAsked words.make s.geometry × IsCacheAsked words.cache s.geometry s.cache × (s.code ≡ words.code)
 
 -- ---- why there is none
 
 -- a word that writes no five numbers is told, or else the first limit that they break
-abbrev pub IsNoGeometryAt : List ℕ → DiskFault → Type 0
+abbrev pub IsNoGeometryAt : List ℕ → DiskCommandFault → Type 0
 IsNoGeometryAt said (fault.BadNumber told) = (told.now ≡ said) × SaysNone said word.NoNumbers
 IsNoGeometryAt said (fault.Geometry broken) = SaysNone said (word.Limit broken)
 IsNoGeometryAt said _ = ⊥
 
-abbrev pub IsNoGeometryFor : List ℕ → DiskFault → Type 0
+abbrev pub IsNoGeometryFor : List ℕ → DiskCommandFault → Type 0
 IsNoGeometryFor said (fault.BadSize told) = (told.now ≡ said) × ((bytes : ℕ) → ¬ SpellsSize said bytes) × (¬ SpellsPart said)
 IsNoGeometryFor said (fault.PartOfByte told) = (told.now ≡ said) × SpellsPart said
 IsNoGeometryFor said (fault.Size why) = (bytes : ℕ) × SpellsSize said bytes × IsNoSize bytes why
 IsNoGeometryFor said _ = ⊥
 
-abbrev pub IsNoGeometryAsked : MakeWords → DiskFault → Type 0
+abbrev pub IsNoGeometryAsked : MakeWords → DiskCommandFault → Type 0
 IsNoGeometryAsked (make.Size word) told = IsNoGeometryFor word.now told
 IsNoGeometryAsked (make.Geometry word) told = IsNoGeometryAt word.now told
 IsNoGeometryAsked (make.Dump word from) told = IsNoGeometryAt word.now told
 
-abbrev pub IsNoCacheAsked : Option (Bor (List ℕ)) → DiskFault → Type 0
+abbrev pub IsNoCacheAsked : Option (Bor (List ℕ)) → DiskCommandFault → Type 0
 IsNoCacheAsked (Some word) (fault.BadNumber told) = (told.now ≡ word.now) × ((cache : ℕ) → ¬ IsCacheAt word.now cache)
 IsNoCacheAsked _ _ = ⊥
 
 -- the first of this order: the geometry, then the cache
-abbrev pub IsNoShapeAsked : CreateWords → DiskFault → Type 0
+abbrev pub IsNoShapeAsked : CreateWords → DiskCommandFault → Type 0
 IsNoShapeAsked words told =
     IsNoGeometryAsked words.make told
     ⊎ ((g : Geometry) × IsGeometryAsked words.make g × IsNoCacheAsked words.cache told)

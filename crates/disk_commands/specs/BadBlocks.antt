@@ -11,8 +11,8 @@ use Rattle.file_die.specs.Store.{Held, page_in}
 use Rattle.command_words.specs.Numbers.{SpellsNumbers}
 use Rattle.disk_commands.specs.declared.words.MakeWords.{MakeWords}
 use Rattle.disk_commands.specs.declared.words.MakeWords.TheVariants as make
-use Rattle.disk_commands.specs.declared.text.DiskFault.{DiskFault}
-use Rattle.disk_commands.specs.declared.text.DiskFault.TheVariants as fault
+use Rattle.disk_commands.specs.declared.text.DiskCommandFault.{DiskCommandFault}
+use Rattle.disk_commands.specs.declared.text.DiskCommandFault.TheVariants as fault
 
 -- ---- what is asked for
 
@@ -34,14 +34,14 @@ AreBadAsked true (Some word) g blocks = ⊥
 AreBadAsked false (Some word) g blocks = Names word.now g blocks
 
 -- a word that writes no numbers is told; or the first block that the die has not, or that was named before
-abbrev pub NamesNone : Bor (List ℕ) → Geometry → DiskFault → Type 0
+abbrev pub NamesNone : Bor (List ℕ) → Geometry → DiskCommandFault → Type 0
 NamesNone word g (fault.BadNumber told) = (told.now ≡ word.now) × ((blocks : List ℕ) → ¬ SpellsNumbers word.now blocks)
 NamesNone word g (fault.BadBlock block) = (blocks : List ℕ) × SpellsNumbers word.now blocks × IsFirstMisnamed g blocks block
 NamesNone word g fault.OutOfMemory = Unit {0}
 NamesNone word g _ = ⊥
 
 -- why there are none: none are asked of a die that is copied
-abbrev pub AreNoneAsked : (copied : Bool) → Option (Bor (List ℕ)) → Geometry → DiskFault → Type 0
+abbrev pub AreNoneAsked : (copied : Bool) → Option (Bor (List ℕ)) → Geometry → DiskCommandFault → Type 0
 AreNoneAsked copied None g told = ⊥
 AreNoneAsked true (Some word) g told = told ≡ fault.NoSuchCommand
 AreNoneAsked false (Some word) g told = NamesNone word g told

@@ -14,8 +14,8 @@ use Rattle.disk_commands.specs.declared.mark.FoundMark.{FoundMark}
 use Rattle.disk_commands.specs.declared.printed.Form.{Form}
 use Rattle.disk_commands.specs.declared.printed.Form.TheVariants.{Text, Json}
 use Rattle.disk_commands.specs.declared.shape_text.DiskText.{DiskText}
-use Rattle.disk_commands.specs.declared.text.DiskFault.{DiskFault}
-use Rattle.disk_commands.specs.declared.text.DiskFault.TheVariants as fault
+use Rattle.disk_commands.specs.declared.text.DiskCommandFault.{DiskCommandFault}
+use Rattle.disk_commands.specs.declared.text.DiskCommandFault.TheVariants as fault
 use Rattle.disk_commands.specs.declared.words.InfoWords.{InfoWords}
 use Rattle.disk_commands.specs.Damage.{IsLookedAt, IsUnlookedAt}
 use Rattle.disk_commands.specs.Files.{Answers}
@@ -37,7 +37,7 @@ pub record IsDamageAt {S : Type 0} (held : S → Held) (honest : S → Bool) (a 
   pub unsound_are : honest store ≡ true → unsound ≡ unsound_numbers (held store).geometry (held store).pages certificate.blocks
 
 -- how it is told that the pages were not looked at
-abbrev pub unseen : LostFault → Bor (List ℕ) → DiskFault
+abbrev pub unseen : LostFault → Bor (List ℕ) → DiskCommandFault
 unseen lost.OutOfMemory path = fault.OutOfMemory
 unseen lost.Store path = fault.Open path why.Device
 
@@ -52,13 +52,13 @@ pub record FailsCheck {S : Type 0} (held : S → Held) (honest : S → Bool) (fa
   pub left : S
   pub rose : HasRisen (failed store) (failed left)
 
-abbrev pub IsUnseen : {S : Type 0} → (S → Held) → (honest : S → Bool) → (failed : S → ℕ) → Answers → (path : List ℕ) → DiskFault → Type 0
+abbrev pub IsUnseen : {S : Type 0} → (S → Held) → (honest : S → Bool) → (failed : S → ℕ) → Answers → (path : List ℕ) → DiskCommandFault → Type 0
 IsUnseen held honest failed a path (fault.Open at why.Device) = (at.now ≡ path) × FailsCheck held honest failed a path
 IsUnseen held honest failed a path fault.OutOfMemory = Unit {0}
 IsUnseen held honest failed a path _ = ⊥
 
 -- the disk was not looked at, or not all of its pages
-abbrev pub IsUncheckedAt : {S : Type 0} → (S → Held) → (honest : S → Bool) → (failed : S → ℕ) → Answers → (path : List ℕ) → DiskFault → Type 0
+abbrev pub IsUncheckedAt : {S : Type 0} → (S → Held) → (honest : S → Bool) → (failed : S → ℕ) → Answers → (path : List ℕ) → DiskCommandFault → Type 0
 IsUncheckedAt held honest failed a path told = IsUnlookedAt held honest failed a path told ⊎ IsUnseen held honest failed a path told
 
 -- ---- what is told
@@ -79,12 +79,12 @@ pub record HasChecked {S : Type 0} (held : S → Held) (honest : S → Bool) (a 
   pub printed : Appends before after (damage_text (form_of words.json) missing bad unsound)
 
 -- so many sectors are lost, which was told with the rest
-abbrev pub FindsLost : {S : Type 0} → (S → Held) → (honest : S → Bool) → Answers → InfoWords → (before after : Option (List ℕ)) → DiskFault → Type 0
+abbrev pub FindsLost : {S : Type 0} → (S → Held) → (honest : S → Bool) → Answers → InfoWords → (before after : Option (List ℕ)) → DiskCommandFault → Type 0
 FindsLost held honest a words before after (fault.Lost at count) = (at ≡ words.disk) × (0 < count) × HasChecked held honest a words count before after
 FindsLost held honest a words before after _ = ⊥
 
 -- it was looked at, and was not printed
-pub record HasNotChecked {S : Type 0} (held : S → Held) (honest : S → Bool) (a : Answers) (words : InfoWords) (before after : Option (List ℕ)) (told : DiskFault) : Type 0 where
+pub record HasNotChecked {S : Type 0} (held : S → Held) (honest : S → Bool) (a : Answers) (words : InfoWords) (before after : Option (List ℕ)) (told : DiskCommandFault) : Type 0 where
   pub missing : List ℕ
   pub bad : List ℕ
   pub unsound : List ℕ
@@ -92,6 +92,6 @@ pub record HasNotChecked {S : Type 0} (held : S → Held) (honest : S → Bool) 
   pub part : IsPrintedInPart (damage_text (form_of words.json) missing bad unsound) before after told
 
 -- why the answer is not that all is there: the disk was not looked at, and nothing was printed; that failed; or sectors are lost
-abbrev pub IsUnclean : {S : Type 0} → (S → Held) → (honest : S → Bool) → (failed : S → ℕ) → Answers → InfoWords → (before after : Option (List ℕ)) → DiskFault → Type 0
+abbrev pub IsUnclean : {S : Type 0} → (S → Held) → (honest : S → Bool) → (failed : S → ℕ) → Answers → InfoWords → (before after : Option (List ℕ)) → DiskCommandFault → Type 0
 IsUnclean held honest failed a words before after told =
     (IsUncheckedAt held honest failed a words.disk.now told × Keeps before after) ⊎ (HasNotChecked held honest a words before after told ⊎ FindsLost held honest a words before after told)

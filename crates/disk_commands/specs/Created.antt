@@ -8,7 +8,7 @@ use Rattle.file_die.specs.Store.{Held, blank}
 use Rattle.image_check.specs.declared.refusal.Refusal.TheVariants.{TooStale}
 use Rattle.certificate.specs.Claim.{Claim}
 use Rattle.mount.specs.Mounted.{IsMounted, Refuses}
-use Rattle.disk_commands.specs.declared.shapes.Shape.{Shape}
+use Rattle.disk_commands.specs.declared.shapes.DiskShape.{DiskShape}
 use Rattle.disk_commands.specs.ShapeText.{shape_text}
 use Rattle.disk_commands.specs.declared.words.CreateWords.{CreateWords}
 use Rattle.disk_commands.specs.declared.words.MakeWords.{MakeWords}
@@ -18,9 +18,9 @@ use Rattle.disk_server.specs.declared.format.CreateFault.{CreateFault}
 use Rattle.disk_server.specs.declared.format.CreateFault.TheVariants as create
 use Rattle.disk_server.specs.Made.{IsMade, IsUnmade}
 use Rattle.disk_server.specs.Opened.{IsUnopened}
-use Rattle.disk_commands.specs.declared.text.DiskFault.{DiskFault}
-use Rattle.disk_commands.specs.declared.files.FileFault.TheVariants as file
-use Rattle.disk_commands.specs.declared.text.DiskFault.TheVariants as fault
+use Rattle.disk_commands.specs.declared.text.DiskCommandFault.{DiskCommandFault}
+use Rattle.disk_commands.specs.declared.files.DiskFileFault.TheVariants as file
+use Rattle.disk_commands.specs.declared.text.DiskCommandFault.TheVariants as fault
 use Rattle.disk_commands.specs.BadBlocks.{AreBadAsked, AreNoneAsked, HasMarks, is_copied}
 use Rattle.disk_commands.specs.Asked.{IsNoShapeAsked, IsShapeAsked}
 use Rattle.disk_commands.specs.Files.{Answers, Kept, with_kept}
@@ -42,14 +42,14 @@ pub record Mounts (s : Held) (capacity : ℕ) (t : Held) : Type 0 where
   pub mounts : ((c : Claim) × IsMounted s.geometry capacity s.pages c) ⊎ ((stale asked : ℕ) × Refuses s.geometry capacity s.pages (TooStale stale asked))
 
 -- the pages of a dump are such
-pub record IsDieOf (a : Answers) (dump : List ℕ) (shape : Shape) (s : Held) : Type 0 where
+pub record IsDieOf (a : Answers) (dump : List ℕ) (shape : DiskShape) (s : Held) : Type 0 where
   pub first : Held
   pub holds : a.holds dump first
   pub geometry : first.geometry ≡ shape.geometry
   pub mounts : Mounts first shape.cache s
 
 -- what was asked for
-abbrev pub IsDieFor : Answers → MakeWords → Shape → (bad : List ℕ) → Held → Type 0
+abbrev pub IsDieFor : Answers → MakeWords → DiskShape → (bad : List ℕ) → Held → Type 0
 IsDieFor a (make.Size word) shape bad s = IsNewDie shape.geometry bad s
 IsDieFor a (make.Geometry word) shape bad s = IsNewDie shape.geometry bad s
 IsDieFor a (make.Dump word from) shape bad s = IsDieOf a from.now shape s
@@ -58,7 +58,7 @@ IsDieFor a (make.Dump word from) shape bad s = IsDieOf a from.now shape s
 
 -- THE DISK AT A PATH: its die is what was asked for, and the text beside it tells its shape
 pub record HasCreated {S : Type 0} (held : S → Held) (honest : S → Bool) (a : Answers) (words : CreateWords) (before after : Option (List Kept)) : Type 0 where
-  pub shape : Shape
+  pub shape : DiskShape
   pub asked : IsShapeAsked words shape
   pub bad : List ℕ
   pub bad_asked : AreBadAsked (is_copied words.make) words.bad shape.geometry bad
@@ -71,7 +71,7 @@ pub record HasCreated {S : Type 0} (held : S → Held) (honest : S → Bool) (a 
 -- ---- why there is none
 
 -- how it is told that a die was not formatted
-abbrev pub unformatted : Bor (List ℕ) → CreateFault → DiskFault
+abbrev pub unformatted : Bor (List ℕ) → CreateFault → DiskCommandFault
 unformatted path (create.Open open_store.OutOfMemory) = fault.OutOfMemory
 unformatted path why = fault.Create path why
 
@@ -81,7 +81,7 @@ IsUnmarked {S} held honest failed a g bad =
     (0 < length bad) × ((store left : S) × (honest store ≡ a.honest) × (honest store ≡ true → held store ≡ blank g) × HasRisen (failed store) (failed left))
 
 -- erased pages were not marked or not formatted
-abbrev pub IsUnformatted : {S : Type 0} → (S → Held) → (honest : S → Bool) → (failed : S → ℕ) → Answers → (path : List ℕ) → Geometry → (bad : List ℕ) → DiskFault → Type 0
+abbrev pub IsUnformatted : {S : Type 0} → (S → Held) → (honest : S → Bool) → (failed : S → ℕ) → Answers → (path : List ℕ) → Geometry → (bad : List ℕ) → DiskCommandFault → Type 0
 IsUnformatted {S} held honest failed a path g bad (fault.Create told why) =
     (told.now ≡ path) × ((store given : S) × (honest store ≡ a.honest) × (honest store ≡ true → HasMarks g bad (held store)) × IsUnmade held honest failed store given why)
 IsUnformatted held honest failed a path g bad (fault.Write told) = (told.now ≡ path) × (a.fails path file.Write ⊎ IsUnmarked held honest failed a g bad)
@@ -89,25 +89,25 @@ IsUnformatted held honest failed a path g bad fault.OutOfMemory = Unit {0}
 IsUnformatted held honest failed a path g bad told = IsFaultAt a path 0 told
 
 -- a dump was not copied, or is no die with a device on it
-abbrev pub IsNoDump : {S : Type 0} → (S → Held) → (honest : S → Bool) → (failed : S → ℕ) → Answers → (path dump : List ℕ) → Shape → DiskFault → Type 0
+abbrev pub IsNoDump : {S : Type 0} → (S → Held) → (honest : S → Bool) → (failed : S → ℕ) → Answers → (path dump : List ℕ) → DiskShape → DiskCommandFault → Type 0
 IsNoDump {S} held honest failed a path dump shape (fault.Open told why) =
     (told.now ≡ dump) × ((store given : S) × a.holds dump (held store) × ((held store).geometry ≡ shape.geometry) × IsUnopened held honest failed store shape.cache given why)
 IsNoDump held honest failed a path dump shape told = IsCopyFault a path dump (row_count shape.geometry * page_bytes shape.geometry) told
 
-abbrev pub IsUnmadeFor : {S : Type 0} → (S → Held) → (honest : S → Bool) → (failed : S → ℕ) → Answers → (path : List ℕ) → MakeWords → Shape → (bad : List ℕ) → DiskFault → Type 0
+abbrev pub IsUnmadeFor : {S : Type 0} → (S → Held) → (honest : S → Bool) → (failed : S → ℕ) → Answers → (path : List ℕ) → MakeWords → DiskShape → (bad : List ℕ) → DiskCommandFault → Type 0
 IsUnmadeFor held honest failed a path (make.Size word) shape bad told = IsUnformatted held honest failed a path shape.geometry bad told
 IsUnmadeFor held honest failed a path (make.Geometry word) shape bad told = IsUnformatted held honest failed a path shape.geometry bad told
 IsUnmadeFor held honest failed a path (make.Dump word from) shape bad told = IsNoDump held honest failed a path from.now shape told
 
 -- the die was not put in its place, or memory for the text was refused
-abbrev pub IsUnkept : Answers → (path : List ℕ) → DiskFault → Type 0
+abbrev pub IsUnkept : Answers → (path : List ℕ) → DiskCommandFault → Type 0
 IsUnkept a path fault.OutOfMemory = Unit {0}
 IsUnkept a path told = IsFaultAt a path 0 told
 
 -- the first of this order: no shape was asked for, or no bad blocks of it, something stands there, the die was not made, it was not put in its place
-abbrev pub IsUncreated : {S : Type 0} → (S → Held) → (honest : S → Bool) → (failed : S → ℕ) → Answers → CreateWords → DiskFault → Type 0
+abbrev pub IsUncreated : {S : Type 0} → (S → Held) → (honest : S → Bool) → (failed : S → ℕ) → Answers → CreateWords → DiskCommandFault → Type 0
 IsUncreated held honest failed a words told =
     IsNoShapeAsked words told
-    ⊎ ((shape : Shape) × IsShapeAsked words shape × (AreNoneAsked (is_copied words.make) words.bad shape.geometry told
+    ⊎ ((shape : DiskShape) × IsShapeAsked words shape × (AreNoneAsked (is_copied words.make) words.bad shape.geometry told
     ⊎ ((bad : List ℕ) × AreBadAsked (is_copied words.make) words.bad shape.geometry bad × (IsNotFree a words.disk.now told
     ⊎ (a.says_there words.disk.now false × (IsUnmadeFor held honest failed a words.disk.now words.make shape bad told ⊎ IsUnkept a words.disk.now told))))))

@@ -14,12 +14,12 @@ use Rattle.disk_damage.specs.Found.{IsUnfound}
 use Rattle.disk_damage.specs.ListText.{IsListText, IsNoList}
 use Rattle.disk_damage.specs.Numbers.{listed_sectors}
 use Rattle.disk_server.specs.Opened.{HasCome}
-use Rattle.disk_commands.specs.declared.files.FileFault.{FileFault}
-use Rattle.disk_commands.specs.declared.files.FileFault.TheVariants as file
+use Rattle.disk_commands.specs.declared.files.DiskFileFault.{DiskFileFault}
+use Rattle.disk_commands.specs.declared.files.DiskFileFault.TheVariants as file
 use Rattle.disk_commands.specs.declared.mark.FoundMark.{FoundMark}
 use Rattle.disk_commands.specs.declared.shape_text.DiskText.{DiskText}
-use Rattle.disk_commands.specs.declared.text.DiskFault.{DiskFault}
-use Rattle.disk_commands.specs.declared.text.DiskFault.TheVariants as fault
+use Rattle.disk_commands.specs.declared.text.DiskCommandFault.{DiskCommandFault}
+use Rattle.disk_commands.specs.declared.text.DiskCommandFault.TheVariants as fault
 use Rattle.disk_commands.specs.Files.{Answers}
 use Rattle.disk_commands.specs.Info.{lost_lines, mended_lines}
 use Rattle.disk_commands.specs.Opening.{IsMarkAt, IsNotAt, IsStoreAt, IsTextAt}
@@ -35,18 +35,18 @@ abbrev pub IsListAt : Answers → (path : List ℕ) → DiskText → List Bool �
 IsListAt a path told lost = IsListBy told.lost a path told.shape.geometry.sectors lost
 
 -- how it is told that it could not be read, or is none
-abbrev pub unread_list : FileFault → Bor (List ℕ) → DiskFault
+abbrev pub unread_list : DiskFileFault → Bor (List ℕ) → DiskCommandFault
 unread_list file.OutOfMemory path = fault.OutOfMemory
 unread_list why path = fault.ReadList path
 
-abbrev pub no_list : ListFault → Bor (List ℕ) → DiskFault
+abbrev pub no_list : ListFault → Bor (List ℕ) → DiskCommandFault
 no_list listing.OutOfMemory path = fault.OutOfMemory
 no_list why path = fault.List path why
 
 -- WHY THERE IS NONE, where one is to stand there: its file could not be read, or is no list of so many sectors; or a growth was refused
-abbrev pub IsNoListAt : Answers → (path : List ℕ) → DiskText → DiskFault → Type 0
+abbrev pub IsNoListAt : Answers → (path : List ℕ) → DiskText → DiskCommandFault → Type 0
 IsNoListAt a path told (fault.List at why) = (told.lost ≡ true) × (at.now ≡ path) × ((text : List ℕ) × a.lists path text × IsNoList text told.shape.geometry.sectors why)
-IsNoListAt a path told (fault.ReadList at) = (told.lost ≡ true) × (at.now ≡ path) × ((why : FileFault) × a.fails path why × (why ≢ file.OutOfMemory))
+IsNoListAt a path told (fault.ReadList at) = (told.lost ≡ true) × (at.now ≡ path) × ((why : DiskFileFault) × a.fails path why × (why ≢ file.OutOfMemory))
 IsNoListAt a path told fault.OutOfMemory = Unit {0}
 IsNoListAt a path told _ = ⊥
 
@@ -65,17 +65,17 @@ pub record IsLookedAt {S : Type 0} (held : S → Held) (honest : S → Bool) (a 
   pub kept : DropsNone list lost
 
 -- the store at the path was not mounted, or its lost sectors were not found
-abbrev pub IsNoneFound : {S : Type 0} → (S → Held) → (honest : S → Bool) → (failed : S → ℕ) → Answers → (path : List ℕ) → DiskFault → Type 0
+abbrev pub IsNoneFound : {S : Type 0} → (S → Held) → (honest : S → Bool) → (failed : S → ℕ) → Answers → (path : List ℕ) → DiskCommandFault → Type 0
 IsNoneFound {S} held honest failed a path (fault.Open at why) = (at.now ≡ path) × ((told : DiskText) × (store : S) × IsStoreAt held honest a path told store × IsUnfound held honest failed store why)
 IsNoneFound held honest failed a path _ = ⊥
 
 -- a growth was refused
-abbrev pub IsOutOfMemory : DiskFault → Type 0
+abbrev pub IsOutOfMemory : DiskCommandFault → Type 0
 IsOutOfMemory fault.OutOfMemory = Unit {0}
 IsOutOfMemory _ = ⊥
 
 -- why it was not: the disk was not opened, or its mark not read; its list was not read; its store was not mounted; or a growth was refused
-abbrev pub IsUnlookedAt : {S : Type 0} → (S → Held) → (honest : S → Bool) → (failed : S → ℕ) → Answers → (path : List ℕ) → DiskFault → Type 0
+abbrev pub IsUnlookedAt : {S : Type 0} → (S → Held) → (honest : S → Bool) → (failed : S → ℕ) → Answers → (path : List ℕ) → DiskCommandFault → Type 0
 IsUnlookedAt held honest failed a path why =
     IsNotAt a path why
     ⊎ (IsOutOfMemory why

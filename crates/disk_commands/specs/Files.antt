@@ -3,8 +3,8 @@ use Rattle.std.specs.Prelude.{◌≡◌, ◌⊎◌, ℕ, Bool, true, false, List
 use Rattle.std.specs.Option.{option_map}
 use Rattle.file_die.specs.Store.{Held}
 use Rattle.disk_commands.specs.declared.files.Access.{Access}
-use Rattle.disk_commands.specs.declared.files.FileFault.{FileFault}
-use Rattle.disk_commands.specs.declared.files.FileFault.TheVariants as file
+use Rattle.disk_commands.specs.declared.files.DiskFileFault.{DiskFileFault}
+use Rattle.disk_commands.specs.declared.files.DiskFileFault.TheVariants as file
 
 -- what the files may answer, by the paths as written
 pub record Answers : Type 1 where
@@ -19,7 +19,7 @@ pub record Answers : Type 1 where
   -- what the file of a path holds, read as the pages of a die
   pub holds : List ℕ → Held → Type 0
   -- how a call that names a path may fail
-  pub fails : List ℕ → FileFault → Type 0
+  pub fails : List ℕ → DiskFileFault → Type 0
   -- the stores keep what they are given
   pub honest : Bool
 
@@ -37,7 +37,7 @@ unknown = record {
 
 -- a call may fail in no new way
 abbrev pub FailsNoMore : Answers → Answers → Type 0
-FailsNoMore old new = (path : List ℕ) (fault : FileFault) → new.fails path fault → old.fails path fault
+FailsNoMore old new = (path : List ℕ) (fault : DiskFileFault) → new.fails path fault → old.fails path fault
 
 -- nor tell another mark, or another list
 pub record SaysNoMore (old new : Answers) : Type 0 where
@@ -53,7 +53,7 @@ pub record AnswersNoMore (old new : Answers) : Type 0 where
   pub says : SaysNoMore old new
 
 -- how a copy of a dump may fail that is made beside a path: for the dump, or for what is made
-abbrev pub FailsCopy : Answers → (path dump : List ℕ) → FileFault → Type 0
+abbrev pub FailsCopy : Answers → (path dump : List ℕ) → DiskFileFault → Type 0
 FailsCopy a path dump file.Read = a.fails dump file.Read
 FailsCopy a path dump (file.Length bytes) = a.fails dump (file.Length bytes)
 FailsCopy a path dump file.Write = a.fails path file.Write
@@ -100,6 +100,6 @@ abbrev pub with_kept : Option (List Kept) → Kept → Option (List Kept)
 with_kept kept disk = option_map (λ known. known ++ (disk ∷ [])) kept
 
 -- the disks after one more was to be put in its place, by the answer
-abbrev pub kept_after : Option (List Kept) → Kept → Result (Unit {0}) FileFault → Option (List Kept)
+abbrev pub kept_after : Option (List Kept) → Kept → Result (Unit {0}) DiskFileFault → Option (List Kept)
 kept_after kept disk (Ok done) = with_kept kept disk
 kept_after kept disk (Err fault) = kept

@@ -7,7 +7,7 @@ use Rattle.certificate.specs.Claim.{Claim, is_good}
 use Rattle.coded_store.specs.declared.coded.Mended.{Mended}
 use Rattle.disk_commands.specs.declared.shapes.Code.{Code}
 use Rattle.disk_commands.specs.declared.shapes.Code.TheVariants.{Plain, Hamming}
-use Rattle.disk_commands.specs.declared.shapes.Shape.{Shape}
+use Rattle.disk_commands.specs.declared.shapes.DiskShape.{DiskShape}
 use Rattle.disk_damage.specs.Numbers.{counted_lines, with_commas}
 use Rattle.disk_commands.specs.ShapeText.{geometry_words}
 use Rattle.disk_commands.specs.declared.printed.Info.{Info}
@@ -32,7 +32,7 @@ least_wear states = fold (λ least s. if is_good s then min s.wear least else le
 abbrev pub erase_sum : List BlockState → ℕ
 erase_sum states = fold (λ sum s. if is_good s then min (sum + s.wear) (2 ^ 64 - 1) else sum) 0 states
 
-abbrev pub info_of : Shape → Claim → Mended → Info
+abbrev pub info_of : DiskShape → Claim → Mended → Info
 info_of s c mended = record {
   shape = s;
   free = free_count c.blocks;

@@ -1,7 +1,7 @@
 -- THE MARK BESIDE A DISK: up to which sequence all pages were synced, and up to which all were as the disk had been flushed. It stands in one of two slots of a file.
 use Rattle.std.specs.Prelude.{◌≡◌, ◌≢◌, ◌⊎◌, ◌<◌, ◌≤◌, ◌-◌, ◌^◌, ℕ, nat_lt, Bool, true, false, List, ◌++◌, length, take, drop, Option, Some, None, if◌then◌else◌}
 use Rattle.std.specs.Int.{w64, to_le_bytes}
-use Rattle.disk_server.specs.declared.mark.Mark.{Mark}
+use Rattle.disk_server.specs.declared.mark.SyncMark.{SyncMark}
 use Rattle.disk_commands.specs.declared.mark.FoundMark.{FoundMark}
 
 -- ---- a slot
@@ -20,18 +20,18 @@ IsNumberRead bytes (Some n) = IsNumberText bytes n
 IsNumberRead bytes None = (n : ℕ) → ¬ IsNumberText bytes n
 
 -- a slot: two numbers
-abbrev pub slot_text : Mark → List ℕ
+abbrev pub slot_text : SyncMark → List ℕ
 slot_text m = number_text m.synced ++ number_text m.flushed
 
 -- the bytes are those of a slot
-pub record IsSlotText (bytes : List ℕ) (m : Mark) : Type 0 where
+pub record IsSlotText (bytes : List ℕ) (m : SyncMark) : Type 0 where
   pub synced : IsNumberText (take 16 bytes) m.synced
   pub flushed : IsNumberText (drop 16 bytes) m.flushed
 
 -- WHAT IS READ OF A SLOT: the mark that its bytes are, or none
-abbrev pub IsSlotRead : (bytes : List ℕ) → Option Mark → Type 0
+abbrev pub IsSlotRead : (bytes : List ℕ) → Option SyncMark → Type 0
 IsSlotRead bytes (Some m) = IsSlotText bytes m
-IsSlotRead bytes None = (m : Mark) → ¬ IsSlotText bytes m
+IsSlotRead bytes None = (m : SyncMark) → ¬ IsSlotText bytes m
 
 -- ---- the file
 
@@ -53,14 +53,14 @@ abbrev pub slot_at : (second : Bool) → ℕ
 slot_at second = if second then second_at else 0
 
 -- what counts where there is no mark: all pages are taken for synced, but those of the last sequence of all, and no page for flushed
-abbrev pub no_mark : Mark
+abbrev pub no_mark : SyncMark
 no_mark = record { synced = 2 ^ 64 - 1; flushed = 0 }
 
 abbrev pub none_found : FoundMark
 none_found = record { mark = no_mark; in_second = false }
 
 -- of two slots the later one counts
-abbrev pub found_in : (first second : Option Mark) → FoundMark
+abbrev pub found_in : (first second : Option SyncMark) → FoundMark
 found_in None None = none_found
 found_in (Some a) None = record { mark = a; in_second = false }
 found_in None (Some b) = record { mark = b; in_second = true }
@@ -68,8 +68,8 @@ found_in (Some a) (Some b) = if nat_lt a.synced b.synced then record { mark = b;
 
 -- of a file of this length what its slots tell
 pub record HasSlots (bytes : List ℕ) (found : FoundMark) : Type 0 where
-  pub first : Option Mark
-  pub second : Option Mark
+  pub first : Option SyncMark
+  pub second : Option SyncMark
   pub first_is : IsSlotRead (first_slot bytes) first
   pub second_is : IsSlotRead (second_slot bytes) second
   pub is : found ≡ found_in first second
@@ -81,16 +81,16 @@ IsMarkRead (Some bytes) found = ((length bytes ≡ file_length) × HasSlots byte
 
 -- ---- laws
 
-pub record IsSmall (m : Mark) : Type 0 where
+pub record IsSmall (m : SyncMark) : Type 0 where
   pub synced : m.synced < 2 ^ 64
   pub flushed : m.flushed < 2 ^ 64
 
 -- A SLOT IS READ AS IT WAS WRITTEN
 abbrev pub SlotLaw : Type 0
-SlotLaw = (m : Mark) (read : Option Mark) → IsSmall m → IsSlotRead (slot_text m) read → read ≡ Some m
+SlotLaw = (m : SyncMark) (read : Option SyncMark) → IsSmall m → IsSlotRead (slot_text m) read → read ≡ Some m
 
 -- a slot that is written over another one, where the power goes after so many bytes
-abbrev pub torn_slot : (count : ℕ) → (old new : Mark) → List ℕ
+abbrev pub torn_slot : (count : ℕ) → (old new : SyncMark) → List ℕ
 torn_slot count old new = take count (slot_text new) ++ drop count (slot_text old)
 
 -- it is one of the two
@@ -99,14 +99,14 @@ IsEither a b n = (n ≡ a) ⊎ (n ≡ b)
 
 -- THEN NONE IS READ OF IT, or each number is the old one or the new one
 abbrev pub TornSlotLaw : Type 0
-TornSlotLaw = (old new m : Mark) (count : ℕ) → IsSmall old → IsSmall new → IsSlotRead (torn_slot count old new) (Some m) → IsEither old.synced new.synced m.synced × IsEither old.flushed new.flushed m.flushed
+TornSlotLaw = (old new m : SyncMark) (count : ℕ) → IsSmall old → IsSmall new → IsSlotRead (torn_slot count old new) (Some m) → IsEither old.synced new.synced m.synced × IsEither old.flushed new.flushed m.flushed
 
 -- one slot of the file is whole, and in the other one a mark is being written over another
-abbrev pub IsTornBeside : (bytes : List ℕ) → (kept old new : Mark) → (count : ℕ) → Type 0
+abbrev pub IsTornBeside : (bytes : List ℕ) → (kept old new : SyncMark) → (count : ℕ) → Type 0
 IsTornBeside bytes kept old new count =
     ((first_slot bytes ≡ slot_text kept) × (second_slot bytes ≡ torn_slot count old new)) ⊎ ((first_slot bytes ≡ torn_slot count old new) × (second_slot bytes ≡ slot_text kept))
 
 -- SO NO LOSS OF POWER COSTS THE MARK, NOR PUTS IT AHEAD: the mark that is found is no older than the slot that was left alone, and has a number that was written
 abbrev pub TornFileLaw : Type 0
-TornFileLaw = (bytes : List ℕ) (kept old new : Mark) (count : ℕ) (found : FoundMark) → IsSmall kept → IsSmall old → IsSmall new → length bytes ≡ file_length → IsTornBeside bytes kept old new count
+TornFileLaw = (bytes : List ℕ) (kept old new : SyncMark) (count : ℕ) (found : FoundMark) → IsSmall kept → IsSmall old → IsSmall new → length bytes ≡ file_length → IsTornBeside bytes kept old new count
     → IsMarkRead (Some bytes) found → (kept.synced ≤ found.mark.synced) × ((found.mark.synced ≡ kept.synced) ⊎ IsEither old.synced new.synced found.mark.synced)

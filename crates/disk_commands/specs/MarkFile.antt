@@ -2,7 +2,7 @@
 use Rattle.std.specs.Prelude.{◌≡◌, ◌⊎◌, ℕ, Bool, true, false, not, if◌then◌else◌, List, length, replicate, slice_set, Option, Some, None}
 use Rattle.file_die.specs.Bytes.{Bytes, Settles}
 use Rattle.file_die.specs.Rows.{WritesAll}
-use Rattle.disk_server.specs.declared.mark.Mark.{Mark}
+use Rattle.disk_server.specs.declared.mark.SyncMark.{SyncMark}
 use Rattle.disk_commands.specs.declared.mark_file.MarkFile.{MarkFile}
 use Rattle.disk_commands.specs.declared.syncs.FileSyncs.{FileSyncs}
 use Rattle.disk_commands.specs.Mark.{file_length, second_at, slot_at, slot_text}
@@ -14,16 +14,16 @@ abbrev pub IsMarkBytes : Bytes → Type 0
 IsMarkBytes s = length s.bytes ≡ file_length
 
 -- a mark is written over a slot, done or failed, and no other byte
-abbrev pub WritesSlot : Bytes → (second : Bool) → Mark → (done : Bool) → Bytes → Type 0
+abbrev pub WritesSlot : Bytes → (second : Bool) → SyncMark → (done : Bool) → Bytes → Type 0
 WritesSlot s second m done t = WritesAll s (slot_at second) (slot_text m) done t
 
 -- THE FIRST MARK since the file was opened: it is written over the slot that is next, and then made to last; or one of the two failed
-abbrev pub BeginsMark : Bytes → (second : Bool) → Mark → (done : Bool) → Bytes → Type 0
+abbrev pub BeginsMark : Bytes → (second : Bool) → SyncMark → (done : Bool) → Bytes → Type 0
 BeginsMark s second m true t = (mid : Bytes) × WritesSlot s second m true mid × Settles mid true t
 BeginsMark s second m false t = WritesSlot s second m false t ⊎ ((mid : Bytes) × WritesSlot s second m true mid × Settles mid false t)
 
 -- A MARK IS KEPT: it is written over the slot that is next. The first one lasts there before it is written over the other slot too
-abbrev pub KeepsMark : (fresh : Bool) → Bytes → (second : Bool) → Mark → (done : Bool) → Bytes → Type 0
+abbrev pub KeepsMark : (fresh : Bool) → Bytes → (second : Bool) → SyncMark → (done : Bool) → Bytes → Type 0
 KeepsMark true s second m done t = ((done ≡ false) × BeginsMark s second m false t) ⊎ ((mid : Bytes) × BeginsMark s second m true mid × WritesSlot mid (not second) m done t)
 KeepsMark false s second m done t = WritesSlot s second m done t
 
@@ -32,7 +32,7 @@ abbrev pub slot_after : (fresh second : Bool) → Bool
 slot_after fresh second = if fresh then not second else second
 
 -- so it is done or failed in a file that keeps what it is given, and has the length of a mark's
-pub record KeepsIn {F : Type 0} (held : F → Bytes) (honest : F → Bool) (old : MarkFile F) (m : Mark) (done : Bool) (new : MarkFile F) : Type 0 where
+pub record KeepsIn {F : Type 0} (held : F → Bytes) (honest : F → Bool) (old : MarkFile F) (m : SyncMark) (done : Bool) (new : MarkFile F) : Type 0 where
   pub keeps : honest old.file ≡ true → IsMarkBytes (held old.file) → KeepsMark old.fresh (held old.file) old.second m done (held new.file) × IsMarkBytes (held new.file)
   pub as_honest : honest new.file ≡ honest old.file
   pub begun : done ≡ true → new.fresh ≡ false
@@ -49,18 +49,18 @@ HasPutBlank s t = (mid : Bytes) × WritesAll s 0 blank_file true mid × Settles 
 -- ---- both files
 
 -- THE MARK IS KEPT WHERE THERE IS A FILE OF IT. One that could not be written is the last that is tried: its slot may be torn, and the other one counts. That is a failure where it was the first
-abbrev pub KeepsIfAny : {F : Type 0} → (held : F → Bytes) → (honest : F → Bool) → Option (MarkFile F) → Mark → (done : Bool) → Option (MarkFile F) → Type 0
+abbrev pub KeepsIfAny : {F : Type 0} → (held : F → Bytes) → (honest : F → Bool) → Option (MarkFile F) → SyncMark → (done : Bool) → Option (MarkFile F) → Type 0
 KeepsIfAny held honest None m done left = (done ≡ true) × (left ≡ None)
 KeepsIfAny {F} held honest (Some file) m done None = (done ≡ not file.fresh) × (broken : MarkFile F) × KeepsIn held honest file m false broken
 KeepsIfAny held honest (Some file) m done (Some left) = (done ≡ true) × KeepsIn held honest file m true left
 
 -- by whether the die's file was synced: where it was not, the file of the mark is left alone
-abbrev pub KeepsAfter : {F : Type 0} → (synced : Bool) → (held : F → Bytes) → (honest : F → Bool) → Option (MarkFile F) → Mark → (done : Bool) → Option (MarkFile F) → Type 0
+abbrev pub KeepsAfter : {F : Type 0} → (synced : Bool) → (held : F → Bytes) → (honest : F → Bool) → Option (MarkFile F) → SyncMark → (done : Bool) → Option (MarkFile F) → Type 0
 KeepsAfter true held honest kept m done left = KeepsIfAny held honest kept m done left
 KeepsAfter false held honest kept m done left = (done ≡ false) × (left ≡ kept)
 
 -- A SYNC OF A DISK'S FILES: the die's is synced, and once that is done the mark is kept
-pub record SettlesFiles {F : Type 0} (held : F → Bytes) (honest : F → Bool) (old : FileSyncs F) (m : Mark) (done : Bool) (new : FileSyncs F) : Type 0 where
+pub record SettlesFiles {F : Type 0} (held : F → Bytes) (honest : F → Bool) (old : FileSyncs F) (m : SyncMark) (done : Bool) (new : FileSyncs F) : Type 0 where
   pub synced : Bool
   pub die : honest old.die ≡ true → Settles (held old.die) synced (held new.die)
   pub as_honest : honest new.die ≡ honest old.die

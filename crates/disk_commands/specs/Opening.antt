@@ -7,16 +7,16 @@ use Rattle.page_layout.specs.Counter.{HasRisen}
 use Rattle.coded_store.specs.Reading.{coded_bytes}
 use Rattle.disk_commands.specs.declared.shapes.Code.{Code}
 use Rattle.disk_commands.specs.declared.shapes.Code.TheVariants.{Plain, Hamming}
-use Rattle.disk_commands.specs.declared.shapes.Shape.{Shape}
+use Rattle.disk_commands.specs.declared.shapes.DiskShape.{DiskShape}
 use Rattle.file_die.specs.Store.{Held}
 use Rattle.disk_commands.specs.declared.shape_text.DiskText.{DiskText}
 use Rattle.disk_commands.specs.declared.mark.FoundMark.{FoundMark}
 use Rattle.disk_commands.specs.Mark.{IsMarkRead, none_found}
 use Rattle.disk_commands.specs.ShapeText.{IsNoShape, IsShapeText}
-use Rattle.disk_commands.specs.declared.files.FileFault.{FileFault}
-use Rattle.disk_commands.specs.declared.files.FileFault.TheVariants as file
-use Rattle.disk_commands.specs.declared.text.DiskFault.{DiskFault}
-use Rattle.disk_commands.specs.declared.text.DiskFault.TheVariants as fault
+use Rattle.disk_commands.specs.declared.files.DiskFileFault.{DiskFileFault}
+use Rattle.disk_commands.specs.declared.files.DiskFileFault.TheVariants as file
+use Rattle.disk_commands.specs.declared.text.DiskCommandFault.{DiskCommandFault}
+use Rattle.disk_commands.specs.declared.text.DiskCommandFault.TheVariants as fault
 use Rattle.disk_commands.specs.Files.{Answers}
 
 -- ---- its bytes
@@ -26,13 +26,13 @@ abbrev pub page_in_file : Code → Geometry → ℕ
 page_in_file Plain g = page_bytes g
 page_in_file Hamming g = coded_bytes g
 
-abbrev pub file_bytes : Shape → ℕ
+abbrev pub file_bytes : DiskShape → ℕ
 file_bytes s = row_count s.geometry * page_in_file s.code s.geometry
 
 -- ---- a fault
 
 -- how a fault of a file is told, of a path that so many bytes were wanted of
-abbrev pub told_at : FileFault → Bor (List ℕ) → (wanted : ℕ) → DiskFault
+abbrev pub told_at : DiskFileFault → Bor (List ℕ) → (wanted : ℕ) → DiskCommandFault
 told_at file.Read path wanted = fault.Read path
 told_at file.Write path wanted = fault.Write path
 told_at file.InUse path wanted = fault.InUse path
@@ -41,7 +41,7 @@ told_at (file.Length found) path wanted = fault.Length path found wanted
 told_at file.OutOfMemory path wanted = fault.OutOfMemory
 
 -- and one of a copy of a dump
-abbrev pub told_of_copy : FileFault → (path dump : Bor (List ℕ)) → (wanted : ℕ) → DiskFault
+abbrev pub told_of_copy : DiskFileFault → (path dump : Bor (List ℕ)) → (wanted : ℕ) → DiskCommandFault
 told_of_copy file.Read path dump wanted = fault.Read dump
 told_of_copy file.Write path dump wanted = fault.Write path
 told_of_copy file.InUse path dump wanted = fault.InUse path
@@ -50,7 +50,7 @@ told_of_copy (file.Length found) path dump wanted = fault.Length dump found want
 told_of_copy file.OutOfMemory path dump wanted = fault.OutOfMemory
 
 -- a call that names this path failed, and that is told of the path
-abbrev pub IsFaultAt : Answers → (path : List ℕ) → (wanted : ℕ) → DiskFault → Type 0
+abbrev pub IsFaultAt : Answers → (path : List ℕ) → (wanted : ℕ) → DiskCommandFault → Type 0
 IsFaultAt a path wanted (fault.Read told) = (told.now ≡ path) × a.fails path file.Read
 IsFaultAt a path wanted (fault.Write told) = (told.now ≡ path) × a.fails path file.Write
 IsFaultAt a path wanted (fault.InUse told) = (told.now ≡ path) × a.fails path file.InUse
@@ -60,11 +60,11 @@ IsFaultAt a path wanted fault.OutOfMemory = a.fails path file.OutOfMemory
 IsFaultAt a path wanted _ = ⊥
 
 -- a copy failed, for the dump or for what was made
-abbrev pub IsCopyFault : Answers → (path dump : List ℕ) → (wanted : ℕ) → DiskFault → Type 0
+abbrev pub IsCopyFault : Answers → (path dump : List ℕ) → (wanted : ℕ) → DiskCommandFault → Type 0
 IsCopyFault a path dump wanted told = IsFaultAt a dump wanted told ⊎ IsFaultAt a path wanted told
 
 -- something stands at the path, or they could not be asked
-abbrev pub IsNotFree : Answers → List ℕ → DiskFault → Type 0
+abbrev pub IsNotFree : Answers → List ℕ → DiskCommandFault → Type 0
 IsNotFree a path (fault.Exists told) = (told.now ≡ path) × (a.says_there path true ⊎ a.fails path file.Exists)
 IsNotFree a path told = IsFaultAt a path 0 told
 
@@ -77,7 +77,7 @@ pub record IsTextAt (a : Answers) (path : List ℕ) (told : DiskText) : Type 0 w
   pub says : IsShapeText text told
 
 -- the die was not locked, that file could not be read, or it tells none
-abbrev pub IsShapeFault : Answers → List ℕ → DiskFault → Type 0
+abbrev pub IsShapeFault : Answers → List ℕ → DiskCommandFault → Type 0
 IsShapeFault a path (fault.Shape told why) = (told.now ≡ path) × ((text : List ℕ) × a.tells path text × IsNoShape text why)
 IsShapeFault a path told = IsFaultAt a path 0 told
 
@@ -98,20 +98,20 @@ pub record IsStoreAt {S : Type 0} (held : S → Held) (honest : S → Bool) (a :
   pub is_honest : honest store ≡ a.honest
 
 -- the file of the die was not opened: it has another number of bytes than the pages of the shape, or it failed
-abbrev pub IsNoFile : Answers → List ℕ → DiskFault → Type 0
+abbrev pub IsNoFile : Answers → List ℕ → DiskCommandFault → Type 0
 IsNoFile a path told = (text : DiskText) × IsTextAt a path text × IsFaultAt a path (file_bytes text.shape) told
 
 -- the files of the disk at a path were not opened: for its lock or its shape, or for its die
-abbrev pub IsNotAt : Answers → List ℕ → DiskFault → Type 0
+abbrev pub IsNotAt : Answers → List ℕ → DiskCommandFault → Type 0
 IsNotAt a path told = IsShapeFault a path told ⊎ IsNoFile a path told
 
 -- ---- a disk that is to be written
 
 -- its mark was not kept: a sync failed, and that was counted
-abbrev pub IsUnmarkedAt : {Y : Type 0} → (missed : Y → ℕ) → List ℕ → DiskFault → Type 0
+abbrev pub IsUnmarkedAt : {Y : Type 0} → (missed : Y → ℕ) → List ℕ → DiskCommandFault → Type 0
 IsUnmarkedAt {Y} missed path (fault.Device told) = (told.now ≡ path) × ((old new : Y) × HasRisen (missed old) (missed new))
 IsUnmarkedAt missed path _ = ⊥
 
 -- or its file was not opened or made
-abbrev pub IsUnkeptAt : {Y : Type 0} → (missed : Y → ℕ) → Answers → List ℕ → DiskFault → Type 0
+abbrev pub IsUnkeptAt : {Y : Type 0} → (missed : Y → ℕ) → Answers → List ℕ → DiskCommandFault → Type 0
 IsUnkeptAt missed a path told = IsFaultAt a path 0 told ⊎ IsUnmarkedAt missed path told

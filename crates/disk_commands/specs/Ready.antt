@@ -11,7 +11,7 @@ use Rattle.ftl_device.specs.declared.device.Device.{Device}
 use Rattle.disk_recovery.specs.Listed.{IsUnkept, KeepsIfAny}
 use Rattle.disk_recovery.specs.Recovered.{HoldsRecovered, IsUnrecovered}
 use Rattle.disk_server.specs.declared.guarded.GuardedSectors.{GuardedSectors}
-use Rattle.disk_server.specs.declared.mark.Mark.{Mark}
+use Rattle.disk_server.specs.declared.mark.SyncMark.{SyncMark}
 use Rattle.disk_server.specs.declared.opened.OpenStoreFault.{OpenStoreFault}
 use Rattle.disk_server.specs.Disk.{contents_of, holds}
 use Rattle.disk_server.specs.Reopened.{Reopened}
@@ -21,9 +21,9 @@ use Rattle.disk_server.specs.Synced.{after_sync}
 use Rattle.disk_commands.specs.declared.files.Access.{Access}
 use Rattle.disk_commands.specs.declared.mark.FoundMark.{FoundMark}
 use Rattle.disk_commands.specs.declared.shape_text.DiskText.{DiskText}
-use Rattle.disk_commands.specs.declared.text.DiskFault.{DiskFault}
-use Rattle.disk_commands.specs.declared.words.ServeWords.{ServeWords}
-use Rattle.disk_commands.specs.declared.text.DiskFault.TheVariants as fault
+use Rattle.disk_commands.specs.declared.text.DiskCommandFault.{DiskCommandFault}
+use Rattle.disk_commands.specs.declared.words.DiskServeWords.{DiskServeWords}
+use Rattle.disk_commands.specs.declared.text.DiskCommandFault.TheVariants as fault
 use Rattle.disk_commands.specs.Anew.{most_stale}
 use Rattle.disk_commands.specs.Damage.{IsLookedAt, IsUnlookedAt}
 use Rattle.disk_commands.specs.Files.{Answers, Opened, with_mark}
@@ -34,7 +34,7 @@ use Rattle.disk_commands.specs.Told.{IsUnprinted}
 -- ---- what the words ask for
 
 -- how its die is opened
-abbrev pub access_of : ServeWords → Access
+abbrev pub access_of : DiskServeWords → Access
 access_of words = record { writes = not words.read_only; wait = words.wait }
 
 -- when it syncs its file: after each page, or about erases alone
@@ -50,7 +50,7 @@ HoldsPages true mark honest s bytes = honest → bytes ≡ bytes_of s
 HoldsPages false mark honest s bytes = honest → HoldsRecovered mark s bytes
 
 -- THE DISK OF A STORE: of one that is honest it holds its array. Its die syncs the store as was asked. Where it is to be written and a mark counts, that is kept from then on, and all that the disk had programmed was synced
-pub record IsDiskOf {S Y : Type 0} (held : S → Held) (honest : S → Bool) (marked : Y → Mark) (read_only always : Bool) (told : DiskText) (found : FoundMark) (store : S)
+pub record IsDiskOf {S Y : Type 0} (held : S → Held) (honest : S → Bool) (marked : Y → SyncMark) (read_only always : Bool) (told : DiskText) (found : FoundMark) (store : S)
     (d : Device (DriverState (FileState S))) (syncs : Y) : Type 0 where
   pub held_array : honest store ≡ true → holds (is_honest_in honest) d ≡ true
   pub bytes : HoldsPages read_only found.mark.synced (honest store ≡ true) (held store) (contents_of (flash_in held) (is_honest_in honest) d).bytes
@@ -69,14 +69,14 @@ KeepsBy false kept lost place left = KeepsIfAny kept lost place left
 
 -- THE LIST WAS NOT KEPT, where it was to be written: it was asked for nothing more. Or it has no disk: where it was to be written the list lasts then
 abbrev pub IsNoneOf : {S K : Type 0} → (S → Held) → (honest : S → Bool) → (failed : S → ℕ) → (kept : K → List Bool) → (unlisted : K → ℕ) → (path : List ℕ) → (read_only : Bool) → DiskText → FoundMark → S → (lost : List Bool)
-    → (place left : K) → DiskFault → Type 0
+    → (place left : K) → DiskCommandFault → Type 0
 IsNoneOf held honest failed kept unlisted path read_only told found store lost place left (fault.WriteList at) = (read_only ≡ false) × (at.now ≡ path) × IsUnkept kept unlisted lost place left
 IsNoneOf held honest failed kept unlisted path read_only told found store lost place left (fault.Open at why) =
     (at.now ≡ path) × KeepsBy read_only kept lost place left × IsNoDiskBy read_only held honest failed told found store why
 IsNoneOf held honest failed kept unlisted path read_only told found store lost place left _ = ⊥
 
 -- its mark was not kept, where it was to be written
-abbrev pub IsUnkeptBy : {Y : Type 0} → (read_only : Bool) → (missed : Y → ℕ) → Answers → (path : List ℕ) → DiskFault → Type 0
+abbrev pub IsUnkeptBy : {Y : Type 0} → (read_only : Bool) → (missed : Y → ℕ) → Answers → (path : List ℕ) → DiskCommandFault → Type 0
 IsUnkeptBy true missed a path why = ⊥
 IsUnkeptBy false missed a path why = IsUnkeptAt missed a path why
 
@@ -89,7 +89,7 @@ MarksBy false path before after = after ≡ before
 
 -- THE DISK AT A PATH, whose lost sectors are guarded: those of the list beside it and of the pages of its store, as it was looked at; that store tells what was wrong with its pages. Where it is to be written, and any is lost, their list lasts;
 -- else none was kept, for at the place of the list none was before. The device of the store is there, and is opened anew with a cache that has room for all that may be stale
-pub record IsReadyAt {S Y K : Type 0} (held : S → Held) (honest : S → Bool) (mended_in : S → Mended) (marked : Y → Mark) (kept : K → List Bool) (a : Answers) (path : List ℕ) (read_only always : Bool) (told : DiskText) (mended : Mended)
+pub record IsReadyAt {S Y K : Type 0} (held : S → Held) (honest : S → Bool) (mended_in : S → Mended) (marked : Y → SyncMark) (kept : K → List Bool) (a : Answers) (path : List ℕ) (read_only always : Bool) (told : DiskText) (mended : Mended)
     (disk : GuardedSectors (Reopened S) K) (syncs : Y) : Type 0 where
   pub found : FoundMark
   pub store : S
@@ -108,7 +108,7 @@ pub record IsReadyAt {S Y K : Type 0} (held : S → Held) (honest : S → Bool) 
   pub lasts : KeepsBy read_only kept disk.lost.items place disk.keeper
 
 -- a disk that was looked at was not opened, or its mark not kept
-pub record IsNotOpened {S Y K : Type 0} (held : S → Held) (honest : S → Bool) (failed : S → ℕ) (missed : Y → ℕ) (kept : K → List Bool) (unlisted : K → ℕ) (a : Answers) (path : List ℕ) (read_only : Bool) (why : DiskFault)
+pub record IsNotOpened {S Y K : Type 0} (held : S → Held) (honest : S → Bool) (failed : S → ℕ) (missed : Y → ℕ) (kept : K → List Bool) (unlisted : K → ℕ) (a : Answers) (path : List ℕ) (read_only : Bool) (why : DiskCommandFault)
     : Type 0 where
   pub told : DiskText
   pub found : FoundMark
@@ -122,7 +122,7 @@ pub record IsNotOpened {S Y K : Type 0} (held : S → Held) (honest : S → Bool
   pub unopened : IsNoneOf held honest failed kept unlisted path read_only told found store lost place left why ⊎ IsUnkeptBy read_only missed a path why
 
 -- why it is not ready: it was not looked at, there is no place for the list of its lost sectors, it was not opened, or they were not named
-abbrev pub IsUnreadyAt : {S Y K : Type 0} → (S → Held) → (honest : S → Bool) → (failed : S → ℕ) → (missed : Y → ℕ) → (kept : K → List Bool) → (unlisted : K → ℕ) → Answers → (path : List ℕ) → (read_only : Bool) → DiskFault
+abbrev pub IsUnreadyAt : {S Y K : Type 0} → (S → Held) → (honest : S → Bool) → (failed : S → ℕ) → (missed : Y → ℕ) → (kept : K → List Bool) → (unlisted : K → ℕ) → Answers → (path : List ℕ) → (read_only : Bool) → DiskCommandFault
     → Type 0
 IsUnreadyAt held honest failed missed kept unlisted a path read_only why =
     IsUnlookedAt held honest failed a path why

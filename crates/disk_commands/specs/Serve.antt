@@ -8,26 +8,26 @@ use Rattle.file_die.specs.Store.{Held}
 use Rattle.coded_store.specs.declared.coded.Mended.{Mended}
 use Rattle.disk_server.specs.Asked.{AsksSectors}
 use Rattle.disk_server.specs.Reopened.{Reopened, AsksDevice, ReadsDevice, contents_in, flushes_of, holds_in, next_in, reads_of, rests_of, takes_in}
-use Rattle.nbd_stream.specs.declared.fault.DiskFault.{DiskFault as NbdFault}
-use Rattle.nbd_stream.specs.declared.fault.DiskFault.TheVariants as nbd
-use Rattle.nbd_stream.specs.declared.request.End.{End}
-use Rattle.nbd_stream.specs.declared.request.End.TheVariants as end
+use Rattle.nbd_stream.specs.declared.fault.DiskCommandFault.{DiskCommandFault as NbdFault}
+use Rattle.nbd_stream.specs.declared.fault.DiskCommandFault.TheVariants as nbd
+use Rattle.nbd_stream.specs.declared.request.StreamEnd.{StreamEnd}
+use Rattle.nbd_stream.specs.declared.request.StreamEnd.TheVariants as end
 use Rattle.nbd_stream.specs.declared.task.Task.{Task}
 use Rattle.nbd_stream.specs.declared.task.Task.TheVariants.{Flush}
 use Rattle.nbd_stream.specs.Disk.{Contents, Performs, answer_from}
 use Rattle.nbd_stream.specs.Transmission.{Serves}
 use Rattle.disk_commands.specs.declared.serve.Terms.{Terms}
-use Rattle.disk_commands.specs.declared.shapes.Shape.{Shape}
-use Rattle.disk_commands.specs.declared.words.ServeWords.{ServeWords}
+use Rattle.disk_commands.specs.declared.shapes.DiskShape.{DiskShape}
+use Rattle.disk_commands.specs.declared.words.DiskServeWords.{DiskServeWords}
 use Rattle.disk_server.specs.declared.served.Offer.{Offer}
 use Rattle.disk_server.specs.declared.synced.SyncedDisk.{SyncedDisk}
 use Rattle.disk_server.specs.declared.synced.SyncPace.{SyncPace}
-use Rattle.disk_server.specs.declared.mark.Mark.{Mark}
+use Rattle.disk_server.specs.declared.mark.SyncMark.{SyncMark}
 use Rattle.disk_server.specs.Synced.{Closes, RestsSynced, SyncsTask, export_of}
 use Rattle.disk_server.specs.Reading.{OnlyAsksReads, RestsNever}
 use Rattle.nbd_stream.specs.Through.{Through}
-use Rattle.disk_commands.specs.declared.text.DiskFault.{DiskFault}
-use Rattle.disk_commands.specs.declared.text.DiskFault.TheVariants as fault
+use Rattle.disk_commands.specs.declared.text.DiskCommandFault.{DiskCommandFault}
+use Rattle.disk_commands.specs.declared.text.DiskCommandFault.TheVariants as fault
 use Rattle.disk_commands.specs.Files.{Answers}
 use Rattle.disk_commands.specs.declared.shape_text.DiskText.{DiskText}
 use Rattle.disk_commands.specs.Damage.{NamesAll}
@@ -44,7 +44,7 @@ offer_of g read_only = record { read_only = read_only; preferred = if nat_le 512
 
 -- WHAT MAY BE CHANGED BETWEEN TWO SYNCS of the file. Where the host loses power no more is stale then than was at the sync and was changed since: all of it has room in
 -- some cache of 65536 entries, beside what the disk's cache has not written back, the copies of two blocks, those of two that it has more room for where it was opened anew, and what one request changes
-abbrev pub pace_of : Shape → SyncPace
+abbrev pub pace_of : DiskShape → SyncPace
 pace_of s = record {
   piece = s.geometry.data_bytes;
   most = if nat_le s.geometry.sectors 65536 then 2 ^ 64 - 1 else 65536 - (s.cache + (s.geometry.pages * 4 + (1048576 / s.geometry.data_bytes + 1)));
@@ -57,7 +57,7 @@ terms_of told read_only = record { offer = offer_of told.shape.geometry read_onl
 -- ---- how it ended
 
 -- by how the session did: the client's bytes are no requests, or a stream failed
-abbrev pub end_of : Result End ServeFault → Result (Unit {0}) DiskFault
+abbrev pub end_of : Result StreamEnd ServeFault → Result (Unit {0}) DiskCommandFault
 end_of (Ok end.Boundary) = Ok tt
 end_of (Ok end.Disconnected) = Ok tt
 end_of (Ok end.Unfinished) = Ok tt
@@ -65,13 +65,13 @@ end_of (Ok end.BadFrame) = Err fault.BadFrame
 end_of (Err e) = Err fault.Stream
 
 -- but a disk that was not closed is told first
-abbrev pub told_at_end : Result (Unit {0}) NbdFault → Bor (List ℕ) → Result End ServeFault → Result (Unit {0}) DiskFault
+abbrev pub told_at_end : Result (Unit {0}) NbdFault → Bor (List ℕ) → Result StreamEnd ServeFault → Result (Unit {0}) DiskCommandFault
 told_at_end (Ok done) path answer = end_of answer
 told_at_end (Err e) path answer = Err (fault.Device path)
 
 -- THE DISK IS CLOSED as its session ends: it is flushed, as the device says, and that synced and marked; unless its mark, where one counts, says that all of it is
 pub record IsClosed {D Y : Type 0} (contents : D → Contents) (honest : D → Bool) (does : D → Task → Result (Unit {0}) NbdFault → D → Type 0) (next : D → ℕ) (takes : D → Bool)
-    (synced failed : Y → ℕ) (marked : Y → Mark) (counts : Bool) (path : Bor (List ℕ)) (last : SyncedDisk D Y) (answer : Result End ServeFault) (result : Result (Unit {0}) DiskFault) : Type 0 where
+    (synced failed : Y → ℕ) (marked : Y → SyncMark) (counts : Bool) (path : Bor (List ℕ)) (last : SyncedDisk D Y) (answer : Result StreamEnd ServeFault) (result : Result (Unit {0}) DiskCommandFault) : Type 0 where
   pub done : Result (Unit {0}) NbdFault
   pub left : SyncedDisk D Y
   pub performs : Performs (λ s. contents s.disk) (λ s. honest s.disk) (λ _. false) Flush [] last (answer_from done []) left
@@ -82,8 +82,8 @@ pub record IsClosed {D Y : Type 0} (contents : D → Contents) (honest : D → B
 
 -- A DISK THAT WAS SERVED to one client on these terms, and then closed. What each task was to its syncs, and what it asked of the device, `SyncsTask` says
 pub record HasServedDisk {D Y : Type 0} (contents : D → Contents) (honest : D → Bool) (does : D → Task → Result (Unit {0}) NbdFault → D → Type 0) (rests : D → Result (Unit {0}) NbdFault → D → Type 0)
-    (next : D → ℕ) (takes : D → Bool) (synced failed : Y → ℕ) (marked : Y → Mark)
-    (terms : Terms) (path : Bor (List ℕ)) (disk : D) (syncs : Y) (unread left before after : Option (List ℕ)) (result : Result (Unit {0}) DiskFault) : Type 0 where
+    (next : D → ℕ) (takes : D → Bool) (synced failed : Y → ℕ) (marked : Y → SyncMark)
+    (terms : Terms) (path : Bor (List ℕ)) (disk : D) (syncs : Y) (unread left before after : Option (List ℕ)) (result : Result (Unit {0}) DiskCommandFault) : Type 0 where
   pub first : SyncedDisk D Y
   pub disk_is : first.disk ≡ disk
   pub syncs_is : first.syncs ≡ syncs
@@ -91,31 +91,31 @@ pub record HasServedDisk {D Y : Type 0} (contents : D → Contents) (honest : D 
   pub none_changed : first.unsynced ≡ 0
   pub none_failed : first.failed ≡ false
   pub last : SyncedDisk D Y
-  pub answer : Result End ServeFault
+  pub answer : Result StreamEnd ServeFault
   pub serves : Serves (λ s. contents s.disk) (λ s. honest s.disk) (λ _. false) (SyncsTask does synced failed marked next) (RestsSynced rests)
       (export_of terms.offer (length (contents first.disk).bytes)) terms.offer.maximum first last unread left before after answer
   pub ends : IsClosed contents honest does next takes synced failed marked terms.marked path last answer result
 
 -- A DISK THAT WAS ONLY READ by one client: what stands under it was asked for reads of its sectors, and for nothing else
 pub record HasReadDisk {D : Type 0} (contents : D → Contents) (honest : D → Bool) (reads : D → D → Type 0)
-    (terms : Terms) (disk : D) (unread left before after : Option (List ℕ)) (result : Result (Unit {0}) DiskFault) : Type 0 where
+    (terms : Terms) (disk : D) (unread left before after : Option (List ℕ)) (result : Result (Unit {0}) DiskCommandFault) : Type 0 where
   pub last : D
-  pub answer : Result End ServeFault
+  pub answer : Result StreamEnd ServeFault
   pub serves : Serves contents honest (λ _. false) (OnlyAsksReads reads) RestsNever (export_of terms.offer (length (contents disk).bytes)) terms.offer.maximum disk last unread left before after answer
   pub only_read : Through reads disk last
   pub told : result ≡ end_of answer
 
 -- by whether it was to be read-only
 abbrev pub ServedBy : {D Y : Type 0} → (read_only : Bool) → (contents : D → Contents) → (honest : D → Bool) → (does : D → Task → Result (Unit {0}) NbdFault → D → Type 0)
-    → (rests : D → Result (Unit {0}) NbdFault → D → Type 0) → (reads : D → D → Type 0) → (next : D → ℕ) → (takes : D → Bool) → (synced failed : Y → ℕ) → (marked : Y → Mark)
-    → (terms : Terms) → (path : Bor (List ℕ)) → (disk : D) → (syncs : Y) → (unread left before after : Option (List ℕ)) → Result (Unit {0}) DiskFault → Type 0
+    → (rests : D → Result (Unit {0}) NbdFault → D → Type 0) → (reads : D → D → Type 0) → (next : D → ℕ) → (takes : D → Bool) → (synced failed : Y → ℕ) → (marked : Y → SyncMark)
+    → (terms : Terms) → (path : Bor (List ℕ)) → (disk : D) → (syncs : Y) → (unread left before after : Option (List ℕ)) → Result (Unit {0}) DiskCommandFault → Type 0
 ServedBy true contents honest does rests reads next takes synced failed marked terms path disk syncs unread left before after result = HasReadDisk contents honest reads terms disk unread left before after result
 ServedBy false contents honest does rests reads next takes synced failed marked terms path disk syncs unread left before after result =
     HasServedDisk contents honest does rests next takes synced failed marked terms path disk syncs unread left before after result
 
 abbrev pub HasServedOn : {D Y : Type 0} → (contents : D → Contents) → (honest : D → Bool) → (does : D → Task → Result (Unit {0}) NbdFault → D → Type 0)
-    → (rests : D → Result (Unit {0}) NbdFault → D → Type 0) → (reads : D → D → Type 0) → (next : D → ℕ) → (takes : D → Bool) → (synced failed : Y → ℕ) → (marked : Y → Mark)
-    → (terms : Terms) → (path : Bor (List ℕ)) → (disk : D) → (syncs : Y) → (unread left before after : Option (List ℕ)) → Result (Unit {0}) DiskFault → Type 0
+    → (rests : D → Result (Unit {0}) NbdFault → D → Type 0) → (reads : D → D → Type 0) → (next : D → ℕ) → (takes : D → Bool) → (synced failed : Y → ℕ) → (marked : Y → SyncMark)
+    → (terms : Terms) → (path : Bor (List ℕ)) → (disk : D) → (syncs : Y) → (unread left before after : Option (List ℕ)) → Result (Unit {0}) DiskCommandFault → Type 0
 HasServedOn contents honest does rests reads next takes synced failed marked terms path disk syncs unread left before after result =
     ServedBy terms.offer.read_only contents honest does rests reads next takes synced failed marked terms path disk syncs unread left before after result
 
@@ -144,8 +144,8 @@ does_in held honest full failed = AsksSectors (shown_in held honest) (λ d. hold
 
 -- IT SERVED: the disk at the path was opened, its lost sectors were named and guarded, what was wrong with its pages was told, and it was served. No byte of a lost sector is one of its array: so a read of one is not answered without an error until it was
 -- written or trimmed (`guard_laws`)
-pub record HasServedAt {S Y K : Type 0} (held : S → Held) (honest full : S → Bool) (mended_in : S → Mended) (failed : S → ℕ) (synced missed : Y → ℕ) (marked : Y → Mark) (kept : K → List Bool) (a : Answers) (words : ServeWords)
-    (unread left before after telling told_after : Option (List ℕ)) (result : Result (Unit {0}) DiskFault) : Type 0 where
+pub record HasServedAt {S Y K : Type 0} (held : S → Held) (honest full : S → Bool) (mended_in : S → Mended) (failed : S → ℕ) (synced missed : Y → ℕ) (marked : Y → SyncMark) (kept : K → List Bool) (a : Answers) (words : DiskServeWords)
+    (unread left before after telling told_after : Option (List ℕ)) (result : Result (Unit {0}) DiskCommandFault) : Type 0 where
   pub told : DiskText
   pub disk : GuardedSectors (Reopened S) K
   pub syncs : Y
@@ -156,9 +156,9 @@ pub record HasServedAt {S Y K : Type 0} (held : S → Held) (honest full : S →
       (λ d. next_in d.sectors) (λ d. takes_in d.sectors) synced missed marked (terms_of told words.read_only) words.disk disk syncs unread left before after result
 
 -- or it did not, and nothing was sent: the disk was not ready. Lost sectors may have been named where that is told, or where a growth was refused
-pub record HasNotServed {S Y K : Type 0} (held : S → Held) (honest : S → Bool) (failed : S → ℕ) (missed : Y → ℕ) (kept : K → List Bool) (unlisted : K → ℕ) (a : Answers) (words : ServeWords) (before after telling told_after : Option (List ℕ))
-    (result : Result (Unit {0}) DiskFault) : Type 0 where
-  pub told : DiskFault
+pub record HasNotServed {S Y K : Type 0} (held : S → Held) (honest : S → Bool) (failed : S → ℕ) (missed : Y → ℕ) (kept : K → List Bool) (unlisted : K → ℕ) (a : Answers) (words : DiskServeWords) (before after telling told_after : Option (List ℕ))
+    (result : Result (Unit {0}) DiskCommandFault) : Type 0 where
+  pub told : DiskCommandFault
   pub is : result ≡ Err told
   pub why : IsUnreadyAt held honest failed missed kept unlisted a words.disk.now words.read_only told
   pub silent : Keeps before after

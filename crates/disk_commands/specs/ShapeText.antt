@@ -9,7 +9,7 @@ use Rattle.serde_json.specs.Written.{compact_text}
 use Rattle.page_layout.specs.declared.geometry.Geometry.{Geometry}
 use Rattle.disk_commands.specs.declared.shapes.Code.{Code}
 use Rattle.disk_commands.specs.declared.shapes.Code.TheVariants.{Plain, Hamming}
-use Rattle.disk_commands.specs.declared.shapes.Shape.{Shape}
+use Rattle.disk_commands.specs.declared.shapes.DiskShape.{DiskShape}
 use Rattle.disk_commands.specs.declared.shape_text.DiskText.{DiskText}
 use Rattle.disk_commands.specs.declared.shape_text.Member as declared
 use Rattle.disk_commands.specs.declared.shape_text.Member.TheVariants as name
@@ -32,17 +32,17 @@ code_words Plain = codes "none"
 code_words Hamming = codes "hamming"
 
 -- version 2: the code, none that waits, and whether a list of lost sectors stands beside the disk
-abbrev pub shape_data : Shape → (lost : Bool) → Data
+abbrev pub shape_data : DiskShape → (lost : Bool) → Data
 shape_data s lost =
     object (member (codes "cache") (number (unsigned s.cache)) (member (codes "code") (string (code_words s.code)) (member (codes "geometry") (string (geometry_words s.geometry))
     (member (codes "lost") (boolean lost) (member (codes "share") (number (unsigned 0)) (member (codes "version") (number (unsigned 2)) no_members))))))
 
 -- the object with no space, and a line feed
-abbrev pub shape_text : Shape → List ℕ
+abbrev pub shape_text : DiskShape → List ℕ
 shape_text s = compact_text (shape_data s false) ++ (10 ∷ [])
 
 -- where a list of lost sectors stands beside the disk
-abbrev pub listed_text : Shape → List ℕ
+abbrev pub listed_text : DiskShape → List ℕ
 listed_text s = compact_text (shape_data s true) ++ (10 ∷ [])
 
 -- ---- what is read

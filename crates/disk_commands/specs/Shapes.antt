@@ -5,7 +5,7 @@ use Rattle.page_layout.specs.declared.geometry.Geometry.{Geometry}
 use Rattle.page_layout.specs.Faults.{HasNumbers}
 use Rattle.page_layout.specs.Geometry.{need}
 use Rattle.disk_commands.specs.declared.shapes.Code.TheVariants.{Plain}
-use Rattle.disk_commands.specs.declared.shapes.Shape.{Shape}
+use Rattle.disk_commands.specs.declared.shapes.DiskShape.{DiskShape}
 use Rattle.disk_commands.specs.declared.shapes.SizeFault.{SizeFault}
 use Rattle.disk_commands.specs.declared.shapes.SizeFault.TheVariants.{Zero, TooLarge}
 
@@ -56,7 +56,7 @@ pub record IsDieFor (pages sectors : ℕ) (g : Geometry) : Type 0 where
 -- ---- the shape
 
 -- Whole sectors for the bytes; the fewest pages a block of which there is such a die, and that die; its cache; and no code.
-pub record IsShapeFor (bytes : ℕ) (s : Shape) : Type 0 where
+pub record IsShapeFor (bytes : ℕ) (s : DiskShape) : Type 0 where
   pub pages : IsPages s.geometry.pages
   pub die : IsDieFor s.geometry.pages (div_ceil bytes 4096) s.geometry
   pub fewest : (fewer : ℕ) → IsPages fewer → fewer < s.geometry.pages → (g : Geometry) → ¬ IsDieFor fewer (div_ceil bytes 4096) g

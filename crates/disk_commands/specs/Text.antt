@@ -12,8 +12,8 @@ use Rattle.disk_commands.specs.declared.shape_text.ShapeFault.TheVariants as sha
 use Rattle.disk_commands.specs.ShapeText.{member_words}
 use Rattle.disk_damage.specs.ListText.{list_words}
 use Rattle.disk_server.specs.Words.{create_words, open_words}
-use Rattle.disk_commands.specs.declared.text.DiskFault.{DiskFault}
-use Rattle.disk_commands.specs.declared.text.DiskFault.TheVariants as fault
+use Rattle.disk_commands.specs.declared.text.DiskCommandFault.{DiskCommandFault}
+use Rattle.disk_commands.specs.declared.text.DiskCommandFault.TheVariants as fault
 
 -- ---- why
 
@@ -44,7 +44,7 @@ shape_words shape.OutOfMemory = codes "out of memory"
 
 -- ---- the line, without its line feed
 
-unfoldable pub line_of : DiskFault → List ℕ
+unfoldable pub line_of : DiskCommandFault → List ℕ
 line_of fault.NoSuchCommand = codes "usage: no such command, see nanddisk --help"
 line_of (fault.BadSize word) = codes "usage: bad size " ++ word.now
 line_of (fault.PartOfByte word) = codes "usage: part of a byte " ++ word.now
@@ -70,7 +70,7 @@ line_of fault.Stream = codes "fault serve: standard input or output failed"
 line_of (fault.Device path) = codes "fault serve: " ++ (path.now ++ codes " failed")
 
 -- the exit status: 1 refused, 2 usage, 3 input or output
-abbrev pub status_of : DiskFault → ℕ
+abbrev pub status_of : DiskCommandFault → ℕ
 status_of fault.NoSuchCommand = 2
 status_of (fault.BadSize word) = 2
 status_of (fault.PartOfByte word) = 2
@@ -96,12 +96,12 @@ status_of fault.Stream = 3
 status_of (fault.Device path) = 3
 
 -- the line, with its line feed
-abbrev pub told_line : DiskFault → List ℕ
+abbrev pub told_line : DiskCommandFault → List ℕ
 told_line fault = line_of fault ++ (10 ∷ [])
 
 -- The fault's line was written, and the status is the fault's. Or it could not be written: the status is 3, and a beginning of the line
 -- stands there, or nothing, and never all of it.
-abbrev pub IsTold : DiskFault → Option (List ℕ) → Option (List ℕ) → ℕ → Type 0
+abbrev pub IsTold : DiskCommandFault → Option (List ℕ) → Option (List ℕ) → ℕ → Type 0
 IsTold fault before after status =
     ((status ≡ status_of fault) × Appends before after (told_line fault))
     ⊎ ((status ≡ 3) × AppendsPart before after (told_line fault))

@@ -12,8 +12,8 @@ use Rattle.disk_commands.specs.declared.words.InfoWords.{InfoWords}
 use Rattle.disk_commands.specs.declared.printed.Form.{Form}
 use Rattle.disk_commands.specs.declared.printed.Form.TheVariants.{Text, Json}
 use Rattle.disk_commands.specs.declared.printed.Info.{Info}
-use Rattle.disk_commands.specs.declared.text.DiskFault.{DiskFault}
-use Rattle.disk_commands.specs.declared.text.DiskFault.TheVariants as fault
+use Rattle.disk_commands.specs.declared.text.DiskCommandFault.{DiskCommandFault}
+use Rattle.disk_commands.specs.declared.text.DiskCommandFault.TheVariants as fault
 use Rattle.disk_commands.specs.Files.{Answers}
 use Rattle.disk_commands.specs.Info.{info_of, info_text}
 use Rattle.disk_commands.specs.Damage.{IsLookedAt, IsUnlookedAt}
@@ -41,25 +41,25 @@ pub record HasTold {S : Type 0} (held : S → Held) (honest : S → Bool) (mende
   pub printed : Appends before after (info_text (form_of words.json) info missing)
 
 -- standard output failed, or memory was refused
-abbrev pub IsUnprinted : DiskFault → Type 0
+abbrev pub IsUnprinted : DiskCommandFault → Type 0
 IsUnprinted (fault.Write told) = told.now ≡ codes "-"
 IsUnprinted fault.OutOfMemory = Unit {0}
 IsUnprinted _ = ⊥
 
 -- A TEXT WAS NOT PRINTED: standard output failed, where a beginning of it stands, or nothing, and never all of it; or memory was refused, and nothing does
-abbrev pub IsPrintedInPart : (text : List ℕ) → (before after : Option (List ℕ)) → DiskFault → Type 0
+abbrev pub IsPrintedInPart : (text : List ℕ) → (before after : Option (List ℕ)) → DiskCommandFault → Type 0
 IsPrintedInPart text before after (fault.Write told) = (told.now ≡ codes "-") × AppendsPart before after text
 IsPrintedInPart text before after fault.OutOfMemory = Keeps before after
 IsPrintedInPart text before after _ = ⊥
 
 -- it was looked at, and was not printed
-pub record HasNotTold {S : Type 0} (held : S → Held) (honest : S → Bool) (mended : S → Mended) (a : Answers) (words : InfoWords) (before after : Option (List ℕ)) (told : DiskFault) : Type 0 where
+pub record HasNotTold {S : Type 0} (held : S → Held) (honest : S → Bool) (mended : S → Mended) (a : Answers) (words : InfoWords) (before after : Option (List ℕ)) (told : DiskCommandFault) : Type 0 where
   pub info : Info
   pub missing : List ℕ
   pub at : IsInfoAt held honest mended a words.disk.now info missing
   pub part : IsPrintedInPart (info_text (form_of words.json) info missing) before after told
 
 -- why it was not: the disk was not opened, and nothing was printed; or that failed
-abbrev pub IsUntold : {S : Type 0} → (S → Held) → (honest : S → Bool) → (mended : S → Mended) → (failed : S → ℕ) → Answers → InfoWords → (before after : Option (List ℕ)) → DiskFault → Type 0
+abbrev pub IsUntold : {S : Type 0} → (S → Held) → (honest : S → Bool) → (mended : S → Mended) → (failed : S → ℕ) → Answers → InfoWords → (before after : Option (List ℕ)) → DiskCommandFault → Type 0
 IsUntold held honest mended failed a words before after told =
     (IsUnlookedAt held honest failed a words.disk.now told × Keeps before after) ⊎ HasNotTold held honest mended a words before after told

@@ -3,7 +3,7 @@ use Rattle.std.specs.Prelude.{◌≡◌, ℕ, Bool, true, false, List, [], ◌�
 use Rattle.std.specs.Str.{bytes_eq}
 use Rattle.std.specs.Borrow.{Bor}
 use Rattle.command_words.specs.Numbers.{number_of}
-use Rattle.clap.specs.Words.{App, Row, Shape, first_of, count_of}
+use Rattle.clap.specs.Words.{App, Row, DiskShape, first_of, count_of}
 use Rattle.program_words.specs.Grammar.{command_of, flag, option, place, program_of}
 use Rattle.program_words.specs.Met.{AsksText, NamesCommand, once}
 use Rattle.program_words.specs.Met as met
@@ -13,22 +13,22 @@ use Rattle.disk_commands.specs.declared.words.CreateWords.{CreateWords}
 use Rattle.disk_commands.specs.declared.words.InfoWords.{InfoWords}
 use Rattle.disk_commands.specs.declared.words.MakeWords.{MakeWords}
 use Rattle.disk_commands.specs.declared.words.MakeWords.TheVariants as made_of
-use Rattle.disk_commands.specs.declared.words.ServeWords.{ServeWords}
+use Rattle.disk_commands.specs.declared.words.DiskServeWords.{DiskServeWords}
 use Rattle.disk_commands.specs.declared.words.DiskWords.{DiskWords}
 use Rattle.disk_commands.specs.declared.words.DiskWords.TheVariants as asked
 
 -- ---- what `clap` is told
 
-abbrev pub create : Shape
+abbrev pub create : DiskShape
 create = command_of (codes "create") (option (codes "size") ∷ option (codes "geometry") ∷ option (codes "from") ∷ option (codes "bad") ∷ option (codes "cache") ∷ option (codes "code") ∷ place (codes "DISK") ∷ [])
 
-abbrev pub serve : Shape
+abbrev pub serve : DiskShape
 serve = command_of (codes "serve") (flag (codes "read-only") ∷ option (codes "sync") ∷ option (codes "wait") ∷ place (codes "DISK") ∷ [])
 
-abbrev pub info : Shape
+abbrev pub info : DiskShape
 info = command_of (codes "info") (flag (codes "json") ∷ place (codes "DISK") ∷ [])
 
-abbrev pub check : Shape
+abbrev pub check : DiskShape
 check = command_of (codes "check") (flag (codes "json") ∷ place (codes "DISK") ∷ [])
 
 -- the commands that the program has
@@ -81,7 +81,7 @@ pub record IsCreateAt (rows : List Row) (read : CreateWords) : Type 0 where
   pub code_is : code (first_of (codes "code") rows) ≡ Some read.code
 
 -- those of the words of `serve` are these
-pub record IsServeAt (rows : List Row) (read : ServeWords) : Type 0 where
+pub record IsServeAt (rows : List Row) (read : DiskServeWords) : Type 0 where
   pub disk_is : first_of (codes "DISK") rows ≡ Some read.disk.now
   pub read_only_is : once (count_of (codes "read-only") rows) ≡ Some read.read_only
   pub sync_is : always (first_of (codes "sync") rows) ≡ Some read.sync_always

@@ -3,13 +3,13 @@ ghost use Rattle.std.specs.Prelude.{◌≡◌, ◌≤◌, false, Some};
 ghost use Rattle.disk_commands.specs.Anew.{most_stale};
 ghost use Rattle.disk_commands.specs.ShapeText.{IsWithin};
 
-use crate::shapes::{MOST_ENTRIES, Shape};
+use crate::shapes::{DiskShape, MOST_ENTRIES};
 use disk_server::{ReopenedDevice, StoreDisk};
 use file_die::{Store, SyncWhen, TellsFull};
 use std::alloc::Global;
 
 // As many sectors as may be stale at a moment. A cache of as many entries has room for them.
-fn most_stale(shape: &Shape) -> u32
+fn most_stale(shape: &DiskShape) -> u32
     requires { IsWithin shape.now.cache }
     ensures is { result ≡ most_stale shape.now }
     ensures least { 1 ≤ result }
@@ -27,7 +27,7 @@ fn most_stale(shape: &Shape) -> u32
 pub(crate) fn reopening<S: Store + TellsFull + Drop>(
     alloc: Global,
     disk: StoreDisk<S>,
-    shape: &Shape,
+    shape: &DiskShape,
     sync_when: SyncWhen,
 ) -> ReopenedDevice<S>
     requires { IsWithin shape.now.cache }

@@ -5,43 +5,43 @@ ghost use Rattle.disk_commands.specs.ShapeWords.{SaysGeometry};
 ghost use Rattle.disk_commands.specs.Asked.{IsCacheAsked, IsCacheAt, IsGeometryAsked, IsGeometryFor, IsNoCacheAsked, IsNoGeometryAsked, IsNoGeometryAt, IsNoGeometryFor, IsNoShapeAsked, IsShapeAsked};
 
 use crate::shape_words::{GeometryWordFault, geometry_from};
-use crate::shapes::{MOST_ENTRIES, Shape, cache_for, shape_for};
+use crate::shapes::{DiskShape, MOST_ENTRIES, cache_for, shape_for};
 use crate::sizes::{SizeWordFault, size_from};
-use crate::text::DiskFault;
+use crate::text::DiskCommandFault;
 use crate::words::{CreateWords, MakeWords};
 use command_words::number;
 use page_layout::geometry::Geometry;
 
 // The geometry of a word.
-fn geometry_at<'a>(word: &'a str) -> Result<Geometry, DiskFault<'a>>
+fn geometry_at<'a>(word: &'a str) -> Result<Geometry, DiskCommandFault<'a>>
     ensures ok { IfOk result (SaysGeometry word.now) }
     ensures fault { IfErr result (IsNoGeometryAt word.now) }
 {
     match geometry_from(word) {
         Ok(geometry) => Ok(geometry),
-        Err(GeometryWordFault::NoNumbers) => Err(DiskFault::BadNumber(word)),
-        Err(GeometryWordFault::Limit(limit)) => Err(DiskFault::Geometry(limit)),
+        Err(GeometryWordFault::NoNumbers) => Err(DiskCommandFault::BadNumber(word)),
+        Err(GeometryWordFault::Limit(limit)) => Err(DiskCommandFault::Geometry(limit)),
     }
 }
 
 // The geometry for the size of a word.
-fn geometry_for<'a>(word: &'a str) -> Result<Geometry, DiskFault<'a>>
+fn geometry_for<'a>(word: &'a str) -> Result<Geometry, DiskCommandFault<'a>>
     ensures ok { IfOk result (IsGeometryFor word.now) }
     ensures fault { IfErr result (IsNoGeometryFor word.now) }
 {
     let bytes = match size_from(word) {
         Ok(bytes) => bytes,
-        Err(SizeWordFault::NoSize) => return Err(DiskFault::BadSize(word)),
-        Err(SizeWordFault::PartOfByte) => return Err(DiskFault::PartOfByte(word)),
+        Err(SizeWordFault::NoSize) => return Err(DiskCommandFault::BadSize(word)),
+        Err(SizeWordFault::PartOfByte) => return Err(DiskCommandFault::PartOfByte(word)),
     };
     match shape_for(bytes) {
         Ok(shape) => Ok(shape.geometry),
-        Err(fault) => Err(DiskFault::Size(fault)),
+        Err(fault) => Err(DiskCommandFault::Size(fault)),
     }
 }
 
 // The geometry that is asked for.
-fn geometry_asked<'a>(make: MakeWords<'a>) -> Result<Geometry, DiskFault<'a>>
+fn geometry_asked<'a>(make: MakeWords<'a>) -> Result<Geometry, DiskCommandFault<'a>>
     ensures ok { IfOk result (IsGeometryAsked make.entry) }
     ensures fault { IfErr result (IsNoGeometryAsked make.entry) }
 {
@@ -52,7 +52,7 @@ fn geometry_asked<'a>(make: MakeWords<'a>) -> Result<Geometry, DiskFault<'a>>
 }
 
 // The entries of the cache that are asked for, or those for the geometry.
-fn cache_asked<'a>(word: Option<&'a str>, geometry: &Geometry) -> Result<u32, DiskFault<'a>>
+fn cache_asked<'a>(word: Option<&'a str>, geometry: &Geometry) -> Result<u32, DiskCommandFault<'a>>
     ensures ok { IfOk result (IsCacheAsked word.entry geometry.now) }
     ensures within { IfOk result IsWithin }
     ensures fault { IfErr result (IsNoCacheAsked word.entry) }
@@ -62,7 +62,7 @@ fn cache_asked<'a>(word: Option<&'a str>, geometry: &Geometry) -> Result<u32, Di
     };
     match number(word) {
         Some(cache) if cache >= 1 && cache <= MOST_ENTRIES => Ok(cache),
-        _ => Err(DiskFault::BadNumber(word)),
+        _ => Err(DiskCommandFault::BadNumber(word)),
     }
 }
 
@@ -72,7 +72,7 @@ fn cache_asked<'a>(word: Option<&'a str>, geometry: &Geometry) -> Result<u32, Di
 ///
 /// The first of this order: `BadSize` or `PartOfByte`, or `Size` where no die is of the size; `BadNumber` where the geometry is not five numbers, or `Geometry` with the first
 /// limit that they break; `BadNumber` where the cache is no number from 1 to 65,536. (This project's.)
-pub fn shape_of<'a>(words: CreateWords<'a>) -> Result<Shape, DiskFault<'a>>
+pub fn shape_of<'a>(words: CreateWords<'a>) -> Result<DiskShape, DiskCommandFault<'a>>
     ensures ok { IfOk result (IsShapeAsked words.entry) }
     ensures within { IfOk result (λ shape. IsWithin shape.cache) }
     ensures fault { IfErr result (IsNoShapeAsked words.entry) }
@@ -82,7 +82,7 @@ pub fn shape_of<'a>(words: CreateWords<'a>) -> Result<Shape, DiskFault<'a>>
         Err(fault) => return Err(fault),
     };
     match cache_asked(words.cache, &geometry) {
-        Ok(cache) => Ok(Shape {
+        Ok(cache) => Ok(DiskShape {
             geometry,
             cache,
             code: words.code,

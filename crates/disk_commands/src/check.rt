@@ -7,7 +7,7 @@ use crate::damage::look_at;
 use crate::files::{DiskFiles, to_look};
 use crate::info::{form_of, print_text};
 use crate::printed::{Form, lost_text};
-use crate::text::DiskFault;
+use crate::text::DiskCommandFault;
 use crate::words::InfoWords;
 use disk_damage::{bad_blocks, counted, joined, numbers_of, unsound_rows};
 use disk_server::OpenStoreFault;
@@ -27,12 +27,12 @@ pub(crate) struct Damage {
 }
 
 // How it is told that the pages were not looked at.
-fn unseen<'a>(fault: LostFault, path: &'a str) -> DiskFault<'a>
+fn unseen<'a>(fault: LostFault, path: &'a str) -> DiskCommandFault<'a>
     ensures { result ≡ Rattle.disk_commands.specs.Check.unseen fault path.entry }
 {
     match fault {
-        LostFault::OutOfMemory => DiskFault::OutOfMemory,
-        LostFault::Store => DiskFault::Open(path, OpenStoreFault::Device),
+        LostFault::OutOfMemory => DiskCommandFault::OutOfMemory,
+        LostFault::Store => DiskCommandFault::Open(path, OpenStoreFault::Device),
     }
 }
 
@@ -41,7 +41,7 @@ fn damage_at<'a, F: DiskFiles>(
     alloc: Global,
     files: &mut F,
     path: &'a str,
-) -> Result<Damage, DiskFault<'a>>
+) -> Result<Damage, DiskCommandFault<'a>>
     ensures ok { IfOk result (λ d. IsDamageAt F.Store.held F.Store.honest (F.answers files.old) path.now d.lost.items d.bad.items d.unsound.items) }
     ensures fault { IfErr result (IsUncheckedAt F.Store.held F.Store.honest F.Store.failed (F.answers files.old) path.now) }
     ensures opened { Opens path.now to_look (F.opened files.old) (F.opened files.new) }
@@ -52,10 +52,10 @@ fn damage_at<'a, F: DiskFiles>(
         Err(fault) => return Err(fault),
     };
     let Ok(lost) = numbers_of(alloc, &looked.lost) else {
-        return Err(DiskFault::OutOfMemory);
+        return Err(DiskCommandFault::OutOfMemory);
     };
     let Ok(bad) = bad_blocks(alloc, &looked.certificate) else {
-        return Err(DiskFault::OutOfMemory);
+        return Err(DiskCommandFault::OutOfMemory);
     };
     match unsound_rows(alloc, &mut looked.store, &looked.certificate) {
         Ok(unsound) => Ok(Damage { lost, bad, unsound }),
@@ -105,7 +105,7 @@ pub(crate) fn check_command<'a, F: DiskFiles, W: Write>(
     words: InfoWords<'a>,
     files: &mut F,
     out: &mut W,
-) -> Result<(), DiskFault<'a>>
+) -> Result<(), DiskCommandFault<'a>>
     ensures ok { OnOk result (HasChecked F.Store.held F.Store.honest (F.answers files.old) words.entry 0 (W.contents out.old) (W.contents out.new)) }
     ensures fault { IfErr result (IsUnclean F.Store.held F.Store.honest F.Store.failed (F.answers files.old) words.entry (W.contents out.old) (W.contents out.new)) }
     ensures kept { F.kept files.new ≡ F.kept files.old }
@@ -116,7 +116,7 @@ pub(crate) fn check_command<'a, F: DiskFiles, W: Write>(
         Err(fault) => return Err(fault),
     };
     let Ok(text) = text_of(alloc, &damage, form_of(words.json)) else {
-        return Err(DiskFault::OutOfMemory);
+        return Err(DiskCommandFault::OutOfMemory);
     };
     match print_text(text.as_str(), out) {
         Ok(()) => {}
@@ -125,5 +125,5 @@ pub(crate) fn check_command<'a, F: DiskFiles, W: Write>(
     if damage.lost.is_empty() {
         return Ok(());
     }
-    Err(DiskFault::Lost(words.disk, damage.lost.len() as u64))
+    Err(DiskCommandFault::Lost(words.disk, damage.lost.len() as u64))
 }

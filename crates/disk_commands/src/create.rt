@@ -11,8 +11,8 @@ use crate::files::DiskFiles;
 use crate::named_blocks::{bad_asked, mark_blocks};
 use crate::opening::{dump_bytes, told_at, told_of_copy, want_free};
 use crate::shape_text::write_shape;
-use crate::shapes::Shape;
-use crate::text::DiskFault;
+use crate::shapes::DiskShape;
+use crate::text::DiskCommandFault;
 use crate::words::{CreateWords, MakeWords};
 use disk_server::{CreateFault, OpenStoreFault, format_store, mount_store};
 use file_die::Store;
@@ -20,12 +20,12 @@ use image_check::Refusal;
 use std::alloc::Global;
 
 // How it is told that a die was not formatted.
-fn unformatted<'a>(path: &'a str, fault: CreateFault) -> DiskFault<'a>
+fn unformatted<'a>(path: &'a str, fault: CreateFault) -> DiskCommandFault<'a>
     ensures { result ≡ Rattle.disk_commands.specs.Created.unformatted path.entry fault }
 {
     match fault {
-        CreateFault::Open(OpenStoreFault::OutOfMemory) => DiskFault::OutOfMemory,
-        fault => DiskFault::Create(path, fault),
+        CreateFault::Open(OpenStoreFault::OutOfMemory) => DiskCommandFault::OutOfMemory,
+        fault => DiskCommandFault::Create(path, fault),
     }
 }
 
@@ -34,9 +34,9 @@ fn make_new<'a, F: DiskFiles>(
     alloc: Global,
     files: &mut F,
     path: &'a str,
-    shape: &Shape,
+    shape: &DiskShape,
     bad: &[u32],
-) -> Result<F::Store, DiskFault<'a>>
+) -> Result<F::Store, DiskCommandFault<'a>>
     requires { AreNames shape.now.geometry bad.now }
     ensures made { IfOk result (λ store. F.Store.honest store ≡ true → IsNewDie shape.now.geometry bad.now (F.Store.held store)) }
     ensures honest { IfOk result (λ store. F.Store.honest store ≡ (F.answers files.old).honest) }
@@ -85,9 +85,9 @@ fn make_copy<'a, F: DiskFiles>(
     alloc: Global,
     files: &mut F,
     path: &'a str,
-    shape: &Shape,
+    shape: &DiskShape,
     dump: &'a str,
-) -> Result<F::Store, DiskFault<'a>>
+) -> Result<F::Store, DiskCommandFault<'a>>
     requires { IsWithin shape.now.cache }
     ensures made { IfOk result (λ store. F.Store.honest store ≡ true → IsDieOf (F.answers files.old) dump.now shape.now (F.Store.held store)) }
     ensures honest { IfOk result (λ store. F.Store.honest store ≡ (F.answers files.old).honest) }
@@ -104,7 +104,7 @@ fn make_copy<'a, F: DiskFiles>(
         Ok(store) => Ok(store),
         Err(fault) => {
             files.discard(path);
-            Err(DiskFault::Open(dump, fault))
+            Err(DiskCommandFault::Open(dump, fault))
         }
     }
 }
@@ -114,9 +114,9 @@ fn make<'a, F: DiskFiles>(
     alloc: Global,
     files: &mut F,
     words: &CreateWords<'a>,
-    shape: &Shape,
+    shape: &DiskShape,
     bad: &[u32],
-) -> Result<F::Store, DiskFault<'a>>
+) -> Result<F::Store, DiskCommandFault<'a>>
     requires cache { IsWithin shape.now.cache }
     requires named { AreNames shape.now.geometry bad.now }
     ensures made { IfOk result (λ store. F.Store.honest store ≡ true → IsDieFor (F.answers files.old) words.now.make shape.now bad.now (F.Store.held store)) }
@@ -139,9 +139,9 @@ fn put<'a, F: DiskFiles>(
     alloc: Global,
     files: &mut F,
     path: &'a str,
-    shape: &Shape,
+    shape: &DiskShape,
     store: F::Store,
-) -> Result<(), DiskFault<'a>>
+) -> Result<(), DiskCommandFault<'a>>
     ensures ok { OnOk result (F.kept files.new ≡ with_kept (F.kept files.old) (record { path = path.now; held = F.Store.held store; text = shape_text shape.now })) }
     ensures fault { IfErr result (IsUnkept (F.answers files.old) path.now) }
     ensures kept { OnErr result (F.kept files.new ≡ F.kept files.old) }
@@ -149,7 +149,7 @@ fn put<'a, F: DiskFiles>(
 {
     let Ok(text) = write_shape(alloc, shape) else {
         files.discard(path);
-        return Err(DiskFault::OutOfMemory);
+        return Err(DiskCommandFault::OutOfMemory);
     };
     let done = files.keep(path, store, text.as_bytes());
     files.discard(path);
@@ -170,7 +170,7 @@ pub(crate) fn create_command<'a, F: DiskFiles>(
     alloc: Global,
     words: CreateWords<'a>,
     files: &mut F,
-) -> Result<(), DiskFault<'a>>
+) -> Result<(), DiskCommandFault<'a>>
     ensures ok { OnOk result (HasCreated F.Store.held F.Store.honest (F.answers files.old) words.entry (F.kept files.old) (F.kept files.new)) }
     ensures fault { IfErr result (IsUncreated F.Store.held F.Store.honest F.Store.failed (F.answers files.old) words.entry) }
     ensures kept { OnErr result (F.kept files.new ≡ F.kept files.old) }

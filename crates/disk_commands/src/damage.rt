@@ -5,14 +5,14 @@ ghost use Rattle.disk_commands.specs.Files.{Opens, SaysNoMore};
 ghost use Rattle.disk_commands.specs.ShapeText.{IsWithin};
 ghost use Rattle.disk_commands.specs.Told.{IsUnprinted};
 
-use crate::files::{Access, DiskFiles, FileFault};
+use crate::files::{Access, DiskFileFault, DiskFiles};
 use crate::info::unprinted;
 use crate::mark::FoundMark;
 use crate::opening::{mark_at, open_at};
 use crate::printed::{MendedLines, lost_text};
 use crate::shape_text::DiskText;
 use crate::shapes::Code;
-use crate::text::DiskFault;
+use crate::text::DiskCommandFault;
 use certificate::Certificate;
 use coded_store::Mended;
 use disk_damage::{ListFault, mount_and_find, numbers_of, read_list};
@@ -20,22 +20,22 @@ use std::alloc::{AllocError, Global};
 use std::io::Write;
 
 // How it is told that the list beside a disk could not be read.
-fn unread_list<'a>(fault: FileFault, path: &'a str) -> DiskFault<'a>
+fn unread_list<'a>(fault: DiskFileFault, path: &'a str) -> DiskCommandFault<'a>
     ensures { result ≡ Rattle.disk_commands.specs.Damage.unread_list fault path.entry }
 {
     match fault {
-        FileFault::OutOfMemory => DiskFault::OutOfMemory,
-        _ => DiskFault::ReadList(path),
+        DiskFileFault::OutOfMemory => DiskCommandFault::OutOfMemory,
+        _ => DiskCommandFault::ReadList(path),
     }
 }
 
 // How it is told that it is no list.
-fn no_list<'a>(fault: ListFault, path: &'a str) -> DiskFault<'a>
+fn no_list<'a>(fault: ListFault, path: &'a str) -> DiskCommandFault<'a>
     ensures { result ≡ Rattle.disk_commands.specs.Damage.no_list fault path.entry }
 {
     match fault {
-        ListFault::OutOfMemory => DiskFault::OutOfMemory,
-        fault => DiskFault::List(path, fault),
+        ListFault::OutOfMemory => DiskCommandFault::OutOfMemory,
+        fault => DiskCommandFault::List(path, fault),
     }
 }
 
@@ -52,7 +52,7 @@ pub(crate) fn list_at<'a, F: DiskFiles>(
     files: &mut F,
     path: &'a str,
     told: &DiskText,
-) -> Result<Vec<bool>, DiskFault<'a>>
+) -> Result<Vec<bool>, DiskCommandFault<'a>>
     ensures ok { IfOk result (λ lost. IsListAt (F.answers files.old) path.now told.now lost.items) }
     ensures fault { IfErr result (IsNoListAt (F.answers files.old) path.now told.now) }
     ensures same { files.new ≡ files.old }
@@ -61,7 +61,7 @@ pub(crate) fn list_at<'a, F: DiskFiles>(
     if !told.lost {
         return match empty_list(alloc, sectors) {
             Ok(lost) => Ok(lost),
-            Err(_) => Err(DiskFault::OutOfMemory),
+            Err(_) => Err(DiskCommandFault::OutOfMemory),
         };
     }
     let text = match files.lost_text(alloc, path, u64::from(sectors) + 2) {
@@ -91,7 +91,7 @@ pub(crate) fn look_at<'a, F: DiskFiles>(
     files: &mut F,
     path: &'a str,
     access: Access,
-) -> Result<Looked<F::Store, F::Syncs>, DiskFault<'a>>
+) -> Result<Looked<F::Store, F::Syncs>, DiskCommandFault<'a>>
     ensures ok { IfOk result (λ looked. IsLookedAt F.Store.held F.Store.honest (F.answers files.old) path.now looked.told looked.found looked.store looked.certificate looked.lost.items) }
     ensures fault { IfErr result (IsUnlookedAt F.Store.held F.Store.honest F.Store.failed (F.answers files.old) path.now) }
     ensures opened { Opens path.now access (F.opened files.old) (F.opened files.new) }
@@ -120,7 +120,7 @@ pub(crate) fn look_at<'a, F: DiskFiles>(
             certificate,
             lost,
         }),
-        Err(why) => Err(DiskFault::Open(path, why)),
+        Err(why) => Err(DiskCommandFault::Open(path, why)),
     }
 }
 
@@ -130,7 +130,7 @@ pub(crate) fn name_mended<'a, E: Write>(
     code: Code,
     mended: Mended,
     err: &mut E,
-) -> Result<(), DiskFault<'a>>
+) -> Result<(), DiskCommandFault<'a>>
     ensures named { OnOk result (NamesMended code mended (E.contents err.old) (E.contents err.new)) }
     ensures fault { IfErr result IsUnprinted }
 {
@@ -138,7 +138,7 @@ pub(crate) fn name_mended<'a, E: Write>(
         return Ok(());
     }
     let Ok(text) = format!(in alloc; "{}", MendedLines(code, mended)) else {
-        return Err(DiskFault::OutOfMemory);
+        return Err(DiskCommandFault::OutOfMemory);
     };
     match err.write_all(text.as_bytes()) {
         Ok(()) => Ok(()),
@@ -151,18 +151,18 @@ pub(crate) fn name_lost<'a, E: Write>(
     alloc: Global,
     lost: &[bool],
     err: &mut E,
-) -> Result<(), DiskFault<'a>>
+) -> Result<(), DiskCommandFault<'a>>
     ensures named { OnOk result (Names lost.now (E.contents err.old) (E.contents err.new)) }
     ensures fault { IfErr result IsUnprinted }
 {
     let Ok(sectors) = numbers_of(alloc, lost) else {
-        return Err(DiskFault::OutOfMemory);
+        return Err(DiskCommandFault::OutOfMemory);
     };
     if sectors.is_empty() {
         return Ok(());
     }
     let Ok(text) = lost_text(alloc, &sectors) else {
-        return Err(DiskFault::OutOfMemory);
+        return Err(DiskCommandFault::OutOfMemory);
     };
     match err.write_all(text.as_bytes()) {
         Ok(()) => Ok(()),

@@ -3,7 +3,7 @@ ghost use Rattle.std.specs.Prelude.{◌≡◌};
 ghost use Rattle.disk_commands.specs.Files.{to_look};
 
 use crate::mark::FoundMark;
-use crate::shapes::Shape;
+use crate::shapes::DiskShape;
 use coded_store::TellsMended;
 use disk_server::{KeepsLost, Syncs};
 use file_die::{Store, TellsFull};
@@ -12,7 +12,7 @@ use thiserror::Error;
 
 /// Why a file of a disk was not opened, made, read or put in its place. (This project's.)
 #[derive(Clone, Copy, Debug, PartialEq, Eq, Error)]
-pub enum FileFault {
+pub enum DiskFileFault {
     /// It could not be opened or read.
     #[error("a file could not be read")]
     Read,
@@ -92,7 +92,7 @@ pub trait DiskFiles {
     /// # Errors
     ///
     /// One that these files may answer of the path, where that could not be asked. They are as they were.
-    fn has(&mut self, path: &str) -> Result<bool, FileFault>
+    fn has(&mut self, path: &str) -> Result<bool, DiskFileFault>
         ensures said { IfOk result ((answers self.old).says_there path.now) }
         ensures failed { IfErr result ((answers self.old).fails path.now) }
         ensures same { self.new ≡ self.old };
@@ -102,7 +102,7 @@ pub trait DiskFiles {
     /// # Errors
     ///
     /// One that these files may answer of the path: `InUse` where others hold it otherwise until the wait is over. The disks in their places are as they were.
-    fn lock(&mut self, path: &str, access: Access) -> Result<Self::Locked, FileFault>
+    fn lock(&mut self, path: &str, access: Access) -> Result<Self::Locked, DiskFileFault>
         ensures writes { IfOk result (λ locked. Self.Locked.writes locked ≡ access.writes) }
         ensures failed { IfErr result ((answers self.old).fails path.now) }
         ensures no_more { AnswersNoMore (answers self.old) (answers self.new) }
@@ -119,7 +119,7 @@ pub trait DiskFiles {
         alloc: Global,
         path: &str,
         locked: &Self::Locked,
-    ) -> Result<Vec<u8>, FileFault>
+    ) -> Result<Vec<u8>, DiskFileFault>
         ensures bytes { IfOk result (λ text. (answers self.old).tells path.now text.items) }
         ensures failed { IfErr result ((answers self.old).fails path.now) }
         ensures same { self.new ≡ self.old };
@@ -129,7 +129,7 @@ pub trait DiskFiles {
     /// # Errors
     ///
     /// One that these files may answer of the path, where it could not be read. They are as they were.
-    fn mark_text(&mut self, alloc: Global, path: &str) -> Result<Option<Vec<u8>>, FileFault>
+    fn mark_text(&mut self, alloc: Global, path: &str) -> Result<Option<Vec<u8>>, DiskFileFault>
         ensures bytes { IfOk result (λ text. (answers self.old).marks path.now (option_map (λ v. v.items) text)) }
         ensures failed { IfErr result ((answers self.old).fails path.now) }
         ensures same { self.new ≡ self.old };
@@ -144,8 +144,8 @@ pub trait DiskFiles {
         alloc: Global,
         path: &str,
         locked: Self::Locked,
-        shape: &Shape,
-    ) -> Result<(Self::Store, Self::Syncs), FileFault>
+        shape: &DiskShape,
+    ) -> Result<(Self::Store, Self::Syncs), DiskFileFault>
         ensures held { IfOk result (λ opened. (answers self.old).holds path.now (Self.Store.held opened.0)) }
         ensures geometry { IfOk result (λ opened. (Self.Store.held opened.0).geometry ≡ shape.now.geometry) }
         ensures honest { IfOk result (λ opened. Self.Store.honest opened.0 ≡ (answers self.old).honest) }
@@ -167,7 +167,7 @@ pub trait DiskFiles {
         path: &str,
         syncs: Self::Syncs,
         found: FoundMark,
-    ) -> Result<Self::Syncs, FileFault>
+    ) -> Result<Self::Syncs, DiskFileFault>
         ensures marked { IfOk result (λ keeps. Self.Syncs.marked keeps ≡ found.mark) }
         ensures failed { IfErr result ((answers self.old).fails path.now) }
         ensures opened { opened self.new ≡ with_mark (opened self.old) path.now }
@@ -178,7 +178,12 @@ pub trait DiskFiles {
     /// # Errors
     ///
     /// One that these files may answer of the path, where it could not be made. The disks in their places are as they were.
-    fn create(&mut self, alloc: Global, path: &str, shape: &Shape) -> Result<Self::Store, FileFault>
+    fn create(
+        &mut self,
+        alloc: Global,
+        path: &str,
+        shape: &DiskShape,
+    ) -> Result<Self::Store, DiskFileFault>
         ensures geometry { IfOk result (λ store. (Self.Store.held store).geometry ≡ shape.now.geometry) }
         ensures erased { IfOk result (λ store. Self.Store.honest store ≡ true → Self.Store.held store ≡ blank shape.now.geometry) }
         ensures honest { IfOk result (λ store. Self.Store.honest store ≡ (answers self.old).honest) }
@@ -196,9 +201,9 @@ pub trait DiskFiles {
         &mut self,
         alloc: Global,
         path: &str,
-        shape: &Shape,
+        shape: &DiskShape,
         dump: &str,
-    ) -> Result<Self::Store, FileFault>
+    ) -> Result<Self::Store, DiskFileFault>
         ensures held { IfOk result (λ store. (answers self.old).holds dump.now (Self.Store.held store)) }
         ensures geometry { IfOk result (λ store. (Self.Store.held store).geometry ≡ shape.now.geometry) }
         ensures honest { IfOk result (λ store. Self.Store.honest store ≡ (answers self.old).honest) }
@@ -212,7 +217,7 @@ pub trait DiskFiles {
     /// # Errors
     ///
     /// One that these files may answer of the path: `Exists` where something stands there. The disks in their places are as they were.
-    fn keep(&mut self, path: &str, store: Self::Store, text: &[u8]) -> Result<(), FileFault>
+    fn keep(&mut self, path: &str, store: Self::Store, text: &[u8]) -> Result<(), DiskFileFault>
         ensures done { kept self.new ≡ kept_after (kept self.old) (record { path = path.now; held = Self.Store.held store; text = text.now }) result }
         ensures failed { IfErr result ((answers self.old).fails path.now) }
         ensures opened { opened self.new ≡ opened self.old };
@@ -227,7 +232,7 @@ pub trait DiskFiles {
     /// # Errors
     ///
     /// One that these files may answer of the path, where there is no such file or it could not be read. They are as they were.
-    fn lost_text(&mut self, alloc: Global, path: &str, most: u64) -> Result<Vec<u8>, FileFault>
+    fn lost_text(&mut self, alloc: Global, path: &str, most: u64) -> Result<Vec<u8>, DiskFileFault>
         ensures bytes { IfOk result (λ text. (answers self.old).lists path.now text.items) }
         ensures failed { IfErr result ((answers self.old).fails path.now) }
         ensures same { self.new ≡ self.old };
@@ -244,7 +249,7 @@ pub trait DiskFiles {
         path: &str,
         syncs: &Self::Syncs,
         beside: &[u8],
-    ) -> Result<Self::Lists, FileFault>
+    ) -> Result<Self::Lists, DiskFileFault>
         ensures none_kept { IfOk result (λ place. Self.Lists.kept place ≡ []) }
         ensures failed { IfErr result ((answers self.old).fails path.now) }
         ensures same { self.new ≡ self.old };

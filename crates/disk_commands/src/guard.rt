@@ -6,7 +6,7 @@ use crate::damage::Looked;
 use crate::files::DiskFiles;
 use crate::opening::told_at;
 use crate::shape_text::write_listed_shape;
-use crate::text::DiskFault;
+use crate::text::DiskCommandFault;
 use disk_server::{GuardedSectors, KeepsLost, Lasting, SectorDisk};
 use std::alloc::Global;
 
@@ -16,13 +16,13 @@ pub(crate) fn keeper_at<'a, F: DiskFiles>(
     files: &mut F,
     path: &'a str,
     looked: &Looked<F::Store, F::Syncs>,
-) -> Result<F::Lists, DiskFault<'a>>
+) -> Result<F::Lists, DiskCommandFault<'a>>
     ensures none_kept { IfOk result (λ place. F.Lists.kept place ≡ []) }
     ensures fault { IfErr result (IsUnlistedAt (F.answers files.old) path.now) }
     ensures same { files.new ≡ files.old }
 {
     let Ok(text) = write_listed_shape(alloc, &looked.told.shape) else {
-        return Err(DiskFault::OutOfMemory);
+        return Err(DiskCommandFault::OutOfMemory);
     };
     match files.lists(alloc, path, &looked.syncs, text.as_bytes()) {
         Ok(keeper) => Ok(keeper),
@@ -36,15 +36,15 @@ pub(crate) fn guarded<'a, S: Lasting + Drop, K: KeepsLost + Drop>(
     sectors: S,
     keeper: K,
     lost: Vec<bool>,
-) -> Result<SectorDisk<GuardedSectors<S, K>>, DiskFault<'a>>
+) -> Result<SectorDisk<GuardedSectors<S, K>>, DiskCommandFault<'a>>
     ensures sectors { IfOk result (λ d. d.sectors ≡ sectors) }
     ensures keeper { IfOk result (λ d. d.keeper ≡ keeper) }
     ensures lost { IfOk result (λ d. d.lost ≡ lost) }
     ensures failed { IfOk result (λ d. d.failed ≡ false) }
-    ensures fault { IfErr result (λ e. e ≡ DiskFault.OutOfMemory) }
+    ensures fault { IfErr result (λ e. e ≡ DiskCommandFault.OutOfMemory) }
 {
     match SectorDisk::new(alloc, GuardedSectors::new(sectors, keeper, lost)) {
         Ok(disk) => Ok(disk),
-        Err(_) => Err(DiskFault::OutOfMemory),
+        Err(_) => Err(DiskCommandFault::OutOfMemory),
     }
 }

@@ -9,7 +9,7 @@ ghost use Rattle.disk_commands.specs.Told.{HasTold, IsInfoAt, IsPrintedInPart, I
 use crate::damage::look_at;
 use crate::files::{DiskFiles, to_look};
 use crate::printed::{Form, Info};
-use crate::text::DiskFault;
+use crate::text::DiskCommandFault;
 use crate::words::InfoWords;
 use coded_store::TellsMended;
 use disk_damage::numbers_of;
@@ -22,7 +22,7 @@ fn info_at<'a, F: DiskFiles>(
     alloc: Global,
     files: &mut F,
     path: &'a str,
-) -> Result<(Info, Vec<u64>), DiskFault<'a>>
+) -> Result<(Info, Vec<u64>), DiskCommandFault<'a>>
     ensures ok { IfOk result (λ told. IsInfoAt F.Store.held F.Store.honest F.Store.mended (F.answers files.old) path.now told.0 told.1.items) }
     ensures fault { IfErr result (IsUnlookedAt F.Store.held F.Store.honest F.Store.failed (F.answers files.old) path.now) }
     ensures kept { F.kept files.new ≡ F.kept files.old }
@@ -33,12 +33,12 @@ fn info_at<'a, F: DiskFiles>(
         Err(fault) => return Err(fault),
     };
     let Ok(lost) = numbers_of(alloc, &looked.lost) else {
-        return Err(DiskFault::OutOfMemory);
+        return Err(DiskCommandFault::OutOfMemory);
     };
     let mended = looked.store.mended();
     match Info::new(alloc, &looked.told.shape, &looked.certificate, mended) {
         Ok(info) => Ok((info, lost)),
-        Err(_) => Err(DiskFault::OutOfMemory),
+        Err(_) => Err(DiskCommandFault::OutOfMemory),
     }
 }
 
@@ -50,13 +50,13 @@ pub(crate) fn form_of(json: bool) -> Form
 }
 
 /// How a failed write to standard output is told.
-pub(crate) fn unprinted<'a>(error: Error) -> DiskFault<'a>
+pub(crate) fn unprinted<'a>(error: Error) -> DiskCommandFault<'a>
     ensures { IsUnprinted result }
 {
     if error.kind() == ErrorKind::OutOfMemory {
-        DiskFault::OutOfMemory
+        DiskCommandFault::OutOfMemory
     } else {
-        DiskFault::Write("-")
+        DiskCommandFault::Write("-")
     }
 }
 
@@ -65,13 +65,13 @@ pub(crate) fn unprinted<'a>(error: Error) -> DiskFault<'a>
 /// # Errors
 ///
 /// `Write` of `-` where a write failed, was interrupted or took nothing: a beginning of the text stands there, or nothing, and never all of it.
-pub(crate) fn print_text<'a, W: Write>(text: &str, out: &mut W) -> Result<(), DiskFault<'a>>
+pub(crate) fn print_text<'a, W: Write>(text: &str, out: &mut W) -> Result<(), DiskCommandFault<'a>>
     ensures printed { OnOk result (Appends (W.contents out.old) (W.contents out.new) text.now) }
     ensures fault { IfErr result (IsPrintedInPart text.now (W.contents out.old) (W.contents out.new)) }
 {
     match send(out, text.as_bytes()) {
         Ok(()) => Ok(()),
-        Err(_) => Err(DiskFault::Write("-")),
+        Err(_) => Err(DiskCommandFault::Write("-")),
     }
 }
 
@@ -79,7 +79,7 @@ pub(crate) fn print_text<'a, W: Write>(text: &str, out: &mut W) -> Result<(), Di
 ///
 /// # Errors
 ///
-/// The first of this order: `Read`, `Shape` or `OutOfMemory` where the file beside DISK tells no shape; `Read`, `InUse`, `Length` or `OutOfMemory` where DISK was not
+/// The first of this order: `Read`, `DiskShape` or `OutOfMemory` where the file beside DISK tells no shape; `Read`, `InUse`, `Length` or `OutOfMemory` where DISK was not
 /// opened; `Open` where it holds no disk; `OutOfMemory` for the states of its blocks or for what is printed. After each of these nothing was printed. Then `Write` of `-` where `out` failed: a
 /// beginning of it stands there, or nothing, and never all of it. (This project's.)
 pub(crate) fn info_command<'a, F: DiskFiles, W: Write>(
@@ -87,7 +87,7 @@ pub(crate) fn info_command<'a, F: DiskFiles, W: Write>(
     words: InfoWords<'a>,
     files: &mut F,
     out: &mut W,
-) -> Result<(), DiskFault<'a>>
+) -> Result<(), DiskCommandFault<'a>>
     ensures ok { OnOk result (HasTold F.Store.held F.Store.honest F.Store.mended (F.answers files.old) words.entry (W.contents out.old) (W.contents out.new)) }
     ensures fault { IfErr result (IsUntold F.Store.held F.Store.honest F.Store.mended F.Store.failed (F.answers files.old) words.entry (W.contents out.old) (W.contents out.new)) }
     ensures kept { F.kept files.new ≡ F.kept files.old }
@@ -98,7 +98,7 @@ pub(crate) fn info_command<'a, F: DiskFiles, W: Write>(
         Err(fault) => return Err(fault),
     };
     let Ok(text) = info.text(alloc, &lost, form_of(words.json)) else {
-        return Err(DiskFault::OutOfMemory);
+        return Err(DiskCommandFault::OutOfMemory);
     };
     print_text(text.as_str(), out)
 }

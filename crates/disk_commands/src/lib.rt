@@ -3,10 +3,10 @@
 //! - `run`: does what the words say.
 //! - `DiskFiles`: the files that the words name, those of the system or some in memory; `Access`, `LockedDie`: how a die is opened.
 //! - `parse`: what the words of the command line mean, as `clap` reads them. No file is looked at, and no number but that of `--wait` is read.
-//! - `Shape`, `read_shape`, `write_shape`: the geometry of a disk's die, the entries of its device's cache and the code of its pages (`Code`), and the file beside the disk that tells them (`DiskText`);
+//! - `DiskShape`, `read_shape`, `write_shape`: the geometry of a disk's die, the entries of its device's cache and the code of its pages (`Code`), and the file beside the disk that tells them (`DiskText`);
 //!   `size_from`, `geometry_from`: a size and a geometry as words write them; `shape_for`: the shape for a size.
 //! - `mark_of`, `slot_bytes`, `slot_at`: the file beside a disk that tells up to which sequence all was synced; `MarkFile`: as it is written; `FileSyncs`: the die's file is synced, and the mark kept.
-//! - `shape_of`, `Info`, `DiskFault`: the shape that `create` is asked for, what `info` tells, why a command was not done.
+//! - `shape_of`, `Info`, `DiskCommandFault`: the shape that `create` is asked for, what `info` tells, why a command was not done.
 //!
 //! All of it is this project's.
 #![tactic(auto)]
@@ -37,17 +37,17 @@ mod text;
 mod words;
 
 pub use asked::shape_of;
-pub use files::{Access, DiskFiles, FileFault, LockedDie};
+pub use files::{Access, DiskFileFault, DiskFiles, LockedDie};
 pub use mark::{FoundMark, MARK_BYTES, mark_laws, mark_of, none_found, slot_at, slot_bytes};
 pub use mark_file::{MarkFile, put_blank};
 pub use opening::{die_bytes, dump_bytes};
 pub use printed::{Form, Info};
 pub use program::run;
-pub use program_words::WordsFault;
+pub use program_words::GrammarFault;
 pub use shape_text::{DiskText, Member, ShapeFault, read_shape, write_listed_shape, write_shape};
 pub use shape_words::{GeometryWordFault, geometry_from};
-pub use shapes::{Code, Shape, SizeFault, cache_for, shape_for};
+pub use shapes::{Code, DiskShape, SizeFault, cache_for, shape_for};
 pub use sizes::{SizeWordFault, size_from, size_laws};
 pub use syncs::FileSyncs;
-pub use text::{DiskFault, tell};
-pub use words::{CreateWords, DiskWords, InfoWords, MakeWords, ServeWords, parse};
+pub use text::{DiskCommandFault, tell};
+pub use words::{CreateWords, DiskServeWords, DiskWords, InfoWords, MakeWords, parse};

@@ -2,7 +2,7 @@
 ghost use Rattle.std.specs.Prelude.{◌≡◌, option_map};
 ghost use Rattle.disk_commands.specs.Mark.{IsMarkRead, IsNumberRead, IsSlotRead, SlotLaw, TornFileLaw, TornSlotLaw, found_in, none_found, number_text, slot_at, slot_text};
 
-use disk_server::Mark;
+use disk_server::SyncMark;
 
 /// Bytes of the file of a mark: a slot, zeros, and a slot. (The form is this project's.)
 pub const MARK_BYTES: usize = 4128;
@@ -14,7 +14,7 @@ pub(crate) const SECOND_AT: usize = 4096;
 #[derive(Clone, Copy, Debug, PartialEq, Eq)]
 pub struct FoundMark {
     /// The mark. Where there is none, all pages count as synced, and none as flushed.
-    pub mark: Mark,
+    pub mark: SyncMark,
     /// Whether it stands in the second slot, and not in the first.
     pub in_second: bool,
 }
@@ -24,7 +24,7 @@ pub fn none_found() -> FoundMark
     ensures { result ≡ none_found }
 {
     FoundMark {
-        mark: Mark {
+        mark: SyncMark {
             synced: u64::MAX,
             flushed: 0,
         },
@@ -48,7 +48,7 @@ fn number_bytes(number: u64) -> [u8; 16]
 }
 
 /// The bytes of a slot: the two numbers of a mark, each as its eight bytes, the least significant first, and the same once more. (The form is this project's.)
-pub fn slot_bytes(mark: Mark) -> [u8; 32]
+pub fn slot_bytes(mark: SyncMark) -> [u8; 32]
     ensures { result ≡ slot_text mark }
 {
     let [a, b, c, d, e, f, g, h, i, j, k, l, m, n, o, p] = number_bytes(mark.synced);
@@ -76,7 +76,7 @@ fn number_of(bytes: &[u8]) -> Option<u64>
 }
 
 // The mark of a slot, where it holds one.
-fn slot_of(bytes: &[u8]) -> Option<Mark>
+fn slot_of(bytes: &[u8]) -> Option<SyncMark>
     ensures { IsSlotRead bytes.now result }
 {
     if bytes.len() < 16 {
@@ -84,13 +84,13 @@ fn slot_of(bytes: &[u8]) -> Option<Mark>
     }
     let (synced, flushed) = bytes.split_at(16);
     match (number_of(synced), number_of(flushed)) {
-        (Some(synced), Some(flushed)) => Some(Mark { synced, flushed }),
+        (Some(synced), Some(flushed)) => Some(SyncMark { synced, flushed }),
         _ => None,
     }
 }
 
 // The later one of two slots.
-fn found_in(first: Option<Mark>, second: Option<Mark>) -> FoundMark
+fn found_in(first: Option<SyncMark>, second: Option<SyncMark>) -> FoundMark
     ensures { result ≡ found_in first second }
 {
     match (first, second) {

@@ -2,9 +2,9 @@
 ghost use Rattle.std.specs.Prelude.{◌≡◌, true, false, is_ok, not, IfOk, OnOk};
 ghost use Rattle.disk_commands.specs.MarkFile.{BeginsMark, HasPutBlank, IsMarkBytes, KeepsIn, WritesSlot, blank_file};
 
-use crate::files::FileFault;
+use crate::files::DiskFileFault;
 use crate::mark::{MARK_BYTES, SECOND_AT, slot_at, slot_bytes};
-use disk_server::Mark;
+use disk_server::SyncMark;
 use file_die::{ByteFault, ByteFile, write_all};
 use std::alloc::{AllocError, Global};
 
@@ -30,7 +30,7 @@ impl<F: ByteFile> MarkFile<F> {
     }
 
     // Writes a mark into the slot that is next.
-    fn put(&mut self, mark: Mark) -> Result<(), ByteFault>
+    fn put(&mut self, mark: SyncMark) -> Result<(), ByteFault>
         ensures writes { F.honest self.old.file ≡ true → IsMarkBytes (F.held self.old.file) → WritesSlot (F.held self.old.file) self.old.second mark (is_ok result) (F.held self.new.file) × IsMarkBytes (F.held self.new.file) }
         ensures honest { F.honest self.new.file ≡ F.honest self.old.file }
         ensures second { self.new.second ≡ self.old.second }
@@ -40,7 +40,7 @@ impl<F: ByteFile> MarkFile<F> {
     }
 
     // Writes the first mark, and makes it last. From then on the other slot is written.
-    fn begin(&mut self, mark: Mark) -> Result<(), ByteFault>
+    fn begin(&mut self, mark: SyncMark) -> Result<(), ByteFault>
         ensures begins { F.honest self.old.file ≡ true → IsMarkBytes (F.held self.old.file) → BeginsMark (F.held self.old.file) self.old.second mark (is_ok result) (F.held self.new.file) × IsMarkBytes (F.held self.new.file) }
         ensures honest { F.honest self.new.file ≡ F.honest self.old.file }
         ensures second { OnOk result (self.new.second ≡ not self.old.second) }
@@ -58,7 +58,7 @@ impl<F: ByteFile> MarkFile<F> {
     /// # Errors
     ///
     /// The file's. Of the slot that was to be written each byte is as it was or as it was to be; the other one is as it was.
-    pub fn keep(&mut self, mark: Mark) -> Result<(), ByteFault>
+    pub fn keep(&mut self, mark: SyncMark) -> Result<(), ByteFault>
         ensures { KeepsIn F.held F.honest self.old mark (is_ok result) self.new }
     {
         if self.fresh {
@@ -99,14 +99,14 @@ fn blank_bytes(alloc: Global) -> Result<Vec<u8>, AllocError>
 /// # Errors
 ///
 /// `OutOfMemory` where a growth was refused, and the file is as it was; `Write` where it was not written or synced. (This project's.)
-pub fn put_blank<F: ByteFile>(alloc: Global, file: &mut F) -> Result<(), FileFault>
+pub fn put_blank<F: ByteFile>(alloc: Global, file: &mut F) -> Result<(), DiskFileFault>
     ensures { OnOk result (F.honest file.old ≡ true → HasPutBlank (F.held file.old) (F.held file.new)) }
 {
     let Ok(bytes) = blank_bytes(alloc) else {
-        return Err(FileFault::OutOfMemory);
+        return Err(DiskFileFault::OutOfMemory);
     };
     if write_all(file, &bytes, 0).is_err() || file.sync().is_err() {
-        return Err(FileFault::Write);
+        return Err(DiskFileFault::Write);
     }
     Ok(())
 }

@@ -8,7 +8,7 @@ ghost use Rattle.nand_die.specs.Made.{AreNames, IsFirstMisnamed, with_mark};
 ghost use Rattle.command_words.specs.Numbers.{SpellsNumbers, StartsWithNumber};
 ghost use Rattle.disk_commands.specs.BadBlocks.{AreBadAsked, AreNoneAsked, HasMarks, Names, NamesNone, is_copied};
 
-use crate::text::DiskFault;
+use crate::text::DiskCommandFault;
 use crate::words::MakeWords;
 use command_words::number;
 use file_die::Store;
@@ -25,24 +25,24 @@ fn first_number(word: &str) -> Option<(u32, &str)>
 }
 
 // The numbers of a word, with commas between them.
-fn numbers_of<'a>(alloc: Global, word: &'a str) -> Result<Vec<u32>, DiskFault<'a>>
+fn numbers_of<'a>(alloc: Global, word: &'a str) -> Result<Vec<u32>, DiskCommandFault<'a>>
     ensures ok { IfOk result (λ blocks. SpellsNumbers word.now blocks.items) }
-    ensures fault { IfErr result (λ told. (told ≡ DiskFault.OutOfMemory) ⊎ ((told ≡ DiskFault.BadNumber word.entry) × ((blocks : List ℕ) → ¬ SpellsNumbers word.now blocks))) }
+    ensures fault { IfErr result (λ told. (told ≡ DiskCommandFault.OutOfMemory) ⊎ ((told ≡ DiskCommandFault.BadNumber word.entry) × ((blocks : List ℕ) → ¬ SpellsNumbers word.now blocks))) }
 {
     let mut blocks = Vec::new(alloc);
     let mut rest = word;
     while let Some((block, behind)) = first_number(rest) {
         if blocks.push(block).is_err() {
-            return Err(DiskFault::OutOfMemory);
+            return Err(DiskCommandFault::OutOfMemory);
         }
         rest = behind;
     }
     let Some(last) = number(rest) else {
-        return Err(DiskFault::BadNumber(word));
+        return Err(DiskCommandFault::BadNumber(word));
     };
     match blocks.push(last) {
         Ok(()) => Ok(blocks),
-        Err(_) => Err(DiskFault::OutOfMemory),
+        Err(_) => Err(DiskCommandFault::OutOfMemory),
     }
 }
 
@@ -60,7 +60,11 @@ fn misnamed(geometry: &Geometry, blocks: &[u32]) -> Option<u32>
 }
 
 // The blocks that a word names.
-fn named<'a>(alloc: Global, word: &'a str, geometry: &Geometry) -> Result<Vec<u32>, DiskFault<'a>>
+fn named<'a>(
+    alloc: Global,
+    word: &'a str,
+    geometry: &Geometry,
+) -> Result<Vec<u32>, DiskCommandFault<'a>>
     ensures ok { IfOk result (λ blocks. Names word.now geometry.now blocks.items) }
     ensures fault { IfErr result (NamesNone word.entry geometry.now) }
 {
@@ -70,7 +74,7 @@ fn named<'a>(alloc: Global, word: &'a str, geometry: &Geometry) -> Result<Vec<u3
     };
     match misnamed(geometry, &blocks) {
         None => Ok(blocks),
-        Some(block) => Err(DiskFault::BadBlock(block)),
+        Some(block) => Err(DiskCommandFault::BadBlock(block)),
     }
 }
 
@@ -85,27 +89,27 @@ pub(crate) fn bad_asked<'a>(
     make: MakeWords<'a>,
     word: Option<&'a str>,
     geometry: &Geometry,
-) -> Result<Vec<u32>, DiskFault<'a>>
+) -> Result<Vec<u32>, DiskCommandFault<'a>>
     ensures ok { IfOk result (λ blocks. AreBadAsked (is_copied make.entry) word.entry geometry.now blocks.items) }
     ensures named { IfOk result (λ blocks. AreNames geometry.now blocks.items) }
     ensures fault { IfErr result (AreNoneAsked (is_copied make.entry) word.entry geometry.now) }
 {
     match (word, make) {
         (None, _) => Ok(Vec::new(alloc)),
-        (Some(_), MakeWords::Dump { .. }) => Err(DiskFault::NoSuchCommand),
+        (Some(_), MakeWords::Dump { .. }) => Err(DiskCommandFault::NoSuchCommand),
         (Some(word), MakeWords::Size(_) | MakeWords::Geometry(_)) => named(alloc, word, geometry),
     }
 }
 
 // The bytes of a page that marks its block bad: erased, but for the first one of its spare area.
-fn mark_page<'a>(alloc: Global, geometry: &Geometry) -> Result<Vec<u8>, DiskFault<'a>>
+fn mark_page<'a>(alloc: Global, geometry: &Geometry) -> Result<Vec<u8>, DiskCommandFault<'a>>
     ensures page { IfOk result (λ page. page_of geometry.now page.items ≡ with_mark (erased_page geometry.now)) }
     ensures long { IfOk result (λ page. length page.items ≡ page_bytes geometry.now) }
-    ensures fault { IfErr result (λ told. told ≡ DiskFault.OutOfMemory) }
+    ensures fault { IfErr result (λ told. told ≡ DiskCommandFault.OutOfMemory) }
 {
     let data = geometry.data_bytes();
     let Ok(mut page) = vec![in alloc; 0xFFu8; data + geometry.spare_bytes()] else {
-        return Err(DiskFault::OutOfMemory);
+        return Err(DiskCommandFault::OutOfMemory);
     };
     page[data] = 0;
     Ok(page)
@@ -118,7 +122,7 @@ fn put_marks<'a, S: Store>(
     blocks: &[u32],
     page: &[u8],
     path: &'a str,
-) -> Result<(), DiskFault<'a>>
+) -> Result<(), DiskCommandFault<'a>>
     requires geometry { (S.held store.old).geometry ≡ geometry.now }
     requires named { AreNames geometry.now blocks.now }
     requires long { length page.now ≡ page_bytes geometry.now }
@@ -126,11 +130,11 @@ fn put_marks<'a, S: Store>(
     ensures marks { OnOk result (S.honest store.old ≡ true → HasMarks geometry.now [] (S.held store.old) → HasMarks geometry.now blocks.now (S.held store.new)) }
     ensures honest { S.honest store.new ≡ S.honest store.old }
     ensures failed { OnErr result (HasRisen (S.failed store.old) (S.failed store.new)) }
-    ensures fault { IfErr result (λ told. told ≡ DiskFault.Write path.entry) }
+    ensures fault { IfErr result (λ told. told ≡ DiskCommandFault.Write path.entry) }
 {
     for block in blocks {
         if store.put(geometry.row(*block, 0), page).is_err() {
-            return Err(DiskFault::Write(path));
+            return Err(DiskCommandFault::Write(path));
         }
     }
     Ok(())
@@ -147,13 +151,13 @@ pub(crate) fn mark_blocks<'a, S: Store>(
     geometry: &Geometry,
     blocks: &[u32],
     path: &'a str,
-) -> Result<(), DiskFault<'a>>
+) -> Result<(), DiskCommandFault<'a>>
     requires geometry { (S.held store.old).geometry ≡ geometry.now }
     requires named { AreNames geometry.now blocks.now }
     ensures marks { OnOk result (S.honest store.old ≡ true → HasMarks geometry.now [] (S.held store.old) → HasMarks geometry.now blocks.now (S.held store.new)) }
     ensures honest { S.honest store.new ≡ S.honest store.old }
     ensures some { OnErr result (0 < length blocks.now) }
-    ensures fault { IfErr result (λ told. (told ≡ DiskFault.OutOfMemory) ⊎ ((told ≡ DiskFault.Write path.entry) × HasRisen (S.failed store.old) (S.failed store.new))) }
+    ensures fault { IfErr result (λ told. (told ≡ DiskCommandFault.OutOfMemory) ⊎ ((told ≡ DiskCommandFault.Write path.entry) × HasRisen (S.failed store.old) (S.failed store.new))) }
 {
     if blocks.is_empty() {
         return Ok(());

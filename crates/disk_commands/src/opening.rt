@@ -5,11 +5,11 @@ ghost use Rattle.disk_commands.specs.ShapeText.{IsWithin};
 ghost use Rattle.disk_commands.specs.Files.{Opens, SaysNoMore};
 ghost use Rattle.disk_commands.specs.Opening.{file_bytes, IsFaultAt, IsMarkAt, IsNotAt, IsNotFree, IsShapeFault, IsStoreAt, IsTextAt, told_at, told_of_copy};
 
-use crate::files::{Access, DiskFiles, FileFault};
+use crate::files::{Access, DiskFileFault, DiskFiles};
 use crate::mark::{FoundMark, mark_of, none_found};
 use crate::shape_text::{DiskText, read_shape};
-use crate::shapes::{Code, Shape};
-use crate::text::DiskFault;
+use crate::shapes::{Code, DiskShape};
+use crate::text::DiskCommandFault;
 use coded_store::coded_length;
 use page_layout::geometry::Geometry;
 use std::alloc::Global;
@@ -22,7 +22,7 @@ pub fn dump_bytes(geometry: &Geometry) -> u64
 }
 
 /// The bytes of a disk's file: of the pages of its die together, with their codes where it has a code.
-pub fn die_bytes(shape: &Shape) -> u64
+pub fn die_bytes(shape: &DiskShape) -> u64
     ensures { result ≡ file_bytes shape.now }
 {
     let geometry = &shape.geometry;
@@ -33,30 +33,30 @@ pub fn die_bytes(shape: &Shape) -> u64
 }
 
 /// How a fault of a file is told, of a path that so many bytes were wanted of.
-pub(crate) fn told_at<'a>(fault: FileFault, path: &'a str, wanted: u64) -> DiskFault<'a>
+pub(crate) fn told_at<'a>(fault: DiskFileFault, path: &'a str, wanted: u64) -> DiskCommandFault<'a>
     ensures { result ≡ told_at fault path.entry wanted }
 {
     match fault {
-        FileFault::Read => DiskFault::Read(path),
-        FileFault::Write => DiskFault::Write(path),
-        FileFault::InUse => DiskFault::InUse(path),
-        FileFault::Exists => DiskFault::Exists(path),
-        FileFault::Length(found) => DiskFault::Length(path, found, wanted),
-        FileFault::OutOfMemory => DiskFault::OutOfMemory,
+        DiskFileFault::Read => DiskCommandFault::Read(path),
+        DiskFileFault::Write => DiskCommandFault::Write(path),
+        DiskFileFault::InUse => DiskCommandFault::InUse(path),
+        DiskFileFault::Exists => DiskCommandFault::Exists(path),
+        DiskFileFault::Length(found) => DiskCommandFault::Length(path, found, wanted),
+        DiskFileFault::OutOfMemory => DiskCommandFault::OutOfMemory,
     }
 }
 
 /// How a fault of a copy of a dump is told.
 pub(crate) fn told_of_copy<'a>(
-    fault: FileFault,
+    fault: DiskFileFault,
     path: &'a str,
     dump: &'a str,
     wanted: u64,
-) -> DiskFault<'a>
+) -> DiskCommandFault<'a>
     ensures { result ≡ told_of_copy fault path.entry dump.entry wanted }
 {
     match fault {
-        FileFault::Read | FileFault::Length(_) => told_at(fault, dump, wanted),
+        DiskFileFault::Read | DiskFileFault::Length(_) => told_at(fault, dump, wanted),
         _ => told_at(fault, path, wanted),
     }
 }
@@ -67,7 +67,7 @@ fn text_at<'a, F: DiskFiles>(
     files: &mut F,
     path: &'a str,
     locked: &F::Locked,
-) -> Result<DiskText, DiskFault<'a>>
+) -> Result<DiskText, DiskCommandFault<'a>>
     ensures ok { IfOk result (IsTextAt (F.answers files.old) path.now) }
     ensures fault { IfErr result (IsShapeFault (F.answers files.old) path.now) }
     ensures same { files.new ≡ files.old }
@@ -78,7 +78,7 @@ fn text_at<'a, F: DiskFiles>(
     };
     match read_shape(alloc, &text) {
         Ok(told) => Ok(told),
-        Err(fault) => Err(DiskFault::Shape(path, fault)),
+        Err(fault) => Err(DiskCommandFault::DiskShape(path, fault)),
     }
 }
 
@@ -88,7 +88,7 @@ pub(crate) fn open_at<'a, F: DiskFiles>(
     files: &mut F,
     path: &'a str,
     access: Access,
-) -> Result<(F::Store, F::Syncs, DiskText), DiskFault<'a>>
+) -> Result<(F::Store, F::Syncs, DiskText), DiskCommandFault<'a>>
     ensures ok { IfOk result (λ opened. IsStoreAt F.Store.held F.Store.honest (F.answers files.old) path.now opened.2 opened.0) }
     ensures fault { IfErr result (IsNotAt (F.answers files.old) path.now) }
     ensures opened { Opens path.now access (F.opened files.old) (F.opened files.new) }
@@ -116,7 +116,7 @@ pub(crate) fn mark_at<'a, F: DiskFiles>(
     files: &mut F,
     path: &'a str,
     marked: bool,
-) -> Result<FoundMark, DiskFault<'a>>
+) -> Result<FoundMark, DiskCommandFault<'a>>
     ensures ok { IfOk result (IsMarkAt (F.answers files.old) path.now marked) }
     ensures fault { IfErr result (IsFaultAt (F.answers files.old) path.now 0) }
     ensures same { files.new ≡ files.old }
@@ -132,14 +132,17 @@ pub(crate) fn mark_at<'a, F: DiskFiles>(
 }
 
 /// Refuses a path at which something stands.
-pub(crate) fn want_free<'a, F: DiskFiles>(files: &mut F, path: &'a str) -> Result<(), DiskFault<'a>>
+pub(crate) fn want_free<'a, F: DiskFiles>(
+    files: &mut F,
+    path: &'a str,
+) -> Result<(), DiskCommandFault<'a>>
     ensures free { OnOk result ((F.answers files.old).says_there path.now false) }
     ensures fault { IfErr result (IsNotFree (F.answers files.old) path.now) }
     ensures same { files.new ≡ files.old }
 {
     match files.has(path) {
         Ok(false) => Ok(()),
-        Ok(true) => Err(DiskFault::Exists(path)),
+        Ok(true) => Err(DiskCommandFault::Exists(path)),
         Err(fault) => Err(told_at(fault, path, 0)),
     }
 }

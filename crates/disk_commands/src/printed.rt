@@ -3,7 +3,7 @@ ghost use Rattle.std.specs.Prelude.{◌≡◌, ◌≤◌, length, IfOk, string_b
 ghost use Rattle.disk_commands.specs.Info.{bad_count, erase_sum, free_count, info_of, info_text, least_wear, lost_lines, most_wear};
 
 use crate::shape_words::GeometryText;
-use crate::shapes::{Code, Shape};
+use crate::shapes::{Code, DiskShape};
 use certificate::{BlockState, Certificate};
 use coded_store::Mended;
 use disk_damage::{counted, joined};
@@ -27,7 +27,7 @@ pub enum Form {
 #[derive(Clone, Copy, Debug, PartialEq, Eq)]
 pub struct Info {
     /// Its geometry and the entries of its cache.
-    pub shape: Shape,
+    pub shape: DiskShape,
     /// The free blocks, those of class 0.
     pub free: u32,
     /// The bad blocks.
@@ -123,7 +123,7 @@ impl Info {
     /// Where a growth was refused.
     pub fn new(
         alloc: Global,
-        shape: &Shape,
+        shape: &DiskShape,
         certificate: &Certificate,
         mended: Mended,
     ) -> Result<Info, AllocError>

@@ -7,9 +7,9 @@ use crate::create::create_command;
 use crate::files::DiskFiles;
 use crate::info::{info_command, print_text};
 use crate::serve::serve_command;
-use crate::text::{DiskFault, tell};
+use crate::text::{DiskCommandFault, tell};
 use crate::words::{DiskWords, parse};
-use program_words::WordsFault;
+use program_words::GrammarFault;
 use std::alloc::Global;
 use std::io::{Read, Write};
 
@@ -21,7 +21,7 @@ fn obey<'a, F: DiskFiles, I: Read, O: Write, E: Write>(
     input: &mut I,
     out: &mut O,
     err: &mut E,
-) -> Result<(), DiskFault<'a>>
+) -> Result<(), DiskCommandFault<'a>>
     ensures { Obeys F.Store.held F.Store.honest F.Store.full F.Store.mended F.Store.failed F.Syncs.synced F.Syncs.failed F.Syncs.marked F.Lists.kept F.Lists.failed (F.answers files.old) (texts words.now)
         (record { kept = F.kept files.old; opened = F.opened files.old; input = I.remaining input.old; out = O.contents out.old; err = E.contents err.old })
         (record { kept = F.kept files.new; opened = F.opened files.new; input = I.remaining input.new; out = O.contents out.new; err = E.contents err.new }) result }
@@ -32,8 +32,8 @@ fn obey<'a, F: DiskFiles, I: Read, O: Write, E: Write>(
         Ok(DiskWords::Info(words)) => info_command(alloc, words, files, out),
         Ok(DiskWords::Check(words)) => check_command(alloc, words, files, out),
         Ok(DiskWords::Text(text)) => print_text(text.as_str(), out),
-        Err(WordsFault::NoSuchCommand) => Err(DiskFault::NoSuchCommand),
-        Err(WordsFault::OutOfMemory) => Err(DiskFault::OutOfMemory),
+        Err(GrammarFault::NoSuchCommand) => Err(DiskCommandFault::NoSuchCommand),
+        Err(GrammarFault::OutOfMemory) => Err(DiskCommandFault::OutOfMemory),
     }
 }
 

@@ -19,8 +19,8 @@ use crate::mark::FoundMark;
 use crate::opening::told_at;
 use crate::shape_text::DiskText;
 use crate::shapes::Code;
-use crate::text::DiskFault;
-use crate::words::ServeWords;
+use crate::text::DiskCommandFault;
+use crate::words::DiskServeWords;
 use certificate::Certificate;
 use coded_store::{Mended, TellsMended};
 use disk_recovery::{list_first, recover_listed};
@@ -39,7 +39,7 @@ pub(crate) type GuardedDisk<S, K> = SectorDisk<GuardedSectors<ReopenedDevice<S>,
 pub(crate) type ReadyDisk<S, K, Y> = (GuardedDisk<S, K>, Y, DiskText, Mended);
 
 // How a disk is opened to be served.
-fn access_of(words: &ServeWords<'_>) -> Access
+fn access_of(words: &DiskServeWords<'_>) -> Access
     ensures { result ≡ access_of words.now }
 {
     Access {
@@ -62,14 +62,14 @@ fn sync_when(always: bool) -> SyncWhen
 // The disk of a store that was looked at. Where it is to be written, the list of its lost sectors is kept first, and then what a crash left torn is taken away.
 fn disk_of<'a, S: Store + Drop, K: KeepsLost>(
     alloc: Global,
-    words: &ServeWords<'a>,
+    words: &DiskServeWords<'a>,
     store: S,
     certificate: &Certificate,
     told: &DiskText,
     found: FoundMark,
     keeper: &mut K,
     lost: &[bool],
-) -> Result<StoreDisk<S>, DiskFault<'a>>
+) -> Result<StoreDisk<S>, DiskCommandFault<'a>>
     requires within { IsWithin told.now.shape.cache }
     requires mounted { S.honest store ≡ true → Agrees (S.held store).geometry 65536 (S.held store).pages certificate.now }
     ensures syncs { IfOk result (λ d. SyncsWhen (sync_when words.now.sync_always) d.engine.nand) }
@@ -82,12 +82,12 @@ fn disk_of<'a, S: Store + Drop, K: KeepsLost>(
     if words.read_only {
         return match open_stopped(alloc, store, told.shape.cache, when, false) {
             Ok(disk) => Ok(disk),
-            Err(why) => Err(DiskFault::Open(words.disk, why)),
+            Err(why) => Err(DiskCommandFault::Open(words.disk, why)),
         };
     }
     let listed = match list_first(store, keeper, lost) {
         Ok(listed) => listed,
-        Err(_unasked) => return Err(DiskFault::WriteList(words.disk)),
+        Err(_unasked) => return Err(DiskCommandFault::WriteList(words.disk)),
     };
     match recover_listed(
         alloc,
@@ -98,7 +98,7 @@ fn disk_of<'a, S: Store + Drop, K: KeepsLost>(
         when,
     ) {
         Ok(disk) => Ok(disk),
-        Err(why) => Err(DiskFault::Open(words.disk, why)),
+        Err(why) => Err(DiskCommandFault::Open(words.disk, why)),
     }
 }
 
@@ -110,7 +110,7 @@ fn keep_mark<'a, F: DiskFiles>(
     syncs: F::Syncs,
     found: FoundMark,
     next: u64,
-) -> Result<F::Syncs, DiskFault<'a>>
+) -> Result<F::Syncs, DiskCommandFault<'a>>
     ensures marked { IfOk result (λ keeps. F.Syncs.marked keeps ≡ after_sync next false found.mark) }
     ensures fault { IfErr result (IsUnkeptAt F.Syncs.failed (F.answers files.old) path.now) }
     ensures opened { F.opened files.new ≡ with_mark (F.opened files.old) path.now }
@@ -122,7 +122,7 @@ fn keep_mark<'a, F: DiskFiles>(
     };
     match syncs.sync(next, false) {
         Ok(()) => Ok(syncs),
-        Err(_) => Err(DiskFault::Device(path)),
+        Err(_) => Err(DiskCommandFault::Device(path)),
     }
 }
 
@@ -130,12 +130,12 @@ fn keep_mark<'a, F: DiskFiles>(
 fn keep_mark_of<'a, F: DiskFiles>(
     alloc: Global,
     files: &mut F,
-    words: &ServeWords<'a>,
+    words: &DiskServeWords<'a>,
     syncs: F::Syncs,
     told: &DiskText,
     found: FoundMark,
     next: u64,
-) -> Result<F::Syncs, DiskFault<'a>>
+) -> Result<F::Syncs, DiskCommandFault<'a>>
     ensures marked { IfOk result (λ keeps. words.now.read_only ≡ false → told.now.marked ≡ true → F.Syncs.marked keeps ≡ after_sync next false found.mark) }
     ensures fault { IfErr result (IsUnkeptBy words.now.read_only F.Syncs.failed (F.answers files.old) words.now.disk.now) }
     ensures opened { MarksBy (not words.now.read_only) words.now.disk.now (F.opened files.old) (F.opened files.new) }
@@ -154,7 +154,7 @@ fn name_all<'a, E: Write>(
     code: Code,
     mended: Mended,
     err: &mut E,
-) -> Result<(), DiskFault<'a>>
+) -> Result<(), DiskCommandFault<'a>>
     ensures named { OnOk result (NamesAll lost.now code mended (E.contents err.old) (E.contents err.new)) }
     ensures fault { IfErr result IsUnprinted }
 {
@@ -169,9 +169,9 @@ fn name_all<'a, E: Write>(
 pub(crate) fn ready<'a, F: DiskFiles, E: Write>(
     alloc: Global,
     files: &mut F,
-    words: &ServeWords<'a>,
+    words: &DiskServeWords<'a>,
     err: &mut E,
-) -> Result<ReadyDisk<F::Store, F::Lists, F::Syncs>, DiskFault<'a>>
+) -> Result<ReadyDisk<F::Store, F::Lists, F::Syncs>, DiskCommandFault<'a>>
     ensures ok { IfOk result (λ r. IsReadyAt F.Store.held F.Store.honest F.Store.mended F.Syncs.marked F.Lists.kept (F.answers files.old) words.now.disk.now words.now.read_only words.now.sync_always r.2 r.3 r.0 r.1) }
     ensures named { IfOk result (λ r. NamesAll r.0.lost.items r.2.shape.code r.3 (E.contents err.old) (E.contents err.new)) }
     ensures fault { IfErr result (IsUnreadyAt F.Store.held F.Store.honest F.Store.failed F.Syncs.failed F.Lists.kept F.Lists.failed (F.answers files.old) words.now.disk.now words.now.read_only) }

@@ -1,7 +1,7 @@
 //! The command `serve`: a disk is served to one client.
 ghost use Rattle.std.specs.Prelude.{◌≡◌, ◌⊎◌, OnOk, IfOk, IfErr, Err, length, not, true, false};
 ghost use Rattle.std.specs.Io.KnownBytes.{Keeps};
-ghost use Rattle.disk_commands.specs.declared.text.DiskFault.TheVariants as fault;
+ghost use Rattle.disk_commands.specs.declared.text.DiskCommandFault.TheVariants as fault;
 ghost use Rattle.disk_commands.specs.Files.{OpensMarked};
 ghost use Rattle.disk_commands.specs.Ready.{access_of};
 ghost use Rattle.disk_commands.specs.Serve.{HasNotServed, HasReadDisk, HasServedAt, HasServedDisk, HasServedOn, IsClosed, end_of, offer_of, pace_of, terms_of};
@@ -11,14 +11,14 @@ ghost use Rattle.disk_server.specs.Reading.{AllLasts};
 use crate::files::DiskFiles;
 use crate::ready::ready;
 use crate::shape_text::DiskText;
-use crate::shapes::{MOST_ENTRIES, Shape};
-use crate::text::DiskFault;
-use crate::words::ServeWords;
+use crate::shapes::{DiskShape, MOST_ENTRIES};
+use crate::text::DiskCommandFault;
+use crate::words::DiskServeWords;
 use disk_server::{
     Lasting, Offer, ReadOnlyDisk, SectorDisk, Sectors, SyncPace, SyncedDisk, Syncs, serve_reading,
     serve_synced,
 };
-use nbd_stream::End;
+use nbd_stream::StreamEnd;
 use page_layout::geometry::Geometry;
 use request_stream::ServeFault;
 use std::alloc::Global;
@@ -50,7 +50,7 @@ fn offer_of(geometry: &Geometry, read_only: bool) -> Offer
 
 // How much of a disk may be changed between two syncs of its file. At a sync at most the entries of its cache and the pages of two blocks are stale, whether its device was flushed before
 // or not, and those of two more where it was opened anew with a larger one: so no sync needs that flush for what is stale to have room at the next mount. Of a disk of fewer sectors all of them have.
-fn pace_of(shape: &Shape) -> SyncPace
+fn pace_of(shape: &DiskShape) -> SyncPace
     ensures { result ≡ pace_of shape.now }
 {
     let geometry = shape.geometry;
@@ -88,13 +88,13 @@ fn terms_of(told: &DiskText, read_only: bool) -> Terms
 }
 
 // What a session that has ended comes to.
-fn end_of<'a>(served: Result<End, ServeFault>) -> Result<(), DiskFault<'a>>
+fn end_of<'a>(served: Result<StreamEnd, ServeFault>) -> Result<(), DiskCommandFault<'a>>
     ensures { result ≡ end_of served }
 {
     match served {
-        Ok(End::Boundary | End::Disconnected | End::Unfinished) => Ok(()),
-        Ok(End::BadFrame) => Err(DiskFault::BadFrame),
-        Err(_) => Err(DiskFault::Stream),
+        Ok(StreamEnd::Boundary | StreamEnd::Disconnected | StreamEnd::Unfinished) => Ok(()),
+        Ok(StreamEnd::BadFrame) => Err(DiskCommandFault::BadFrame),
+        Err(_) => Err(DiskCommandFault::Stream),
     }
 }
 
@@ -103,13 +103,13 @@ fn end_session<'a, S: Lasting, Y: Syncs>(
     disk: &mut SyncedDisk<SectorDisk<S>, Y>,
     marked: bool,
     path: &'a str,
-    served: Result<End, ServeFault>,
-) -> Result<(), DiskFault<'a>>
+    served: Result<StreamEnd, ServeFault>,
+) -> Result<(), DiskCommandFault<'a>>
     ensures { IsClosed S.contents S.honest (AsksSectors S.contents S.honest S.reads S.flushes) S.next S.takes Y.synced Y.failed Y.marked marked path.entry disk.old served result }
 {
     match disk.close(marked) {
         Ok(()) => end_of(served),
-        Err(_) => Err(DiskFault::Device(path)),
+        Err(_) => Err(DiskCommandFault::Device(path)),
     }
 }
 
@@ -121,7 +121,7 @@ fn serve_writing<'a, S: Lasting + Drop, Y: Syncs + Drop, I: Read, O: Write>(
     buffer: &mut [u8],
     input: &mut I,
     out: &mut O,
-) -> Result<(), DiskFault<'a>>
+) -> Result<(), DiskCommandFault<'a>>
     requires { length buffer.old ≡ terms.offer.maximum }
     ensures { HasServedDisk S.contents S.honest (AsksSectors S.contents S.honest S.reads S.flushes) S.rests S.next S.takes Y.synced Y.failed Y.marked terms path.entry opened.0 opened.1 (I.remaining input.old) (I.remaining input.new) (O.contents out.old) (O.contents out.new) result }
 {
@@ -138,7 +138,7 @@ fn serve_only_reading<'a, S: Sectors + Drop, I: Read, O: Write>(
     buffer: &mut [u8],
     input: &mut I,
     out: &mut O,
-) -> Result<(), DiskFault<'a>>
+) -> Result<(), DiskCommandFault<'a>>
     requires lasts { S.honest disk ≡ true → AllLasts (S.contents disk) }
     requires read_only { terms.offer.read_only ≡ true }
     requires room { length buffer.old ≡ terms.offer.maximum }
@@ -156,13 +156,13 @@ fn serve_client<'a, S: Lasting + Drop, Y: Syncs + Drop, I: Read, O: Write>(
     path: &'a str,
     input: &mut I,
     out: &mut O,
-) -> Result<(), DiskFault<'a>>
+) -> Result<(), DiskCommandFault<'a>>
     requires { S.honest opened.0 ≡ true → AllLasts (S.contents opened.0) }
     ensures { HasServedOn S.contents S.honest (AsksSectors S.contents S.honest S.reads S.flushes) S.rests S.reads S.next S.takes Y.synced Y.failed Y.marked terms path.entry opened.0 opened.1 (I.remaining input.old) (I.remaining input.new) (O.contents out.old) (O.contents out.new) result
         ⊎ ((result ≡ Err fault.OutOfMemory) × Keeps (O.contents out.old) (O.contents out.new)) }
 {
     let Ok(mut buffer) = vec![in alloc; 0u8; terms.offer.maximum as usize] else {
-        return Err(DiskFault::OutOfMemory);
+        return Err(DiskCommandFault::OutOfMemory);
     };
     if terms.offer.read_only {
         serve_only_reading(opened.0, terms, &mut buffer, input, out)
@@ -181,19 +181,19 @@ fn serve_client<'a, S: Lasting + Drop, Y: Syncs + Drop, I: Read, O: Write>(
 ///
 /// # Errors
 ///
-/// The first of this order: `Read`, `Shape` or `OutOfMemory` where the file beside DISK tells no shape; `Read`, `InUse`, `Length` or `OutOfMemory` where DISK was not opened;
+/// The first of this order: `Read`, `DiskShape` or `OutOfMemory` where the file beside DISK tells no shape; `Read`, `InUse`, `Length` or `OutOfMemory` where DISK was not opened;
 /// `Read` or `OutOfMemory` where its mark was not read; `ReadList` or `List` where the list of its lost sectors was not read; `Open` where it holds no disk; `WriteList` where that list was not kept;
 /// `Open` where the disk was not opened; `Read`, `Write` or `OutOfMemory` where its mark cannot be kept, `Device` where the first sync failed; `Write` of `-` where lost sectors were not named;
 /// `OutOfMemory` for the memory of a request. After each of these nothing was sent. Then `Device` where the flush at the end failed, or a sync;
 /// `BadFrame` where the client sent what is no request, `Stream` where `input` or `out` failed. (This project's.)
 pub(crate) fn serve_command<'a, F: DiskFiles, I: Read, O: Write, E: Write>(
     alloc: Global,
-    words: ServeWords<'a>,
+    words: DiskServeWords<'a>,
     files: &mut F,
     input: &mut I,
     out: &mut O,
     err: &mut E,
-) -> Result<(), DiskFault<'a>>
+) -> Result<(), DiskCommandFault<'a>>
     ensures served { HasServedAt F.Store.held F.Store.honest F.Store.full F.Store.mended F.Store.failed F.Syncs.synced F.Syncs.failed F.Syncs.marked F.Lists.kept (F.answers files.old) words.entry (I.remaining input.old) (I.remaining input.new) (O.contents out.old) (O.contents out.new)
         (E.contents err.old) (E.contents err.new) result
         ⊎ HasNotServed F.Store.held F.Store.honest F.Store.failed F.Syncs.failed F.Lists.kept F.Lists.failed (F.answers files.old) words.entry (O.contents out.old) (O.contents out.new) (E.contents err.old) (E.contents err.new) result }

@@ -5,7 +5,7 @@ ghost use Rattle.disk_commands.specs.declared.shape_text.Member.{Member};
 ghost use Rattle.disk_commands.specs.ShapeText.{IsGeometryTold, IsNoShape, IsShapeText, IsTextMember, IsWithin, TellsLater, TellsLaterBy, TellsNone, TellsShape, TellsText, code_words, flag_at, geometry_words, listed_text, number_at, shape_data, shape_text, members_of, size_of, text_at, version_of, without_feed};
 
 use crate::shape_words::{GeometryText, GeometryWordFault, geometry_from};
-use crate::shapes::{Code, Shape};
+use crate::shapes::{Code, DiskShape};
 use crate::text::{limit, told, told_of};
 use page_layout::geometry::{Geometry, GeometryFault};
 use serde_json::{Value, json};
@@ -17,7 +17,7 @@ use std::fmt;
 #[derive(Clone, Copy, Debug, PartialEq, Eq)]
 pub struct DiskText {
     /// The shape of the disk.
-    pub shape: Shape,
+    pub shape: DiskShape,
     /// Whether the mark beside the disk counts: a program that knows version 1 alone writes none.
     pub marked: bool,
     /// Whether a list of lost sectors stands beside the disk. Version 1 has none.
@@ -137,7 +137,7 @@ fn code_word(code: Code) -> &'static str
 }
 
 // The object of a disk of this shape, by whether a list of lost sectors stands beside it.
-fn shape_value(alloc: Global, shape: &Shape, lost: bool) -> Result<Value, AllocError>
+fn shape_value(alloc: Global, shape: &DiskShape, lost: bool) -> Result<Value, AllocError>
     ensures { IfOk result (λ value. view value ≡ shape_data shape.now lost) }
 {
     let word = geometry_word(alloc, &shape.geometry)?;
@@ -148,7 +148,7 @@ fn shape_value(alloc: Global, shape: &Shape, lost: bool) -> Result<Value, AllocE
 /// The text of the file beside a disk of this shape, in version 2: one JSON object and a line feed. It says which code there is, that no sectors are lost and that none waits.
 ///
 /// (The form is this project's.)
-pub fn write_shape(alloc: Global, shape: &Shape) -> Result<String, AllocError>
+pub fn write_shape(alloc: Global, shape: &DiskShape) -> Result<String, AllocError>
     ensures { IfOk result (λ text. string_bytes text ≡ shape_text shape.now) }
 {
     let mut text = shape_value(alloc, shape, false)?.to_string(alloc)?;
@@ -159,7 +159,7 @@ pub fn write_shape(alloc: Global, shape: &Shape) -> Result<String, AllocError>
 /// The same text of a disk beside which a list of lost sectors stands.
 ///
 /// (The form is this project's.)
-pub fn write_listed_shape(alloc: Global, shape: &Shape) -> Result<String, AllocError>
+pub fn write_listed_shape(alloc: Global, shape: &DiskShape) -> Result<String, AllocError>
     ensures { IfOk result (λ text. string_bytes text ≡ listed_text shape.now) }
 {
     let mut text = shape_value(alloc, shape, true)?.to_string(alloc)?;
@@ -348,7 +348,7 @@ fn text_told(value: &Value) -> Result<DiskText, ShapeFault>
     let (code, lost) = later_by(value, second)?;
     require_alone(value, second)?;
     Ok(DiskText {
-        shape: Shape {
+        shape: DiskShape {
             geometry,
             cache,
             code,

@@ -44,7 +44,7 @@ pub enum Code {
 
 /// What a disk in a file is: the geometry of its die without codes, the entries of its device's cache, from 1 to 65,536, and the code of its pages.
 #[derive(Clone, Copy, Debug, PartialEq, Eq)]
-pub struct Shape {
+pub struct DiskShape {
     pub geometry: Geometry,
     pub cache: u32,
     pub code: Code,
@@ -146,7 +146,7 @@ fn least_blocks(pages: u32, sectors: u32) -> Option<u32>
 /// `Zero` for no byte. `TooLarge` for more than 2,037,469,184 bytes: then the blocks would be more than any die has.
 ///
 /// (This project's rule.)
-pub fn shape_for(bytes: u64) -> Result<Shape, SizeFault>
+pub fn shape_for(bytes: u64) -> Result<DiskShape, SizeFault>
     ensures ok { IfOk result (IsShapeFor bytes) }
     ensures fault { IfErr result (IsNoSize bytes) }
     ensures within { IsOk result ↔ ((1 ≤ bytes) × (bytes ≤ most_bytes)) }
@@ -177,7 +177,7 @@ pub fn shape_for(bytes: u64) -> Result<Shape, SizeFault>
         return Err(SizeFault::TooLarge);
     };
     match die(pages, needed + needed.div_ceil(20), sectors) {
-        Ok(geometry) => Ok(Shape {
+        Ok(geometry) => Ok(DiskShape {
             geometry,
             cache: cache_for(&geometry),
             code: Code::Plain,

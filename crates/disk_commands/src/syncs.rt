@@ -5,22 +5,25 @@ ghost use Rattle.disk_commands.specs.MarkFile.{KeepsIfAny, SettlesFiles};
 
 use crate::mark::none_found;
 use crate::mark_file::MarkFile;
-use disk_server::{Mark, Syncs};
+use disk_server::{SyncMark, Syncs};
 use file_die::ByteFile;
-use nbd_stream::DiskFault;
+use nbd_stream::DiskCommandFault;
 
 /// A second handle of the die's file, and the file of its mark, where one is kept. (This project's.)
 #[derive(Drop)]
 pub struct FileSyncs<F> {
     die: F,
     kept: Option<MarkFile<F>>,
-    mark: Mark,
+    mark: SyncMark,
     done: u64,
     failed: u64,
 }
 
 // Keeps a mark in the file of it, where there is one, and answers whether it is kept as it has to be: the first one lasts. A later one that could not be written is the last that is tried.
-fn keep_in<F: ByteFile + Drop>(kept: Option<MarkFile<F>>, mark: Mark) -> (Option<MarkFile<F>>, bool)
+fn keep_in<F: ByteFile + Drop>(
+    kept: Option<MarkFile<F>>,
+    mark: SyncMark,
+) -> (Option<MarkFile<F>>, bool)
     ensures { KeepsIfAny F.held F.honest kept mark result.1 result.0 }
 {
     let Some(mut file) = kept else {
@@ -55,7 +58,7 @@ impl<F: ByteFile + Drop> FileSyncs<F> {
     }
 
     /// The same, with this mark, which is kept in this file from now on, where there is one.
-    pub fn with_mark(self, kept: Option<MarkFile<F>>, mark: Mark) -> FileSyncs<F>
+    pub fn with_mark(self, kept: Option<MarkFile<F>>, mark: SyncMark) -> FileSyncs<F>
         ensures { result ≡ record { die = self.die; kept = kept; mark = mark; done = self.done; failed = self.failed } }
     {
         let FileSyncs {
@@ -82,7 +85,7 @@ impl<F: ByteFile + Drop> FileSyncs<F> {
     }
 
     // Syncs the die's file, and once that is done keeps a mark of it. Answers whether both were done.
-    fn settle(&mut self, mark: Mark) -> bool
+    fn settle(&mut self, mark: SyncMark) -> bool
         ensures settles { SettlesFiles F.held F.honest self.old mark result self.new }
         ensures mark { self.new.mark ≡ self.old.mark }
         ensures done { self.new.done ≡ self.old.done }
@@ -110,7 +113,7 @@ impl<F: ByteFile + Drop> Syncs for FileSyncs<F> {
     ghost marked = { λ s. s.mark };
 
     /// The die's file is synced first, and the mark is kept only once that is done. The first mark lasts before it is answered; a later one that cannot be written is no failure.
-    fn sync(&mut self, next: u64, flushed: bool) -> Result<(), DiskFault>
+    fn sync(&mut self, next: u64, flushed: bool) -> Result<(), DiskCommandFault>
         ensures settles { SettlesFiles F.held F.honest self.old (after_sync next flushed self.old.mark) (is_ok result) self.new }
         ensures done { OnOk result (self.new.done ≡ counted self.old.done) }
         ensures not_done { OnErr result (self.new.done ≡ self.old.done) }
@@ -118,7 +121,7 @@ impl<F: ByteFile + Drop> Syncs for FileSyncs<F> {
         ensures not_marked { OnErr result (self.new.mark ≡ self.old.mark) }
         ensures settled { OnOk result (self.new.failed ≡ self.old.failed) }
         ensures rose { OnErr result (HasRisen self.old.failed self.new.failed) }
-        ensures fault { IfErr result (λ e. e ≡ DiskFault.Failed) }
+        ensures fault { IfErr result (λ e. e ≡ DiskCommandFault.Failed) }
     {
         let mark = self.mark.after_sync(next, flushed);
         if self.settle(mark) {
@@ -127,11 +130,11 @@ impl<F: ByteFile + Drop> Syncs for FileSyncs<F> {
             Ok(())
         } else {
             self.failed = self.failed.saturating_add(1);
-            Err(DiskFault::Failed)
+            Err(DiskCommandFault::Failed)
         }
     }
 
-    fn mark(&self) -> Mark {
+    fn mark(&self) -> SyncMark {
         self.mark
     }
 }

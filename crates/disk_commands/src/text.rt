@@ -23,7 +23,7 @@ const IO: u8 = 3;
 
 /// Why a command was not done. Each is one line; of the paths those that were given. (This project's.)
 #[derive(Clone, Copy, Debug)]
-pub enum DiskFault<'a> {
+pub enum DiskCommandFault<'a> {
     /// The words are no command that the program has.
     NoSuchCommand,
     /// The word is no size.
@@ -43,7 +43,7 @@ pub enum DiskFault<'a> {
     /// The file is served by another program, or being made.
     InUse(&'a str),
     /// The file beside the disk does not tell its shape.
-    Shape(&'a str, ShapeFault),
+    DiskShape(&'a str, ShapeFault),
     /// The file has so many bytes, and not as many as its shape says.
     Length(&'a str, u64, u64),
     /// The die holds no device that may be started.
@@ -72,9 +72,9 @@ pub enum DiskFault<'a> {
     Device(&'a str),
 }
 
-impl Error for DiskFault<'_> {}
+impl Error for DiskCommandFault<'_> {}
 
-impl DiskFault<'_> {
+impl DiskCommandFault<'_> {
     ghost use Rattle.std.specs.Prelude.{◌≡◌};
     ghost use Rattle.disk_commands.specs.Text.{status_of};
 
@@ -83,29 +83,29 @@ impl DiskFault<'_> {
         ensures { result ≡ status_of self.now }
     {
         match self {
-            DiskFault::NoSuchCommand
-            | DiskFault::BadSize(_)
-            | DiskFault::PartOfByte(_)
-            | DiskFault::BadNumber(_) => USAGE,
-            DiskFault::Size(_)
-            | DiskFault::Geometry(_)
-            | DiskFault::BadBlock(_)
-            | DiskFault::Exists(_)
-            | DiskFault::InUse(_)
-            | DiskFault::Shape(..)
-            | DiskFault::Length(..)
-            | DiskFault::Open(..)
-            | DiskFault::Create(..)
-            | DiskFault::List(..)
-            | DiskFault::Lost(..)
-            | DiskFault::OutOfMemory => REFUSED,
-            DiskFault::Read(_)
-            | DiskFault::Write(_)
-            | DiskFault::ReadList(_)
-            | DiskFault::WriteList(_)
-            | DiskFault::BadFrame
-            | DiskFault::Stream
-            | DiskFault::Device(_) => IO,
+            DiskCommandFault::NoSuchCommand
+            | DiskCommandFault::BadSize(_)
+            | DiskCommandFault::PartOfByte(_)
+            | DiskCommandFault::BadNumber(_) => USAGE,
+            DiskCommandFault::Size(_)
+            | DiskCommandFault::Geometry(_)
+            | DiskCommandFault::BadBlock(_)
+            | DiskCommandFault::Exists(_)
+            | DiskCommandFault::InUse(_)
+            | DiskCommandFault::DiskShape(..)
+            | DiskCommandFault::Length(..)
+            | DiskCommandFault::Open(..)
+            | DiskCommandFault::Create(..)
+            | DiskCommandFault::List(..)
+            | DiskCommandFault::Lost(..)
+            | DiskCommandFault::OutOfMemory => REFUSED,
+            DiskCommandFault::Read(_)
+            | DiskCommandFault::Write(_)
+            | DiskCommandFault::ReadList(_)
+            | DiskCommandFault::WriteList(_)
+            | DiskCommandFault::BadFrame
+            | DiskCommandFault::Stream
+            | DiskCommandFault::Device(_) => IO,
         }
     }
 }
@@ -143,7 +143,7 @@ pub(crate) fn told_of<W: fmt::Write>(
 }
 
 /// The line, without its line feed.
-impl fmt::Display for DiskFault<'_> {
+impl fmt::Display for DiskCommandFault<'_> {
     ghost use Rattle.std.specs.Prelude.{Some};
     ghost use Rattle.disk_commands.specs.Text.{line_of};
 
@@ -152,47 +152,62 @@ impl fmt::Display for DiskFault<'_> {
     #[tactic(auto, unfolding(crate::specs::Text::line_of))]
     fn fmt<W: fmt::Write>(&self, f: &mut fmt::Formatter<W>) -> fmt::Result {
         match *self {
-            DiskFault::NoSuchCommand => f.write_str("usage: no such command, see nanddisk --help"),
-            DiskFault::BadSize(word) => told(f, "usage: bad size ", word),
-            DiskFault::PartOfByte(word) => told(f, "usage: part of a byte ", word),
-            DiskFault::BadNumber(word) => told(f, "usage: bad number ", word),
-            DiskFault::Size(fault) => write!(f, "refused size: {fault}"),
-            DiskFault::Geometry(fault) => told(f, "refused geometry ", limit(fault)),
-            DiskFault::BadBlock(block) => {
+            DiskCommandFault::NoSuchCommand => f.write_str(
+                "usage: no such command, see nanddisk --help",
+            ),
+            DiskCommandFault::BadSize(word) => told(f, "usage: bad size ", word),
+            DiskCommandFault::PartOfByte(word) => told(f, "usage: part of a byte ", word),
+            DiskCommandFault::BadNumber(word) => told(f, "usage: bad number ", word),
+            DiskCommandFault::Size(fault) => write!(f, "refused size: {fault}"),
+            DiskCommandFault::Geometry(fault) => told(f, "refused geometry ", limit(fault)),
+            DiskCommandFault::BadBlock(block) => {
                 write!(f, "refused: block {block} is past the die, or named twice")
             }
-            DiskFault::Exists(path) => told_of(f, "refused: ", path, " exists"),
-            DiskFault::InUse(path) => told_of(f, "refused: ", path, " is in use"),
-            DiskFault::Shape(path, fault) => { write!(f, "refused: {path}.json: {fault}") }
-            DiskFault::Length(path, found, wanted) => {
+            DiskCommandFault::Exists(path) => told_of(f, "refused: ", path, " exists"),
+            DiskCommandFault::InUse(path) => told_of(f, "refused: ", path, " is in use"),
+            DiskCommandFault::DiskShape(path, fault) => {
+                write!(f, "refused: {path}.json: {fault}")
+            }
+            DiskCommandFault::Length(path, found, wanted) => {
                 write!(
                     f,
                     "refused: {path} has {found} bytes, and its shape {wanted}"
                 )
             }
-            DiskFault::Open(path, fault) => { write!(f, "refused: {path} is no disk: {fault}") }
-            DiskFault::Create(path, fault) => {
+            DiskCommandFault::Open(path, fault) => {
+                write!(f, "refused: {path} is no disk: {fault}")
+            }
+            DiskCommandFault::Create(path, fault) => {
                 write!(f, "refused: {path} was not formatted: {fault}")
             }
-            DiskFault::List(path, fault) => write!(f, "refused: {path}.lost: {fault}"),
-            DiskFault::Lost(path, count) => write!(f, "refused: {path} has {count} lost sectors"),
-            DiskFault::OutOfMemory => f.write_str("refused: no memory"),
-            DiskFault::Read(path) => told(f, "fault read ", path),
-            DiskFault::Write(path) => told(f, "fault write ", path),
-            DiskFault::ReadList(path) => told_of(f, "fault read ", path, ".lost"),
-            DiskFault::WriteList(path) => told_of(f, "fault write ", path, ".lost"),
-            DiskFault::BadFrame => f.write_str("fault serve: the client's bytes are no requests"),
-            DiskFault::Stream => f.write_str("fault serve: standard input or output failed"),
-            DiskFault::Device(path) => told_of(f, "fault serve: ", path, " failed"),
+            DiskCommandFault::List(path, fault) => write!(f, "refused: {path}.lost: {fault}"),
+            DiskCommandFault::Lost(path, count) => write!(
+                f,
+                "refused: {path} has {count} lost sectors"
+            ),
+            DiskCommandFault::OutOfMemory => f.write_str("refused: no memory"),
+            DiskCommandFault::Read(path) => told(f, "fault read ", path),
+            DiskCommandFault::Write(path) => told(f, "fault write ", path),
+            DiskCommandFault::ReadList(path) => told_of(f, "fault read ", path, ".lost"),
+            DiskCommandFault::WriteList(path) => told_of(f, "fault write ", path, ".lost"),
+            DiskCommandFault::BadFrame => f.write_str(
+                "fault serve: the client's bytes are no requests",
+            ),
+            DiskCommandFault::Stream => f.write_str("fault serve: standard input or output failed"),
+            DiskCommandFault::Device(path) => told_of(f, "fault serve: ", path, " failed"),
         }
     }
 }
 
 // Writes the line of a fault, with a line feed. That of a want of memory takes none.
-fn send_line<E: Write>(alloc: Global, fault: &DiskFault<'_>, err: &mut E) -> Result<(), ServeFault>
+fn send_line<E: Write>(
+    alloc: Global,
+    fault: &DiskCommandFault<'_>,
+    err: &mut E,
+) -> Result<(), ServeFault>
     ensures { SendsLine (E.contents err.old) (E.contents err.new) (told_line fault.now) result }
 {
-    if let DiskFault::OutOfMemory = fault {
+    if let DiskCommandFault::OutOfMemory = fault {
         return send(err, b"refused: no memory\n");
     }
     match format!(in alloc; "{fault}\n") {
@@ -203,7 +218,7 @@ fn send_line<E: Write>(alloc: Global, fault: &DiskFault<'_>, err: &mut E) -> Res
 
 /// Writes the fault's line to `err`, with a line feed, and answers its exit status. Where a write failed, was interrupted or took nothing, or memory for the line was refused, it
 /// answers 3, and a beginning of the line stands there, or nothing: never all of it. (The lines and the statuses are this project's.)
-pub fn tell<E: Write>(alloc: Global, fault: &DiskFault<'_>, err: &mut E) -> u8
+pub fn tell<E: Write>(alloc: Global, fault: &DiskCommandFault<'_>, err: &mut E) -> u8
     ensures { IsTold fault.now (E.contents err.old) (E.contents err.new) result }
 {
     match send_line(alloc, fault, err) {

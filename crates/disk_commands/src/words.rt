@@ -5,13 +5,13 @@ ghost use Rattle.disk_commands.specs.declared.words.CreateWords.{CreateWords};
 ghost use Rattle.disk_commands.specs.declared.words.DiskWords.{DiskWords};
 ghost use Rattle.disk_commands.specs.declared.words.InfoWords.{InfoWords};
 ghost use Rattle.disk_commands.specs.declared.words.MakeWords.{MakeWords};
-ghost use Rattle.disk_commands.specs.declared.words.ServeWords.{ServeWords};
+ghost use Rattle.disk_commands.specs.declared.words.DiskServeWords.{DiskServeWords};
 ghost use Rattle.disk_commands.specs.Words.{IsAsked, IsAt, IsCreateAt, IsInfoAt, IsMakeAt, IsNoCommand, IsServeAt};
 
 use crate::grammar::grammar;
 use crate::shapes::Code;
 use command_words::number;
-use program_words::{CommandWords, Met, WordsFault, read_words};
+use program_words::{CommandWords, GrammarFault, Met, read_words};
 use std::alloc::Global;
 
 /// What a disk is made of.
@@ -40,7 +40,7 @@ pub struct CreateWords<'a> {
 
 /// The words of `serve [--read-only] [--sync erases|always] [--wait SECONDS] DISK`.
 #[derive(Clone, Copy)]
-pub struct ServeWords<'a> {
+pub struct DiskServeWords<'a> {
     pub read_only: bool,
     /// Whether the file is synced after each program, and not before and after each erase alone.
     pub sync_always: bool,
@@ -63,7 +63,7 @@ pub enum DiskWords<'a> {
     /// Makes a disk.
     Create(CreateWords<'a>),
     /// Serves a disk.
-    Serve(ServeWords<'a>),
+    Serve(DiskServeWords<'a>),
     /// Tells what a disk is.
     Info(InfoWords<'a>),
     /// Looks at all of a disk, and tells what is lost.
@@ -147,11 +147,11 @@ fn create_words<'a>(found: &CommandWords<'a>) -> Option<CreateWords<'a>>
 }
 
 // The words of the command `serve`, where they are given.
-fn serve_words<'a>(found: &CommandWords<'a>) -> Option<ServeWords<'a>>
+fn serve_words<'a>(found: &CommandWords<'a>) -> Option<DiskServeWords<'a>>
     ensures some { IfSome result (IsServeAt (entries_of found.now)) }
-    ensures none { result ≡ None → (read : ServeWords) → ¬ IsServeAt (entries_of found.now) read }
+    ensures none { result ≡ None → (read : DiskServeWords) → ¬ IsServeAt (entries_of found.now) read }
 {
-    Some(ServeWords {
+    Some(DiskServeWords {
         disk: found.word("DISK")?,
         read_only: found.once("read-only")?,
         sync_always: always(found.word("sync"))?,
@@ -185,13 +185,13 @@ fn asked_of<'a>(name: &str, found: &CommandWords<'a>) -> Option<DiskWords<'a>>
 }
 
 // What the command of this name asks for, with these words.
-fn asked_at<'a>(name: &str, found: &CommandWords<'a>) -> Result<DiskWords<'a>, WordsFault>
+fn asked_at<'a>(name: &str, found: &CommandWords<'a>) -> Result<DiskWords<'a>, GrammarFault>
     ensures some { IfOk result (IsAt name.now (entries_of found.now)) }
-    ensures none { result ≡ Err WordsFault.NoSuchCommand → (asked : DiskWords) → ¬ IsAt name.now (entries_of found.now) asked }
+    ensures none { result ≡ Err GrammarFault.NoSuchCommand → (asked : DiskWords) → ¬ IsAt name.now (entries_of found.now) asked }
 {
     match asked_of(name, found) {
         Some(asked) => Ok(asked),
-        None => Err(WordsFault::NoSuchCommand),
+        None => Err(GrammarFault::NoSuchCommand),
     }
 }
 
@@ -202,9 +202,9 @@ fn asked_at<'a>(name: &str, found: &CommandWords<'a>) -> Result<DiskWords<'a>, W
 ///
 /// `NoSuchCommand` where `clap` refuses the words for another reason than that they ask for help or the version, or where they name no command
 /// with its words. `OutOfMemory` where a growth was refused.
-pub fn parse<'a>(alloc: Global, words: &'a [&'a str]) -> Result<DiskWords<'a>, WordsFault>
+pub fn parse<'a>(alloc: Global, words: &'a [&'a str]) -> Result<DiskWords<'a>, GrammarFault>
     ensures ok { IfOk result (IsAsked (texts words.now)) }
-    ensures none { result ≡ Err WordsFault.NoSuchCommand → IsNoCommand (texts words.now) }
+    ensures none { result ≡ Err GrammarFault.NoSuchCommand → IsNoCommand (texts words.now) }
 {
     match read_words(alloc, &grammar(), words) {
         Ok(Met::Command { name, words }) => asked_at(name, &words),

@@ -8,7 +8,7 @@ use Rattle.std.proofs.lemmas.Grind.{div_ceil_times}
 use Rattle.page_layout.specs.Counter.{counted, HasRisen}
 use Rattle.nbd_stream.specs.declared.fault.DiskFault.{DiskFault}
 use Rattle.disk_server.specs.declared.synced.SyncedDisk.{SyncedDisk}
-use Rattle.disk_server.specs.declared.mark.Mark.{Mark}
+use Rattle.disk_server.specs.declared.mark.SyncMark.{SyncMark}
 use Rattle.disk_server.specs.Synced.{HasSynced, IsUnsynced, KeepsCount, Marks, NoneFailed, OneFailed, after_change, touched}
 
 -- a count with one more
@@ -61,11 +61,11 @@ then_failed failed old mid new before (inr one) = inr (record { kept = one.kept;
 -- ---- what is marked
 
 -- no sync marks more as flushed
-pub unflushed : {D Y : Type 0} (marked : Y → Mark) (next : D → ℕ) (durable : Bool) (old new : SyncedDisk D Y) (result : Result (Unit {0}) DiskFault)
+pub unflushed : {D Y : Type 0} (marked : Y → SyncMark) (next : D → ℕ) (durable : Bool) (old new : SyncedDisk D Y) (result : Result (Unit {0}) DiskFault)
     → Marks marked next durable old result new → (marked new.syncs).flushed ≡ (marked old.syncs).flushed
-unflushed marked next durable old new (Ok done) (inl due) = ap (λ (m : Mark). m.flushed) due.1
-unflushed marked next durable old new (Ok done) (inr none) = ap (λ (m : Mark). m.flushed) none.1
-unflushed marked next durable old new (Err e) is = ap (λ (m : Mark). m.flushed) is
+unflushed marked next durable old new (Ok done) (inl due) = ap (λ (m : SyncMark). m.flushed) due.1
+unflushed marked next durable old new (Ok done) (inr none) = ap (λ (m : SyncMark). m.flushed) none.1
+unflushed marked next durable old new (Err e) is = ap (λ (m : SyncMark). m.flushed) is
 
 -- ---- what counts as changed
 

@@ -10,7 +10,7 @@ use Rattle.nbd_stream.specs.declared.task.Task.TheVariants.{Flush, Read, Trim, W
 use Rattle.nbd_stream.specs.Disk.{Contents, MayAnswer, Performs, answer_from, error_for, is_in}
 use Rattle.std.proofs.lemmas.Bool.{cases_lt}
 use Rattle.page_layout.specs.Counter.{HasRisen, counted}
-use Rattle.disk_server.specs.declared.mark.Mark.{Mark}
+use Rattle.disk_server.specs.declared.mark.SyncMark.{SyncMark}
 use Rattle.disk_server.specs.Synced.{CloseLaw, Closes, Counts, EndsChange, EndsSynced, EndsTask, FlushLaw, HasSynced, IsKnownFlushed, IsLasting, IsOver, KeepsCount, Marks, NoneFailed, Notes, OverLaw, SyncedLaw, SyncsTask, UnflushedLaw, WriteLaw, after_change, after_sync}
 use Rattle.disk_server.proofs.ReadingLemmas.{flushed}
 use Rattle.disk_server.proofs.SyncLemmas.{no_less, none_then, then_failed, unflushed}
@@ -91,7 +91,7 @@ as_disk contents honest task body old new answer p = record {
 
 -- ---- a task
 
-module _ {D Y : Type 0} (does : D → Task → Result (Unit {0}) DiskFault → D → Type 0) (synced failed : Y → ℕ) (marked : Y → Mark) (next : D → ℕ) (old : SyncedDisk D Y) (task : Task) where
+module _ {D Y : Type 0} (does : D → Task → Result (Unit {0}) DiskFault → D → Type 0) (synced failed : Y → ℕ) (marked : Y → SyncMark) (next : D → ℕ) (old : SyncedDisk D Y) (task : Task) where
   -- after a sync that failed
   pub refused : old.failed ≡ true → SyncsTask does synced failed marked next old task (Err fault.Failed) old
   refused over = record {
@@ -111,7 +111,7 @@ module _ {D Y : Type 0} (does : D → Task → Result (Unit {0}) DiskFault → D
 
 -- ---- a range to be cleared
 
-module _ {D Y : Type 0} (synced : Y → ℕ) (marked : Y → Mark) (next : D → ℕ) (durable : Bool) (offset count : ℕ) (old mid new : SyncedDisk D Y) (kept : KeepsCount synced old mid)
+module _ {D Y : Type 0} (synced : Y → ℕ) (marked : Y → SyncMark) (next : D → ℕ) (durable : Bool) (offset count : ℕ) (old mid new : SyncedDisk D Y) (kept : KeepsCount synced old mid)
     (counts : 0 < count → Counts synced offset count old mid) where
   counts_then : Counts synced offset count old mid → HasSynced synced durable mid new → Counts synced offset count old new
   counts_then is (inl due) = inl (no_less (synced old.syncs) (synced mid.syncs) (synced new.syncs) kept.syncs due.1.one)
@@ -141,7 +141,7 @@ module _ {D Y : Type 0} (synced : Y → ℕ) (marked : Y → Mark) (next : D →
   ends_all (Ok done) is = ends_synced is
   ends_all (Err e) is = tt
 
-pub marked_last : {D Y : Type 0} (marked : Y → Mark) (next : D → ℕ) (durable : Bool) (old new : SyncedDisk D Y) (result : Result (Unit {0}) DiskFault)
+pub marked_last : {D Y : Type 0} (marked : Y → SyncMark) (next : D → ℕ) (durable : Bool) (old new : SyncedDisk D Y) (result : Result (Unit {0}) DiskFault)
     → Marks marked next durable old result new → OnOk result (durable ≡ true → (marked new.syncs).synced ≡ next new.disk)
 marked_last marked next durable old new (Ok done) (inl due) = λ lasts. ap (λ m. m.synced) due.1
 marked_last marked next durable old new (Ok done) (inr none) = λ lasts. absurd (none.0 (inl lasts))
@@ -153,7 +153,7 @@ notes_then failed old mid new (Err e) before more = then_failed failed old mid n
 
 -- ---- laws
 
-module _ {D Y : Type 0} (does : D → Task → Result (Unit {0}) DiskFault → D → Type 0) (synced failed : Y → ℕ) (marked : Y → Mark) (next : D → ℕ) where
+module _ {D Y : Type 0} (does : D → Task → Result (Unit {0}) DiskFault → D → Type 0) (synced failed : Y → ℕ) (marked : Y → SyncMark) (next : D → ℕ) where
   change_unflushed : (durable : Bool) (offset count : ℕ) (old new : SyncedDisk D Y) (result : Result (Unit {0}) DiskFault) → EndsChange synced marked next durable (after_change offset count old) result new
       → (marked new.syncs).flushed ≡ (marked old.syncs).flushed
   change_unflushed durable offset count old new result ends = unflushed marked next durable (after_change offset count old) new result ends.marks
@@ -257,5 +257,5 @@ module _ {D Y : Type 0} (does : D → Task → Result (Unit {0}) DiskFault → D
     closed_by true is_counted = by_order is_counted
     closed_by false is_not = by_flush (λ known. (let no : true ≡ false = sym known.0 ∙ is_not in (let never : ⊥ = cc in never)))
 
-pub close_law : {D Y : Type 0} (does : D → Task → Result (Unit {0}) DiskFault → D → Type 0) (synced failed : Y → ℕ) (marked : Y → Mark) (next : D → ℕ) (takes : D → Bool) → CloseLaw does synced failed marked next takes
+pub close_law : {D Y : Type 0} (does : D → Task → Result (Unit {0}) DiskFault → D → Type 0) (synced failed : Y → ℕ) (marked : Y → SyncMark) (next : D → ℕ) (takes : D → Bool) → CloseLaw does synced failed marked next takes
 close_law does synced failed marked next takes counts old new is taking = closed_by does synced failed marked next takes counts old new is taking counts refl

@@ -8,7 +8,7 @@ use Rattle.nbd_stream.specs.declared.fault.DiskFault.TheVariants as fault
 use Rattle.nbd_stream.specs.declared.task.Task.{Task}
 use Rattle.nbd_stream.specs.declared.task.Task.TheVariants.{Read, Write, Flush, Trim, WriteZeroes}
 use Rattle.nbd_stream.specs.Through.{Through}
-use Rattle.disk_server.specs.declared.mark.Mark.{Mark}
+use Rattle.disk_server.specs.declared.mark.SyncMark.{SyncMark}
 use Rattle.disk_server.specs.declared.served.Offer.{Offer}
 use Rattle.disk_server.specs.declared.synced.SyncedDisk.{SyncedDisk}
 
@@ -73,11 +73,11 @@ pub record EndsSynced {D Y : Type 0} (synced : Y → ℕ) (durable : Bool) (offs
 -- ---- the mark of what was synced
 
 -- THE MARK AFTER A SYNC, where this sequence was next, and by whether the disk had been flushed
-abbrev pub after_sync : (next : ℕ) → (flushed : Bool) → Mark → Mark
+abbrev pub after_sync : (next : ℕ) → (flushed : Bool) → SyncMark → SyncMark
 after_sync next flushed m = record { synced = next; flushed = if flushed then next else m.flushed }
 
 -- WHAT IS MARKED WITH A SYNC THAT WAS DUE: all that the disk had programmed by then, and no flush of it. Without one, and after one that failed, the mark is the one before
-abbrev pub Marks : {D Y : Type 0} → (marked : Y → Mark) → (next : D → ℕ) → (durable : Bool) → (old : SyncedDisk D Y) → Result (Unit {0}) DiskFault → (new : SyncedDisk D Y) → Type 0
+abbrev pub Marks : {D Y : Type 0} → (marked : Y → SyncMark) → (next : D → ℕ) → (durable : Bool) → (old : SyncedDisk D Y) → Result (Unit {0}) DiskFault → (new : SyncedDisk D Y) → Type 0
 Marks marked next durable old (Ok done) new =
     (IsDue durable old × (marked new.syncs ≡ after_sync (next new.disk) false (marked old.syncs)))
     ⊎ ((¬ IsDue durable old) × (marked new.syncs ≡ marked old.syncs))
@@ -117,7 +117,7 @@ abbrev pub Asks : {D : Type 0} → (does : D → Task → Result (Unit {0}) Disk
 Asks does task old new = (answer : Result (Unit {0}) DiskFault) × does old task answer new
 
 -- A CHANGE, counted already, and the sync behind it: where one was due it was done, after all that was written before, as its mark tells; after an error there was none
-pub record EndsChange {D Y : Type 0} (synced : Y → ℕ) (marked : Y → Mark) (next : D → ℕ) (durable : Bool) (counted : SyncedDisk D Y) (result : Result (Unit {0}) DiskFault) (new : SyncedDisk D Y) : Type 0 where
+pub record EndsChange {D Y : Type 0} (synced : Y → ℕ) (marked : Y → SyncMark) (next : D → ℕ) (durable : Bool) (counted : SyncedDisk D Y) (result : Result (Unit {0}) DiskFault) (new : SyncedDisk D Y) : Type 0 where
   pub synced_if_due : OnOk result (HasSynced synced durable counted new)
   pub unsynced : OnErr result (IsUnsynced synced counted new)
   pub marks : Marks marked next durable counted result new
@@ -127,7 +127,7 @@ abbrev pub ClearsPart : {D : Type 0} → (does : D → Task → Result (Unit {0}
 ClearsPart does offset count old new = (place taken : ℕ) × (offset ≤ place) × (place + taken ≤ offset + count) × Asks does (Trim place taken false) old new
 
 -- A RANGE TO BE CLEARED, and the syncs within it and behind it; the last one, where it is to last, was done after all of it
-pub record EndsCleared {D Y : Type 0} (does : D → Task → Result (Unit {0}) DiskFault → D → Type 0) (synced : Y → ℕ) (marked : Y → Mark) (next : D → ℕ) (durable : Bool) (offset count : ℕ)
+pub record EndsCleared {D Y : Type 0} (does : D → Task → Result (Unit {0}) DiskFault → D → Type 0) (synced : Y → ℕ) (marked : Y → SyncMark) (next : D → ℕ) (durable : Bool) (offset count : ℕ)
     (old : SyncedDisk D Y) (result : Result (Unit {0}) DiskFault) (new : SyncedDisk D Y) : Type 0 where
   pub parts : Through (ClearsPart does offset count) old.disk new.disk
   pub ends : OnOk result (EndsSynced synced durable offset count old new)
@@ -135,7 +135,7 @@ pub record EndsCleared {D Y : Type 0} (does : D → Task → Result (Unit {0}) D
   pub unflushed : (marked new.syncs).flushed ≡ (marked old.syncs).flushed
 
 -- WHAT A TASK IS TO A DISK AND ITS SYNCS, where no sync failed before: a read and a write are one of the disk, which is not told that it is to last; a flush asks nothing of the disk, and is a sync
-abbrev pub EndsTask : {D Y : Type 0} → (does : D → Task → Result (Unit {0}) DiskFault → D → Type 0) → (synced : Y → ℕ) → (marked : Y → Mark) → (next : D → ℕ)
+abbrev pub EndsTask : {D Y : Type 0} → (does : D → Task → Result (Unit {0}) DiskFault → D → Type 0) → (synced : Y → ℕ) → (marked : Y → SyncMark) → (next : D → ℕ)
     → (old : SyncedDisk D Y) → Task → Result (Unit {0}) DiskFault → (new : SyncedDisk D Y) → Type 0
 EndsTask does synced marked next old (Read offset count) result new = does old.disk (Read offset count) result new.disk × KeepsSyncs old new
 EndsTask does synced marked next old (Write offset count durable) result new = Asks does (Write offset count false) old.disk new.disk × EndsChange synced marked next durable (after_change offset count old) result new
@@ -144,7 +144,7 @@ EndsTask does synced marked next old (Trim offset count durable) result new = En
 EndsTask does synced marked next old (WriteZeroes offset count durable) result new = EndsCleared does synced marked next durable offset count old result new
 
 -- WHAT A CALL IS, beside the bytes
-pub record SyncsTask {D Y : Type 0} (does : D → Task → Result (Unit {0}) DiskFault → D → Type 0) (synced failed : Y → ℕ) (marked : Y → Mark) (next : D → ℕ)
+pub record SyncsTask {D Y : Type 0} (does : D → Task → Result (Unit {0}) DiskFault → D → Type 0) (synced failed : Y → ℕ) (marked : Y → SyncMark) (next : D → ℕ)
     (old : SyncedDisk D Y) (task : Task) (result : Result (Unit {0}) DiskFault) (new : SyncedDisk D Y) : Type 0 where
   pub over : old.failed ≡ true → IsOver old result new
   pub ends : old.failed ≡ false → EndsTask does synced marked next old task result new
@@ -153,29 +153,29 @@ pub record SyncsTask {D Y : Type 0} (does : D → Task → Result (Unit {0}) Dis
 -- ---- as a session ends
 
 -- THE DISK IS KNOWN TO BE FLUSHED AND SYNCED: its mark counts, and says so up to the very page that is next. So nothing was programmed since
-abbrev pub IsKnownFlushed : {D Y : Type 0} → (marked : Y → Mark) → (next : D → ℕ) → (counts : Bool) → SyncedDisk D Y → Type 0
+abbrev pub IsKnownFlushed : {D Y : Type 0} → (marked : Y → SyncMark) → (next : D → ℕ) → (counts : Bool) → SyncedDisk D Y → Type 0
 IsKnownFlushed marked next counts s = (counts ≡ true) × ((marked s.syncs).flushed ≡ next s.disk)
 
 -- it was flushed, and one more sync was done behind that, with the mark of both
-pub record FlushesDisk {D Y : Type 0} (does : D → Task → Result (Unit {0}) DiskFault → D → Type 0) (synced : Y → ℕ) (marked : Y → Mark) (next : D → ℕ) (takes : D → Bool) (old new : SyncedDisk D Y) : Type 0 where
+pub record FlushesDisk {D Y : Type 0} (does : D → Task → Result (Unit {0}) DiskFault → D → Type 0) (synced : Y → ℕ) (marked : Y → SyncMark) (next : D → ℕ) (takes : D → Bool) (old new : SyncedDisk D Y) : Type 0 where
   pub flushed : does old.disk Flush (Ok tt) new.disk
   pub syncs : Syncs synced old new
   pub marks : marked new.syncs ≡ after_sync (next new.disk) (takes new.disk) (marked old.syncs)
 
 -- or one of the two failed
-pub record FailsToFlush {D Y : Type 0} (does : D → Task → Result (Unit {0}) DiskFault → D → Type 0) (synced : Y → ℕ) (marked : Y → Mark) (old new : SyncedDisk D Y) : Type 0 where
+pub record FailsToFlush {D Y : Type 0} (does : D → Task → Result (Unit {0}) DiskFault → D → Type 0) (synced : Y → ℕ) (marked : Y → SyncMark) (old new : SyncedDisk D Y) : Type 0 where
   pub answer : Result (Unit {0}) DiskFault
   pub asked : does old.disk Flush answer new.disk
   pub unsynced : IsUnsynced synced old new
   pub unmarked : marked new.syncs ≡ marked old.syncs
 
-abbrev pub FlushesBy : {D Y : Type 0} → (does : D → Task → Result (Unit {0}) DiskFault → D → Type 0) → (synced : Y → ℕ) → (marked : Y → Mark) → (next : D → ℕ) → (takes : D → Bool)
+abbrev pub FlushesBy : {D Y : Type 0} → (does : D → Task → Result (Unit {0}) DiskFault → D → Type 0) → (synced : Y → ℕ) → (marked : Y → SyncMark) → (next : D → ℕ) → (takes : D → Bool)
     → (old : SyncedDisk D Y) → Result (Unit {0}) DiskFault → (new : SyncedDisk D Y) → Type 0
 FlushesBy does synced marked next takes old (Ok done) new = FlushesDisk does synced marked next takes old new
 FlushesBy does synced marked next takes old (Err e) new = FailsToFlush does synced marked old new
 
 -- HOW A DISK IS CLOSED: it is flushed, unless it is known to be; after a sync that failed nothing is asked
-pub record Closes {D Y : Type 0} (does : D → Task → Result (Unit {0}) DiskFault → D → Type 0) (synced failed : Y → ℕ) (marked : Y → Mark) (next : D → ℕ) (takes : D → Bool) (counts : Bool)
+pub record Closes {D Y : Type 0} (does : D → Task → Result (Unit {0}) DiskFault → D → Type 0) (synced failed : Y → ℕ) (marked : Y → SyncMark) (next : D → ℕ) (takes : D → Bool) (counts : Bool)
     (old : SyncedDisk D Y) (result : Result (Unit {0}) DiskFault) (new : SyncedDisk D Y) : Type 0 where
   pub over : old.failed ≡ true → IsOver old result new
   pub known : old.failed ≡ false → IsKnownFlushed marked next counts old → (result ≡ Ok tt) × (new ≡ old)
@@ -185,7 +185,7 @@ pub record Closes {D Y : Type 0} (does : D → Task → Result (Unit {0}) DiskFa
 -- ---- laws
 
 -- NO TASK MARKS MORE AS FLUSHED than was
-abbrev pub UnflushedLaw : {D Y : Type 0} → (does : D → Task → Result (Unit {0}) DiskFault → D → Type 0) → (synced failed : Y → ℕ) → (marked : Y → Mark) → (next : D → ℕ) → Type 0
+abbrev pub UnflushedLaw : {D Y : Type 0} → (does : D → Task → Result (Unit {0}) DiskFault → D → Type 0) → (synced failed : Y → ℕ) → (marked : Y → SyncMark) → (next : D → ℕ) → Type 0
 UnflushedLaw {D} {Y} does synced failed marked next = (old new : SyncedDisk D Y) (task : Task) (result : Result (Unit {0}) DiskFault) → SyncsTask does synced failed marked next old task result new
     → (marked new.syncs).flushed ≡ (marked old.syncs).flushed
 
@@ -198,28 +198,28 @@ IsLasting (Trim offset count durable) = durable ≡ true
 IsLasting (WriteZeroes offset count durable) = durable ≡ true
 
 -- ONE THAT IS DONE IS SYNCED LAST: the mark tells all that the disk has programmed by its end
-abbrev pub SyncedLaw : {D Y : Type 0} → (does : D → Task → Result (Unit {0}) DiskFault → D → Type 0) → (synced failed : Y → ℕ) → (marked : Y → Mark) → (next : D → ℕ) → Type 0
+abbrev pub SyncedLaw : {D Y : Type 0} → (does : D → Task → Result (Unit {0}) DiskFault → D → Type 0) → (synced failed : Y → ℕ) → (marked : Y → SyncMark) → (next : D → ℕ) → Type 0
 SyncedLaw {D} {Y} does synced failed marked next = (old new : SyncedDisk D Y) (task : Task) → IsLasting task → SyncsTask does synced failed marked next old task (Ok tt) new
     → (marked new.syncs).synced ≡ next new.disk
 
 -- A DISK THAT WAS CLOSED, and takes changes, is marked as flushed up to the page that is next
-abbrev pub CloseLaw : {D Y : Type 0} → (does : D → Task → Result (Unit {0}) DiskFault → D → Type 0) → (synced failed : Y → ℕ) → (marked : Y → Mark) → (next : D → ℕ) → (takes : D → Bool) → Type 0
+abbrev pub CloseLaw : {D Y : Type 0} → (does : D → Task → Result (Unit {0}) DiskFault → D → Type 0) → (synced failed : Y → ℕ) → (marked : Y → SyncMark) → (next : D → ℕ) → (takes : D → Bool) → Type 0
 CloseLaw {D} {Y} does synced failed marked next takes = (counts : Bool) (old new : SyncedDisk D Y) → Closes does synced failed marked next takes counts old (Ok tt) new → takes new.disk ≡ true
     → (marked new.syncs).flushed ≡ next new.disk
 
 -- ONCE A SYNC FAILED NOTHING IS ASKED, and each task is answered `Failed`: what was written before may be lost, and the next sync may answer that all is well
-abbrev pub OverLaw : {D Y : Type 0} → (does : D → Task → Result (Unit {0}) DiskFault → D → Type 0) → (synced failed : Y → ℕ) → (marked : Y → Mark) → (next : D → ℕ) → Type 0
+abbrev pub OverLaw : {D Y : Type 0} → (does : D → Task → Result (Unit {0}) DiskFault → D → Type 0) → (synced failed : Y → ℕ) → (marked : Y → SyncMark) → (next : D → ℕ) → Type 0
 OverLaw {D} {Y} does synced failed marked next = (old mid new : SyncedDisk D Y) (task later : Task) (answer result : Result (Unit {0}) DiskFault) → failed old.syncs < failed mid.syncs
     → SyncsTask does synced failed marked next old task answer mid → SyncsTask does synced failed marked next mid later result new → (result ≡ Err fault.Failed) × (new ≡ mid)
 
 -- A FLUSH THAT IS DONE IS ONE SYNC, and asks nothing of the disk
-abbrev pub FlushLaw : {D Y : Type 0} → (does : D → Task → Result (Unit {0}) DiskFault → D → Type 0) → (synced failed : Y → ℕ) → (marked : Y → Mark) → (next : D → ℕ) → Type 0
+abbrev pub FlushLaw : {D Y : Type 0} → (does : D → Task → Result (Unit {0}) DiskFault → D → Type 0) → (synced failed : Y → ℕ) → (marked : Y → SyncMark) → (next : D → ℕ) → Type 0
 FlushLaw {D} {Y} does synced failed marked next = (old new : SyncedDisk D Y) → SyncsTask does synced failed marked next old Flush (Ok tt) new
     → (new.disk ≡ old.disk) × (synced new.syncs ≡ counted (synced old.syncs)) × (new.unsynced ≡ 0)
 
 -- A WRITE THAT IS DONE was one of the disk, which was not told that it is to last; and no sync was done of it only where it need not last and each piece that it touched counts as changed, with
 -- those before not more than may be
-abbrev pub WriteLaw : {D Y : Type 0} → (does : D → Task → Result (Unit {0}) DiskFault → D → Type 0) → (synced failed : Y → ℕ) → (marked : Y → Mark) → (next : D → ℕ) → Type 0
+abbrev pub WriteLaw : {D Y : Type 0} → (does : D → Task → Result (Unit {0}) DiskFault → D → Type 0) → (synced failed : Y → ℕ) → (marked : Y → SyncMark) → (next : D → ℕ) → Type 0
 WriteLaw {D} {Y} does synced failed marked next = (old new : SyncedDisk D Y) (offset count : ℕ) (durable : Bool) → SyncsTask does synced failed marked next old (Write offset count durable) (Ok tt) new
     → Asks does (Write offset count false) old.disk new.disk
     × (((synced new.syncs ≡ counted (synced old.syncs)) × (new.unsynced ≡ 0))

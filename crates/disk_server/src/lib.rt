@@ -10,7 +10,7 @@
 //! - `format_store`: a store of erased pages becomes a die with a device on it.
 //! - `SyncedDisk`: a disk whose flushes and durable changes end with a sync of what it is kept in, and of whose changes no more than a `SyncPace` says lack one;
 //!   `serve_synced` serves it. A flush is that sync alone; the device is flushed as the disk is closed. After a sync that failed it answers nothing but that it failed. With each sync goes a
-//!   `Mark`: up to which sequence all pages were synced.
+//!   `SyncMark`: up to which sequence all pages were synced.
 //! - `GuardedSectors`: a device of sectors of which some are lost, with a list of them that lasts: these are not read until they are written or trimmed.
 //! - `ReadOnlyDisk`: a disk that asks for reads of sectors alone; `serve_reading` serves it.
 //!
@@ -39,7 +39,7 @@ mod synced;
 pub use device_disk::DeviceDisk;
 pub use format::{CreateFault, format_store};
 pub use guarded::{GuardedSectors, KeepsLost};
-pub use mark::Mark;
+pub use mark::SyncMark;
 pub use mounted::open_mounted;
 pub use open::{OpenFault, open_checked};
 pub use opened::{OpenStoreFault, StoreDisk, close_store, mount_store, open_store};

@@ -4,19 +4,19 @@ ghost use Rattle.disk_server.specs.Synced.{after_sync};
 
 /// Which pages of a die were synced, by their sequences. (This project's.)
 #[derive(Clone, Copy, Debug, PartialEq, Eq)]
-pub struct Mark {
+pub struct SyncMark {
     /// All pages of a lower sequence were synced.
     pub synced: u64,
     /// All pages of a lower sequence were synced as the disk had been flushed: no sector was stale then.
     pub flushed: u64,
 }
 
-impl Mark {
+impl SyncMark {
     /// The mark after a sync that was done, where this sequence was next, and by whether the disk had been flushed.
-    pub fn after_sync(self, next: u64, flushed: bool) -> Mark
+    pub fn after_sync(self, next: u64, flushed: bool) -> SyncMark
         ensures { result ≡ after_sync next flushed self }
     {
-        Mark {
+        SyncMark {
             synced: next,
             flushed: if flushed { next } else { self.flushed },
         }

@@ -7,7 +7,7 @@ ghost use Rattle.disk_server.specs.Open.{nand_of};
 
 use crate::device_disk::DeviceDisk;
 use crate::mounted::{nand_behind, open_mounted};
-use crate::open::OpenFault;
+use crate::open::OpenDieFault;
 use crate::sector_disk::SectorDisk;
 use certificate::Certificate;
 use file_die::{FileDie, Store, SyncWhen};
@@ -71,10 +71,10 @@ pub(crate) fn driver_over<S: Store + Drop>(
 {
     let die = match FileDie::open(alloc, store, &[], sync_when) {
         Ok(die) => die,
-        Err((store, file_die::OpenFault::OutOfMemory)) => {
+        Err((store, file_die::OpenDieFault::OutOfMemory)) => {
             return Err((store, OpenStoreFault::OutOfMemory));
         }
-        Err((store, file_die::OpenFault::BadBlock { .. } | file_die::OpenFault::Store)) => {
+        Err((store, file_die::OpenDieFault::BadBlock { .. } | file_die::OpenDieFault::Store)) => {
             return Err((store, OpenStoreFault::Device));
         }
     };
@@ -94,17 +94,17 @@ fn store_behind<S: Store + Drop>(driver: Driver<FileDie<S>>) -> S
 }
 
 // Why there is no disk over a die, and the store that comes back.
-fn unopened<S: Store + Drop>(fault: OpenFault<Driver<FileDie<S>>>) -> (S, OpenStoreFault)
+fn unopened<S: Store + Drop>(fault: OpenDieFault<Driver<FileDie<S>>>) -> (S, OpenStoreFault)
     ensures store { result.0 ≡ (nand_of fault).bus.store }
     ensures geometry { S.honest (nand_of fault).bus.store ≡ true → (S.held result.0).geometry ≡ (nand_of fault).geometry }
     ensures why { result.1 ≡ why_of fault }
 {
     match fault {
-        OpenFault::Refused { refusal, nand } => (
+        OpenDieFault::Refused { refusal, nand } => (
             store_behind(nand),
             OpenStoreFault::Mount(refusal),
         ),
-        OpenFault::Start { nand } => (store_behind(nand), OpenStoreFault::OutOfMemory),
+        OpenDieFault::Start { nand } => (store_behind(nand), OpenStoreFault::OutOfMemory),
     }
 }
 

@@ -10,7 +10,7 @@ use crate::reading::ReadOnlyDisk;
 use crate::sector_disk::SectorDisk;
 use crate::sectors::{Lasting, Sectors};
 use crate::synced::{SyncedDisk, Syncs};
-use nbd_stream::{End, Export, serve};
+use nbd_stream::{Export, StreamEnd, serve};
 use request_stream::ServeFault;
 use std::io::{Read, Write};
 
@@ -49,7 +49,7 @@ pub fn serve_synced<S: Lasting, Y: Syncs, R: Read, W: Write>(
     buffer: &mut [u8],
     reader: &mut R,
     writer: &mut W,
-) -> Result<End, ServeFault>
+) -> Result<StreamEnd, ServeFault>
     requires room { offer.maximum ≤ length buffer.old }
     ensures { Serves (λ s. S.contents s.disk) (λ s. S.honest s.disk) (λ _. false)
         (SyncsTask (AsksSectors S.contents S.honest S.reads S.flushes) Y.synced Y.failed Y.marked S.next) (RestsSynced S.rests)
@@ -72,7 +72,7 @@ pub fn serve_reading<S: Sectors, R: Read, W: Write>(
     buffer: &mut [u8],
     reader: &mut R,
     writer: &mut W,
-) -> Result<End, ServeFault>
+) -> Result<StreamEnd, ServeFault>
     requires room { offer.maximum ≤ length buffer.old }
     requires read_only { offer.read_only ≡ true }
     ensures serves { Serves S.contents S.honest (λ _. false) (OnlyAsksReads S.reads) RestsNever

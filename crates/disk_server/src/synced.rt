@@ -2,14 +2,14 @@
 ghost use Rattle.std.specs.Prelude.{◌≡◌, ◌<◌, ◌^◌};
 ghost use Rattle.disk_server.specs.Synced.{touched};
 
-use crate::mark::Mark;
+use crate::mark::SyncMark;
 use nbd_stream::{Disk, DiskFault, Task};
 
 /// A way to make last what was written, beside the disk that writes it, as a second handle of one file; and to keep a mark of what was. (This project's.)
 pub trait Syncs {
     ghost use Rattle.std.specs.Prelude.{◌≡◌, ℕ, IfErr, OnOk, OnErr};
     ghost use Rattle.page_layout.specs.Counter.{HasRisen, counted};
-    ghost use Rattle.disk_server.specs.declared.mark.Mark.{Mark};
+    ghost use Rattle.disk_server.specs.declared.mark.SyncMark.{SyncMark};
     ghost use Rattle.disk_server.specs.Synced.{after_sync};
 
     /// How many syncs were done.
@@ -19,7 +19,7 @@ pub trait Syncs {
     ghost failed: { Self → ℕ };
 
     /// The mark as of the last sync that was done. It is kept where it may be, and that it is lasts no longer than the next sync: the mark that is found later is this one or an earlier one.
-    ghost marked: { Self → Mark };
+    ghost marked: { Self → SyncMark };
 
     /// Makes last what was written, and then keeps the mark of it: this sequence is the one of the next page, and the disk was flushed before or not.
     ///
@@ -36,7 +36,7 @@ pub trait Syncs {
         ensures fault { IfErr result (λ e. e ≡ DiskFault.Failed) };
 
     /// The mark.
-    fn mark(&self) -> Mark
+    fn mark(&self) -> SyncMark
         ensures { result ≡ marked self.now };
 }
 

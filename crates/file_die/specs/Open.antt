@@ -7,8 +7,8 @@ use Rattle.page_layout.specs.Counter.{HasRisen}
 use Rattle.onfi_cycles.specs.Cycles.{Unreset}
 use Rattle.nand_die.specs.Made.{IsFirstMisnamed}
 use Rattle.file_die.specs.declared.die.SyncWhen.{SyncWhen}
-use Rattle.file_die.specs.declared.open.OpenFault.{OpenFault}
-use Rattle.file_die.specs.declared.open.OpenFault.TheVariants.{OutOfMemory, BadBlock, Store}
+use Rattle.file_die.specs.declared.open.OpenDieFault.{OpenDieFault}
+use Rattle.file_die.specs.declared.open.OpenDieFault.TheVariants.{OutOfMemory, BadBlock, Store}
 use Rattle.file_die.specs.Store.{Held}
 use Rattle.file_die.specs.Die.{FileState}
 
@@ -31,17 +31,17 @@ pub record OnlyLooks {S : Type 0} (held : S → Held) (honest : S → Bool) (old
   pub as_honest : honest new ≡ honest old
 
 -- the store's count of failures: it rose where a load failed, and there alone
-abbrev pub CountsAs : OpenFault → ℕ → ℕ → Type 0
+abbrev pub CountsAs : OpenDieFault → ℕ → ℕ → Type 0
 CountsAs OutOfMemory old new = new ≡ old
 CountsAs (BadBlock block) old new = new ≡ old
 CountsAs Store old new = HasRisen old new
 
-abbrev pub Counts : {A : Type 0} → Result A OpenFault → ℕ → ℕ → Type 0
+abbrev pub Counts : {A : Type 0} → Result A OpenDieFault → ℕ → ℕ → Type 0
 Counts (Ok x) old new = new ≡ old
 Counts (Err fault) old new = CountsAs fault old new
 
 -- the fault says which block is misnamed
-abbrev pub IsCause : Geometry → List ℕ → OpenFault → Type 0
+abbrev pub IsCause : Geometry → List ℕ → OpenDieFault → Type 0
 IsCause g bad OutOfMemory = Unit {0}
 IsCause g bad (BadBlock block) = IsFirstMisnamed g bad block
 IsCause g bad Store = Unit {0}

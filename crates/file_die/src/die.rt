@@ -9,7 +9,7 @@ ghost use Rattle.nand_die.specs.Made.{AreNames, first_turns, next_in};
 ghost use Rattle.file_die.specs.Open.{fresh, OnlyLooks, IsCause, CountsAs};
 
 use crate::asks;
-use crate::open::{OpenFault, Parts, parts_of};
+use crate::open::{OpenDieFault, Parts, parts_of};
 use crate::output::put_out_at;
 use crate::store::Store;
 use nand_die::{
@@ -88,7 +88,7 @@ impl<S: Store> FileDie<S> {
         store: S,
         bad: &[u32],
         sync_when: SyncWhen,
-    ) -> Result<FileDie<S>, (S, OpenFault)>
+    ) -> Result<FileDie<S>, (S, OpenDieFault)>
         ensures fresh { IfOk result (λ die. die ≡ fresh die.store (S.held store).geometry die.turns sync_when) }
         ensures turns { IfOk result (λ die. S.honest store ≡ true → die.turns ≡ first_turns (S.held store).geometry (next_in (S.held store).geometry (S.held store).pages) bad.now) }
         ensures named { OnOk result (AreNames (S.held store).geometry bad.now) }

@@ -16,12 +16,12 @@ use std::alloc::Global;
 /// The pages of a die in a file, one behind another in row order, each its data area and then its spare area. It keeps them just where the file keeps its
 /// bytes. (This project's.)
 #[derive(Drop)]
-pub struct FileStore<F: ByteFile> {
+pub struct DieFile<F: ByteFile> {
     rows: RowFile<F>,
     ghost sized: { rows.size ≡ page_bytes rows.geometry },
 }
 
-impl<F: ByteFile> FileStore<F> {
+impl<F: ByteFile> DieFile<F> {
     ghost use Rattle.file_die.specs.Rows.{is_kept};
 
     /// A store over a file that is open for reading and writing, in which what stands is made to last first. It holds one erased block in memory. No page is read.
@@ -31,7 +31,7 @@ impl<F: ByteFile> FileStore<F> {
     /// - `OutOfMemory` where there is no memory for a block.
     /// - `Length` where the file has not as many bytes as all pages.
     /// - `File` where the file did not tell its length, or the sync failed.
-    pub fn new(alloc: Global, geometry: Geometry, file: F) -> Result<FileStore<F>, RowFault>
+    pub fn new(alloc: Global, geometry: Geometry, file: F) -> Result<DieFile<F>, RowFault>
     where
         F: Drop,
         ensures made { IfOk result (λ store. (store.rows.geometry ≡ geometry) × (store.rows.failures ≡ 0) × (store.rows.fault ≡ None) × (store.rows.full ≡ false)) }
@@ -41,7 +41,7 @@ impl<F: ByteFile> FileStore<F> {
         ensures length { IfErr result (λ fault. (n : ℕ) → fault ≡ RowFault.Length n → F.honest file ≡ true → (n ≡ length (F.held file).bytes) × (n ≢ row_count geometry * page_bytes geometry)) }
     {
         let rows = RowFile::new(alloc, geometry, page_length(&geometry) as u32, file)?;
-        Ok(FileStore { rows })
+        Ok(DieFile { rows })
     }
 
     /// Whether its last call was a change that failed for want of room in the file, where no sync has failed.
@@ -64,12 +64,12 @@ impl<F: ByteFile> FileStore<F> {
     pub fn into_file(self) -> F
         ensures { result ≡ self.rows.file }
     {
-        let FileStore { rows } = self;
+        let DieFile { rows } = self;
         rows.into_file()
     }
 }
 
-impl<F: ByteFile> Store for FileStore<F> {
+impl<F: ByteFile> Store for DieFile<F> {
     ghost use Rattle.file_die.specs.Rows.{held_in, is_kept};
 
     ghost held = { λ s. held_in F.held (page_of s.rows.geometry) s.rows };

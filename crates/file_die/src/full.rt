@@ -2,7 +2,7 @@
 ghost use Rattle.std.specs.Prelude.{◌≡◌, false};
 
 use crate::bytes::ByteFile;
-use crate::file_store::FileStore;
+use crate::file_store::DieFile;
 use crate::memory_store::MemoryStore;
 
 /// A store that tells whether there is no room for what it was given. (This project's.)
@@ -17,7 +17,7 @@ pub trait TellsFull {
         ensures { result ≡ full self.now };
 }
 
-impl<F: ByteFile> TellsFull for FileStore<F> {
+impl<F: ByteFile> TellsFull for DieFile<F> {
     ghost full = { λ s. s.rows.full };
 
     fn is_full(&self) -> bool {

@@ -3,7 +3,7 @@
 //! - `ByteFile`: a file of bytes. What an honest one keeps is said there; of a file of the system nothing is, and its four bodies are all that is believed.
 //! - `RowFile`: the rows of a die in such a file, by calls that may move less than they are asked to.
 //! - `Store`: the pages of a die, each at its row, and what they would be if the power went now. What each call makes of them.
-//! - `FileStore`: a store over any file of bytes, which keeps its pages just where the file keeps its bytes. `MemoryBytes` is a file in memory.
+//! - `DieFile`: a store over any file of bytes, which keeps its pages just where the file keeps its bytes. `MemoryBytes` is a file in memory.
 //! - `MemoryStore`: a store in memory, which keeps what it is given and never fails.
 //! - `TellsFull`: a store that tells whether there is no room for what it was given.
 //! - `laws`: what the clauses of a store come to, proved.
@@ -29,11 +29,11 @@ mod store;
 pub use blank::erase_all;
 pub use bytes::{ByteFault, ByteFile};
 pub use die::{FileDie, SyncWhen};
-pub use file_store::FileStore;
+pub use file_store::DieFile;
 pub use full::TellsFull;
 pub use memory_bytes::MemoryBytes;
 pub use memory_store::MemoryStore;
 pub use moves::{read_all, write_all};
-pub use open::OpenFault;
+pub use open::OpenDieFault;
 pub use row_file::{RowFault, RowFile};
 pub use store::{Store, StoreFault};

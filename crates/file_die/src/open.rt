@@ -18,7 +18,7 @@ use thiserror::Error;
 
 /// Why a die was not opened. (This project's.)
 #[derive(Clone, Copy, Debug, PartialEq, Eq, Error)]
-pub enum OpenFault {
+pub enum OpenDieFault {
     /// There is no memory for two pages and the turns of the blocks.
     #[error("OutOfMemory")]
     OutOfMemory,
@@ -39,13 +39,13 @@ pub struct Parts {
 }
 
 // A page of bytes FFh.
-fn blank(alloc: Global, geometry: &Geometry) -> Result<Vec<u8>, OpenFault>
+fn blank(alloc: Global, geometry: &Geometry) -> Result<Vec<u8>, OpenDieFault>
     ensures ok { IfOk result (λ bytes. bytes.items ≡ replicate (page_bytes geometry.now) 255) }
-    ensures err { IfErr result (λ fault. fault ≡ OpenFault.OutOfMemory) }
+    ensures err { IfErr result (λ fault. fault ≡ OpenDieFault.OutOfMemory) }
 {
     match vec![in alloc; 0xFF; page_length(geometry)] {
         Ok(page) => Ok(page),
-        Err(_) => Err(OpenFault::OutOfMemory),
+        Err(_) => Err(OpenDieFault::OutOfMemory),
     }
 }
 
@@ -62,14 +62,14 @@ fn turn_from(next: u32) -> BlockTurn
 }
 
 // A turn for each block.
-fn new_turns(alloc: Global, geometry: &Geometry) -> Result<Vec<BlockTurn>, OpenFault>
+fn new_turns(alloc: Global, geometry: &Geometry) -> Result<Vec<BlockTurn>, OpenDieFault>
     ensures ok { IfOk result (λ turns. map turn_of turns.items ≡ first_turns geometry.now (λ block. 0) []) }
     ensures len { IfOk result (λ turns. length turns.items ≡ geometry.now.blocks) }
-    ensures err { IfErr result (λ fault. fault ≡ OpenFault.OutOfMemory) }
+    ensures err { IfErr result (λ fault. fault ≡ OpenDieFault.OutOfMemory) }
 {
     match vec![in alloc; turn_from(0); geometry.blocks() as usize] {
         Ok(turns) => Ok(turns),
-        Err(_) => Err(OpenFault::OutOfMemory),
+        Err(_) => Err(OpenDieFault::OutOfMemory),
     }
 }
 
@@ -79,17 +79,17 @@ fn is_row_erased<S: Store>(
     geometry: &Geometry,
     row: u32,
     page: &mut [u8],
-) -> Result<bool, OpenFault>
+) -> Result<bool, OpenDieFault>
     requires geometry { (S.held store.old).geometry ≡ geometry.now }
     requires in_range { row < row_count geometry.now }
     requires room { length page.old ≡ page_bytes geometry.now }
     ensures erased { IfOk result (λ erased. S.honest store.old ≡ true → erased ≡ is_erased_page (page_in (S.held store.old).pages row)) }
     ensures looks { OnlyLooks S.held S.honest store.old store.new }
     ensures counts { Counts result (S.failed store.old) (S.failed store.new) }
-    ensures err { IfErr result (λ fault. fault ≡ OpenFault.Store) }
+    ensures err { IfErr result (λ fault. fault ≡ OpenDieFault.Store) }
 {
     if load(store, row, page).is_err() {
-        return Err(OpenFault::Store);
+        return Err(OpenDieFault::Store);
     }
     let (body, spare) = page.split_at(geometry.data_bytes());
     Ok(is_erased(body, spare))
@@ -101,7 +101,7 @@ fn next_page<S: Store>(
     geometry: &Geometry,
     block: u32,
     page: &mut [u8],
-) -> Result<u32, OpenFault>
+) -> Result<u32, OpenDieFault>
     requires geometry { (S.held store.old).geometry ≡ geometry.now }
     requires images { S.honest store.old ≡ true → length (S.held store.old).pages ≡ row_count geometry.now }
     requires in_range { block < geometry.now.blocks }
@@ -109,7 +109,7 @@ fn next_page<S: Store>(
     ensures next { IfOk result (λ next. S.honest store.old ≡ true → next ≡ next_in geometry.now (S.held store.old).pages block) }
     ensures looks { OnlyLooks S.held S.honest store.old store.new }
     ensures counts { Counts result (S.failed store.old) (S.failed store.new) }
-    ensures err { IfErr result (λ fault. fault ≡ OpenFault.Store) }
+    ensures err { IfErr result (λ fault. fault ≡ OpenDieFault.Store) }
 {
     let mut next = geometry.pages();
     while next > 0 {
@@ -122,29 +122,29 @@ fn next_page<S: Store>(
 }
 
 // Names a block bad, where it lies in the die and was not named before.
-fn bar(turns: &mut [BlockTurn], block: u32) -> Result<(), OpenFault>
+fn bar(turns: &mut [BlockTurn], block: u32) -> Result<(), OpenDieFault>
     ensures ok { OnOk result ((block < length turns.old) × ((get_or (map turn_of turns.old) block no_turn).barred ≡ false)
         × (map turn_of turns.new ≡ slice_set (map turn_of turns.old) block (barred_turn (get_or (map turn_of turns.old) block no_turn)))) }
-    ensures err { IfErr result (λ fault. (fault ≡ OpenFault.BadBlock block) × ((length turns.old ≤ block) ⊎ ((get_or (map turn_of turns.old) block no_turn).barred ≡ true))) }
+    ensures err { IfErr result (λ fault. (fault ≡ OpenDieFault.BadBlock block) × ((length turns.old ≤ block) ⊎ ((get_or (map turn_of turns.old) block no_turn).barred ≡ true))) }
 {
     if block as usize >= turns.len() {
-        return Err(OpenFault::BadBlock { block });
+        return Err(OpenDieFault::BadBlock { block });
     }
     let turn = &mut turns[block as usize];
     if turn.barred {
-        return Err(OpenFault::BadBlock { block });
+        return Err(OpenDieFault::BadBlock { block });
     }
     turn.barred = true;
     Ok(())
 }
 
 // Names blocks bad.
-fn bar_all(turns: &mut [BlockTurn], geometry: &Geometry, bad: &[u32]) -> Result<(), OpenFault>
+fn bar_all(turns: &mut [BlockTurn], geometry: &Geometry, bad: &[u32]) -> Result<(), OpenDieFault>
     requires blocks { length turns.old ≡ geometry.now.blocks }
     requires fresh { map turn_of turns.old ≡ first_turns geometry.now (λ block. 0) [] }
     ensures turns { OnOk result (map turn_of turns.new ≡ first_turns geometry.now (λ block. 0) bad.now) }
     ensures named { OnOk result (AreNames geometry.now bad.now) }
-    ensures err { IfErr result (λ fault. (block : ℕ) × (fault ≡ OpenFault.BadBlock block) × IsFirstMisnamed geometry.now bad.now block) }
+    ensures err { IfErr result (λ fault. (block : ℕ) × (fault ≡ OpenDieFault.BadBlock block) × IsFirstMisnamed geometry.now bad.now block) }
 {
     for block in bad {
         bar(turns, *block)?;
@@ -158,7 +158,7 @@ fn find_next_pages<S: Store>(
     store: &mut S,
     geometry: &Geometry,
     page: &mut [u8],
-) -> Result<(), OpenFault>
+) -> Result<(), OpenDieFault>
     requires geometry { (S.held store.old).geometry ≡ geometry.now }
     requires images { S.honest store.old ≡ true → length (S.held store.old).pages ≡ row_count geometry.now }
     requires blocks { length turns.old ≡ geometry.now.blocks }
@@ -167,7 +167,7 @@ fn find_next_pages<S: Store>(
         map turn_of turns.new ≡ first_turns geometry.now (next_in geometry.now (S.held store.old).pages) bad) }
     ensures looks { OnlyLooks S.held S.honest store.old store.new }
     ensures counts { Counts result (S.failed store.old) (S.failed store.new) }
-    ensures err { IfErr result (λ fault. fault ≡ OpenFault.Store) }
+    ensures err { IfErr result (λ fault. fault ≡ OpenDieFault.Store) }
 {
     for block in 0..geometry.blocks() {
         turns[block as usize].next = next_page(store, geometry, block, page)?;
@@ -176,12 +176,12 @@ fn find_next_pages<S: Store>(
 }
 
 // Takes memory for what a die holds: of no block anything was asked.
-fn new_parts(alloc: Global, geometry: &Geometry) -> Result<Parts, OpenFault>
+fn new_parts(alloc: Global, geometry: &Geometry) -> Result<Parts, OpenDieFault>
     ensures register { IfOk result (λ parts. parts.register.items ≡ replicate (page_bytes geometry.now) 255) }
     ensures page { IfOk result (λ parts. length parts.page.items ≡ page_bytes geometry.now) }
     ensures blocks { IfOk result (λ parts. length parts.turns.items ≡ geometry.now.blocks) }
     ensures turns { IfOk result (λ parts. map turn_of parts.turns.items ≡ first_turns geometry.now (λ block. 0) []) }
-    ensures err { IfErr result (λ fault. fault ≡ OpenFault.OutOfMemory) }
+    ensures err { IfErr result (λ fault. fault ≡ OpenDieFault.OutOfMemory) }
 {
     Ok(Parts {
         register: blank(alloc, geometry)?,
@@ -196,7 +196,7 @@ pub fn parts_of<S: Store>(
     store: &mut S,
     geometry: &Geometry,
     bad: &[u32],
-) -> Result<Parts, OpenFault>
+) -> Result<Parts, OpenDieFault>
     requires geometry { (S.held store.old).geometry ≡ geometry.now }
     requires images { S.honest store.old ≡ true → length (S.held store.old).pages ≡ row_count geometry.now }
     ensures register { IfOk result (λ parts. parts.register.items ≡ replicate (page_bytes geometry.now) 255) }

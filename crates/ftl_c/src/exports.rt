@@ -9,7 +9,7 @@ ghost use Rattle.ftl_disk.specs.Measures as measured;
 
 use crate::handle::Handle;
 use crate::room::Room;
-use ftl_disk::disk::Disk;
+use ftl_disk::disk::FtlDisk;
 use ftl_disk::look::View;
 use ftl_disk::measures::{Sizes, tell};
 use ftl_disk::shape::Shape;
@@ -37,7 +37,7 @@ pub extern "C" fn ftl_entry_measure(shape: &Shape, sizes: &mut Sizes) -> u32
 pub extern "C" fn ftl_entry_room() -> usize
     ensures { result ≡ type_size disk_row }
 {
-    std::mem::size_of::<Disk>()
+    std::mem::size_of::<FtlDisk>()
 }
 
 /// Makes a disk of this shape in the room, whose die answers at `input` the frames that are written to `output`. Nothing is asked of the die. Else the number of the

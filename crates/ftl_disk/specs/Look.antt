@@ -8,7 +8,7 @@ use Rattle.device_slot.specs.declared.slot.Shortage.{Shortage}
 use Rattle.device_slot.specs.declared.report.Report.{Report}
 use Rattle.device_slot.specs.Slot.{Reports, nand_in}
 use Rattle.ftl_disk.specs.Die.{Die}
-use Rattle.ftl_disk.specs.declared.disk.Disk.{Disk}
+use Rattle.ftl_disk.specs.declared.disk.FtlDisk.{FtlDisk}
 use Rattle.ftl_disk.specs.declared.either.EitherDie.TheVariants.{Plain, Coded}
 use Rattle.ftl_disk.specs.declared.look.Errors.{Errors}
 use Rattle.ftl_disk.specs.declared.look.Lack.{Lack}
@@ -74,7 +74,7 @@ abbrev pub errors_in : Option (Device Die) → Option counted.Errors
 errors_in device = errors_at (nand_in device)
 
 -- A DISK AT ONE MOMENT
-pub record IsViewOf (d : Disk) (v : View) : Type 0 where
+pub record IsViewOf (d : FtlDisk) (v : View) : Type 0 where
   pub errors : TellsErrors (errors_in d.slot.device) v.errors
   pub shape : v.shape ≡ shape_of d.plan
   pub report : Option Report
@@ -85,7 +85,7 @@ pub record IsViewOf (d : Disk) (v : View) : Type 0 where
   pub lack : v.lack ≡ lack_of d.slot.shortage
 
 -- A LOOK: the disk stays
-pub record Looks (was : Disk) (number : ℕ) (view : View) (is : Disk) : Type 0 where
+pub record Looks (was : FtlDisk) (number : ℕ) (view : View) (is : FtlDisk) : Type 0 where
   pub done : number ≡ 0
   pub same : is ≡ was
   pub shows : IsViewOf was view

@@ -8,7 +8,7 @@ use crate::either::EitherDie;
 use crate::plan::Plan;
 use crate::reset::reset;
 use certificate::Certificate;
-use device_slot::Slot;
+use device_slot::DeviceSlot;
 use std::alloc::Global;
 use stream_bus::ChipLink;
 
@@ -28,7 +28,7 @@ pub(crate) fn start_behind<L: ChipLink + Drop>(
     alloc: Global,
     link: L,
     plan: &Plan,
-    slot: &mut Slot<EitherDie<L>>,
+    slot: &mut DeviceSlot<EitherDie<L>>,
 ) -> u32
     requires { LeadsTo L.die L.chip L.honest L.keeps plan.now link }
     ensures { Reaches L.called plan.now link result (slot.new ≡ slot.old)
@@ -46,7 +46,7 @@ pub(crate) fn start_checked_behind<L: ChipLink + Drop>(
     link: L,
     plan: &Plan,
     certificate: &Certificate,
-    slot: &mut Slot<EitherDie<L>>,
+    slot: &mut DeviceSlot<EitherDie<L>>,
 ) -> u32
     requires { LeadsTo L.die L.chip L.honest L.keeps plan.now link }
     ensures { Reaches L.called plan.now link result (slot.new ≡ slot.old)

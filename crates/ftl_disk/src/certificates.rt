@@ -2,14 +2,14 @@
 ghost use Rattle.ftl_disk.specs.Disk.{Certifies, CertifiesDisk, IsCertifying, IsStartingBy, StartsByBytes, StartsCertified};
 
 use crate::behind::{certify_behind, start_checked_behind};
-use crate::disk::{Disk, way_to};
+use crate::disk::{FtlDisk, way_to};
 use crate::measures::certificate_bytes;
 use crate::number::{STARTED, WRONG_SIZE, of_certificate};
 use certificate::{Certificate, read_certificate};
 
 // The certificate of what the die holds is written to `out`.
 #[tactic(auto, using(crate::proofs::DieLemmas::leads))]
-fn certified(disk: &Disk, out: &mut [u8]) -> u32
+fn certified(disk: &FtlDisk, out: &mut [u8]) -> u32
     ensures { CertifiesDisk disk.now out.old result out.new }
 {
     certify_behind(
@@ -21,7 +21,7 @@ fn certified(disk: &Disk, out: &mut [u8]) -> u32
 }
 
 // It is written to `out`, which has to be as long.
-fn put_certificate(disk: &mut Disk, out: &mut [u8]) -> u32
+fn put_certificate(disk: &mut FtlDisk, out: &mut [u8]) -> u32
     ensures { IsCertifying disk.old out.old result out.new disk.new }
 {
     if out.len() as u64 != certificate_bytes(&disk.plan.geometry) {
@@ -31,7 +31,7 @@ fn put_certificate(disk: &mut Disk, out: &mut [u8]) -> u32
 }
 
 /// Writes the certificate of what the die holds.
-pub fn certify(disk: &mut Disk, out: &mut [u8]) -> u32
+pub fn certify(disk: &mut FtlDisk, out: &mut [u8]) -> u32
     ensures { Certifies disk.old out.old result out.new disk.new }
 {
     if disk.slot.is_started() {
@@ -42,7 +42,7 @@ pub fn certify(disk: &mut Disk, out: &mut [u8]) -> u32
 
 // The certificate is held against the die, and the device begins.
 #[tactic(auto, using(crate::proofs::DieLemmas::leads))]
-fn begin_by(disk: &mut Disk, certificate: &Certificate) -> u32
+fn begin_by(disk: &mut FtlDisk, certificate: &Certificate) -> u32
     ensures { IsStartingBy disk.old certificate.now result disk.new }
 {
     start_checked_behind(
@@ -55,7 +55,7 @@ fn begin_by(disk: &mut Disk, certificate: &Certificate) -> u32
 }
 
 // The bytes are read as a certificate first.
-fn begin_certified(disk: &mut Disk, bytes: &[u8]) -> u32
+fn begin_certified(disk: &mut FtlDisk, bytes: &[u8]) -> u32
     ensures { StartsByBytes disk.old bytes.now result disk.new }
 {
     if bytes.len() as u64 != certificate_bytes(&disk.plan.geometry) {
@@ -68,7 +68,7 @@ fn begin_certified(disk: &mut Disk, bytes: &[u8]) -> u32
 }
 
 /// Power comes, and the die has to hold what a certificate says.
-pub fn start_certified(disk: &mut Disk, bytes: &[u8]) -> u32
+pub fn start_certified(disk: &mut FtlDisk, bytes: &[u8]) -> u32
     ensures { StartsCertified disk.old bytes.now result disk.new }
 {
     if disk.slot.is_started() {

@@ -6,7 +6,7 @@ ghost use Rattle.ftl_disk.specs.Dies.{CertifiesBy, IsCertifiedBy, IsFormattedBy,
 use crate::number::{DONE, WRONG_SIZE, of_certificate, of_format, of_power, of_refusal};
 use crate::plan::Plan;
 use certificate::{Certificate, write_certificate};
-use device_slot::{PowerFault, Slot, start, start_checked};
+use device_slot::{DeviceSlot, PowerFault, start, start_checked};
 use ftl_device::Device;
 use mount::{format, mount};
 use onfi_cycles::Nand;
@@ -25,7 +25,7 @@ pub(crate) fn format_over<N: Nand + Drop>(alloc: Global, mut die: N, geometry: &
 }
 
 // The device that power brought stands in the slot; or the number of why there is none comes.
-fn put<N: Nand + Drop>(brought: Result<Device<N>, PowerFault<N>>, slot: &mut Slot<N>) -> u32
+fn put<N: Nand + Drop>(brought: Result<Device<N>, PowerFault<N>>, slot: &mut DeviceSlot<N>) -> u32
     requires { IfOk brought (IsKept N.flash N.honest) }
     ensures { IsPut brought slot.old result slot.new }
 {
@@ -44,7 +44,7 @@ pub(crate) fn start_over<N: Nand + Drop>(
     alloc: Global,
     die: N,
     plan: &Plan,
-    slot: &mut Slot<N>,
+    slot: &mut DeviceSlot<N>,
 ) -> u32
     requires { (N.flash die).geometry ≡ plan.now.geometry }
     ensures { StartsBy N.flash N.honest N.failed plan.now.geometry plan.now.cache die slot.old result slot.new }
@@ -60,7 +60,7 @@ pub(crate) fn start_checked_over<N: Nand + Drop>(
     die: N,
     plan: &Plan,
     certificate: &Certificate,
-    slot: &mut Slot<N>,
+    slot: &mut DeviceSlot<N>,
 ) -> u32
     requires { (N.flash die).geometry ≡ plan.now.geometry }
     ensures { StartsByClaim N.flash N.honest N.failed plan.now.geometry plan.now.cache certificate.now die slot.old result slot.new }

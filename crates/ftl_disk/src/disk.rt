@@ -10,7 +10,7 @@ use crate::either::EitherDie;
 use crate::number::{DONE, STARTED, of_call};
 use crate::plan::Plan;
 use crate::shape::Shape;
-use device_slot::Slot;
+use device_slot::DeviceSlot;
 use page_layout::geometry::Geometry;
 use std::alloc::Global;
 
@@ -19,11 +19,11 @@ pub(crate) type Die = EitherDie<Descriptors>;
 
 /// A disk: what it is made for, the way to its die, and the device while it is started. (This project's.)
 #[derive(Drop)]
-pub struct Disk {
+pub struct FtlDisk {
     pub(crate) alloc: Global,
     pub(crate) plan: Plan,
     pub(crate) link: Descriptors,
-    pub(crate) slot: Slot<Die>,
+    pub(crate) slot: DeviceSlot<Die>,
 }
 
 /// The way to the die of a disk.
@@ -39,7 +39,7 @@ pub(crate) fn way_to(link: &Descriptors, geometry: Geometry) -> Descriptors
 
 /// A disk of this shape over these descriptors, with no device; or the number of the first limit that the shape breaks. Nothing is asked of the
 /// die, and no memory is taken.
-pub fn open(alloc: Global, shape: &Shape, input: i32, output: i32) -> Result<Disk, u32>
+pub fn open(alloc: Global, shape: &Shape, input: i32, output: i32) -> Result<FtlDisk, u32>
     ensures { MatchResult result (Opens shape.now input output) (IsUnplanned shape.now) }
 {
     let plan = match shape.plan() {
@@ -51,17 +51,17 @@ pub fn open(alloc: Global, shape: &Shape, input: i32, output: i32) -> Result<Dis
         output,
         geometry: plan.geometry,
     };
-    Ok(Disk {
+    Ok(FtlDisk {
         alloc,
         plan,
         link,
-        slot: Slot::new(),
+        slot: DeviceSlot::new(),
     })
 }
 
 // Makes the die ready.
 #[tactic(auto, using(crate::proofs::DieLemmas::leads))]
-fn make_ready(disk: &mut Disk) -> u32
+fn make_ready(disk: &mut FtlDisk) -> u32
     ensures { IsFormatting disk.old result disk.new }
 {
     format_behind(
@@ -73,7 +73,7 @@ fn make_ready(disk: &mut Disk) -> u32
 
 // Mounts the die, and begins.
 #[tactic(auto, using(crate::proofs::DieLemmas::leads))]
-fn begin(disk: &mut Disk) -> u32
+fn begin(disk: &mut FtlDisk) -> u32
     ensures { IsStarting disk.old result disk.new }
 {
     start_behind(
@@ -85,7 +85,7 @@ fn begin(disk: &mut Disk) -> u32
 }
 
 /// Makes the die ready, once in its life.
-pub fn format_die(disk: &mut Disk) -> u32
+pub fn format_die(disk: &mut FtlDisk) -> u32
     ensures { Formats disk.old result disk.new }
 {
     if disk.slot.is_started() {
@@ -95,7 +95,7 @@ pub fn format_die(disk: &mut Disk) -> u32
 }
 
 /// Power comes.
-pub fn start(disk: &mut Disk) -> u32
+pub fn start(disk: &mut FtlDisk) -> u32
     ensures { Starts disk.old result disk.new }
 {
     if disk.slot.is_started() {
@@ -105,7 +105,7 @@ pub fn start(disk: &mut Disk) -> u32
 }
 
 /// Power goes: the device is given up, with no flush.
-pub fn stop(disk: &mut Disk) -> u32
+pub fn stop(disk: &mut FtlDisk) -> u32
     ensures { Stops disk.old result disk.new }
 {
     disk.slot.clear();
@@ -113,35 +113,35 @@ pub fn stop(disk: &mut Disk) -> u32
 }
 
 /// Reads a sector.
-pub fn read(disk: &mut Disk, sector: u32, out: &mut [u8]) -> u32
+pub fn read(disk: &mut FtlDisk, sector: u32, out: &mut [u8]) -> u32
     ensures { Reads disk.old sector out.old result out.new disk.new }
 {
     of_call(disk.slot.read(sector, out))
 }
 
 /// Writes a sector.
-pub fn write(disk: &mut Disk, sector: u32, body: &[u8]) -> u32
+pub fn write(disk: &mut FtlDisk, sector: u32, body: &[u8]) -> u32
     ensures { Writes disk.old sector body.now result disk.new }
 {
     of_call(disk.slot.write(sector, body))
 }
 
 /// Trims a sector.
-pub fn trim(disk: &mut Disk, sector: u32) -> u32
+pub fn trim(disk: &mut FtlDisk, sector: u32) -> u32
     ensures { Trims disk.old sector result disk.new }
 {
     of_call(disk.slot.trim(sector))
 }
 
 /// Flushes.
-pub fn flush(disk: &mut Disk) -> u32
+pub fn flush(disk: &mut FtlDisk) -> u32
     ensures { Flushes disk.old result disk.new }
 {
     of_call(disk.slot.flush())
 }
 
 /// An idle moment.
-pub fn turn(disk: &mut Disk) -> u32
+pub fn turn(disk: &mut FtlDisk) -> u32
     ensures { Turns disk.old result disk.new }
 {
     of_call(disk.slot.turn())

@@ -2,13 +2,13 @@
 ghost use Rattle.std.specs.Prelude.{◌≡◌, option_copied};
 ghost use Rattle.ftl_disk.specs.Look.{IsViewOf, IsWorst, Looks, TellsErrors, errors_in, errors_of, lack_of, shape_of, state_of, stop_number};
 
-use crate::disk::{Die, Disk};
+use crate::disk::{Die, FtlDisk};
 use crate::either::EitherDie;
 use crate::number::DONE;
 use crate::plan::Plan;
 use crate::shape::Shape;
 use corrected_nand::ReadErrors;
-use device_slot::{Report, Shortage, Slot};
+use device_slot::{DeviceSlot, Report, Shortage};
 use ftl_device::DeviceFault;
 
 /// How a device stands, as C gets it; all 0 of none. (This project's, as all these.)
@@ -197,7 +197,7 @@ fn errors_of(die: &Die) -> Option<&ReadErrors>
 }
 
 // What was wrong with the reads of a device's die.
-fn errors_in(slot: &Slot<Die>) -> Option<&ReadErrors>
+fn errors_in(slot: &DeviceSlot<Die>) -> Option<&ReadErrors>
     ensures { option_copied result ≡ errors_in slot.now.device }
 {
     match slot.nand() {
@@ -207,7 +207,7 @@ fn errors_in(slot: &Slot<Die>) -> Option<&ReadErrors>
 }
 
 // A disk now.
-fn view_of(disk: &Disk) -> View
+fn view_of(disk: &FtlDisk) -> View
     ensures { IsViewOf disk.now result }
 {
     let report = disk.slot.report();
@@ -223,7 +223,7 @@ fn view_of(disk: &Disk) -> View
 }
 
 /// Sets `view` to how a disk stands, all of one moment. Nothing is asked of the die.
-pub fn look(disk: &mut Disk, view: &mut View) -> u32
+pub fn look(disk: &mut FtlDisk, view: &mut View) -> u32
     ensures { Looks disk.old result view.new disk.new }
 {
     *view = view_of(disk);

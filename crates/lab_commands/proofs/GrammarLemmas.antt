@@ -5,7 +5,7 @@ use Rattle.clap.proofs.OnLiterals.{clap_on_literals}
 use Rattle.clap.specs.Words.{App, is_simple_and_free}
 use Rattle.program_words.specs.declared.met.CommandWords.{CommandWords}
 use Rattle.program_words.specs.declared.met.Met.TheVariants as met
-use Rattle.program_words.specs.declared.met.WordsFault.{WordsFault}
+use Rattle.program_words.specs.declared.met.GrammarFault.{GrammarFault}
 use Rattle.program_words.specs.Met.{IsMet, entries_of}
 use Rattle.program_words.proofs.MetLemmas.{asked_by}
 use Rattle.lab_commands.specs.declared.words.Asked.{Asked}
@@ -34,6 +34,6 @@ command_by (asked.Origin read) g words name given same is at = asked_by IsAt g g
 command_by (asked.Text text) g words name given same is at = absurd at
 
 -- of all that a command with these words may ask for
-pub asked_as : (r : Result Asked WordsFault) (g : App) (words : List (List ℕ)) (name : Bor (List ℕ)) (given : CommandWords) → g ≡ grammar → IsMet g words (met.Command name given) → IfOk r (IsAt name.now (entries_of given)) → IfOk r (IsAsked words)
+pub asked_as : (r : Result Asked GrammarFault) (g : App) (words : List (List ℕ)) (name : Bor (List ℕ)) (given : CommandWords) → g ≡ grammar → IsMet g words (met.Command name given) → IfOk r (IsAt name.now (entries_of given)) → IfOk r (IsAsked words)
 asked_as (Ok found) g words name given same is at = command_by found g words name given same is at
 asked_as (Err fault) g words name given same is at = tt

@@ -8,7 +8,7 @@ ghost use Rattle.lab_commands.specs.declared.words.Asked.{Asked};
 ghost use Rattle.lab_commands.specs.Words.{IsAt, IsOriginAt};
 
 use crate::words::{Asked, Showing, showing_words};
-use program_words::{CommandWords, WordsFault};
+use program_words::{CommandWords, GrammarFault};
 use std::alloc::Global;
 
 /// The words of `origin GEOM OUT DUMP READING READING.. [--until SEQUENCE]`.
@@ -55,17 +55,17 @@ fn origin_others<'a>(found: &CommandWords<'a>, readings: Vec<&'a str>) -> Option
 pub(crate) fn origin_asked<'a>(
     alloc: Global,
     found: &CommandWords<'a>,
-) -> Result<Asked<'a>, WordsFault>
+) -> Result<Asked<'a>, GrammarFault>
     ensures some { IfOk result (IsAt (codes "origin") (entries_of found.now)) }
-    ensures none { result ≡ Err WordsFault.NoSuchCommand → (asked : Asked) → ¬ IsAt (codes "origin") (entries_of found.now) asked }
+    ensures none { result ≡ Err GrammarFault.NoSuchCommand → (asked : Asked) → ¬ IsAt (codes "origin") (entries_of found.now) asked }
 {
     let Some(readings) = reading_words(found) else {
-        return Err(WordsFault::NoSuchCommand);
+        return Err(GrammarFault::NoSuchCommand);
     };
     let mut kept = Vec::new(alloc);
     kept.extend_from_slice(readings)?;
     match origin_others(found, kept) {
         Some(read) => Ok(Asked::Origin(read)),
-        None => Err(WordsFault::NoSuchCommand),
+        None => Err(GrammarFault::NoSuchCommand),
     }
 }

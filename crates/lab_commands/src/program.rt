@@ -20,7 +20,7 @@ use crate::repair::repair_command;
 use crate::survey::survey_command;
 use crate::text::{DONE, LabFault, tell};
 use crate::words::{Asked, parse};
-use program_words::{Grammar, WordsFault};
+use program_words::{Grammar, GrammarFault};
 use std::alloc::Global;
 
 /// The commands that the program has. What the word `report` asks for, and the command `verify`, are of the crate above.
@@ -55,8 +55,8 @@ fn obey<'a, F: LabFiles, W: Output>(
             Ok(()) => Ok(()),
             Err(_) => Err(LabFault::Write("-")),
         },
-        Err(WordsFault::NoSuchCommand) => Err(LabFault::NoSuchCommand),
-        Err(WordsFault::OutOfMemory) => Err(LabFault::OutOfMemory),
+        Err(GrammarFault::NoSuchCommand) => Err(LabFault::NoSuchCommand),
+        Err(GrammarFault::OutOfMemory) => Err(LabFault::OutOfMemory),
     }
 }
 

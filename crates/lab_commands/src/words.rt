@@ -17,7 +17,7 @@ ghost use Rattle.lab_commands.specs.Words.{AreDumpsAt, IsArrayAt, IsAsked, IsAt,
 use crate::arrange_words::{ArrangeWords, arrange_words};
 use crate::grammar::grammar;
 use crate::origin_words::{OriginWords, origin_asked};
-use program_words::{CommandWords, Met, WordsFault, read_words};
+use program_words::{CommandWords, Met, GrammarFault, read_words};
 use std::alloc::Global;
 
 /// How a command tells what it does.
@@ -270,18 +270,18 @@ fn merge_others<'a>(found: &CommandWords<'a>, dumps: Vec<&'a str>) -> Option<Mer
 }
 
 // What the command `merge` asks for, with these words.
-fn merge_asked<'a>(alloc: Global, found: &CommandWords<'a>) -> Result<Asked<'a>, WordsFault>
+fn merge_asked<'a>(alloc: Global, found: &CommandWords<'a>) -> Result<Asked<'a>, GrammarFault>
     ensures some { IfOk result (IsAt (codes "merge") (entries_of found.now)) }
-    ensures none { result ≡ Err WordsFault.NoSuchCommand → (asked : Asked) → ¬ IsAt (codes "merge") (entries_of found.now) asked }
+    ensures none { result ≡ Err GrammarFault.NoSuchCommand → (asked : Asked) → ¬ IsAt (codes "merge") (entries_of found.now) asked }
 {
     let Some(dumps) = dump_words(found) else {
-        return Err(WordsFault::NoSuchCommand);
+        return Err(GrammarFault::NoSuchCommand);
     };
     let mut kept = Vec::new(alloc);
     kept.extend_from_slice(dumps)?;
     match merge_others(found, kept) {
         Some(read) => Ok(Asked::Merge(read)),
-        None => Err(WordsFault::NoSuchCommand),
+        None => Err(GrammarFault::NoSuchCommand),
     }
 }
 
@@ -308,16 +308,16 @@ fn asked_at<'a>(
     alloc: Global,
     name: &str,
     found: &CommandWords<'a>,
-) -> Result<Asked<'a>, WordsFault>
+) -> Result<Asked<'a>, GrammarFault>
     ensures some { IfOk result (IsAt name.now (entries_of found.now)) }
-    ensures none { result ≡ Err WordsFault.NoSuchCommand → (asked : Asked) → ¬ IsAt name.now (entries_of found.now) asked }
+    ensures none { result ≡ Err GrammarFault.NoSuchCommand → (asked : Asked) → ¬ IsAt name.now (entries_of found.now) asked }
 {
     match name {
         "merge" => merge_asked(alloc, found),
         "origin" => origin_asked(alloc, found),
         _ => match other_asked(name, found) {
             Some(asked) => Ok(asked),
-            None => Err(WordsFault::NoSuchCommand),
+            None => Err(GrammarFault::NoSuchCommand),
         },
     }
 }
@@ -329,9 +329,9 @@ fn asked_at<'a>(
 ///
 /// `NoSuchCommand` where `clap` refuses the words for another reason than that they ask for help or the version, or where they name no command
 /// with its words. `OutOfMemory` where a growth was refused.
-pub fn parse<'a>(alloc: Global, words: &'a [&'a str]) -> Result<Asked<'a>, WordsFault>
+pub fn parse<'a>(alloc: Global, words: &'a [&'a str]) -> Result<Asked<'a>, GrammarFault>
     ensures ok { IfOk result (IsAsked (texts words.now)) }
-    ensures none { result ≡ Err WordsFault.NoSuchCommand → IsNoCommand (texts words.now) }
+    ensures none { result ≡ Err GrammarFault.NoSuchCommand → IsNoCommand (texts words.now) }
 {
     match read_words(alloc, &grammar(), words) {
         Ok(Met::Command { name, words }) => asked_at(alloc, name, &words),

@@ -5,7 +5,7 @@ ghost use Rattle.program_words.specs.Met.{entries_of, texts};
 ghost use Rattle.lab_custody.specs.Words.{IsAt, IsCustody, IsVerifyOr, read_of, wrote_of};
 
 use lab_commands::commands_grammar;
-use program_words::{CommandWords, Met, WordsFault, read_words};
+use program_words::{CommandWords, Met, GrammarFault, read_words};
 use std::alloc::{AllocError, Global};
 
 /// The words of `verify REPORT`.
@@ -122,7 +122,7 @@ pub(crate) fn custody_of<'a>(alloc: Global, words: &'a [&'a str]) -> Result<Cust
     match read_words(alloc, &commands_grammar(), words) {
         Ok(Met::Command { name, words }) => asked_at(alloc, name, &words),
         Ok(Met::Text(_)) => Ok(Custody::Plain),
-        Err(WordsFault::NoSuchCommand) => Ok(Custody::Plain),
-        Err(WordsFault::OutOfMemory) => Err(AllocError),
+        Err(GrammarFault::NoSuchCommand) => Ok(Custody::Plain),
+        Err(GrammarFault::OutOfMemory) => Err(AllocError),
     }
 }

@@ -4,17 +4,17 @@ ghost use Rattle.nanddisk.specs.Stores.{IsStoreOf};
 
 use crate::fault::{unread, unwritten};
 use coded_store::{CodedStore, MaybeCoded};
-use disk_commands::{Code, FileFault, Shape, die_bytes};
-use file_die::{ByteFault, FileStore, RowFault};
+use disk_commands::{Code, DiskFileFault, DiskShape, die_bytes};
+use file_die::{ByteFault, DieFile, RowFault};
 use page_layout::geometry::Geometry;
 use std::alloc::Global;
 use std::fs::File;
 
 /// The pages of a die in a file of the system: with their codes, or without.
-pub type DieStore = MaybeCoded<FileStore<File>, File>;
+pub type DieStore = MaybeCoded<DieFile<File>, File>;
 
 /// The same file, if it is as long as a shape says.
-pub fn as_long(file: File, shape: &Shape) -> Result<File, FileFault> {
+pub fn as_long(file: File, shape: &DiskShape) -> Result<File, DiskFileFault> {
     let found = match file.metadata() {
         Ok(metadata) => metadata.len(),
         Err(error) => return Err(unread(error)),
@@ -22,12 +22,12 @@ pub fn as_long(file: File, shape: &Shape) -> Result<File, FileFault> {
     if found == die_bytes(shape) {
         Ok(file)
     } else {
-        Err(FileFault::Length(found))
+        Err(DiskFileFault::Length(found))
     }
 }
 
 /// A second handle of a file, which holds the lock too.
-pub fn second_handle(file: &File) -> Result<File, FileFault> {
+pub fn second_handle(file: &File) -> Result<File, DiskFileFault> {
     match file.try_clone() {
         Ok(own) => Ok(own),
         Err(error) => Err(unread(error)),
@@ -35,30 +35,30 @@ pub fn second_handle(file: &File) -> Result<File, FileFault> {
 }
 
 // Why a file was not taken for the pages of a die. Its length was told before, or given: so it is its first sync that failed.
-fn untaken(fault: RowFault) -> FileFault
-    ensures memory { fault ≡ RowFault.OutOfMemory → result ≡ FileFault.OutOfMemory }
-    ensures length { (n : ℕ) → fault ≡ RowFault.Length n → result ≡ FileFault.Length n }
-    ensures other { (why : ByteFault) → fault ≡ RowFault.File why → result ≡ FileFault.Write }
+fn untaken(fault: RowFault) -> DiskFileFault
+    ensures memory { fault ≡ RowFault.OutOfMemory → result ≡ DiskFileFault.OutOfMemory }
+    ensures length { (n : ℕ) → fault ≡ RowFault.Length n → result ≡ DiskFileFault.Length n }
+    ensures other { (why : ByteFault) → fault ≡ RowFault.File why → result ≡ DiskFileFault.Write }
 {
     match fault {
-        RowFault::OutOfMemory => FileFault::OutOfMemory,
-        RowFault::Length(found) => FileFault::Length(found),
-        RowFault::File(_) => FileFault::Write,
+        RowFault::OutOfMemory => DiskFileFault::OutOfMemory,
+        RowFault::Length(found) => DiskFileFault::Length(found),
+        RowFault::File(_) => DiskFileFault::Write,
     }
 }
 
 // A store of pages without codes.
-fn plain_store(alloc: Global, geometry: &Geometry, file: File) -> Result<DieStore, FileFault>
+fn plain_store(alloc: Global, geometry: &Geometry, file: File) -> Result<DieStore, DiskFileFault>
     ensures { IfOk result (IsStoreOf geometry.now) }
 {
-    match FileStore::new(alloc, *geometry, file) {
+    match DieFile::new(alloc, *geometry, file) {
         Ok(store) => Ok(MaybeCoded::Plain(store)),
         Err(fault) => Err(untaken(fault)),
     }
 }
 
 // A store of pages with their codes.
-fn coded_store(alloc: Global, geometry: &Geometry, file: File) -> Result<DieStore, FileFault>
+fn coded_store(alloc: Global, geometry: &Geometry, file: File) -> Result<DieStore, DiskFileFault>
     ensures { IfOk result (IsStoreOf geometry.now) }
 {
     match CodedStore::new(alloc, *geometry, file) {
@@ -68,7 +68,7 @@ fn coded_store(alloc: Global, geometry: &Geometry, file: File) -> Result<DieStor
 }
 
 /// The store over a file, of the pages of a shape, in which what stands is made to last first.
-pub fn store_over(alloc: Global, shape: &Shape, file: File) -> Result<DieStore, FileFault>
+pub fn store_over(alloc: Global, shape: &DiskShape, file: File) -> Result<DieStore, DiskFileFault>
     ensures { IfOk result (IsStoreOf shape.now.geometry) }
 {
     match shape.code {
@@ -78,7 +78,7 @@ pub fn store_over(alloc: Global, shape: &Shape, file: File) -> Result<DieStore, 
 }
 
 /// The store over an empty file, which is made as long as the pages of a shape are.
-pub fn store_in(alloc: Global, shape: &Shape, file: File) -> Result<DieStore, FileFault>
+pub fn store_in(alloc: Global, shape: &DiskShape, file: File) -> Result<DieStore, DiskFileFault>
     ensures { IfOk result (IsStoreOf shape.now.geometry) }
 {
     match file.set_len(die_bytes(shape)) {

@@ -2,56 +2,56 @@
 ghost use Rattle.std.specs.Prelude.{◌≡◌, ◌≢◌};
 ghost use Rattle.std.specs.IoError.{error_kind};
 
-use disk_commands::FileFault;
+use disk_commands::DiskFileFault;
 use part_files::PartFault;
 use std::io::{Error, ErrorKind};
 
 /// Why a file was not read, by the system's error.
-pub fn unread(error: Error) -> FileFault
-    ensures memory { error_kind error ≡ ErrorKind.OutOfMemory → result ≡ FileFault.OutOfMemory }
-    ensures other { error_kind error ≢ ErrorKind.OutOfMemory → result ≡ FileFault.Read }
+pub fn unread(error: Error) -> DiskFileFault
+    ensures memory { error_kind error ≡ ErrorKind.OutOfMemory → result ≡ DiskFileFault.OutOfMemory }
+    ensures other { error_kind error ≢ ErrorKind.OutOfMemory → result ≡ DiskFileFault.Read }
 {
     if error.kind() == ErrorKind::OutOfMemory {
-        FileFault::OutOfMemory
+        DiskFileFault::OutOfMemory
     } else {
-        FileFault::Read
+        DiskFileFault::Read
     }
 }
 
 /// Why a file was not written.
-pub fn unwritten(error: Error) -> FileFault
-    ensures memory { error_kind error ≡ ErrorKind.OutOfMemory → result ≡ FileFault.OutOfMemory }
-    ensures other { error_kind error ≢ ErrorKind.OutOfMemory → result ≡ FileFault.Write }
+pub fn unwritten(error: Error) -> DiskFileFault
+    ensures memory { error_kind error ≡ ErrorKind.OutOfMemory → result ≡ DiskFileFault.OutOfMemory }
+    ensures other { error_kind error ≢ ErrorKind.OutOfMemory → result ≡ DiskFileFault.Write }
 {
     if error.kind() == ErrorKind::OutOfMemory {
-        FileFault::OutOfMemory
+        DiskFileFault::OutOfMemory
     } else {
-        FileFault::Write
+        DiskFileFault::Write
     }
 }
 
 /// Why a part was not made or named.
-pub fn unmade(fault: PartFault) -> FileFault
-    ensures in_use { fault ≡ PartFault.InUse → result ≡ FileFault.InUse }
-    ensures exists { fault ≡ PartFault.Exists → result ≡ FileFault.Exists }
-    ensures memory { fault ≡ PartFault.OutOfMemory → result ≡ FileFault.OutOfMemory }
-    ensures other { fault ≡ PartFault.Failed → result ≡ FileFault.Write }
+pub fn unmade(fault: PartFault) -> DiskFileFault
+    ensures in_use { fault ≡ PartFault.InUse → result ≡ DiskFileFault.InUse }
+    ensures exists { fault ≡ PartFault.Exists → result ≡ DiskFileFault.Exists }
+    ensures memory { fault ≡ PartFault.OutOfMemory → result ≡ DiskFileFault.OutOfMemory }
+    ensures other { fault ≡ PartFault.Failed → result ≡ DiskFileFault.Write }
 {
     match fault {
-        PartFault::InUse => FileFault::InUse,
-        PartFault::Exists => FileFault::Exists,
-        PartFault::OutOfMemory => FileFault::OutOfMemory,
-        PartFault::Failed => FileFault::Write,
+        PartFault::InUse => DiskFileFault::InUse,
+        PartFault::Exists => DiskFileFault::Exists,
+        PartFault::OutOfMemory => DiskFileFault::OutOfMemory,
+        PartFault::Failed => DiskFileFault::Write,
     }
 }
 
 /// Why it was not seen what stands at a path.
-pub fn unseen(fault: PartFault) -> FileFault
-    ensures memory { fault ≡ PartFault.OutOfMemory → result ≡ FileFault.OutOfMemory }
-    ensures other { fault ≢ PartFault.OutOfMemory → result ≡ FileFault.Read }
+pub fn unseen(fault: PartFault) -> DiskFileFault
+    ensures memory { fault ≡ PartFault.OutOfMemory → result ≡ DiskFileFault.OutOfMemory }
+    ensures other { fault ≢ PartFault.OutOfMemory → result ≡ DiskFileFault.Read }
 {
     match fault {
-        PartFault::OutOfMemory => FileFault::OutOfMemory,
-        PartFault::InUse | PartFault::Exists | PartFault::Failed => FileFault::Read,
+        PartFault::OutOfMemory => DiskFileFault::OutOfMemory,
+        PartFault::InUse | PartFault::Exists | PartFault::Failed => DiskFileFault::Read,
     }
 }

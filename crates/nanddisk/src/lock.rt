@@ -4,7 +4,7 @@ ghost use Rattle.std.specs.Fs.{asks_write};
 ghost use Rattle.nanddisk.specs.Locks.{IsHeld, options_for};
 
 use crate::fault::unread;
-use disk_commands::{Access, FileFault, LockedDie};
+use disk_commands::{Access, DiskFileFault, LockedDie};
 use std::fs::{File, OpenOptions, TryLockError};
 use std::rt::{Clock, Files};
 use std::thread;
@@ -44,7 +44,7 @@ fn options_for(writes: bool) -> OpenOptions
 }
 
 // Locks a file, alone or with others, at once or not at all.
-fn taken(file: &File, alone: bool) -> Result<(), FileFault> {
+fn taken(file: &File, alone: bool) -> Result<(), DiskFileFault> {
     let done = if alone {
         file.try_lock()
     } else {
@@ -52,7 +52,7 @@ fn taken(file: &File, alone: bool) -> Result<(), FileFault> {
     };
     match done {
         Ok(()) => Ok(()),
-        Err(TryLockError::WouldBlock) => Err(FileFault::InUse),
+        Err(TryLockError::WouldBlock) => Err(DiskFileFault::InUse),
         Err(TryLockError::Error(error)) => Err(unread(error)),
     }
 }
@@ -62,7 +62,7 @@ fn locked<R: Files<File = File>>(
     rt: &R,
     path: &str,
     options: OpenOptions,
-) -> Result<LockedFile, FileFault>
+) -> Result<LockedFile, DiskFileFault>
     ensures options { IfOk result (λ l. l.options ≡ options) }
     ensures alone { IfOk result (λ l. l.alone ≡ asks_write options) }
 {
@@ -90,12 +90,12 @@ pub fn lock_die<R: Files<File = File> + Clock>(
     rt: &R,
     path: &str,
     access: Access,
-) -> Result<LockedFile, FileFault>
+) -> Result<LockedFile, DiskFileFault>
     ensures { IfOk result (IsHeld access.writes) }
 {
     for _ in 0..u64::from(access.wait) * TRIES {
         match locked(rt, path, options_for(access.writes)) {
-            Err(FileFault::InUse) => thread::sleep(rt, Duration::from_millis(PAUSE_MILLIS)),
+            Err(DiskFileFault::InUse) => thread::sleep(rt, Duration::from_millis(PAUSE_MILLIS)),
             done => return done,
         }
     }

@@ -10,8 +10,8 @@ mod lock;
 mod part;
 mod system;
 
-use disk_commands::{DiskFault, run, tell};
-use program_words::{WordsFault, word_slices, words_found};
+use disk_commands::{DiskCommandFault, run, tell};
+use program_words::{GrammarFault, word_slices, words_found};
 use std::env;
 use std::fs::File;
 use std::io::{BufReader, BufWriter, Read, Write};
@@ -23,13 +23,13 @@ use system::SystemFiles;
 const BUFFERED: usize = 65_536;
 
 // Why there are no words.
-fn words_fault(fault: WordsFault) -> DiskFault<'static>
-    ensures command { fault ≡ WordsFault.NoSuchCommand → result ≡ DiskFault.NoSuchCommand }
-    ensures memory { fault ≡ WordsFault.OutOfMemory → result ≡ DiskFault.OutOfMemory }
+fn words_fault(fault: GrammarFault) -> DiskCommandFault<'static>
+    ensures command { fault ≡ GrammarFault.NoSuchCommand → result ≡ DiskCommandFault.NoSuchCommand }
+    ensures memory { fault ≡ GrammarFault.OutOfMemory → result ≡ DiskCommandFault.OutOfMemory }
 {
     match fault {
-        WordsFault::NoSuchCommand => DiskFault::NoSuchCommand,
-        WordsFault::OutOfMemory => DiskFault::OutOfMemory,
+        GrammarFault::NoSuchCommand => DiskCommandFault::NoSuchCommand,
+        GrammarFault::OutOfMemory => DiskCommandFault::OutOfMemory,
     }
 }
 
@@ -42,10 +42,10 @@ fn run_over<S: Files<File = File> + AllocGlobal + Clock, I: Read + Drop, O: Writ
     err: &mut E,
 ) -> u8 {
     let Ok(mut reader) = BufReader::with_capacity(system.alloc(), BUFFERED, input) else {
-        return tell(system.alloc(), &DiskFault::OutOfMemory, err);
+        return tell(system.alloc(), &DiskCommandFault::OutOfMemory, err);
     };
     let Ok(mut writer) = BufWriter::with_capacity(system.alloc(), BUFFERED, out) else {
-        return tell(system.alloc(), &DiskFault::OutOfMemory, err);
+        return tell(system.alloc(), &DiskCommandFault::OutOfMemory, err);
     };
     let mut files = SystemFiles::new(system);
     let status = run(
@@ -57,7 +57,7 @@ fn run_over<S: Files<File = File> + AllocGlobal + Clock, I: Read + Drop, O: Writ
         err,
     );
     match writer.flush() {
-        Err(_) if status == 0 => tell(system.alloc(), &DiskFault::Write("-"), err),
+        Err(_) if status == 0 => tell(system.alloc(), &DiskCommandFault::Write("-"), err),
         _ => status,
     }
 }
@@ -75,7 +75,7 @@ fn status_of<
     };
     match word_slices(system.alloc(), &kept) {
         Ok(words) => run_over(system, &words, input, out, err),
-        Err(_) => tell(system.alloc(), &DiskFault::OutOfMemory, err),
+        Err(_) => tell(system.alloc(), &DiskCommandFault::OutOfMemory, err),
     }
 }
 

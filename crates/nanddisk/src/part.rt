@@ -4,7 +4,7 @@ ghost use Rattle.nanddisk.specs.Stores.{IsStoreOf};
 
 use crate::die::DieStore;
 use crate::fault::{unmade, unread, unseen, unwritten};
-use disk_commands::FileFault;
+use disk_commands::DiskFileFault;
 use file_die::Store;
 use page_layout::geometry::Geometry;
 use part_files::{
@@ -27,14 +27,14 @@ pub fn open_dump<R: Files<File = File>>(
     rt: &R,
     dump: &str,
     wanted: u64,
-) -> Result<File, FileFault> {
+) -> Result<File, DiskFileFault> {
     let mut from = match fs::open(rt, dump) {
         Ok(from) => from,
         Err(error) => return Err(unread(error)),
     };
     match length_of(&mut from) {
         Ok(found) if found == wanted => Ok(from),
-        Ok(found) => Err(FileFault::Length(found)),
+        Ok(found) => Err(DiskFileFault::Length(found)),
         Err(error) => Err(unread(error)),
     }
 }
@@ -52,7 +52,7 @@ pub fn put_dump(
     geometry: &Geometry,
     from: File,
     store: DieStore,
-) -> Result<DieStore, FileFault>
+) -> Result<DieStore, DiskFileFault>
     requires { IsStoreOf geometry.now store }
     ensures { IfOk result (IsStoreOf geometry.now) }
 {
@@ -60,19 +60,19 @@ pub fn put_dump(
     let length = geometry.data_bytes() + geometry.spare_bytes();
     let (Ok(mut page), Ok(mut reader)) = (vec![in alloc; 0u8; length], BufReader::new(alloc, from))
     else {
-        return Err(FileFault::OutOfMemory);
+        return Err(DiskFileFault::OutOfMemory);
     };
     for row in 0..geometry.rows() {
         if let Err(error) = reader.read_exact(&mut page) {
             return Err(unread(error));
         }
         if store.put(row, &page).is_err() {
-            return Err(FileFault::Write);
+            return Err(DiskFileFault::Write);
         }
     }
     match store.sync() {
         Ok(()) => Ok(store),
-        Err(_) => Err(FileFault::Write),
+        Err(_) => Err(DiskFileFault::Write),
     }
 }
 
@@ -88,7 +88,7 @@ fn put_both<R: Files<File = File>>(
     pair: &Pair<'_>,
     file: &mut File,
     text: &[u8],
-) -> Result<(), FileFault> {
+) -> Result<(), DiskFileFault> {
     if let Err(error) = put_all(file, text) {
         return Err(unwritten(error));
     }
@@ -104,7 +104,7 @@ pub fn publish<R: Files<File = File>>(
     rt: &R,
     pair: &Pair<'_>,
     text: &[u8],
-) -> Result<(), FileFault> {
+) -> Result<(), DiskFileFault> {
     let mut file = match new_part(&mut SystemNames::new(rt), pair.beside_part) {
         Ok(file) => file,
         Err(fault) => return Err(unmade(fault)),
@@ -117,7 +117,7 @@ pub fn publish<R: Files<File = File>>(
 }
 
 /// The part of a die, empty, open and locked. What a run that was killed has begun here is taken back first.
-pub fn new_die<R: Files<File = File>>(rt: &R, pair: &Pair<'_>) -> Result<File, FileFault> {
+pub fn new_die<R: Files<File = File>>(rt: &R, pair: &Pair<'_>) -> Result<File, DiskFileFault> {
     let mut names = SystemNames::new(rt);
     match clear_begun(&mut names, pair) {
         Ok(()) => {}
@@ -130,7 +130,7 @@ pub fn new_die<R: Files<File = File>>(rt: &R, pair: &Pair<'_>) -> Result<File, F
 }
 
 /// Whether something stands at the path of a die, or beside it. What a run that was killed has begun is nothing.
-pub fn is_taken<R: Files<File = File>>(rt: &R, pair: &Pair<'_>) -> Result<bool, FileFault> {
+pub fn is_taken<R: Files<File = File>>(rt: &R, pair: &Pair<'_>) -> Result<bool, DiskFileFault> {
     let mut names = SystemNames::new(rt);
     let taken = match names.is_there(pair.path) {
         Ok(true) => Ok(true),

@@ -8,7 +8,7 @@ use crate::lists::{FileLists, ListNames};
 use crate::lock::{LockedFile, lock_die};
 use crate::part::{copy_file, is_taken, new_die, open_dump, publish, put_dump};
 use disk_commands::{
-    Access, Code, DiskFiles, FileFault, FileSyncs, FoundMark, MARK_BYTES, MarkFile, Shape,
+    Access, Code, DiskFileFault, DiskFiles, DiskShape, FileSyncs, FoundMark, MARK_BYTES, MarkFile,
     dump_bytes, put_blank,
 };
 use file_die::erase_all;
@@ -53,10 +53,10 @@ fn pair_of<'a>(path: &'a str, names: &'a PathNames) -> Pair<'a> {
 }
 
 // The names that go with a path.
-fn path_names(alloc: Global, path: &str) -> Result<PathNames, FileFault> {
+fn path_names(alloc: Global, path: &str) -> Result<PathNames, DiskFileFault> {
     match try_path_names(alloc, path) {
         Ok(names) => Ok(names),
-        Err(_) => Err(FileFault::OutOfMemory),
+        Err(_) => Err(DiskFileFault::OutOfMemory),
     }
 }
 
@@ -85,9 +85,9 @@ impl<'a, R: Files<File = File> + AllocGlobal> SystemFiles<'a, R> {
     fn keep_part(
         &mut self,
         names: &PathNames,
-        own: Result<File, FileFault>,
-        made: Result<DieStore, FileFault>,
-    ) -> Result<DieStore, FileFault>
+        own: Result<File, DiskFileFault>,
+        made: Result<DieStore, DiskFileFault>,
+    ) -> Result<DieStore, DiskFileFault>
         ensures { IfOk result (λ store. made ≡ Ok store) }
     {
         match (own, made) {
@@ -138,7 +138,7 @@ fn read_if_there<R: Files>(
     rt: &R,
     alloc: Global,
     name: &str,
-) -> Result<Option<Vec<u8>>, FileFault> {
+) -> Result<Option<Vec<u8>>, DiskFileFault> {
     match read_small(rt, alloc, name) {
         Ok(bytes) => Ok(Some(bytes)),
         Err(error) if error.kind() == ErrorKind::NotFound => Ok(None),
@@ -150,7 +150,7 @@ fn read_if_there<R: Files>(
 fn make_mark<R: Files<File = File> + AllocGlobal>(
     rt: &R,
     names: &PathNames,
-) -> Result<(), FileFault> {
+) -> Result<(), DiskFileFault> {
     let part = names.mark_part.as_str();
     let mut file = match new_part(&mut SystemNames::new(rt), part) {
         Ok(file) => file,
@@ -173,7 +173,7 @@ fn make_mark<R: Files<File = File> + AllocGlobal>(
 fn open_mark<R: Files<File = File> + AllocGlobal>(
     rt: &R,
     names: &PathNames,
-) -> Result<Option<File>, FileFault> {
+) -> Result<Option<File>, DiskFileFault> {
     match SystemNames::new(rt).is_there(names.mark.as_str()) {
         Ok(true) => {}
         Ok(false) => match make_mark(rt, names) {
@@ -198,7 +198,7 @@ fn open_mark<R: Files<File = File> + AllocGlobal>(
 }
 
 // A store of erased pages over an empty file.
-fn new_store(alloc: Global, shape: &Shape, file: File) -> Result<DieStore, FileFault>
+fn new_store(alloc: Global, shape: &DiskShape, file: File) -> Result<DieStore, DiskFileFault>
     ensures { IfOk result (IsStoreOf shape.now.geometry) }
 {
     let mut store = match store_in(alloc, shape, file) {
@@ -207,12 +207,17 @@ fn new_store(alloc: Global, shape: &Shape, file: File) -> Result<DieStore, FileF
     };
     match erase_all(&mut store) {
         Ok(()) => Ok(store),
-        Err(_) => Err(FileFault::Write),
+        Err(_) => Err(DiskFileFault::Write),
     }
 }
 
 // A store over an empty file, with the pages of a dump.
-fn copied(alloc: Global, shape: &Shape, mut from: File, file: File) -> Result<DieStore, FileFault>
+fn copied(
+    alloc: Global,
+    shape: &DiskShape,
+    mut from: File,
+    file: File,
+) -> Result<DieStore, DiskFileFault>
     ensures { IfOk result (IsStoreOf shape.now.geometry) }
 {
     match shape.code {
@@ -245,7 +250,7 @@ impl<'a, R: Files<File = File> + AllocGlobal + Clock> DiskFiles for SystemFiles<
 
     ghost opened = { λ _. None };
 
-    fn has(&mut self, path: &str) -> Result<bool, FileFault> {
+    fn has(&mut self, path: &str) -> Result<bool, DiskFileFault> {
         let names = match path_names(self.rt.alloc(), path) {
             Ok(names) => names,
             Err(fault) => return Err(fault),
@@ -259,7 +264,7 @@ impl<'a, R: Files<File = File> + AllocGlobal + Clock> DiskFiles for SystemFiles<
         }
     }
 
-    fn lock(&mut self, path: &str, access: Access) -> Result<LockedFile, FileFault> {
+    fn lock(&mut self, path: &str, access: Access) -> Result<LockedFile, DiskFileFault> {
         lock_die(self.rt, path, access)
     }
 
@@ -268,7 +273,7 @@ impl<'a, R: Files<File = File> + AllocGlobal + Clock> DiskFiles for SystemFiles<
         alloc: Global,
         path: &str,
         _locked: &LockedFile,
-    ) -> Result<Vec<u8>, FileFault> {
+    ) -> Result<Vec<u8>, DiskFileFault> {
         let names = match path_names(alloc, path) {
             Ok(names) => names,
             Err(fault) => return Err(fault),
@@ -279,7 +284,7 @@ impl<'a, R: Files<File = File> + AllocGlobal + Clock> DiskFiles for SystemFiles<
         }
     }
 
-    fn mark_text(&mut self, alloc: Global, path: &str) -> Result<Option<Vec<u8>>, FileFault> {
+    fn mark_text(&mut self, alloc: Global, path: &str) -> Result<Option<Vec<u8>>, DiskFileFault> {
         match path_names(alloc, path) {
             Ok(names) => read_if_there(self.rt, alloc, names.mark.as_str()),
             Err(fault) => Err(fault),
@@ -292,8 +297,8 @@ impl<'a, R: Files<File = File> + AllocGlobal + Clock> DiskFiles for SystemFiles<
         alloc: Global,
         _path: &str,
         locked: LockedFile,
-        shape: &Shape,
-    ) -> Result<(DieStore, FileSyncs<File>), FileFault> {
+        shape: &DiskShape,
+    ) -> Result<(DieStore, FileSyncs<File>), DiskFileFault> {
         let file = match as_long(locked.into_file(), shape) {
             Ok(file) => file,
             Err(fault) => return Err(fault),
@@ -314,7 +319,7 @@ impl<'a, R: Files<File = File> + AllocGlobal + Clock> DiskFiles for SystemFiles<
         path: &str,
         syncs: FileSyncs<File>,
         found: FoundMark,
-    ) -> Result<FileSyncs<File>, FileFault> {
+    ) -> Result<FileSyncs<File>, DiskFileFault> {
         let names = match path_names(alloc, path) {
             Ok(names) => names,
             Err(fault) => return Err(fault),
@@ -328,7 +333,12 @@ impl<'a, R: Files<File = File> + AllocGlobal + Clock> DiskFiles for SystemFiles<
     }
 
     #[tactic(auto, unfolding(file_die::specs::Rows::is_kept))]
-    fn create(&mut self, alloc: Global, path: &str, shape: &Shape) -> Result<DieStore, FileFault> {
+    fn create(
+        &mut self,
+        alloc: Global,
+        path: &str,
+        shape: &DiskShape,
+    ) -> Result<DieStore, DiskFileFault> {
         let names = match path_names(alloc, path) {
             Ok(names) => names,
             Err(fault) => return Err(fault),
@@ -347,9 +357,9 @@ impl<'a, R: Files<File = File> + AllocGlobal + Clock> DiskFiles for SystemFiles<
         &mut self,
         alloc: Global,
         path: &str,
-        shape: &Shape,
+        shape: &DiskShape,
         dump: &str,
-    ) -> Result<DieStore, FileFault> {
+    ) -> Result<DieStore, DiskFileFault> {
         let names = match path_names(alloc, path) {
             Ok(names) => names,
             Err(fault) => return Err(fault),
@@ -367,7 +377,7 @@ impl<'a, R: Files<File = File> + AllocGlobal + Clock> DiskFiles for SystemFiles<
         self.keep_part(&names, own, made)
     }
 
-    fn keep(&mut self, path: &str, _store: DieStore, text: &[u8]) -> Result<(), FileFault> {
+    fn keep(&mut self, path: &str, _store: DieStore, text: &[u8]) -> Result<(), DiskFileFault> {
         let names = match path_names(self.rt.alloc(), path) {
             Ok(names) => names,
             Err(fault) => return Err(fault),
@@ -388,10 +398,15 @@ impl<'a, R: Files<File = File> + AllocGlobal + Clock> DiskFiles for SystemFiles<
         self.part = None;
     }
 
-    fn lost_text(&mut self, alloc: Global, path: &str, most: u64) -> Result<Vec<u8>, FileFault> {
+    fn lost_text(
+        &mut self,
+        alloc: Global,
+        path: &str,
+        most: u64,
+    ) -> Result<Vec<u8>, DiskFileFault> {
         let names = match list_names(alloc, path) {
             Ok(names) => names,
-            Err(_) => return Err(FileFault::OutOfMemory),
+            Err(_) => return Err(DiskFileFault::OutOfMemory),
         };
         match read_front(self.rt, alloc, names.list.as_str(), most) {
             Ok(bytes) => Ok(bytes),
@@ -405,9 +420,9 @@ impl<'a, R: Files<File = File> + AllocGlobal + Clock> DiskFiles for SystemFiles<
         path: &str,
         syncs: &FileSyncs<File>,
         beside: &[u8],
-    ) -> Result<FileLists<'a, R>, FileFault> {
+    ) -> Result<FileLists<'a, R>, DiskFileFault> {
         let (Ok(names), Ok(text)) = (list_names(alloc, path), beside.to_vec(alloc)) else {
-            return Err(FileFault::OutOfMemory);
+            return Err(DiskFileFault::OutOfMemory);
         };
         let die = match second_handle(syncs.die()) {
             Ok(die) => die,

@@ -8,7 +8,7 @@ mod system;
 
 use lab_commands::{LabFault, Output, OutputStream, tell};
 use lab_custody::run;
-use program_words::{WordsFault, word_slices, words_found};
+use program_words::{GrammarFault, word_slices, words_found};
 use std::env;
 use std::fs::File;
 use std::io::{IsTerminal, Write};
@@ -17,13 +17,13 @@ use std::rt::{Env, Files};
 use system::SystemFiles;
 
 // Why there are no words.
-fn words_fault(fault: WordsFault) -> LabFault<'static>
-    ensures command { fault ≡ WordsFault.NoSuchCommand → result ≡ LabFault.NoSuchCommand }
-    ensures memory { fault ≡ WordsFault.OutOfMemory → result ≡ LabFault.OutOfMemory }
+fn words_fault(fault: GrammarFault) -> LabFault<'static>
+    ensures command { fault ≡ GrammarFault.NoSuchCommand → result ≡ LabFault.NoSuchCommand }
+    ensures memory { fault ≡ GrammarFault.OutOfMemory → result ≡ LabFault.OutOfMemory }
 {
     match fault {
-        WordsFault::NoSuchCommand => LabFault::NoSuchCommand,
-        WordsFault::OutOfMemory => LabFault::OutOfMemory,
+        GrammarFault::NoSuchCommand => LabFault::NoSuchCommand,
+        GrammarFault::OutOfMemory => LabFault::OutOfMemory,
     }
 }
 

@@ -3,9 +3,9 @@ use Rattle.std.proofs.Common.{◌≡◌, ◌≤◌, ◌+◌, ◌==◌, ℕ, Bool
 use Rattle.std.specs.Prelude.{if◌then◌else◌}
 use Rattle.nbd_stream.specs.declared.export.Export.{Export}
 use Rattle.nbd_stream.specs.declared.reply.RequestError.TheVariants.{Invalid, NoSpace}
-use Rattle.nbd_stream.specs.declared.request.Header.{Header}
-use Rattle.nbd_stream.specs.declared.task.Command.{Command}
-use Rattle.nbd_stream.specs.declared.task.Command.TheVariants as command
+use Rattle.nbd_stream.specs.declared.request.NbdHeader.{NbdHeader}
+use Rattle.nbd_stream.specs.declared.task.NbdCommand.{NbdCommand}
+use Rattle.nbd_stream.specs.declared.task.NbdCommand.TheVariants as command
 use Rattle.nbd_stream.specs.declared.task.Task.{Task}
 use Rattle.nbd_stream.specs.declared.task.Task.TheVariants.{Read, Write, Flush, Trim, WriteZeroes}
 use Rattle.nbd_stream.specs.Frames.{Request, IsRequest, body_length}
@@ -30,7 +30,7 @@ room_for e (WriteZeroes o n d) room is le = omega arith
 
 -- ---- as many bytes as follow the header
 
-writes : Option Command → Bool
+writes : Option NbdCommand → Bool
 writes None = false
 writes (Some command.Read) = false
 writes (Some command.Write) = true
@@ -62,7 +62,7 @@ no_body code count e = ap (λ (b : Bool). if b then count else 0) (sym e)
 its_body : (code count : ℕ) → (code == 1) ≡ true → count ≡ body_length code count
 its_body code count e = ap (λ (b : Bool). if b then count else 0) (sym e)
 
-taken_by : (k : Option Command) (e : Export) (h : Header) (task : Task) → (h.code == 1) ≡ writes k → admitted_by k e h ≡ Ok task → count_taken task ≡ body_length h.code h.count
+taken_by : (k : Option NbdCommand) (e : Export) (h : NbdHeader) (task : Task) → (h.code == 1) ≡ writes k → admitted_by k e h ≡ Ok task → count_taken task ≡ body_length h.code h.count
 unfolding writes
 taken_by None e h task code is = (let no : ⊥ = cc in absurd no)
 taken_by (Some command.Disconnect) e h task code is = (let no : ⊥ = cc in absurd no)

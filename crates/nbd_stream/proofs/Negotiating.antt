@@ -9,11 +9,11 @@ use Rattle.request_stream.specs.declared.reply.ServeFault.{ServeFault}
 use Rattle.request_stream.specs.declared.reply.ServeFault.TheVariants as fault
 use Rattle.nbd_stream.specs.declared.export.Export.{Export}
 use Rattle.nbd_stream.specs.declared.answer.Answer.{Answer}
-use Rattle.nbd_stream.specs.declared.answer.Step.{Step}
-use Rattle.nbd_stream.specs.declared.answer.Step.TheVariants.{More}
+use Rattle.nbd_stream.specs.declared.answer.AnswerStep.{AnswerStep}
+use Rattle.nbd_stream.specs.declared.answer.AnswerStep.TheVariants.{More}
 use Rattle.nbd_stream.specs.declared.option.OptionHeader.{OptionHeader}
 use Rattle.nbd_stream.specs.declared.option.NextOption.TheVariants as next
-use Rattle.nbd_stream.specs.declared.request.End.{End}
+use Rattle.nbd_stream.specs.declared.request.StreamEnd.{StreamEnd}
 use Rattle.nbd_stream.specs.declared.negotiation.Negotiated.{Negotiated}
 use Rattle.nbd_stream.specs.declared.negotiation.Negotiated.TheVariants.{Ended}
 use Rattle.nbd_stream.specs.Options.{Asked, IsData, IsOption, ReadsOption, answer_bytes, answer_of, asked, option_bytes, reply_to, step_after, step_of}
@@ -30,7 +30,7 @@ module _ (e : Export) (no_zeroes : Bool) (limit : ℕ) (u v b : Option (List ℕ
   next_unread f (is, tail, begins, read) =
       subst (λ k. AnswersNext e no_zeroes limit u v b b (Err k)) (sym is) (record { tail = tail; is = begins; read = read; kept = refl })
 
-  pub next_ended : (end : End) → ReadsOption u v buffer (Ok (next.Ended end)) → AnswersNext e no_zeroes limit u v b b (Ok (Some (Ended end)))
+  pub next_ended : (end : StreamEnd) → ReadsOption u v buffer (Ok (next.Ended end)) → AnswersNext e no_zeroes limit u v b b (Ok (Some (Ended end)))
   next_ended end (tail, rests, read) = inr (record { tail = tail; is = rests; read = read; kept = refl })
 
   module _ (a : Option (List ℕ)) (h : OptionHeader) (answer : Answer) (whole : ReadsOption u v buffer (Ok (next.Whole h))) (answers : Answering limit buffer h answer) where
@@ -44,7 +44,7 @@ module _ (e : Export) (no_zeroes : Bool) (limit : ℕ) (u v b : Option (List ℕ
           written = subst (λ (x : Answer). AppendsFront b a (answer_bytes e no_zeroes h.code x)) due front;
         })
 
-    pub next_sent : (step : Step) → Appends b a (answer_bytes e no_zeroes h.code answer) → step ≡ step_after h.code answer → HasAnswered e no_zeroes limit u v (Appends b a) step
+    pub next_sent : (step : AnswerStep) → Appends b a (answer_bytes e no_zeroes h.code answer) → step ≡ step_after h.code answer → HasAnswered e no_zeroes limit u v (Appends b a) step
     next_sent step wrote follows =
         let due = answers whole.0 whole.1 in
         record {

@@ -11,8 +11,8 @@ use Rattle.nbd_stream.specs.Options.{IsOption, IsCutOption, IsData, SpellsOption
 use Rattle.nbd_stream.specs.declared.option.OptionHeader.{OptionHeader}
 use Rattle.nbd_stream.specs.declared.option.NextOption.{NextOption}
 use Rattle.nbd_stream.specs.declared.option.NextOption.TheVariants as next
-use Rattle.nbd_stream.specs.declared.request.End.{End}
-use Rattle.nbd_stream.specs.declared.request.End.TheVariants.{Unfinished}
+use Rattle.nbd_stream.specs.declared.request.StreamEnd.{StreamEnd}
+use Rattle.nbd_stream.specs.declared.request.StreamEnd.TheVariants.{Unfinished}
 use Rattle.nbd_stream.proofs.Parsing.{cells_4}
 
 -- "IHAVEOPT"
@@ -61,7 +61,7 @@ after_option h u m v buffer bytes (Ok (next.Ended e)) long spells first (is, (pa
     let some : 0 < length (bytes ++ part) = omega (arith, length-append bytes part) in
     let cut : IsCutOption h.code h.count part (bytes ++ part) = record { code_fits = spells.code; count_fits = spells.count; short = short; whole = ap (λ l. l ++ part) spells.whole } in
     let rests : OptionRests Unfinished (bytes ++ part) v = (some, inr (h.code, h.count, part, cut), ended) in
-    subst (λ (x : End). ReadsOption u v buffer (Ok (next.Ended x))) (sym is) (bytes ++ part, rests, Consumes-trans u m v bytes part first more)
+    subst (λ (x : StreamEnd). ReadsOption u v buffer (Ok (next.Ended x))) (sym is) (bytes ++ part, rests, Consumes-trans u m v bytes part first more)
 after_option h u m v buffer bytes (Err e) long spells first (is, part, short, more) =
     let cut : IsCutOption h.code h.count part (bytes ++ part) = record { code_fits = spells.code; count_fits = spells.count; short = short; whole = ap (λ l. l ++ part) spells.whole } in
     (is, bytes ++ part, inr (h.code, h.count, part, cut), Consumes-trans u m v bytes part first more)

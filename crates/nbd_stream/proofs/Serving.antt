@@ -12,10 +12,10 @@ use Rattle.request_stream.proofs.Writing.{front_more}
 use Rattle.nbd_stream.specs.declared.export.Export.{Export}
 use Rattle.nbd_stream.specs.declared.fault.DiskFault.{DiskFault}
 use Rattle.nbd_stream.specs.declared.reply.RequestError.{RequestError}
-use Rattle.nbd_stream.specs.declared.request.Header.{Header}
-use Rattle.nbd_stream.specs.declared.request.End.{End}
-use Rattle.nbd_stream.specs.declared.request.End.TheVariants.{Boundary, Unfinished, BadFrame, Disconnected}
-use Rattle.nbd_stream.specs.declared.request.Next.TheVariants as next
+use Rattle.nbd_stream.specs.declared.request.NbdHeader.{NbdHeader}
+use Rattle.nbd_stream.specs.declared.request.StreamEnd.{StreamEnd}
+use Rattle.nbd_stream.specs.declared.request.StreamEnd.TheVariants.{Boundary, Unfinished, BadFrame, Disconnected}
+use Rattle.nbd_stream.specs.declared.request.NextRequest.TheVariants as next
 use Rattle.nbd_stream.specs.declared.task.Task.{Task}
 use Rattle.nbd_stream.specs.Frames.{Request, IsRequest, IsRest, ReadsRequest, Rests, Splits, is_header, is_end, reply_bytes, reply_header_bytes, request_at, request_bytes}
 use Rattle.nbd_stream.specs.Tasks.{admitted, asks_change}
@@ -40,14 +40,14 @@ module _ {D : Type 0} (contents : D → Contents) (honest calm : D → Bool) (do
   asked_of k old new x = TellsBy contents honest calm does k old x new
 
   -- it was refused
-  pub refused : (old : D) (h : Header) (body : List ℕ) (error : RequestError) (b a : Option (List ℕ)) (result : Result (Unit {0}) ServeFault) → admitted e h ≡ Err error
+  pub refused : (old : D) (h : NbdHeader) (body : List ℕ) (error : RequestError) (b a : Option (List ℕ)) (result : Result (Unit {0}) ServeFault) → admitted e h ≡ Err error
       → Sends b a (reply_bytes h.cookie (refusal error) []) result → Replies contents honest calm does e old (request_at h body) old b a result
   unfolding asked_of
   refused old h body error b a result is sends =
       let x : Exchange = record { request = request_at h body; answer = Err error } in
       record { exchange = x; request_is = refl; tells = subst (λ k. asked_of k old old x) (sym is) (refl, refl); sends = sends }
 
-  module _ (old new : D) (h : Header) (task : Task) (body buffer : List ℕ) (b a : Option (List ℕ)) (result : Result (Unit {0}) ServeFault)
+  module _ (old new : D) (h : NbdHeader) (task : Task) (body buffer : List ℕ) (b a : Option (List ℕ)) (result : Result (Unit {0}) ServeFault)
       (is : admitted e h ≡ Ok task) (request : IsRequest (request_at h body)) (stands : length body ≤ length buffer → body ≡ take (length body) buffer) (room : e.maximum ≤ length buffer) where
     -- the bytes that the disk took are those of the request
     body_is : take (count_taken task) buffer ≡ body
@@ -85,7 +85,7 @@ module _ {D : Type 0} (contents : D → Contents) (honest calm : D → Bool) (do
 module _ {D : Type 0} (contents : D → Contents) (honest calm : D → Bool) (does : D → Task → Result (Unit {0}) DiskFault → D → Type 0) (rests : D → Result (Unit {0}) DiskFault → D → Type 0) (e : Export) where
   -- ---- the next request
 
-  module _ (old new : D) (u v b a : Option (List ℕ)) (h : Header) (body : List ℕ) (is : IsRequest (request_at h body)) (read : Consumes u v (request_bytes (request_at h body))) where
+  module _ (old new : D) (u v b a : Option (List ℕ)) (h : NbdHeader) (body : List ℕ) (is : IsRequest (request_at h body)) (read : Consumes u v (request_bytes (request_at h body))) where
     served : (writes : List ℕ → Type 0) (rested : Round → Type 0) (x : Round) → x.exchange.request ≡ request_at h body → TellsRound contents honest calm does rests e old x new → writes (reply_in x.exchange) → rested x
         → HasServed contents honest calm does rests e old new u v writes rested
     served writes rested x same tells wrote is_rested = record {
@@ -117,7 +117,7 @@ module _ {D : Type 0} (contents : D → Contents) (honest calm : D → Bool) (do
         (served (AppendsFront b a) (λ (y : Round). y.rested ≡ None) x replies.request_is tells replies.sends.1 refl)
 
   module _ (old : D) (u v b : Option (List ℕ)) (buffer : List ℕ) where
-    pub next_ended : (end : End) → ReadsRequest u v buffer (Ok (next.Ended end)) → ServesNext contents honest calm does rests e old old u v b b (Ok (Some end))
+    pub next_ended : (end : StreamEnd) → ReadsRequest u v buffer (Ok (next.Ended end)) → ServesNext contents honest calm does rests e old old u v b b (Ok (Some end))
     next_ended end (tail, rests, read) = record { tail = tail; is = rests; read = read; same = refl; kept = refl }
 
     pub next_unread : (f : ServeFault) → ReadsRequest u v buffer (Err f) → ServesNext contents honest calm does rests e old old u v b b (Err f)
@@ -194,7 +194,7 @@ module _ {D : Type 0} (contents : D → Contents) (honest calm : D → Bool) (do
 
   module _ (old now : D) (u v : Option (List ℕ)) (writes : List ℕ → Type 0) (rested : List Round → Type 0) (so_far : IsServing old now u v writes rested) where
     -- what was served until now, with these bytes read and written
-    pub transmitted : (new : D) (w b a : Option (List ℕ)) (result : Result End ServeFault) → new ≡ now → Rested e so_far.rounds result → Carries u w b a (exchanges_in so_far.rounds) result
+    pub transmitted : (new : D) (w b a : Option (List ℕ)) (result : Result StreamEnd ServeFault) → new ≡ now → Rested e so_far.rounds result → Carries u w b a (exchanges_in so_far.rounds) result
         → Transmits contents honest calm does rests e old new u w b a result
     transmitted new w b a result same has_rested stream = record {
       rounds = so_far.rounds;
@@ -225,14 +225,14 @@ module _ {D : Type 0} (contents : D → Contents) (honest calm : D → Bool) (do
     pub counted_out : Transmits contents honest calm does rests e old mid u v b c (Err fault.Read)
     counted_out = transmitted old mid u v (Appends b c) (AreRested e) so_far mid v b c (Err fault.Read) refl so_far.have_rested ([], so_far.read, inl (lit< tt), so_far.written)
 
-    ends_so : (end : End) (tail left : List ℕ) → Rests end tail (Some left) → IsRest end (tail ++ left)
+    ends_so : (end : StreamEnd) (tail left : List ℕ) → Rests end tail (Some left) → IsRest end (tail ++ left)
     ends_so Boundary tail left (nothing, ended) = ap (λ (l : List ℕ). l ++ left) nothing ∙ ended
     ends_so Unfinished tail left (part, ended) = subst (IsRest Unfinished) (sym (ap (λ (l : List ℕ). tail ++ l) ended ∙ append-nil tail)) part
     ends_so BadFrame tail left (long, bad) = (omega (arith, length-append tail left, long), ap is_header (take_at tail left 28 long) ∙ bad)
     ends_so Disconnected tail left (long, good, ends) =
         (omega (arith, length-append tail left, long), ap is_header (take_at tail left 28 long) ∙ good, ap is_end (take_at tail left 28 long) ∙ ends)
 
-    splits_so : (all w : Option (List ℕ)) (end : End) (tail : List ℕ) → Reads all w (requests_in (exchanges_in so_far.rounds)) tail → Rests end tail w → IfSome all (λ input. Splits input (requests_in (exchanges_in so_far.rounds)) end (tail ++ left_of w))
+    splits_so : (all w : Option (List ℕ)) (end : StreamEnd) (tail : List ℕ) → Reads all w (requests_in (exchanges_in so_far.rounds)) tail → Rests end tail w → IfSome all (λ input. Splits input (requests_in (exchanges_in so_far.rounds)) end (tail ++ left_of w))
     splits_so None w end tail reads rest = tt
     splits_so (Some input) None end tail reads rest = absurd reads.bytes
     splits_so (Some input) (Some left) end tail reads rest = record {
@@ -241,7 +241,7 @@ module _ {D : Type 0} (contents : D → Contents) (honest calm : D → Bool) (do
       ends = ends_so end tail left rest;
     }
 
-    pub finished : (new : D) (w a : Option (List ℕ)) (end : End) → ServesNext contents honest calm does rests e mid new v w c a (Ok (Some end)) → Transmits contents honest calm does rests e old new u w b a (Ok end)
+    pub finished : (new : D) (w a : Option (List ℕ)) (end : StreamEnd) → ServesNext contents honest calm does rests e mid new v w c a (Ok (Some end)) → Transmits contents honest calm does rests e old new u w b a (Ok end)
     finished new w a end one =
         let reads = reads_then old mid u v b c so_far w one.tail one.read in
         transmitted old mid u v (Appends b c) (AreRested e) so_far new w b a (Ok end) one.same so_far.have_rested (

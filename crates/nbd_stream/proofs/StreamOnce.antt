@@ -6,8 +6,8 @@ use Rattle.std.specs.List.{flat_map, AllByRecursion}
 use Rattle.std.proofs.lemmas.List.{take_at, drop_at}
 use Rattle.std.proofs.lemmas.Nat.{from_be_bytes-to_be_bytes_2, from_be_bytes-to_be_bytes_4, from_be_bytes-to_be_bytes_8}
 use Rattle.nbd_stream.specs.Frames.{Request, IsHeader, IsRequest, is_header, is_end, request_bytes, body_length, IsBeginning, IsRest, OneWayLaw}
-use Rattle.nbd_stream.specs.declared.request.End.{End}
-use Rattle.nbd_stream.specs.declared.request.End.TheVariants.{Boundary, Unfinished, BadFrame, Disconnected}
+use Rattle.nbd_stream.specs.declared.request.StreamEnd.{StreamEnd}
+use Rattle.nbd_stream.specs.declared.request.StreamEnd.TheVariants.{Boundary, Unfinished, BadFrame, Disconnected}
 
 request : ℕ → ℕ → ℕ → ℕ → ℕ → List ℕ → Request
 request flags code cookie offset count body = record { flags = flags; code = code; cookie = cookie; offset = offset; count = count; body = body }
@@ -76,7 +76,7 @@ not_beginning f more w (inr (h, wh, short, e)) =
     let body : length f.body ≡ body_length f.code f.count = w.body in
     absurd (omega (arith, ap length rest, length-append f.body more, short, long, body))
 
-not_rest : (f : Request) (more : List ℕ) (end : End) → IsRequest f → IsRest end (request_bytes f ++ more) → ⊥
+not_rest : (f : Request) (more : List ℕ) (end : StreamEnd) → IsRequest f → IsRest end (request_bytes f ++ more) → ⊥
 not_rest f more Boundary w e = cc
 not_rest f more Unfinished w h = not_beginning f more w h.1
 not_rest f more BadFrame w h =
@@ -99,7 +99,7 @@ not_end bytes (inl short) long ends = absurd (omega (arith, short, long))
 not_end bytes (inr (h, wh, short, e)) long ends =
     end_code h [] wh (ap (λ l. is_end (take 28 l)) (append-nil (request_bytes h) ∙ sym e) ∙ ends)
 
-same_kind : (bytes : List ℕ) (d e : End) → IsRest d bytes → IsRest e bytes → d ≡ e
+same_kind : (bytes : List ℕ) (d e : StreamEnd) → IsRest d bytes → IsRest e bytes → d ≡ e
 same_kind bytes Boundary Boundary h k = refl
 same_kind bytes Boundary Unfinished h k = absurd (omega (arith, ap length h, k.0))
 same_kind bytes Boundary BadFrame h k = absurd (omega (arith, ap length h, k.0))
@@ -119,7 +119,7 @@ same_kind bytes Disconnected Disconnected h k = refl
 
 -- ---- whole streams
 
-same_split : (fs gs : List Request) (d e : End) (t u : List ℕ) → AllByRecursion IsRequest fs → AllByRecursion IsRequest gs → IsRest d t → IsRest e u
+same_split : (fs gs : List Request) (d e : StreamEnd) (t u : List ℕ) → AllByRecursion IsRequest fs → AllByRecursion IsRequest gs → IsRest d t → IsRest e u
     → flat_map request_bytes fs ++ t ≡ flat_map request_bytes gs ++ u → (fs ≡ gs) × (t ≡ u)
 same_split [] [] d e t u af ag rt ru eq = (refl, eq)
 same_split [] (g ∷ gs) d e t u af ag rt ru eq =

@@ -6,9 +6,9 @@ use Rattle.std.proofs.lemmas.Bool.{cases_lt}
 use Rattle.std.proofs.lemmas.Bool.Decides.{eqb_tells}
 use Rattle.std.specs.List.{flat_map}
 use Rattle.nbd_stream.specs.Frames.{Request, IsRequest, Spells, is_header, is_end, header_bytes, request_bytes, request_at, body_length, IsRest, IsBytes, SplitsSomehow, SomeWayLaw}
-use Rattle.nbd_stream.specs.declared.request.Header.{Header}
-use Rattle.nbd_stream.specs.declared.request.End.{End}
-use Rattle.nbd_stream.specs.declared.request.End.TheVariants.{Boundary, Unfinished, BadFrame, Disconnected}
+use Rattle.nbd_stream.specs.declared.request.NbdHeader.{NbdHeader}
+use Rattle.nbd_stream.specs.declared.request.StreamEnd.{StreamEnd}
+use Rattle.nbd_stream.specs.declared.request.StreamEnd.TheVariants.{Boundary, Unfinished, BadFrame, Disconnected}
 use Rattle.nbd_stream.proofs.Parsing.{spelled, header_in, reads_in}
 use Rattle.nbd_stream.proofs.Reading.{header_is, ends_so}
 
@@ -28,7 +28,7 @@ header_found xs long bytes good =
     spelled front (header_in front) (length-take-le 28 xs long) (small_take 28 xs bytes) magic.0 magic.1 magic.2 magic.3 (reads_in front)
 
 -- a header that does not end the transmission
-goes_on : (xs : List ℕ) (h : Header) → Spells xs h → is_end xs ≡ false → (h.code == 2) ≡ false
+goes_on : (xs : List ℕ) (h : NbdHeader) → Spells xs h → is_end xs ≡ false → (h.code == 2) ≡ false
 goes_on xs h spells more =
     elim (eqb_tells h.code 2) [
       | inl e ↦ let ends = ends_so h xs spells e.1 in (let no : ⊥ = cc in absurd no)
@@ -36,7 +36,7 @@ goes_on xs h spells more =
     ]
 
 -- nothing but a rest
-just_rest : (end : End) (xs : List ℕ) → IsRest end xs → SplitsSomehow xs
+just_rest : (end : StreamEnd) (xs : List ℕ) → IsRest end xs → SplitsSomehow xs
 just_rest end xs is = record { requests = []; end = end; rest = xs; splits = record { whole = refl; each = tt; ends = is } }
 
 short_rest : (xs : List ℕ) → length xs < 28 → SplitsSomehow xs
@@ -44,7 +44,7 @@ short_rest [] h = just_rest Boundary [] refl
 short_rest (c ∷ cs) h = just_rest Unfinished (c ∷ cs) (omega arith, inl h)
 
 module _ (n : ℕ) (more : (ys : List ℕ) → length ys ≤ n → IsBytes ys → SplitsSomehow ys) where
-  with_header : (xs : List ℕ) (h : Header) → 28 ≤ length xs → length xs ≤ suc n → IsBytes xs → Spells (take 28 xs) h → (h.code == 2) ≡ false → SplitsSomehow xs
+  with_header : (xs : List ℕ) (h : NbdHeader) → 28 ≤ length xs → length xs ≤ suc n → IsBytes xs → Spells (take 28 xs) h → (h.code == 2) ≡ false → SplitsSomehow xs
   with_header xs h long bound bytes spells on =
       let rest = drop 28 xs in
       let k = body_length h.code h.count in

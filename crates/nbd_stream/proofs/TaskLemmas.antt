@@ -4,9 +4,9 @@ use Rattle.std.specs.Prelude.{if◌then◌else◌}
 use Rattle.nbd_stream.specs.declared.export.Export.{Export}
 use Rattle.nbd_stream.specs.declared.reply.RequestError.{RequestError}
 use Rattle.nbd_stream.specs.declared.reply.RequestError.TheVariants.{NotPermitted, Invalid, NoSpace}
-use Rattle.nbd_stream.specs.declared.request.Header.{Header}
-use Rattle.nbd_stream.specs.declared.task.Command.{Command}
-use Rattle.nbd_stream.specs.declared.task.Command.TheVariants as command
+use Rattle.nbd_stream.specs.declared.request.NbdHeader.{NbdHeader}
+use Rattle.nbd_stream.specs.declared.task.NbdCommand.{NbdCommand}
+use Rattle.nbd_stream.specs.declared.task.NbdCommand.TheVariants as command
 use Rattle.nbd_stream.specs.declared.task.Task.{Task}
 use Rattle.nbd_stream.specs.declared.task.Task.TheVariants.{Read, Write, Flush, Trim, WriteZeroes}
 use Rattle.nbd_stream.specs.Tasks.{command_from, is_within, is_durable, change_of, admitted_by, HasRange, IsFor, AdmittedLaw}
@@ -31,19 +31,19 @@ at_most m n e = search rules
 pub not_below : (m n : ℕ) → nat_lt m n ≡ false → n ≤ m
 not_below m n e = search rules
 
-range_of : (e : Export) (h : Header) → is_within e h ≡ true → HasRange e h.offset h.count
+range_of : (e : Export) (h : NbdHeader) → is_within e h ≡ true → HasRange e h.offset h.count
 range_of e h is =
     let parts = both (nat_lt 0 h.count) (nat_le (h.offset + h.count) e.size) is in
     record { some = below 0 h.count parts.0; inside = at_most (h.offset + h.count) e.size parts.1 }
 
 -- a change that is asked
-pub record Changes (e : Export) (h : Header) (most : ℕ) (asked task : Task) : Type 0 where
+pub record Changes (e : Export) (h : NbdHeader) (most : ℕ) (asked task : Task) : Type 0 where
   pub same : asked ≡ task
   pub writable : e.read_only ≡ false
   pub range : HasRange e h.offset h.count
   pub few : h.count ≤ most
 
-pub change_sound : (e : Export) (h : Header) (most : ℕ) (past : RequestError) (asked task : Task) → change_of e h most past asked ≡ Ok task → Changes e h most asked task
+pub change_sound : (e : Export) (h : NbdHeader) (most : ℕ) (past : RequestError) (asked task : Task) → change_of e h most past asked ≡ Ok task → Changes e h most asked task
 change_sound e h most past asked task is =
     let a = err_if e.read_only NotPermitted _ task is in
     let b = err_if (h.count == 0) Invalid _ task a.1 in
@@ -51,7 +51,7 @@ change_sound e h most past asked task is =
     let d = ok_if (is_within e h) asked past task c.1 in
     record { same = d.1; writable = a.0; range = range_of e h d.0; few = not_below most h.count c.0 }
 
-by_command : (command : Option Command) (e : Export) (h : Header) (task : Task) → admitted_by command e h ≡ Ok task → IsFor e task
+by_command : (command : Option NbdCommand) (e : Export) (h : NbdHeader) (task : Task) → admitted_by command e h ≡ Ok task → IsFor e task
 by_command None e h task is = (let no : ⊥ = cc in absurd no)
 by_command (Some command.Disconnect) e h task is = (let no : ⊥ = cc in absurd no)
 by_command (Some command.Read) e h task is =

@@ -2,7 +2,7 @@
 use Rattle.std.proofs.Common.{◌≡◌, ℕ, suc, zero, Bool, true, false, Result, Ok, Err, refl, sym, subst}
 use Rattle.nbd_stream.specs.declared.export.Export.{Export}
 use Rattle.nbd_stream.specs.declared.reply.RequestError.{RequestError}
-use Rattle.nbd_stream.specs.declared.request.Header.{Header}
+use Rattle.nbd_stream.specs.declared.request.NbdHeader.{NbdHeader}
 use Rattle.nbd_stream.specs.declared.task.Task.{Task}
 use Rattle.nbd_stream.specs.declared.task.Task.TheVariants.{Read, Write, Flush, Trim, WriteZeroes}
 use Rattle.nbd_stream.specs.Tasks.{admitted, asks_change}
@@ -33,7 +33,7 @@ pub not_both : (b : Bool) → b ≡ true → b ≡ false → ⊥
 not_both true is not = cc
 not_both false is not = cc
 
-pub no_change : (e : Export) (h : Header) (asked : Result Task RequestError) → asked ≡ admitted e h → e.read_only ≡ true → asks_change asked ≡ false
+pub no_change : (e : Export) (h : NbdHeader) (asked : Result Task RequestError) → asked ≡ admitted e h → e.read_only ≡ true → asks_change asked ≡ false
 no_change e h (Err why) is reads = refl
 no_change e h (Ok (Read offset count)) is reads = refl
 no_change e h (Ok Flush) is reads = refl

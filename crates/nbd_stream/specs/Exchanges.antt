@@ -4,7 +4,7 @@ use Rattle.std.specs.List.{AllByRecursion}
 use Rattle.nbd_stream.specs.declared.export.Export.{Export}
 use Rattle.nbd_stream.specs.declared.fault.DiskFault.{DiskFault}
 use Rattle.nbd_stream.specs.declared.reply.RequestError.{RequestError}
-use Rattle.nbd_stream.specs.declared.request.Header.{Header}
+use Rattle.nbd_stream.specs.declared.request.NbdHeader.{NbdHeader}
 use Rattle.nbd_stream.specs.declared.task.Task.{Task}
 use Rattle.nbd_stream.specs.Frames.{Request, reply_bytes}
 use Rattle.nbd_stream.specs.Tasks.{admitted, asks_change}
@@ -28,7 +28,7 @@ abbrev pub reply_in : Exchange → List ℕ
 reply_in x = reply_bytes x.request.cookie x.answer (bytes_in x.answer)
 
 -- its header
-abbrev pub header_of : Request → Header
+abbrev pub header_of : Request → NbdHeader
 header_of r = record { flags = r.flags; code = r.code; cookie = r.cookie; offset = r.offset; count = r.count }
 
 -- what it asks of a disk

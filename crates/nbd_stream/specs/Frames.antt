@@ -8,11 +8,11 @@ use Rattle.request_stream.specs.declared.reply.ServeFault.{ServeFault}
 use Rattle.request_stream.specs.declared.reply.ServeFault.TheVariants as fault
 use Rattle.nbd_stream.specs.declared.reply.RequestError.{RequestError}
 use Rattle.nbd_stream.specs.declared.reply.RequestError.TheVariants.{NotPermitted, InputOutput, Invalid, NoSpace}
-use Rattle.nbd_stream.specs.declared.request.Header.{Header}
-use Rattle.nbd_stream.specs.declared.request.End.{End}
-use Rattle.nbd_stream.specs.declared.request.End.TheVariants.{Boundary, Unfinished, BadFrame, Disconnected}
-use Rattle.nbd_stream.specs.declared.request.Next.{Next}
-use Rattle.nbd_stream.specs.declared.request.Next.TheVariants as next
+use Rattle.nbd_stream.specs.declared.request.NbdHeader.{NbdHeader}
+use Rattle.nbd_stream.specs.declared.request.StreamEnd.{StreamEnd}
+use Rattle.nbd_stream.specs.declared.request.StreamEnd.TheVariants.{Boundary, Unfinished, BadFrame, Disconnected}
+use Rattle.nbd_stream.specs.declared.request.NextRequest.{NextRequest}
+use Rattle.nbd_stream.specs.declared.request.NextRequest.TheVariants as next
 
 -- ---- requests
 
@@ -67,14 +67,14 @@ IsBeginning bytes = (length bytes < 28)
     ⊎ ((r : Request) × IsHeader r × (length r.body < body_length r.code r.count) × (bytes ≡ request_bytes r))
 
 -- nothing; less than a whole request; or 28 bytes with another magic, or with the command that ends the transmission, and more
-abbrev pub IsRest : End → List ℕ → Type 0
+abbrev pub IsRest : StreamEnd → List ℕ → Type 0
 IsRest Boundary bytes = bytes ≡ []
 IsRest Unfinished bytes = (0 < length bytes) × IsBeginning bytes
 IsRest BadFrame bytes = (28 ≤ length bytes) × (is_header (take 28 bytes) ≡ false)
 IsRest Disconnected bytes = (28 ≤ length bytes) × (is_header (take 28 bytes) ≡ true) × (is_end (take 28 bytes) ≡ true)
 
 -- THE TRANSMISSION: the bytes are these requests one after another, and then this rest
-pub record Splits (stream : List ℕ) (requests : List Request) (end : End) (rest : List ℕ) : Type 0 where
+pub record Splits (stream : List ℕ) (requests : List Request) (end : StreamEnd) (rest : List ℕ) : Type 0 where
   pub whole : stream ≡ flat_map request_bytes requests ++ rest
   pub each : AllByRecursion IsRequest requests
   pub ends : IsRest end rest
@@ -82,11 +82,11 @@ pub record Splits (stream : List ℕ) (requests : List Request) (end : End) (res
 -- ---- requests as they are read
 
 -- the request of this header, with this body
-abbrev pub request_at : Header → List ℕ → Request
+abbrev pub request_at : NbdHeader → List ℕ → Request
 request_at h body = record { flags = h.flags; code = h.code; cookie = h.cookie; offset = h.offset; count = h.count; body = body }
 
 -- 28 bytes are this header, whose numbers have as many bytes as they take
-pub record Spells (bytes : List ℕ) (h : Header) : Type 0 where
+pub record Spells (bytes : List ℕ) (h : NbdHeader) : Type 0 where
   pub whole : bytes ≡ header_bytes (request_at h [])
   pub flags : h.flags < 2 ^ 16
   pub code : h.code < 2 ^ 16
@@ -102,7 +102,7 @@ ReadsBody count unread left buffer (Err e) = (e ≡ fault.Read) × (part : List 
 
 -- What was read after the last whole request, and why no more was: the reader has ended, after nothing or after a beginning of a
 -- request, or 28 bytes have another magic or end the transmission.
-abbrev pub Rests : End → List ℕ → Option (List ℕ) → Type 0
+abbrev pub Rests : StreamEnd → List ℕ → Option (List ℕ) → Type 0
 Rests Boundary tail left = (tail ≡ []) × IsAtEnd left
 Rests Unfinished tail left = IsRest Unfinished tail × IsAtEnd left
 Rests BadFrame tail left = (length tail ≡ 28) × (is_header tail ≡ false)
@@ -110,14 +110,14 @@ Rests Disconnected tail left = (length tail ≡ 28) × (is_header tail ≡ true)
 
 -- THE NEXT REQUEST, or the end, was read and nothing after it; where a read failed, a beginning of it. Where the buffer has room for
 -- the request's body, it stands at the front.
-abbrev pub ReadsRequest : (unread left : Option (List ℕ)) → List ℕ → Result Next ServeFault → Type 0
+abbrev pub ReadsRequest : (unread left : Option (List ℕ)) → List ℕ → Result NextRequest ServeFault → Type 0
 ReadsRequest unread left buffer (Ok (next.Whole h)) =
     (body : List ℕ) × IsRequest (request_at h body) × Consumes unread left (request_bytes (request_at h body)) × (length body ≤ length buffer → body ≡ take (length body) buffer)
 ReadsRequest unread left buffer (Ok (next.Ended end)) = (tail : List ℕ) × Rests end tail left × Consumes unread left tail
 ReadsRequest unread left buffer (Err e) = (e ≡ fault.Read) × (tail : List ℕ) × IsBeginning tail × Consumes unread left tail
 
 -- the same, once the header was read
-abbrev pub ReadsRest : Header → (unread left : Option (List ℕ)) → List ℕ → Result Next ServeFault → Type 0
+abbrev pub ReadsRest : NbdHeader → (unread left : Option (List ℕ)) → List ℕ → Result NextRequest ServeFault → Type 0
 ReadsRest header unread left buffer (Ok (next.Whole h)) =
     (h ≡ header) × ((header.code == 2) ≡ false) × ReadsBody (body_length header.code header.count) unread left buffer (Ok true)
 ReadsRest header unread left buffer (Ok (next.Ended end)) =
@@ -155,12 +155,12 @@ IsBytes bytes = (i : ℕ) → slice_index bytes i < 256
 
 -- a transmission splits in just one way
 abbrev pub OneWayLaw : Type 0
-OneWayLaw = (stream : List ℕ) (fs gs : List Request) (d e : End) (t u : List ℕ) → Splits stream fs d t → Splits stream gs e u → (fs ≡ gs) × (d ≡ e) × (t ≡ u)
+OneWayLaw = (stream : List ℕ) (fs gs : List Request) (d e : StreamEnd) (t u : List ℕ) → Splits stream fs d t → Splits stream gs e u → (fs ≡ gs) × (d ≡ e) × (t ≡ u)
 
 -- and in some way
 pub record SplitsSomehow (stream : List ℕ) : Type 0 where
   pub requests : List Request
-  pub end : End
+  pub end : StreamEnd
   pub rest : List ℕ
   pub splits : Splits stream requests end rest
 

@@ -7,9 +7,9 @@ use Rattle.request_stream.specs.declared.reply.ServeFault.{ServeFault}
 use Rattle.request_stream.specs.declared.reply.ServeFault.TheVariants as fault
 use Rattle.nbd_stream.specs.Options.{Asked, IsOption, IsOptionBeginning, OptionRests, option_bytes, reply_to, step_of}
 use Rattle.nbd_stream.specs.declared.export.Export.{Export}
-use Rattle.nbd_stream.specs.declared.answer.Step.{Step}
-use Rattle.nbd_stream.specs.declared.answer.Step.TheVariants.{More, Transmit, Close}
-use Rattle.nbd_stream.specs.declared.request.End.TheVariants.{Unfinished, BadFrame, Disconnected}
+use Rattle.nbd_stream.specs.declared.answer.AnswerStep.{AnswerStep}
+use Rattle.nbd_stream.specs.declared.answer.AnswerStep.TheVariants.{More, Transmit, Close}
+use Rattle.nbd_stream.specs.declared.request.StreamEnd.TheVariants.{Unfinished, BadFrame, Disconnected}
 use Rattle.nbd_stream.specs.declared.negotiation.Negotiated.{Negotiated}
 use Rattle.nbd_stream.specs.declared.negotiation.Negotiated.TheVariants.{Transmission, Ended}
 use Rattle.nbd_stream.specs.declared.negotiation.ClientFlags.{ClientFlags}
@@ -17,7 +17,7 @@ use Rattle.nbd_stream.specs.declared.negotiation.ClientFlags.TheVariants.{NoZero
 use Rattle.nbd_stream.specs.declared.negotiation.ClientFlags.TheVariants as client
 
 -- an option was read, which this step follows, and its answer was written as this says
-pub record HasAnswered (e : Export) (no_zeroes : Bool) (limit : ℕ) (unread left : Option (List ℕ)) (writes : List ℕ → Type 0) (step : Step) : Type 0 where
+pub record HasAnswered (e : Export) (no_zeroes : Bool) (limit : ℕ) (unread left : Option (List ℕ)) (writes : List ℕ → Type 0) (step : AnswerStep) : Type 0 where
   pub option : Asked
   pub is : IsOption option
   pub read : Consumes unread left (option_bytes option)

@@ -8,8 +8,8 @@ use Rattle.byteorder.specs.Endian.{big_number}
 use Rattle.request_stream.specs.declared.reply.ServeFault.{ServeFault}
 use Rattle.request_stream.specs.declared.reply.ServeFault.TheVariants as fault
 use Rattle.nbd_stream.specs.declared.export.Export.{Export}
-use Rattle.nbd_stream.specs.declared.request.End.{End}
-use Rattle.nbd_stream.specs.declared.request.End.TheVariants.{Boundary, Unfinished, BadFrame, Disconnected}
+use Rattle.nbd_stream.specs.declared.request.StreamEnd.{StreamEnd}
+use Rattle.nbd_stream.specs.declared.request.StreamEnd.TheVariants.{Boundary, Unfinished, BadFrame, Disconnected}
 use Rattle.nbd_stream.specs.declared.option.OptionHeader.{OptionHeader}
 use Rattle.nbd_stream.specs.declared.option.NextOption.{NextOption}
 use Rattle.nbd_stream.specs.declared.option.NextOption.TheVariants as next
@@ -19,8 +19,8 @@ use Rattle.nbd_stream.specs.declared.answer.OptionCode.TheVariants.{ExportName, 
 use Rattle.nbd_stream.specs.declared.answer.OptionCode.TheVariants as wanted
 use Rattle.nbd_stream.specs.declared.answer.Answer.{Answer}
 use Rattle.nbd_stream.specs.declared.answer.Answer.TheVariants.{Short, Listed, Told, Chosen, Silent}
-use Rattle.nbd_stream.specs.declared.answer.Step.{Step}
-use Rattle.nbd_stream.specs.declared.answer.Step.TheVariants.{More, Transmit, Close}
+use Rattle.nbd_stream.specs.declared.answer.AnswerStep.{AnswerStep}
+use Rattle.nbd_stream.specs.declared.answer.AnswerStep.TheVariants.{More, Transmit, Close}
 
 -- ---- options
 
@@ -63,7 +63,7 @@ abbrev pub IsOptionBeginning : List ℕ → Type 0
 IsOptionBeginning bytes = (length bytes < 16) ⊎ ((code count : ℕ) × (part : List ℕ) × IsCutOption code count part bytes)
 
 -- What was read after the last whole option, and why no more was. No header says that the client goes: an option says so.
-abbrev pub OptionRests : End → List ℕ → Option (List ℕ) → Type 0
+abbrev pub OptionRests : StreamEnd → List ℕ → Option (List ℕ) → Type 0
 OptionRests Boundary tail left = (tail ≡ []) × IsAtEnd left
 OptionRests Unfinished tail left = (0 < length tail) × IsOptionBeginning tail × IsAtEnd left
 OptionRests BadFrame tail left = (length tail ≡ 16) × (is_option_header tail ≡ false)
@@ -147,7 +147,7 @@ answer_of limit o = answer_by (option_from o.code) limit o.body
 
 -- what follows: requests after NBD_OPT_EXPORT_NAME and after NBD_OPT_GO where these were granted, nothing after NBD_OPT_ABORT or a refusal of
 -- the former, which has no words; else another option
-abbrev pub step_after : (code : ℕ) → Answer → Step
+abbrev pub step_after : (code : ℕ) → Answer → AnswerStep
 step_after code (Short kind) = if code == 2 then Close else More
 step_after code Listed = More
 step_after code Told = if code == 7 then Transmit else More
@@ -189,5 +189,5 @@ answer_bytes e no_zeroes code Silent = []
 abbrev pub reply_to : Export → Bool → ℕ → Asked → List ℕ
 reply_to e no_zeroes limit o = answer_bytes e no_zeroes o.code (answer_of limit o)
 
-abbrev pub step_of : ℕ → Asked → Step
+abbrev pub step_of : ℕ → Asked → AnswerStep
 step_of limit o = step_after o.code (answer_of limit o)

@@ -3,28 +3,28 @@ use Rattle.std.specs.Prelude.{◌≡◌, ◌<◌, ◌≤◌, ◌+◌, ◌%◌, �
 use Rattle.nbd_stream.specs.declared.export.Export.{Export}
 use Rattle.nbd_stream.specs.declared.reply.RequestError.{RequestError}
 use Rattle.nbd_stream.specs.declared.reply.RequestError.TheVariants.{NotPermitted, Invalid, NoSpace}
-use Rattle.nbd_stream.specs.declared.request.Header.{Header}
-use Rattle.nbd_stream.specs.declared.task.Command.{Command}
-use Rattle.nbd_stream.specs.declared.task.Command.TheVariants as command
+use Rattle.nbd_stream.specs.declared.request.NbdHeader.{NbdHeader}
+use Rattle.nbd_stream.specs.declared.task.NbdCommand.{NbdCommand}
+use Rattle.nbd_stream.specs.declared.task.NbdCommand.TheVariants as command
 use Rattle.nbd_stream.specs.declared.task.Task.{Task}
 use Rattle.nbd_stream.specs.declared.task.Task.TheVariants.{Read, Write, Flush, Trim, WriteZeroes}
 
 -- the commands that are supported, by their numbers
-abbrev pub command_from : ℕ → Option Command
+abbrev pub command_from : ℕ → Option NbdCommand
 command_from code =
     if code == 0 then Some command.Read else (if code == 1 then Some command.Write else (if code == 2 then Some command.Disconnect else (
     if code == 3 then Some command.Flush else (if code == 4 then Some command.Trim else (if code == 6 then Some command.WriteZeroes else None)))))
 
 -- the range has bytes, and all are the export's
-abbrev pub is_within : Export → Header → Bool
+abbrev pub is_within : Export → NbdHeader → Bool
 is_within e h = nat_lt 0 h.count && nat_le (h.offset + h.count) e.size
 
 -- NBD_CMD_FLAG_FUA
-abbrev pub is_durable : Header → Bool
+abbrev pub is_durable : NbdHeader → Bool
 is_durable h = h.flags % 2 == 1
 
 -- a change of at most so many bytes, or the error past the export's end
-abbrev pub change_of : Export → Header → (most : ℕ) → RequestError → Task → Result Task RequestError
+abbrev pub change_of : Export → NbdHeader → (most : ℕ) → RequestError → Task → Result Task RequestError
 change_of e h most past task =
     if e.read_only then Err NotPermitted else (
     if h.count == 0 then Err Invalid else (
@@ -32,7 +32,7 @@ change_of e h most past task =
     if is_within e h then Ok task else Err past)))
 
 -- by the command: beside NBD_CMD_FLAG_FUA only zeroes have a flag, NBD_CMD_FLAG_NO_HOLE 2
-abbrev pub admitted_by : Option Command → Export → Header → Result Task RequestError
+abbrev pub admitted_by : Option NbdCommand → Export → NbdHeader → Result Task RequestError
 admitted_by None e h = Err Invalid
 admitted_by (Some command.Disconnect) e h = Err Invalid
 admitted_by (Some command.Read) e h = if nat_lt 1 h.flags then Err Invalid else (if nat_le h.count e.maximum && is_within e h then Ok (Read h.offset h.count) else Err Invalid)
@@ -42,7 +42,7 @@ admitted_by (Some command.Trim) e h = if nat_lt 1 h.flags then Err Invalid else 
 admitted_by (Some command.WriteZeroes) e h = if nat_lt 3 h.flags then Err Invalid else change_of e h 4294967295 NoSpace (WriteZeroes h.offset h.count (is_durable h))
 
 -- WHAT IS ASKED
-abbrev pub admitted : Export → Header → Result Task RequestError
+abbrev pub admitted : Export → NbdHeader → Result Task RequestError
 admitted e h = admitted_by (command_from h.code) e h
 
 -- ---- changes
@@ -77,4 +77,4 @@ IsFor e (WriteZeroes offset count durable) = HasRange e offset count × (e.read_
 
 -- what is asked of the disk is for it, whatever the request
 abbrev pub AdmittedLaw : Type 0
-AdmittedLaw = (e : Export) (h : Header) (task : Task) → admitted e h ≡ Ok task → IsFor e task
+AdmittedLaw = (e : Export) (h : NbdHeader) (task : Task) → admitted e h ≡ Ok task → IsFor e task

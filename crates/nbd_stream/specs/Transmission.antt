@@ -7,7 +7,7 @@ use Rattle.request_stream.specs.declared.reply.ServeFault.{ServeFault}
 use Rattle.request_stream.specs.declared.reply.ServeFault.TheVariants as fault
 use Rattle.nbd_stream.specs.declared.export.Export.{Export}
 use Rattle.nbd_stream.specs.declared.fault.DiskFault.{DiskFault}
-use Rattle.nbd_stream.specs.declared.request.End.{End}
+use Rattle.nbd_stream.specs.declared.request.StreamEnd.{StreamEnd}
 use Rattle.nbd_stream.specs.declared.negotiation.Negotiated.{Negotiated}
 use Rattle.nbd_stream.specs.declared.negotiation.Negotiated.TheVariants.{Transmission, Ended}
 use Rattle.nbd_stream.specs.declared.task.Task.{Task}
@@ -33,7 +33,7 @@ left_of (Some bytes) = bytes
 -- WHAT WAS READ AND WRITTEN, by the result. Where the stream ended, its bytes are the requests and the rest that `end` names, and what was
 -- written is their replies, one each, in order. After `Read` what was written answers the requests that were read whole. After `Write` it is a
 -- beginning of the replies.
-abbrev pub Carries : (unread left before after : Option (List ℕ)) → List Exchange → Result End ServeFault → Type 0
+abbrev pub Carries : (unread left before after : Option (List ℕ)) → List Exchange → Result StreamEnd ServeFault → Type 0
 Carries unread left before after xs (Ok end) =
     (tail : List ℕ) × Reads unread left (requests_in xs) tail × Rests end tail left
     × Appends before after (flat_map reply_in xs)
@@ -45,7 +45,7 @@ Carries unread left before after xs (Err fault.OutOfMemory) = ⊥
 
 -- WHEN THE DISK RESTED, by the result: after each change that it was asked, done or failed, once the reply was handed on. After `Write` the last reply was
 -- not, and no rest follows it.
-abbrev pub Rested : Export → List Round → Result End ServeFault → Type 0
+abbrev pub Rested : Export → List Round → Result StreamEnd ServeFault → Type 0
 Rested e xs (Ok end) = AreRested e xs
 Rested e xs (Err fault.Read) = AreRested e xs
 Rested e xs (Err fault.Write) =
@@ -57,7 +57,7 @@ Rested e xs (Err fault.OutOfMemory) = ⊥
 -- was asked.
 pub record Transmits {D : Type 0} (contents : D → Contents) (honest calm : D → Bool)
     (does : D → Task → Result (Unit {0}) DiskFault → D → Type 0) (rests : D → Result (Unit {0}) DiskFault → D → Type 0)
-    (e : Export) (old new : D) (unread left before after : Option (List ℕ)) (result : Result End ServeFault) : Type 0 where
+    (e : Export) (old new : D) (unread left before after : Option (List ℕ)) (result : Result StreamEnd ServeFault) : Type 0 where
   pub rounds : List Round
   pub each : ToldEach contents honest calm does rests e old rounds new
   pub rested : Rested e rounds result
@@ -101,7 +101,7 @@ pub record HasEnded {D : Type 0} (old new : D) (unread left before after : Optio
 
 abbrev pub ServesNext : {D : Type 0} → (D → Contents) → (honest calm : D → Bool)
     → (does : D → Task → Result (Unit {0}) DiskFault → D → Type 0) → (rests : D → Result (Unit {0}) DiskFault → D → Type 0) → Export
-    → (old new : D) → (unread left before after : Option (List ℕ)) → Result (Option End) ServeFault → Type 0
+    → (old new : D) → (unread left before after : Option (List ℕ)) → Result (Option StreamEnd) ServeFault → Type 0
 ServesNext contents honest calm does rests e old new unread left before after (Ok None) =
     HasServed contents honest calm does rests e old new unread left (Appends before after) (IsRested e)
 ServesNext contents honest calm does rests e old new unread left before after (Ok (Some end)) =
@@ -114,14 +114,14 @@ ServesNext contents honest calm does rests e old new unread left before after (E
 -- ---- a whole session
 
 -- a negotiation that came to no transmission
-abbrev pub negotiated_as : Result End ServeFault → Result Negotiated ServeFault
+abbrev pub negotiated_as : Result StreamEnd ServeFault → Result Negotiated ServeFault
 negotiated_as (Ok end) = Ok (Ended end)
 negotiated_as (Err e) = Err e
 
 -- A NEGOTIATION AND A TRANSMISSION: of the bytes between, so many were read and written by the one
 pub record Begins {D : Type 0} (contents : D → Contents) (honest calm : D → Bool)
     (does : D → Task → Result (Unit {0}) DiskFault → D → Type 0) (rests : D → Result (Unit {0}) DiskFault → D → Type 0)
-    (e : Export) (limit : ℕ) (old new : D) (unread left before after : Option (List ℕ)) (result : Result End ServeFault) : Type 0 where
+    (e : Export) (limit : ℕ) (old new : D) (unread left before after : Option (List ℕ)) (result : Result StreamEnd ServeFault) : Type 0 where
   pub unread' : Option (List ℕ)
   pub before' : Option (List ℕ)
   pub negotiated : Negotiates e limit unread unread' before before' (Ok Transmission)
@@ -130,7 +130,7 @@ pub record Begins {D : Type 0} (contents : D → Contents) (honest calm : D → 
 -- A SESSION: a negotiation that came to no transmission, and the disk is as it was; or one that did, and the transmission
 abbrev pub Serves : {D : Type 0} → (D → Contents) → (honest calm : D → Bool)
     → (does : D → Task → Result (Unit {0}) DiskFault → D → Type 0) → (rests : D → Result (Unit {0}) DiskFault → D → Type 0) → Export
-    → (limit : ℕ) → (old new : D) → (unread left before after : Option (List ℕ)) → Result End ServeFault → Type 0
+    → (limit : ℕ) → (old new : D) → (unread left before after : Option (List ℕ)) → Result StreamEnd ServeFault → Type 0
 Serves contents honest calm does rests e limit old new unread left before after result =
     ((new ≡ old) × Negotiates e limit unread left before after (negotiated_as result))
     ⊎ Begins contents honest calm does rests e limit old new unread left before after result

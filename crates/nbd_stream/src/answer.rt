@@ -43,7 +43,7 @@ pub enum Answer {
 
 /// What follows an answer. (This project's.)
 #[derive(Clone, Copy)]
-pub enum Step {
+pub enum AnswerStep {
     /// Another option.
     More,
     /// Requests.
@@ -140,16 +140,16 @@ pub(crate) fn answer_to(header: &OptionHeader, body: &[u8]) -> Answer
 }
 
 // What follows the answer to an option of this number.
-pub(crate) fn step_after(code: u32, answer: Answer) -> Step
+pub(crate) fn step_after(code: u32, answer: Answer) -> AnswerStep
     ensures { result ≡ step_after code answer }
 {
     match answer {
-        Answer::Short(_) if code == 2 => Step::Close,
-        Answer::Short(_) | Answer::Listed => Step::More,
-        Answer::Told if code == 7 => Step::Transmit,
-        Answer::Told => Step::More,
-        Answer::Chosen => Step::Transmit,
-        Answer::Silent => Step::Close,
+        Answer::Short(_) if code == 2 => AnswerStep::Close,
+        Answer::Short(_) | Answer::Listed => AnswerStep::More,
+        Answer::Told if code == 7 => AnswerStep::Transmit,
+        Answer::Told => AnswerStep::More,
+        Answer::Chosen => AnswerStep::Transmit,
+        Answer::Silent => AnswerStep::Close,
     }
 }
 

@@ -6,7 +6,7 @@ ghost use Rattle.nbd_stream.specs.Memory.{ServesBytes};
 use crate::disk::Disk;
 use crate::export::Export;
 use crate::fault::DiskFault;
-use crate::request::End;
+use crate::request::StreamEnd;
 use crate::streams::{Incoming, Outgoing};
 use crate::transmission::serve;
 use request_stream::ServeFault;
@@ -111,7 +111,7 @@ pub fn serve_memory<R: Incoming, W: Outgoing>(
     disk: &mut MemoryDisk,
     export: &Export,
     buffer: &mut [u8],
-) -> Result<End, ServeFault>
+) -> Result<StreamEnd, ServeFault>
     requires size { length disk.old.bytes.items ≡ export.now.size }
     requires room { export.now.maximum ≤ length buffer.old }
     ensures { ServesBytes export.now (length buffer.new) disk.old.bytes.items disk.new.bytes.items

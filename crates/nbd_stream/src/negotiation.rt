@@ -3,11 +3,11 @@ ghost use Rattle.std.specs.Prelude.{IfErr, OnErr, length};
 ghost use Rattle.nbd_stream.specs.Streams.{EndsBy, HasFailed, HasStopped};
 ghost use Rattle.nbd_stream.specs.Negotiation.{AnswersNext, AnswersOptions, Negotiates, ReadsFlags};
 
-use crate::answer::{Step, answer_to, send_answer, step_after};
+use crate::answer::{AnswerStep, answer_to, send_answer, step_after};
 use crate::export::Export;
 use crate::option::{NextOption, read_option};
 use crate::reply::send_parts;
-use crate::request::End;
+use crate::request::StreamEnd;
 use crate::streams::{Incoming, Outgoing};
 use request_stream::ServeFault;
 
@@ -17,7 +17,7 @@ pub enum Negotiated {
     /// The client has chosen the export: requests follow.
     Transmission,
     /// The client went, or was refused without a word.
-    Ended(End),
+    Ended(StreamEnd),
 }
 
 // What a client's flags said, or why there are none. (This project's.)
@@ -25,7 +25,7 @@ pub enum Negotiated {
 enum ClientFlags {
     // Whether it wants no zeros after an export.
     NoZeroes(bool),
-    Ended(End),
+    Ended(StreamEnd),
 }
 
 // `NBDMAGIC`, `IHAVEOPT`, and the flags: fixed newstyle, and no zeros after an export if the client wants none.
@@ -49,9 +49,9 @@ fn answer_next<R: Incoming, W: Outgoing>(
     let answer = answer_to(&header, body);
     send_answer(writer, export, no_zeroes, header.code, answer)?;
     match step_after(header.code, answer) {
-        Step::More => Ok(None),
-        Step::Transmit => Ok(Some(Negotiated::Transmission)),
-        Step::Close => Ok(Some(Negotiated::Ended(End::Disconnected))),
+        AnswerStep::More => Ok(None),
+        AnswerStep::Transmit => Ok(Some(Negotiated::Transmission)),
+        AnswerStep::Close => Ok(Some(Negotiated::Ended(StreamEnd::Disconnected))),
     }
 }
 
@@ -86,11 +86,11 @@ fn read_flags<R: Incoming>(reader: &mut R) -> Result<ClientFlags, ServeFault>
         return Err(ServeFault::Read);
     }
     if filled.count < 4 {
-        return Ok(ClientFlags::Ended(End::Unfinished));
+        return Ok(ClientFlags::Ended(StreamEnd::Unfinished));
     }
     match flags {
         [0, 0, 0, flag] if flag < 4 => Ok(ClientFlags::NoZeroes(flag >= 2)),
-        _ => Ok(ClientFlags::Ended(End::BadFrame)),
+        _ => Ok(ClientFlags::Ended(StreamEnd::BadFrame)),
     }
 }
 

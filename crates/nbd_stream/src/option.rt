@@ -4,7 +4,7 @@ ghost use Rattle.std.specs.Prelude.{◌≡◌, OnErr, length};
 ghost use Rattle.nbd_stream.specs.Options.{ReadsOption, ReadsOptionRest};
 
 use crate::body::read_body;
-use crate::request::End;
+use crate::request::StreamEnd;
 use crate::streams::Incoming;
 use byteorder::{BigEndian, ByteOrder};
 use request_stream::ServeFault;
@@ -42,7 +42,7 @@ pub enum NextOption {
     /// An option. Its data stands at the front of the buffer, where it has room there.
     Whole(OptionHeader),
     /// No option, and why.
-    Ended(End),
+    Ended(StreamEnd),
 }
 
 // Reads what follows a header that was read.
@@ -56,7 +56,7 @@ fn read_rest<R: Incoming>(
 {
     match read_body(reader, header.count, body) {
         Ok(true) => Ok(NextOption::Whole(header)),
-        Ok(false) => Ok(NextOption::Ended(End::Unfinished)),
+        Ok(false) => Ok(NextOption::Ended(StreamEnd::Unfinished)),
         Err(fault) => Err(fault),
     }
 }
@@ -76,13 +76,13 @@ pub fn read_option<R: Incoming>(reader: &mut R, body: &mut [u8]) -> Result<NextO
         return Err(ServeFault::Read);
     }
     if filled.count == 0 {
-        return Ok(NextOption::Ended(End::Boundary));
+        return Ok(NextOption::Ended(StreamEnd::Boundary));
     }
     if filled.count < 16 {
-        return Ok(NextOption::Ended(End::Unfinished));
+        return Ok(NextOption::Ended(StreamEnd::Unfinished));
     }
     match OptionHeader::parse(&bytes) {
-        None => Ok(NextOption::Ended(End::BadFrame)),
+        None => Ok(NextOption::Ended(StreamEnd::BadFrame)),
         Some(header) => read_rest(reader, header, body),
     }
 }

@@ -11,7 +11,7 @@ use request_stream::ServeFault;
 /// The header of a request: its flags and the number of its command, the cookie that its reply carries, and the range of bytes
 /// that it speaks of. (The NBD protocol, "Request message".)
 #[derive(Clone, Copy, Debug, PartialEq, Eq)]
-pub struct Header {
+pub struct NbdHeader {
     pub flags: u16,
     pub code: u16,
     pub cookie: u64,
@@ -19,20 +19,20 @@ pub struct Header {
     pub count: u32,
 }
 
-impl Header {
+impl NbdHeader {
     ghost use Rattle.std.specs.Prelude.{◌≡◌, false, IfSome, IsNone};
     ghost use Rattle.nbd_stream.specs.Frames.{Spells, is_header, body_length};
 
     /// The header that 28 bytes spell: the magic 25609513h, and the five numbers in their order, each most significant byte first.
     /// Else `None`. (The NBD protocol, "Request message".)
-    pub fn parse(bytes: &[u8; 28]) -> Option<Header>
+    pub fn parse(bytes: &[u8; 28]) -> Option<NbdHeader>
         ensures spelled { IfSome result (λ header. Spells bytes.now header) }
         ensures bad { IsNone result → is_header bytes.now ≡ false }
     {
         let [0x25, 0x60, 0x95, 0x13, ..] = *bytes else {
             return None;
         };
-        Some(Header {
+        Some(NbdHeader {
             flags: BigEndian::read_u16(&bytes[4..6]),
             code: BigEndian::read_u16(&bytes[6..8]),
             cookie: BigEndian::read_u64(&bytes[8..16]),
@@ -56,7 +56,7 @@ const DISCONNECT: u16 = 2;
 
 /// Why there is no next request, or no next option. (This project's.)
 #[derive(Clone, Copy, Debug, PartialEq, Eq)]
-pub enum End {
+pub enum StreamEnd {
     /// The stream ended after a whole one, or before the first.
     Boundary,
     /// The stream ended in the middle of one.
@@ -69,28 +69,28 @@ pub enum End {
 
 /// What stands next in a transmission. (This project's.)
 #[derive(Clone, Copy, Debug, PartialEq, Eq)]
-pub enum Next {
+pub enum NextRequest {
     /// A request. The bytes that follow a write's header stand at the front of the buffer, where they have room there.
-    Whole(Header),
+    Whole(NbdHeader),
     /// No request, and why.
-    Ended(End),
+    Ended(StreamEnd),
 }
 
 // Reads what follows a header that was read.
 fn read_rest<R: Incoming>(
     reader: &mut R,
-    header: Header,
+    header: NbdHeader,
     body: &mut [u8],
-) -> Result<Next, ServeFault>
+) -> Result<NextRequest, ServeFault>
     ensures reads { ReadsRest header (R.remaining reader.old) (R.remaining reader.new) body.new result }
     ensures fails { OnErr result (EndsBy R.fails reader.new) }
 {
     if header.code == DISCONNECT {
-        return Ok(Next::Ended(End::Disconnected));
+        return Ok(NextRequest::Ended(StreamEnd::Disconnected));
     }
     match read_body(reader, header.body_count(), body) {
-        Ok(true) => Ok(Next::Whole(header)),
-        Ok(false) => Ok(Next::Ended(End::Unfinished)),
+        Ok(true) => Ok(NextRequest::Whole(header)),
+        Ok(false) => Ok(NextRequest::Ended(StreamEnd::Unfinished)),
         Err(fault) => Err(fault),
     }
 }
@@ -101,7 +101,7 @@ fn read_rest<R: Incoming>(
 /// # Errors
 ///
 /// `Read` where a read failed or was interrupted: what was read of a request is lost. (This project's.)
-pub fn read_request<R: Incoming>(reader: &mut R, body: &mut [u8]) -> Result<Next, ServeFault>
+pub fn read_request<R: Incoming>(reader: &mut R, body: &mut [u8]) -> Result<NextRequest, ServeFault>
     ensures reads { ReadsRequest (R.remaining reader.old) (R.remaining reader.new) body.new result }
     ensures fails { OnErr result (EndsBy R.fails reader.new) }
 {
@@ -111,13 +111,13 @@ pub fn read_request<R: Incoming>(reader: &mut R, body: &mut [u8]) -> Result<Next
         return Err(ServeFault::Read);
     }
     if filled.count == 0 {
-        return Ok(Next::Ended(End::Boundary));
+        return Ok(NextRequest::Ended(StreamEnd::Boundary));
     }
     if filled.count < 28 {
-        return Ok(Next::Ended(End::Unfinished));
+        return Ok(NextRequest::Ended(StreamEnd::Unfinished));
     }
-    match Header::parse(&bytes) {
-        None => Ok(Next::Ended(End::BadFrame)),
+    match NbdHeader::parse(&bytes) {
+        None => Ok(NextRequest::Ended(StreamEnd::BadFrame)),
         Some(header) => read_rest(reader, header, body),
     }
 }

@@ -4,11 +4,11 @@ ghost use Rattle.nbd_stream.specs.Tasks.{admitted, change_of, command_from, is_c
 
 use crate::export::Export;
 use crate::reply::RequestError;
-use crate::request::Header;
+use crate::request::NbdHeader;
 
 /// The commands that are answered with more than a refusal. (The NBD protocol, "Request types".)
 #[derive(Clone, Copy, Debug, PartialEq, Eq)]
-pub enum Command {
+pub enum NbdCommand {
     /// Gives bytes.
     Read,
     /// Sets bytes to those that follow the request.
@@ -71,22 +71,22 @@ const DURABLE: u16 = 1;
 const ZEROES_FLAGS: u16 = 3;
 
 // What a header's number asks for; none for what is not supported.
-fn command_from(code: u16) -> Option<Command>
+fn command_from(code: u16) -> Option<NbdCommand>
     ensures { result ≡ command_from code }
 {
     match code {
-        0 => Some(Command::Read),
-        1 => Some(Command::Write),
-        2 => Some(Command::Disconnect),
-        3 => Some(Command::Flush),
-        4 => Some(Command::Trim),
-        6 => Some(Command::WriteZeroes),
+        0 => Some(NbdCommand::Read),
+        1 => Some(NbdCommand::Write),
+        2 => Some(NbdCommand::Disconnect),
+        3 => Some(NbdCommand::Flush),
+        4 => Some(NbdCommand::Trim),
+        6 => Some(NbdCommand::WriteZeroes),
         _ => None,
     }
 }
 
 // Whether the header's range has bytes, and all are the export's.
-fn is_within(export: &Export, header: &Header) -> bool
+fn is_within(export: &Export, header: &NbdHeader) -> bool
     ensures { result ≡ is_within export.now header.now }
 {
     let count = header.count as u64;
@@ -94,7 +94,7 @@ fn is_within(export: &Export, header: &Header) -> bool
 }
 
 // Whether the bytes are to last before the reply.
-fn is_durable(header: &Header) -> bool
+fn is_durable(header: &NbdHeader) -> bool
     ensures { result ≡ is_durable header.now }
 {
     header.flags % 2 == 1
@@ -103,7 +103,7 @@ fn is_durable(header: &Header) -> bool
 // A change of at most so many bytes, or the error past the export's end.
 fn admit_change(
     export: &Export,
-    header: &Header,
+    header: &NbdHeader,
     most: u32,
     past: RequestError,
     task: Task,
@@ -128,12 +128,12 @@ fn admit_change(
 /// The first that is so: `Invalid` for a command or a flag that is not supported; `NotPermitted` for a change of a read-only export;
 /// `Invalid` for no byte or for more than the export takes, of a read or a write; then, past the export's end, `Invalid` for a read or
 /// a trim and `NoSpace` for a write or zeros. (The NBD protocol, "Error values".)
-pub fn admit(export: &Export, header: &Header) -> Result<Task, RequestError>
+pub fn admit(export: &Export, header: &NbdHeader) -> Result<Task, RequestError>
     ensures { result ≡ admitted export.now header.now }
 {
     let (offset, count, durable) = (header.offset, header.count, is_durable(header));
     match command_from(header.code) {
-        Some(Command::WriteZeroes) if header.flags <= ZEROES_FLAGS => admit_change(
+        Some(NbdCommand::WriteZeroes) if header.flags <= ZEROES_FLAGS => admit_change(
             export,
             header,
             u32::MAX,
@@ -144,14 +144,14 @@ pub fn admit(export: &Export, header: &Header) -> Result<Task, RequestError>
                 durable,
             },
         ),
-        None | Some(Command::Disconnect | Command::WriteZeroes) => Err(RequestError::Invalid),
+        None | Some(NbdCommand::Disconnect | NbdCommand::WriteZeroes) => Err(RequestError::Invalid),
         Some(_) if header.flags > DURABLE => Err(RequestError::Invalid),
-        Some(Command::Read) if count <= export.maximum && is_within(export, header) => {
+        Some(NbdCommand::Read) if count <= export.maximum && is_within(export, header) => {
             Ok(Task::Read { offset, count })
         }
-        Some(Command::Flush) if offset == 0 && count == 0 => Ok(Task::Flush),
-        Some(Command::Read | Command::Flush) => Err(RequestError::Invalid),
-        Some(Command::Write) => admit_change(
+        Some(NbdCommand::Flush) if offset == 0 && count == 0 => Ok(Task::Flush),
+        Some(NbdCommand::Read | NbdCommand::Flush) => Err(RequestError::Invalid),
+        Some(NbdCommand::Write) => admit_change(
             export,
             header,
             export.maximum,
@@ -162,7 +162,7 @@ pub fn admit(export: &Export, header: &Header) -> Result<Task, RequestError>
                 durable,
             },
         ),
-        Some(Command::Trim) => admit_change(
+        Some(NbdCommand::Trim) => admit_change(
             export,
             header,
             u32::MAX,

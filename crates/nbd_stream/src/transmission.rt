@@ -13,7 +13,7 @@ use crate::export::Export;
 use crate::fault::{DiskFault, error_for};
 use crate::negotiation::{Negotiated, negotiate};
 use crate::reply::{RequestError, send_reply};
-use crate::request::{End, Header, Next, read_request};
+use crate::request::{NbdHeader, NextRequest, StreamEnd, read_request};
 use crate::streams::{Incoming, Outgoing};
 use crate::task::{Task, admit};
 use request_stream::ServeFault;
@@ -64,7 +64,7 @@ fn answer<W: Outgoing, D: Disk>(
     writer: &mut W,
     disk: &mut D,
     export: &Export,
-    header: &Header,
+    header: &NbdHeader,
     asked: Result<Task, RequestError>,
     buffer: &mut [u8],
 ) -> Result<(), ServeFault>
@@ -106,7 +106,7 @@ fn serve_next<R: Incoming, W: Outgoing, D: Disk>(
     disk: &mut D,
     export: &Export,
     buffer: &mut [u8],
-) -> Result<Option<End>, ServeFault>
+) -> Result<Option<StreamEnd>, ServeFault>
     requires size { length (D.contents disk.old).bytes ≡ export.now.size }
     requires room { export.now.maximum ≤ length buffer.old }
     ensures serves { ServesNext D.contents D.honest D.calm D.does D.rests export.now disk.old disk.new (R.remaining reader.old) (R.remaining reader.new)
@@ -116,8 +116,8 @@ fn serve_next<R: Incoming, W: Outgoing, D: Disk>(
     ensures hands { result ≡ Ok None → EndsBy W.hands writer.new }
 {
     match read_request(reader, buffer)? {
-        Next::Ended(end) => Ok(Some(end)),
-        Next::Whole(header) => {
+        NextRequest::Ended(end) => Ok(Some(end)),
+        NextRequest::Whole(header) => {
             let asked = admit(export, &header);
             answer(writer, disk, export, &header, asked, buffer)?;
             rest_after(disk, asked);
@@ -159,7 +159,7 @@ pub fn transmit<R: Incoming, W: Outgoing, D: Disk>(
     disk: &mut D,
     export: &Export,
     buffer: &mut [u8],
-) -> Result<End, ServeFault>
+) -> Result<StreamEnd, ServeFault>
     requires size { length (D.contents disk.old).bytes ≡ export.now.size }
     requires room { export.now.maximum ≤ length buffer.old }
     ensures transmits { Transmits D.contents D.honest D.calm D.does D.rests export.now disk.old disk.new (R.remaining reader.old) (R.remaining reader.new)
@@ -187,7 +187,7 @@ pub fn serve<R: Incoming, W: Outgoing, D: Disk>(
     disk: &mut D,
     export: &Export,
     buffer: &mut [u8],
-) -> Result<End, ServeFault>
+) -> Result<StreamEnd, ServeFault>
     requires size { length (D.contents disk.old).bytes ≡ export.now.size }
     requires room { export.now.maximum ≤ length buffer.old }
     ensures serves { Serves D.contents D.honest D.calm D.does D.rests export.now (length buffer.new) disk.old disk.new (R.remaining reader.old) (R.remaining reader.new)

@@ -9,8 +9,8 @@ use Rattle.clap.specs.Simple.{HasMatchesOf, is_simple}
 use Rattle.clap.specs.Words.{App, Row, fault_of, is_simple_and_free, subcommand_of, subcommand_rows_of}
 use Rattle.program_words.specs.declared.met.CommandWords.{CommandWords}
 use Rattle.program_words.specs.declared.met.Met.TheVariants as met
-use Rattle.program_words.specs.declared.met.WordsFault.{WordsFault}
-use Rattle.program_words.specs.declared.met.WordsFault.TheVariants as words_fault
+use Rattle.program_words.specs.declared.met.GrammarFault.{GrammarFault}
+use Rattle.program_words.specs.declared.met.GrammarFault.TheVariants as words_fault
 use Rattle.program_words.specs.Met.{HasFault, IsCommandOf, IsMet, IsNoCommand, IsOtherKind, IsTextFor, IsUnmet, Names, NamesCommand, entries_of}
 
 -- the text of help or of the version is what the words ask for
@@ -64,7 +64,7 @@ pub kind_found : (f g : App) (words : List (List ℕ)) (error : Error) (result :
 kind_found f g words error result p err = subst (λ r. FailsBy (fault_of g words) r) err (fails_by f g words result p)
 
 -- a fault of another kind is what they have
-pub unmet : {X : Type 0} (g : App) (words : List (List ℕ)) (error : Error) (result : Result X WordsFault) (fault : WordsFault) → HasKind (fault_of g words) error → result ≡ Err fault
+pub unmet : {X : Type 0} (g : App) (words : List (List ℕ)) (error : Error) (result : Result X GrammarFault) (fault : GrammarFault) → HasKind (fault_of g words) error → result ≡ Err fault
     → (result ≡ Err words_fault.NoSuchCommand → IsOtherKind error) → fault ≡ words_fault.NoSuchCommand → IsUnmet g words
 unmet g words error result fault has err other same =
     let told : result ≡ Err words_fault.NoSuchCommand = cc in

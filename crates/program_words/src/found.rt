@@ -4,20 +4,20 @@ ghost use Rattle.std.specs.IoError.{error_kind};
 ghost use Rattle.std.specs.Vec.Iter.{into_iter_items};
 ghost use Rattle.program_words.specs.Met.{texts};
 
-use crate::met::WordsFault;
+use crate::met::GrammarFault;
 use std::alloc::{AllocError, Global};
 use std::env::Args;
 use std::io::{Error, ErrorKind};
 
 // Why there are no words.
-fn words_fault(error: Error) -> WordsFault
-    ensures memory { error_kind error ≡ ErrorKind.OutOfMemory → result ≡ WordsFault.OutOfMemory }
-    ensures other { error_kind error ≢ ErrorKind.OutOfMemory → result ≡ WordsFault.NoSuchCommand }
+fn words_fault(error: Error) -> GrammarFault
+    ensures memory { error_kind error ≡ ErrorKind.OutOfMemory → result ≡ GrammarFault.OutOfMemory }
+    ensures other { error_kind error ≢ ErrorKind.OutOfMemory → result ≡ GrammarFault.NoSuchCommand }
 {
     if error.kind() == ErrorKind::OutOfMemory {
-        WordsFault::OutOfMemory
+        GrammarFault::OutOfMemory
     } else {
-        WordsFault::NoSuchCommand
+        GrammarFault::NoSuchCommand
     }
 }
 
@@ -33,14 +33,14 @@ fn kept_words(alloc: Global, words: Args) -> Result<Vec<String>, AllocError>
 /// # Errors
 ///
 /// `NoSuchCommand` where the system has words that are no text. `OutOfMemory` where a growth was refused.
-pub fn words_found(alloc: Global, found: Result<Args, Error>) -> Result<Vec<String>, WordsFault>
+pub fn words_found(alloc: Global, found: Result<Args, Error>) -> Result<Vec<String>, GrammarFault>
     ensures found { IfOk found (λ words. IfOk result (λ kept. kept.items ≡ into_iter_items words)) }
-    ensures refused { OnOk found (IfErr result (λ fault. fault ≡ WordsFault.OutOfMemory)) }
-    ensures memory { IfErr found (λ error. error_kind error ≡ ErrorKind.OutOfMemory → result ≡ Err WordsFault.OutOfMemory) }
-    ensures other { IfErr found (λ error. error_kind error ≢ ErrorKind.OutOfMemory → result ≡ Err WordsFault.NoSuchCommand) }
+    ensures refused { OnOk found (IfErr result (λ fault. fault ≡ GrammarFault.OutOfMemory)) }
+    ensures memory { IfErr found (λ error. error_kind error ≡ ErrorKind.OutOfMemory → result ≡ Err GrammarFault.OutOfMemory) }
+    ensures other { IfErr found (λ error. error_kind error ≢ ErrorKind.OutOfMemory → result ≡ Err GrammarFault.NoSuchCommand) }
 {
     match found {
-        Ok(words) => kept_words(alloc, words).map_err(|_| WordsFault::OutOfMemory),
+        Ok(words) => kept_words(alloc, words).map_err(|_| GrammarFault::OutOfMemory),
         Err(error) => Err(words_fault(error)),
     }
 }

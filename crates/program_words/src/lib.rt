@@ -14,4 +14,4 @@ mod parts;
 
 pub use found::{word_slices, words_found};
 pub use grammar::{CommandRule, Grammar, WordKind, WordRule};
-pub use met::{CommandWords, Met, WordsFault, read_words};
+pub use met::{CommandWords, GrammarFault, Met, read_words};

@@ -63,33 +63,33 @@ pub enum Met<'a> {
 
 /// Why the words ask for nothing.
 #[derive(Clone, Copy, Debug, PartialEq, Eq)]
-pub enum WordsFault {
+pub enum GrammarFault {
     /// They are no command that the program has.
     NoSuchCommand,
     /// A growth was refused.
     OutOfMemory,
 }
 
-impl From<AllocError> for WordsFault {
+impl From<AllocError> for GrammarFault {
     ghost use Rattle.std.specs.Prelude.{◌≡◌};
-    ghost use Rattle.program_words.specs.declared.met.WordsFault.{WordsFault};
+    ghost use Rattle.program_words.specs.declared.met.GrammarFault.{GrammarFault};
 
-    ghost from_gives = { λ _ fault. fault ≡ WordsFault.OutOfMemory };
+    ghost from_gives = { λ _ fault. fault ≡ GrammarFault.OutOfMemory };
 
-    fn from(_error: AllocError) -> WordsFault {
-        WordsFault::OutOfMemory
+    fn from(_error: AllocError) -> GrammarFault {
+        GrammarFault::OutOfMemory
     }
 }
 
 // The text of help or of the version, where that was asked for.
-fn text_of(alloc: Global, error: &Error) -> Result<String, WordsFault>
+fn text_of(alloc: Global, error: &Error) -> Result<String, GrammarFault>
     ensures asked { OnOk result (IsTextFor error.now) }
-    ensures other { result ≡ Err WordsFault.NoSuchCommand → IsOtherKind error.now }
+    ensures other { result ≡ Err GrammarFault.NoSuchCommand → IsOtherKind error.now }
 {
     match error.kind() {
         ErrorKind::DisplayHelp | ErrorKind::DisplayVersion => Ok(error.to_string(alloc)?),
-        ErrorKind::OutOfMemory => Err(WordsFault::OutOfMemory),
-        _ => Err(WordsFault::NoSuchCommand),
+        ErrorKind::OutOfMemory => Err(GrammarFault::OutOfMemory),
+        _ => Err(GrammarFault::NoSuchCommand),
     }
 }
 
@@ -112,15 +112,15 @@ pub fn read_words<'a>(
     alloc: Global,
     grammar: &Grammar<'a>,
     words: &'a [&'a str],
-) -> Result<Met<'a>, WordsFault>
+) -> Result<Met<'a>, GrammarFault>
     ensures ok { is_simple_and_free (program_app grammar.now) ≡ true → IfOk result (IsMet (program_app grammar.now) (texts words.now)) }
-    ensures none { is_simple_and_free (program_app grammar.now) ≡ true → result ≡ Err WordsFault.NoSuchCommand → IsUnmet (program_app grammar.now) (texts words.now) }
+    ensures none { is_simple_and_free (program_app grammar.now) ≡ true → result ≡ Err GrammarFault.NoSuchCommand → IsUnmet (program_app grammar.now) (texts words.now) }
 {
     let program = program_of(alloc, grammar)?;
     match program.try_get_matches_from(words) {
         Ok(matches) => match command_of(matches) {
             Some((name, words)) => Ok(Met::Command { name, words }),
-            None => Err(WordsFault::NoSuchCommand),
+            None => Err(GrammarFault::NoSuchCommand),
         },
         Err(error) => match text_of(alloc, &error) {
             Ok(text) => Ok(Met::Text(text)),

@@ -4,7 +4,7 @@ ghost use Rattle.std.specs.IoError.{error_kind};
 ghost use Rattle.std.specs.Vec.Iter.{into_iter_items};
 
 use commands::CommandFault;
-use program_words::{WordsFault, words_found};
+use program_words::{GrammarFault, words_found};
 use std::alloc::Global;
 use std::env::Args;
 use std::io::{Error, ErrorKind};
@@ -22,7 +22,7 @@ pub(crate) fn words_in(
 {
     match words_found(alloc, found) {
         Ok(words) => Ok(words),
-        Err(WordsFault::NoSuchCommand) => Err(CommandFault::NoSuchCommand),
-        Err(WordsFault::OutOfMemory) => Err(CommandFault::OutOfMemory),
+        Err(GrammarFault::NoSuchCommand) => Err(CommandFault::NoSuchCommand),
+        Err(GrammarFault::OutOfMemory) => Err(CommandFault::OutOfMemory),
     }
 }

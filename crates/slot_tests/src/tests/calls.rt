@@ -3,7 +3,7 @@ ghost use Rattle.std.specs.Prelude.{◌≡◌, IfOk};
 ghost use Rattle.device_slot.specs.Begun.{IsKept};
 
 use device_bench::hold::hold_same;
-use device_slot::{CallFault, PowerFault, Report, Shortage, Slot, stop};
+use device_slot::{CallFault, PowerFault, Report, Shortage, DeviceSlot, stop};
 use ftl_device::{Device, DeviceFault};
 use onfi_cycles::Nand;
 use page_layout::geometry::Geometry;
@@ -41,13 +41,13 @@ fn part(bytes: &[u8], length: usize) -> &[u8] {
 }
 
 // A sector is written with so many bytes.
-fn write<N: Nand>(slot: &mut Slot<N>, sector: u32, length: usize, byte: u8) -> Answer {
+fn write<N: Nand>(slot: &mut DeviceSlot<N>, sector: u32, length: usize, byte: u8) -> Answer {
     slot.write(sector, part(&[byte; 72], length))
 }
 
 // A sector is read into so many bytes, which stay as they are where it is not done.
 fn read<N: Nand>(
-    slot: &mut Slot<N>,
+    slot: &mut DeviceSlot<N>,
     name: &str,
     sector: u32,
     length: usize,
@@ -66,7 +66,7 @@ fn read<N: Nand>(
 }
 
 // A call is made.
-fn make<N: Nand>(slot: &mut Slot<N>, name: &str, call: Call) -> Result<Answer, Fail> {
+fn make<N: Nand>(slot: &mut DeviceSlot<N>, name: &str, call: Call) -> Result<Answer, Fail> {
     match call {
         Call::Write(sector, length, byte) => Ok(write(slot, sector, length, byte)),
         Call::Read(sector, length, byte) => read(slot, name, sector, length, byte),
@@ -82,7 +82,7 @@ fn make<N: Nand>(slot: &mut Slot<N>, name: &str, call: Call) -> Result<Answer, F
 ///
 /// One is not.
 pub fn hold_calls<N: Nand>(
-    slot: &mut Slot<N>,
+    slot: &mut DeviceSlot<N>,
     name: &str,
     rows: &[(Call, Answer)],
 ) -> Result<(), Fail> {
@@ -103,7 +103,7 @@ pub fn hold_calls<N: Nand>(
 ///
 /// It stands otherwise.
 pub fn hold_state<N: Nand>(
-    slot: &Slot<N>,
+    slot: &DeviceSlot<N>,
     name: &str,
     report: Option<Report>,
     shortage: Option<Shortage>,
@@ -138,7 +138,7 @@ pub fn kept<N: Nand + Drop>(device: Result<Device<N>, PowerFault<N>>) -> Result<
 /// # Errors
 ///
 /// There is no device.
-pub fn given_up<N: Nand>(slot: Slot<N>) -> Result<(N, Geometry), Fail>
+pub fn given_up<N: Nand>(slot: DeviceSlot<N>) -> Result<(N, Geometry), Fail>
     ensures { IfOk result (λ pair. (N.flash pair.0).geometry ≡ pair.1) }
 {
     match slot.into_device() {

@@ -5,7 +5,7 @@ ghost use Rattle.device_slot.specs.Begun.{IsKept};
 use super::calls::Call::{Flush, Read, Trim, Turn, Write};
 use super::calls::{Answer, Call, OFF, RANGE, SIZE, given_up, hold_calls, hold_state, kept};
 use device_bench::bench::{driver_on, formatted_die, mounted, small};
-use device_slot::{CallFault, Report, Shortage, Slot, start, start_checked, start_mounted};
+use device_slot::{CallFault, Report, Shortage, DeviceSlot, start, start_checked, start_mounted};
 use ftl_device::{Device, DeviceFault};
 use nand_die::Die;
 use onfi_cycles::{Driver, Nand};
@@ -180,7 +180,7 @@ fn live<N: Nand + Drop>(
     requires { (N.flash nand).geometry ≡ geometry.now }
     ensures { IfOk result (λ pair. (N.flash pair.0).geometry ≡ pair.1) }
 {
-    let mut slot = Slot::new();
+    let mut slot = DeviceSlot::new();
     hold_calls(&mut slot, life.name, &NONE)?;
     slot.put(brought(alloc, nand, geometry, life)?);
     hold_calls(&mut slot, life.name, life.calls)?;

@@ -8,7 +8,7 @@ use super::calls::Call::{Read, Write};
 use super::calls::{Answer, Call, given_up, hold_calls, kept};
 use device_bench::bench::{driver_on, formatted_die, mounted, small};
 use device_bench::hold::hold_same;
-use device_slot::{PowerFault, Slot, start, start_checked, start_mounted};
+use device_slot::{PowerFault, DeviceSlot, start, start_checked, start_mounted};
 use ftl_device::{Device, DeviceFault};
 use image_check::Refusal;
 use nand_die::{CycleFuse, Die, Stop};
@@ -84,7 +84,7 @@ fn called<N: Nand + Drop>(device: Device<N>, rows: &[(Call, Answer)]) -> Result<
     requires { IsKept N.flash N.honest device }
     ensures { IfOk result (λ pair. (N.flash pair.0).geometry ≡ pair.1) }
 {
-    let mut slot = Slot::new();
+    let mut slot = DeviceSlot::new();
     slot.put(device);
     hold_calls(&mut slot, "called", rows)?;
     given_up(slot)

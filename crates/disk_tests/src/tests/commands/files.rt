@@ -4,9 +4,9 @@ ghost use Rattle.page_layout.specs.Geometry.{row_count};
 ghost use Rattle.page_layout.specs.Raw.{raw_image};
 
 use disk_commands::{
-    Access, DiskFiles, FileFault, FoundMark, LockedDie, Shape, dump_bytes as raw_bytes, none_found,
+    Access, DiskFiles, DiskFileFault, FoundMark, LockedDie, DiskShape, dump_bytes as raw_bytes, none_found,
 };
-use disk_server::{KeepsLost, Mark, Syncs};
+use disk_server::{KeepsLost, SyncMark, Syncs};
 use file_die::{MemoryStore, Store};
 use nbd_stream::DiskFault;
 use page_layout::geometry::Geometry;
@@ -65,7 +65,7 @@ impl LockedDie for MemoryLock {
 #[derive(Drop)]
 pub struct MemorySyncs {
     done: u64,
-    mark: Mark,
+    mark: SyncMark,
 }
 
 impl Syncs for MemorySyncs {
@@ -81,7 +81,7 @@ impl Syncs for MemorySyncs {
         Ok(())
     }
 
-    fn mark(&self) -> Mark {
+    fn mark(&self) -> SyncMark {
         self.mark
     }
 }
@@ -160,30 +160,30 @@ impl MemoryFiles {
 }
 
 // The dump. A caller's proof need not know its bytes.
-fn dump_bytes(alloc: Global) -> Result<Vec<u8>, FileFault> {
+fn dump_bytes(alloc: Global) -> Result<Vec<u8>, DiskFileFault> {
     match vec![in alloc; 0xFF; DUMP_BYTES] {
         Ok(bytes) => Ok(bytes),
-        Err(_) => Err(FileFault::OutOfMemory),
+        Err(_) => Err(DiskFileFault::OutOfMemory),
     }
 }
 
 // A copy of bytes.
-fn copied(alloc: Global, bytes: &[u8]) -> Result<Vec<u8>, FileFault> {
+fn copied(alloc: Global, bytes: &[u8]) -> Result<Vec<u8>, DiskFileFault> {
     let mut copy = Vec::new(alloc);
     match copy.extend_from_slice(bytes) {
         Ok(()) => Ok(copy),
-        Err(_) => Err(FileFault::OutOfMemory),
+        Err(_) => Err(DiskFileFault::OutOfMemory),
     }
 }
 
 // A store of these bytes, where they are as many as the die's pages have.
-fn store_of(geometry: &Geometry, bytes: Vec<u8>) -> Result<MemoryStore, FileFault>
+fn store_of(geometry: &Geometry, bytes: Vec<u8>) -> Result<MemoryStore, DiskFileFault>
     ensures { IfOk result (λ store. store ≡ record { geometry = geometry.now; pages = raw_image geometry.now bytes.items }) }
 {
     let length = bytes.len() as u64;
     match MemoryStore::new(*geometry, bytes) {
         Some(store) => Ok(store),
-        None => Err(FileFault::Length(length)),
+        None => Err(DiskFileFault::Length(length)),
     }
 }
 
@@ -234,22 +234,22 @@ impl DiskFiles for MemoryFiles {
 
     ghost opened = { λ _. None };
 
-    fn has(&mut self, path: &str) -> Result<bool, FileFault> {
+    fn has(&mut self, path: &str) -> Result<bool, DiskFileFault> {
         if matches!(self.trouble, Trouble::Unasked) {
-            return Err(FileFault::Read);
+            return Err(DiskFileFault::Read);
         }
         Ok(self.find(path).is_some())
     }
 
-    fn lock(&mut self, path: &str, access: Access) -> Result<MemoryLock, FileFault> {
+    fn lock(&mut self, path: &str, access: Access) -> Result<MemoryLock, DiskFileFault> {
         if matches!(self.trouble, Trouble::Busy) {
-            return Err(FileFault::InUse);
+            return Err(DiskFileFault::InUse);
         }
         match self.find(path) {
             Some(_) => Ok(MemoryLock {
                 writes: access.writes,
             }),
-            None => Err(FileFault::Read),
+            None => Err(DiskFileFault::Read),
         }
     }
 
@@ -258,19 +258,19 @@ impl DiskFiles for MemoryFiles {
         alloc: Global,
         path: &str,
         _locked: &MemoryLock,
-    ) -> Result<Vec<u8>, FileFault> {
+    ) -> Result<Vec<u8>, DiskFileFault> {
         if matches!(self.trouble, Trouble::Listed(_) | Trouble::Unlisted) {
             return copied(alloc, LISTED);
         }
         match self.find(path) {
             Some(disk) => copied(alloc, &disk.text),
-            None => Err(FileFault::Read),
+            None => Err(DiskFileFault::Read),
         }
     }
 
-    fn mark_text(&mut self, _alloc: Global, _path: &str) -> Result<Option<Vec<u8>>, FileFault> {
+    fn mark_text(&mut self, _alloc: Global, _path: &str) -> Result<Option<Vec<u8>>, DiskFileFault> {
         if matches!(self.trouble, Trouble::Unread) {
-            return Err(FileFault::Read);
+            return Err(DiskFileFault::Read);
         }
         Ok(None)
     }
@@ -280,10 +280,10 @@ impl DiskFiles for MemoryFiles {
         alloc: Global,
         path: &str,
         _locked: MemoryLock,
-        shape: &Shape,
-    ) -> Result<(MemoryStore, MemorySyncs), FileFault> {
+        shape: &DiskShape,
+    ) -> Result<(MemoryStore, MemorySyncs), DiskFileFault> {
         let Some(disk) = self.find(path) else {
-            return Err(FileFault::Read);
+            return Err(DiskFileFault::Read);
         };
         let pages = match copied(alloc, &disk.pages) {
             Ok(pages) => pages,
@@ -307,9 +307,9 @@ impl DiskFiles for MemoryFiles {
         _path: &str,
         syncs: MemorySyncs,
         found: FoundMark,
-    ) -> Result<MemorySyncs, FileFault> {
+    ) -> Result<MemorySyncs, DiskFileFault> {
         if matches!(self.trouble, Trouble::Unmarked) {
-            return Err(FileFault::Write);
+            return Err(DiskFileFault::Write);
         }
         Ok(MemorySyncs {
             done: syncs.done,
@@ -321,13 +321,13 @@ impl DiskFiles for MemoryFiles {
         &mut self,
         alloc: Global,
         _path: &str,
-        shape: &Shape,
-    ) -> Result<MemoryStore, FileFault> {
+        shape: &DiskShape,
+    ) -> Result<MemoryStore, DiskFileFault> {
         if matches!(self.trouble, Trouble::Full) {
-            return Err(FileFault::Write);
+            return Err(DiskFileFault::Write);
         }
         let Ok(pages) = vec![in alloc; 0xFF; raw_bytes(&shape.geometry) as usize] else {
-            return Err(FileFault::OutOfMemory);
+            return Err(DiskFileFault::OutOfMemory);
         };
         store_of(&shape.geometry, pages)
     }
@@ -336,11 +336,11 @@ impl DiskFiles for MemoryFiles {
         &mut self,
         alloc: Global,
         _path: &str,
-        shape: &Shape,
+        shape: &DiskShape,
         dump: &str,
-    ) -> Result<MemoryStore, FileFault> {
+    ) -> Result<MemoryStore, DiskFileFault> {
         if dump != "dump" {
-            return Err(FileFault::Read);
+            return Err(DiskFileFault::Read);
         }
         match dump_bytes(alloc) {
             Ok(pages) => store_of(&shape.geometry, pages),
@@ -348,25 +348,25 @@ impl DiskFiles for MemoryFiles {
         }
     }
 
-    fn keep(&mut self, path: &str, store: MemoryStore, text: &[u8]) -> Result<(), FileFault> {
+    fn keep(&mut self, path: &str, store: MemoryStore, text: &[u8]) -> Result<(), DiskFileFault> {
         if matches!(self.trouble, Trouble::Unkept) {
-            return Err(FileFault::Write);
+            return Err(DiskFileFault::Write);
         }
         match kept_disk(self.alloc, path, store, text) {
             Ok(disk) => match self.disks.push(disk) {
                 Ok(()) => Ok(()),
-                Err(_) => Err(FileFault::OutOfMemory),
+                Err(_) => Err(DiskFileFault::OutOfMemory),
             },
-            Err(_) => Err(FileFault::OutOfMemory),
+            Err(_) => Err(DiskFileFault::OutOfMemory),
         }
     }
 
     fn discard(&mut self, _path: &str) {}
 
-    fn lost_text(&mut self, alloc: Global, _path: &str, _most: u64) -> Result<Vec<u8>, FileFault> {
+    fn lost_text(&mut self, alloc: Global, _path: &str, _most: u64) -> Result<Vec<u8>, DiskFileFault> {
         match self.trouble {
             Trouble::Listed(text) => copied(alloc, text),
-            _ => Err(FileFault::Read),
+            _ => Err(DiskFileFault::Read),
         }
     }
 
@@ -376,7 +376,7 @@ impl DiskFiles for MemoryFiles {
         _path: &str,
         _syncs: &MemorySyncs,
         _beside: &[u8],
-    ) -> Result<MemoryLists, FileFault> {
+    ) -> Result<MemoryLists, DiskFileFault> {
         Ok(MemoryLists::new(alloc))
     }
 }

@@ -5,7 +5,7 @@ use super::disks::{device_on, die_of, over};
 use device_bench::bench::small;
 use device_bench::cases::erases_of;
 use disk_server::{DeviceDisk, Sectors};
-use nbd_stream::{Disk, End, Export, transmit};
+use nbd_stream::{Disk, StreamEnd, Export, transmit};
 use onfi_cycles::Nand;
 use std::alloc::Global;
 use std::test::Fail;
@@ -91,7 +91,7 @@ fn serves<D: Disk>(disk: &mut D, mut input: &[u8], out: &mut Vec<u8>) -> bool
     let mut buffer = [0; SECTOR];
     matches!(
         transmit(&mut input, out, disk, &EXPORT, &mut buffer),
-        Ok(End::Boundary)
+        Ok(StreamEnd::Boundary)
     )
 }
 

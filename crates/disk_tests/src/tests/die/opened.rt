@@ -1,7 +1,7 @@
 //! Dies over stores that hold pages, and stores over which none is opened.
 use super::noting::{Call, Noting};
 use super::{Answer, Ask, erased, hold};
-use file_die::{FileDie, OpenFault, Store, SyncWhen};
+use file_die::{FileDie, OpenDieFault, Store, SyncWhen};
 use onfi_cycles::{Bus, BusFault};
 use std::alloc::Global;
 use std::process::Abort;
@@ -75,12 +75,12 @@ fn pages_that_are_looked_at(rt: HostRuntime) {
 }
 
 // The call at which the store fails, the blocks named bad, the fault, the calls and the failures.
-const REFUSED: &[(usize, &[u32], OpenFault, usize, u64)] = &[
-    (0, &[3, 3], OpenFault::BadBlock { block: 3 }, 0, 0),
-    (0, &[31, 32, 31], OpenFault::BadBlock { block: 32 }, 0, 0),
-    (1, &[], OpenFault::Store, 1, 1),
-    (8, &[3], OpenFault::Store, 8, 1),
-    (254, &[3], OpenFault::Store, 254, 1),
+const REFUSED: &[(usize, &[u32], OpenDieFault, usize, u64)] = &[
+    (0, &[3, 3], OpenDieFault::BadBlock { block: 3 }, 0, 0),
+    (0, &[31, 32, 31], OpenDieFault::BadBlock { block: 32 }, 0, 0),
+    (1, &[], OpenDieFault::Store, 1, 1),
+    (8, &[3], OpenDieFault::Store, 8, 1),
+    (254, &[3], OpenDieFault::Store, 254, 1),
 ];
 
 // Whether no die is opened, with this fault, these calls and failures.
@@ -89,7 +89,7 @@ fn is_refused(
     alloc: Global,
     fails_at: usize,
     bad: &[u32],
-    fault: OpenFault,
+    fault: OpenDieFault,
     calls: usize,
     failures: u64,
 ) -> bool {

@@ -1,6 +1,6 @@
 // Negotiations, of a disk of 1000000000040h bytes, with room for sixteen bytes of body.
 use super::pieces::Pieces;
-use nbd_stream::{End, Export, Negotiated, negotiate};
+use nbd_stream::{StreamEnd, Export, Negotiated, negotiate};
 use request_stream::ServeFault;
 use std::alloc::Global;
 use std::test::Fail;
@@ -26,21 +26,21 @@ const ROWS: &[Row] = &[
     Row {
         name: "a client that goes at once",
         input: b"",
-        answer: Ok(Negotiated::Ended(End::Unfinished)),
+        answer: Ok(Negotiated::Ended(StreamEnd::Unfinished)),
         output: b"NBDMAGICIHAVEOPT\x00\x03",
         left: 0,
     },
     Row {
         name: "flags, and the end",
         input: b"\x00\x00\x00\x03",
-        answer: Ok(Negotiated::Ended(End::Boundary)),
+        answer: Ok(Negotiated::Ended(StreamEnd::Boundary)),
         output: b"NBDMAGICIHAVEOPT\x00\x03",
         left: 0,
     },
     Row {
         name: "flags that nobody knows",
         input: b"\x00\x00\x00\x04IHAVEOPT\x00\x00\x00\x02\x00\x00\x00\x00",
-        answer: Ok(Negotiated::Ended(End::BadFrame)),
+        answer: Ok(Negotiated::Ended(StreamEnd::BadFrame)),
         output: b"NBDMAGICIHAVEOPT\x00\x03",
         left: 16,
     },
@@ -54,21 +54,21 @@ const ROWS: &[Row] = &[
     Row {
         name: "what it is, and then the end of the negotiation",
         input: b"\x00\x00\x00\x03IHAVEOPT\x00\x00\x00\x06\x00\x00\x00\x08\x00\x00\x00\x00\x00\x01\x00\x03IHAVEOPT\x00\x00\x00\x02\x00\x00\x00\x00a",
-        answer: Ok(Negotiated::Ended(End::Disconnected)),
+        answer: Ok(Negotiated::Ended(StreamEnd::Disconnected)),
         output: b"NBDMAGICIHAVEOPT\x00\x03\x00\x03\xe8\x89\x04Ue\xa9\x00\x00\x00\x06\x00\x00\x00\x03\x00\x00\x00\x0c\x00\x00\x00\x01\x00\x00\x00\x00\x00@\x00m\x00\x03\xe8\x89\x04Ue\xa9\x00\x00\x00\x06\x00\x00\x00\x03\x00\x00\x00\x0e\x00\x03\x00\x00\x00\x01\x00\x00\x10\x00\x00\x01\x00\x00\x00\x03\xe8\x89\x04Ue\xa9\x00\x00\x00\x06\x00\x00\x00\x01\x00\x00\x00\x00\x00\x03\xe8\x89\x04Ue\xa9\x00\x00\x00\x02\x00\x00\x00\x01\x00\x00\x00\x00",
         left: 1,
     },
     Row {
         name: "structured replies, TLS, and the list",
         input: b"\x00\x00\x00\x03IHAVEOPT\x00\x00\x00\x08\x00\x00\x00\x00IHAVEOPT\x00\x00\x00\x05\x00\x00\x00\x00IHAVEOPT\x00\x00\x00\x03\x00\x00\x00\x00",
-        answer: Ok(Negotiated::Ended(End::Boundary)),
+        answer: Ok(Negotiated::Ended(StreamEnd::Boundary)),
         output: b"NBDMAGICIHAVEOPT\x00\x03\x00\x03\xe8\x89\x04Ue\xa9\x00\x00\x00\x08\x80\x00\x00\x01\x00\x00\x00\x00\x00\x03\xe8\x89\x04Ue\xa9\x00\x00\x00\x05\x80\x00\x00\x01\x00\x00\x00\x00\x00\x03\xe8\x89\x04Ue\xa9\x00\x00\x00\x03\x00\x00\x00\x02\x00\x00\x00\x04\x00\x00\x00\x00\x00\x03\xe8\x89\x04Ue\xa9\x00\x00\x00\x03\x00\x00\x00\x01\x00\x00\x00\x00",
         left: 0,
     },
     Row {
         name: "questions with another name, a bad length, and too much",
         input: b"\x00\x00\x00\x03IHAVEOPT\x00\x00\x00\x07\x00\x00\x00\x07\x00\x00\x00\x01x\x00\x00IHAVEOPT\x00\x00\x00\x06\x00\x00\x00\x06\x00\x00\x00\x00\x00\x01IHAVEOPT\x00\x00\x00\x07\x00\x00\x00\x11\x00\x00\x00\x00\x00\x00\x00\x00\x00\x00\x00\x00\x00\x00\x00\x00\x00IHAVEOPT\x00\x00\x00\x03\x00\x00\x00\x01a",
-        answer: Ok(Negotiated::Ended(End::Boundary)),
+        answer: Ok(Negotiated::Ended(StreamEnd::Boundary)),
         output: b"NBDMAGICIHAVEOPT\x00\x03\x00\x03\xe8\x89\x04Ue\xa9\x00\x00\x00\x07\x80\x00\x00\x06\x00\x00\x00\x00\x00\x03\xe8\x89\x04Ue\xa9\x00\x00\x00\x06\x80\x00\x00\x03\x00\x00\x00\x00\x00\x03\xe8\x89\x04Ue\xa9\x00\x00\x00\x07\x80\x00\x00\x09\x00\x00\x00\x00\x00\x03\xe8\x89\x04Ue\xa9\x00\x00\x00\x03\x80\x00\x00\x03\x00\x00\x00\x00",
         left: 0,
     },
@@ -89,21 +89,21 @@ const ROWS: &[Row] = &[
     Row {
         name: "the old way, for another name",
         input: b"\x00\x00\x00\x03IHAVEOPT\x00\x00\x00\x01\x00\x00\x00\x01x%",
-        answer: Ok(Negotiated::Ended(End::Disconnected)),
+        answer: Ok(Negotiated::Ended(StreamEnd::Disconnected)),
         output: b"NBDMAGICIHAVEOPT\x00\x03",
         left: 1,
     },
     Row {
         name: "another magic",
         input: b"\x00\x00\x00\x03IHAVEOPS\x00\x00\x00\x00\x00\x00\x00\x00\x00",
-        answer: Ok(Negotiated::Ended(End::BadFrame)),
+        answer: Ok(Negotiated::Ended(StreamEnd::BadFrame)),
         output: b"NBDMAGICIHAVEOPT\x00\x03",
         left: 1,
     },
     Row {
         name: "an option that is cut short",
         input: b"\x00\x00\x00\x03IHAVEOPT\x00\x00\x00\x07\xff\xff\xff\xffabc",
-        answer: Ok(Negotiated::Ended(End::Unfinished)),
+        answer: Ok(Negotiated::Ended(StreamEnd::Unfinished)),
         output: b"NBDMAGICIHAVEOPT\x00\x03",
         left: 0,
     },

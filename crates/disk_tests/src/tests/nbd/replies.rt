@@ -1,5 +1,5 @@
 // Replies, and what a request asks.
-use nbd_stream::{Export, Header, RequestError, Task, admit, send_reply};
+use nbd_stream::{Export, NbdHeader, RequestError, Task, admit, send_reply};
 use std::alloc::Global;
 use std::test::Fail;
 
@@ -164,7 +164,7 @@ const ROWS: &[Row] = &[
 // Whether a disk, and one that is read-only, are asked what a row says.
 fn holds(row: &Row) -> bool {
     let (code, flags, offset, count) = row.asked;
-    let header = Header {
+    let header = NbdHeader {
         flags,
         code,
         cookie: COOKIE,

@@ -1,6 +1,6 @@
 // Streams of requests, with room for eight bytes of a write.
 use super::pieces::Pieces;
-use nbd_stream::{End, Header, Next, read_request};
+use nbd_stream::{StreamEnd, NbdHeader, NextRequest, read_request};
 use request_stream::ServeFault;
 use std::test::Fail;
 
@@ -10,14 +10,14 @@ struct Row {
     input: &'static [u8],
     // The read that fails, from 1; 0 for none.
     failing_read: usize,
-    answer: Result<Next, ServeFault>,
+    answer: Result<NextRequest, ServeFault>,
     // The front of the buffer after it.
     body: &'static [u8],
     // The bytes that were not read.
     left: usize,
 }
 
-const READ: Header = Header {
+const READ: NbdHeader = NbdHeader {
     flags: 0,
     code: 0,
     cookie: 0x0102_0304_0506_0708,
@@ -25,7 +25,7 @@ const READ: Header = Header {
     count: 0x200,
 };
 
-const WRITE: Header = Header {
+const WRITE: NbdHeader = NbdHeader {
     flags: 1,
     code: 1,
     cookie: 7,
@@ -37,7 +37,7 @@ const QUIET: Row = Row {
     name: "",
     input: b"",
     failing_read: 0,
-    answer: Ok(Next::Ended(End::Boundary)),
+    answer: Ok(NextRequest::Ended(StreamEnd::Boundary)),
     body: b"",
     left: 0,
 };
@@ -50,14 +50,14 @@ const ROWS: &[Row] = &[
     Row {
         name: "a read, and a byte after it",
         input: b"\x25\x60\x95\x13\x00\x00\x00\x00\x01\x02\x03\x04\x05\x06\x07\x08\x00\x00\x00\x00\x00\x00\x10\x00\x00\x00\x02\x00\x99",
-        answer: Ok(Next::Whole(READ)),
+        answer: Ok(NextRequest::Whole(READ)),
         left: 1,
         ..QUIET
     },
     Row {
         name: "a write that lasts, past every end, with its three bytes",
         input: b"\x25\x60\x95\x13\x00\x01\x00\x01\x00\x00\x00\x00\x00\x00\x00\x07\xff\xff\xff\xff\xff\xff\xff\xfe\x00\x00\x00\x03abc\x25",
-        answer: Ok(Next::Whole(WRITE)),
+        answer: Ok(NextRequest::Whole(WRITE)),
         body: b"abc",
         left: 1,
         ..QUIET
@@ -65,20 +65,20 @@ const ROWS: &[Row] = &[
     Row {
         name: "a write of more than there is room for is read past",
         input: b"\x25\x60\x95\x13\x00\x01\x00\x01\x00\x00\x00\x00\x00\x00\x00\x07\xff\xff\xff\xff\xff\xff\xff\xfe\x00\x00\x00\x09abcdefghi\x25\x60",
-        answer: Ok(Next::Whole(Header { count: 9, ..WRITE })),
+        answer: Ok(NextRequest::Whole(NbdHeader { count: 9, ..WRITE })),
         left: 2,
         ..QUIET
     },
     Row {
         name: "a write of four gigabytes of which one byte comes",
         input: b"\x25\x60\x95\x13\x00\x01\x00\x01\x00\x00\x00\x00\x00\x00\x00\x07\xff\xff\xff\xff\xff\xff\xff\xfe\xff\xff\xff\xffa",
-        answer: Ok(Next::Ended(End::Unfinished)),
+        answer: Ok(NextRequest::Ended(StreamEnd::Unfinished)),
         ..QUIET
     },
     Row {
         name: "an unknown command is a request, with no bytes after it",
         input: b"\x25\x60\x95\x13\xff\xff\xff\xff\x00\x00\x00\x00\x00\x00\x00\x07\xff\xff\xff\xff\xff\xff\xff\xfe\x00\x00\x00\x03abc",
-        answer: Ok(Next::Whole(Header {
+        answer: Ok(NextRequest::Whole(NbdHeader {
             flags: 0xffff,
             code: 0xffff,
             ..WRITE
@@ -89,21 +89,21 @@ const ROWS: &[Row] = &[
     Row {
         name: "a client that goes, whatever its numbers",
         input: b"\x25\x60\x95\x13\x00\x01\x00\x02\x00\x00\x00\x00\x00\x00\x00\x07\xff\xff\xff\xff\xff\xff\xff\xfe\x00\x00\x00\x03abc",
-        answer: Ok(Next::Ended(End::Disconnected)),
+        answer: Ok(NextRequest::Ended(StreamEnd::Disconnected)),
         left: 3,
         ..QUIET
     },
     Row {
         name: "another magic",
         input: b"\x25\x60\x95\x14\x00\x01\x00\x02\x00\x00\x00\x00\x00\x00\x00\x07\xff\xff\xff\xff\xff\xff\xff\xfe\x00\x00\x00\x03abc",
-        answer: Ok(Next::Ended(End::BadFrame)),
+        answer: Ok(NextRequest::Ended(StreamEnd::BadFrame)),
         left: 3,
         ..QUIET
     },
     Row {
         name: "27 bytes",
         input: b"\x25\x60\x95\x14\x00\x01\x00\x02\x00\x00\x00\x00\x00\x00\x00\x07\xff\xff\xff\xff\xff\xff\xff\xfe\x00\x00\x00",
-        answer: Ok(Next::Ended(End::Unfinished)),
+        answer: Ok(NextRequest::Ended(StreamEnd::Unfinished)),
         ..QUIET
     },
     Row {

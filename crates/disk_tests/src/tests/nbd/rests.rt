@@ -1,5 +1,5 @@
 // When a disk rests: what it is asked and what a writer is given, in their order.
-use nbd_stream::{Disk, DiskFault, End, Export, transmit};
+use nbd_stream::{Disk, DiskFault, StreamEnd, Export, transmit};
 use request_stream::ServeFault;
 use std::cell::Cell;
 use std::io::{self, ErrorKind, Write};
@@ -151,7 +151,7 @@ struct Row {
     rests: Result<(), DiskFault>,
     // The call of the writer that fails, from 1; 0 for none.
     failing: usize,
-    answer: Result<End, ServeFault>,
+    answer: Result<StreamEnd, ServeFault>,
     letters: &'static [u8],
 }
 
@@ -161,7 +161,7 @@ const QUIET: Row = Row {
     changes: Ok(()),
     rests: Ok(()),
     failing: 0,
-    answer: Ok(End::Boundary),
+    answer: Ok(StreamEnd::Boundary),
     letters: b"",
 };
 

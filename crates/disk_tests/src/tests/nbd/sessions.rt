@@ -3,7 +3,7 @@
 ghost use Rattle.std.specs.Prelude.{◌≡◌, vec_len, IfOk};
 
 use super::pieces::Pieces;
-use nbd_stream::{End, Export, MemoryDisk, serve_memory};
+use nbd_stream::{StreamEnd, Export, MemoryDisk, serve_memory};
 use std::alloc::{AllocError, Global};
 use std::test::Fail;
 
@@ -49,7 +49,7 @@ fn holds(alloc: Global, piece: usize) -> bool {
     let mut reader = Pieces::new(INPUT, piece, 0);
     let mut out = Vec::new(alloc);
     let answer = serve_memory(&mut reader, &mut out, &mut disk, &EXPORT, &mut buffer);
-    answer == Ok(End::Disconnected) && out.as_slice() == OUTPUT && is_left(disk.bytes())
+    answer == Ok(StreamEnd::Disconnected) && out.as_slice() == OUTPUT && is_left(disk.bytes())
 }
 
 #[test]

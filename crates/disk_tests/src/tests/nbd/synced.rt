@@ -2,7 +2,7 @@
 ghost use Rattle.std.specs.Prelude.{◌≡◌, length};
 
 use crate::tests::steps::{Step, does_all};
-use disk_server::{Lasting, Mark, SectorDisk, Sectors, SyncPace, SyncedDisk, Syncs};
+use disk_server::{Lasting, SyncMark, SectorDisk, Sectors, SyncPace, SyncedDisk, Syncs};
 use nbd_stream::DiskFault;
 use std::alloc::Global;
 use std::cell::Cell;
@@ -118,8 +118,8 @@ const PACE: SyncPace = SyncPace { piece: 4, most: 2 };
 #[derive(Drop)]
 struct CountingSyncs<'a> {
     asked: &'a Cell<u64>,
-    told: &'a Cell<Mark>,
-    mark: Mark,
+    told: &'a Cell<SyncMark>,
+    mark: SyncMark,
     done: u64,
     failed: u64,
     failing: u64,
@@ -145,7 +145,7 @@ impl Syncs for CountingSyncs<'_> {
         Ok(())
     }
 
-    fn mark(&self) -> Mark {
+    fn mark(&self) -> SyncMark {
         self.mark
     }
 }
@@ -240,7 +240,7 @@ const ROWS: &[Row] = &[
 // Whether a disk of zeros does all of a row, and asks for so many syncs, the last one with this mark.
 fn holds(alloc: Global, row: &Row) -> Result<bool, Fail> {
     let asked = Cell::new(0);
-    let mark = Mark {
+    let mark = SyncMark {
         synced: 0,
         flushed: 0,
     };
@@ -275,7 +275,7 @@ fn syncs_between_flushes(rt: HostRuntime) -> Result<(), Fail> {
 // What a disk that was written with four bytes is marked with once it is closed so often, by whether its mark counts.
 fn closed(alloc: Global, times: u64, counts: bool) -> Result<(u64, u64, u64), Fail> {
     let asked = Cell::new(0);
-    let mark = Mark {
+    let mark = SyncMark {
         synced: 0,
         flushed: 0,
     };

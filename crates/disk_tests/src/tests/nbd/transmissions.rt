@@ -1,6 +1,6 @@
 // Transmissions of a disk of sixteen zeros, with room for eight bytes.
 use super::pieces::Pieces;
-use nbd_stream::{Disk, DiskFault, End, Export, transmit};
+use nbd_stream::{Disk, DiskFault, StreamEnd, Export, transmit};
 use request_stream::ServeFault;
 use std::alloc::Global;
 use std::test::Fail;
@@ -93,7 +93,7 @@ struct Row {
     // The task that fails, from 1; 0 for none.
     failing: usize,
     fault: DiskFault,
-    answer: Result<End, ServeFault>,
+    answer: Result<StreamEnd, ServeFault>,
     output: &'static [u8],
     disk: [u8; SIZE],
 }
@@ -103,7 +103,7 @@ const QUIET: Row = Row {
     input: b"",
     failing: 0,
     fault: DiskFault::Failed,
-    answer: Ok(End::Boundary),
+    answer: Ok(StreamEnd::Boundary),
     output: b"",
     disk: [0; SIZE],
 };
@@ -140,7 +140,7 @@ const ROWS: &[Row] = &[
     Row {
         name: "a durable write, a flush, and a client that goes",
         input: b"%`\x95\x13\x00\x01\x00\x01\x00\x00\x00\x00\x00\x00\x00\x07\x00\x00\x00\x00\x00\x00\x00\x04\x00\x00\x00\x03abc%`\x95\x13\x00\x00\x00\x03\x00\x00\x00\x00\x00\x00\x00\x07\x00\x00\x00\x00\x00\x00\x00\x00\x00\x00\x00\x00%`\x95\x13\x00\x00\x00\x02\x00\x00\x00\x00\x00\x00\x00\x07\x00\x00\x00\x00\x00\x00\x00\x00\x00\x00\x00\x00%",
-        answer: Ok(End::Disconnected),
+        answer: Ok(StreamEnd::Disconnected),
         output: b"gDf\x98\x00\x00\x00\x00\x00\x00\x00\x00\x00\x00\x00\x07gDf\x98\x00\x00\x00\x00\x00\x00\x00\x00\x00\x00\x00\x07",
         disk: *b"\x00\x00\x00\x00abc\x00\x00\x00\x00\x00\x00\x00\x00\x00",
         ..QUIET
@@ -182,7 +182,7 @@ const ROWS: &[Row] = &[
     Row {
         name: "a write that is cut short",
         input: b"%`\x95\x13\x00\x00\x00\x01\x00\x00\x00\x00\x00\x00\x00\x07\x00\x00\x00\x00\x00\x00\x00\x04\x00\x00\x00\x03abc%`\x95\x13\x00\x00\x00\x01\x00\x00\x00\x00\x00\x00\x00\x07\x00\x00\x00\x00\x00\x00\x00\x00\x00\x00\x00\x03xy",
-        answer: Ok(End::Unfinished),
+        answer: Ok(StreamEnd::Unfinished),
         output: b"gDf\x98\x00\x00\x00\x00\x00\x00\x00\x00\x00\x00\x00\x07",
         disk: *b"\x00\x00\x00\x00abc\x00\x00\x00\x00\x00\x00\x00\x00\x00",
         ..QUIET
@@ -190,7 +190,7 @@ const ROWS: &[Row] = &[
     Row {
         name: "another magic",
         input: b"%`\x95\x13\x00\x00\x00\x01\x00\x00\x00\x00\x00\x00\x00\x07\x00\x00\x00\x00\x00\x00\x00\x04\x00\x00\x00\x03abc%`\x95\x14\x00\x00\x00\x00\x00\x00\x00\x00\x00\x00\x00\x07\x00\x00\x00\x00\x00\x00\x00\x00\x00\x00\x00\x01",
-        answer: Ok(End::BadFrame),
+        answer: Ok(StreamEnd::BadFrame),
         output: b"gDf\x98\x00\x00\x00\x00\x00\x00\x00\x00\x00\x00\x00\x07",
         disk: *b"\x00\x00\x00\x00abc\x00\x00\x00\x00\x00\x00\x00\x00\x00",
         ..QUIET

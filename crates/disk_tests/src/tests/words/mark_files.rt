@@ -1,7 +1,7 @@
 //! The file of a mark, as a disk's files are synced.
 
 use disk_commands::{FileSyncs, FoundMark, MARK_BYTES, MarkFile, mark_of, none_found, put_blank};
-use disk_server::{Mark, Syncs};
+use disk_server::{SyncMark, Syncs};
 use file_die::{ByteFault, ByteFile, MemoryBytes};
 use std::alloc::Global;
 use std::process::Abort;
@@ -147,7 +147,7 @@ fn holds(alloc: Global, row: &Row) -> Result<bool, Fail> {
     }
     let mut file = file_of(alloc, 0, row.write, row.sync)?;
     file.bytes = MemoryBytes::new(blank);
-    let first = Mark {
+    let first = SyncMark {
         synced: 3,
         flushed: 0,
     };
@@ -166,7 +166,7 @@ fn holds(alloc: Global, row: &Row) -> Result<bool, Fail> {
     };
     let wanted = match row.found {
         Some((synced, flushed, in_second)) => Some(FoundMark {
-            mark: Mark { synced, flushed },
+            mark: SyncMark { synced, flushed },
             in_second,
         }),
         None => None,

@@ -1,7 +1,7 @@
 //! The file of a mark, by what its two slots hold.
 
 use disk_commands::{FoundMark, MARK_BYTES, mark_of, none_found, slot_bytes};
-use disk_server::Mark;
+use disk_server::SyncMark;
 use std::alloc::Global;
 use std::process::Abort;
 use std::test::*;
@@ -63,14 +63,14 @@ fn bytes_of(slot: Slot) -> [u8; SLOT] {
             blank[0] = 1;
             blank
         }
-        Slot::Whole(synced, flushed) => slot_bytes(Mark { synced, flushed }),
+        Slot::Whole(synced, flushed) => slot_bytes(SyncMark { synced, flushed }),
         Slot::Torn(old, new, count) => {
             let (old, new) = (
-                Mark {
+                SyncMark {
                     synced: old,
                     flushed: 0,
                 },
-                Mark {
+                SyncMark {
                     synced: new,
                     flushed: 0,
                 },
@@ -103,7 +103,7 @@ fn file_of(alloc: Global, first: Slot, second: Slot) -> Result<Vec<u8>, Fail> {
 fn found_of(wanted: Option<(u64, u64, bool)>) -> FoundMark {
     match wanted {
         Some((synced, flushed, in_second)) => FoundMark {
-            mark: Mark { synced, flushed },
+            mark: SyncMark { synced, flushed },
             in_second,
         },
         None => none_found(),
@@ -128,14 +128,14 @@ fn other_files_are_no_marks(rt: HostRuntime) -> Result<(), Fail> {
     assert!(rt; none_found().mark.flushed == 0, "nothing counts as flushed");
     assert!(rt; mark_of(None) == none_found(), "no file");
     assert!(rt;
-        mark_of(Some(&slot_bytes(Mark {
+        mark_of(Some(&slot_bytes(SyncMark {
             synced: 7,
             flushed: 5
         }))) == none_found(),
         "a slot alone"
     );
     assert!(rt;
-        slot_bytes(Mark {
+        slot_bytes(SyncMark {
             synced: 258,
             flushed: 3
         }) == *b"\x02\x01\0\0\0\0\0\0\x02\x01\0\0\0\0\0\0\x03\0\0\0\0\0\0\0\x03\0\0\0\0\0\0\0",

@@ -1,5 +1,5 @@
 //! Sizes as words write them, and the shapes for them.
-use disk_commands::{Shape, SizeFault, SizeWordFault, shape_for, size_from};
+use disk_commands::{DiskShape, SizeFault, SizeWordFault, shape_for, size_from};
 use std::process::Abort;
 use std::test::*;
 
@@ -98,7 +98,7 @@ const SHAPES: &[(u64, u32, u32, u32, u32)] = &[
     (2_037_469_184, 256, 4095, 497_429, 57_344),
 ];
 
-fn is_shape(shape: &Shape, pages: u32, blocks: u32, sectors: u32, cache: u32) -> bool {
+fn is_shape(shape: &DiskShape, pages: u32, blocks: u32, sectors: u32, cache: u32) -> bool {
     let die = shape.geometry;
     die.data_bytes() == 4096
         && die.spare_bytes() == 128

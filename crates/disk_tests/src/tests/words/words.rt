@@ -1,6 +1,6 @@
 //! The words of `nanddisk`.
 use disk_commands::{
-    Code, CreateWords, DiskWords, InfoWords, MakeWords, ServeWords, WordsFault, parse,
+    Code, CreateWords, DiskWords, InfoWords, MakeWords, DiskServeWords, WordsFault, parse,
 };
 use std::alloc::Global;
 use std::process::Abort;
@@ -118,7 +118,7 @@ fn is_create(words: &CreateWords<'_>, told: &[&str]) -> bool {
     words.disk == "d" && told == &made[..kept]
 }
 
-fn is_serve(words: ServeWords<'_>, told: &[&str]) -> bool {
+fn is_serve(words: DiskServeWords<'_>, told: &[&str]) -> bool {
     let opened = if words.read_only { "read-only" } else { "-" };
     let synced = if words.sync_always {
         "always"

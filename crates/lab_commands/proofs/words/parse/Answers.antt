@@ -1,7 +1,7 @@
 use Rattle.std.proofs.Common.{◌≡◌, Err, ap, subst, ◌∙◌}
 use Rattle.program_words.specs.Grammar.{program_app}
 use Rattle.program_words.specs.Met.{texts, AsksText}
-use Rattle.program_words.specs.declared.met.WordsFault.TheVariants as WordsFault
+use Rattle.program_words.specs.declared.met.GrammarFault.TheVariants as GrammarFault
 use Rattle.program_words.proofs.MetLemmas.{none_by, unmet_by}
 use Rattle.lab_commands.specs.Words.{grammar, IsAt}
 use Rattle.lab_commands.proofs.GrammarLemmas.{asked_as, simple_here}
@@ -30,5 +30,5 @@ returns-in-Ok-Text-clause-ok c =
 pub returns-in-Err-clause-none : goal.returns-in-Err-clause-none
 returns-in-Err-clause-none c = λ is.
     let told = c.grammar.ensures in
-    let same : c.in-Err.fault ≡ WordsFault.NoSuchCommand = cc in
+    let same : c.in-Err.fault ≡ GrammarFault.NoSuchCommand = cc in
     unmet_by IsAt (program_app c.grammar.result) grammar (texts c.args.words.now) told (c.read_words.ensures.none (simple_here _ told) (c.in-Err.is ∙ ap Err same))

@@ -2,7 +2,7 @@ use Rattle.std.proofs.Common.{◌≡◌}
 use Rattle.clap.specs.Words.{app_of}
 use Rattle.program_words.specs.Grammar.{program_app}
 use Rattle.program_words.specs.Met.{texts}
-use Rattle.program_words.specs.declared.met.WordsFault.TheVariants as WordsFault
+use Rattle.program_words.specs.declared.met.GrammarFault.TheVariants as GrammarFault
 use Rattle.program_words.proofs.MetLemmas.{command_met, kind_found, parses, text_asked, unmet}
 use Rattle.program_words.proofs.met.read_words.Goals as goal
 
@@ -20,7 +20,7 @@ returns-in-Ok-text_of-clause-ok c = λ simple.
 
 pub returns-clause-none : goal.returns-clause-none
 returns-clause-none c = λ simple none.
-    let same : c.in-Err-text_of.fault ≡ WordsFault.NoSuchCommand = cc in
+    let same : c.in-Err-text_of.fault ≡ GrammarFault.NoSuchCommand = cc in
     let e = c.try_get_matches_from.ensures in
     let p = parses (app_of c.in_ok-program.program) (program_app c.args.grammar.now) (texts c.args.words.now) c.try_get_matches_from.result c.in_ok-program.ensures simple e.matches e.kinds in
     unmet _ _ c.in-Err.error c.text_of.result c.in-Err-text_of.fault (kind_found _ _ _ c.in-Err.error _ p c.in-Err.is) c.in-Err-text_of.is c.text_of.ensures.other same

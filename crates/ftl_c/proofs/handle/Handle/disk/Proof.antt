@@ -24,7 +24,7 @@ use denote.Steps.{nothing, opens, peeks}
 use denote.Struct.Struct.{Struct}
 use denote.Struct.Owning.{shape}
 use denote.Triple.Walked.{Stays, walk_of, says, stay_dropped, Goes-spent_ref, ends_at}
-use Rattle.ftl_disk.specs.declared.disk.Disk.{Disk}
+use Rattle.ftl_disk.specs.declared.disk.FtlDisk.{FtlDisk}
 use Rattle.ftl_disk.specs.contracts.disk.Disk.{the_row as R}
 use Rattle.ftl_c.specs.Handle.{with_disk}
 use Rattle.ftl_c.specs.declared.handle.Handle.{Handle}
@@ -43,7 +43,7 @@ abbrev Rest : Handle → List Val → ℕ → ℕ → Fml
 Rest h us rb ro = fsep (Field h.at us) (cell_at full_share B.mir us rb ro)
 
 module _ {M : Type 1} {𝓤 : Ura M} (𝓛 : Logic 𝓤) (h : Handle) (us : List Val) (rb ro b o : ℕ) (e : h.at ≡ block_ptr b o) where
-  back : (w : Disk) → ent 𝓤 (sep 𝓤 (sem 𝓛 ((mem R).own_at w b o)) (sem 𝓛 (Rest h us rb ro))) (sem 𝓛 ((mem B).own_at (with_disk h w) rb ro))
+  back : (w : FtlDisk) → ent 𝓤 (sep 𝓤 (sem 𝓛 ((mem R).own_at w b o)) (sem 𝓛 (Rest h us rb ro))) (sem 𝓛 ((mem B).own_at (with_disk h w) rb ro))
   unfolding part_of
   back w =
       qed 𝓛 (‵ (lies_at R full_share (block_ptr b o) w) ∷ ‵ (Rest h us rb ro) ∷ []) ∵ rewrite ! 0 (λ (p : Ptr). ‵ (lies_at R full_share p w)) (sym e) refl $
@@ -80,7 +80,7 @@ disk_spec 𝓤 𝓛 𝓜 𝓡 wired =
     move ! (1 ∷ 2 ∷ []) $ fjoin ! $ move ! (2 ∷ 3 ∷ 4 ∷ 1 ∷ 0 ∷ []) $ group ! 5 $
     use1 𝓛 (later (some (λ (γ' : GName). ‵ ((MutRef (named 0) κ R).own_val (record { ref_ptr = (b, o); ghost_name = γ'; now = h.disk }) (vptr b o ∷ [])) ⊛ ‵ (flft κ q) ⊛ ‵ (follows B R γ γ' (with_disk h)))))
     (lends_Part 𝓛 B R (with_disk h) (named 0) κ q rb ro b o γ (sem 𝓛 (Rest h us rb ro)) (back 𝓛 h us rb ro b o e) (B.coded.code h) (B.coded.code h) h.disk) $ await ! tt $ pick ! (λ γ'. split3 ! $
-    let r : MutBor Disk = record { ref_ptr = (b, o); ghost_name = γ'; now = h.disk } in
+    let r : MutBor FtlDisk = record { ref_ptr = (b, o); ghost_name = γ'; now = h.disk } in
     returns ! (look_at ! 0 refl) $ free_all ! refl $ keep ! (0 ∷ 1 ∷ 2 ∷ []) $
     suffices ! _ (ends_at 𝓛 f.ended stayed c y (vptr b o) r (tt, tt) (tt, tt)) $
     nothing ! $ nothing ! $ fjoin ! $ join ! $ nothing ! $ move ! (2 ∷ 0 ∷ []) $ join ! $ join ! $ frame ! $ says ! refl $ done !))))))

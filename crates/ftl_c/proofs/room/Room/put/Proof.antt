@@ -22,7 +22,7 @@ use denote.RawPtr.{Ptr, block_ptr, lies_at, room_at, in_a_block}
 use denote.Signature.{plain, types_at}
 use denote.Steps.{nothing, opens, closes, peeks, heard}
 use denote.Triple.Walked.{Stays, walk_of, says, stay_ref, stay_dropped, Goes-ref, ends_at}
-use Rattle.ftl_disk.specs.declared.disk.Disk.{Disk}
+use Rattle.ftl_disk.specs.declared.disk.FtlDisk.{FtlDisk}
 use Rattle.ftl_disk.specs.contracts.disk.Disk.{the_row as R}
 use Rattle.ftl_disk.proofs.disk.Disk.TheLaws.{the_row_laws}
 use Rattle.ftl_c.specs.Room.{room_or_disk}
@@ -53,7 +53,7 @@ put_spec 𝓤 𝓛 𝓜 𝓡 wired =
     enter ! 𝓣.C 𝓣.Λ code.function (vptr rb ro ∷ v.0 ∷ []) (W.post z) $ alloc_all ! (λ l. pass_all ! refl ((tt, tt), (v.2, tt)) $
     opens ! tt B rb ro (λ us.
     move ! (1 ∷ []) $ peeks ! B _ (shows 𝓛 B) h us (λ is. fsplit ! $ move ! (1 ∷ []) $
-    rewrite ! 0 (λ (o : Option Disk). ‵ (room_or_disk h.at o)) empty refl $
+    rewrite ! 0 (λ (o : Option FtlDisk). ‵ (room_or_disk h.at o)) empty refl $
     in_a_block ! h.at (λ p. room_at R p) (id⊢ 𝓤 _) (λ b o e.
     let word = lowers.val_is h us is ∙ ap (λ (p : Ptr). lowers.lowered (record h { at = p }) ∷ []) e in
     let Cell = λ (ws : List Val). ‵ (cell_at full_share B.mir ws rb ro) in
