@@ -1,7 +1,6 @@
 -- Geometries with codes are added to those that fit.
-use Rattle.std.proofs.Common.{◌≡◌, ℕ, ◌+◌, ◌*◌, ◌/◌, ◌%◌, ◌<◌, ◌≤◌, Bool, true, false, List, [], ◌++◌, length, append-nil, refl, sym, ap, ◌∙◌, subst, arith}
+use Rattle.std.proofs.Common.{◌≡◌, ℕ, ◌+◌, ◌*◌, ◌/◌, ◌<◌, true, false, List, [], ◌++◌, length, append-nil, sym, ap, ◌∙◌, arith}
 use Rattle.std.specs.Prelude.{if◌then◌else◌}
-use Rattle.std.specs.List.{flat_map}
 use Rattle.std.proofs.Math.Nat.{mul-div_cancel}
 use Rattle.page_layout.specs.declared.geometry.Geometry.{Geometry}
 use Rattle.page_layout.specs.Geometry.{row_count}
@@ -10,9 +9,8 @@ use Rattle.lab_dump.specs.declared.sample.Sample.{Sample}
 use Rattle.lab_dump.specs.declared.told.PagesTold.{PagesTold}
 use Rattle.lab_dump.specs.Sample.{sample_of}
 use Rattle.lab_dump.specs.Told.{told_of}
-use Rattle.lab_dump.specs.Shape.{page_counts, has_shape}
-use Rattle.lab_dump.specs.Fits.{area_fits, shape_fits}
-use Rattle.lab_dump.proofs.FitLemmas.{IsAsOf, area_none, area_unsound, area_is}
+use Rattle.lab_dump.specs.Fits.{area_fits}
+use Rattle.lab_dump.proofs.FitLemmas.{IsAsOf}
 use Rattle.lab_correct.specs.Decoded.{decoded_bytes, raw_size}
 use Rattle.lab_correct.specs.Coded.{are_coded_pages, coded_area_fits}
 use Rattle.lab_correct.proofs.DecodedLemmas.{length-decoded_bytes}

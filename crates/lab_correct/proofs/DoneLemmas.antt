@@ -1,22 +1,22 @@
 -- What was written and counted once all pages were taken.
-use Rattle.std.proofs.Common.{◌≡◌, ℕ, zero, suc, ◌+◌, ◌*◌, ◌<◌, ◌≤◌, All, List, [], ◌∷◌, length, map, take, get_or, slice_get, Option, Some, None, IfSome, refl, sym, ap, ◌∙◌, subst, arith}
+use Rattle.std.proofs.Common.{◌≡◌, ℕ, suc, ◌+◌, ◌<◌, List, [], ◌∷◌, length, map, take, get_or, slice_get, Option, Some, None, IfSome, refl, sym, ap, ◌∙◌, subst, arith}
 use Rattle.std.specs.List.{cons_option}
 use Rattle.std.proofs.lemmas.List.{take_all, same_lists, length-map, get_or-map}
 use Rattle.std.proofs.lemmas.Option.{slice_get-get_or, slice_get_within, get_or_from_slice_get}
 use Rattle.page_layout.specs.declared.geometry.Geometry.{Geometry}
-use Rattle.page_layout.specs.Geometry.{row_count, page_bytes}
+use Rattle.page_layout.specs.Geometry.{row_count}
 use Rattle.page_layout.specs.Page.{Page, Image, page, IsPage, IsImage}
 use Rattle.page_layout.specs.Raw.{raw_image, bytes_of_page}
 use Rattle.page_layout.proofs.RawLemmas.{length-raw_image, raw_image_whole}
 use Rattle.page_code.specs.Chip.{IsChipOf}
-use Rattle.page_code.specs.Near.{IsNear, HasChipSizes}
-use Rattle.page_code.specs.Corrected.{corrected_page, turned_bits, lost_chunks, IsPutRight, AreBytesOf}
+use Rattle.page_code.specs.Near.{HasChipSizes}
+use Rattle.page_code.specs.Corrected.{lost_chunks, IsPutRight, AreBytesOf}
 use Rattle.page_code.proofs.Puts.{put_right_law}
 use Rattle.lab_dump.specs.Scan.{IsTaken}
 use Rattle.lab_correct.specs.declared.correcting.Loss.{Loss}
 use Rattle.lab_correct.specs.Correcting.{piece_of, loss_at, losses_from, Shows, Stands}
 use Rattle.lab_correct.proofs.ChipLemmas.{rows_same}
-use Rattle.lab_correct.specs.Corrected.{IsCorrectedOf, IsCorrected, IsOwnCorrected, AreNearTo, GivesPages, CorrectedLaw}
+use Rattle.lab_correct.specs.Corrected.{IsCorrectedOf, IsCorrected, IsOwnCorrected, CorrectedLaw}
 
 all_pieces : (g : Geometry) (all : ℕ) (seen : Image) (pieces : Option (List (List ℕ))) → IfSome pieces (λ ps. length ps ≡ all) → IfSome pieces (λ ps. take all ps ≡ map (piece_of g) seen) → IfSome pieces (λ ps. ps ≡ map (piece_of g) seen)
 all_pieces g all seen None size h = tt

@@ -1,15 +1,15 @@
 -- The geometries of both sorts in one list.
-use Rattle.std.proofs.Common.{◌≡◌, ℕ, ◌+◌, ◌<◌, ◌≤◌, Bool, true, false, All, List, [], ◌∷◌, ◌++◌, length, map, take, get_or, refl, sym, ap, ◌∙◌, subst, arith}
-use Rattle.std.proofs.Common.{append_assoc, length-append}
+use Rattle.std.proofs.Common.{◌≡◌, ℕ, ◌+◌, ◌<◌, Bool, true, false, All, List, [], ◌∷◌, ◌++◌, length, map, take, get_or, sym, ap, ◌∙◌, subst}
+use Rattle.std.proofs.Common.{append_assoc}
 use Rattle.std.specs.Ordering.{bool_cmp, ordering_then}
-use Rattle.std.proofs.lemmas.List.{take_more, map-append, length-map}
+use Rattle.std.proofs.lemmas.List.{take_more, map-append}
 use Rattle.std.proofs.lemmas.List.Elements.{All-append, All-map}
 use Rattle.lab_dump.specs.declared.fit.Fit.{Fit}
-use Rattle.lab_dump.specs.Fits.{fits_of, rank, IsPossible}
+use Rattle.lab_dump.specs.Fits.{IsPossible}
 use Rattle.lab_dump.proofs.RankLemmas.{same_rank}
 use Rattle.lab_correct.specs.declared.found.FoundFit.{FoundFit}
 use Rattle.lab_correct.specs.contracts.found.FoundFitOrd.TheImpl as found
-use Rattle.lab_correct.specs.Coded.{ArePossible, coded_fits, found_as, found_of, found_rank}
+use Rattle.lab_correct.specs.Coded.{ArePossible, coded_fits, found_as, found_rank}
 
 -- one more
 pub found_more : (coded : Bool) (old mid new : List FoundFit) (fits : List Fit) (i : ℕ) (d : Fit) → i < length fits → mid ≡ old ++ map (found_as coded) (take i fits) → new ≡ mid ++ found_as coded (get_or fits i d) ∷ []

@@ -1,5 +1,5 @@
 -- What is written and counted with one page more.
-use Rattle.std.proofs.Common.{◌≡◌, ℕ, zero, suc, ◌+◌, ◌*◌, ◌<◌, ◌≤◌, Bool, true, false, cond, All, List, [], ◌∷◌, ◌++◌, length, map, take, set, get_or, slice_get, Option, Some, None, IfSome, refl, sym, ap, ◌∙◌, subst, arith, length-append, append-nil}
+use Rattle.std.proofs.Common.{◌≡◌, ℕ, ◌+◌, ◌<◌, ◌≤◌, Bool, true, false, cond, All, List, [], ◌∷◌, ◌++◌, length, map, take, set, slice_get, Option, Some, None, IfSome, refl, sym, ap, ◌∙◌, subst, arith, length-append}
 use Rattle.std.specs.Prelude.{option_map, nat_eq}
 use Rattle.std.specs.List.{sum_by, cons_option}
 use Rattle.std.proofs.lemmas.List.{take_more, take_more_set, map-append, length-take-le, length-set}
@@ -13,7 +13,7 @@ use Rattle.page_code.specs.Chip.{IsChipOf}
 use Rattle.page_code.specs.Near.{HasChipSizes}
 use Rattle.page_code.specs.Corrected.{turned_bits, lost_chunks}
 use Rattle.lab_correct.specs.declared.correcting.Loss.{Loss}
-use Rattle.lab_correct.specs.Correcting.{IsMade, piece_of, touches, loss_at, turned_in, touched_in, losses_from, noted, Shows, HasSeen, Stands}
+use Rattle.lab_correct.specs.Correcting.{IsMade, piece_of, touches, loss_at, losses_from, noted, Shows, Stands}
 
 -- ---- lists
 

@@ -1,8 +1,6 @@
-use Rattle.std.proofs.Common.{◌≡◌, ◌∙◌, ◌/◌, ◌*◌, ◌+◌, length, ap, sym, arith}
-use Rattle.page_layout.specs.Geometry.{row_count}
-use Rattle.lab_dump.specs.Fits.{area_fits}
+use Rattle.std.proofs.Common.{◌∙◌, ap, sym, arith}
 use Rattle.lab_dump.proofs.FitLemmas.{IsAsOf, area_none, area_unsound, area_is}
-use Rattle.lab_correct.specs.Decoded.{decoded_bytes, raw_size}
+use Rattle.lab_correct.specs.Decoded.{decoded_bytes}
 use Rattle.lab_correct.specs.Coded.{are_coded_pages}
 use Rattle.lab_correct.proofs.CodedLemmas.{coded_none, coded_some, plain_size, like_of, sample_of_areas, told_of_areas}
 use Rattle.lab_correct.proofs.coded.add_coded_areas.Goals as goal

@@ -1,4 +1,4 @@
-use Rattle.std.proofs.Common.{◌≡◌, ◌/◌, ◌<◌, length, ap, ◌∙◌, sym, subst, arith, rules}
+use Rattle.std.proofs.Common.{◌/◌, ◌<◌, length, ap, ◌∙◌, arith, rules}
 use Rattle.page_layout.specs.Geometry.{row_count}
 use Rattle.lab_dump.specs.Look.{look_of}
 use Rattle.lab_dump.specs.Sample.{looked_count, looked_row, look_at}

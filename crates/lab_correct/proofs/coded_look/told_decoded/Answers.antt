@@ -1,5 +1,4 @@
-use Rattle.std.proofs.Common.{◌≡◌, ◌/◌, ◌<◌, length, ap, ◌∙◌, sym, subst, arith, rules, take, length-take-le}
-use Rattle.page_layout.specs.Geometry.{row_count}
+use Rattle.std.proofs.Common.{◌≡◌, ◌/◌, ◌<◌, length, ap, ◌∙◌, arith, rules, take, length-take-le}
 use Rattle.lab_dump.specs.Look.{look_of}
 use Rattle.lab_dump.specs.Pages.{page_in, page_at}
 use Rattle.lab_dump.proofs.ToldLemmas.{told_none, told_more}

@@ -1,4 +1,4 @@
-use Rattle.std.proofs.Common.{◌≡◌, ◌≤◌, Option, IfSome, take, sym, subst}
+use Rattle.std.proofs.Common.{◌≡◌, ◌≤◌, IfSome, take, sym, subst}
 use Rattle.std.specs.Vec.{vec_capacity}
 use Rattle.page_layout.specs.declared.geometry.Geometry.{Geometry}
 use Rattle.page_layout.specs.Geometry.{row_count}

@@ -1,7 +1,5 @@
-use Rattle.std.proofs.Common.{◌≡◌, ◌+◌, ◌∙◌, List, ℕ, Option, sym, ap, subst, set, arith}
+use Rattle.std.proofs.Common.{◌∙◌, ap, set, arith}
 use Rattle.std.specs.Prelude.{option_map}
-use Rattle.page_layout.specs.declared.geometry.Geometry.{Geometry}
-use Rattle.lab_correct.specs.Correcting.{Shows, Stands}
 use Rattle.lab_correct.proofs.ChipLemmas.{few_rows}
 use Rattle.lab_correct.proofs.TakenLemmas.{stands_put, shows_put}
 use Rattle.lab_correct.proofs.correcting.Correcting.put.Goals as goal
