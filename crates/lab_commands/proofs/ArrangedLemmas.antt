@@ -1,12 +1,11 @@
 -- A geometry that fits in another arrangement, piece by piece.
-use Rattle.std.proofs.Common.{◌≡◌, ℕ, zero, suc, ◌+◌, ◌/◌, ◌%◌, ◌<◌, Bool, true, false, cond, List, [], ◌∷◌, ◌++◌, Option, Some, None, refl, sym, ap, ◌∙◌, subst, append_assoc, append-nil, arith}
+use Rattle.std.proofs.Common.{◌≡◌, ℕ, zero, suc, ◌+◌, ◌/◌, ◌%◌, ◌<◌, Bool, true, false, cond, List, [], ◌∷◌, ◌++◌, Option, Some, None, refl, sym, ap, ◌∙◌, append_assoc, arith}
 use Rattle.std.specs.Prelude.{◌||◌, codes, is_some, nat_eq}
 use Rattle.std.specs.Fmt.{decimal, digit_glyph, digits_onto, digits}
-use Rattle.std.specs.List.{flat_map}
 use Rattle.std.proofs.lemmas.Bool.{lt-ltb}
 use Rattle.std.proofs.lemmas.Nat.{mod_below}
 use Rattle.std.proofs.lemmas.Grind.{flat_map-append}
-use Rattle.json.specs.Print.{escape, escape_byte, quoted}
+use Rattle.json.specs.Print.{escape, escape_byte}
 use Rattle.serde_json.specs.Data.{member}
 use Rattle.serde_json.specs.Written.{compact_text, members_text}
 use Rattle.lab_dump.specs.declared.fit.Fit.{Fit}
@@ -15,7 +14,7 @@ use Rattle.lab_arrange.specs.declared.arrangement.Spares.{Spares}
 use Rattle.lab_arrange.specs.declared.arrangement.Spares.TheVariants.{Block, Die}
 use Rattle.lab_shapes.specs.declared.find.ArrangedFit.{ArrangedFit}
 use Rattle.lab_shapes.specs.Words.{around_words, arrangement_words, flag_words, order_words, spares_words}
-use Rattle.lab_commands.specs.Lines.{arrange_words, says_words}
+use Rattle.lab_commands.specs.Lines.{says_words}
 use Rattle.lab_commands.specs.Values.{arranged_fit_data, arranged_rest, count, fit_members}
 use Rattle.lab_commands.proofs.JsonLemmas.{fit_rest, quoted_in}
 

@@ -1,5 +1,5 @@
 -- What is best so far, step by step.
-use Rattle.std.proofs.Common.{◌≡◌, ℕ, zero, suc, ◌+◌, ◌<◌, ◌≤◌, Bool, true, false, List, [], ◌∷◌, ◌++◌, length, take, get_or, Option, Some, None, IfSome, inl, inr, refl, sym, ap, ◌∙◌, subst, arith}
+use Rattle.std.proofs.Common.{◌≡◌, ℕ, zero, suc, ◌+◌, ◌<◌, ◌≤◌, true, false, List, [], ◌∷◌, ◌++◌, length, take, get_or, Option, Some, None, inl, inr, refl, sym, ap, ◌∙◌, subst, arith}
 use Rattle.std.specs.Prelude.{◌⊎◌}
 use Rattle.std.specs.List.{Contains}
 use Rattle.std.specs.Ordering.{is_lt}
@@ -9,7 +9,7 @@ use Rattle.std.proofs.lemmas.Option.{none-some}
 use Rattle.std.proofs.lemmas.List.{take_more}
 use Rattle.std.proofs.lemmas.List.Elements.{Contains-append_left, Contains-append_right, Contains-append_cases}
 use Rattle.lab_shapes.specs.declared.find.ArrangedFit.{ArrangedFit}
-use Rattle.lab_shapes.specs.Arranged.{FitsArranged, IsBest, IsNotAfter, IsPossibleAs, arranged_rank}
+use Rattle.lab_shapes.specs.Arranged.{FitsArranged, IsBest, IsNotAfter, arranged_rank}
 use Rattle.lab_shapes.specs.Better.{Improves, IsMatched, KeepsPossible}
 use Rattle.lab_shapes.proofs.RankLemmas.{before_not_after, not_after_itself, not_after_then, not_before}
 

@@ -1,5 +1,5 @@
 -- All that are tried, one after another.
-use Rattle.std.proofs.Common.{◌≡◌, ℕ, ◌+◌, ◌<◌, ◌≤◌, List, length, Option, Some, None, IfSome, inl, inr, refl, sym, ap, ◌∙◌, subst, arith}
+use Rattle.std.proofs.Common.{◌≡◌, ℕ, ◌+◌, ◌<◌, ◌≤◌, List, Option, inl, inr, sym, ap, ◌∙◌, subst, arith}
 use Rattle.std.specs.Prelude.{◌⊎◌}
 use Rattle.std.specs.List.{Contains}
 use Rattle.std.proofs.lemmas.Bool.{cases_lt}
@@ -7,9 +7,9 @@ use Rattle.lab_dump.specs.Shape.{data_sizes, page_counts}
 use Rattle.lab_dump.proofs.ShapeLemmas.{count_among, size_among}
 use Rattle.lab_arrange.specs.declared.arrangement.Arrangement.{Arrangement}
 use Rattle.lab_shapes.specs.declared.find.ArrangedFit.{ArrangedFit}
-use Rattle.lab_shapes.specs.Tried.{IsTried, numbered}
-use Rattle.lab_shapes.specs.Arranged.{FitsArranged, IsPossibleAs}
-use Rattle.lab_shapes.specs.Better.{Improves, InArrangement, KeepsPossible}
+use Rattle.lab_shapes.specs.Tried.{numbered}
+use Rattle.lab_shapes.specs.Arranged.{FitsArranged}
+use Rattle.lab_shapes.specs.Better.{Improves, InArrangement}
 use Rattle.lab_shapes.proofs.BetterLemmas.{improves_as, improves_none, improves_then}
 use Rattle.lab_shapes.proofs.TriedLemmas.{tried_number}
 

@@ -1,11 +1,10 @@
 -- What is counted of the pages that are looked at.
-use Rattle.std.proofs.Common.{◌≡◌, ℕ, zero, suc, ◌+◌, ◌-◌, ◌<◌, ◌≤◌, Bool, true, false, cond, List, count_by, refl, sym, ap, ◌∙◌, subst, arith}
-use Rattle.std.specs.Prelude.{nat_lt, min}
+use Rattle.std.proofs.Common.{◌≡◌, ℕ, zero, suc, ◌+◌, ◌-◌, ◌<◌, ◌≤◌, Bool, true, false, List, count_by, sym, ap, ◌∙◌, subst, arith}
+use Rattle.std.specs.Prelude.{min}
 use Rattle.std.specs.List.{range_with_len}
 use Rattle.std.proofs.lemmas.Bool.{lt-ltb, ltb-true}
 use Rattle.page_layout.specs.declared.geometry.Geometry.{Geometry}
 use Rattle.page_layout.specs.Geometry.{row_count}
-use Rattle.lab_dump.specs.declared.look.Look.{Look}
 use Rattle.lab_dump.specs.Sample.{is_sound, look_at, looked_by, looked_count, looked_row, sample_of}
 use Rattle.lab_dump.specs.declared.sample.Sample.{Sample}
 use Rattle.lab_dump.proofs.SampleLemmas.{count_last, one}

@@ -1,6 +1,5 @@
 -- The geometry that is tried is the one that fits, if one does.
-use Rattle.std.proofs.Common.{◌≡◌, ℕ, ◌+◌, ◌*◌, ◌-◌, ◌/◌, ◌%◌, ◌<◌, ◌≤◌, Bool, true, false, cond, List, length, Option, Some, None, inl, inr, refl, sym, ap, ◌∙◌, subst, arith}
-use Rattle.std.specs.Prelude.{nat_le}
+use Rattle.std.proofs.Common.{◌≡◌, ℕ, ◌+◌, ◌*◌, ◌-◌, ◌/◌, ◌%◌, ◌<◌, ◌≤◌, true, false, cond, List, length, Option, Some, None, sym, ap, ◌∙◌, subst, arith}
 use Rattle.std.specs.Prelude.{Result, Ok, Err, IfOk, IsOk}
 use Rattle.std.specs.Option.{unwrap_or}
 use Rattle.std.specs.Result.{result_ok}
@@ -18,7 +17,7 @@ use Rattle.page_layout.specs.Faults.{HasNumbers}
 use Rattle.lab_dump.specs.declared.fit.Fit.{Fit}
 use Rattle.lab_dump.specs.Scan.{image_bytes}
 use Rattle.lab_arrange.specs.declared.arrangement.Arrangement.{Arrangement}
-use Rattle.lab_arrange.specs.Place.{header_of, length_of}
+use Rattle.lab_arrange.specs.Place.{length_of}
 use Rattle.lab_shapes.specs.declared.find.ArrangedFit.{ArrangedFit}
 use Rattle.lab_shapes.specs.Tried.{IsTried}
 use Rattle.lab_shapes.specs.Ordered.{in_turn_of, ordered}

@@ -1,5 +1,5 @@
 -- The words of an arrangement say it.
-use Rattle.std.proofs.Common.{◌≡◌, ◌≢◌, ℕ, zero, suc, ◌<◌, Bool, true, false, List, [], ◌∷◌, ◌++◌, length, get_or, Option, Some, None, inl, inr, append_assoc, append-nil, refl, sym, ap, ◌∙◌, subst, arith}
+use Rattle.std.proofs.Common.{◌≡◌, ◌≢◌, ℕ, zero, suc, ◌<◌, Bool, true, false, List, [], ◌∷◌, ◌++◌, get_or, Option, Some, None, inl, inr, append_assoc, append-nil, refl, sym, ap, ◌∙◌, subst, arith}
 use Rattle.std.specs.Prelude.{◌||◌, codes, is_some}
 use Rattle.std.specs.List.{Contains}
 use Rattle.std.specs.Fmt.{decimal, digits}
@@ -10,8 +10,8 @@ use Rattle.lab_arrange.specs.declared.arrangement.Spares.{Spares}
 use Rattle.lab_arrange.specs.declared.arrangement.Spares.TheVariants.{Block, Die}
 use Rattle.lab_arrange.specs.declared.words.Told.TheVariants as told
 use Rattle.lab_arrange.specs.Words.{IsArrangementAt, IsToldBy, IsToldFrom, Tells, in_order}
-use Rattle.lab_shapes.specs.Tried.{IsAround, IsTried, around_sizes}
-use Rattle.lab_shapes.specs.Words.{WordsLaw, around_words, arrangement_words, behind, flag_words, order_words, spares_words}
+use Rattle.lab_shapes.specs.Tried.{IsAround, around_sizes}
+use Rattle.lab_shapes.specs.Words.{WordsLaw, around_words, arrangement_words, behind, flag_words, spares_words}
 
 -- ---- one word more
 

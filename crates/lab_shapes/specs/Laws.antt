@@ -1,15 +1,12 @@
 -- What the definitions come to, each law as one statement.
-use Rattle.std.specs.Prelude.{◌≡◌, ℕ, ◌<◌, true, List, length}
+use Rattle.std.specs.Prelude.{◌≡◌, ℕ, ◌<◌, List, length}
 use Rattle.page_layout.specs.declared.geometry.Geometry.{Geometry}
 use Rattle.page_layout.specs.Geometry.{row_count}
 use Rattle.lab_dump.specs.Scan.{image_bytes}
 use Rattle.lab_dump.specs.Pages.{page_at, page_in}
 use Rattle.lab_arrange.specs.declared.arrangement.Arrangement.{Arrangement}
 use Rattle.lab_arrange.specs.Arranged.{piece_at}
-use Rattle.lab_shapes.specs.declared.find.ArrangedFit.{ArrangedFit}
-use Rattle.lab_shapes.specs.Arranged.{IsBest}
 use Rattle.lab_shapes.specs.Ordered.{ordered}
-use Rattle.std.specs.Prelude.{Some}
 
 -- The dump put in order has a page for each row, and that is the one that `arrange` writes.
 pub record IsOrdered (g : Geometry) (a : Arrangement) (all : List ℕ) : Type 0 where

@@ -1,5 +1,5 @@
 -- A dump that is put in order, and what its pages are then.
-use Rattle.std.specs.Prelude.{◌≡◌, ℕ, ◌+◌, ◌-◌, ◌%◌, ◌==◌, nat_lt, min, if◌then◌else◌, Bool, true, false, List, count_by, Option, Some, None}
+use Rattle.std.specs.Prelude.{ℕ, ◌-◌, ◌%◌, ◌==◌, nat_lt, min, if◌then◌else◌, Bool, true, false, List, count_by}
 use Rattle.std.specs.List.{concat, range_with_len}
 use Rattle.page_layout.specs.declared.geometry.Geometry.{Geometry}
 use Rattle.page_layout.specs.Geometry.{row_count}

@@ -1,4 +1,4 @@
-use Rattle.std.proofs.Common.{◌++◌, Bool, List, ℕ, subst}
+use Rattle.std.proofs.Common.{◌++◌, Bool, subst}
 use Rattle.lab_shapes.specs.Words.{arrangement_words, around_words, order_words}
 use Rattle.lab_commands.specs.Document.{Prints}
 use Rattle.lab_commands.proofs.PrintLemmas.{failed, prints_after, stops_more}

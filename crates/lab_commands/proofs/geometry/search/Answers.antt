@@ -1,4 +1,4 @@
-use Rattle.std.proofs.Common.{◌≡◌, ◌∙◌, sym, subst, arith, IfSome}
+use Rattle.std.proofs.Common.{◌∙◌, sym, subst, arith, IfSome}
 use Rattle.std.proofs.lemmas.Bool.{eqb-true}
 use Rattle.lab_shapes.specs.Arranged.{IsBest, IsPossibleAs}
 use Rattle.lab_commands.proofs.GeometryLemmas.{known_best, none_fit}

@@ -1,6 +1,6 @@
 use Rattle.std.proofs.Common.{◌≡◌, ◌∙◌, arith, rules, sym, subst, IfSome}
 use Rattle.lab_shapes.specs.Arranged.{IsPossibleAs}
-use Rattle.lab_shapes.specs.Tried.{IsTried, numbered}
+use Rattle.lab_shapes.specs.Tried.{IsTried}
 use Rattle.lab_shapes.proofs.BetterLemmas.{best_of}
 use Rattle.lab_shapes.proofs.FindLemmas.{numbers_all, numbers_more, numbers_start}
 use Rattle.lab_shapes.proofs.TriedLemmas.{numbered_tried}

@@ -1,4 +1,4 @@
-use Rattle.std.proofs.Common.{◌≡◌, ◌∙◌, sym, subst, Some}
+use Rattle.std.proofs.Common.{◌∙◌, sym, subst, Some}
 use Rattle.lab_shapes.specs.Better.{IsFoundAs, IsShapeAs}
 use Rattle.lab_shapes.proofs.ShapeLemmas.{no_room, no_shape, none_fits, one_fits}
 use Rattle.lab_shapes.proofs.find.try_shape.Goals as goal

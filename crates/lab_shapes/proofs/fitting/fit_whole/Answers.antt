@@ -1,4 +1,4 @@
-use Rattle.std.proofs.Common.{◌≡◌, ◌≤◌, ◌∙◌, refl, sym, ap, arith}
+use Rattle.std.proofs.Common.{◌≤◌, ◌∙◌, refl, sym, ap, arith}
 use Rattle.std.specs.Prelude.{min}
 use Rattle.page_layout.specs.Geometry.{row_count}
 use Rattle.lab_dump.specs.Fits.{fit_of}

@@ -1,4 +1,4 @@
-use Rattle.std.proofs.Common.{◌≡◌, ◌+◌, ◌/◌, ◌%◌, ◌∙◌, sym, ap, subst, arith}
+use Rattle.std.proofs.Common.{◌+◌, ◌/◌, ◌%◌, ◌∙◌, sym, ap, subst, arith}
 use Rattle.lab_shapes.specs.Better.{IsShapeAs}
 use Rattle.lab_shapes.proofs.ShapeLemmas.{shape_result, whole_of}
 use Rattle.lab_shapes.proofs.fitting.shape_as.Goals as goal

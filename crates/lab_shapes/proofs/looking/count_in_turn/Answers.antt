@@ -1,5 +1,4 @@
 use Rattle.std.proofs.Common.{◌≡◌, ◌+◌, ◌∙◌, sym, ap, arith}
-use Rattle.page_layout.specs.Geometry.{row_count}
 use Rattle.lab_dump.specs.Sample.{looked_count, looked_row}
 use Rattle.lab_dump.proofs.SampleLemmas.{one}
 use Rattle.lab_shapes.specs.Ordered.{is_in_turn, ordered}

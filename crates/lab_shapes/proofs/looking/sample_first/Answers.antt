@@ -1,8 +1,7 @@
-use Rattle.std.proofs.Common.{◌≡◌, ◌<◌, ◌≤◌, length, ap, ◌∙◌, sym, subst, arith, rules}
+use Rattle.std.proofs.Common.{ap, ◌∙◌, arith, rules}
 use Rattle.page_layout.specs.Geometry.{row_count}
 use Rattle.lab_dump.specs.Sample.{looked_count, looked_row}
 use Rattle.lab_dump.proofs.SampleLemmas.{sample_more, sample_none, noted_few, noted_looked}
-use Rattle.lab_dump.proofs.FitLawLemmas.{looked_in}
 use Rattle.lab_shapes.specs.Ordered.{look_in, ordered}
 use Rattle.lab_shapes.proofs.looking.sample_first.Goals as goal
 

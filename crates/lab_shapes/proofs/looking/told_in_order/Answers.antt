@@ -1,8 +1,7 @@
-use Rattle.std.proofs.Common.{◌≡◌, ◌<◌, length, ap, ◌∙◌, sym, arith, rules, take, length-take-le}
+use Rattle.std.proofs.Common.{◌≡◌, ◌<◌, ap, ◌∙◌, sym, arith, rules, take, length-take-le}
 use Rattle.page_layout.specs.Geometry.{row_count}
 use Rattle.lab_dump.specs.Look.{look_of}
 use Rattle.lab_dump.specs.Pages.{page_in, page_at}
-use Rattle.lab_dump.specs.Told.{told_of}
 use Rattle.lab_dump.proofs.ToldLemmas.{told_none, told_more}
 use Rattle.lab_shapes.specs.Ordered.{ordered}
 use Rattle.lab_shapes.proofs.OrderLemmas.{ordered_page}
