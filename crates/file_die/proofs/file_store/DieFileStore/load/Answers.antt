@@ -4,7 +4,7 @@ use Rattle.std.specs.Result.{is_ok}
 use Rattle.onfi_cycles.specs.Cycles.{page_of}
 use Rattle.file_die.specs.Store.{Loads}
 use Rattle.file_die.specs.Rows.{held_in}
-use Rattle.file_die.proofs.file_store.FileStoreStore.load.Goals as goal
+use Rattle.file_die.proofs.file_store.DieFileStore.load.Goals as goal
 
 pub returns-clause-loads : goal.returns-clause-loads
 returns-clause-loads g c e =

@@ -1,5 +1,5 @@
 use Rattle.file_die.proofs.RowLemmas.{plain_reading}
-use Rattle.file_die.proofs.file_store.FileStoreStore.geometry.Goals as goal
+use Rattle.file_die.proofs.file_store.DieFileStore.geometry.Goals as goal
 
 pub returns-clause-whole : goal.returns-clause-whole
 returns-clause-whole g c e =

@@ -5,7 +5,7 @@ use Rattle.onfi_cycles.specs.Cycles.{page_of}
 use Rattle.file_die.specs.Store.{Clears}
 use Rattle.file_die.specs.Rows.{held_in}
 use Rattle.file_die.proofs.RowLemmas.{plain_reading}
-use Rattle.file_die.proofs.file_store.FileStoreStore.clear.Goals as goal
+use Rattle.file_die.proofs.file_store.DieFileStore.clear.Goals as goal
 
 pub returns-clause-clears : goal.returns-clause-clears
 returns-clause-clears g c e =

@@ -5,7 +5,7 @@ use Rattle.onfi_cycles.specs.Cycles.{page_of}
 use Rattle.file_die.specs.Store.{Puts}
 use Rattle.file_die.specs.Rows.{held_in}
 use Rattle.file_die.proofs.RowLemmas.{plain_reading}
-use Rattle.file_die.proofs.file_store.FileStoreStore.put.Goals as goal
+use Rattle.file_die.proofs.file_store.DieFileStore.put.Goals as goal
 
 pub returns-clause-puts : goal.returns-clause-puts
 returns-clause-puts g c e =

@@ -1,5 +1,5 @@
 use Rattle.std.proofs.Common.{refl}
-use Rattle.device_slot.proofs.slot.Slot.trim.Goals as goal
+use Rattle.device_slot.proofs.slot.DeviceSlot.turn.Goals as goal
 
 pub returns : goal.returns
 returns g c = rw (← c.self.view_is) (rw c.in-Some.is (c.told_only.new.device, refl, c.told_only.ensures.told))

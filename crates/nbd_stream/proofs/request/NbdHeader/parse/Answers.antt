@@ -1,6 +1,6 @@
 use Rattle.std.proofs.Common.{rules, ◌≡◌, slice_index}
 use Rattle.nbd_stream.proofs.Parsing.{spelled}
-use Rattle.nbd_stream.proofs.request.Header.parse.Goals as goal
+use Rattle.nbd_stream.proofs.request.NbdHeader.parse.Goals as goal
 
 pub returns-clause-spelled : goal.returns-clause-spelled
 returns-clause-spelled c =

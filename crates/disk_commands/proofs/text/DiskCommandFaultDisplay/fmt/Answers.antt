@@ -1,7 +1,7 @@
 use Rattle.std.proofs.Common.{sym, subst}
 use Rattle.std.specs.Fmt.{HasWritten}
 use Rattle.disk_commands.specs.Text.{line_of}
-use Rattle.disk_commands.proofs.text.DiskFaultDisplay.fmt.Goals as goal
+use Rattle.disk_commands.proofs.text.DiskCommandFaultDisplay.fmt.Goals as goal
 
 pub returns-in-Open-clause-writes : goal.returns-in-Open-clause-writes
 unfolding line_of

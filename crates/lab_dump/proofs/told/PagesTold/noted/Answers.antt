@@ -4,7 +4,7 @@ use Rattle.lab_dump.specs.declared.told.PagesTold.{PagesTold}
 use Rattle.lab_dump.specs.Pages.{page_in}
 use Rattle.lab_dump.specs.Told.{most_by}
 use Rattle.lab_dump.proofs.ToldLemmas.{told_same}
-use Rattle.lab_dump.proofs.told.Told.noted.Goals as goal
+use Rattle.lab_dump.proofs.told.PagesTold.noted.Goals as goal
 
 pub returns-then-most-self-2 : goal.returns-then-most-self-2
 returns-then-most-self-2 c =

@@ -5,7 +5,7 @@ use Rattle.onfi_cycles.specs.Cycles.{page_of}
 use Rattle.file_die.specs.Store.{Syncs}
 use Rattle.file_die.specs.Rows.{held_in}
 use Rattle.file_die.proofs.RowLemmas.{plain_reading}
-use Rattle.file_die.proofs.file_store.FileStoreStore.sync.Goals as goal
+use Rattle.file_die.proofs.file_store.DieFileStore.sync.Goals as goal
 
 pub returns-clause-syncs : goal.returns-clause-syncs
 returns-clause-syncs g c e =
