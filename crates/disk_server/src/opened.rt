@@ -7,7 +7,7 @@ ghost use Rattle.disk_server.specs.Open.{nand_of};
 
 use crate::device_disk::DeviceDisk;
 use crate::mounted::{nand_behind, open_mounted};
-use crate::open::OpenDieFault;
+use crate::open::OpenFault;
 use crate::sector_disk::SectorDisk;
 use certificate::Certificate;
 use file_die::{FileDie, Store, SyncWhen};
@@ -94,17 +94,17 @@ fn store_behind<S: Store + Drop>(driver: Driver<FileDie<S>>) -> S
 }
 
 // Why there is no disk over a die, and the store that comes back.
-fn unopened<S: Store + Drop>(fault: OpenDieFault<Driver<FileDie<S>>>) -> (S, OpenStoreFault)
+fn unopened<S: Store + Drop>(fault: OpenFault<Driver<FileDie<S>>>) -> (S, OpenStoreFault)
     ensures store { result.0 ≡ (nand_of fault).bus.store }
     ensures geometry { S.honest (nand_of fault).bus.store ≡ true → (S.held result.0).geometry ≡ (nand_of fault).geometry }
     ensures why { result.1 ≡ why_of fault }
 {
     match fault {
-        OpenDieFault::Refused { refusal, nand } => (
+        OpenFault::Refused { refusal, nand } => (
             store_behind(nand),
             OpenStoreFault::Mount(refusal),
         ),
-        OpenDieFault::Start { nand } => (store_behind(nand), OpenStoreFault::OutOfMemory),
+        OpenFault::Start { nand } => (store_behind(nand), OpenStoreFault::OutOfMemory),
     }
 }
 

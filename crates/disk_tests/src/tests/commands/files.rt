@@ -4,7 +4,8 @@ ghost use Rattle.page_layout.specs.Geometry.{row_count};
 ghost use Rattle.page_layout.specs.Raw.{raw_image};
 
 use disk_commands::{
-    Access, DiskFiles, DiskFileFault, FoundMark, LockedDie, DiskShape, dump_bytes as raw_bytes, none_found,
+    Access, DiskFileFault, DiskFiles, DiskShape, FoundMark, LockedDie, dump_bytes as raw_bytes,
+    none_found,
 };
 use disk_server::{KeepsLost, SyncMark, Syncs};
 use file_die::{MemoryStore, Store};
@@ -363,7 +364,12 @@ impl DiskFiles for MemoryFiles {
 
     fn discard(&mut self, _path: &str) {}
 
-    fn lost_text(&mut self, alloc: Global, _path: &str, _most: u64) -> Result<Vec<u8>, DiskFileFault> {
+    fn lost_text(
+        &mut self,
+        alloc: Global,
+        _path: &str,
+        _most: u64,
+    ) -> Result<Vec<u8>, DiskFileFault> {
         match self.trouble {
             Trouble::Listed(text) => copied(alloc, text),
             _ => Err(DiskFileFault::Read),

@@ -5,7 +5,7 @@ use super::disks::{device_on, die_of, over};
 use device_bench::bench::small;
 use device_bench::cases::erases_of;
 use disk_server::{DeviceDisk, Sectors};
-use nbd_stream::{Disk, StreamEnd, Export, transmit};
+use nbd_stream::{Disk, Export, StreamEnd, transmit};
 use onfi_cycles::Nand;
 use std::alloc::Global;
 use std::test::Fail;

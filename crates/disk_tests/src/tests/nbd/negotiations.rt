@@ -1,6 +1,6 @@
 // Negotiations, of a disk of 1000000000040h bytes, with room for sixteen bytes of body.
 use super::pieces::Pieces;
-use nbd_stream::{StreamEnd, Export, Negotiated, negotiate};
+use nbd_stream::{Export, Negotiated, StreamEnd, negotiate};
 use request_stream::ServeFault;
 use std::alloc::Global;
 use std::test::Fail;

@@ -1,6 +1,6 @@
 // Streams of requests, with room for eight bytes of a write.
 use super::pieces::Pieces;
-use nbd_stream::{StreamEnd, NbdHeader, NextRequest, read_request};
+use nbd_stream::{NbdHeader, NextRequest, StreamEnd, read_request};
 use request_stream::ServeFault;
 use std::test::Fail;
 

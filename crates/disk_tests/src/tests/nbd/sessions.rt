@@ -3,7 +3,7 @@
 ghost use Rattle.std.specs.Prelude.{◌≡◌, vec_len, IfOk};
 
 use super::pieces::Pieces;
-use nbd_stream::{StreamEnd, Export, MemoryDisk, serve_memory};
+use nbd_stream::{Export, MemoryDisk, StreamEnd, serve_memory};
 use std::alloc::{AllocError, Global};
 use std::test::Fail;
 

@@ -2,7 +2,7 @@
 ghost use Rattle.std.specs.Prelude.{◌≡◌, length};
 
 use crate::tests::steps::{Step, does_all};
-use disk_server::{Lasting, SyncMark, SectorDisk, Sectors, SyncPace, SyncedDisk, Syncs};
+use disk_server::{Lasting, SectorDisk, Sectors, SyncMark, SyncPace, SyncedDisk, Syncs};
 use nbd_stream::DiskFault;
 use std::alloc::Global;
 use std::cell::Cell;

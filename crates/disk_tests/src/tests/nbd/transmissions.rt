@@ -1,6 +1,6 @@
 // Transmissions of a disk of sixteen zeros, with room for eight bytes.
 use super::pieces::Pieces;
-use nbd_stream::{Disk, DiskFault, StreamEnd, Export, transmit};
+use nbd_stream::{Disk, DiskFault, Export, StreamEnd, transmit};
 use request_stream::ServeFault;
 use std::alloc::Global;
 use std::test::Fail;

@@ -1,6 +1,6 @@
 //! The words of `nanddisk`.
 use disk_commands::{
-    Code, CreateWords, DiskWords, InfoWords, MakeWords, DiskServeWords, WordsFault, parse,
+    Code, CreateWords, DiskServeWords, DiskWords, GrammarFault, InfoWords, MakeWords, parse,
 };
 use std::alloc::Global;
 use std::process::Abort;
@@ -153,8 +153,8 @@ fn is_told(alloc: Global, words: &[&str], told: &[&str]) -> bool {
         Ok(DiskWords::Info(words)) => is_info(words, "info", told),
         Ok(DiskWords::Check(words)) => is_info(words, "check", told),
         Ok(DiskWords::Text(text)) => is_text(text.as_str(), told),
-        Err(WordsFault::NoSuchCommand) => told == ["nothing"].as_slice(),
-        Err(WordsFault::OutOfMemory) => false,
+        Err(GrammarFault::NoSuchCommand) => told == ["nothing"].as_slice(),
+        Err(GrammarFault::OutOfMemory) => false,
     }
 }
 
