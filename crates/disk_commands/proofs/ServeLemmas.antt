@@ -9,7 +9,7 @@ use Rattle.disk_server.specs.declared.guarded.GuardedSectors.{GuardedSectors}
 use Rattle.disk_server.specs.declared.mark.SyncMark.{SyncMark}
 use Rattle.disk_server.specs.Reopened.{Reopened, holds_in, next_in, takes_in}
 use Rattle.disk_server.specs.Guarded.{PassesOn, ReadsGuarded}
-use Rattle.nbd_stream.specs.declared.fault.DiskCommandFault.{DiskCommandFault as NbdFault}
+use Rattle.nbd_stream.specs.declared.fault.DiskFault.{DiskFault as NbdFault}
 use Rattle.nbd_stream.specs.declared.request.StreamEnd.{StreamEnd}
 use Rattle.nbd_stream.specs.declared.task.Task.{Task}
 use Rattle.nbd_stream.specs.declared.task.Task.TheVariants.{Flush}

@@ -8,8 +8,8 @@ use Rattle.file_die.specs.Store.{Held}
 use Rattle.coded_store.specs.declared.coded.Mended.{Mended}
 use Rattle.disk_server.specs.Asked.{AsksSectors}
 use Rattle.disk_server.specs.Reopened.{Reopened, AsksDevice, ReadsDevice, contents_in, flushes_of, holds_in, next_in, reads_of, rests_of, takes_in}
-use Rattle.nbd_stream.specs.declared.fault.DiskCommandFault.{DiskCommandFault as NbdFault}
-use Rattle.nbd_stream.specs.declared.fault.DiskCommandFault.TheVariants as nbd
+use Rattle.nbd_stream.specs.declared.fault.DiskFault.{DiskFault as NbdFault}
+use Rattle.nbd_stream.specs.declared.fault.DiskFault.TheVariants as nbd
 use Rattle.nbd_stream.specs.declared.request.StreamEnd.{StreamEnd}
 use Rattle.nbd_stream.specs.declared.request.StreamEnd.TheVariants as end
 use Rattle.nbd_stream.specs.declared.task.Task.{Task}

@@ -78,7 +78,7 @@ fn text_at<'a, F: DiskFiles>(
     };
     match read_shape(alloc, &text) {
         Ok(told) => Ok(told),
-        Err(fault) => Err(DiskCommandFault::DiskShape(path, fault)),
+        Err(fault) => Err(DiskCommandFault::Shape(path, fault)),
     }
 }
 

@@ -7,7 +7,7 @@ use crate::mark::none_found;
 use crate::mark_file::MarkFile;
 use disk_server::{SyncMark, Syncs};
 use file_die::ByteFile;
-use nbd_stream::DiskCommandFault;
+use nbd_stream::DiskFault;
 
 /// A second handle of the die's file, and the file of its mark, where one is kept. (This project's.)
 #[derive(Drop)]
@@ -113,7 +113,7 @@ impl<F: ByteFile + Drop> Syncs for FileSyncs<F> {
     ghost marked = { λ s. s.mark };
 
     /// The die's file is synced first, and the mark is kept only once that is done. The first mark lasts before it is answered; a later one that cannot be written is no failure.
-    fn sync(&mut self, next: u64, flushed: bool) -> Result<(), DiskCommandFault>
+    fn sync(&mut self, next: u64, flushed: bool) -> Result<(), DiskFault>
         ensures settles { SettlesFiles F.held F.honest self.old (after_sync next flushed self.old.mark) (is_ok result) self.new }
         ensures done { OnOk result (self.new.done ≡ counted self.old.done) }
         ensures not_done { OnErr result (self.new.done ≡ self.old.done) }
@@ -121,7 +121,7 @@ impl<F: ByteFile + Drop> Syncs for FileSyncs<F> {
         ensures not_marked { OnErr result (self.new.mark ≡ self.old.mark) }
         ensures settled { OnOk result (self.new.failed ≡ self.old.failed) }
         ensures rose { OnErr result (HasRisen self.old.failed self.new.failed) }
-        ensures fault { IfErr result (λ e. e ≡ DiskCommandFault.Failed) }
+        ensures fault { IfErr result (λ e. e ≡ DiskFault.Failed) }
     {
         let mark = self.mark.after_sync(next, flushed);
         if self.settle(mark) {
@@ -130,7 +130,7 @@ impl<F: ByteFile + Drop> Syncs for FileSyncs<F> {
             Ok(())
         } else {
             self.failed = self.failed.saturating_add(1);
-            Err(DiskCommandFault::Failed)
+            Err(DiskFault::Failed)
         }
     }
 

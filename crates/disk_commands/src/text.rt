@@ -43,7 +43,7 @@ pub enum DiskCommandFault<'a> {
     /// The file is served by another program, or being made.
     InUse(&'a str),
     /// The file beside the disk does not tell its shape.
-    DiskShape(&'a str, ShapeFault),
+    Shape(&'a str, ShapeFault),
     /// The file has so many bytes, and not as many as its shape says.
     Length(&'a str, u64, u64),
     /// The die holds no device that may be started.
@@ -92,7 +92,7 @@ impl DiskCommandFault<'_> {
             | DiskCommandFault::BadBlock(_)
             | DiskCommandFault::Exists(_)
             | DiskCommandFault::InUse(_)
-            | DiskCommandFault::DiskShape(..)
+            | DiskCommandFault::Shape(..)
             | DiskCommandFault::Length(..)
             | DiskCommandFault::Open(..)
             | DiskCommandFault::Create(..)
@@ -165,9 +165,7 @@ impl fmt::Display for DiskCommandFault<'_> {
             }
             DiskCommandFault::Exists(path) => told_of(f, "refused: ", path, " exists"),
             DiskCommandFault::InUse(path) => told_of(f, "refused: ", path, " is in use"),
-            DiskCommandFault::DiskShape(path, fault) => {
-                write!(f, "refused: {path}.json: {fault}")
-            }
+            DiskCommandFault::Shape(path, fault) => { write!(f, "refused: {path}.json: {fault}") }
             DiskCommandFault::Length(path, found, wanted) => {
                 write!(
                     f,
