@@ -3,7 +3,7 @@ use Rattle.std.specs.Prelude.{◌≡◌, ℕ, Bool, true, false, List, [], ◌�
 use Rattle.std.specs.Str.{bytes_eq}
 use Rattle.std.specs.Borrow.{Bor}
 use Rattle.command_words.specs.Numbers.{number_of}
-use Rattle.clap.specs.Words.{App, Row, DiskShape, first_of, count_of}
+use Rattle.clap.specs.Words.{App, Row, Shape, first_of, count_of}
 use Rattle.program_words.specs.Grammar.{command_of, flag, option, place, program_of}
 use Rattle.program_words.specs.Met.{AsksText, NamesCommand, once}
 use Rattle.program_words.specs.Met as met
@@ -19,16 +19,16 @@ use Rattle.disk_commands.specs.declared.words.DiskWords.TheVariants as asked
 
 -- ---- what `clap` is told
 
-abbrev pub create : DiskShape
+abbrev pub create : Shape
 create = command_of (codes "create") (option (codes "size") ∷ option (codes "geometry") ∷ option (codes "from") ∷ option (codes "bad") ∷ option (codes "cache") ∷ option (codes "code") ∷ place (codes "DISK") ∷ [])
 
-abbrev pub serve : DiskShape
+abbrev pub serve : Shape
 serve = command_of (codes "serve") (flag (codes "read-only") ∷ option (codes "sync") ∷ option (codes "wait") ∷ place (codes "DISK") ∷ [])
 
-abbrev pub info : DiskShape
+abbrev pub info : Shape
 info = command_of (codes "info") (flag (codes "json") ∷ place (codes "DISK") ∷ [])
 
-abbrev pub check : DiskShape
+abbrev pub check : Shape
 check = command_of (codes "check") (flag (codes "json") ∷ place (codes "DISK") ∷ [])
 
 -- the commands that the program has
