@@ -1,7 +1,7 @@
 -- A disk at a handle.
 use Rattle.std.specs.Borrow.{Lends, MutBor, Fml}
 use Rattle.ftl_disk.specs.declared.disk.FtlDisk.{FtlDisk}
-use Rattle.ftl_disk.specs.contracts.disk.Disk.{the_row as disk_row}
+use Rattle.ftl_disk.specs.contracts.disk.FtlDisk.{the_row as disk_row}
 use Rattle.ftl_c.specs.declared.handle.Handle.{Handle}
 use Rattle.ftl_c.specs.contracts.handle.Handle.{the_row}
 

@@ -6,7 +6,7 @@ use Rattle.ftl_disk.specs.Disk.{Opens}
 use Rattle.ftl_disk.specs.Plans.{IsUnplanned}
 use Rattle.ftl_disk.specs.declared.disk.FtlDisk.{FtlDisk}
 use Rattle.ftl_disk.specs.declared.shape.Shape.{Shape}
-use Rattle.ftl_disk.specs.contracts.disk.Disk.{the_row as disk_row}
+use Rattle.ftl_disk.specs.contracts.disk.FtlDisk.{the_row as disk_row}
 
 -- the disk, or memory for one, whatever it holds now
 abbrev pub room_or_disk : Ptr → Option FtlDisk → Fml

@@ -2,7 +2,7 @@
 ghost use Rattle.std.specs.Prelude.{◌≡◌, None};
 ghost use Rattle.std.specs.Mem.{type_size};
 ghost use Rattle.ftl_c.specs.Room.{IsOpened};
-ghost use Rattle.ftl_disk.specs.contracts.disk.Disk.{the_row as disk_row};
+ghost use Rattle.ftl_disk.specs.contracts.disk.FtlDisk.{the_row as disk_row};
 ghost use Rattle.ftl_disk.specs.Disk.{Certifies, Flushes, Formats, Reads, Starts, StartsCertified, Stops, Trims, Turns, Writes};
 ghost use Rattle.ftl_disk.specs.Look.{Looks};
 ghost use Rattle.ftl_disk.specs.Measures as measured;

@@ -3,7 +3,7 @@ ghost use Rattle.std.specs.Prelude.{◌≡◌};
 ghost use Rattle.std.specs.Borrow.{full_share, sem};
 ghost use Rattle.std.specs.Ptr.{lies_at};
 ghost use Rattle.ftl_disk.specs.declared.disk.FtlDisk.{FtlDisk};
-ghost use Rattle.ftl_disk.specs.contracts.disk.Disk.{the_row as disk_row};
+ghost use Rattle.ftl_disk.specs.contracts.disk.FtlDisk.{the_row as disk_row};
 
 use ftl_disk::disk::FtlDisk;
 use std::marker::Model;

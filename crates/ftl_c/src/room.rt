@@ -2,7 +2,7 @@
 ghost use Rattle.std.specs.Prelude.{◌≡◌, Option, Some, None};
 ghost use Rattle.std.specs.Coded.{coded_option};
 ghost use Rattle.ftl_disk.specs.declared.disk.FtlDisk.{FtlDisk};
-ghost use Rattle.ftl_disk.specs.contracts.disk.Disk.{the_row as disk_row};
+ghost use Rattle.ftl_disk.specs.contracts.disk.FtlDisk.{the_row as disk_row};
 ghost use Rattle.ftl_c.specs.Room.{room_or_disk};
 
 use ftl_disk::disk::FtlDisk;

@@ -25,7 +25,7 @@ use denote.Struct.Struct.{Struct}
 use denote.Struct.Owning.{shape}
 use denote.Triple.Walked.{Stays, walk_of, says, stay_dropped, Goes-spent_ref, ends_at}
 use Rattle.ftl_disk.specs.declared.disk.FtlDisk.{FtlDisk}
-use Rattle.ftl_disk.specs.contracts.disk.Disk.{the_row as R}
+use Rattle.ftl_disk.specs.contracts.disk.FtlDisk.{the_row as R}
 use Rattle.ftl_c.specs.Handle.{with_disk}
 use Rattle.ftl_c.specs.declared.handle.Handle.{Handle}
 use Rattle.ftl_c.specs.contracts.handle.Handle.{the_row as B, the_type}

@@ -23,8 +23,8 @@ use denote.Signature.{plain, types_at}
 use denote.Steps.{nothing, opens, closes, peeks, heard}
 use denote.Triple.Walked.{Stays, walk_of, says, stay_ref, stay_dropped, Goes-ref, ends_at}
 use Rattle.ftl_disk.specs.declared.disk.FtlDisk.{FtlDisk}
-use Rattle.ftl_disk.specs.contracts.disk.Disk.{the_row as R}
-use Rattle.ftl_disk.proofs.disk.Disk.TheLaws.{the_row_laws}
+use Rattle.ftl_disk.specs.contracts.disk.FtlDisk.{the_row as R}
+use Rattle.ftl_disk.proofs.disk.FtlDisk.TheLaws.{the_row_laws}
 use Rattle.ftl_c.specs.Room.{room_or_disk}
 use Rattle.ftl_c.specs.contracts.room.Room.{the_row as B}
 use Rattle.ftl_c.specs.contracts.room.Room.put as f
