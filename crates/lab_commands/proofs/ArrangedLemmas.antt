@@ -14,7 +14,7 @@ use Rattle.lab_arrange.specs.declared.arrangement.Spares.{Spares}
 use Rattle.lab_arrange.specs.declared.arrangement.Spares.TheVariants.{Block, Die}
 use Rattle.lab_shapes.specs.declared.find.ArrangedFit.{ArrangedFit}
 use Rattle.lab_shapes.specs.Words.{around_words, arrangement_words, flag_words, order_words, spares_words}
-use Rattle.lab_commands.specs.Lines.{says_words}
+use Rattle.lab_commands.specs.Lines.{arrange_words, says_words}
 use Rattle.lab_commands.specs.Values.{arranged_fit_data, arranged_rest, count, fit_members}
 use Rattle.lab_commands.proofs.JsonLemmas.{fit_rest, quoted_in}
 

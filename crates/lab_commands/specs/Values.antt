@@ -1,5 +1,5 @@
 -- The lines of the reports, as JSON values: objects, each with its members by rising name. `line` says which line it is.
-use Rattle.std.specs.Prelude.{ℕ, List, ◌∷◌, codes, Bool, true, false, if◌then◌else◌}
+use Rattle.std.specs.Prelude.{ℕ, List, ◌∷◌, codes, Bool, true, if◌then◌else◌}
 use Rattle.serde_json.specs.Data.{Data, Members, boolean, number, unsigned, string, array, object, item, no_items, member, no_members}
 use Rattle.certificate.specs.declared.block_state.BlockState.{BlockState}
 use Rattle.lab_dump.specs.declared.fit.Fit.{Fit}

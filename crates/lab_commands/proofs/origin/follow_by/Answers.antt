@@ -4,6 +4,7 @@ use Rattle.std.proofs.lemmas.List.{length-map}
 use Rattle.lab_origin.specs.declared.readings.ReadingFault.TheVariants as reading
 use Rattle.lab_origin.specs.declared.trace.OriginFault.TheVariants as origin
 use Rattle.lab_origin.specs.Traced.{ArePinned, IsOfSome, IsUntraced}
+use Rattle.lab_origin.specs.Tracing.{Tell}
 use Rattle.program_words.specs.Met.{texts}
 use Rattle.lab_commands.specs.Merge.{AreOpened, IsSomeUnread}
 use Rattle.lab_commands.specs.Origin.{IsUnfollowed, readings_of}
