@@ -17,7 +17,7 @@ ghost use Rattle.lab_commands.specs.Words.{AreDumpsAt, IsArrayAt, IsAsked, IsAt,
 use crate::arrange_words::{ArrangeWords, arrange_words};
 use crate::grammar::grammar;
 use crate::origin_words::{OriginWords, origin_asked};
-use program_words::{CommandWords, Met, GrammarFault, read_words};
+use program_words::{CommandWords, GrammarFault, Met, read_words};
 use std::alloc::Global;
 
 /// How a command tells what it does.

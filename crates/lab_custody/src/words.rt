@@ -5,7 +5,7 @@ ghost use Rattle.program_words.specs.Met.{entries_of, texts};
 ghost use Rattle.lab_custody.specs.Words.{IsAt, IsCustody, IsVerifyOr, read_of, wrote_of};
 
 use lab_commands::commands_grammar;
-use program_words::{CommandWords, Met, GrammarFault, read_words};
+use program_words::{CommandWords, GrammarFault, Met, read_words};
 use std::alloc::{AllocError, Global};
 
 /// The words of `verify REPORT`.

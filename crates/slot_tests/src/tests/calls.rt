@@ -3,7 +3,7 @@ ghost use Rattle.std.specs.Prelude.{◌≡◌, IfOk};
 ghost use Rattle.device_slot.specs.Begun.{IsKept};
 
 use device_bench::hold::hold_same;
-use device_slot::{CallFault, PowerFault, Report, Shortage, DeviceSlot, stop};
+use device_slot::{CallFault, DeviceSlot, PowerFault, Report, Shortage, stop};
 use ftl_device::{Device, DeviceFault};
 use onfi_cycles::Nand;
 use page_layout::geometry::Geometry;

@@ -5,7 +5,7 @@ ghost use Rattle.device_slot.specs.Begun.{IsKept};
 use super::calls::Call::{Flush, Read, Trim, Turn, Write};
 use super::calls::{Answer, Call, OFF, RANGE, SIZE, given_up, hold_calls, hold_state, kept};
 use device_bench::bench::{driver_on, formatted_die, mounted, small};
-use device_slot::{CallFault, Report, Shortage, DeviceSlot, start, start_checked, start_mounted};
+use device_slot::{CallFault, DeviceSlot, Report, Shortage, start, start_checked, start_mounted};
 use ftl_device::{Device, DeviceFault};
 use nand_die::Die;
 use onfi_cycles::{Driver, Nand};

@@ -8,7 +8,7 @@ use super::calls::Call::{Read, Write};
 use super::calls::{Answer, Call, given_up, hold_calls, kept};
 use device_bench::bench::{driver_on, formatted_die, mounted, small};
 use device_bench::hold::hold_same;
-use device_slot::{PowerFault, DeviceSlot, start, start_checked, start_mounted};
+use device_slot::{DeviceSlot, PowerFault, start, start_checked, start_mounted};
 use ftl_device::{Device, DeviceFault};
 use image_check::Refusal;
 use nand_die::{CycleFuse, Die, Stop};
