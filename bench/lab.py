@@ -565,7 +565,7 @@ def spent(words, folder):
 
 def times(folder):
     os.chdir(folder)
-    g = ref.Geometry(2048, 64, 64, 512, 20000)
+    g = ref.Geometry(2048, 64, 64, 2048, 80000)
     (folder / "die.cert").write_bytes(full_dump(folder / "dump.bin", g))
     size = (folder / "dump.bin").stat().st_size
     hashed = spent(["sha256sum", "dump.bin"], folder)
@@ -580,7 +580,7 @@ def times(folder):
         ["compare", g.words(), "die.cert", "dump.bin"],
         ["merge", g.words(), "out.bin", "dump.bin", "dump.bin", "--force"],
         ["repair", g.words(), "dump.bin", "out.bin", "--force"],
-        ["correct", "2048,37,64,512,20000", "dump.bin", "out.bin", "--force"],
+        ["correct", "2048,37,64,2048,80000", "dump.bin", "out.bin", "--force"],
     ]:
         made = spent([LAB, *words], folder)
         print(f"nandlab {words[0]} {made:.3f} s, {made / hashed:.2f} times, {measure.run([LAB, *words])[1]} KiB")
@@ -597,7 +597,7 @@ def times(folder):
 
 def told_of(folder):
     """A report of a survey, under a name that stays."""
-    subprocess.run([LAB, "survey", "2048,64,64,512,20000", "dump.bin", "--report", "kept.json"], cwd=folder, check=True, capture_output=True)
+    subprocess.run([LAB, "survey", "2048,64,64,2048,80000", "dump.bin", "--report", "kept.json"], cwd=folder, check=True, capture_output=True)
     return "kept.json"
 
 
