@@ -1,9 +1,29 @@
+use Rattle.std.proofs.Common.{List, ℕ, ◌++◌, codes, subst}
+use Rattle.std.specs.Fmt.{decimal}
+use Rattle.lab_commands.specs.Document.{Prints}
+use Rattle.lab_commands.specs.Lines.{kind_words}
 use Rattle.lab_commands.specs.Text.{legible_words}
 use Rattle.lab_commands.proofs.TextLemmas.{prints_fail, prints_puts}
 use Rattle.lab_commands.proofs.text.put_legible.Goals as goal
 
+-- the words, by the pieces that they are put in
+abbrev pieces : (at : ℕ) → (kind : List ℕ) → (number sequence : ℕ) → List ℕ
+pieces at kind number sequence = codes "byte " ++ (decimal at ++ (codes " says " ++ (kind ++ (codes " " ++ (decimal number ++ (codes " sequence " ++ decimal sequence))))))
+
 pub returns-clause-bytes : goal.returns-clause-bytes
-returns-clause-bytes g c = prints_puts _ (g.W.Output.contents c.args.out.now) (g.W.Output.contents c.put_pieces.new.out) (legible_words c.args.found) c.put_pieces.result c.put_pieces.ensures
+returns-clause-bytes g c =
+    let a = g.W.Output.contents c.args.out.now in
+    let b = g.W.Output.contents c.put_pieces.new.out in
+    let x = c.args.found in
+    let broke = g.W.Output.failed c.put_pieces.new.out in
+    prints_puts broke a b (legible_words x) c.put_pieces.result
+    (subst (λ (number : ℕ). Prints broke a b (pieces x.at (kind_words x.says.kind) number x.says.sequence) c.put_pieces.result) c.from.ensures
+    (subst (λ (kind : List ℕ). Prints broke a b (pieces x.at kind c.from.result x.says.sequence) c.put_pieces.result) c.kind_text.ensures c.put_pieces.ensures))
 
 pub returns-clause-failed : goal.returns-clause-failed
-returns-clause-failed g c = prints_fail _ (g.W.Output.contents c.args.out.now) (g.W.Output.contents c.put_pieces.new.out) (legible_words c.args.found) c.put_pieces.result c.put_pieces.ensures
+returns-clause-failed g c =
+    let a = g.W.Output.contents c.args.out.now in
+    let b = g.W.Output.contents c.put_pieces.new.out in
+    let x = c.args.found in
+    let broke = g.W.Output.failed c.put_pieces.new.out in
+    prints_fail broke a b (pieces x.at c.kind_text.result.now c.from.result x.says.sequence) c.put_pieces.result c.put_pieces.ensures
