@@ -3,6 +3,7 @@ use Rattle.std.proofs.Common.{◌≡◌, ◌⊎◌, ℕ, ◌+◌, ◌-◌, ◌%�
 use Rattle.std.proofs.Common.{length-append, length-take, length-drop}
 use Rattle.std.specs.Prelude.{nat_eq, slice_index, slice_range}
 use Rattle.std.specs.List.{range_with_len}
+use Rattle.std.proofs.Math.Seq.{drop-append-add}
 use Rattle.std.proofs.lemmas.Bool.{cases_lt, lt-ltb, le-ltb}
 use Rattle.std.proofs.lemmas.Nat.{mod_below}
 use Rattle.std.proofs.lemmas.List.{ext_get_or, get_or-map, get_or-take, get_or-drop, get_or-replicate, get_or_append_left, get_or-append_right, length-map, length-replicate}
@@ -11,7 +12,7 @@ use Rattle.page_layout.specs.declared.geometry.Geometry.{Geometry}
 use Rattle.lab_arrange.specs.declared.arrangement.Arrangement.{Arrangement}
 use Rattle.lab_arrange.specs.Place.{body_place, byte_at, header_of, pair_of, place_of, swapped_place, value_of}
 use Rattle.lab_arrange.specs.Reading.{area_from, bytes_from, taken_from}
-use Rattle.lab_arrange.specs.Arranged.{piece_at}
+use Rattle.lab_arrange.specs.Arranged.{piece_at, spare_at}
 use Rattle.lab_arrange.proofs.PlaceLemmas.{body_data, body_spare}
 
 -- ---- lists by their places
@@ -179,3 +180,14 @@ page_is g a all row here there body tail here_is there_is first second = by_plac
             let next = body_spare g a row (i - d) in
             let place : there + (i - d) ≡ body_place g a row i = omega (arith, there_is) ∙ (sym next ∙ ap (body_place g a row) column) in
             get_or-append_right body tail d i 0 front l ∙ (ap (λ xs. get_or xs (i - d) 0) second ∙ (place_of_map (λ k. at_place (there + k)) s (i - d) (omega arith) ∙ ap at_place place))
+
+-- its spare area alone
+pub spare_is : (g : Geometry) (a : Arrangement) (all : List ℕ) (row there : ℕ) (tail : List ℕ) → there ≡ body_place g a row g.data_bytes → tail ≡ area_from (header_of a) a.swapped a.inverted all there g.spare_bytes
+    → tail ≡ spare_at g a all row
+unfolding area_from
+spare_is g a all row there tail there_is second =
+    let body : List ℕ = area_from (header_of a) a.swapped a.inverted all (body_place g a row 0) g.data_bytes in
+    let front : length body ≡ g.data_bytes = length-map-range_with_len (λ i. byte_at a.inverted all (header_of a + swapped_place a.swapped (body_place g a row 0 + i))) 0 g.data_bytes in
+    let at : length body + 0 ≡ g.data_bytes = omega (arith, front) in
+    let whole = page_is g a all row (body_place g a row 0) there body tail refl there_is refl second in
+    sym (drop-append-add body tail 0) ∙ (ap (λ n. drop n (body ++ tail)) at ∙ ap (drop g.data_bytes) whole)

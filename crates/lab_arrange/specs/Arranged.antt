@@ -1,5 +1,5 @@
 -- What is written of a dump that is not in order.
-use Rattle.std.specs.Prelude.{◌≡◌, ◌≢◌, ℕ, All, List, length, map, Option, Some, IfSome}
+use Rattle.std.specs.Prelude.{◌≡◌, ◌≢◌, ℕ, All, List, length, map, drop, Option, Some, IfSome}
 use Rattle.std.specs.List.{range_with_len}
 use Rattle.page_layout.specs.declared.geometry.Geometry.{Geometry}
 use Rattle.page_layout.specs.Geometry.{row_count, page_bytes}
@@ -11,6 +11,10 @@ use Rattle.lab_arrange.specs.Place.{byte_at, length_of, place_of}
 -- THE PAGE OF A ROW: each of its bytes is the byte of the dump at its place
 unfoldable pub piece_at : Geometry → Arrangement → List ℕ → ℕ → List ℕ
 piece_at g a all row = map (λ column. byte_at a.inverted all (place_of g a row column)) (range_with_len 0 (page_bytes g))
+
+-- its spare area
+abbrev pub spare_at : Geometry → Arrangement → List ℕ → ℕ → List ℕ
+spare_at g a all row = drop g.data_bytes (piece_at g a all row)
 
 -- the pages of the first rows
 abbrev pub pieces_below : Geometry → Arrangement → List ℕ → ℕ → List (List ℕ)

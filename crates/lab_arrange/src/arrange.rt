@@ -1,7 +1,7 @@
 //! A dump that is put in order.
 ghost use Rattle.std.specs.Prelude.{◌≡◌, ◌+◌, ◌<◌, ◌≤◌, List, ℕ, length, true, Some, IfOk, IfErr, IfSome, OnOk, OnErr};
 ghost use Rattle.page_layout.specs.Geometry.{page_bytes, row_count};
-ghost use Rattle.lab_arrange.specs.Arranged.{AreSized, IsArranged, IsUnarranged, piece_at, pieces_below};
+ghost use Rattle.lab_arrange.specs.Arranged.{AreSized, IsArranged, IsUnarranged, piece_at, pieces_below, spare_at};
 ghost use Rattle.lab_arrange.specs.Place.{IsFitting, length_of};
 ghost use Rattle.lab_arrange.specs.Rooms.{IsArrangeRoom};
 
@@ -84,6 +84,32 @@ pub fn read_page<D: Dump>(
     let starts = page_starts(geometry, arrangement, row);
     let (body, spare) = page.split_at_mut(geometry.data_bytes());
     read_area(dump, size, arrangement, starts.body, raw, body)?;
+    read_area(dump, size, arrangement, starts.spare, raw, spare)
+}
+
+/// Reads the spare area alone of the page of a row of a dump of this size. `raw` is scratch, of two bytes more than a page has.
+///
+/// # Errors
+///
+/// `DumpFault` where a read of the dump failed. `raw` and `spare` then hold anything. (This project's.)
+pub fn read_spare<D: Dump>(
+    dump: &mut D,
+    size: u64,
+    geometry: &Geometry,
+    arrangement: &Arrangement,
+    row: u32,
+    raw: &mut [u8],
+    spare: &mut [u8],
+) -> Result<(), DumpFault>
+    requires fits { IsFitting geometry.now arrangement.now }
+    requires row { row < row_count geometry.now }
+    requires spare_room { length spare.old ≡ geometry.now.spare_bytes }
+    requires raw_room { length raw.old ≡ page_bytes geometry.now + 2 }
+    ensures read { OnOk result ((all : List ℕ) → D.bytes dump.old ≡ Some all → size ≡ length all → spare.new ≡ spare_at geometry.now arrangement.now all row) }
+    ensures failed { OnErr result (D.failed dump.new ≡ true) }
+    ensures same { D.bytes dump.new ≡ D.bytes dump.old }
+{
+    let starts = page_starts(geometry, arrangement, row);
     read_area(dump, size, arrangement, starts.spare, raw, spare)
 }
 

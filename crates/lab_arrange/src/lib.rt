@@ -14,7 +14,7 @@ mod laws;
 mod places;
 mod words;
 
-pub use arrange::{ArrangeFault, ArrangeRoom, Unarranged, arrange_dump, read_page};
+pub use arrange::{ArrangeFault, ArrangeRoom, Unarranged, arrange_dump, read_page, read_spare};
 pub use arrangement::{Arrangement, Spares, in_order};
 pub use fitting::{UnfitFault, fit_arrangement};
 pub use laws::{area_laws, byte_laws, order_laws, place_laws};

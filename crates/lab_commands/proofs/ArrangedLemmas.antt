@@ -13,7 +13,7 @@ use Rattle.lab_arrange.specs.declared.arrangement.Arrangement.{Arrangement}
 use Rattle.lab_arrange.specs.declared.arrangement.Spares.{Spares}
 use Rattle.lab_arrange.specs.declared.arrangement.Spares.TheVariants.{Block, Die}
 use Rattle.lab_shapes.specs.declared.find.ArrangedFit.{ArrangedFit}
-use Rattle.lab_shapes.specs.Words.{around_words, arrangement_words, flag_words, order_words, spares_words}
+use Rattle.lab_shapes.specs.Words.{around_words, arrangement_words, cut_words, flag_words, order_words, spares_words}
 use Rattle.lab_commands.specs.Lines.{arrange_words, says_words}
 use Rattle.lab_commands.specs.Values.{arranged_fit_data, arranged_rest, count, fit_members}
 use Rattle.lab_commands.proofs.JsonLemmas.{fit_rest, quoted_in}
@@ -77,6 +77,12 @@ plain_around (Some n) tail = plain_both (codes "header=") (decimal n) refl (plai
 plain_around None (Some n) = plain_both (codes "tail=") (decimal n) refl (plain_decimal n)
 plain_around None None = refl
 
+plain_cut : (before : Bool) (cut : Option ℕ) → escape (cut_words before cut) ≡ cut_words before cut
+unfolding escape_byte
+plain_cut before None = refl
+plain_cut false (Some n) = plain_both (codes "cut=") (decimal n) refl (plain_decimal n)
+plain_cut true (Some n) = plain_both (codes ",cut=") (decimal n) refl (plain_decimal n)
+
 plain_spares : (before : Bool) (s : Option Spares) → escape (spares_words before s) ≡ spares_words before s
 unfolding escape_byte
 plain_spares before None = refl
@@ -101,7 +107,9 @@ plain_order before a =
 
 plain_arrangement : (a : Arrangement) → escape (arrangement_words a) ≡ arrangement_words a
 unfolding arrangement_words
-plain_arrangement a = plain_both (around_words a.header a.tail) _ (plain_around a.header a.tail) (plain_order _ a)
+plain_arrangement a =
+    let around = is_some a.header || is_some a.tail in
+    plain_both (around_words a.header a.tail) _ (plain_around a.header a.tail) (plain_both (cut_words around a.cut) _ (plain_cut around a.cut) (plain_order _ a))
 
 -- ---- the object
 

@@ -1,13 +1,15 @@
 -- What the command `geometry` comes to.
-use Rattle.std.specs.Prelude.{◌≡◌, ◌⊎◌, ◌<◌, ℕ, List, [], true, length, Option, Some, None, IfSome, IsPermutation, Bool}
+use Rattle.std.specs.Prelude.{◌≡◌, ◌⊎◌, ◌<◌, ℕ, List, [], ◌∷◌, true, false, length, Option, Some, None, IfSome, IsPermutation, Bool}
 use Rattle.std.specs.List.Sorted.{IsSorted}
 use Rattle.std.specs.Io.KnownBytes.{Appends}
+use Rattle.lab_dump.specs.declared.fit.Fit.{Fit}
 use Rattle.lab_dump.specs.declared.nearest.Legible.{Legible}
 use Rattle.lab_dump.specs.Nearest.{nearest_of}
 use Rattle.lab_correct.specs.declared.found.FoundFit.{FoundFit}
 use Rattle.lab_correct.specs.Coded.{ArePossible, found_of, found_rank}
 use Rattle.lab_shapes.specs.declared.find.ArrangedFit.{ArrangedFit}
 use Rattle.lab_shapes.specs.Arranged.{IsBest, IsPossibleAs}
+use Rattle.lab_shapes.specs.Planes.{IsTurnedOf}
 use Rattle.lab_commands.specs.declared.document.ReportForm.{ReportForm}
 use Rattle.lab_dump.specs.Rooms.{IsNearestRoom}
 use Rattle.lab_correct.specs.FoundRoom.{IsFoundRoom}
@@ -40,6 +42,17 @@ pub record AreFound (known : Option (List ℕ)) (fits : List FoundFit) : Type 0 
   pub possible : ArePossible fits
   pub some : 0 < length fits
 
+-- what more is told of a geometry that fits: nothing of one with codes; of any other that more of its pages are in their turn with the pages of two
+-- planes in turns, where the dump's bytes are known
+abbrev pub IsTurnedBy : (known : Option (List ℕ)) → (coded : Bool) → Fit → Option ArrangedFit → Type 0
+IsTurnedBy known true fit turned = turned ≡ None
+IsTurnedBy known false fit turned = IfSome known (λ bytes. IsTurnedOf bytes fit turned)
+
+-- and it is told of the best one
+abbrev pub IsTurned : (known : Option (List ℕ)) → List FoundFit → Option ArrangedFit → Type 0
+IsTurned known [] turned = turned ≡ None
+IsTurned known (best ∷ others) turned = IsTurnedBy known best.coded best.fit turned
+
 -- None of them fits, and this is the geometry that fits best in another arrangement: where the dump's bytes are known, of all that are tried.
 pub record IsFoundElse (known : Option (List ℕ)) (found : ArrangedFit) : Type 0 where
   pub none : IfSome known (λ bytes. found_of bytes ≡ [])
@@ -47,7 +60,7 @@ pub record IsFoundElse (known : Option (List ℕ)) (found : ArrangedFit) : Type 
   pub possible : IsPossibleAs found
 
 abbrev pub FitsAre : Option (List ℕ) → Fitting → Type 0
-FitsAre known (fitting.Stands fits) = AreFound known fits.items
+FitsAre known (fitting.Stands fits turned) = AreFound known fits.items × IsTurned known fits.items turned × IfSome turned IsPossibleAs
 FitsAre known (fitting.Arranged found) = IsFoundElse known found
 
 -- of a dump that reads so
@@ -58,7 +71,7 @@ pub record HasFound (a : Answers) (path : List ℕ) (fitting : Fitting) : Type 0
 
 -- what is printed of it
 abbrev pub fitting_text : ReportForm → Fitting → List ℕ
-fitting_text form (fitting.Stands fits) = fits_text form fits.items
+fitting_text form (fitting.Stands fits turned) = fits_text form fits.items turned
 fitting_text form (fitting.Arranged found) = arranged_fit_text form found
 
 -- and it was printed

@@ -207,8 +207,9 @@ abbrev pub history_text : ReportForm → Geometry → List SectorPage → ℕ �
 history_text form g pages unsound =
     head_text form (codes "history") ++ (text_below form (page_at g pages) (length pages) ++ (line_text form (line.History (length pages) unsound) ++ tail_text form))
 
-abbrev pub fits_text : ReportForm → List FoundFit → List ℕ
-fits_text form fits = head_text form (codes "geometry") ++ (text_below form (fit_at fits) (length fits) ++ tail_text form)
+abbrev pub fits_text : ReportForm → List FoundFit → Option ArrangedFit → List ℕ
+fits_text form fits turned =
+    head_text form (codes "geometry") ++ (text_below form (fit_at fits) (length fits) ++ (if_text form (option_map line.ArrangedFit turned) ++ tail_text form))
 
 -- of the one in another arrangement
 abbrev pub arranged_fit_text : ReportForm → ArrangedFit → List ℕ

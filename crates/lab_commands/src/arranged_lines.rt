@@ -1,7 +1,7 @@
 //! A geometry that fits a dump in another arrangement, as plain text and as a JSON value.
 ghost use Rattle.std.specs.Prelude.{◌≡◌, ◌∷◌, ◌||◌, None, is_some};
 ghost use Rattle.serde_json.specs.Written.{compact_text};
-ghost use Rattle.lab_shapes.specs.Words.{around_words, arrangement_words, flag_words, order_words, spares_words};
+ghost use Rattle.lab_shapes.specs.Words.{around_words, arrangement_words, cut_words, flag_words, order_words, spares_words};
 ghost use Rattle.lab_commands.specs.Document.{Prints};
 ghost use Rattle.lab_commands.specs.Lines.{arranged_fit_words, arrange_words, fit_words};
 ghost use Rattle.lab_commands.specs.Values.{arranged_fit_data, arranged_rest};
@@ -35,6 +35,17 @@ fn put_around<W: Output>(
     match header {
         Some(bytes) => put_pieces(out, &[Words("header="), Number(u64::from(bytes))]),
         None => put_tail(out, tail),
+    }
+}
+
+// The word of bytes that were cut off, where some were, with a comma before it where a word stands before it.
+fn put_cut<W: Output>(out: &mut W, before: bool, cut: Option<u32>) -> Result<(), OutputFault>
+    ensures { Prints (W.failed out.new) (W.contents out.old) (W.contents out.new) (cut_words before cut) result }
+{
+    match (before, cut) {
+        (false, Some(bytes)) => put_pieces(out, &[Words("cut="), Number(u64::from(bytes))]),
+        (true, Some(bytes)) => put_pieces(out, &[Words(",cut="), Number(u64::from(bytes))]),
+        (_, None) => Ok(()),
     }
 }
 
@@ -131,8 +142,10 @@ fn put_order<W: Output>(
 fn put_arrangement<W: Output>(out: &mut W, arrangement: &Arrangement) -> Result<(), OutputFault>
     ensures { Prints (W.failed out.new) (W.contents out.old) (W.contents out.new) (arrangement_words arrangement.now) result }
 {
+    let around = has_around(arrangement);
     put_around(out, arrangement.header, arrangement.tail)?;
-    put_order(out, has_around(arrangement), arrangement)
+    put_cut(out, around, arrangement.cut)?;
+    put_order(out, around || arrangement.cut.is_some(), arrangement)
 }
 
 // What comes first where the dump stands in another arrangement, but for its words.

@@ -1,6 +1,8 @@
 //! The command `geometry DUMP`.
-ghost use Rattle.std.specs.Prelude.{◌≡◌, OnOk, IfOk, IfErr};
-ghost use Rattle.lab_commands.specs.Geometry.{ToldFits, FitNothing, FitsAre, HasFound, HasRooms, IsGeometryFault, IsUnfound, fitting_text};
+ghost use Rattle.std.specs.Prelude.{◌≡◌, OnOk, OnErr, IfOk, IfErr, IfSome, true};
+ghost use Rattle.lab_shapes.specs.Arranged.{IsPossibleAs};
+ghost use Rattle.lab_shapes.specs.Rooms.{HasRoom};
+ghost use Rattle.lab_commands.specs.Geometry.{ToldFits, FitNothing, FitsAre, HasFound, HasRooms, IsGeometryFault, IsTurned, IsUnfound, fitting_text};
 ghost use Rattle.lab_commands.specs.Document.{Prints};
 
 use crate::document::Printer;
@@ -12,8 +14,8 @@ use crate::reports::{print_arranged_fit, print_fits};
 use crate::text::LabFault;
 use crate::words::{GeometryWords, Showing};
 use lab_correct::{FoundFit, FoundRoom, find_all_geometries};
-use lab_dump::{Dump, NearestRoom, find_nearest};
-use lab_shapes::{ArrangedFit, ShapeRoom, find_arranged};
+use lab_dump::{Dump, DumpFault, NearestRoom, find_nearest};
+use lab_shapes::{ArrangedFit, ShapeRoom, find_arranged, find_planes};
 use std::alloc::{AllocError, Global};
 
 /// The memory of the command, all that it takes for its searches.
@@ -42,10 +44,28 @@ impl GeometryRooms {
 /// What fits a dump.
 #[derive(Drop)]
 pub(crate) enum Fitting {
-    /// These geometries, as it stands and with codes.
-    Stands(Vec<FoundFit>),
+    /// These geometries, as it stands and with codes; and the best of them with the pages of two planes in turns, where more of its pages are in their
+    /// turn so.
+    Stands(Vec<FoundFit>, Option<ArrangedFit>),
     /// None of them, and this one best in another arrangement.
     Arranged(ArrangedFit),
+}
+
+// The best of the geometries that fit a dump, with the pages of two planes in turns, where it has no codes and more of its pages are in their turn so.
+fn turn_best<D: Dump>(
+    room: ShapeRoom,
+    dump: &mut D,
+    fits: &[FoundFit],
+) -> Result<Option<ArrangedFit>, DumpFault>
+    requires { HasRoom room }
+    ensures turned { IfOk result (IsTurned (D.bytes dump.old) fits.now) }
+    ensures possible { IfOk result (λ turned. IfSome turned IsPossibleAs) }
+    ensures source { OnErr result (D.failed dump.new ≡ true) }
+{
+    match fits.first() {
+        Some(best) if !best.coded => find_planes(room, dump, &best.fit),
+        _ => Ok(None),
+    }
 }
 
 // What fits the bytes of a dump: as they stand and with codes, or else in another arrangement. Where nothing does, what came nearest.
@@ -63,7 +83,10 @@ fn search<'a, D: Dump>(
         Err(_) => return Err(LabFault::Read(path)),
     };
     if !fits.is_empty() {
-        return Ok(Fitting::Stands(fits));
+        return match turn_best(rooms.shapes, dump, &fits) {
+            Ok(turned) => Ok(Fitting::Stands(fits, turned)),
+            Err(_) => Err(LabFault::Read(path)),
+        };
     }
     match find_arranged(rooms.shapes, dump) {
         Ok(Some(found)) => Ok(Fitting::Arranged(found)),
@@ -100,13 +123,13 @@ fn print_fitting<W: Output>(
     ensures { Prints (W.failed out.new) (W.contents out.old) (W.contents out.new) (fitting_text printer.form fitting.now) result }
 {
     match fitting {
-        Fitting::Stands(fits) => print_fits(printer, out, fits),
+        Fitting::Stands(fits, turned) => print_fits(printer, out, fits, *turned),
         Fitting::Arranged(found) => print_arranged_fit(printer, out, found),
     }
 }
 
 /// The command `geometry`: prints which geometries fit the dump DUMP, as it stands and as one of a chip whose pages have codes, best first, a line for
-/// each with what the dump says for it. Where none does, it prints the one that fits best in another arrangement, with what to type.
+/// each with what the dump says for it; and the best of them once more with two planes in turns, where more of its pages are in their turn so. Where none does, it prints the one that fits best in another arrangement, with what to type.
 ///
 /// # Errors
 ///

@@ -305,7 +305,7 @@ pub fn print_history<W: Output>(
     printer.end(out)
 }
 
-/// Prints which geometries fit, in their order.
+/// Prints which geometries fit, in their order, and the one with the pages of two planes in turns, where one is told.
 ///
 /// # Errors
 ///
@@ -314,11 +314,13 @@ pub fn print_fits<W: Output>(
     printer: Printer,
     out: &mut W,
     fits: &[FoundFit],
+    turned: Option<ArrangedFit>,
 ) -> Result<(), OutputFault>
-    ensures { Prints (W.failed out.new) (W.contents out.old) (W.contents out.new) (fits_text printer.form fits.now) result }
+    ensures { Prints (W.failed out.new) (W.contents out.old) (W.contents out.new) (fits_text printer.form fits.now turned) result }
 {
     printer.begin(out, Report::Geometry)?;
     printer.list(out, &Lines::Fits(fits))?;
+    printer.line(out, turned.map(Line::ArrangedFit))?;
     printer.end(out)
 }
 

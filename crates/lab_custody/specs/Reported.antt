@@ -1,5 +1,6 @@
 -- A command whose run is told in a report.
 use Rattle.std.specs.Prelude.{◌≡◌, ◌≢◌, ◌⊎◌, ◌<◌, ℕ, true, false, All, List, [], ◌∷◌, codes, length, get_or, Option, Some, IfSome}
+use Rattle.program_words.specs.Grammar.{version_text}
 use Rattle.lab_commands.specs.declared.files.LabFileFault.TheVariants as file
 use Rattle.lab_commands.specs.declared.files.Standing.TheVariants as standing
 use Rattle.lab_commands.specs.declared.text.LabFault.TheVariants as lab
@@ -59,7 +60,7 @@ IsSomeUnnoted a paths told = (i : ℕ) × (i < length paths) × IsUnnoted a (get
 
 -- what it says of a run of these words, by what is said of its files
 abbrev pub told_of_run : List (List ℕ) → List Note → List Note → Told
-told_of_run words read wrote = record { program = codes "nandlab"; version = codes "0.1.0"; words = words; read = read; wrote = wrote }
+told_of_run words read wrote = record { program = codes "nandlab"; version = version_text; words = words; read = read; wrote = wrote }
 
 -- it was not put in its place: a call failed, memory was refused, or another file has its name meanwhile
 abbrev pub IsUnstored : Answers → List ℕ → CustodyFault → Type 0

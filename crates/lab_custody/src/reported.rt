@@ -13,11 +13,10 @@ use crate::words::ReportedWords;
 use lab_commands::{KeepFault, LabFault, LabFileFault, LabFiles, MapText, Progress, Standing};
 use lab_dump::{LineFault, MapWriter};
 use lab_report::{Content, Noted, Run, report_line};
+use program_words::version;
 use std::alloc::{AllocError, Global};
 
 const PROGRAM: &str = "nandlab";
-
-const VERSION: &str = "0.1.0";
 
 /// The line of a report, as it is stored.
 #[derive(Clone, Copy)]
@@ -192,7 +191,7 @@ pub(crate) fn store_report<'a, F: LabFiles>(
 {
     let run = Run {
         program: PROGRAM,
-        version: VERSION,
+        version: version(),
         words,
         read,
         wrote,

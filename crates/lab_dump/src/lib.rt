@@ -81,7 +81,7 @@ pub use page_bytes::{is_broken, is_sound, join_page};
 pub use pass::{Cut, PassFault, Stopped, Taker, expect_end, fill, scan, scan_rows};
 pub use row_page::look_in;
 pub use rows::{Rows, asked_law, each_law, is_asked, within_law};
-pub use said::{SaidPage, said_laws};
+pub use said::{SaidPage, said_laws, spelled};
 pub use sample::{Sample, looked_count, looked_row};
 pub use shape::{data_sizes, first_shape, page_counts};
 pub use survey::{DieSurvey, SurveyFault, SurveyRoom, mounts_law, survey_dump};

@@ -173,7 +173,7 @@ fn look_on<D: Dump>(
 }
 
 /// The nearest record that can be read in a dump: of those of table pages the first one, or else the first one at all; none where none can be read. It
-/// takes no memory but that of the room, and reads the dump once, from its first byte to that of the first table page.
+/// takes no memory but that of the room. The dump is read in pieces of 65536 bytes, each with the 39 bytes behind it, up to that of the first table page.
 ///
 /// # Errors
 ///

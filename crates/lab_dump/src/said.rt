@@ -91,9 +91,10 @@ fn kind_from(code: u8) -> Option<Kind>
     }
 }
 
-/// The record that a spare area spells, whatever its seal.
+/// The record that a spare area of at least 32 bytes spells, whatever its seal: that of a sound page has one, and any other may. `None` where it spells
+/// none. (This project's format.)
 #[tactic(auto, unfolding(page_layout::specs::Sound::spelled))]
-pub(crate) fn spelled(spare: &[u8]) -> Option<Record>
+pub fn spelled(spare: &[u8]) -> Option<Record>
     requires { 32 ≤ length spare.now }
     ensures { result ≡ spelled spare.now }
 {

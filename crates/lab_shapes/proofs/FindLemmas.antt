@@ -5,13 +5,13 @@ use Rattle.std.specs.List.{Contains}
 use Rattle.std.proofs.lemmas.Bool.{cases_lt}
 use Rattle.lab_dump.specs.Shape.{data_sizes, page_counts}
 use Rattle.lab_dump.proofs.ShapeLemmas.{count_among, size_among}
-use Rattle.lab_arrange.specs.declared.arrangement.Arrangement.{Arrangement}
 use Rattle.lab_shapes.specs.declared.find.ArrangedFit.{ArrangedFit}
-use Rattle.lab_shapes.specs.Tried.{numbered}
+use Rattle.lab_shapes.specs.declared.tried.Way.{Way}
+use Rattle.lab_shapes.specs.Tried.{IsOfWay, way_numbered}
 use Rattle.lab_shapes.specs.Arranged.{FitsArranged}
-use Rattle.lab_shapes.specs.Better.{Improves, InArrangement}
+use Rattle.lab_shapes.specs.Better.{Improves, InWay}
 use Rattle.lab_shapes.proofs.BetterLemmas.{improves_as, improves_none, improves_then}
-use Rattle.lab_shapes.proofs.TriedLemmas.{tried_number}
+use Rattle.lab_shapes.proofs.TriedLemmas.{way_number}
 
 -- ---- the numbers of one that fits
 
@@ -36,33 +36,33 @@ spare_least all y h = (let is = ap (λ f. f.spare_bytes) h.fits.fit_is in let l 
 pub spare_most : (all : List ℕ) (y : ArrangedFit) → FitsArranged all y → spare_of y < 257
 spare_most all y h = (let is = ap (λ f. f.spare_bytes) h.fits.fit_is in let l = h.geometry.limits.spare_size.most in omega arith)
 
--- ---- the arrangements by their numbers
+-- ---- the ways by their numbers
 
--- those in an arrangement of a number below this one
+-- those of a way of a number below this one
 pub record Numbered (all : List ℕ) (n : ℕ) (y : ArrangedFit) : Type 0 where
   pub fits : FitsArranged all y
   pub number : ℕ
   pub below : number < n
-  pub is : numbered number ≡ y.arrangement
+  pub is : IsOfWay (way_numbered number) y.arrangement
 
 pub numbers_start : (all : List ℕ) (old : Option ArrangedFit) → Improves (Numbered all 0) old old
 numbers_start all old = improves_none (Numbered all 0) old (λ y h. absurd (let l = h.below in omega arith))
 
-pub numbers_more : (all : List ℕ) (n : ℕ) (a : Arrangement) (old mid new : Option ArrangedFit) → a ≡ numbered n → Improves (Numbered all n) old mid → Improves (InArrangement all a) mid new → Improves (Numbered all (n + 1)) old new
-numbers_more all n a old mid new is first second =
-    improves_then (Numbered all n) (InArrangement all a) (Numbered all (n + 1)) old mid new first second
+pub numbers_more : (all : List ℕ) (n : ℕ) (w : Way) (old mid new : Option ArrangedFit) → w ≡ way_numbered n → Improves (Numbered all n) old mid → Improves (InWay all w) mid new → Improves (Numbered all (n + 1)) old new
+numbers_more all n w old mid new is first second =
+    improves_then (Numbered all n) (InWay all w) (Numbered all (n + 1)) old mid new first second
     (λ y h. record { fits = h.fits; number = h.number; below = (let l = h.below in omega arith); is = h.is })
-    (λ y h. record { fits = h.0; number = n; below = omega arith; is = sym is ∙ sym h.1 })
+    (λ y h. record { fits = h.0; number = n; below = omega arith; is = subst (λ v. IsOfWay v y.arrangement) is h.1 })
     (λ y h. by y h (cases_lt h.number n))
   where
-    by : (y : ArrangedFit) → (h : Numbered all (n + 1) y) → (h.number < n) ⊎ (n ≤ h.number) → Numbered all n y ⊎ InArrangement all a y
+    by : (y : ArrangedFit) → (h : Numbered all (n + 1) y) → (h.number < n) ⊎ (n ≤ h.number) → Numbered all n y ⊎ InWay all w y
     by y h (inl less) = inl (record { fits = h.fits; number = h.number; below = less; is = h.is })
     by y h (inr most) =
         let l = h.below in
         let same : h.number ≡ n = omega arith in
-        inr (h.fits, sym h.is ∙ (ap numbered same ∙ sym is))
+        inr (h.fits, subst (λ v. IsOfWay v y.arrangement) (ap way_numbered same ∙ sym is) h.is)
 
-pub numbers_all : (all : List ℕ) (n : ℕ) (old new : Option ArrangedFit) → n ≡ 1296 → Improves (Numbered all n) old new → Improves (FitsArranged all) old new
+pub numbers_all : (all : List ℕ) (n : ℕ) (old new : Option ArrangedFit) → n ≡ 1297 → Improves (Numbered all n) old new → Improves (FitsArranged all) old new
 numbers_all all n old new e h =
     improves_as (Numbered all n) (FitsArranged all) old new h (λ y a. a.fits)
-    (λ y f. (let k = tried_number y.arrangement f.tried in record { fits = f; number = k.number; below = (let l = k.below in omega arith); is = k.is }))
+    (λ y f. (let k = way_number y.arrangement f.tried in record { fits = f; number = k.number; below = (let l = k.below in omega arith); is = k.is }))

@@ -6,3 +6,4 @@ pub mod TriedLemmas
 pub mod ShapeLemmas
 pub mod FindLemmas
 pub mod WordLemmas
+pub mod PlaneLemmas

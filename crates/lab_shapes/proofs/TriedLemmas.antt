@@ -7,7 +7,9 @@ use Rattle.std.proofs.lemmas.List.{get_or_default}
 use Rattle.lab_arrange.specs.declared.arrangement.Arrangement.{Arrangement}
 use Rattle.lab_arrange.specs.declared.arrangement.Spares.{Spares}
 use Rattle.lab_arrange.specs.declared.arrangement.Spares.TheVariants.{Block, Die}
-use Rattle.lab_shapes.specs.Tried.{IsAround, IsTried, TriedLaw, around_of, around_sizes, numbered, spares_of}
+use Rattle.lab_shapes.specs.declared.tried.Way.{Way}
+use Rattle.lab_shapes.specs.declared.tried.Way.TheVariants.{Cut, Order}
+use Rattle.lab_shapes.specs.Tried.{IsAround, IsOfWay, IsTried, IsTriedWay, IsUncut, TriedLaw, around_of, around_sizes, numbered, spares_of, way_numbered}
 
 abbrev Around : Type 0
 Around = Option ℕ × Option ℕ
@@ -55,7 +57,7 @@ around_tried (suc n) l = by (cases_lt n 13)
         let here : n - 13 + 14 ≡ suc n = omega arith in
         subst (λ i. IsAroundOf (around_of i)) here (subst IsAroundOf (sym (around_tail (n - 13))) (size_at (n - 13) (omega arith)))
 
-pub numbered_tried : (n : ℕ) → n < 1296 → IsTried (numbered n)
+pub numbered_tried : (n : ℕ) → n < 1296 → IsUncut (numbered n)
 unfolding numbered
 numbered_tried n l = record { around = around_tried (n / 48) (omega arith); whole = refl }
 
@@ -129,7 +131,7 @@ pub record HasNumber (a : Arrangement) : Type 0 where
   pub below : number < 1296
   pub is : numbered number ≡ a
 
-pub tried_number : (a : Arrangement) → IsTried a → HasNumber a
+pub tried_number : (a : Arrangement) → IsUncut a → HasNumber a
 unfolding numbered
 tried_number a h =
     let r = around_number a.header a.tail h.around in
@@ -157,8 +159,41 @@ tried_number a h =
           ∙ (ap (λ x. made a.header a.tail a.spares a.spare_first a.swapped a.inverted x) planes ∙ same_whole a h.whole)))));
     }
 
-back : (a : Arrangement) → ((n : ℕ) × (n < 1296) × (numbered n ≡ a)) → IsTried a
-back a (n, l, e) = subst IsTried e (numbered_tried n l)
+back : (a : Arrangement) → ((n : ℕ) × (n < 1296) × (numbered n ≡ a)) → IsUncut a
+back a (n, l, e) = subst IsUncut e (numbered_tried n l)
 
 pub tried_law : TriedLaw
 tried_law a = ((λ h. (let k = tried_number a h in (k.number, k.below, k.is))), back a)
+
+-- ---- the ways
+
+order_way : (n : ℕ) → n < 1296 → way_numbered n ≡ Order (numbered n)
+order_way n l = ap (λ b. cond b (Order (numbered n)) Cut) (lt-ltb n 1296 l)
+
+cut_way : (n : ℕ) → 1296 ≤ n → way_numbered n ≡ Cut
+cut_way n l = ap (λ b. cond b (Order (numbered n)) Cut) (le-ltb n 1296 l)
+
+-- each number has one that is tried
+pub way_tried : (n : ℕ) → IsTriedWay (way_numbered n)
+way_tried n = by (cases_lt n 1296)
+  where
+    by : (n < 1296) ⊎ (1296 ≤ n) → IsTriedWay (way_numbered n)
+    by (inl l) = subst IsTriedWay (sym (order_way n l)) (numbered_tried n l)
+    by (inr l) = subst IsTriedWay (sym (cut_way n l)) tt
+
+pub tried_of_way : (w : Way) (a : Arrangement) → IsTriedWay w → IsOfWay w a → IsTried a
+tried_of_way (Order b) a tried is = inl (subst IsUncut (sym is) tried)
+tried_of_way Cut a tried is = inr is
+
+-- and what is tried is of one
+pub record HasWay (a : Arrangement) : Type 0 where
+  pub number : ℕ
+  pub below : number < 1297
+  pub is : IsOfWay (way_numbered number) a
+
+pub way_number : (a : Arrangement) → IsTried a → HasWay a
+way_number a (inl h) =
+    let k = tried_number a h in
+    let l = k.below in
+    record { number = k.number; below = omega arith; is = subst (λ w. IsOfWay w a) (sym (order_way k.number k.below)) (sym k.is) }
+way_number a (inr h) = record { number = 1296; below = omega arith; is = subst (λ w. IsOfWay w a) (sym (cut_way 1296 (omega arith))) h }

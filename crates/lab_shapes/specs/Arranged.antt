@@ -1,10 +1,10 @@
 -- What fits a dump in another arrangement, and what fits best.
-use Rattle.std.specs.Prelude.{◌≡◌, ℕ, true, false, List, length, Option, Some, None}
+use Rattle.std.specs.Prelude.{◌≡◌, ℕ, ◌*◌, ◌<◌, true, false, List, length, Option, Some, None}
 use Rattle.std.specs.declared.cmp.Ordering.{Ordering}
 use Rattle.std.specs.Ordering.{bool_cmp, is_gt, nat_cmp, ordering_then}
-use Rattle.std.specs.Option.{option_cmp}
+use Rattle.std.specs.Option.{option_cmp, unwrap_or}
 use Rattle.page_layout.specs.declared.geometry.Geometry.{Geometry}
-use Rattle.page_layout.specs.Geometry.{row_count}
+use Rattle.page_layout.specs.Geometry.{page_bytes, row_count}
 use Rattle.lab_dump.specs.declared.fit.Fit.{Fit}
 use Rattle.lab_dump.specs.Sample.{sample_of}
 use Rattle.lab_dump.specs.Told.{told_of}
@@ -32,11 +32,16 @@ pub record FitsAs (all : List ℕ) (g : Geometry) (x : ArrangedFit) : Type 0 whe
   pub in_turn_is : x.in_turn.0 ≡ in_turn_of g (ordered g x.arrangement all)
   pub fit_is : x.fit ≡ fit_in_order g (ordered g x.arrangement all)
 
--- A GEOMETRY FITS A DUMP IN AN ARRANGEMENT: one with one sector, in an arrangement that is tried
+-- less than a block was cut off
+abbrev pub IsShort : Geometry → Arrangement → Type 0
+IsShort g a = unwrap_or a.cut 0 < g.pages * page_bytes g
+
+-- A GEOMETRY FITS A DUMP IN AN ARRANGEMENT: one with one sector, in an arrangement that is tried, of whose last block some is there
 pub record FitsArranged (all : List ℕ) (x : ArrangedFit) : Type 0 where
   pub geometry : Geometry
   pub sector : geometry.sectors ≡ 1
   pub tried : IsTried x.arrangement
+  pub short : IsShort geometry x.arrangement
   pub fits : FitsAs all geometry x
 
 -- ---- what fits best

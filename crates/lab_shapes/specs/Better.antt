@@ -6,7 +6,10 @@ use Rattle.page_layout.specs.Faults.{HasNumbers}
 use Rattle.lab_dump.specs.Scan.{image_bytes}
 use Rattle.lab_arrange.specs.declared.arrangement.Arrangement.{Arrangement}
 use Rattle.lab_shapes.specs.declared.find.ArrangedFit.{ArrangedFit}
-use Rattle.lab_shapes.specs.Arranged.{FitsArranged, FitsAs, IsNotAfter, IsPossibleAs}
+use Rattle.lab_arrange.specs.Place.{length_of}
+use Rattle.lab_shapes.specs.declared.tried.Way.{Way}
+use Rattle.lab_shapes.specs.Tried.{IsOfWay}
+use Rattle.lab_shapes.specs.Arranged.{FitsArranged, FitsAs, IsNotAfter, IsPossibleAs, IsShort}
 
 -- there is one that comes no later than this one
 abbrev pub IsMatched : Option ArrangedFit → ArrangedFit → Type 0
@@ -25,21 +28,21 @@ KeepsPossible old new = IfSome old IsPossibleAs → IfSome new IsPossibleAs
 
 -- ---- which ones are tried
 
--- those in an arrangement
-abbrev pub InArrangement : List ℕ → Arrangement → ArrangedFit → Type 0
-InArrangement all a y = FitsArranged all y × (y.arrangement ≡ a)
+-- those in an arrangement of a way
+abbrev pub InWay : List ℕ → Way → ArrangedFit → Type 0
+InWay all way y = FitsArranged all y × IsOfWay way y.arrangement
 
 -- whose data areas have so many bytes
-abbrev pub InData : List ℕ → Arrangement → ℕ → ArrangedFit → Type 0
-InData all a data_bytes y = InArrangement all a y × (y.fit.data_bytes ≡ data_bytes)
+abbrev pub InData : List ℕ → Way → ℕ → ArrangedFit → Type 0
+InData all way data_bytes y = InWay all way y × (y.fit.data_bytes ≡ data_bytes)
 
 -- and whose spare areas so many
-abbrev pub InAreas : List ℕ → Arrangement → ℕ → ℕ → ArrangedFit → Type 0
-InAreas all a data_bytes spare_bytes y = InData all a data_bytes y × (y.fit.spare_bytes ≡ spare_bytes)
+abbrev pub InAreas : List ℕ → Way → ℕ → ℕ → ArrangedFit → Type 0
+InAreas all way data_bytes spare_bytes y = InData all way data_bytes y × (y.fit.spare_bytes ≡ spare_bytes)
 
 -- and whose blocks so many pages
-abbrev pub InShape : List ℕ → Arrangement → ℕ → ℕ → ℕ → ArrangedFit → Type 0
-InShape all a data_bytes spare_bytes pages y = InAreas all a data_bytes spare_bytes y × (y.fit.pages ≡ pages)
+abbrev pub InShape : List ℕ → Way → ℕ → ℕ → ℕ → ArrangedFit → Type 0
+InShape all way data_bytes spare_bytes pages y = InAreas all way data_bytes spare_bytes y × (y.fit.pages ≡ pages)
 
 -- ---- one geometry
 
@@ -52,6 +55,21 @@ IsFoundAs all g a (Some x) = (x.arrangement ≡ a) × FitsAs all g x
 abbrev pub IsShapeAs : (bytes data_bytes spare_bytes pages : ℕ) → Option Geometry → Type 0
 IsShapeAs bytes d s p None = (g : Geometry) → g.data_bytes ≡ d → g.spare_bytes ≡ s → g.pages ≡ p → image_bytes g ≢ bytes
 IsShapeAs bytes d s p (Some g) = (image_bytes g ≡ bytes) × HasNumbers d s p (bytes / (d + s) / p) 1 g
+
+-- A GEOMETRY IS OF A DUMP OF THIS SIZE in an arrangement of a way: with one sector, and with such areas and blocks, it comes to so many bytes
+pub record IsShapeOf (size : ℕ) (way : Way) (data_bytes spare_bytes pages : ℕ) (g : Geometry) (a : Arrangement) : Type 0 where
+  pub of_way : IsOfWay way a
+  pub short : IsShort g a
+  pub whole : length_of g a ≡ size
+  pub data_is : g.data_bytes ≡ data_bytes
+  pub spare_is : g.spare_bytes ≡ spare_bytes
+  pub pages_is : g.pages ≡ pages
+  pub sector : g.sectors ≡ 1
+
+-- it is the one, or there is none
+abbrev pub IsShapeIn : (size : ℕ) → Way → (data_bytes spare_bytes pages : ℕ) → Option (Geometry × Arrangement) → Type 0
+IsShapeIn size way d s p None = (g : Geometry) (a : Arrangement) → ¬ IsShapeOf size way d s p g a
+IsShapeIn size way d s p (Some (g, a)) = IsShapeOf size way d s p g a
 
 -- how many bytes the pages have of a dump of this size, if it has room for what stands around them
 abbrev pub pages_size : ℕ → Arrangement → Option ℕ

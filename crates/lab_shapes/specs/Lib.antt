@@ -6,6 +6,8 @@ pub mod Ordered
 pub mod Arranged
 -- one more is tried
 pub mod Better
+-- two planes
+pub mod Planes
 -- the laws, each as one statement
 pub mod Laws
 -- the words of an arrangement

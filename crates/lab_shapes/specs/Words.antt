@@ -21,6 +21,11 @@ around_words (Some n) tail = codes "header=" ++ decimal n
 around_words None (Some n) = codes "tail=" ++ decimal n
 around_words None None = []
 
+-- of bytes that were cut off
+abbrev pub cut_words : Bool → Option ℕ → List ℕ
+cut_words before None = []
+cut_words before (Some n) = behind before (codes "cut=" ++ decimal n)
+
 abbrev pub spares_words : Bool → Option Spares → List ℕ
 spares_words before None = []
 spares_words before (Some Block) = behind before (codes "spares=block")
@@ -39,7 +44,9 @@ order_words before a =
 -- THE WORDS OF AN ARRANGEMENT
 -- Law: they say it, as `arrange --from` takes them, where it is one that is tried and not in order (`WordsLaw`).
 unfoldable pub arrangement_words : Arrangement → List ℕ
-arrangement_words a = around_words a.header a.tail ++ order_words (is_some a.header || is_some a.tail) a
+arrangement_words a =
+    let around = is_some a.header || is_some a.tail in
+    around_words a.header a.tail ++ (cut_words around a.cut ++ order_words (around || is_some a.cut) a)
 
 abbrev pub WordsLaw : Type 0
 WordsLaw = (a : Arrangement) → IsTried a → a ≢ in_order → IsArrangementAt (arrangement_words a) a

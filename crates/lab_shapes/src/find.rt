@@ -5,13 +5,13 @@ ghost use Rattle.lab_arrange.specs.declared.arrangement.Arrangement.{Arrangement
 ghost use Rattle.lab_shapes.specs.declared.find.ArrangedFit.{ArrangedFit};
 ghost use Rattle.std.specs.Ordering.{is_lt};
 ghost use Rattle.lab_shapes.specs.Arranged.{FitsArranged, IsBest, IsPossibleAs, arranged_rank};
-ghost use Rattle.lab_shapes.specs.Better.{Improves, InAreas, InArrangement, InData, InShape, KeepsPossible};
-ghost use Rattle.lab_shapes.specs.Better.{pages_size};
+ghost use Rattle.lab_shapes.specs.Better.{Improves, InAreas, InWay, InData, InShape, KeepsPossible};
 ghost use Rattle.lab_shapes.specs.Rooms.{HasRoom, IsShapeRoom};
-ghost use Rattle.lab_shapes.specs.Tried.{IsTried};
+ghost use Rattle.lab_shapes.specs.Tried.{IsTriedWay};
 
-use crate::fitting::{fit_as, shape_as};
-use crate::tried::{TRIED, arrangement_of};
+use crate::fitting::fit_as;
+use crate::shapes::shape_in;
+use crate::tried::{WAYS, Way, way_of};
 use lab_arrange::Arrangement;
 use lab_dump::{Dump, DumpFault, Fit, data_sizes, page_counts};
 use std::alloc::{AllocError, Global};
@@ -86,21 +86,12 @@ fn better(so_far: Option<ArrangedFit>, found: ArrangedFit) -> ArrangedFit
     }
 }
 
-// How many bytes the pages have of a dump of this size, if it has room for what stands around them.
-fn pages_size(size: u64, arrangement: &Arrangement) -> Option<u64>
-    ensures { result ≡ pages_size size arrangement.now }
-{
-    let header = u64::from(arrangement.header.unwrap_or(0));
-    let tail = u64::from(arrangement.tail.unwrap_or(0));
-    size.checked_sub(header + tail)
-}
-
-// Tries the geometry of such areas and blocks in this arrangement.
+// Tries the geometry of such areas and blocks in this way.
 fn try_shape<D: Dump>(
     room: &mut ShapeRoom,
     dump: &mut D,
     size: u64,
-    arrangement: &Arrangement,
+    way: &Way,
     data_bytes: u32,
     spare_bytes: u32,
     pages: u32,
@@ -108,25 +99,22 @@ fn try_shape<D: Dump>(
     requires data_size { IsDataSize data_bytes }
     requires spare_size { IsSpareSize spare_bytes }
     requires page_count { IsPageCount pages }
-    requires tried { IsTried arrangement.now }
+    requires tried { IsTriedWay way.now }
     requires room { HasRoom room.old }
-    ensures better { OnOk result ((all : List ℕ) → D.bytes dump.old ≡ Some all → size ≡ length all → Improves (InShape all arrangement.now data_bytes spare_bytes pages) room.old.best room.new.best) }
+    ensures better { OnOk result ((all : List ℕ) → D.bytes dump.old ≡ Some all → size ≡ length all → Improves (InShape all way.now data_bytes spare_bytes pages) room.old.best room.new.best) }
     ensures possible { OnOk result (KeepsPossible room.old.best room.new.best) }
     ensures room { HasRoom room.new }
     ensures source { OnErr result (D.failed dump.new ≡ true) }
     ensures same { D.bytes dump.new ≡ D.bytes dump.old }
 {
-    let Some(bytes) = pages_size(size, arrangement) else {
-        return Ok(());
-    };
-    let Some(geometry) = shape_as(bytes, data_bytes, spare_bytes, pages) else {
+    let Some((geometry, arrangement)) = shape_in(size, way, data_bytes, spare_bytes, pages) else {
         return Ok(());
     };
     let found = fit_as(
         dump,
         size,
         &geometry,
-        arrangement,
+        &arrangement,
         &mut room.raw,
         &mut room.page,
     )?;
@@ -136,86 +124,78 @@ fn try_shape<D: Dump>(
     Ok(())
 }
 
-// Tries those of such areas in this arrangement, with each number of pages in a block.
+// Tries those of such areas in this way, with each number of pages in a block.
 fn try_areas<D: Dump>(
     room: &mut ShapeRoom,
     dump: &mut D,
     size: u64,
-    arrangement: &Arrangement,
+    way: &Way,
     data_bytes: u32,
     spare_bytes: u32,
 ) -> Result<(), DumpFault>
     requires data_size { IsDataSize data_bytes }
     requires spare_size { IsSpareSize spare_bytes }
-    requires tried { IsTried arrangement.now }
+    requires tried { IsTriedWay way.now }
     requires room { HasRoom room.old }
-    ensures better { OnOk result ((all : List ℕ) → D.bytes dump.old ≡ Some all → size ≡ length all → Improves (InAreas all arrangement.now data_bytes spare_bytes) room.old.best room.new.best) }
+    ensures better { OnOk result ((all : List ℕ) → D.bytes dump.old ≡ Some all → size ≡ length all → Improves (InAreas all way.now data_bytes spare_bytes) room.old.best room.new.best) }
     ensures possible { OnOk result (KeepsPossible room.old.best room.new.best) }
     ensures room { HasRoom room.new }
     ensures source { OnErr result (D.failed dump.new ≡ true) }
     ensures same { D.bytes dump.new ≡ D.bytes dump.old }
 {
     for pages in page_counts() {
-        try_shape(
-            room,
-            dump,
-            size,
-            arrangement,
-            data_bytes,
-            spare_bytes,
-            pages,
-        )?;
+        try_shape(room, dump, size, way, data_bytes, spare_bytes, pages)?;
     }
     Ok(())
 }
 
-// Tries those with a data area of so many bytes in this arrangement.
+// Tries those with a data area of so many bytes in this way.
 fn try_data<D: Dump>(
     room: &mut ShapeRoom,
     dump: &mut D,
     size: u64,
-    arrangement: &Arrangement,
+    way: &Way,
     data_bytes: u32,
 ) -> Result<(), DumpFault>
     requires data_size { IsDataSize data_bytes }
-    requires tried { IsTried arrangement.now }
+    requires tried { IsTriedWay way.now }
     requires room { HasRoom room.old }
-    ensures better { OnOk result ((all : List ℕ) → D.bytes dump.old ≡ Some all → size ≡ length all → Improves (InData all arrangement.now data_bytes) room.old.best room.new.best) }
+    ensures better { OnOk result ((all : List ℕ) → D.bytes dump.old ≡ Some all → size ≡ length all → Improves (InData all way.now data_bytes) room.old.best room.new.best) }
     ensures possible { OnOk result (KeepsPossible room.old.best room.new.best) }
     ensures room { HasRoom room.new }
     ensures source { OnErr result (D.failed dump.new ≡ true) }
     ensures same { D.bytes dump.new ≡ D.bytes dump.old }
 {
     for spare_bytes in 32..257 {
-        try_areas(room, dump, size, arrangement, data_bytes, spare_bytes)?;
+        try_areas(room, dump, size, way, data_bytes, spare_bytes)?;
     }
     Ok(())
 }
 
-// Tries all in this arrangement.
-fn try_arrangement<D: Dump>(
+// Tries all in this way.
+fn try_way<D: Dump>(
     room: &mut ShapeRoom,
     dump: &mut D,
     size: u64,
-    arrangement: &Arrangement,
+    way: &Way,
 ) -> Result<(), DumpFault>
-    requires tried { IsTried arrangement.now }
+    requires tried { IsTriedWay way.now }
     requires room { HasRoom room.old }
-    ensures better { OnOk result ((all : List ℕ) → D.bytes dump.old ≡ Some all → size ≡ length all → Improves (InArrangement all arrangement.now) room.old.best room.new.best) }
+    ensures better { OnOk result ((all : List ℕ) → D.bytes dump.old ≡ Some all → size ≡ length all → Improves (InWay all way.now) room.old.best room.new.best) }
     ensures possible { OnOk result (KeepsPossible room.old.best room.new.best) }
     ensures room { HasRoom room.new }
     ensures source { OnErr result (D.failed dump.new ≡ true) }
     ensures same { D.bytes dump.new ≡ D.bytes dump.old }
 {
     for data_bytes in data_sizes() {
-        try_data(room, dump, size, arrangement, data_bytes)?;
+        try_data(room, dump, size, way, data_bytes)?;
     }
     Ok(())
 }
 
 /// The geometry and the arrangement in which the dump fits best, if one fits. Tried is each geometry of a die in each order of the bytes that an
-/// arrangement says, with nothing around the pages, or a header or a tail of a power of two from 16 to 65536 bytes, that comes to the dump's bytes. It
-/// fits where, of the dump put in order, one of the first 64 pages that `find_geometries` looks at is sound. The best one has the most pages in their
+/// arrangement says, with nothing around the pages, or a header or a tail of a power of two from 16 to 65536 bytes, that comes to the dump's bytes; and
+/// each in order with a part of its last block cut off. It fits where, of the dump put in order, one of the first 64 pages that `find_geometries` looks at is sound. The best one has the most pages in their
 /// turn, of those that are looked at: so an order in which blocks stand as they were programmed comes before one in which they do not.
 ///
 /// It takes no memory but that of the room.
@@ -234,8 +214,8 @@ pub fn find_arranged<D: Dump>(
     ensures same { D.bytes dump.new ≡ D.bytes dump.old }
 {
     let size = dump.size()?;
-    for number in 0..TRIED {
-        try_arrangement(&mut room, dump, size, &arrangement_of(number))?;
+    for number in 0..WAYS {
+        try_way(&mut room, dump, size, &way_of(number))?;
     }
     Ok(room.best)
 }

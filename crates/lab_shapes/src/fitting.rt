@@ -1,52 +1,18 @@
 //! Whether a geometry fits a dump in an arrangement.
 ghost use Rattle.std.specs.Prelude.{◌≡◌, ◌+◌, ◌≤◌, List, ℕ, length, IfOk, IfSome, OnErr, Some, true};
 ghost use Rattle.page_layout.specs.Geometry.{page_bytes, row_count};
-ghost use Rattle.page_layout.specs.Limits.{IsDataSize, IsPageCount, IsSpareSize};
 ghost use Rattle.lab_arrange.specs.Place.{IsFitting, length_of};
 ghost use Rattle.lab_shapes.specs.Arranged.{FitsAs, IsPossibleAs, fit_in_order};
-ghost use Rattle.lab_shapes.specs.Better.{IsFoundAs, IsShapeAs};
+ghost use Rattle.lab_shapes.specs.Better.{IsFoundAs};
 ghost use Rattle.lab_shapes.specs.Ordered.{in_turn_of, ordered, shows_sound};
 ghost use Rattle.lab_shapes.specs.Tried.{IsTried};
 
 use crate::find::ArrangedFit;
-use crate::looking::{count_in_turn, sample_first, told_in_order};
+use crate::looking::{count_in_turn, sample_first, shows_sound, told_in_order};
 use lab_arrange::{Arrangement, fit_arrangement, wanted_length};
 use lab_dump::{Dump, DumpFault, fit_of, looked_count};
 use page_layout::geometry::Geometry;
 use std::cmp::Reverse;
-
-// So many of the pages that are looked at have to show a sound one.
-const PROBED: u32 = 64;
-
-// The most blocks that a die may have.
-const MOST_BLOCKS: u64 = 4096;
-
-/// The geometry with one sector of such areas and blocks that comes to so many bytes, if there is one.
-pub(crate) fn shape_as(
-    bytes: u64,
-    data_bytes: u32,
-    spare_bytes: u32,
-    pages: u32,
-) -> Option<Geometry>
-    requires data_size { IsDataSize data_bytes }
-    requires spare_size { IsSpareSize spare_bytes }
-    requires page_count { IsPageCount pages }
-    ensures { IsShapeAs bytes data_bytes spare_bytes pages result }
-{
-    let page_bytes = u64::from(data_bytes + spare_bytes);
-    if bytes % page_bytes != 0 {
-        return None;
-    }
-    let rows = bytes / page_bytes;
-    let blocks = rows / u64::from(pages);
-    if rows % u64::from(pages) != 0 {
-        return None;
-    }
-    if blocks > MOST_BLOCKS {
-        return None;
-    }
-    Geometry::new(data_bytes, spare_bytes, pages, blocks as u32, 1).ok()
-}
 
 // A die of this geometry stands in this arrangement, and the dump has its bytes: what it tells when it is put in order, where one of the first pages
 // is sound. `raw` and `page` are scratch.
@@ -68,20 +34,11 @@ fn fit_whole<D: Dump>(
     ensures source { OnErr result (D.failed dump.new ≡ true) }
     ensures same { D.bytes dump.new ≡ D.bytes dump.old }
 {
-    let rows = geometry.rows();
-    let first = sample_first(
-        dump,
-        size,
-        geometry,
-        arrangement,
-        rows.min(PROBED),
-        raw,
-        page,
-    )?;
-    if first.sound == 0 {
+    let shows = shows_sound(dump, size, geometry, arrangement, raw, page)?;
+    if !shows {
         return Ok(None);
     }
-    let looked = looked_count(rows);
+    let looked = looked_count(geometry.rows());
     let sample = sample_first(dump, size, geometry, arrangement, looked, raw, page)?;
     if sample.sound == 0 {
         return Ok(None);

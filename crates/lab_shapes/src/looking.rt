@@ -4,11 +4,16 @@ ghost use Rattle.page_layout.specs.Geometry.{page_bytes, row_count};
 ghost use Rattle.lab_arrange.specs.Place.{IsFitting};
 ghost use Rattle.lab_dump.specs.Sample.{looked_count};
 ghost use Rattle.lab_dump.specs.Told.{told_of};
-ghost use Rattle.lab_shapes.specs.Ordered.{follows, in_turn_of, is_in_turn, look_in, ordered, sample_first};
+ghost use Rattle.lab_shapes.specs.Ordered.{follows, in_turn_of, is_in_turn, look_in, ordered, sample_first, shows_sound};
 
-use lab_arrange::{Arrangement, read_page};
-use lab_dump::{Dump, DumpFault, Look, PagesTold, Sample, look_in, looked_count, looked_row};
+use lab_arrange::{Arrangement, read_page, read_spare};
+use lab_dump::{
+    Dump, DumpFault, Look, PagesTold, Sample, look_in, looked_count, looked_row, spelled,
+};
 use page_layout::geometry::Geometry;
+
+// So many of the pages that are looked at have to show a sound one.
+const PROBED: u32 = 64;
 
 // What the page of a row is, when the dump is put in order. `raw` and `page` are scratch.
 fn look_in_order<D: Dump>(
@@ -139,6 +144,60 @@ fn is_in_turn<D: Dump>(
     }
     let before = look_in_order(dump, size, geometry, arrangement, row - 1, raw, page)?;
     Ok(follows(before, look))
+}
+
+// Whether the page of a row is sound, when the dump is put in order. Of a spare area that spells no record no more is read: it needs no hash.
+// `raw` and `page` are scratch.
+fn is_sound_in_order<D: Dump>(
+    dump: &mut D,
+    size: u64,
+    geometry: &Geometry,
+    arrangement: &Arrangement,
+    row: u32,
+    raw: &mut [u8],
+    page: &mut [u8],
+) -> Result<bool, DumpFault>
+    requires fits { IsFitting geometry.now arrangement.now }
+    requires row { row < row_count geometry.now }
+    requires page_room { length page.old ≡ page_bytes geometry.now }
+    requires raw_room { length raw.old ≡ page_bytes geometry.now + 2 }
+    ensures sound { IfOk result (λ sound. (all : List ℕ) → D.bytes dump.old ≡ Some all → size ≡ length all → sound ≡ Rattle.lab_dump.specs.Sample.is_sound (look_in geometry.now (ordered geometry.now arrangement.now all) row)) }
+    ensures failed { OnErr result (D.failed dump.new ≡ true) }
+    ensures same { D.bytes dump.new ≡ D.bytes dump.old }
+{
+    let spare = &mut page[..geometry.spare_bytes()];
+    read_spare(dump, size, geometry, arrangement, row, raw, spare)?;
+    if spelled(spare).is_none() {
+        return Ok(false);
+    }
+    let look = look_in_order(dump, size, geometry, arrangement, row, raw, page)?;
+    Ok(is_sound(look))
+}
+
+/// Whether one of the first 64 pages that are looked at is sound, when the dump is put in order. `raw` and `page` are scratch.
+pub(crate) fn shows_sound<D: Dump>(
+    dump: &mut D,
+    size: u64,
+    geometry: &Geometry,
+    arrangement: &Arrangement,
+    raw: &mut [u8],
+    page: &mut [u8],
+) -> Result<bool, DumpFault>
+    requires fits { IsFitting geometry.now arrangement.now }
+    requires page_room { length page.old ≡ page_bytes geometry.now }
+    requires raw_room { length raw.old ≡ page_bytes geometry.now + 2 }
+    ensures shows { IfOk result (λ shows. (all : List ℕ) → D.bytes dump.old ≡ Some all → size ≡ length all → shows ≡ shows_sound geometry.now (ordered geometry.now arrangement.now all)) }
+    ensures failed { OnErr result (D.failed dump.new ≡ true) }
+    ensures same { D.bytes dump.new ≡ D.bytes dump.old }
+{
+    let rows = geometry.rows();
+    for place in 0..rows.min(PROBED) {
+        let row = looked_row(rows, place);
+        if is_sound_in_order(dump, size, geometry, arrangement, row, raw, page)? {
+            return Ok(true);
+        }
+    }
+    Ok(false)
 }
 
 /// How many of the pages that are looked at are sound and in their turn, when the dump is put in order. `raw` and `page` are scratch.

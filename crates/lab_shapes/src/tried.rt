@@ -1,11 +1,23 @@
 //! The arrangements that are tried.
-ghost use Rattle.std.specs.Prelude.{◌≡◌, ◌<◌, None, IfSome};
-ghost use Rattle.lab_shapes.specs.Tried.{IsTried, around_of, numbered, spares_of};
+ghost use Rattle.std.specs.Prelude.{◌≡◌, ◌<◌};
+ghost use Rattle.lab_shapes.specs.Tried.{around_of, numbered, spares_of, way_numbered};
 
 use lab_arrange::{Arrangement, Spares};
 
-/// How many arrangements are tried.
-pub(crate) const TRIED: u32 = 1296;
+/// A way in which the geometries are tried.
+#[derive(Clone, Copy)]
+pub(crate) enum Way {
+    /// In this order of the bytes, with nothing cut off.
+    Order(Arrangement),
+    /// In order, with a part of the last block cut off.
+    Cut,
+}
+
+/// How many ways there are: each order, and the cut.
+pub(crate) const WAYS: u32 = TRIED + 1;
+
+// How many orders of the bytes are tried, with what stands around the pages.
+const TRIED: u32 = 1296;
 
 // How many orders of the bytes there are.
 const ORDERS: u32 = 48;
@@ -38,9 +50,9 @@ fn spares_of(number: u32) -> Option<Spares>
     }
 }
 
-/// The arrangement of this number, of those that are tried. The first 48 have nothing around the pages.
+// The order of this number, of those that are tried. The first 48 have nothing around the pages.
 #[tactic(auto, unfolding(crate::specs::Tried::numbered))]
-pub(crate) fn arrangement_of(number: u32) -> Arrangement
+fn arrangement_of(number: u32) -> Arrangement
     requires { number < 1296 }
     ensures { result ≡ numbered number }
 {
@@ -54,5 +66,16 @@ pub(crate) fn arrangement_of(number: u32) -> Arrangement
         swapped: number / 6 % 2 == 1,
         inverted: number / 12 % 2 == 1,
         planes: number / 24 % 2 == 1,
+    }
+}
+
+/// The way of this number.
+pub(crate) fn way_of(number: u32) -> Way
+    ensures { result ≡ way_numbered number }
+{
+    if number < TRIED {
+        Way::Order(arrangement_of(number))
+    } else {
+        Way::Cut
     }
 }

@@ -1,5 +1,5 @@
 -- A grammar as `clap` is told it.
-use Rattle.std.specs.Prelude.{ℕ, Bool, true, false, List, [], ◌∷◌, map, Some}
+use Rattle.std.specs.Prelude.{ℕ, Bool, true, false, List, [], ◌∷◌, codes, map, Some}
 use Rattle.clap.specs.declared.builder.action.ArgAction.{ArgAction}
 use Rattle.clap.specs.declared.builder.action.ArgAction.TheVariants.{Append, Count, Set}
 use Rattle.clap.specs.Simple.{new_shape}
@@ -9,6 +9,10 @@ use Rattle.program_words.specs.declared.grammar.Grammar.{Grammar}
 use Rattle.program_words.specs.declared.grammar.WordKind.{WordKind}
 use Rattle.program_words.specs.declared.grammar.WordKind.TheVariants as kind
 use Rattle.program_words.specs.declared.grammar.WordRule.{WordRule}
+
+-- the version that all programs tell
+abbrev pub version_text : List ℕ
+version_text = codes "0.1.0"
 
 -- a word that a command wants, and what becomes of it
 abbrev pub place_of : ArgAction → List ℕ → Rule

@@ -41,7 +41,7 @@ pub struct CommandRule<'a> {
     pub words: &'a [WordRule<'a>],
 }
 
-/// The commands of a program, of version 0.1.0, which wants one of them.
+/// The commands of a program, which wants one of them.
 #[derive(Clone, Copy)]
 pub struct Grammar<'a> {
     pub name: &'a str,

@@ -4,6 +4,7 @@ ghost use Rattle.clap.specs.declared.builder.command.Command.{out-Command};
 ghost use Rattle.program_words.specs.Grammar as told;
 ghost use Rattle.clap.specs.Words.{app_of, new_app, rule_of, with_rule, with_subcommand};
 
+use crate::versions::version;
 use clap::{Arg, ArgAction, Command};
 use std::alloc::{AllocError, Global};
 
@@ -68,12 +69,12 @@ pub(crate) fn with_word<'a>(command: Command<'a>, word: Arg<'a>) -> Result<Comma
     command.arg(word)
 }
 
-/// A program of this name, version 0.1.0, which wants a command and has none yet, and what it is.
+/// A program of this name and the version of all, which wants a command and has none yet, and what it is.
 pub(crate) fn program<'a>(alloc: Global, name: &'a str, about: &'a str) -> Command<'a>
     ensures { app_of result ≡ told.program_of name.now [] }
 {
     named(alloc, name, about)
-        .version("0.1.0")
+        .version(version())
         .disable_help_subcommand(true)
         .subcommand_required(true)
 }

@@ -14,5 +14,5 @@ invariant-loop-pages g l = record {
   room : HasRoom l.room;
   same : g.D.Dump.bytes l.dump ≡ g.D.Dump.bytes l.fn.dump;
   possible : KeepsPossible l.fn.room.best l.room.best;
-  better : (all : List ℕ) → g.D.Dump.bytes l.fn.dump ≡ Some all → l.size ≡ length all → Improves (Among (InAreas all l.arrangement l.data_bytes l.spare_bytes) pages_of (take l.pages-index page_counts)) l.fn.room.best l.room.best;
+  better : (all : List ℕ) → g.D.Dump.bytes l.fn.dump ≡ Some all → l.size ≡ length all → Improves (Among (InAreas all l.way l.data_bytes l.spare_bytes) pages_of (take l.pages-index page_counts)) l.fn.room.best l.room.best;
 }

@@ -10,5 +10,5 @@ invariant-loop-spare_bytes g l = record {
   room : HasRoom l.room;
   same : g.D.Dump.bytes l.dump ≡ g.D.Dump.bytes l.fn.dump;
   possible : KeepsPossible l.fn.room.best l.room.best;
-  better : (all : List ℕ) → g.D.Dump.bytes l.fn.dump ≡ Some all → l.size ≡ length all → Improves (Below (InData all l.arrangement l.data_bytes) spare_of l.spare_bytes) l.fn.room.best l.room.best;
+  better : (all : List ℕ) → g.D.Dump.bytes l.fn.dump ≡ Some all → l.size ≡ length all → Improves (Below (InData all l.way l.data_bytes) spare_of l.spare_bytes) l.fn.room.best l.room.best;
 }

@@ -1,7 +1,7 @@
 use Rattle.std.proofs.Common.{◌+◌, ◌/◌, ◌%◌, ◌∙◌, sym, ap, subst, arith}
 use Rattle.lab_shapes.specs.Better.{IsShapeAs}
 use Rattle.lab_shapes.proofs.ShapeLemmas.{shape_result, whole_of}
-use Rattle.lab_shapes.proofs.fitting.shape_as.Goals as goal
+use Rattle.lab_shapes.proofs.shapes.shape_as.Goals as goal
 
 pub returns-then-bytes-page_bytes-ne0 : goal.returns-then-bytes-page_bytes-ne0
 returns-then-bytes-page_bytes-ne0 c = λ g de se pe whole.
