@@ -17,14 +17,14 @@ def orders():
 
 def words_of(told):
     """The words in the order in which `geometry` prints them."""
-    names = ["header", "tail", "spares", "spare-first", "swapped", "inverted", "planes"]
+    names = ["header", "tail", "cut", "spares", "spare-first", "swapped", "inverted", "planes"]
     return ",".join(name if told[name] is None else f"{name}={told[name]}" for name in names if name in told)
 
 
 def rank_of(told):
     """By the words in their order: without one before with it."""
     spares = [None, "block", "die"].index(told.get("spares"))
-    return told.get("header", -1), told.get("tail", -1), spares, *(name in told for name in ["spare-first", "swapped", "inverted", "planes"])
+    return told.get("header", -1), told.get("tail", -1), told.get("cut", -1), spares, *(name in told for name in ["spare-first", "swapped", "inverted", "planes"])
 
 
 def page_reader(g, told, raw):
@@ -73,11 +73,20 @@ def in_turn(g, page_of):
     return count
 
 
-def best(raw):
-    """The numbers of the geometry, what is said for it, and the words of the arrangement in which the dump fits best; or none."""
-    found = []
-    around = [{}, *({"header": n} for n in AROUND), *({"tail": n} for n in AROUND)]
-    for outer in around:
+def shows_sound(g, page_of):
+    """Whether one of the first 64 pages that are looked at is sound."""
+    return any(record_at(g, page_of(row)) for row in ref.looked_rows(g.rows)[:64])
+
+
+def told_of(g, told, page_of):
+    """What comes first, the numbers and what is said for them, and the words, of a geometry that fits in an arrangement."""
+    fit = next(fit for fit in ref.fits(g.rows, g.data, g.spare, page_of) if fit[1][2] == g.pages)
+    return (-in_turn(g, page_of), fit[0], rank_of(told)), fit[1:], words_of(told)
+
+
+def uncut(raw):
+    """What fits in each order of the bytes, with nothing around the pages, or a header or a tail."""
+    for outer in [{}, *({"header": n} for n in AROUND), *({"tail": n} for n in AROUND)]:
         size = len(raw) - sum(outer.values())
         shapes = [g for data in (2**k for k in range(6, 13)) for spare in range(32, 257) if size > 0 and size % (data + spare) == 0 for g in ref.shapes_of(size, data, spare)]
         read = {}
@@ -90,7 +99,41 @@ def best(raw):
                 if "planes" in told and g.blocks % 2:
                     continue
                 page_of = page_reader(g, told, read[key])
-                if any(record_at(g, page_of(row)) for row in ref.looked_rows(g.rows)[:64]):
-                    fit = next(fit for fit in ref.fits(g.rows, g.data, g.spare, page_of) if fit[1][2] == g.pages)
-                    found.append(((-in_turn(g, page_of), fit[0], rank_of(told)), fit[1:], words_of(told)))
+                if shows_sound(g, page_of):
+                    yield told_of(g, told, page_of)
+
+
+def may_spell(g, raw):
+    """Whether a spare area of the first pages that are looked at begins as that of a sound page does."""
+    starts = (row * g.page + g.data for row in ref.looked_rows(g.rows)[:64])
+    return any(raw[start : start + 2] == b"\xff\xff" and raw[start + 2 : start + 3] in (b"\x01", b"\x02") for start in starts)
+
+
+def cut(raw):
+    """What fits in order, where a part of the last block was cut off: those bytes are 00h."""
+    for data, spare, pages in ((2**k, spare, 2**n) for k in range(6, 13) for spare in range(32, 257) for n in range(2, 9)):
+        block = pages * (data + spare)
+        lacks = -len(raw) % block
+        for g in ref.shapes_of(len(raw) + lacks, data, spare) if lacks else []:
+            if g.pages == pages and may_spell(g, raw):
+                told = {"cut": lacks}
+                page_of = page_reader(g, told, raw + bytes(lacks))
+                if shows_sound(g, page_of):
+                    yield told_of(g, told, page_of)
+
+
+def best(raw):
+    """The numbers of the geometry, what is said for it, and the words of the arrangement in which the dump fits best; or none."""
+    found = [*uncut(raw), *cut(raw)]
     return min(found)[1:] if found else None
+
+
+def turned(raw, numbers):
+    """The same of a geometry that fits as the dump stands, with two planes in turns, where more of its pages are in their turn so; or none."""
+    g, told = ref.Geometry(*numbers[:4], 1), {"planes": 2}
+    if g.blocks % 2:
+        return None
+    stands, page_of = page_reader(g, {}, raw), page_reader(g, told, raw)
+    if in_turn(g, page_of) <= in_turn(g, stands) or not shows_sound(g, page_of):
+        return None
+    return told_of(g, told, page_of)[1:]

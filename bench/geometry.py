@@ -51,14 +51,25 @@ def has_table(image):
     return formed and {image.records[row].number for row in rows} == set(range(g.tables))
 
 
+def cut_case(rng, folder, g, raw):
+    """The dump without a part of its last block."""
+    lacks = rng.randrange(1, g.pages * g.page)
+    return arranged(folder, raw[:-lacks], raw[:-lacks] + bytes(lacks))
+
+
 def arranged_case(rng, folder, g, raw):
-    """The dump in another arrangement: what is told makes pages in order of it again, to the byte where its own geometry and arrangement are told. Of
-    how many that is so is counted."""
+    """The dump in another arrangement."""
     told = dict(rng.choice([order for order in arrangements.orders() if g.blocks % 2 == 0 or "planes" not in order]))
     sizes = {name: rng.choice(arrangements.AROUND) for name in rng.choice([[], ["header"], ["tail"]])}
     made = bytes(arrange.put(g, raw, told))
     made = made.translate(bytes(range(255, -1, -1))) if "inverted" in told else made
     made = rng.randbytes(sizes.get("header", 0)) + made + rng.randbytes(sizes.get("tail", 0))
+    return arranged(folder, made, raw)
+
+
+def arranged(folder, made, raw):
+    """What is told of a dump makes pages in order of it again, to the byte where its own geometry and arrangement are told. Of how many that is so is
+    counted."""
     lab.expect_fits(folder, made)
     found = None if ref.geometries(made) else arrangements.best(made)
     ARRANGED["told" if found else "none"] += 1
@@ -80,7 +91,7 @@ def case(rng, folder):
         raw = lab.spoiled(rng, g, raw)
         page = len(raw) // g.rows
     elif rng.random() < 0.3:
-        return arranged_case(rng, folder, g, raw)
+        return rng.choice([arranged_case, arranged_case, cut_case])(rng, folder, g, raw)
     if rng.random() < 0.1:
         raw = raw[: rng.randrange(len(raw))]
     want = lab.expect_fits(folder, raw)

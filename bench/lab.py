@@ -76,6 +76,8 @@ FORMS = random.Random("forms")
 FITTED = collections.Counter()
 # how many rows of merges were tried, by what came of them
 TRIED = collections.Counter()
+# of how many dumps two planes were told
+TURNED = collections.Counter()
 # how many runs of each command were told in a report
 REPORTED = collections.Counter()
 # how many sectors had no page, one, two, or more
@@ -312,15 +314,26 @@ def arranged_line(raw):
     return line + arranged_text(shape, found[1]) + "\n"
 
 
+def turned_line(raw, best):
+    """The line of the best geometry, where it has no codes and more of its pages are in their turn with two planes in turns."""
+    coded, numbers, *_ = best
+    found = None if coded else arrangements.turned(raw, numbers)
+    if found is None:
+        return ""
+    TURNED["planes"] += 1
+    shape, line = fit_line(*found[0])
+    return line + arranged_text(shape, found[1]) + "\n"
+
+
 def expect_fits(folder, raw):
     """Holds `geometry` to the reference over these bytes. Of each that fits, in their order: whether it is with codes, its areas, pages and blocks,
     and its line."""
     (folder / "dump.bin").write_bytes(raw)
-    found = []
-    for coded, numbers, *rest in ref.geometries(raw):
+    found, fits = [], ref.geometries(raw)
+    for coded, numbers, *rest in fits:
         shape, line = fit_line(numbers, *rest)
         found.append((coded, shape.rpartition(",")[0], line + codes_text(coded, shape) + "\n"))
-    told = "".join(line for _, _, line in found) or arranged_line(raw)
+    told = "".join(line for _, _, line in found) + turned_line(raw, fits[0]) if fits else arranged_line(raw)
     want = (0, told, "") if told else (1, "", f"refused geometry 6 NoneFits{nearest_text(raw)}\n")
     answer = run(["geometry", "dump.bin"], folder)
     assert answer == want, (answer, want)
