@@ -109,8 +109,8 @@ pub fn read_spare<D: Dump>(
     ensures failed { OnErr result (D.failed dump.new ≡ true) }
     ensures same { D.bytes dump.new ≡ D.bytes dump.old }
 {
-    let starts = page_starts(geometry, arrangement, row);
-    read_area(dump, size, arrangement, starts.spare, raw, spare)
+    let start = page_starts(geometry, arrangement, row).spare;
+    read_area(dump, size, arrangement, start, raw, spare)
 }
 
 // What failed of a run.

@@ -83,10 +83,10 @@ fn search<'a, D: Dump>(
         Err(_) => return Err(LabFault::Read(path)),
     };
     if !fits.is_empty() {
-        return match turn_best(rooms.shapes, dump, &fits) {
-            Ok(turned) => Ok(Fitting::Stands(fits, turned)),
-            Err(_) => Err(LabFault::Read(path)),
+        let Ok(turned) = turn_best(rooms.shapes, dump, &fits) else {
+            return Err(LabFault::Read(path));
         };
+        return Ok(Fitting::Stands(fits, turned));
     }
     match find_arranged(rooms.shapes, dump) {
         Ok(Some(found)) => Ok(Fitting::Arranged(found)),

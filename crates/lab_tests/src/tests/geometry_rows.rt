@@ -109,6 +109,71 @@ const PLANES: Made = Made::Arranged(
     },
 );
 
+// Two planes alone: each page is sound as the dump stands, but not in its turn.
+const TURNS: Made = Made::Arranged(
+    &PROGRAMMED,
+    Stands {
+        planes: true,
+        ..PLAIN
+    },
+);
+
+const TOLD_TURNS: &str =
+    "geometry 64,32,8,32,31 looked 256 sound 6 unsound 0 table agrees blocks 32 sectors 31
+geometry 64,32,16,16,31 looked 256 sound 6 unsound 0 table short blocks 32 sectors 31
+geometry 64,32,4,64,31 looked 256 sound 6 unsound 0 table differs blocks 32 sectors 31
+geometry 64,32,8,32,31 looked 256 sound 6 unsound 0 table agrees blocks 32 sectors 31 arranged: first nandlab arrange 64,32,8,32,31 DUMP OUT --from planes=2\n";
+
+const DOCUMENT_TURNS: &str = r#"[{"command":"geometry","line":"command","program":"nandlab"},
+{"blocks_told":32,"geometry":[64,32,8,32,31],"line":"geometry","looked":256,"sectors_told":31,"sound":6,"table":"agrees","unsound":0},
+{"blocks_told":32,"geometry":[64,32,16,16,31],"line":"geometry","looked":256,"sectors_told":31,"sound":6,"table":"short","unsound":0},
+{"blocks_told":32,"geometry":[64,32,4,64,31],"line":"geometry","looked":256,"sectors_told":31,"sound":6,"table":"differs","unsound":0},
+{"arrange":"planes=2","blocks_told":32,"geometry":[64,32,8,32,31],"line":"geometry","looked":256,"sectors_told":31,"sound":6,"table":"agrees","unsound":0}
+]
+"#;
+
+// The last page is missing, and one byte of the one before it.
+const SHORT: Made = Made::Arranged(&PROGRAMMED, Stands { cut: 97, ..PLAIN });
+
+const STEPS_TURNS: [Step; 7] = [
+    Step::Run("nandlab geometry turns.bin", 0, TOLD_TURNS),
+    Step::Run("nandlab geometry turns.bin --json", 0, DOCUMENT_TURNS),
+    Step::Closed("nandlab geometry turns.bin", 0),
+    Step::Run(
+        "nandlab arrange 64,32,8,32,31 turns.bin o1 --from planes=2",
+        0,
+        "arranged 256\n",
+    ),
+    Step::Holds("o1", Made::Dump(&PROGRAMMED)),
+    Step::Run("nandlab geometry o1", 0, TOLD_IN_ORDER),
+    Step::Run("nandlab geometry plain.bin", 0, TOLD_IN_ORDER),
+];
+
+const TOLD_IN_ORDER: &str =
+    "geometry 64,32,8,32,31 looked 256 sound 6 unsound 0 table agrees blocks 32 sectors 31
+geometry 64,32,16,16,31 looked 256 sound 6 unsound 0 table short blocks 32 sectors 31
+geometry 64,32,4,64,31 looked 256 sound 6 unsound 0 table differs blocks 32 sectors 31\n";
+
+const STEPS_SHORT: [Step; 4] = [
+    Step::Run(
+        "nandlab geometry short.bin",
+        0,
+        "geometry 64,32,8,32,31 looked 256 sound 6 unsound 2 table agrees blocks 32 sectors 31 arranged: first nandlab arrange 64,32,8,32,31 DUMP OUT --from cut=97\n",
+    ),
+    Step::Run("nandlab geometry short.bin --json", 0, DOCUMENT_SHORT),
+    Step::Run(
+        "nandlab arrange 64,32,8,32,31 short.bin o1 --from cut=97",
+        0,
+        "arranged 256\n",
+    ),
+    Step::Holds("o1", Made::Zeroed(&PROGRAMMED, 255, &[(24479, 0)])),
+];
+
+const DOCUMENT_SHORT: &str = r#"[{"command":"geometry","line":"command","program":"nandlab"},
+{"arrange":"cut=97","blocks_told":32,"geometry":[64,32,8,32,31],"line":"geometry","looked":256,"sectors_told":31,"sound":6,"table":"agrees","unsound":2}
+]
+"#;
+
 const STEPS_ARRANGED: [Step; 10] = [
     Step::Run(
         "nandlab geometry die.bin",
@@ -229,7 +294,7 @@ const TROUBLES: [Step; 9] = [
     ),
 ];
 
-const CASES: [Case; 5] = [
+const CASES: [Case; 7] = [
     Case {
         name: "the shapes",
         files: &[("dump.bin", Made::Changed(&PAGES, &[(1632, 0)]))],
@@ -253,6 +318,16 @@ const CASES: [Case; 5] = [
             ("planes.bin", PLANES),
         ],
         steps: &STEPS_ARRANGED,
+    },
+    Case {
+        name: "two planes alone",
+        files: &[("turns.bin", TURNS), ("plain.bin", Made::Dump(&PROGRAMMED))],
+        steps: &STEPS_TURNS,
+    },
+    Case {
+        name: "a part of the last block cut off",
+        files: &[("short.bin", SHORT)],
+        steps: &STEPS_SHORT,
     },
     Case {
         name: "what came nearest",
