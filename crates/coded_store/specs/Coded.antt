@@ -45,7 +45,7 @@ is_honest held honest tells s = is_kept held honest tells (shown_by s.rows.geome
 
 -- A LOAD OF A ROW, whatever the file does: of just the bytes that its reads gave, from the first of the row on, the page is shown, and what is wrong with
 -- them is remembered of the row. `gave` is the file's own word for one read.
-pub record ShowsRow {F : Type 0} (gave : F → ℕ → List ℕ → F → Type 0) (g : Geometry) (old new : Coded F) (row : ℕ) (shown : Page) : Type 0 where
+pub record ShowsRow {F : Type 0} (gave : F → ℕ → ℕ → List ℕ → F → Type 0) (g : Geometry) (old new : Coded F) (row : ℕ) (shown : Page) : Type 0 where
   pub bytes : List ℕ
   pub once : Gives gave old.rows.file (row * coded_bytes g) bytes new.rows.file
   pub whole : IsWithCodes g (page_of g bytes)

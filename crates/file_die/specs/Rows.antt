@@ -1,5 +1,5 @@
 -- A FILE OF ROWS: bytes of one size for each row of a die, one row behind another, read as pages.
-use Rattle.std.specs.Prelude.{◌≡◌, ◌⊎◌, ℕ, ◌*◌, ◌<◌, ◌≤◌, slice_index, ◌==◌, ◌&&◌, Bool, true, false, List, length, map, replicate, Option, Some, None, Result, Ok, Err, OnOk, OnErr, slice_get, ◌+◌}
+use Rattle.std.specs.Prelude.{◌≡◌, ◌≢◌, ℕ, ◌*◌, ◌<◌, ◌≤◌, slice_index, ◌==◌, ◌&&◌, Bool, true, false, List, length, map, replicate, Option, Some, None, Result, Ok, Err, OnOk, OnErr, slice_get, ◌+◌}
 use Rattle.std.specs.List.{range_with_len}
 use Rattle.page_layout.specs.declared.geometry.Geometry.{Geometry}
 use Rattle.page_layout.specs.Geometry.{row_count}
@@ -9,7 +9,7 @@ use Rattle.page_layout.specs.Counter.{HasRisen}
 use Rattle.file_die.specs.declared.bytes.ByteFault.{ByteFault}
 use Rattle.file_die.specs.declared.store.StoreFault.{StoreFault}
 use Rattle.file_die.specs.declared.bytes.ByteFault.TheVariants as fault
-use Rattle.file_die.specs.Bytes.{Bytes, AreBytes, HadRoom, HasAnswered, Mixes, LastsMixed, AreAlike, over, piece}
+use Rattle.file_die.specs.Bytes.{Bytes, AreBytes, FailsBy, HasAnswered, Mixes, LastsMixed, AreAlike, over, piece}
 use Rattle.file_die.specs.Store.{Held}
 
 -- ---- a write of all bytes
@@ -92,10 +92,11 @@ abbrev pub lacks_room : (changes sync_failed : Bool) → Result (Unit {0}) ByteF
 lacks_room true false (Err fault.NoSpace) = true
 lacks_room _ _ _ = false
 
--- A CHANGE THAT FAILED DID SO FOR WANT OF ROOM just where the file's last answer was that, by its own word for one write, and no sync has failed
-abbrev pub TellsFull : {F : Type 0} → (wrote : F → ℕ → List ℕ → Result ℕ ByteFault → F → Type 0) → (sync_failed : Bool) → (old : F) → (full : Bool) → (new : F) → Type 0
-TellsFull wrote sync_failed old true new = (sync_failed ≡ false) × HasAnswered wrote (Err fault.NoSpace) new
-TellsFull wrote sync_failed old false new = (sync_failed ≡ true) ⊎ HadRoom wrote old new
+-- A CHANGE THAT FAILED DID SO FOR WANT OF ROOM just where the file's last answer was that, by its own word for one write, and no sync has failed. Else it
+-- failed by another fault of a write, or after a sync that failed by any
+abbrev pub TellsFull : {F : Type 0} → (wrote : F → ℕ → List ℕ → Result ℕ ByteFault → F → Type 0) → (sync_failed full : Bool) → (new : F) → Type 0
+TellsFull wrote sync_failed true new = (sync_failed ≡ false) × HasAnswered wrote (Err fault.NoSpace) new
+TellsFull wrote sync_failed false new = (why : ByteFault) × (sync_failed ≡ false → why ≢ fault.NoSpace) × FailsBy wrote why new
 
 -- ---- a call
 

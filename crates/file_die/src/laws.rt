@@ -1,7 +1,10 @@
 //! What the clauses of a store and of a die over one come to. Each function does nothing: its contract is the law.
 ghost use Rattle.file_die.specs.DieLaws.{AddingGoesLaw, AlwaysLaw, CopiesLaw, ImagesLaw, KeepsLaw, LandsLaw, SinceSyncLaw, WipesLaw};
+ghost use Rattle.file_die.specs.FaultLaws.{AskedLaw, EndedLaw, FullLaw, OwnFaultLaw, RefusedLaw, TakenLaw, WholeReadLaw};
 ghost use Rattle.file_die.specs.FileLaws.{OverLaw, RawLaw};
 ghost use Rattle.file_die.specs.Laws.{StaysLaw, ReadBackLaw, ClearedLaw, LoadLaw, SyncLaw, WholeLaw};
+
+use crate::bytes::ByteFile;
 
 /// What an honest store holds, over any calls, done or failed: what was put at a row is loaded again until it is put at or cleared, and an erased
 /// page where its block was cleared; a load changes nothing; and after a sync each page lasts that no later call changes. (This project's.)
@@ -35,4 +38,17 @@ pub fn die_laws()
 pub fn file_laws()
     ensures over { OverLaw }
     ensures raw { RawLaw }
+{}
+
+/// Why the bytes of a file were not read or written. Reads that give all that stands there have ended only where more was wanted, and those of a file in
+/// memory are such; writes that are done and take bytes fail by nothing, and so no change of rows does; a fault that is not `Other` is the file's last answer,
+/// and so is want of room; and a file whose syncs and tellings of its length never fail is not refused. (This project's.)
+pub fn fault_laws<F: ByteFile>()
+    ensures ended { EndedLaw F.gave }
+    ensures whole { WholeReadLaw }
+    ensures taken { TakenLaw F.wrote }
+    ensures own { OwnFaultLaw F.wrote }
+    ensures full { FullLaw F.wrote }
+    ensures asked { AskedLaw F.wrote }
+    ensures refused { RefusedLaw F.refused }
 {}

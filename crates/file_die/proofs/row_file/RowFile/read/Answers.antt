@@ -1,10 +1,10 @@
-use Rattle.std.proofs.Common.{◌≡◌, ◌∙◌, ◌*◌, ◌+◌, ◌<◌, ap, sym, subst, ℕ, List, Bool, true, length}
+use Rattle.std.proofs.Common.{◌≡◌, ◌∙◌, ◌+◌, ◌<◌, ap, sym, subst, ℕ, List, Bool, true, length}
 use Rattle.std.specs.Prelude.{slice_get}
 use Rattle.std.specs.Result.{is_ok}
 use Rattle.file_die.specs.Bytes.{Bytes}
 use Rattle.file_die.specs.Store.{Held, Loads}
 use Rattle.file_die.specs.Rows.{held_in}
-use Rattle.file_die.proofs.RowLemmas.{rows_held, loads, piece_read, rows_of, kept_of, kept_settled, held_is, parts_read, gives_at}
+use Rattle.file_die.proofs.RowLemmas.{rows_held, loads, piece_read, kept_of, kept_settled, held_is, parts_read, gives_at}
 use Rattle.file_die.proofs.row_file.RowFile.read.Goals as goal
 
 pub invariant_of-self : goal.invariant_of-self
