@@ -18,11 +18,10 @@ use Rattle.page_layout.specs.Flash.{no_page, with_block}
 use Rattle.page_layout.proofs.FlashLemmas.{inside, with_block-inside}
 use Rattle.onfi_cycles.specs.Cycles.{page_of}
 use Rattle.nand_die.proofs.PagesLemmas.{block_within, page_of_blank}
-use Rattle.file_die.specs.declared.bytes.ByteFault.TheVariants as fault
-use Rattle.file_die.specs.Bytes.{Bytes, AreBytes, FailsBy, Gives, Settles, over, piece, IsTold}
+use Rattle.file_die.specs.Bytes.{Bytes, AreBytes, FailsBy, Gives, HasEnded, Settles, over, piece, IsTold}
 use Rattle.file_die.specs.declared.bytes.ByteFault.{ByteFault}
 use Rattle.file_die.specs.declared.store.StoreFault.{StoreFault}
-use Rattle.file_die.specs.Rows.{Rows, AreRows, TellsFull, WritesAll, IsReading, lacks_room, read_rows, held_in, is_kept, syncs_lost}
+use Rattle.file_die.specs.Rows.{Rows, AreRows, Remembers, TellsEnd, TellsFull, WritesAll, IsReading, lacks_room, read_rows, held_in, is_kept, syncs_lost}
 use Rattle.file_die.specs.Store.{Held, AreImages, MayBeLeft, LastsOf, Lasts, Loads, Puts, Clears, Syncs, page_in}
 use Rattle.file_die.proofs.BytesLemmas.{get_drop, take_alike, over_before, over_within, over_after, length_over, length_mixed, length_lasts, fits_over, fits_mixed, fits_lasts, fits_take, fits_drop}
 use Rattle.file_die.proofs.MemoryLemmas.{other_row, outside}
@@ -37,25 +36,23 @@ pub record IsOfRows (g : Geometry) (size : ℕ) (s : Bytes) : Type 0 where
   pub lasts : length s.durable ≡ row_count g * size
   pub fit : AreBytes s
 
--- ---- want of room
+-- ---- why a call failed
 
--- a fault of the last write tells it
-told_full : {F : Type 0} → (wrote : F → ℕ → List ℕ → Result ℕ ByteFault → F → Type 0) (sync_failed : Bool) (why : ByteFault) (new : F) → FailsBy wrote why new
-    → TellsFull wrote sync_failed (lacks_room true sync_failed (Err why)) new
-told_full wrote true fault.NoSpace new by = (fault.NoSpace, (λ e. let no : ⊥ = cc in absurd no), by)
-told_full wrote true fault.Interrupted new by = (fault.Interrupted, (λ e. let no : ⊥ = cc in absurd no), by)
-told_full wrote true fault.Other new by = (fault.Other, (λ e. let no : ⊥ = cc in absurd no), by)
-told_full wrote false fault.NoSpace new (inl told) = (refl, told)
-told_full wrote false fault.NoSpace new (inr (other, none)) = let no : ⊥ = cc in absurd no
-told_full wrote false fault.Interrupted new by = (fault.Interrupted, (λ e is. let no : ⊥ = cc in no), by)
-told_full wrote false fault.Other new by = (fault.Other, (λ e is. let no : ⊥ = cc in no), by)
+pub full_told : {F : Type 0} → (wrote : F → ℕ → List ℕ → Result ℕ ByteFault → F → Type 0) (old new : Rows F) (file : F) (answer : Result (Unit {0}) ByteFault) (result : Result (Unit {0}) StoreFault)
+    → IfErr answer (λ why. FailsBy wrote why file) → new.full ≡ lacks_room true old.sync_failed answer → IfErr answer (λ why. Remembers old new why) → is_ok result ≡ is_ok answer → new.file ≡ file → OnErr result (TellsFull wrote old new)
+full_told wrote old new file answer (Ok done) by is first e same = tt
+full_told wrote old new file (Ok done) (Err fault) by is first e same = let no : ⊥ = cc in absurd no
+full_told wrote old new file (Err why) (Err fault) by is first e same = record { why = why; fails = subst (FailsBy wrote why) (sym same) by; full = is; first = first }
 
-pub full_told : {F : Type 0} → (wrote : F → ℕ → List ℕ → Result ℕ ByteFault → F → Type 0) (sync_failed full : Bool) (file new : F) (answer : Result (Unit {0}) ByteFault) (result : Result (Unit {0}) StoreFault)
-    → IfErr answer (λ why. FailsBy wrote why file) → full ≡ lacks_room true sync_failed answer → is_ok result ≡ is_ok answer → new ≡ file → OnErr result (TellsFull wrote sync_failed full new)
-full_told wrote sync_failed full file new answer (Ok done) by is e same = tt
-full_told wrote sync_failed full file new (Ok done) (Err fault) by is e same = let no : ⊥ = cc in absurd no
-full_told wrote sync_failed full file new (Err why) (Err fault) by is e same =
-    subst (λ b. TellsFull wrote sync_failed b new) (sym is) (subst (TellsFull wrote sync_failed (lacks_room true sync_failed (Err why))) (sym same) (told_full wrote sync_failed why file by))
+pub end_told : {F : Type 0} → (gave : F → ℕ → ℕ → Result (List ℕ) ByteFault → F → Type 0) (row size at wanted : ℕ) (old new : Rows F) (file : F) (answer : Result (Unit {0}) ByteFault) (result : Result (Unit {0}) StoreFault)
+    → at ≡ row * size → wanted ≡ size → IfErr answer (λ why. HasEnded gave old.file at wanted why file) → IfErr answer (λ why. Remembers old new why) → is_ok result ≡ is_ok answer → new.file ≡ file → OnErr result (TellsEnd gave row size old new)
+end_told gave row size at wanted old new file answer (Ok done) a w by first e same = tt
+end_told gave row size at wanted old new file (Ok done) (Err fault) a w by first e same = let no : ⊥ = cc in absurd no
+end_told gave row size at wanted old new file (Err why) (Err fault) a w by first e same = record {
+  why = why;
+  ended = subst (λ left. HasEnded gave old.file (row * size) size why left) (sym same) (subst (λ k. HasEnded gave old.file (row * size) k why file) w (subst (λ k. HasEnded gave old.file k wanted why file) a by));
+  first = first;
+}
 
 -- ---- rows
 
@@ -490,7 +487,7 @@ parts_read a b s t g size erased failures fault lost e parts same = record {
   told = parts.told;
 }
 
-pub gives_at : {F : Type 0} → (gave : F → ℕ → ℕ → List ℕ → F → Type 0) (old : F) (at other : ℕ) (bytes : List ℕ) (file new : F) → at ≡ other → file ≡ new → Gives gave old at bytes file → Gives gave old other bytes new
+pub gives_at : {F : Type 0} → (gave : F → ℕ → ℕ → Result (List ℕ) ByteFault → F → Type 0) (old : F) (at other : ℕ) (bytes : List ℕ) (file new : F) → at ≡ other → file ≡ new → Gives gave old at bytes file → Gives gave old other bytes new
 gives_at gave old at other bytes file new a f g = subst (λ z. Gives gave old other bytes z) f (subst (λ k. Gives gave old k bytes file) a g)
 
 -- the parts of a file as it was taken: what stands in it was made to last

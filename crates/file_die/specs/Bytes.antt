@@ -1,5 +1,5 @@
 -- A FILE OF BYTES: what stands in it, what would stand there if the power went, and what each call makes of both.
-use Rattle.std.specs.Prelude.{◌≡◌, ◌<◌, ◌⊎◌, ℕ, suc, ◌+◌, ◌*◌, Bool, true, List, [], ◌∷◌, ◌++◌, length, take, drop, slice_get, slice_index, if◌then◌else◌, Result, Ok, Err, IfOk}
+use Rattle.std.specs.Prelude.{◌≡◌, ◌<◌, ◌⊎◌, ℕ, suc, ◌+◌, ◌*◌, ◌^◌, Bool, true, List, [], ◌∷◌, ◌++◌, length, take, drop, slice_get, slice_index, if◌then◌else◌, Result, Ok, Err, IfOk}
 use Rattle.page_layout.specs.Page.{Page}
 use Rattle.std.specs.declared.io.ErrorKind.{ErrorKind}
 use Rattle.std.specs.declared.io.ErrorKind.TheVariants as kind
@@ -102,22 +102,46 @@ HasRefused {F} refused why new = (mid : F) × refused mid why new
 
 -- ---- reads one behind another
 
--- the bytes that a read gave
-abbrev pub given_by : Result ℕ ByteFault → List ℕ → List ℕ
-given_by (Ok n) bytes = take n bytes
-given_by (Err fault) bytes = []
+-- the answer of a read, with the bytes that it gave
+abbrev pub given_by : Result ℕ ByteFault → List ℕ → Result (List ℕ) ByteFault
+given_by (Ok n) bytes = Ok (take n bytes)
+given_by (Err why) bytes = Err why
+
+-- these bytes; none where it failed
+abbrev pub came_by : Result (List ℕ) ByteFault → List ℕ
+came_by (Ok bytes) = bytes
+came_by (Err why) = []
 
 -- READS FROM A PLACE ON, each where the one before has ended, have given these bytes, by the file's own word for one read
-pub data Gives {F : Type 0} (gave : F → ℕ → ℕ → List ℕ → F → Type 0) (old : F) (at : ℕ) : List ℕ → F → Type 0 where
+pub data Gives {F : Type 0} (gave : F → ℕ → ℕ → Result (List ℕ) ByteFault → F → Type 0) (old : F) (at : ℕ) : List ℕ → F → Type 0 where
   NoRead : Gives gave old at [] old
-  OneMore : (before : List ℕ) (mid : F) (room : ℕ) (bytes : List ℕ) (new : F) → Gives gave old at before mid → gave mid (at + length before) room bytes new → Gives gave old at (before ++ bytes) new
+  OneMore : (before : List ℕ) (mid : F) (room : ℕ) (answer : Result (List ℕ) ByteFault) (new : F) → Gives gave old at before mid → gave mid (at + length before) room answer new → Gives gave old at (before ++ came_by answer) new
 
--- READS FROM A PLACE ON HAVE ENDED before so many bytes were read: the last one, where the ones before it had ended and with room for all the rest, gave none
-pub record HasEnded {F : Type 0} (gave : F → ℕ → ℕ → List ℕ → F → Type 0) (old : F) (at wanted : ℕ) (new : F) : Type 0 where
+-- READS FROM A PLACE ON HAVE ENDED before so many bytes were read: the last one, where the ones before it had ended and with room for all the rest, failed by
+-- this fault, or gave none, which is told as `Other`
+pub record HasEnded {F : Type 0} (gave : F → ℕ → ℕ → Result (List ℕ) ByteFault → F → Type 0) (old : F) (at wanted : ℕ) (why : ByteFault) (new : F) : Type 0 where
   pub before : List ℕ
   pub mid : F
   pub gives : Gives gave old at before mid
   pub rest : ℕ
   pub some : 0 < rest
   pub unread : length before + rest ≡ wanted
-  pub last : gave mid (at + length before) rest [] new
+  pub last : gave mid (at + length before) rest (Err why) new ⊎ ((why ≡ fault.Other) × gave mid (at + length before) rest (Ok []) new)
+
+-- ---- calls that were interrupted
+
+-- a read was, and a write
+abbrev pub ReadInterrupted : {F : Type 0} → (gave : F → ℕ → ℕ → Result (List ℕ) ByteFault → F → Type 0) → (old new : F) → Type 0
+ReadInterrupted gave old new = (at : ℕ) × (room : ℕ) × gave old at room (Err fault.Interrupted) new
+
+abbrev pub WriteInterrupted : {F : Type 0} → (wrote : F → ℕ → List ℕ → Result ℕ ByteFault → F → Type 0) → (old new : F) → Type 0
+WriteInterrupted wrote old new = (at : ℕ) × (bytes : List ℕ) × wrote old at bytes (Err fault.Interrupted) new
+
+-- SO MANY IN A ROW WERE, each from where the one before had left the file
+pub data InARow {F : Type 0} (one : F → F → Type 0) : ℕ → F → Type 0 where
+  NoCall : (new : F) → InARow one 0 new
+  OneCall : (n : ℕ) (mid new : F) → InARow one n mid → one mid new → InARow one (suc n) new
+
+-- a call that was interrupted was made again: it is told only where 2^64 in a row were
+abbrev pub IsPatient : {F : Type 0} → (one : F → F → Type 0) → ByteFault → (new : F) → Type 0
+IsPatient one why new = why ≡ fault.Interrupted → InARow one (2 ^ 64) new

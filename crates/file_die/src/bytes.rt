@@ -61,9 +61,9 @@ pub trait ByteFile {
     /// loss of power leaves, and no file can say it.
     ghost tells: { Self → ℕ → (List ℕ → Page) → Bool };
 
-    /// That one read, in this state, from this place on and with room for so many bytes, gave these bytes and left that state. A file says here of its reads
-    /// what it likes; what is proved of a store over any file, it does by these very reads.
-    ghost gave: { Self → ℕ → ℕ → List ℕ → Self → Type 0 };
+    /// That one read, in this state, from this place on and with room for so many bytes, was answered so and left that state: it gave these bytes, or failed.
+    /// A file says here of its reads what it likes; what is proved of a store over any file, it does by these very reads.
+    ghost gave: { Self → ℕ → ℕ → Result (List ℕ) ByteFault → Self → Type 0 };
 
     /// That one write, in this state and of these bytes from this place on, was answered so and left that state. A file says here of its writes what it likes.
     ghost wrote: { Self → ℕ → List ℕ → Result ℕ ByteFault → Self → Type 0 };

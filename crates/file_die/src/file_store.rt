@@ -1,11 +1,11 @@
 //! A store over a file of bytes.
-ghost use Rattle.std.specs.Prelude.{◌≡◌, ◌≢◌, ◌⊎◌, ◌<◌, ◌≤◌, ℕ, ◌*◌, ◌&&◌, ◌==◌, true, false, length, None, IfOk, IfErr, OnErr, OnOk, OnSome, IfNone, Some, is_ok};
+ghost use Rattle.std.specs.Prelude.{◌≡◌, ◌≢◌, ◌<◌, ◌≤◌, ℕ, ◌*◌, ◌&&◌, ◌==◌, true, false, length, None, IfOk, IfErr, OnErr, OnOk, OnSome, IfNone, Some, is_ok};
 ghost use Rattle.page_layout.specs.Counter.{HasRisen};
 ghost use Rattle.page_layout.specs.Geometry.{row_count, page_bytes};
 ghost use Rattle.onfi_cycles.specs.Cycles.{page_of};
 ghost use Rattle.file_die.specs.Store.{Clears, Loads, Puts, Syncs};
-ghost use Rattle.file_die.specs.Bytes.{Gives, HasEnded, HasRefused};
-ghost use Rattle.file_die.specs.Rows.{TellsFull};
+ghost use Rattle.file_die.specs.Bytes.{Gives, HasRefused};
+ghost use Rattle.file_die.specs.Rows.{FailsSync, TellsEnd, TellsFull};
 
 use crate::bytes::{ByteFault, ByteFile};
 use crate::row_file::{RowFault, RowFile};
@@ -97,7 +97,7 @@ impl<F: ByteFile> Store for DieFile<F> {
 
         // Whatever the file does: the page is the bytes that its reads gave, and it fails just where they ended before.
         ensures gave { OnOk result (Gives F.gave self.old.rows.file (row * page_bytes self.old.rows.geometry) page.new self.new.rows.file) }
-        ensures ended { OnErr result (HasEnded F.gave self.old.rows.file (row * page_bytes self.old.rows.geometry) (page_bytes self.old.rows.geometry) self.new.rows.file) }
+        ensures ended { OnErr result (TellsEnd F.gave row (page_bytes self.old.rows.geometry) self.old.rows self.new.rows) }
     {
         self.rows.read(row, page)
     }
@@ -117,7 +117,7 @@ impl<F: ByteFile> Store for DieFile<F> {
 
         // Whatever the file does: it is full just where the file's last answer was that.
         ensures room { OnOk result (self.new.rows.full ≡ false) }
-        ensures full { OnErr result (TellsFull F.wrote self.old.rows.sync_failed self.new.rows.full self.new.rows.file) }
+        ensures full { OnErr result (TellsFull F.wrote self.old.rows self.new.rows) }
     {
         self.rows.write(row, page)
     }
@@ -136,7 +136,7 @@ impl<F: ByteFile> Store for DieFile<F> {
 
         // Whatever the file does: it is full just where the file's last answer was that.
         ensures room { OnOk result (self.new.rows.full ≡ false) }
-        ensures full { OnErr result (TellsFull F.wrote self.old.rows.sync_failed self.new.rows.full self.new.rows.file) }
+        ensures full { OnErr result (TellsFull F.wrote self.old.rows self.new.rows) }
     {
         self.rows.erase(block)
     }
@@ -154,7 +154,7 @@ impl<F: ByteFile> Store for DieFile<F> {
 
         // Whatever the file does: after one that failed none is asked for.
         ensures once { self.old.rows.sync_failed ≡ true → (is_ok result ≡ false) × (self.new.rows.file ≡ self.old.rows.file) }
-        ensures refused { OnErr result ((self.old.rows.sync_failed ≡ true) ⊎ ((why : ByteFault) × F.refused self.old.rows.file why self.new.rows.file)) }
+        ensures refused { OnErr result (FailsSync F.refused self.old.rows self.new.rows) }
     {
         self.rows.sync()
     }

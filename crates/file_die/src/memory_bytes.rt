@@ -45,7 +45,7 @@ fn count(bytes: &[u8]) -> u64
 }
 
 impl ByteFile for MemoryBytes {
-    ghost use Rattle.std.specs.Prelude.{true, take, drop, MatchResult};
+    ghost use Rattle.std.specs.Prelude.{true, take, drop, MatchResult, Ok};
     ghost use Rattle.file_die.specs.declared.bytes.ByteFault.TheVariants as fault;
 
     ghost held = { λ f. record { bytes = f.bytes.items; durable = f.bytes.items; failed_syncs = 0 } };
@@ -55,7 +55,7 @@ impl ByteFile for MemoryBytes {
     // no call of it leaves a part
     ghost tells = { λ _ _ _. true };
 
-    ghost gave = { λ old at room bytes new. (new ≡ old) × (bytes ≡ take room (drop at old.bytes.items)) };
+    ghost gave = { λ old at room answer new. (new ≡ old) × (answer ≡ Ok (take room (drop at old.bytes.items))) };
 
     ghost wrote = { λ old at bytes answer new. MatchResult answer (λ n. (n ≡ length bytes) × (new.bytes.items ≡ over at bytes old.bytes.items)) (λ e. (e ≡ fault.NoSpace) × (length old.bytes.items < at + length bytes) × (new ≡ old)) };
 

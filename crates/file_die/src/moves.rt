@@ -1,7 +1,7 @@
 //! Whole reads and writes of a file, whose calls may move less.
 ghost use Rattle.std.specs.Prelude.{◌≡◌, ◌<◌, ◌≤◌, ℕ, ◌+◌, ◌^◌, true, List, length, take, IfErr, IfOk, is_ok};
 ghost use Rattle.page_layout.specs.Page.{Page};
-ghost use Rattle.file_die.specs.Bytes.{Bytes, FailsBy, Gives, HasEnded, Tells, over};
+ghost use Rattle.file_die.specs.Bytes.{Bytes, FailsBy, Gives, HasEnded, IsPatient, ReadInterrupted, Tells, WriteInterrupted, over};
 ghost use Rattle.file_die.specs.Rows.{WritesAll, Going, IsFilled, moved_by};
 
 use crate::bytes::{ByteFault, ByteFile};
@@ -17,7 +17,8 @@ fn read_once<F: ByteFile>(
     requires within { at + length to.old < 2 ^ 64 }
     ensures next { IfOk result (λ next. (done < next) × (next ≤ length to.old)) }
     ensures gave { (first : F) → Gives F.gave first at (take done to.old) file.old → Gives F.gave first at (take (moved_by done result) to.new) file.new }
-    ensures ended { IfErr result (λ _. (first : F) → Gives F.gave first at (take done to.old) file.old → HasEnded F.gave first at (length to.old) file.new) }
+    ensures ended { IfErr result (λ why. (first : F) → Gives F.gave first at (take done to.old) file.old → HasEnded F.gave first at (length to.old) why file.new) }
+    ensures interrupted { IfErr result (λ why. why ≡ ByteFault.Interrupted → ReadInterrupted F.gave file.old file.new) }
     ensures reads { F.honest file.old ≡ true → IsFilled (F.held file.old).bytes at done to.old → IsFilled (F.held file.old).bytes at (moved_by done result) to.new }
     ensures same { F.honest file.old ≡ true → F.held file.new ≡ F.held file.old }
     ensures honest { F.honest file.new ≡ F.honest file.old }
@@ -41,16 +42,17 @@ fn read_next<F: ByteFile>(
     requires within { at + length to.old < 2 ^ 64 }
     ensures next { IfOk result (λ next. (done < next) × (next ≤ length to.old)) }
     ensures gave { (first : F) → Gives F.gave first at (take done to.old) file.old → Gives F.gave first at (take (moved_by done result) to.new) file.new }
-    ensures ended { IfErr result (λ _. (first : F) → Gives F.gave first at (take done to.old) file.old → HasEnded F.gave first at (length to.old) file.new) }
+    ensures ended { IfErr result (λ why. (first : F) → Gives F.gave first at (take done to.old) file.old → HasEnded F.gave first at (length to.old) why file.new) }
+    ensures patient { IfErr result (λ why. IsPatient (ReadInterrupted F.gave) why file.new) }
     ensures reads { F.honest file.old ≡ true → IsFilled (F.held file.old).bytes at done to.old → IsFilled (F.held file.old).bytes at (moved_by done result) to.new }
     ensures same { F.honest file.old ≡ true → F.held file.new ≡ F.held file.old }
     ensures honest { F.honest file.new ≡ F.honest file.old }
     ensures tells { (size : ℕ) (reads : List ℕ → Page) → F.tells file.new size reads ≡ F.tells file.old size reads }
 {
-    for _ in 0..u64::MAX {
-        let answer = read_once(file, to, done, at);
-        if !matches!(answer, Err(ByteFault::Interrupted)) {
-            return answer;
+    for _tries in 0..u64::MAX {
+        match read_once(file, to, done, at) {
+            Err(ByteFault::Interrupted) => {}
+            answer => return answer,
         }
     }
     read_once(file, to, done, at)
@@ -66,7 +68,8 @@ fn write_once<F: ByteFile>(
     requires unfinished { done < length bytes.now }
     requires within { at + length bytes.now < 2 ^ 64 }
     ensures next { IfOk result (λ next. (done < next) × (next ≤ length bytes.now)) }
-    ensures fails { IfErr result (λ fault. FailsBy F.wrote fault file.new) }
+    ensures fails { IfErr result (λ why. FailsBy F.wrote why file.new) }
+    ensures interrupted { IfErr result (λ why. why ≡ ByteFault.Interrupted → WriteInterrupted F.wrote file.old file.new) }
     ensures goes { F.honest file.old ≡ true → (first : Bytes) → at ≤ length first.bytes → Going first at bytes.now done (F.held file.old) → Going first at bytes.now (moved_by done result) (F.held file.new) }
     ensures told { F.honest file.old ≡ true → (first : Bytes) → at ≤ length first.bytes → Going first at bytes.now done (F.held file.old) →
         (size : ℕ) (reads : List ℕ → Page) → F.tells file.old size reads ≡ true → Tells size reads (over at bytes.now first.bytes) (F.held file.old) (F.held file.new) }
@@ -90,17 +93,18 @@ fn write_next<F: ByteFile>(
     requires unfinished { done < length bytes.now }
     requires within { at + length bytes.now < 2 ^ 64 }
     ensures next { IfOk result (λ next. (done < next) × (next ≤ length bytes.now)) }
-    ensures fails { IfErr result (λ fault. FailsBy F.wrote fault file.new) }
+    ensures fails { IfErr result (λ why. FailsBy F.wrote why file.new) }
+    ensures patient { IfErr result (λ why. IsPatient (WriteInterrupted F.wrote) why file.new) }
     ensures goes { F.honest file.old ≡ true → (first : Bytes) → at ≤ length first.bytes → Going first at bytes.now done (F.held file.old) → Going first at bytes.now (moved_by done result) (F.held file.new) }
     ensures told { F.honest file.old ≡ true → (first : Bytes) → at ≤ length first.bytes → Going first at bytes.now done (F.held file.old) →
         (size : ℕ) (reads : List ℕ → Page) → F.tells file.old size reads ≡ true → Tells size reads (over at bytes.now first.bytes) (F.held file.old) (F.held file.new) }
     ensures honest { F.honest file.new ≡ F.honest file.old }
     ensures tells { (size : ℕ) (reads : List ℕ → Page) → F.tells file.new size reads ≡ F.tells file.old size reads }
 {
-    for _ in 0..u64::MAX {
-        let answer = write_once(file, bytes, done, at);
-        if !matches!(answer, Err(ByteFault::Interrupted)) {
-            return answer;
+    for _tries in 0..u64::MAX {
+        match write_once(file, bytes, done, at) {
+            Err(ByteFault::Interrupted) => {}
+            answer => return answer,
         }
     }
     write_once(file, bytes, done, at)
@@ -118,7 +122,8 @@ fn write_next<F: ByteFile>(
 pub fn read_all<F: ByteFile>(file: &mut F, to: &mut [u8], at: u64) -> Result<(), ByteFault>
     requires within { at + length to.old < 2 ^ 64 }
     ensures gave { is_ok result ≡ true → Gives F.gave file.old at to.new file.new }
-    ensures ended { IfErr result (λ _. HasEnded F.gave file.old at (length to.old) file.new) }
+    ensures ended { IfErr result (λ why. HasEnded F.gave file.old at (length to.old) why file.new) }
+    ensures patient { IfErr result (λ why. IsPatient (ReadInterrupted F.gave) why file.new) }
     ensures reads { is_ok result ≡ true → F.honest file.old ≡ true → IsFilled (F.held file.old).bytes at (length to.old) to.new }
     ensures same { F.honest file.old ≡ true → F.held file.new ≡ F.held file.old }
     ensures honest { F.honest file.new ≡ F.honest file.old }
@@ -142,7 +147,8 @@ pub fn read_all<F: ByteFile>(file: &mut F, to: &mut [u8], at: u64) -> Result<(),
 /// Each byte is as it was or as it was to be.
 pub fn write_all<F: ByteFile>(file: &mut F, bytes: &[u8], at: u64) -> Result<(), ByteFault>
     requires within { at + length bytes.now < 2 ^ 64 }
-    ensures fails { IfErr result (λ fault. FailsBy F.wrote fault file.new) }
+    ensures fails { IfErr result (λ why. FailsBy F.wrote why file.new) }
+    ensures patient { IfErr result (λ why. IsPatient (WriteInterrupted F.wrote) why file.new) }
     ensures writes { F.honest file.old ≡ true → at ≤ length (F.held file.old).bytes → WritesAll (F.held file.old) at bytes.now (is_ok result) (F.held file.new) }
     ensures told { F.honest file.old ≡ true → at ≤ length (F.held file.old).bytes → (size : ℕ) (reads : List ℕ → Page) → F.tells file.old size reads ≡ true →
         Tells size reads (over at bytes.now (F.held file.old).bytes) (F.held file.old) (F.held file.new) }

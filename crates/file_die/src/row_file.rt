@@ -1,11 +1,11 @@
 //! The rows of a die in a file of bytes.
-ghost use Rattle.std.specs.Prelude.{◌≡◌, ◌≢◌, ◌⊎◌, ◌<◌, ◌≤◌, ◌==◌, ◌&&◌, ℕ, ◌*◌, ◌^◌, true, false, List, length, None, Some, OnOk, OnErr, OnSome, IfOk, IfErr, IfNone, is_ok, slice_set};
+ghost use Rattle.std.specs.Prelude.{◌≡◌, ◌≢◌, ◌<◌, ◌≤◌, ◌==◌, ◌&&◌, ℕ, ◌*◌, ◌^◌, true, false, List, length, None, Some, OnOk, OnErr, OnSome, IfOk, IfErr, IfNone, is_ok, slice_set};
 ghost use Rattle.page_layout.specs.Page.{Page};
 ghost use Rattle.page_layout.specs.Geometry.{row_count};
 ghost use Rattle.page_layout.specs.Counter.{counted, HasRisen};
-ghost use Rattle.file_die.specs.Bytes.{Gives, HasEnded, HasRefused, piece};
+ghost use Rattle.file_die.specs.Bytes.{Gives, HasRefused, piece};
 ghost use Rattle.file_die.specs.Store.{AreImages, Loads, Puts, Clears, Syncs};
-ghost use Rattle.file_die.specs.Rows.{Counts, IsReading, TellsFull, held_in, is_kept, lacks_room};
+ghost use Rattle.file_die.specs.Rows.{Counts, FailsSync, IsReading, TellsEnd, TellsFull, held_in, is_kept, lacks_room};
 
 use crate::bytes::{ByteFault, ByteFile};
 use crate::moves::{read_all, write_all};
@@ -156,7 +156,7 @@ impl<F: ByteFile> RowFile<F> {
         requires in_range { row < row_count self.old.geometry }
         requires room { length to.old ≡ self.old.size }
         ensures gave { is_ok result ≡ true → Gives F.gave self.old.file (row * self.old.size) to.new self.new.file }
-        ensures ended { OnErr result (HasEnded F.gave self.old.file (row * self.old.size) self.old.size self.new.file) }
+        ensures ended { OnErr result (TellsEnd F.gave row self.old.size self.old self.new) }
         ensures bytes { is_ok result ≡ true → F.honest self.old.file ≡ true → to.new ≡ piece self.old.size row (F.held self.old.file).bytes }
         ensures loads { (reads : List ℕ → Page) → is_kept F.held F.honest F.tells reads self.old ≡ true → Loads (held_in F.held reads self.old) row (reads to.new) (is_ok result) (held_in F.held reads self.new) }
         ensures kept { (reads : List ℕ → Page) → is_kept F.held F.honest F.tells reads self.new ≡ is_kept F.held F.honest F.tells reads self.old }
@@ -181,7 +181,7 @@ impl<F: ByteFile> RowFile<F> {
             Puts (held_in F.held reads self.old) row (reads bytes.now) (is_ok result) (held_in F.held reads self.new) }
         ensures kept { (reads : List ℕ → Page) → is_kept F.held F.honest F.tells reads self.new ≡ is_kept F.held F.honest F.tells reads self.old }
         ensures counts { Counts self.old self.new result }
-        ensures full { OnErr result (TellsFull F.wrote self.old.sync_failed self.new.full self.new.file) }
+        ensures full { OnErr result (TellsFull F.wrote self.old self.new) }
         ensures room { OnOk result (self.new.full ≡ false) }
     {
         let start = self.offset(row);
@@ -200,7 +200,7 @@ impl<F: ByteFile> RowFile<F> {
             Clears (held_in F.held reads self.old) block (is_ok result) (held_in F.held reads self.new) }
         ensures kept { (reads : List ℕ → Page) → is_kept F.held F.honest F.tells reads self.new ≡ is_kept F.held F.honest F.tells reads self.old }
         ensures counts { Counts self.old self.new result }
-        ensures full { OnErr result (TellsFull F.wrote self.old.sync_failed self.new.full self.new.file) }
+        ensures full { OnErr result (TellsFull F.wrote self.old self.new) }
         ensures room { OnOk result (self.new.full ≡ false) }
     {
         let start = self.offset(self.geometry.row(block, 0));
@@ -220,7 +220,7 @@ impl<F: ByteFile> RowFile<F> {
         ensures counts { Counts self.old self.new result }
         ensures unfilled { self.new.full ≡ false }
         ensures once { self.old.sync_failed ≡ true → (is_ok result ≡ false) × (self.new.file ≡ self.old.file) }
-        ensures refused { OnErr result ((self.old.sync_failed ≡ true) ⊎ ((why : ByteFault) × F.refused self.old.file why self.new.file)) }
+        ensures refused { OnErr result (FailsSync F.refused self.old self.new) }
     {
         if self.sync_failed {
             return self.settle(Err(ByteFault::Other), false);

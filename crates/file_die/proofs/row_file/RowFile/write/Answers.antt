@@ -60,4 +60,4 @@ returns-clause-written g c d h reads =
 
 pub returns-clause-full : goal.returns-clause-full
 returns-clause-full g c =
-    rw (← c.self.view_is) (full_told g.F.ByteFile.wrote c.self.inside.sync_failed c.settle.new.self.full c.write_all-answer.new.file c.settle.new.self.file c.write_all-answer.result c.settle.result c.write_all-answer.ensures.fails c.settle.ensures.full c.settle.ensures.answer c.settle.ensures.file)
+    rw (← c.self.view_is) (full_told g.F.ByteFile.wrote _ c.settle.new.self c.write_all-answer.new.file c.write_all-answer.result c.settle.result c.write_all-answer.ensures.fails c.settle.ensures.full c.settle.ensures.told c.settle.ensures.answer c.settle.ensures.file)
