@@ -1,10 +1,11 @@
 -- THE STORE OVER A FILE OF PAGES WITH THEIR CODES: its file, and what was wrong with each row as it was last read.
-use Rattle.std.specs.Prelude.{◌≡◌, ℕ, ◌*◌, Bool, true, false, List, length, replicate, slice_set, sum_by, count_by}
+use Rattle.std.specs.Prelude.{◌≡◌, ℕ, ◌*◌, Bool, true, false, List, length, replicate, slice_set, sum_by, count_by, Result}
 use Rattle.page_layout.specs.declared.geometry.Geometry.{Geometry}
 use Rattle.page_layout.specs.Geometry.{row_count}
 use Rattle.page_layout.specs.Page.{Page, Image}
 use Rattle.onfi_cycles.specs.Cycles.{page_of}
 use Rattle.file_die.specs.Store.{Held}
+use Rattle.file_die.specs.declared.bytes.ByteFault.{ByteFault}
 use Rattle.file_die.specs.Bytes.{Bytes, Gives}
 use Rattle.file_die.specs.Rows.{Rows, held_in, is_kept}
 use Rattle.coded_store.specs.declared.wrong.Wrong.{Wrong}
@@ -45,7 +46,7 @@ is_honest held honest tells s = is_kept held honest tells (shown_by s.rows.geome
 
 -- A LOAD OF A ROW, whatever the file does: of just the bytes that its reads gave, from the first of the row on, the page is shown, and what is wrong with
 -- them is remembered of the row. `gave` is the file's own word for one read.
-pub record ShowsRow {F : Type 0} (gave : F → ℕ → List ℕ → F → Type 0) (g : Geometry) (old new : Coded F) (row : ℕ) (shown : Page) : Type 0 where
+pub record ShowsRow {F : Type 0} (gave : F → ℕ → ℕ → Result (List ℕ) ByteFault → F → Type 0) (g : Geometry) (old new : Coded F) (row : ℕ) (shown : Page) : Type 0 where
   pub bytes : List ℕ
   pub once : Gives gave old.rows.file (row * coded_bytes g) bytes new.rows.file
   pub whole : IsWithCodes g (page_of g bytes)

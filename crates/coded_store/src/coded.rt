@@ -4,7 +4,8 @@ ghost use Rattle.page_layout.specs.Counter.{HasRisen};
 ghost use Rattle.page_layout.specs.Geometry.{row_count, page_bytes};
 ghost use Rattle.onfi_cycles.specs.Cycles.{page_of};
 ghost use Rattle.page_code.specs.Layout.{coded};
-ghost use Rattle.file_die.specs.Rows.{TellsFull};
+ghost use Rattle.file_die.specs.Bytes.{HasRefused};
+ghost use Rattle.file_die.specs.Rows.{FailsSync, TellsEnd, TellsFull};
 ghost use Rattle.file_die.specs.Store.{Loads, Puts, Clears, Syncs, page_in};
 ghost use Rattle.coded_store.specs.Reading.{coded_bytes, shown_by, wrong_with};
 ghost use Rattle.coded_store.specs.Coded.{none_read, turned_of, mended_of, reading, standing, is_honest, ShowsRow};
@@ -117,11 +118,13 @@ impl<F: ByteFile> CodedStore<F> {
         ensures bytes { IfOk result (λ store. F.honest file ≡ true → (F.held store.rows.file).bytes ≡ (F.held file).bytes) }
         ensures whole { IfOk result (λ store. F.honest file ≡ true → length (F.held file).bytes ≡ row_count geometry * coded_bytes geometry) }
         ensures length { IfErr result (λ fault. (n : ℕ) → fault ≡ RowFault.Length n → F.honest file ≡ true → (n ≡ length (F.held file).bytes) × (n ≢ row_count geometry * coded_bytes geometry)) }
+        ensures memory { IfErr result (λ fault. fault ≡ RowFault.OutOfMemory → F.honest file ≡ true → length (F.held file).bytes ≡ row_count geometry * coded_bytes geometry) }
+        ensures refused { IfErr result (λ fault. (why : ByteFault) → fault ≡ RowFault.File why → (left : F) × HasRefused F.refused why left) }
     {
+        let rows = RowFile::new(alloc, geometry, coded_length(&geometry) as u32, file)?;
         let Ok((stands, wrong)) = room_for(alloc, &geometry) else {
             return Err(RowFault::OutOfMemory);
         };
-        let rows = RowFile::new(alloc, geometry, coded_length(&geometry) as u32, file)?;
         Ok(CodedStore {
             rows,
             stands,
@@ -191,6 +194,9 @@ impl<F: ByteFile> Store for CodedStore<F> {
         ensures told_of { OnOk result (ShowsRow F.gave self.old.rows.geometry self.old self.new row (page_of self.old.rows.geometry page.new)) }
         ensures untold { OnErr result (self.new.wrong ≡ self.old.wrong) }
 
+        // It fails just where its reads ended before the row did.
+        ensures ended { OnErr result (TellsEnd F.gave row (coded_bytes self.old.rows.geometry) self.old.rows self.new.rows) }
+
         // Where the file is honest these are the bytes that stand there.
         ensures told { OnOk result (F.honest self.old.rows.file ≡ true → self.new.wrong ≡ slice_set self.old.wrong row (wrong_with self.old.rows.geometry (page_in (standing F.held self.old) row))) }
     {
@@ -218,7 +224,7 @@ impl<F: ByteFile> Store for CodedStore<F> {
 
         // Whatever the file does: it is full just where the file's last answer was that.
         ensures room { OnOk result (self.new.rows.full ≡ false) }
-        ensures full { OnErr result (TellsFull F.wrote self.old.rows.sync_failed self.old.rows.file self.new.rows.full self.new.rows.file) }
+        ensures full { OnErr result (TellsFull F.wrote self.old.rows self.new.rows) }
     {
         spell(&self.rows.geometry(), page, &mut self.stands);
         self.rows.write(row, &self.stands)
@@ -239,7 +245,7 @@ impl<F: ByteFile> Store for CodedStore<F> {
 
         // Whatever the file does: it is full just where the file's last answer was that.
         ensures room { OnOk result (self.new.rows.full ≡ false) }
-        ensures full { OnErr result (TellsFull F.wrote self.old.rows.sync_failed self.old.rows.file self.new.rows.full self.new.rows.file) }
+        ensures full { OnErr result (TellsFull F.wrote self.old.rows self.new.rows) }
     {
         self.rows.erase(block)
     }
@@ -257,6 +263,7 @@ impl<F: ByteFile> Store for CodedStore<F> {
 
         // After one that failed none is asked for.
         ensures once { self.old.rows.sync_failed ≡ true → (is_ok result ≡ false) × (self.new.rows.file ≡ self.old.rows.file) }
+        ensures refused { OnErr result (FailsSync F.refused self.old.rows self.new.rows) }
     {
         self.rows.sync()
     }

@@ -1,6 +1,6 @@
 -- The places of a file of bytes, and what calls one behind another leave of them.
-use Rattle.std.proofs.Common.{◌≡◌, ◌⊎◌, inl, inr, ◌∙◌, ◌<◌, ◌≤◌, ◌+◌, ◌-◌, ap, refl, sym, subst, arith, ℕ, zero, suc, true, false, List, [], ◌∷◌, ◌++◌, length, take, drop, Option, Some, None, length-append, length-take, length-drop}
-use Rattle.std.specs.Prelude.{slice_get, slice_index, IfOk, Result, Ok, Err}
+use Rattle.std.proofs.Common.{◌≡◌, ◌⊎◌, inl, inr, ◌∙◌, ◌<◌, ◌≤◌, ◌+◌, ◌-◌, ap, refl, sym, subst, arith, ℕ, zero, suc, true, false, List, [], ◌∷◌, ◌++◌, length, take, drop, Some, None, length-append, length-take, length-drop}
+use Rattle.std.specs.Prelude.{slice_get, slice_index, IfErr, Result, Ok, Err, ◌^◌}
 use Rattle.std.specs.Option.{unwrap_or}
 use Rattle.std.proofs.Math.Seq.{take-length, take-append-add}
 use Rattle.std.proofs.lemmas.Bool.{cases_lt}
@@ -9,7 +9,7 @@ use Rattle.std.proofs.lemmas.Option.{slice_get_past, slice_get-get_or, same_Some
 use Rattle.page_layout.specs.Page.{Page}
 use Rattle.file_die.specs.declared.bytes.ByteFault.{ByteFault}
 use Rattle.file_die.specs.declared.bytes.ByteFault.TheVariants as fault
-use Rattle.file_die.specs.Bytes.{Bytes, AreBytes, over, FailsBy, HadRoom, HasAnswered, Mixes, LastsMixed, AreAlike, Writes, IsTold, Tells, Gives, OneMore}
+use Rattle.file_die.specs.Bytes.{Bytes, over, Mixes, LastsMixed, AreAlike, Writes, Tells, Gives, HasEnded, InARow, IsPatient, OneCall, OneMore, came_by}
 use Rattle.file_die.specs.Rows.{WritesAll, Going, IsFilled}
 
 -- ---- places
@@ -266,18 +266,33 @@ taken_more done n xs ys rest l m =
     let same : take n (ys ++ rest) ≡ take n ys = take_alike n (ys ++ rest) ys (λ i lt. get_front ys rest i (omega (arith, lt, m))) in
     ap (λ k. take k (take done xs ++ (ys ++ rest))) e ∙ (take-append-add (take done xs) (ys ++ rest) n ∙ ap (λ z. take done xs ++ z) same)
 
-pub gives_more : {F : Type 0} → (gave : F → ℕ → List ℕ → F → Type 0) (first old new : F) (at done n : ℕ) (xs ys rest : List ℕ) → done ≤ length xs → n ≤ length ys → Gives gave first at (take done xs) old → gave old (at + done) (take n ys) new
+pub gives_more : {F : Type 0} → (gave : F → ℕ → ℕ → Result (List ℕ) ByteFault → F → Type 0) (first old new : F) (at done n room : ℕ) (xs ys rest : List ℕ) → done ≤ length xs → n ≤ length ys → Gives gave first at (take done xs) old → gave old (at + done) room (Ok (take n ys)) new
     → Gives gave first at (take (done + n) (take done xs ++ (ys ++ rest))) new
-gives_more gave first old new at done n xs ys rest l m before here =
+gives_more gave first old new at done n room xs ys rest l m before here =
     let e : at + done ≡ at + length (take done xs) = omega (arith, length-take done xs, l) in
-    subst (λ z. Gives gave first at z new) (sym (taken_more done n xs ys rest l m)) (OneMore (take done xs) old (take n ys) new before (subst (λ k. gave old k (take n ys) new) e here))
+    subst (λ z. Gives gave first at z new) (sym (taken_more done n xs ys rest l m)) (OneMore (take done xs) old room (Ok (take n ys)) new before (subst (λ k. gave old k room (Ok (take n ys)) new) e here))
 
--- a read that was interrupted
-pub gives_still : {F : Type 0} → (gave : F → ℕ → List ℕ → F → Type 0) (first old new : F) (at done : ℕ) (xs ys rest : List ℕ) → done ≤ length xs → Gives gave first at (take done xs) old → gave old (at + done) [] new
-    → Gives gave first at (take done (take done xs ++ (ys ++ rest))) new
-gives_still gave first old new at done xs ys rest l before here =
+-- a read that gave none
+pub gives_still : {F : Type 0} → (gave : F → ℕ → ℕ → Result (List ℕ) ByteFault → F → Type 0) (first old new : F) (at done room : ℕ) (answer : Result (List ℕ) ByteFault) (xs ys rest : List ℕ) → came_by answer ≡ [] → done ≤ length xs
+    → Gives gave first at (take done xs) old → gave old (at + done) room answer new → Gives gave first at (take done (take done xs ++ (ys ++ rest))) new
+gives_still gave first old new at done room answer xs ys rest none l before here =
     let e : at + done ≡ at + length (take done xs) = omega (arith, length-take done xs, l) in
-    subst (λ z. Gives gave first at z new) (append-nil (take done xs) ∙ sym (taken_front done xs ys rest l)) (OneMore (take done xs) old [] new before (subst (λ k. gave old k [] new) e here))
+    subst (λ z. Gives gave first at z new) (ap (λ z. take done xs ++ z) none ∙ (append-nil (take done xs) ∙ sym (taken_front done xs ys rest l))) (OneMore (take done xs) old room answer new before (subst (λ k. gave old k room answer new) e here))
+
+-- and ends them
+pub ended_here : {F : Type 0} → (gave : F → ℕ → ℕ → Result (List ℕ) ByteFault → F → Type 0) (first old new : F) (at done room : ℕ) (why : ByteFault) (xs : List ℕ) → done < length xs → room ≡ length xs - done → Gives gave first at (take done xs) old
+    → gave old (at + done) room (Err why) new ⊎ ((why ≡ fault.Other) × gave old (at + done) room (Ok []) new) → HasEnded gave first at (length xs) why new
+ended_here gave first old new at done room why xs l e before here =
+    let is : at + done ≡ at + length (take done xs) = omega (arith, length-take done xs, l) in
+    record {
+      before = take done xs;
+      mid = old;
+      gives = before;
+      rest = room;
+      some = omega (arith, e, l);
+      unread = omega (arith, length-take done xs, e, l);
+      last = subst (λ k. gave old k room (Err why) new ⊎ ((why ≡ fault.Other) × gave old k room (Ok []) new)) is here;
+    }
 
 pub filled_still : (bytes : List ℕ) (at done : ℕ) (xs ys rest : List ℕ) → done ≤ length xs → IsFilled bytes at done xs → IsFilled bytes at done (take done xs ++ (ys ++ rest))
 filled_still bytes at done xs ys rest l before i lt = front_of done xs ys rest i l lt ∙ before i lt
@@ -345,28 +360,15 @@ told_at_once size reads xs wanted since told = record {
   lasts = λ row. record { left = inl (2, omega arith, refl); kept = λ a b. b };
 }
 
--- ---- why bytes were not written
+-- ---- calls that were interrupted
 
--- a fault of a write is why it failed
-pub fails_by : {F : Type 0} → (wrote : F → ℕ → List ℕ → Result ℕ ByteFault → F → Type 0) (old : F) (at : ℕ) (bytes : List ℕ) (e : ByteFault) (new : F) → wrote old at bytes (Err e) new → FailsBy wrote old e new
-fails_by wrote old at bytes fault.NoSpace new w = (old, at, bytes, w)
-fails_by wrote old at bytes fault.Interrupted new w = inr (Err fault.Interrupted, (λ is. cc), (old, at, bytes, w))
-fails_by wrote old at bytes fault.Other new w = inr (Err fault.Other, (λ is. cc), (old, at, bytes, w))
+pub one_more_call : {F : Type 0} → (one : F → F → Type 0) (n m : ℕ) (mid new : F) → m ≡ n + 1 → InARow one n mid → one mid new → InARow one m new
+one_more_call one n m mid new e before last =
+    let is : suc n ≡ m = omega (arith, e) in
+    subst (λ k. InARow one k new) is (OneCall n mid new before last)
 
--- an answer that there was room
-pub had_room : {F : Type 0} → (wrote : F → ℕ → List ℕ → Result ℕ ByteFault → F → Type 0) (old : F) (at : ℕ) (bytes : List ℕ) (n : ℕ) (new : F) → wrote old at bytes (Ok n) new → HadRoom wrote old new
-had_room wrote old at bytes n new w = inr (Ok n, (λ is. cc), (old, at, bytes, w))
-
-pub interrupted : {F : Type 0} → (wrote : F → ℕ → List ℕ → Result ℕ ByteFault → F → Type 0) (old : F) (at : ℕ) (bytes : List ℕ) (new : F) → wrote old at bytes (Err fault.Interrupted) new → HadRoom wrote old new
-interrupted wrote old at bytes new w = inr (Err fault.Interrupted, (λ is. cc), (old, at, bytes, w))
-
--- calls one behind another
-pub room_on : {F : Type 0} → (wrote : F → ℕ → List ℕ → Result ℕ ByteFault → F → Type 0) (old mid new : F) → HadRoom wrote old mid → HadRoom wrote mid new → HadRoom wrote old new
-room_on wrote old mid new (inl same) (inl is) = inl (is ∙ same)
-room_on wrote old mid new (inr (answer, room, told)) (inl is) = inr (answer, room, subst (HasAnswered wrote answer) (sym is) told)
-room_on wrote old mid new before (inr now) = inr now
-
-pub fails_on : {F : Type 0} → (wrote : F → ℕ → List ℕ → Result ℕ ByteFault → F → Type 0) (old mid : F) (e : ByteFault) (new : F) → HadRoom wrote old mid → FailsBy wrote mid e new → FailsBy wrote old e new
-fails_on wrote old mid fault.NoSpace new before now = now
-fails_on wrote old mid fault.Interrupted new before now = room_on wrote old mid new before now
-fails_on wrote old mid fault.Other new before now = room_on wrote old mid new before now
+-- the last that is made, after as many as there can be
+pub is_patient : {F : Type 0} → (one : F → F → Type 0) (n : ℕ) (mid new : F) (answer : Result ℕ ByteFault) → n ≡ 2 ^ 64 - 1 → InARow one n mid → IfErr answer (λ why. why ≡ fault.Interrupted → one mid new)
+    → IfErr answer (λ why. IsPatient one why new)
+is_patient one n mid new (Ok moved) e before last = tt
+is_patient one n mid new (Err why) e before last = λ is. one_more_call one n (2 ^ 64) mid new (omega (arith, e)) before (last is)

@@ -1,5 +1,5 @@
 -- What bytes over others are, and the rows of a file.
-use Rattle.std.proofs.Common.{◌≡◌, ◌∙◌, ◌<◌, ◌*◌, refl, sym, subst, ℕ, List, length}
+use Rattle.std.proofs.Common.{◌∙◌, ◌<◌, ◌*◌, refl, sym, subst, ℕ}
 use Rattle.std.proofs.lemmas.List.{ext_get_or}
 use Rattle.page_layout.specs.Geometry.{row_count, page_bytes}
 use Rattle.page_layout.specs.Flash.{no_page}

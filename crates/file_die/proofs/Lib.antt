@@ -9,3 +9,4 @@ pub mod BytesLemmas
 pub mod RowLemmas
 pub mod BlankLemmas
 pub mod FileLawLemmas
+pub mod FaultLawLemmas

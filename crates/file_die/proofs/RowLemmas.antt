@@ -1,7 +1,6 @@
 -- What the calls of a file of bytes come to for the rows in it.
-use Rattle.std.proofs.Common.{◌≡◌, ◌≢◌, ◌⊎◌, inl, inr, ◌∙◌, ◌<◌, ◌≤◌, ◌/◌, ◌+◌, ◌-◌, ◌*◌, ap, refl, sym, subst, arith, ℕ, zero, suc, Bool, true, false, List, [], ◌∷◌, ◌++◌, length, get_or, take, drop, map, replicate, length-append, length-take, length-drop}
-use Rattle.std.specs.Prelude.{slice_get, slice_set, slice_index, ◌==◌, ◌&&◌, if◌then◌else◌, Option, Some, None, Result, Ok, Err, is_ok, is_err}
-use Rattle.std.specs.List.{range_with_len}
+use Rattle.std.proofs.Common.{◌≡◌, ◌≢◌, ◌⊎◌, inl, inr, ◌∙◌, ◌<◌, ◌≤◌, ◌/◌, ◌+◌, ◌-◌, ◌*◌, ap, refl, sym, subst, arith, ℕ, zero, suc, Bool, true, false, List, [], ◌∷◌, ◌++◌, length, get_or, take, drop, replicate, length-append, length-take, length-drop}
+use Rattle.std.specs.Prelude.{slice_get, slice_set, slice_index, ◌==◌, ◌&&◌, if◌then◌else◌, Option, None, Result, Ok, Err, IfErr, OnErr, is_ok, is_err}
 use Rattle.std.proofs.Math.Facts.{eqb_yes}
 use Rattle.std.proofs.Math.Nat.{mul-le-mul_right}
 use Rattle.std.proofs.Math.Seq.{take-length}
@@ -19,10 +18,10 @@ use Rattle.page_layout.specs.Flash.{no_page, with_block}
 use Rattle.page_layout.proofs.FlashLemmas.{inside, with_block-inside}
 use Rattle.onfi_cycles.specs.Cycles.{page_of}
 use Rattle.nand_die.proofs.PagesLemmas.{block_within, page_of_blank}
-use Rattle.file_die.specs.declared.bytes.ByteFault.TheVariants as fault
-use Rattle.file_die.specs.Bytes.{Bytes, AreBytes, FailsBy, Gives, Mixes, Settles, over, piece, IsTold}
+use Rattle.file_die.specs.Bytes.{Bytes, AreBytes, FailsBy, Gives, HasEnded, Settles, over, piece, IsTold}
 use Rattle.file_die.specs.declared.bytes.ByteFault.{ByteFault}
-use Rattle.file_die.specs.Rows.{Rows, AreRows, TellsFull, WritesAll, IsReading, lacks_room, read_rows, held_in, is_kept, syncs_lost}
+use Rattle.file_die.specs.declared.store.StoreFault.{StoreFault}
+use Rattle.file_die.specs.Rows.{Rows, AreRows, Remembers, TellsEnd, TellsFull, WritesAll, IsReading, lacks_room, read_rows, held_in, is_kept, syncs_lost}
 use Rattle.file_die.specs.Store.{Held, AreImages, MayBeLeft, LastsOf, Lasts, Loads, Puts, Clears, Syncs, page_in}
 use Rattle.file_die.proofs.BytesLemmas.{get_drop, take_alike, over_before, over_within, over_after, length_over, length_mixed, length_lasts, fits_over, fits_mixed, fits_lasts, fits_take, fits_drop}
 use Rattle.file_die.proofs.MemoryLemmas.{other_row, outside}
@@ -37,16 +36,23 @@ pub record IsOfRows (g : Geometry) (size : ℕ) (s : Bytes) : Type 0 where
   pub lasts : length s.durable ≡ row_count g * size
   pub fit : AreBytes s
 
--- ---- want of room
+-- ---- why a call failed
 
-pub told_full : {F : Type 0} → (wrote : F → ℕ → List ℕ → Result ℕ ByteFault → F → Type 0) (sync_failed : Bool) (old : F) (e : ByteFault) (new : F) → FailsBy wrote old e new
-    → TellsFull wrote sync_failed old (lacks_room true sync_failed (Err e)) new
-told_full wrote true old fault.NoSpace new by = inl refl
-told_full wrote true old fault.Interrupted new by = inl refl
-told_full wrote true old fault.Other new by = inl refl
-told_full wrote false old fault.NoSpace new by = (refl, by)
-told_full wrote false old fault.Interrupted new by = inr by
-told_full wrote false old fault.Other new by = inr by
+pub full_told : {F : Type 0} → (wrote : F → ℕ → List ℕ → Result ℕ ByteFault → F → Type 0) (old new : Rows F) (file : F) (answer : Result (Unit {0}) ByteFault) (result : Result (Unit {0}) StoreFault)
+    → IfErr answer (λ why. FailsBy wrote why file) → new.full ≡ lacks_room true old.sync_failed answer → IfErr answer (λ why. Remembers old new why) → is_ok result ≡ is_ok answer → new.file ≡ file → OnErr result (TellsFull wrote old new)
+full_told wrote old new file answer (Ok done) by is first e same = tt
+full_told wrote old new file (Ok done) (Err fault) by is first e same = let no : ⊥ = cc in absurd no
+full_told wrote old new file (Err why) (Err fault) by is first e same = record { why = why; fails = subst (FailsBy wrote why) (sym same) by; full = is; first = first }
+
+pub end_told : {F : Type 0} → (gave : F → ℕ → ℕ → Result (List ℕ) ByteFault → F → Type 0) (row size at wanted : ℕ) (old new : Rows F) (file : F) (answer : Result (Unit {0}) ByteFault) (result : Result (Unit {0}) StoreFault)
+    → at ≡ row * size → wanted ≡ size → IfErr answer (λ why. HasEnded gave old.file at wanted why file) → IfErr answer (λ why. Remembers old new why) → is_ok result ≡ is_ok answer → new.file ≡ file → OnErr result (TellsEnd gave row size old new)
+end_told gave row size at wanted old new file answer (Ok done) a w by first e same = tt
+end_told gave row size at wanted old new file (Ok done) (Err fault) a w by first e same = let no : ⊥ = cc in absurd no
+end_told gave row size at wanted old new file (Err why) (Err fault) a w by first e same = record {
+  why = why;
+  ended = subst (λ left. HasEnded gave old.file (row * size) size why left) (sym same) (subst (λ k. HasEnded gave old.file (row * size) k why file) w (subst (λ k. HasEnded gave old.file k wanted why file) a by));
+  first = first;
+}
 
 -- ---- rows
 
@@ -481,7 +487,7 @@ parts_read a b s t g size erased failures fault lost e parts same = record {
   told = parts.told;
 }
 
-pub gives_at : {F : Type 0} → (gave : F → ℕ → List ℕ → F → Type 0) (old : F) (at other : ℕ) (bytes : List ℕ) (file new : F) → at ≡ other → file ≡ new → Gives gave old at bytes file → Gives gave old other bytes new
+pub gives_at : {F : Type 0} → (gave : F → ℕ → ℕ → Result (List ℕ) ByteFault → F → Type 0) (old : F) (at other : ℕ) (bytes : List ℕ) (file new : F) → at ≡ other → file ≡ new → Gives gave old at bytes file → Gives gave old other bytes new
 gives_at gave old at other bytes file new a f g = subst (λ z. Gives gave old other bytes z) f (subst (λ k. Gives gave old k bytes file) a g)
 
 -- the parts of a file as it was taken: what stands in it was made to last

@@ -1,5 +1,5 @@
 -- A FILE OF BYTES: what stands in it, what would stand there if the power went, and what each call makes of both.
-use Rattle.std.specs.Prelude.{◌≡◌, ◌≢◌, ◌<◌, ◌⊎◌, ℕ, suc, ◌+◌, ◌*◌, Bool, true, List, [], ◌∷◌, ◌++◌, length, take, drop, slice_get, slice_index, if◌then◌else◌, Result, Ok, Err, IfOk}
+use Rattle.std.specs.Prelude.{◌≡◌, ◌<◌, ◌⊎◌, ℕ, suc, ◌+◌, ◌*◌, ◌^◌, Bool, true, List, [], ◌∷◌, ◌++◌, length, take, drop, slice_get, slice_index, if◌then◌else◌, Result, Ok, Err, IfOk}
 use Rattle.page_layout.specs.Page.{Page}
 use Rattle.std.specs.declared.io.ErrorKind.{ErrorKind}
 use Rattle.std.specs.declared.io.ErrorKind.TheVariants as kind
@@ -86,24 +86,62 @@ Tells size reads wanted s t = (since : Bytes) → IsTold size reads since wanted
 abbrev pub HasAnswered : {F : Type 0} → (wrote : F → ℕ → List ℕ → Result ℕ ByteFault → F → Type 0) → (answer : Result ℕ ByteFault) → (new : F) → Type 0
 HasAnswered {F} wrote answer new = (mid : F) × (at : ℕ) × (bytes : List ℕ) × wrote mid at bytes answer new
 
--- that answer, if any was given, was not that there is no room
-abbrev pub HadRoom : {F : Type 0} → (wrote : F → ℕ → List ℕ → Result ℕ ByteFault → F → Type 0) → (old new : F) → Type 0
-HadRoom wrote old new = (new ≡ old) ⊎ ((answer : Result ℕ ByteFault) × (answer ≢ Err fault.NoSpace) × HasAnswered wrote answer new)
+-- that write took none of its bytes, of which there was one or more
+abbrev pub TookNone : {F : Type 0} → (wrote : F → ℕ → List ℕ → Result ℕ ByteFault → F → Type 0) → (new : F) → Type 0
+TookNone {F} wrote new = (mid : F) × (at : ℕ) × (bytes : List ℕ) × (0 < length bytes) × wrote mid at bytes (Ok 0) new
 
--- WRITES FAILED FOR WANT OF ROOM just where the file's last answer was that
-abbrev pub FailsBy : {F : Type 0} → (wrote : F → ℕ → List ℕ → Result ℕ ByteFault → F → Type 0) → (old : F) → ByteFault → (new : F) → Type 0
-FailsBy wrote old fault.NoSpace new = HasAnswered wrote (Err fault.NoSpace) new
-FailsBy wrote old fault.Interrupted new = HadRoom wrote old new
-FailsBy wrote old fault.Other new = HadRoom wrote old new
+-- WRITES FAILED BY A FAULT that was the file's last answer; by `Other` also where its last write took no byte
+abbrev pub FailsBy : {F : Type 0} → (wrote : F → ℕ → List ℕ → Result ℕ ByteFault → F → Type 0) → ByteFault → (new : F) → Type 0
+FailsBy wrote why new = HasAnswered wrote (Err why) new ⊎ ((why ≡ fault.Other) × TookNone wrote new)
+
+-- ---- why it was not taken, or not made to last
+
+-- the last call that it was asked for failed so, by the file's own word for a sync and for the telling of its length
+abbrev pub HasRefused : {F : Type 0} → (refused : F → ByteFault → F → Type 0) → ByteFault → (new : F) → Type 0
+HasRefused {F} refused why new = (mid : F) × refused mid why new
 
 -- ---- reads one behind another
 
--- the bytes that a read gave
-abbrev pub given_by : Result ℕ ByteFault → List ℕ → List ℕ
-given_by (Ok n) bytes = take n bytes
-given_by (Err fault) bytes = []
+-- the answer of a read, with the bytes that it gave
+abbrev pub given_by : Result ℕ ByteFault → List ℕ → Result (List ℕ) ByteFault
+given_by (Ok n) bytes = Ok (take n bytes)
+given_by (Err why) bytes = Err why
+
+-- these bytes; none where it failed
+abbrev pub came_by : Result (List ℕ) ByteFault → List ℕ
+came_by (Ok bytes) = bytes
+came_by (Err why) = []
 
 -- READS FROM A PLACE ON, each where the one before has ended, have given these bytes, by the file's own word for one read
-pub data Gives {F : Type 0} (gave : F → ℕ → List ℕ → F → Type 0) (old : F) (at : ℕ) : List ℕ → F → Type 0 where
+pub data Gives {F : Type 0} (gave : F → ℕ → ℕ → Result (List ℕ) ByteFault → F → Type 0) (old : F) (at : ℕ) : List ℕ → F → Type 0 where
   NoRead : Gives gave old at [] old
-  OneMore : (before : List ℕ) (mid : F) (bytes : List ℕ) (new : F) → Gives gave old at before mid → gave mid (at + length before) bytes new → Gives gave old at (before ++ bytes) new
+  OneMore : (before : List ℕ) (mid : F) (room : ℕ) (answer : Result (List ℕ) ByteFault) (new : F) → Gives gave old at before mid → gave mid (at + length before) room answer new → Gives gave old at (before ++ came_by answer) new
+
+-- READS FROM A PLACE ON HAVE ENDED before so many bytes were read: the last one, where the ones before it had ended and with room for all the rest, failed by
+-- this fault, or gave none, which is told as `Other`
+pub record HasEnded {F : Type 0} (gave : F → ℕ → ℕ → Result (List ℕ) ByteFault → F → Type 0) (old : F) (at wanted : ℕ) (why : ByteFault) (new : F) : Type 0 where
+  pub before : List ℕ
+  pub mid : F
+  pub gives : Gives gave old at before mid
+  pub rest : ℕ
+  pub some : 0 < rest
+  pub unread : length before + rest ≡ wanted
+  pub last : gave mid (at + length before) rest (Err why) new ⊎ ((why ≡ fault.Other) × gave mid (at + length before) rest (Ok []) new)
+
+-- ---- calls that were interrupted
+
+-- a read was, and a write
+abbrev pub ReadInterrupted : {F : Type 0} → (gave : F → ℕ → ℕ → Result (List ℕ) ByteFault → F → Type 0) → (old new : F) → Type 0
+ReadInterrupted gave old new = (at : ℕ) × (room : ℕ) × gave old at room (Err fault.Interrupted) new
+
+abbrev pub WriteInterrupted : {F : Type 0} → (wrote : F → ℕ → List ℕ → Result ℕ ByteFault → F → Type 0) → (old new : F) → Type 0
+WriteInterrupted wrote old new = (at : ℕ) × (bytes : List ℕ) × wrote old at bytes (Err fault.Interrupted) new
+
+-- SO MANY IN A ROW WERE, each from where the one before had left the file
+pub data InARow {F : Type 0} (one : F → F → Type 0) : ℕ → F → Type 0 where
+  NoCall : (new : F) → InARow one 0 new
+  OneCall : (n : ℕ) (mid new : F) → InARow one n mid → one mid new → InARow one (suc n) new
+
+-- a call that was interrupted was made again: it is told only where 2^64 in a row were
+abbrev pub IsPatient : {F : Type 0} → (one : F → F → Type 0) → ByteFault → (new : F) → Type 0
+IsPatient one why new = why ≡ fault.Interrupted → InARow one (2 ^ 64) new

@@ -16,3 +16,5 @@ pub mod Bytes
 pub mod Rows
 -- what bytes over others are, and the rows of a file
 pub mod FileLaws
+-- why calls of a file failed
+pub mod FaultLaws

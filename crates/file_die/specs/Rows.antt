@@ -1,5 +1,5 @@
 -- A FILE OF ROWS: bytes of one size for each row of a die, one row behind another, read as pages.
-use Rattle.std.specs.Prelude.{◌≡◌, ◌⊎◌, ℕ, ◌*◌, ◌<◌, ◌≤◌, slice_index, ◌==◌, ◌&&◌, Bool, true, false, List, length, map, replicate, Option, Some, None, Result, Ok, Err, OnOk, OnErr, slice_get, ◌+◌}
+use Rattle.std.specs.Prelude.{◌≡◌, ℕ, ◌*◌, ◌<◌, ◌≤◌, slice_index, ◌==◌, ◌&&◌, Bool, true, false, List, length, map, replicate, Option, Some, None, Result, Ok, Err, OnOk, OnErr, slice_get, ◌+◌}
 use Rattle.std.specs.List.{range_with_len}
 use Rattle.page_layout.specs.declared.geometry.Geometry.{Geometry}
 use Rattle.page_layout.specs.Geometry.{row_count}
@@ -9,7 +9,7 @@ use Rattle.page_layout.specs.Counter.{HasRisen}
 use Rattle.file_die.specs.declared.bytes.ByteFault.{ByteFault}
 use Rattle.file_die.specs.declared.store.StoreFault.{StoreFault}
 use Rattle.file_die.specs.declared.bytes.ByteFault.TheVariants as fault
-use Rattle.file_die.specs.Bytes.{Bytes, AreBytes, HadRoom, HasAnswered, Mixes, LastsMixed, AreAlike, over, piece}
+use Rattle.file_die.specs.Bytes.{Bytes, AreBytes, FailsBy, HasEnded, Mixes, LastsMixed, AreAlike, over, piece}
 use Rattle.file_die.specs.Store.{Held}
 
 -- ---- a write of all bytes
@@ -85,17 +85,36 @@ pub record IsReading (g : Geometry) (size : ℕ) (reads : List ℕ → Page) : T
   pub pages : (bytes : List ℕ) → length bytes ≡ size → ((i : ℕ) → slice_index bytes i < 256) → IsPage g (reads bytes)
   pub erased : reads (replicate size 255) ≡ erased_page g
 
--- ---- want of room
+-- ---- why a call failed
 
 -- whether there was no room for a change, by the file's answer. After a sync that failed it is not asked
 abbrev pub lacks_room : (changes sync_failed : Bool) → Result (Unit {0}) ByteFault → Bool
 lacks_room true false (Err fault.NoSpace) = true
 lacks_room _ _ _ = false
 
--- A CHANGE THAT FAILED DID SO FOR WANT OF ROOM just where the file's last answer was that, by its own word for one write, and no sync has failed
-abbrev pub TellsFull : {F : Type 0} → (wrote : F → ℕ → List ℕ → Result ℕ ByteFault → F → Type 0) → (sync_failed : Bool) → (old : F) → (full : Bool) → (new : F) → Type 0
-TellsFull wrote sync_failed old true new = (sync_failed ≡ false) × HasAnswered wrote (Err fault.NoSpace) new
-TellsFull wrote sync_failed old false new = (sync_failed ≡ true) ⊎ HadRoom wrote old new
+-- where no call had failed before, this fault is remembered
+abbrev pub Remembers : {F : Type 0} → (old new : Rows F) → ByteFault → Type 0
+Remembers old new why = old.fault ≡ None → new.fault ≡ Some why
+
+-- A CHANGE THAT FAILED did so by a fault of the file's last write, by its own word for one; and for want of room just where that was the fault, and no sync
+-- has failed
+pub record TellsFull {F : Type 0} (wrote : F → ℕ → List ℕ → Result ℕ ByteFault → F → Type 0) (old new : Rows F) : Type 0 where
+  pub why : ByteFault
+  pub fails : FailsBy wrote why new.file
+  pub full : new.full ≡ lacks_room true old.sync_failed (Err why)
+  pub first : Remembers old new why
+
+-- A READ OF A ROW THAT FAILED did so where the reads of its bytes had ended, by the file's own word for one
+pub record TellsEnd {F : Type 0} (gave : F → ℕ → ℕ → Result (List ℕ) ByteFault → F → Type 0) (row size : ℕ) (old new : Rows F) : Type 0 where
+  pub why : ByteFault
+  pub ended : HasEnded gave old.file (row * size) size why new.file
+  pub first : Remembers old new why
+
+-- A SYNC THAT FAILED did so as the file's, by its own word for one, or comes after one that failed
+pub record FailsSync {F : Type 0} (refused : F → ByteFault → F → Type 0) (old new : Rows F) : Type 0 where
+  pub why : ByteFault
+  pub refused_by : old.sync_failed ≡ false → refused old.file why new.file
+  pub first : Remembers old new why
 
 -- ---- a call
 

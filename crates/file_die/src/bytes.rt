@@ -46,7 +46,7 @@ impl From<io::Error> for ByteFault {
 ///
 /// No contract can name what a file of the system holds: `File` is not honest, and its four bodies are all that is believed of it.
 pub trait ByteFile {
-    ghost use Rattle.std.specs.Prelude.{◌≡◌, ◌≤◌, ℕ, Bool, true, List, length, Result, IfOk, is_ok};
+    ghost use Rattle.std.specs.Prelude.{◌≡◌, ◌≤◌, ℕ, Bool, true, List, length, Result, IfErr, IfOk, is_ok};
     ghost use Rattle.page_layout.specs.Page.{Page};
     ghost use Rattle.file_die.specs.declared.bytes.ByteFault.{ByteFault};
     ghost use Rattle.file_die.specs.Bytes.{Bytes, AreBytes, Reads, Writes, Settles, Tells, over, given_by};
@@ -61,12 +61,15 @@ pub trait ByteFile {
     /// loss of power leaves, and no file can say it.
     ghost tells: { Self → ℕ → (List ℕ → Page) → Bool };
 
-    /// That one read, in this state and from this place on, gave these bytes and left that state. A file says here of its reads what it likes; what is
-    /// proved of a store over any file, it does by these very reads.
-    ghost gave: { Self → ℕ → List ℕ → Self → Type 0 };
+    /// That one read, in this state, from this place on and with room for so many bytes, was answered so and left that state: it gave these bytes, or failed.
+    /// A file says here of its reads what it likes; what is proved of a store over any file, it does by these very reads.
+    ghost gave: { Self → ℕ → ℕ → Result (List ℕ) ByteFault → Self → Type 0 };
 
     /// That one write, in this state and of these bytes from this place on, was answered so and left that state. A file says here of its writes what it likes.
     ghost wrote: { Self → ℕ → List ℕ → Result ℕ ByteFault → Self → Type 0 };
+
+    /// That a sync in this state, or the telling of its length, failed so and left that state. A file says here of these what it likes.
+    ghost refused: { Self → ByteFault → Self → Type 0 };
 
     /// Reads bytes from a place on, and says how many: as many as there is room for, or fewer.
     ///
@@ -75,7 +78,7 @@ pub trait ByteFile {
     /// The file's own: the buffer holds anything.
     fn read_at(&mut self, to: &mut [u8], at: u64) -> Result<usize, ByteFault>
         ensures bound { IfOk result (λ n. n ≤ length to.new) }
-        ensures gave { gave self.old at (given_by result to.new) self.new }
+        ensures gave { gave self.old at (length to.old) (given_by result to.new) self.new }
         ensures reads { honest self.old ≡ true → Reads (held self.old) at result to.new (held self.new) }
         ensures honest { honest self.new ≡ honest self.old }
         ensures tells { (size : ℕ) (reads : List ℕ → Page) → tells self.new size reads ≡ tells self.old size reads };
@@ -100,6 +103,7 @@ pub trait ByteFile {
     ///
     /// The file's own: the bytes are as they were, and may not all last, whatever a later sync says.
     fn sync(&mut self) -> Result<(), ByteFault>
+        ensures refused { IfErr result (λ why. refused self.old why self.new) }
         ensures settles { honest self.old ≡ true → Settles (held self.old) (is_ok result) (held self.new) }
         ensures told { honest self.old ≡ true → (size : ℕ) (reads : List ℕ → Page) → tells self.old size reads ≡ true →
             Tells size reads (held self.old).bytes (held self.old) (held self.new) }
@@ -112,6 +116,7 @@ pub trait ByteFile {
     ///
     /// The file's own.
     fn length(&mut self) -> Result<u64, ByteFault>
+        ensures refused { IfErr result (λ why. refused self.old why self.new) }
         ensures length { honest self.old ≡ true → IfOk result (λ n. n ≡ length (held self.old).bytes) }
         ensures bytes { honest self.old ≡ true → AreBytes (held self.old) }
         ensures same { honest self.old ≡ true → held self.new ≡ held self.old }
@@ -129,9 +134,11 @@ impl ByteFile for File {
 
     ghost tells = { λ _ _ _. false };
 
-    ghost gave = { λ _ _ _ _. ⊤ };
+    ghost gave = { λ _ _ _ _ _. ⊤ };
 
     ghost wrote = { λ _ _ _ _ _. ⊤ };
+
+    ghost refused = { λ _ _ _. ⊤ };
 
     fn read_at(&mut self, to: &mut [u8], at: u64) -> Result<usize, ByteFault> {
         Ok(FileExt::read_at(self, to, at)?)

@@ -4,7 +4,8 @@ ghost use Rattle.page_layout.specs.Counter.{HasRisen};
 ghost use Rattle.page_layout.specs.Geometry.{row_count, page_bytes};
 ghost use Rattle.onfi_cycles.specs.Cycles.{page_of};
 ghost use Rattle.file_die.specs.Store.{Clears, Loads, Puts, Syncs};
-ghost use Rattle.file_die.specs.Rows.{TellsFull};
+ghost use Rattle.file_die.specs.Bytes.{Gives, HasRefused};
+ghost use Rattle.file_die.specs.Rows.{FailsSync, TellsEnd, TellsFull};
 
 use crate::bytes::{ByteFault, ByteFile};
 use crate::row_file::{RowFault, RowFile};
@@ -39,6 +40,8 @@ impl<F: ByteFile> DieFile<F> {
         ensures bytes { IfOk result (λ store. F.honest file ≡ true → (F.held store.rows.file).bytes ≡ (F.held file).bytes) }
         ensures whole { IfOk result (λ store. F.honest file ≡ true → length (F.held file).bytes ≡ row_count geometry * page_bytes geometry) }
         ensures length { IfErr result (λ fault. (n : ℕ) → fault ≡ RowFault.Length n → F.honest file ≡ true → (n ≡ length (F.held file).bytes) × (n ≢ row_count geometry * page_bytes geometry)) }
+        ensures memory { IfErr result (λ fault. fault ≡ RowFault.OutOfMemory → F.honest file ≡ true → length (F.held file).bytes ≡ row_count geometry * page_bytes geometry) }
+        ensures refused { IfErr result (λ fault. (why : ByteFault) → fault ≡ RowFault.File why → (left : F) × HasRefused F.refused why left) }
     {
         let rows = RowFile::new(alloc, geometry, page_length(&geometry) as u32, file)?;
         Ok(DieFile { rows })
@@ -91,6 +94,10 @@ impl<F: ByteFile> Store for DieFile<F> {
         ensures settled { OnOk result (self.new.rows.failures ≡ self.old.rows.failures) }
         ensures rose { OnErr result (HasRisen self.old.rows.failures self.new.rows.failures) }
         ensures unfilled { self.new.rows.full ≡ false }
+
+        // Whatever the file does: the page is the bytes that its reads gave, and it fails just where they ended before.
+        ensures gave { OnOk result (Gives F.gave self.old.rows.file (row * page_bytes self.old.rows.geometry) page.new self.new.rows.file) }
+        ensures ended { OnErr result (TellsEnd F.gave row (page_bytes self.old.rows.geometry) self.old.rows self.new.rows) }
     {
         self.rows.read(row, page)
     }
@@ -110,7 +117,7 @@ impl<F: ByteFile> Store for DieFile<F> {
 
         // Whatever the file does: it is full just where the file's last answer was that.
         ensures room { OnOk result (self.new.rows.full ≡ false) }
-        ensures full { OnErr result (TellsFull F.wrote self.old.rows.sync_failed self.old.rows.file self.new.rows.full self.new.rows.file) }
+        ensures full { OnErr result (TellsFull F.wrote self.old.rows self.new.rows) }
     {
         self.rows.write(row, page)
     }
@@ -129,7 +136,7 @@ impl<F: ByteFile> Store for DieFile<F> {
 
         // Whatever the file does: it is full just where the file's last answer was that.
         ensures room { OnOk result (self.new.rows.full ≡ false) }
-        ensures full { OnErr result (TellsFull F.wrote self.old.rows.sync_failed self.old.rows.file self.new.rows.full self.new.rows.file) }
+        ensures full { OnErr result (TellsFull F.wrote self.old.rows self.new.rows) }
     {
         self.rows.erase(block)
     }
@@ -144,6 +151,10 @@ impl<F: ByteFile> Store for DieFile<F> {
         ensures settled { OnOk result (self.new.rows.failures ≡ self.old.rows.failures) }
         ensures rose { OnErr result (HasRisen self.old.rows.failures self.new.rows.failures) }
         ensures unfilled { self.new.rows.full ≡ false }
+
+        // Whatever the file does: after one that failed none is asked for.
+        ensures once { self.old.rows.sync_failed ≡ true → (is_ok result ≡ false) × (self.new.rows.file ≡ self.old.rows.file) }
+        ensures refused { OnErr result (FailsSync F.refused self.old.rows self.new.rows) }
     {
         self.rows.sync()
     }

@@ -1,7 +1,10 @@
 //! What the clauses of a store and of a die over one come to. Each function does nothing: its contract is the law.
 ghost use Rattle.file_die.specs.DieLaws.{AddingGoesLaw, AlwaysLaw, CopiesLaw, ImagesLaw, KeepsLaw, LandsLaw, SinceSyncLaw, WipesLaw};
+ghost use Rattle.file_die.specs.FaultLaws.{ChangedLaw, EndedLaw, FirstFaultLaw, FullLaw, OwnFaultLaw, RefusedLaw, RowReadLaw, SyncedLaw, TakenLaw, WholeReadLaw};
 ghost use Rattle.file_die.specs.FileLaws.{OverLaw, RawLaw};
 ghost use Rattle.file_die.specs.Laws.{StaysLaw, ReadBackLaw, ClearedLaw, LoadLaw, SyncLaw, WholeLaw};
+
+use crate::bytes::ByteFile;
 
 /// What an honest store holds, over any calls, done or failed: what was put at a row is loaded again until it is put at or cleared, and an erased
 /// page where its block was cleared; a load changes nothing; and after a sync each page lasts that no later call changes. (This project's.)
@@ -35,4 +38,21 @@ pub fn die_laws()
 pub fn file_laws()
     ensures over { OverLaw }
     ensures raw { RawLaw }
+{}
+
+/// Why the bytes of a file were not read or written. Reads that give all that stands there have ended only where more was wanted, as those of a file in memory
+/// do, and so a row that stands there is read; writes that are done and take bytes fail by nothing, and so rows are changed; a fault that is not `Other` is the
+/// file's last answer, and so is want of room, and the first fault that rows remember; and a file whose syncs and tellings of its length never fail is taken,
+/// and synced. (This project's.)
+pub fn fault_laws<F: ByteFile>()
+    ensures ended { EndedLaw F.gave }
+    ensures whole { WholeReadLaw }
+    ensures taken { TakenLaw F.wrote }
+    ensures own { OwnFaultLaw F.wrote }
+    ensures full { FullLaw F.wrote }
+    ensures changed { ChangedLaw F.wrote }
+    ensures first { FirstFaultLaw F.wrote }
+    ensures read { RowReadLaw F.gave }
+    ensures synced { SyncedLaw F.refused }
+    ensures refused { RefusedLaw F.refused }
 {}

@@ -45,7 +45,7 @@ fn count(bytes: &[u8]) -> u64
 }
 
 impl ByteFile for MemoryBytes {
-    ghost use Rattle.std.specs.Prelude.{true, take, drop, MatchResult};
+    ghost use Rattle.std.specs.Prelude.{true, take, drop, MatchResult, Ok};
     ghost use Rattle.file_die.specs.declared.bytes.ByteFault.TheVariants as fault;
 
     ghost held = { λ f. record { bytes = f.bytes.items; durable = f.bytes.items; failed_syncs = 0 } };
@@ -55,9 +55,12 @@ impl ByteFile for MemoryBytes {
     // no call of it leaves a part
     ghost tells = { λ _ _ _. true };
 
-    ghost gave = { λ old at bytes new. (new ≡ old) × (bytes ≡ take (length bytes) (drop at old.bytes.items)) };
+    ghost gave = { λ old at room answer new. (new ≡ old) × (answer ≡ Ok (take room (drop at old.bytes.items))) };
 
-    ghost wrote = { λ old at bytes answer new. MatchResult answer (λ n. (n ≡ length bytes) × (new.bytes.items ≡ over at bytes old.bytes.items)) (λ e. (e ≡ fault.NoSpace) × (new ≡ old)) };
+    ghost wrote = { λ old at bytes answer new. MatchResult answer (λ n. (n ≡ length bytes) × (new.bytes.items ≡ over at bytes old.bytes.items)) (λ e. (e ≡ fault.NoSpace) × (length old.bytes.items < at + length bytes) × (new ≡ old)) };
+
+    // it has no other fault
+    ghost refused = { λ _ _ _. ⊥ };
 
     /// Reads what stands there, up to the end.
     fn read_at(&mut self, to: &mut [u8], at: u64) -> Result<usize, ByteFault> {

@@ -3,9 +3,9 @@ ghost use Rattle.std.specs.Prelude.{◌≡◌, ◌≢◌, ◌<◌, ◌≤◌, �
 ghost use Rattle.page_layout.specs.Page.{Page};
 ghost use Rattle.page_layout.specs.Geometry.{row_count};
 ghost use Rattle.page_layout.specs.Counter.{counted, HasRisen};
-ghost use Rattle.file_die.specs.Bytes.{Gives, piece};
+ghost use Rattle.file_die.specs.Bytes.{Gives, HasRefused, piece};
 ghost use Rattle.file_die.specs.Store.{AreImages, Loads, Puts, Clears, Syncs};
-ghost use Rattle.file_die.specs.Rows.{Counts, IsReading, TellsFull, held_in, is_kept, lacks_room};
+ghost use Rattle.file_die.specs.Rows.{Counts, FailsSync, IsReading, TellsEnd, TellsFull, held_in, is_kept, lacks_room};
 
 use crate::bytes::{ByteFault, ByteFile};
 use crate::moves::{read_all, write_all};
@@ -84,6 +84,8 @@ impl<F: ByteFile> RowFile<F> {
         ensures bytes { IfOk result (λ r. F.honest file ≡ true → (F.held r.file).bytes ≡ (F.held file).bytes) }
         ensures whole { IfOk result (λ r. F.honest file ≡ true → length (F.held file).bytes ≡ row_count geometry * size) }
         ensures length { IfErr result (λ fault. (n : ℕ) → fault ≡ RowFault.Length n → F.honest file ≡ true → (n ≡ length (F.held file).bytes) × (n ≢ row_count geometry * size)) }
+        ensures memory { IfErr result (λ fault. fault ≡ RowFault.OutOfMemory → F.honest file ≡ true → length (F.held file).bytes ≡ row_count geometry * size) }
+        ensures refused { IfErr result (λ fault. (why : ByteFault) → fault ≡ RowFault.File why → (left : F) × HasRefused F.refused why left) }
     {
         let mut file = file;
         let found = match file.length() {
@@ -154,6 +156,7 @@ impl<F: ByteFile> RowFile<F> {
         requires in_range { row < row_count self.old.geometry }
         requires room { length to.old ≡ self.old.size }
         ensures gave { is_ok result ≡ true → Gives F.gave self.old.file (row * self.old.size) to.new self.new.file }
+        ensures ended { OnErr result (TellsEnd F.gave row self.old.size self.old self.new) }
         ensures bytes { is_ok result ≡ true → F.honest self.old.file ≡ true → to.new ≡ piece self.old.size row (F.held self.old.file).bytes }
         ensures loads { (reads : List ℕ → Page) → is_kept F.held F.honest F.tells reads self.old ≡ true → Loads (held_in F.held reads self.old) row (reads to.new) (is_ok result) (held_in F.held reads self.new) }
         ensures kept { (reads : List ℕ → Page) → is_kept F.held F.honest F.tells reads self.new ≡ is_kept F.held F.honest F.tells reads self.old }
@@ -178,7 +181,7 @@ impl<F: ByteFile> RowFile<F> {
             Puts (held_in F.held reads self.old) row (reads bytes.now) (is_ok result) (held_in F.held reads self.new) }
         ensures kept { (reads : List ℕ → Page) → is_kept F.held F.honest F.tells reads self.new ≡ is_kept F.held F.honest F.tells reads self.old }
         ensures counts { Counts self.old self.new result }
-        ensures full { OnErr result (TellsFull F.wrote self.old.sync_failed self.old.file self.new.full self.new.file) }
+        ensures full { OnErr result (TellsFull F.wrote self.old self.new) }
         ensures room { OnOk result (self.new.full ≡ false) }
     {
         let start = self.offset(row);
@@ -197,7 +200,7 @@ impl<F: ByteFile> RowFile<F> {
             Clears (held_in F.held reads self.old) block (is_ok result) (held_in F.held reads self.new) }
         ensures kept { (reads : List ℕ → Page) → is_kept F.held F.honest F.tells reads self.new ≡ is_kept F.held F.honest F.tells reads self.old }
         ensures counts { Counts self.old self.new result }
-        ensures full { OnErr result (TellsFull F.wrote self.old.sync_failed self.old.file self.new.full self.new.file) }
+        ensures full { OnErr result (TellsFull F.wrote self.old self.new) }
         ensures room { OnOk result (self.new.full ≡ false) }
     {
         let start = self.offset(self.geometry.row(block, 0));
@@ -217,6 +220,7 @@ impl<F: ByteFile> RowFile<F> {
         ensures counts { Counts self.old self.new result }
         ensures unfilled { self.new.full ≡ false }
         ensures once { self.old.sync_failed ≡ true → (is_ok result ≡ false) × (self.new.file ≡ self.old.file) }
+        ensures refused { OnErr result (FailsSync F.refused self.old self.new) }
     {
         if self.sync_failed {
             return self.settle(Err(ByteFault::Other), false);

@@ -36,9 +36,11 @@ impl ByteFile for FailingBytes {
 
     ghost tells = { λ _ _ _. false };
 
-    ghost gave = { λ _ _ _ _. ⊤ };
+    ghost gave = { λ _ _ _ _ _. ⊤ };
 
     ghost wrote = { λ _ _ _ _ _. ⊤ };
+
+    ghost refused = { λ _ _ _. ⊤ };
 
     fn read_at(&mut self, to: &mut [u8], at: u64) -> Result<usize, ByteFault> {
         self.bytes.read_at(to, at)

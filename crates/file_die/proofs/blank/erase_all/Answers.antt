@@ -1,4 +1,4 @@
-use Rattle.std.proofs.Common.{◌≡◌, ◌≤◌, ◌∙◌, ap, refl, subst, arith, Bool, true}
+use Rattle.std.proofs.Common.{◌≤◌, ◌∙◌, ap, refl, subst, arith, Bool}
 use Rattle.page_layout.specs.declared.geometry.Geometry.{Geometry}
 use Rattle.file_die.specs.Store.{Syncs}
 use Rattle.file_die.proofs.BlankLemmas.{none_erased, all_erased}

@@ -2,8 +2,8 @@ use Rattle.std.proofs.Common.{arith, refl}
 use Rattle.file_die.specs.Bytes.{NoRead}
 use Rattle.file_die.proofs.moves.read_all.Goals as goal
 
-pub loop-init : goal.loop-init
-loop-init g c = record {
+pub loop-done-init : goal.loop-done-init
+loop-done-init g c = record {
   long = refl;
   most = omega arith;
   honest = refl;

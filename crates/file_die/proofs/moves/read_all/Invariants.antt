@@ -1,11 +1,11 @@
-use Rattle.std.proofs.Common.{◌≡◌, ℕ, ◌≤◌, List, length, take, true}
+use Rattle.std.proofs.Common.{◌≡◌, ℕ, ◌≤◌, ◌-◌, List, length, take, true}
 use Rattle.page_layout.specs.Page.{Page}
 use Rattle.file_die.specs.Bytes.{Gives}
 use Rattle.file_die.specs.Rows.{IsFilled}
 use Rattle.file_die.proofs.moves.read_all.Given as goal
 
-abbrev pub invariant-loop : goal.invariant-loop
-invariant-loop g l = record {
+abbrev pub invariant-loop-done : goal.invariant-loop-done
+invariant-loop-done g l = record {
   long : length l.to ≡ length l.fn.to;
   most : l.done ≤ length l.fn.to;
   honest : g.F.ByteFile.honest l.file ≡ g.F.ByteFile.honest l.fn.file;
@@ -14,3 +14,6 @@ invariant-loop g l = record {
   same : g.F.ByteFile.honest l.fn.file ≡ true → g.F.ByteFile.held l.file ≡ g.F.ByteFile.held l.fn.file;
   reads : g.F.ByteFile.honest l.fn.file ≡ true → IsFilled (g.F.ByteFile.held l.fn.file).bytes l.at l.done l.to;
 }
+
+abbrev pub decreases-loop-done : goal.decreases-loop-done
+decreases-loop-done g l = length l.to - l.done

@@ -1,39 +1,31 @@
-use Rattle.std.proofs.Common.{◌+◌, ◌≤◌, arith, length, length-drop}
-use Rattle.file_die.proofs.BytesLemmas.{fails_by, going_on, going_still, rest_is, tells_next}
+use Rattle.std.proofs.Common.{◌∙◌, arith, refl}
+use Rattle.file_die.specs.Bytes.{NoCall, WriteInterrupted, over}
+use Rattle.file_die.proofs.BytesLemmas.{is_patient, one_more_call, tells_on}
 use Rattle.file_die.proofs.moves.write_next.Goals as goal
 
-pub returns-in-Ok-eq0-clause-goes : goal.returns-in-Ok-eq0-clause-goes
-returns-in-Ok-eq0-clause-goes g c h first l going =
-    going_still first c.args.at c.args.bytes.now c.args.done _ _ _ _ (rest_is c.args.done c.args.bytes.now) l (omega (arith, c.requires.unfinished)) going (c.write_at.ensures.writes h going.reaches)
-
-pub returns-in-Ok-eq0-clause-told : goal.returns-in-Ok-eq0-clause-told
-returns-in-Ok-eq0-clause-told g c h first l going size reads tells =
-    tells_next size reads first c.args.at c.args.bytes.now c.args.done _ _ _ (rest_is c.args.done c.args.bytes.now) l (omega (arith, c.requires.unfinished)) going (c.write_at.ensures.told h going.reaches size reads tells)
-
-pub returns-in-Ok-clause-goes : goal.returns-in-Ok-clause-goes
-returns-in-Ok-clause-goes g c h first l going =
-    let most : c.args.done + c.in-Ok.moved ≤ length c.args.bytes.now = omega (arith, c.in-Ok.ensures.bound, length-drop c.args.done c.args.bytes.now, c.requires.unfinished) in
-    going_on first c.args.at c.args.bytes.now c.args.done c.in-Ok.moved _ _ _ (rest_is c.args.done c.args.bytes.now) l most going (c.in-Ok.ensures.writes h going.reaches)
-
-pub returns-in-Ok-clause-told : goal.returns-in-Ok-clause-told
-returns-in-Ok-clause-told g c h first l going size reads tells =
-    tells_next size reads first c.args.at c.args.bytes.now c.args.done _ _ _ (rest_is c.args.done c.args.bytes.now) l (omega (arith, c.requires.unfinished)) going (c.write_at.ensures.told h going.reaches size reads tells)
-
-pub returns-in-Err-Interrupted-clause-goes : goal.returns-in-Err-Interrupted-clause-goes
-returns-in-Err-Interrupted-clause-goes g c h first l going =
-    going_still first c.args.at c.args.bytes.now c.args.done _ _ _ _ (rest_is c.args.done c.args.bytes.now) l (omega (arith, c.requires.unfinished)) going (c.write_at.ensures.writes h going.reaches)
-
-pub returns-in-Err-Interrupted-clause-told : goal.returns-in-Err-Interrupted-clause-told
-returns-in-Err-Interrupted-clause-told g c h first l going size reads tells =
-    tells_next size reads first c.args.at c.args.bytes.now c.args.done _ _ _ (rest_is c.args.done c.args.bytes.now) l (omega (arith, c.requires.unfinished)) going (c.write_at.ensures.told h going.reaches size reads tells)
-
-pub returns-in-Err : goal.returns-in-Err
-returns-in-Err g c = record {
-  next = tt;
-  room = tt;
-  fails = fails_by g.F.ByteFile.wrote _ _ _ _ _ c.in-Err.ensures.wrote;
-  goes = λ h first l going. going_still first c.args.at c.args.bytes.now c.args.done _ _ _ _ (rest_is c.args.done c.args.bytes.now) l (omega (arith, c.requires.unfinished)) going (c.write_at.ensures.writes h going.reaches);
-  told = λ h first l going size reads tells. tells_next size reads first c.args.at c.args.bytes.now c.args.done _ _ _ (rest_is c.args.done c.args.bytes.now) l (omega (arith, c.requires.unfinished)) going (c.write_at.ensures.told h going.reaches size reads tells);
-  honest = c.write_at.ensures.honest;
-  tells = c.write_at.ensures.tells;
+pub loop-tries-init : goal.loop-tries-init
+loop-tries-init g c = record {
+  tried = NoCall c.args.file.now;
+  honest = refl;
+  tells = λ size reads. refl;
+  going = λ h first l going. going;
+  told = λ h first l going size reads tells since told. told;
 }
+
+pub loop-tries-preserved : goal.loop-tries-preserved
+loop-tries-preserved g c =
+    let was = c.loop-tries.invariant in
+    let made = c.in-Err-Interrupted.ensures in
+    record {
+      tried = one_more_call (WriteInterrupted g.F.ByteFile.wrote) c.loop-tries._tries _ c.loop-tries.file c.write_once.new.file refl was.tried (made.interrupted c.in-Err-Interrupted.field-0-is);
+      honest = made.honest ∙ was.honest;
+      tells = λ size reads. made.tells size reads ∙ was.tells size reads;
+      going = λ h first l going. made.goes (was.honest ∙ h) first l (was.going h first l going);
+      told = λ h first l going size reads tells.
+          tells_on size reads (over c.args.at c.args.bytes.now first.bytes) (g.F.ByteFile.held c.args.file.now) (g.F.ByteFile.held c.loop-tries.file) (g.F.ByteFile.held c.write_once.new.file)
+          (was.told h first l going size reads tells) (made.told (was.honest ∙ h) first l (was.going h first l going) size reads (was.tells size reads ∙ tells));
+    }
+
+pub returns-clause-patient : goal.returns-clause-patient
+returns-clause-patient g c =
+    is_patient (WriteInterrupted g.F.ByteFile.wrote) c.loop-tries._tries c.loop-tries.file c.write_once-2.new.file c.write_once-2.result (omega (arith, c.loop-tries-test.false, c.loop-tries.auto._tries-end)) c.loop-tries.invariant.tried c.write_once-2.ensures.interrupted

@@ -1,6 +1,5 @@
 use Rattle.std.proofs.Common.{◌≡◌, ◌∙◌, List, ℕ, ap, sym, subst, length}
 use Rattle.std.specs.Prelude.{Ok}
-use Rattle.std.specs.Vec.{with_items}
 use Rattle.std.proofs.lemmas.List.{with_items_is}
 use Rattle.file_die.specs.Bytes.{Writes, Tells, over}
 use Rattle.file_die.proofs.BytesLemmas.{standing_bytes, all_at_once, told_at_once}

@@ -1,9 +1,9 @@
-use Rattle.std.proofs.Common.{◌≡◌, ◌∙◌, ◌*◌, ◌+◌, ◌<◌, ap, sym, subst, arith, ℕ, List, Bool, ◌≤◌, length, replicate}
+use Rattle.std.proofs.Common.{◌≡◌, ◌∙◌, ◌*◌, ◌+◌, ◌<◌, ap, sym, subst, arith, ℕ, List, Bool, ◌≤◌, length}
 use Rattle.std.specs.Prelude.{slice_index}
 use Rattle.std.specs.Result.{is_ok}
 use Rattle.file_die.specs.Store.{Held, Clears}
 use Rattle.file_die.specs.Rows.{held_in}
-use Rattle.file_die.proofs.RowLemmas.{rows_held, clears, rows_of, kept_of, kept_settled, held_is, parts_written, block_within_rows, fits_blank}
+use Rattle.file_die.proofs.RowLemmas.{full_told, rows_held, clears, rows_of, kept_of, kept_settled, held_is, parts_written, block_within_rows, fits_blank}
 use Rattle.file_die.proofs.row_file.RowFile.erase.Goals as goal
 
 pub invariant_of-self : goal.invariant_of-self
@@ -46,3 +46,7 @@ returns-clause-kept g c reads =
     let l = block_within_rows i.geometry i.size c.args.block c.offset-start.result c.deref.result.now (rw (← c.self.view_is) at c.requires.in_range) at_is blank in
     rw (← c.self.view_is) (kept_settled g.F.ByteFile.held g.F.ByteFile.honest g.F.ByteFile.tells _ c.settle.new.self c.write_all-answer.new.file c.settle.ensures.file c.write_all-answer.ensures.honest c.write_all-answer.ensures.tells c.settle.ensures.size c.settle.ensures.sync_failed
     (λ h. (c.write_all-answer.ensures.writes h (omega (arith, l, c.self.invariant.whole h))).syncs) reads)
+
+pub returns-clause-full : goal.returns-clause-full
+returns-clause-full g c =
+    rw (← c.self.view_is) (full_told g.F.ByteFile.wrote _ c.settle.new.self c.write_all-answer.new.file c.write_all-answer.result c.settle.result c.write_all-answer.ensures.fails c.settle.ensures.full c.settle.ensures.told c.settle.ensures.answer c.settle.ensures.file)

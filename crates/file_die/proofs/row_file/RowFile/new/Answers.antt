@@ -1,4 +1,4 @@
-use Rattle.std.proofs.Common.{rules, ◌≡◌, ◌∙◌, ◌*◌, ap, refl, ℕ, List, replicate}
+use Rattle.std.proofs.Common.{rules, ◌≡◌, ◌∙◌, ◌*◌, ap, refl, replicate}
 use Rattle.page_layout.specs.Geometry.{row_count}
 use Rattle.file_die.specs.Bytes.{Bytes}
 use Rattle.file_die.proofs.RowLemmas.{parts_taken, kept_first}

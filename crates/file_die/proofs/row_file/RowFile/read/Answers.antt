@@ -1,10 +1,10 @@
-use Rattle.std.proofs.Common.{◌≡◌, ◌∙◌, ◌*◌, ◌+◌, ◌<◌, ap, sym, subst, ℕ, List, Bool, true, length}
+use Rattle.std.proofs.Common.{◌≡◌, ◌∙◌, ◌+◌, ◌<◌, ap, sym, subst, ℕ, List, Bool, true, length}
 use Rattle.std.specs.Prelude.{slice_get}
 use Rattle.std.specs.Result.{is_ok}
 use Rattle.file_die.specs.Bytes.{Bytes}
 use Rattle.file_die.specs.Store.{Held, Loads}
 use Rattle.file_die.specs.Rows.{held_in}
-use Rattle.file_die.proofs.RowLemmas.{rows_held, loads, piece_read, rows_of, kept_of, kept_settled, held_is, parts_read, gives_at}
+use Rattle.file_die.proofs.RowLemmas.{end_told, rows_held, loads, piece_read, kept_of, kept_settled, held_is, parts_read, gives_at}
 use Rattle.file_die.proofs.row_file.RowFile.read.Goals as goal
 
 pub invariant_of-self : goal.invariant_of-self
@@ -45,3 +45,8 @@ returns-clause-bytes g c d h =
     let filled : (k : ℕ) → k < i.size → slice_get given k ≡ slice_get (g.F.ByteFile.held i.file).bytes (c.offset-start.result + k) =
     λ k lt. c.read_all-answer.ensures.reads (sym c.settle.ensures.answer ∙ d) (rw (← c.self.view_is) at h) k (subst (λ n. k < n) (sym room) lt) in
     rw (← c.self.view_is) (piece_read i.size c.args.row c.offset-start.result given (g.F.ByteFile.held i.file).bytes (rw (← c.self.view_is) at c.offset-start.ensures) (c.read_all-answer.auto.to ∙ room) filled)
+
+pub returns-clause-ended : goal.returns-clause-ended
+returns-clause-ended g c =
+    rw (← c.self.view_is) (end_told g.F.ByteFile.gave c.args.row c.self.inside.size c.offset-start.result _ _ c.settle.new.self c.read_all-answer.new.file c.read_all-answer.result c.settle.result
+    (rw (← c.self.view_is) at c.offset-start.ensures) (rw (← c.self.view_is) at c.requires.room) c.read_all-answer.ensures.ended c.settle.ensures.told c.settle.ensures.answer c.settle.ensures.file)

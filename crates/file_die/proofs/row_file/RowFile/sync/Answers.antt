@@ -1,4 +1,4 @@
-use Rattle.std.proofs.Common.{◌≡◌, ◌∙◌, ap, refl, sym, subst, Bool, ℕ}
+use Rattle.std.proofs.Common.{◌≡◌, ◌∙◌, ap, refl, sym, subst, Bool}
 use Rattle.std.specs.Result.{is_ok}
 use Rattle.file_die.specs.Store.{Held, Syncs}
 use Rattle.file_die.specs.Rows.{held_in, syncs_lost}

@@ -1,11 +1,10 @@
-use Rattle.std.proofs.Common.{◌≡◌, ◌∙◌, ap, sym, subst, arith, ℕ, List, Bool, true, ◌≤◌, length}
+use Rattle.std.proofs.Common.{◌∙◌, ap, sym, subst, arith, ℕ, List, Bool, ◌≤◌, length}
 use Rattle.std.specs.Result.{is_ok}
 use Rattle.std.proofs.Math.Facts.{Fits-lt-pow}
-use Rattle.file_die.specs.Bytes.{over}
 use Rattle.file_die.specs.Rows.{WritesAll}
 use Rattle.file_die.specs.Store.{Held, Puts}
 use Rattle.file_die.specs.Rows.{held_in}
-use Rattle.file_die.proofs.RowLemmas.{rows_held, rows_set, puts, rows_of, kept_of, kept_settled, held_is, parts_written, row_within}
+use Rattle.file_die.proofs.RowLemmas.{full_told, rows_held, rows_set, puts, rows_of, kept_of, kept_settled, held_is, parts_written, row_within}
 use Rattle.file_die.proofs.row_file.RowFile.write.Goals as goal
 
 pub invariant_of-self : goal.invariant_of-self
@@ -58,3 +57,7 @@ returns-clause-written g c d h reads =
     let wrote = subst (λ (b : Bool). WritesAll s c.offset-start.result given b t) (sym c.settle.ensures.answer ∙ d) (c.write_all-answer.ensures.writes honest start) in
     let settled = held_is held reads c.settle.new.self c.write_all-answer.new.file i.geometry i.size c.settle.ensures.file c.settle.ensures.geometry c.settle.ensures.size in
     rw (← c.self.view_is) (ap (λ (z : Held). z.pages) (sym settled) ∙ rows_set reads i.size _ c.args.row c.offset-start.result given s t lt at_is long start wrote)
+
+pub returns-clause-full : goal.returns-clause-full
+returns-clause-full g c =
+    rw (← c.self.view_is) (full_told g.F.ByteFile.wrote _ c.settle.new.self c.write_all-answer.new.file c.write_all-answer.result c.settle.result c.write_all-answer.ensures.fails c.settle.ensures.full c.settle.ensures.told c.settle.ensures.answer c.settle.ensures.file)
