@@ -441,7 +441,7 @@ def origin_case(rng, folder):
     if rng.random() < 0.1:
         place = rng.randrange(len(readings))
         readings[place] = rng.choice([readings[place][:-1], readings[place] + b"\0"])
-        want = (1, "", f"refused merge 1 DumpLength {names[place]}\n")
+        want = (1, "", f"refused origin 1 ReadingLength {names[place]}\n")
         if rng.random() < 0.3:
             dump, want = dump[:-1], (1, "", "refused image 1 WrongLength\n")
     for name, raw in zip(["dump.bin", *names], [dump, *readings]):

@@ -8,6 +8,7 @@ A line for each name: how many crates have it, and which. Crates of tests, what 
 
 import collections
 import re
+import signal
 import sys
 from pathlib import Path
 
@@ -39,6 +40,8 @@ def show(title, names):
 
 
 def main():
+    # a reader that stops early, as head does, ends it quietly
+    signal.signal(signal.SIGPIPE, signal.SIG_DFL)
     specs = having(DECLARES, sorted(TOP.glob("crates/*/specs/**/*.antt")))
     types = having(TYPE, [path for path in sorted(TOP.glob("crates/*/src/**/*.rt")) if is_library(path)])
     promised = set(re.findall(r"`(\w+)[`.]", (TOP / "docs/PROMISES.md").read_text(encoding="utf-8")))

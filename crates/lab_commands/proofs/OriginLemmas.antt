@@ -47,7 +47,7 @@ pub untraced_as : (a : Answers) (words : OriginWords) (g : Geometry) (known : Op
     → IsOfSome (length (readings_of words)) f → IsUntraced g known readings f → (f ≡ origin.Source → a.reads_fail) → ((i : ℕ) → f ≡ origin.Reading (reading.Source i) → a.reads_fail) → TellsOrigin f words told → IsUntracedTo a words g told
 untraced_as a words g known readings origin.WrongLength told opened each of h reads one is = subst (IsUntracedTo a words g) (sym is) (record { known = known; opened = opened; other = h })
 untraced_as a words g known readings origin.Source told opened each of h reads one is = subst (IsUntracedTo a words g) (sym is) (inl refl, record { known = known; opened = opened }, (readings, each), reads refl)
-untraced_as a words g known readings (origin.Reading (reading.WrongLength i)) (fault.DumpLength word) opened each of h reads one is = record { readings = readings; opened = each; place = i; within = of; named = sym is; odd = h }
+untraced_as a words g known readings (origin.Reading (reading.WrongLength i)) (fault.ReadingLength word) opened each of h reads one is = record { readings = readings; opened = each; place = i; within = of; named = sym is; odd = h }
 untraced_as a words g known readings (origin.Reading (reading.Source i)) (fault.Read word) opened each of h reads one is = (inr (i, of, sym is), record { known = known; opened = opened }, (readings, each), one i refl)
 untraced_as a words g known readings (origin.Reading why) _ opened each of h reads one is = absurd is
 

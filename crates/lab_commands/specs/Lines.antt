@@ -16,6 +16,7 @@ use Rattle.lab_dump.specs.declared.history.SectorPage.{SectorPage}
 use Rattle.lab_dump.specs.declared.history.Wrote.{Wrote}
 use Rattle.lab_dump.specs.declared.history.Wrote.TheVariants as wrote
 use Rattle.page_layout.specs.declared.geometry.Geometry.{Geometry}
+use Rattle.page_layout.specs.declared.record.Record.{Record}
 use Rattle.page_layout.specs.declared.record.Kind.{Kind}
 use Rattle.page_layout.specs.declared.record.Kind.TheVariants as kind
 use Rattle.lab_dump.specs.declared.said.SaidPage.{SaidPage}
@@ -191,11 +192,13 @@ kind_words kind.Table = codes "table"
 abbrev pub newer_words : Bool → List ℕ
 newer_words newer = if newer then codes " newer" else codes " not newer"
 
+-- what a record says, and what stands behind it
+abbrev pub record_words : Record → List ℕ → List ℕ
+record_words r behind = codes " says " ++ (kind_words r.kind ++ (codes " " ++ (decimal r.number ++ (codes " sequence " ++ (decimal r.sequence ++ behind)))))
+
 -- what a page says that is neither erased nor sound
 abbrev pub said_words : SaidPage → List ℕ
-said_words page =
-    codes "unsound row " ++ (decimal page.row ++ (codes " says " ++ (kind_words page.says.kind ++ (codes " " ++ (decimal page.says.number ++ (
-    codes " sequence " ++ (decimal page.says.sequence ++ newer_words page.newer)))))))
+said_words page = codes "unsound row " ++ (decimal page.row ++ record_words page.says (newer_words page.newer))
 
 -- how many such pages say something that count as unsound, and at most how many sectors may be older, if that is so, of which none says something newer
 abbrev pub legible_words : ℕ → ℕ → List ℕ

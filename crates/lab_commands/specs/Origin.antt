@@ -83,13 +83,13 @@ pub record HasOddReading (a : Answers) (paths : List (List ℕ)) (g : Geometry) 
 -- why a dump and readings that were opened were not held side by side: one has another length, or a read failed
 abbrev pub IsUntracedTo : Answers → OriginWords → Geometry → LabFault → Type 0
 IsUntracedTo a words g fault.WrongLength = OpensOther a g words.dump.now
-IsUntracedTo a words g (fault.DumpLength told) = HasOddReading a (readings_of words) g told.now
+IsUntracedTo a words g (fault.ReadingLength told) = HasOddReading a (readings_of words) g told.now
 IsUntracedTo a words g (fault.Read told) = ((told.now ≡ words.dump.now) ⊎ IsOneOf (readings_of words) told.now) × Opens a words.dump.now × OpensEach a (readings_of words) × a.reads_fail
 IsUntracedTo a words g _ = ⊥
 
 -- how it is told
 abbrev pub TellsReading : ReadingFault → List (List ℕ) → LabFault → Type 0
-TellsReading (reading.WrongLength i) paths (fault.DumpLength told) = told.now ≡ get_or paths i []
+TellsReading (reading.WrongLength i) paths (fault.ReadingLength told) = told.now ≡ get_or paths i []
 TellsReading (reading.Source i) paths (fault.Read told) = told.now ≡ get_or paths i []
 TellsReading _ paths _ = ⊥
 

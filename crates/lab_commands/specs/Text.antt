@@ -11,13 +11,13 @@ use Rattle.certificate.specs.declared.fault.CertFault.{CertFault}
 use Rattle.certificate.specs.declared.fault.CertFault.TheVariants as certificate
 use Rattle.lab_dump.specs.declared.nearest.Legible.{Legible}
 use Rattle.lab_commands.specs.declared.text.LabFault.{LabFault}
-use Rattle.lab_commands.specs.declared.text.LabFault.TheVariants.{NoSuchCommand, BadNumber, Geometry, NoneFits, RowRange, SectorRange, WrongLength, DumpLength, OutOfMemory, Certificate, GeometryDiffers, BadArrangement, Unfit}
+use Rattle.lab_commands.specs.declared.text.LabFault.TheVariants.{NoSuchCommand, BadNumber, Geometry, NoneFits, RowRange, SectorRange, WrongLength, DumpLength, ReadingLength, OutOfMemory, Certificate, GeometryDiffers, BadArrangement, Unfit}
 use Rattle.lab_commands.specs.declared.text.LabFault.TheVariants.{ArrangedLength, BitRange, PageSize}
 use Rattle.lab_commands.specs.declared.text.LabFault.TheVariants.{IsDump, Exists, NoFile, MapIsOut, MapIsDump, MapExists, MapNoFile, Read, Write}
 use Rattle.lab_commands.specs.declared.text.Rest.{Rest}
 use Rattle.lab_commands.specs.declared.text.Rest.TheVariants.{Words, Name, Lengths}
 use Rattle.lab_commands.specs.declared.text.Rest.TheVariants as rest
-use Rattle.lab_commands.specs.Lines.{kind_words}
+use Rattle.lab_commands.specs.Lines.{record_words}
 use Rattle.lab_commands.specs.Names.{shown}
 
 -- the number and the name of a limit that is broken
@@ -48,16 +48,15 @@ abbrev pub lengths_words : ℕ → ℕ → List ℕ
 lengths_words wanted found = codes "wanted " ++ (decimal wanted ++ (codes " found " ++ decimal found))
 
 -- what can be read at a byte of a dump, whatever its seal
-abbrev pub legible_words : Legible → List ℕ
-legible_words x =
-    codes "byte " ++ (decimal x.at ++ (codes " says " ++ (kind_words x.says.kind ++ (codes " " ++ (decimal x.says.number ++ (codes " sequence " ++ decimal x.says.sequence))))))
+abbrev pub nearest_words : Legible → List ℕ
+nearest_words x = codes "byte " ++ (decimal x.at ++ record_words x.says [])
 
 -- what a line ends with
 abbrev pub rest_words : Rest → List ℕ
 rest_words (Words words) = words.now
 rest_words (Name name) = shown name.now
 rest_words (Lengths wanted found) = lengths_words wanted found
-rest_words (rest.Legible found) = legible_words found
+rest_words (rest.Legible found) = nearest_words found
 
 -- the line, without its line feed; a name in it is as it is printed
 abbrev pub line_of : LabFault → List ℕ
@@ -65,7 +64,7 @@ line_of NoSuchCommand = codes "usage: no such command, see nandlab --help"
 line_of (BadNumber word) = codes "usage: bad number " ++ shown word.now
 line_of (Geometry fault) = codes "refused geometry " ++ limit_words fault
 line_of (NoneFits None) = codes "refused geometry 6 NoneFits"
-line_of (NoneFits (Some nearest)) = codes "refused geometry 6 NoneFits " ++ legible_words nearest
+line_of (NoneFits (Some nearest)) = codes "refused geometry 6 NoneFits " ++ nearest_words nearest
 line_of RowRange = codes "refused rows 1 RowRange"
 line_of BitRange = codes "refused bits 1 BitRange"
 line_of PageSize = codes "refused bits 2 PageSize"
@@ -79,6 +78,7 @@ line_of MapExists = codes "refused map 3 Exists"
 line_of MapNoFile = codes "refused map 4 NoFile"
 line_of WrongLength = codes "refused image 1 WrongLength"
 line_of (DumpLength path) = codes "refused merge 1 DumpLength " ++ shown path.now
+line_of (ReadingLength path) = codes "refused origin 1 ReadingLength " ++ shown path.now
 line_of OutOfMemory = codes "refused image 3 OutOfMemory"
 line_of (Certificate broken) = codes "refused certificate " ++ certificate_words broken
 line_of GeometryDiffers = codes "refused compare 1 GeometryDiffers"
@@ -107,6 +107,7 @@ status_of MapExists = 1
 status_of MapNoFile = 1
 status_of WrongLength = 1
 status_of (DumpLength path) = 1
+status_of (ReadingLength path) = 1
 status_of OutOfMemory = 1
 status_of (Certificate broken) = 1
 status_of GeometryDiffers = 1

@@ -109,6 +109,13 @@ fn has_around(arrangement: &Arrangement) -> bool
     arrangement.header.is_some() || arrangement.tail.is_some()
 }
 
+// Whether a word stands before the order of the bytes.
+fn has_outer(arrangement: &Arrangement) -> bool
+    ensures { result ≡ (is_some arrangement.now.header || is_some arrangement.now.tail || is_some arrangement.now.cut) }
+{
+    has_around(arrangement) || arrangement.cut.is_some()
+}
+
 // The words of the order of the bytes.
 fn put_order<W: Output>(
     out: &mut W,
@@ -142,10 +149,9 @@ fn put_order<W: Output>(
 fn put_arrangement<W: Output>(out: &mut W, arrangement: &Arrangement) -> Result<(), OutputFault>
     ensures { Prints (W.failed out.new) (W.contents out.old) (W.contents out.new) (arrangement_words arrangement.now) result }
 {
-    let around = has_around(arrangement);
     put_around(out, arrangement.header, arrangement.tail)?;
-    put_cut(out, around, arrangement.cut)?;
-    put_order(out, around || arrangement.cut.is_some(), arrangement)
+    put_cut(out, has_around(arrangement), arrangement.cut)?;
+    put_order(out, has_outer(arrangement), arrangement)
 }
 
 // What comes first where the dump stands in another arrangement, but for its words.

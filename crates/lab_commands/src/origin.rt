@@ -72,7 +72,7 @@ fn reading_told<'a>(fault: ReadingFault, readings: &[&'a str]) -> LabFault<'a>
     ensures { TellsReading fault (texts readings.now) result }
 {
     match fault {
-        ReadingFault::WrongLength(place) => LabFault::DumpLength(readings[place]),
+        ReadingFault::WrongLength(place) => LabFault::ReadingLength(readings[place]),
         ReadingFault::Source(place) => LabFault::Read(readings[place]),
     }
 }
@@ -186,7 +186,7 @@ fn put_origin<'a, F: LabFiles>(
 ///
 /// The first of this order: `BadNumber` where GEOM writes no numbers, `Geometry` where they are no geometry, `BadNumber` where SEQUENCE is no number, `IsDump` where OUT is the dump or a
 /// reading, `Exists` where something stands at OUT and is not to be replaced, `NoFile` where that is neither a file nor a link to one, `OutOfMemory` where a growth was refused, `Read` where
-/// DUMP or a reading cannot be opened, `WrongLength` where DUMP has not as many bytes as the geometry says, `DumpLength` where a reading has not; then each when it happens: `Read` where a
+/// DUMP or a reading cannot be opened, `WrongLength` where DUMP has not as many bytes as the geometry says, `ReadingLength` where a reading has not; then each when it happens: `Read` where a
 /// read of one fails, `Write` where OUT cannot be written or put in its place, `Exists` where another program gave its name to a file meanwhile and it is not to be replaced. After each of
 /// these OUT is as it was, nothing stands beside it, and nothing was printed. `Write` of `-` where `out` failed: then OUT was written.
 ///

@@ -1,6 +1,7 @@
 //! What each command says.
 ghost use Rattle.std.specs.Prelude.{◌≡◌, count_by, option_map, map};
 ghost use Rattle.lab_dump.specs.Held.{shown_in};
+ghost use Rattle.lab_commands.specs.declared.lines.Line.TheVariants as said;
 ghost use Rattle.lab_commands.specs.Document.{Prints, if_text, line_text, text_below};
 ghost use Rattle.lab_mend.specs.Repairing.{mended_count};
 ghost use Rattle.lab_mend.specs.Tries.{tries_in};
@@ -305,6 +306,17 @@ pub fn print_history<W: Output>(
     printer.end(out)
 }
 
+// The best geometry with the pages of two planes in turns, where it is told.
+fn print_turned<W: Output>(
+    printer: Printer,
+    out: &mut W,
+    turned: Option<ArrangedFit>,
+) -> Result<(), OutputFault>
+    ensures { Prints (W.failed out.new) (W.contents out.old) (W.contents out.new) (if_text printer.form (option_map said.ArrangedFit turned)) result }
+{
+    printer.line(out, turned.map(Line::ArrangedFit))
+}
+
 /// Prints which geometries fit, in their order, and the one with the pages of two planes in turns, where one is told.
 ///
 /// # Errors
@@ -320,7 +332,7 @@ pub fn print_fits<W: Output>(
 {
     printer.begin(out, Report::Geometry)?;
     printer.list(out, &Lines::Fits(fits))?;
-    printer.line(out, turned.map(Line::ArrangedFit))?;
+    print_turned(printer, out, turned)?;
     printer.end(out)
 }
 

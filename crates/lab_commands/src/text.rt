@@ -1,7 +1,7 @@
 //! What the program says when a command ends before it is done: one line, and the exit status.
 ghost use Rattle.std.specs.Prelude.{◌≡◌, ◌∷◌, [], ◌++◌, true, OnErr};
 ghost use Rattle.lab_commands.specs.Output.{Puts};
-ghost use Rattle.lab_commands.specs.Text.{IsTold, legible_words, lengths_words, line_of, rest_words, status_of, told_line};
+ghost use Rattle.lab_commands.specs.Text.{IsTold, lengths_words, line_of, nearest_words, rest_words, status_of, told_line};
 
 use crate::lines::kind_text;
 use crate::names::put_name;
@@ -59,6 +59,8 @@ pub enum LabFault<'a> {
     WrongLength,
     /// The dump of this path, one of several, has not as many bytes as the geometry says.
     DumpLength(&'a str),
+    /// This reading of several has not as many bytes as the geometry says.
+    ReadingLength(&'a str),
     /// A growth was refused: before a dump was opened, or of the files themselves.
     OutOfMemory,
     /// The bytes of the certificate's file are no certificate.
@@ -113,6 +115,7 @@ impl LabFault<'_> {
             | LabFault::MapNoFile
             | LabFault::WrongLength
             | LabFault::DumpLength(_)
+            | LabFault::ReadingLength(_)
             | LabFault::OutOfMemory
             | LabFault::Certificate(_)
             | LabFault::GeometryDiffers
@@ -202,6 +205,7 @@ fn line<'a>(fault: &LabFault<'a>) -> (&'static str, Rest<'a>)
         LabFault::MapNoFile => ("refused map ", Rest::Words("4 NoFile")),
         LabFault::WrongLength => ("refused image ", Rest::Words("1 WrongLength")),
         LabFault::DumpLength(path) => ("refused merge 1 DumpLength ", Rest::Name(path)),
+        LabFault::ReadingLength(path) => ("refused origin 1 ReadingLength ", Rest::Name(path)),
         LabFault::OutOfMemory => ("refused image ", Rest::Words("3 OutOfMemory")),
         LabFault::Certificate(broken) => (
             "refused certificate ",
@@ -236,8 +240,8 @@ fn put_lengths<W: Output>(out: &mut W, wanted: u64, found: u64) -> Result<(), Ou
 }
 
 // Writes what can be read at a byte.
-fn put_legible<W: Output>(out: &mut W, found: Legible) -> Result<(), OutputFault>
-    ensures bytes { Puts (W.contents out.old) (W.contents out.new) (legible_words found) result }
+fn put_nearest<W: Output>(out: &mut W, found: Legible) -> Result<(), OutputFault>
+    ensures bytes { Puts (W.contents out.old) (W.contents out.new) (nearest_words found) result }
     ensures failed { OnErr result (W.failed out.new ≡ true) }
 {
     put_pieces(
@@ -264,7 +268,7 @@ fn put_rest<W: Output>(out: &mut W, rest: Rest<'_>) -> Result<(), OutputFault>
         Rest::Words(words) => out.put(words.as_bytes()),
         Rest::Name(name) => put_name(out, name),
         Rest::Lengths(wanted, found) => put_lengths(out, wanted, found),
-        Rest::Legible(found) => put_legible(out, found),
+        Rest::Legible(found) => put_nearest(out, found),
     }
 }
 

@@ -207,7 +207,7 @@ const WORDS: [Step; 16] = [
     Step::Run(
         "nandlab origin 64,32,8,32,32 new dump.bin a.bin short.bin",
         1,
-        "refused merge 1 DumpLength short.bin\n",
+        "refused origin 1 ReadingLength short.bin\n",
     ),
     Step::Lacks("new"),
     Step::Closed("nandlab origin 64,32,8,32,32 closed dump.bin a.bin", 1),
