@@ -1,12 +1,12 @@
 -- Why the bytes of a file were not read or written, and why it was not taken.
-use Rattle.std.proofs.Common.{◌≡◌, ◌≢◌, ◌∙◌, ◌*◌, inl, inr, ap, arith, refl, sym, subst, ℕ, Bool, true, false, List, length, drop, length-take, length-drop}
+use Rattle.std.proofs.Common.{◌≡◌, ◌≢◌, ◌≤◌, ◌∙◌, ◌*◌, ◌^◌, suc, inl, inr, ap, arith, refl, sym, subst, ℕ, Bool, true, false, List, length, drop, length-take, length-drop}
 use Rattle.std.specs.Prelude.{Result, Ok, Err}
 use Rattle.std.proofs.lemmas.Option.{same_Some}
 use Rattle.file_die.specs.declared.bytes.ByteFault.{ByteFault}
 use Rattle.file_die.specs.declared.bytes.ByteFault.TheVariants as fault
-use Rattle.file_die.specs.Bytes.{FailsBy, HasAnswered, Gives, NoRead, OneMore, came_by}
+use Rattle.file_die.specs.Bytes.{FailsBy, HasAnswered, Gives, InARow, NoCall, NoRead, OneCall, OneMore, came_by}
 use Rattle.file_die.specs.Rows.{lacks_room}
-use Rattle.file_die.specs.FaultLaws.{GivesAll, HadRoom, EndedLaw, WholeReadLaw, TakenLaw, OwnFaultLaw, FullLaw, ChangedLaw, RowReadLaw, SyncedLaw, FirstFaultLaw, RefusedLaw}
+use Rattle.file_die.specs.FaultLaws.{GivesAll, HadRoom, EndedLaw, WholeReadLaw, TakenLaw, OwnFaultLaw, FullLaw, ChangedLaw, RowReadLaw, SyncedLaw, FirstFaultLaw, RefusedLaw, PatientLaw}
 
 still_held : {F : Type 0} → (held : F → List ℕ) (gave : F → ℕ → ℕ → Result (List ℕ) ByteFault → F → Type 0) (old : F) (at : ℕ) (bytes : List ℕ) (new : F) → GivesAll held gave → Gives gave old at bytes new → held new ≡ held old
 still_held held gave old at _ _ all NoRead = refl
@@ -85,3 +85,12 @@ first_fault_law wrote old new why none some told =
 
 pub refused_law : {F : Type 0} → (refused : F → ByteFault → F → Type 0) → RefusedLaw refused
 refused_law refused why new never (mid, told) = never mid new why told
+
+counted_at_least : {F : Type 0} → (one : F → F → Type 0) (count : F → ℕ) (n : ℕ) (new : F) → ((old left : F) → one old left → count left ≡ suc (count old)) → InARow one n new → n ≤ count new
+counted_at_least one count _ _ rises (NoCall new) = omega arith
+counted_at_least one count _ _ rises (OneCall n mid new before last) = omega (arith, rises mid new last, counted_at_least one count n mid rises before)
+
+pub patient_law : {F : Type 0} → (one : F → F → Type 0) → PatientLaw one
+patient_law one count why new rises few patient is =
+    let many : 2 ^ 64 ≤ count new = counted_at_least one count (2 ^ 64) new rises (patient is) in
+    omega (arith, many, few)

@@ -1,8 +1,8 @@
 -- Why the bytes of a file were not read or written, and why it was not taken: what these clauses come to.
-use Rattle.std.specs.Prelude.{◌≡◌, ◌≢◌, ◌<◌, ◌≤◌, ℕ, ◌+◌, ◌*◌, true, false, List, [], length, take, drop, Some, None, Result, Ok, Err}
+use Rattle.std.specs.Prelude.{◌≡◌, ◌≢◌, ◌<◌, ◌≤◌, ℕ, suc, ◌+◌, ◌*◌, ◌^◌, true, false, List, [], length, take, drop, Some, None, Result, Ok, Err}
 use Rattle.file_die.specs.declared.bytes.ByteFault.{ByteFault}
 use Rattle.file_die.specs.declared.bytes.ByteFault.TheVariants as fault
-use Rattle.file_die.specs.Bytes.{FailsBy, HasAnswered, HasEnded, HasRefused}
+use Rattle.file_die.specs.Bytes.{FailsBy, HasAnswered, HasEnded, HasRefused, IsPatient}
 use Rattle.file_die.specs.Rows.{Rows, FailsSync, TellsEnd, TellsFull}
 
 -- EACH READ is done, leaves what the file holds as it is, and gives a byte wherever one stands and there is room
@@ -62,3 +62,7 @@ FirstFaultLaw {F} wrote = (old new : Rows F) (why : ByteFault) → old.fault ≡
 -- a file whose syncs and tellings of its length never fail is refused by none
 abbrev pub RefusedLaw : {F : Type 0} → (refused : F → ByteFault → F → Type 0) → Type 0
 RefusedLaw {F} refused = (why : ByteFault) (new : F) → ((old left : F) (e : ByteFault) → refused old e left → ⊥) → HasRefused refused why new → ⊥
+
+-- a file that counts its calls that were interrupted, and has not come to 2^64, is told as interrupted by none
+abbrev pub PatientLaw : {F : Type 0} → (one : F → F → Type 0) → Type 0
+PatientLaw {F} one = (count : F → ℕ) (why : ByteFault) (new : F) → ((old left : F) → one old left → count left ≡ suc (count old)) → count new < 2 ^ 64 → IsPatient one why new → why ≢ fault.Interrupted

@@ -1,4 +1,5 @@
-use Rattle.file_die.proofs.FaultLawLemmas.{ended_law, whole_read_law, taken_law, own_fault_law, full_law, changed_law, first_fault_law, row_read_law, synced_law, refused_law}
+use Rattle.file_die.specs.Bytes.{ReadInterrupted, WriteInterrupted}
+use Rattle.file_die.proofs.FaultLawLemmas.{ended_law, whole_read_law, taken_law, own_fault_law, full_law, changed_law, first_fault_law, row_read_law, synced_law, refused_law, patient_law}
 use Rattle.file_die.proofs.laws.fault_laws.Goals as goal
 
 pub returns-clause-ended : goal.returns-clause-ended
@@ -30,3 +31,9 @@ returns-clause-synced g c = synced_law g.F.ByteFile.refused
 
 pub returns-clause-refused : goal.returns-clause-refused
 returns-clause-refused g c = refused_law g.F.ByteFile.refused
+
+pub returns-clause-patient_reads : goal.returns-clause-patient_reads
+returns-clause-patient_reads g c = patient_law (ReadInterrupted g.F.ByteFile.gave)
+
+pub returns-clause-patient_writes : goal.returns-clause-patient_writes
+returns-clause-patient_writes g c = patient_law (WriteInterrupted g.F.ByteFile.wrote)
