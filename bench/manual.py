@@ -149,7 +149,7 @@ def synopsis_of(name, markdown):
 
 
 def version():
-    return re.search(r'\.version\("([^"]+)"\)', (TOP / "crates/program_words/src/parts.rt").read_text()).group(1)
+    return re.search(r'^    "([^"]+)"$', (TOP / "crates/program_words/src/versions.rt").read_text(), re.MULTILINE).group(1)
 
 
 def section_of(name):

@@ -4,7 +4,7 @@
 set -eu
 folder=$(realpath "${1:-.}")
 cd "$(dirname "$0")/.."
-version=$(sed -n 's/.*\.version("\([^"]*\)").*/\1/p' crates/program_words/src/parts.rt)
+version=$(sed -n 's/^    "\([^"]*\)"$/\1/p' crates/program_words/src/versions.rt)
 root=$(mktemp -d)
 trap 'rm -rf "$root"' EXIT
 chmod 755 "$root"
