@@ -110,7 +110,7 @@ def may_spell(g, raw):
 
 
 def cut(raw):
-    """What fits in order, where a part of the last block was cut off: those bytes are 00h."""
+    """What fits in order, where a part of the last block was cut off: those bytes are 00h. More pages are sound than neither sound nor erased."""
     for data, spare, pages in ((2**k, spare, 2**n) for k in range(6, 13) for spare in range(32, 257) for n in range(2, 9)):
         block = pages * (data + spare)
         lacks = -len(raw) % block
@@ -119,7 +119,10 @@ def cut(raw):
                 told = {"cut": lacks}
                 page_of = page_reader(g, told, raw + bytes(lacks))
                 if shows_sound(g, page_of):
-                    yield told_of(g, told, page_of)
+                    found = told_of(g, told, page_of)
+                    _, looked, sound, unsound, *_ = found[1]
+                    if unsound < sound:
+                        yield found
 
 
 def best(raw):

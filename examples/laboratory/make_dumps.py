@@ -5,7 +5,8 @@
 
 FOLDER/DIE.READING.bin are the readings, and FOLDER/truth/DIE.img is the array of each die as it was before the bits went wrong. Of a die that
 was read three times each reading has its own wrong bits, and one page in each of them. Every eighth die lost whole pages, every fifteenth is no die at
-all. Of every tenth die the readings stand in another arrangement, of every tenth they are a chip's, with codes."""
+all. Of every tenth die the readings stand in another arrangement, of every tenth they are a chip's, with codes, and of every tenth the pages of two planes
+stand in turns, or the end is missing."""
 
 import random
 import sys
@@ -59,9 +60,13 @@ def spoiled(rng, g, raw, rows, lost, each):
 
 
 def as_read(g, raw, number):
-    """The reading as the reader gave it: most in order, some in another arrangement, some of a chip with codes."""
+    """The reading as the reader gave it: most in order, some in another arrangement, some of a chip with codes, some without the end."""
     if number % 10 == 6:
         return lab.on_chip(g, bytes(raw))[0]
+    if number % 20 == 18:
+        return raw[: -random.Random(number).randrange(1, g.pages * g.page)]
+    if number % 20 == 8:
+        return bytes(raw[place] for place in arrange.put(g, range(len(raw)), {"planes": 2}))
     if number % 10 != 3:
         return raw
     told = ORDERS[number // 10 % len(ORDERS)]

@@ -1,5 +1,5 @@
 -- What fits a dump in another arrangement, and what fits best.
-use Rattle.std.specs.Prelude.{◌≡◌, ℕ, ◌*◌, ◌<◌, true, false, List, length, Option, Some, None}
+use Rattle.std.specs.Prelude.{◌≡◌, ◌||◌, ℕ, ◌*◌, ◌<◌, nat_lt, Bool, true, false, not, is_some, List, length, Option, Some, None}
 use Rattle.std.specs.declared.cmp.Ordering.{Ordering}
 use Rattle.std.specs.Ordering.{bool_cmp, is_gt, nat_cmp, ordering_then}
 use Rattle.std.specs.Option.{option_cmp, unwrap_or}
@@ -36,6 +36,11 @@ pub record FitsAs (all : List ℕ) (g : Geometry) (x : ArrangedFit) : Type 0 whe
 abbrev pub IsShort : Geometry → Arrangement → Type 0
 IsShort g a = unwrap_or a.cut 0 < g.pages * page_bytes g
 
+-- Where something was cut off, more of the pages that are looked at are sound than neither sound nor erased: some cut makes each shape fit by its length, so
+-- a few pages that stand by chance in their places are no sign.
+abbrev pub is_likely : ArrangedFit → Bool
+is_likely x = not (is_some x.arrangement.cut) || nat_lt x.fit.unsound x.fit.sound.0
+
 -- A GEOMETRY FITS A DUMP IN AN ARRANGEMENT: one with one sector, in an arrangement that is tried, of whose last block some is there
 pub record FitsArranged (all : List ℕ) (x : ArrangedFit) : Type 0 where
   pub geometry : Geometry
@@ -43,6 +48,7 @@ pub record FitsArranged (all : List ℕ) (x : ArrangedFit) : Type 0 where
   pub tried : IsTried x.arrangement
   pub short : IsShort geometry x.arrangement
   pub fits : FitsAs all geometry x
+  pub likely : is_likely x ≡ true
 
 -- ---- what fits best
 
