@@ -78,6 +78,13 @@ def shows_sound(g, page_of):
     return any(record_at(g, page_of(row)) for row in ref.looked_rows(g.rows)[:64])
 
 
+def shows_more(g, page_of):
+    """Whether of the first 64 pages that are looked at more are sound than neither sound nor erased."""
+    pages = [page_of(row) for row in ref.looked_rows(g.rows)[:64]]
+    sound = sum(record_at(g, page) is not None for page in pages)
+    return sum(page != b"\xff" * g.page for page in pages) - sound < sound
+
+
 def told_of(g, told, page_of):
     """What comes first, the numbers and what is said for them, and the words, of a geometry that fits in an arrangement."""
     fit = next(fit for fit in ref.fits(g.rows, g.data, g.spare, page_of) if fit[1][2] == g.pages)
@@ -110,7 +117,7 @@ def may_spell(g, raw):
 
 
 def cut(raw):
-    """What fits in order, where a part of the last block was cut off: those bytes are 00h. More pages are sound than neither sound nor erased."""
+    """What fits in order, where a part of the last block was cut off: those bytes are 00h. Of the first pages more are sound than neither sound nor erased."""
     for data, spare, pages in ((2**k, spare, 2**n) for k in range(6, 13) for spare in range(32, 257) for n in range(2, 9)):
         block = pages * (data + spare)
         lacks = -len(raw) % block
@@ -118,11 +125,8 @@ def cut(raw):
             if g.pages == pages and may_spell(g, raw):
                 told = {"cut": lacks}
                 page_of = page_reader(g, told, raw + bytes(lacks))
-                if shows_sound(g, page_of):
-                    found = told_of(g, told, page_of)
-                    _, looked, sound, unsound, *_ = found[1]
-                    if unsound < sound:
-                        yield found
+                if shows_more(g, page_of):
+                    yield told_of(g, told, page_of)
 
 
 def best(raw):

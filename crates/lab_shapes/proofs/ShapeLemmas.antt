@@ -23,7 +23,7 @@ use Rattle.lab_shapes.specs.declared.tried.Way.{Way}
 use Rattle.lab_shapes.specs.declared.tried.Way.TheVariants.{Cut, Order}
 use Rattle.lab_shapes.specs.Tried.{IsOfWay, IsTried, IsTriedWay, IsUncut, cut_by}
 use Rattle.lab_shapes.specs.Ordered.{in_turn_of, ordered}
-use Rattle.lab_shapes.specs.Arranged.{FitsArranged, FitsAs, IsShort, fit_in_order, is_likely}
+use Rattle.lab_shapes.specs.Arranged.{FitsArranged, FitsAs, IsShort, fit_in_order}
 use Rattle.lab_shapes.specs.Better.{Improves, InShape, IsFoundAs, IsShapeAs, IsShapeIn, IsShapeOf, pages_size}
 use Rattle.lab_shapes.proofs.BetterLemmas.{improves_as, improves_none}
 use Rattle.lab_shapes.proofs.TriedLemmas.{tried_of_way}
@@ -244,26 +244,17 @@ one_fit all g x y same h k =
     same_fit x y (h.in_turn_is ∙ (ap (λ a. in_turn_of g (ordered g a all)) same ∙ sym k.in_turn_is)) (h.fit_is ∙ (ap (λ a. fit_in_order g (ordered g a all)) same ∙ sym k.fit_is)) same
 
 -- and it is one of these sizes
-in_shape : (all : List ℕ) (w : Way) (g : Geometry) (a : Arrangement) (x : ArrangedFit) (size d s p : ℕ) → IsTriedWay w → IsShapeOf size w d s p g a → x.arrangement ≡ a → FitsAs all g x → is_likely x ≡ true → InShape all w d s p x
-in_shape all w g a x size d s p tried is same h likely =
-    let whole : FitsArranged all x = record { geometry = g; sector = is.sector; tried = subst IsTried (sym same) (tried_of_way w a tried is.of_way); short = subst (IsShort g) (sym same) is.short; fits = h; likely = likely } in
+in_shape : (all : List ℕ) (w : Way) (g : Geometry) (a : Arrangement) (x : ArrangedFit) (size d s p : ℕ) → IsTriedWay w → IsShapeOf size w d s p g a → x.arrangement ≡ a → FitsAs all g x → InShape all w d s p x
+in_shape all w g a x size d s p tried is same h =
+    let whole : FitsArranged all x = record { geometry = g; sector = is.sector; tried = subst IsTried (sym same) (tried_of_way w a tried is.of_way); short = subst (IsShort g) (sym same) is.short; fits = h } in
     ((((whole, subst (IsOfWay w) (sym same) is.of_way), ap (λ f. f.data_bytes) h.fit_is ∙ is.data_is), ap (λ f. f.spare_bytes) h.fit_is ∙ is.spare_is), ap (λ f. f.pages) h.fit_is ∙ is.pages_is)
 
 pub one_fits : (all : List ℕ) (w : Way) (g : Geometry) (a : Arrangement) (x : ArrangedFit) (size d s p : ℕ) (old new : Option ArrangedFit) → IsTriedWay w → size ≡ length all → IsShapeIn size w d s p (Some (g, a))
-    → IsFoundAs all g a (Some x) → is_likely x ≡ true → Improves (λ y. y ≡ x) old new → Improves (InShape all w d s p) old new
-one_fits all w g a x size d s p old new tried e is found likely h =
+    → IsFoundAs all g a (Some x) → Improves (λ y. y ≡ x) old new → Improves (InShape all w d s p) old new
+one_fits all w g a x size d s p old new tried e is found h =
     improves_as (λ y. y ≡ x) (InShape all w d s p) old new h
-    (λ y same. subst (InShape all w d s p) (sym same) (in_shape all w g a x size d s p tried is found.0 found.1 likely))
+    (λ y same. subst (InShape all w d s p) (sym same) (in_shape all w g a x size d s p tried is found.0 found.1))
     (λ y k. (let of = of_shape all w g a y size d s p tried e is k in one_fit all g y x (of.0 ∙ sym found.0) of.1 found.1))
-
--- nothing does where the one that fits is no more than chance
-pub none_likely : (all : List ℕ) (w : Way) (g : Geometry) (a : Arrangement) (x : ArrangedFit) (size d s p : ℕ) (old : Option ArrangedFit) → IsTriedWay w → size ≡ length all → IsShapeIn size w d s p (Some (g, a)) → IsFoundAs all g a (Some x)
-    → is_likely x ≡ false → Improves (InShape all w d s p) old old
-none_likely all w g a x size d s p old tried e is found clear =
-    improves_none (InShape all w d s p) old (λ y h.
-    let of = of_shape all w g a y size d s p tried e is h in
-    let same = one_fit all g y x (of.0 ∙ sym found.0) of.1 found.1 in
-    true≢false (sym h.0.0.0.0.likely ∙ (ap is_likely same ∙ clear)))
 
 -- ---- whole blocks of whole pages are a geometry's bytes
 

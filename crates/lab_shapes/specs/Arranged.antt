@@ -1,5 +1,5 @@
 -- What fits a dump in another arrangement, and what fits best.
-use Rattle.std.specs.Prelude.{◌≡◌, ◌||◌, ℕ, ◌*◌, ◌<◌, nat_lt, Bool, true, false, not, is_some, List, length, Option, Some, None}
+use Rattle.std.specs.Prelude.{◌≡◌, ℕ, ◌*◌, ◌<◌, true, false, List, length, Option, Some, None}
 use Rattle.std.specs.declared.cmp.Ordering.{Ordering}
 use Rattle.std.specs.Ordering.{bool_cmp, is_gt, nat_cmp, ordering_then}
 use Rattle.std.specs.Option.{option_cmp, unwrap_or}
@@ -14,7 +14,7 @@ use Rattle.lab_arrange.specs.declared.arrangement.Spares.{Spares}
 use Rattle.lab_arrange.specs.declared.arrangement.Spares.TheVariants.{Block, Die}
 use Rattle.lab_arrange.specs.Place.{IsFitting, length_of}
 use Rattle.lab_shapes.specs.declared.find.ArrangedFit.{ArrangedFit}
-use Rattle.lab_shapes.specs.Ordered.{in_turn_of, ordered, shows_sound}
+use Rattle.lab_shapes.specs.Ordered.{in_turn_of, is_likely, ordered, shows_sound}
 use Rattle.lab_shapes.specs.Tried.{IsTried}
 
 -- ---- what fits
@@ -24,22 +24,18 @@ abbrev pub fit_in_order : Geometry → List ℕ → Fit
 fit_in_order g all = fit_of g.data_bytes g.spare_bytes g.pages g.blocks (sample_of g.data_bytes g.spare_bytes (row_count g) all) (told_of g.data_bytes g.spare_bytes (row_count g) all)
 
 -- This geometry fits the dump in this arrangement: such a die can stand so, and comes to the dump's bytes; and of the dump put in order one of the first
--- 64 pages that are looked at is sound. What is told of it is what the dump put in order says.
+-- 64 pages that are looked at is sound, and where something was cut off more of these are than neither sound nor erased. What is told of it is what the dump put in order says.
 pub record FitsAs (all : List ℕ) (g : Geometry) (x : ArrangedFit) : Type 0 where
   pub fits : IsFitting g x.arrangement
   pub whole : length all ≡ length_of g x.arrangement
   pub sound : shows_sound g (ordered g x.arrangement all) ≡ true
+  pub likely : is_likely g x.arrangement (ordered g x.arrangement all) ≡ true
   pub in_turn_is : x.in_turn.0 ≡ in_turn_of g (ordered g x.arrangement all)
   pub fit_is : x.fit ≡ fit_in_order g (ordered g x.arrangement all)
 
 -- less than a block was cut off
 abbrev pub IsShort : Geometry → Arrangement → Type 0
 IsShort g a = unwrap_or a.cut 0 < g.pages * page_bytes g
-
--- Where something was cut off, more of the pages that are looked at are sound than neither sound nor erased: some cut makes each shape fit by its length, so
--- a few pages that stand by chance in their places are no sign.
-abbrev pub is_likely : ArrangedFit → Bool
-is_likely x = not (is_some x.arrangement.cut) || nat_lt x.fit.unsound x.fit.sound.0
 
 -- A GEOMETRY FITS A DUMP IN AN ARRANGEMENT: one with one sector, in an arrangement that is tried, of whose last block some is there
 pub record FitsArranged (all : List ℕ) (x : ArrangedFit) : Type 0 where
@@ -48,7 +44,6 @@ pub record FitsArranged (all : List ℕ) (x : ArrangedFit) : Type 0 where
   pub tried : IsTried x.arrangement
   pub short : IsShort geometry x.arrangement
   pub fits : FitsAs all geometry x
-  pub likely : is_likely x ≡ true
 
 -- ---- what fits best
 

@@ -1,5 +1,5 @@
 -- A dump that is put in order, and what its pages are then.
-use Rattle.std.specs.Prelude.{ℕ, ◌-◌, ◌%◌, ◌==◌, nat_lt, min, if◌then◌else◌, Bool, true, false, List, count_by}
+use Rattle.std.specs.Prelude.{◌||◌, ℕ, ◌-◌, ◌%◌, ◌==◌, not, is_some, nat_lt, min, if◌then◌else◌, Bool, true, false, List, count_by}
 use Rattle.std.specs.List.{concat, range_with_len}
 use Rattle.page_layout.specs.declared.geometry.Geometry.{Geometry}
 use Rattle.page_layout.specs.Geometry.{row_count}
@@ -29,6 +29,14 @@ sample_first g all places = record {
 -- whether one of the first 64 of these pages is sound: of a geometry and an arrangement that show none no more is read
 abbrev pub shows_sound : Geometry → List ℕ → Bool
 shows_sound g all = nat_lt 0 (sample_first g all (min (row_count g) 64)).sound
+
+-- whether of these more are sound than neither sound nor erased
+abbrev pub shows_more : Geometry → List ℕ → Bool
+shows_more g all = nat_lt (sample_first g all (min (row_count g) 64)).unsound (sample_first g all (min (row_count g) 64)).sound
+
+-- Where something was cut off more have to be: some cut makes each shape fit by its length, so a page that stands by chance in its place is no sign.
+abbrev pub is_likely : Geometry → Arrangement → List ℕ → Bool
+is_likely g a all = not (is_some a.cut) || shows_more g all
 
 -- ---- pages in their turn
 

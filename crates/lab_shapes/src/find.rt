@@ -4,7 +4,7 @@ ghost use Rattle.page_layout.specs.Limits.{IsDataSize, IsPageCount, IsSpareSize}
 ghost use Rattle.lab_arrange.specs.declared.arrangement.Arrangement.{Arrangement};
 ghost use Rattle.lab_shapes.specs.declared.find.ArrangedFit.{ArrangedFit};
 ghost use Rattle.std.specs.Ordering.{is_lt};
-ghost use Rattle.lab_shapes.specs.Arranged.{FitsArranged, IsBest, IsPossibleAs, arranged_rank, is_likely};
+ghost use Rattle.lab_shapes.specs.Arranged.{FitsArranged, IsBest, IsPossibleAs, arranged_rank};
 ghost use Rattle.lab_shapes.specs.Better.{Improves, InAreas, InWay, InData, InShape, KeepsPossible};
 ghost use Rattle.lab_shapes.specs.Rooms.{HasRoom, IsShapeRoom};
 ghost use Rattle.lab_shapes.specs.Tried.{IsTriedWay};
@@ -86,13 +86,6 @@ fn better(so_far: Option<ArrangedFit>, found: ArrangedFit) -> ArrangedFit
     }
 }
 
-// Whether what fits is no chance: of a dump that was cut more pages are sound than neither sound nor erased.
-fn is_likely(found: &ArrangedFit) -> bool
-    ensures { result ≡ is_likely found.now }
-{
-    found.arrangement.cut.is_none() || found.fit.unsound < found.fit.sound.0
-}
-
 // Tries the geometry of such areas and blocks in this way.
 fn try_shape<D: Dump>(
     room: &mut ShapeRoom,
@@ -125,10 +118,7 @@ fn try_shape<D: Dump>(
         &mut room.raw,
         &mut room.page,
     )?;
-    let Some(found) = found else {
-        return Ok(());
-    };
-    if is_likely(&found) {
+    if let Some(found) = found {
         room.best = Some(better(room.best, found));
     }
     Ok(())
@@ -205,7 +195,7 @@ fn try_way<D: Dump>(
 
 /// The geometry and the arrangement in which the dump fits best, if one fits. Tried is each geometry of a die in each order of the bytes that an
 /// arrangement says, with nothing around the pages, or a header or a tail of a power of two from 16 to 65536 bytes, that comes to the dump's bytes; and
-/// each in order with a part of its last block cut off, where more pages are sound than neither sound nor erased. It fits where, of the dump put in order, one of the first 64 pages that `find_geometries` looks at is sound. The best one has the most pages in their
+/// each in order with a part of its last block cut off. It fits where, of the dump put in order, one of the first 64 pages that `find_geometries` looks at is sound; with a part cut off, where more of these are than neither sound nor erased. The best one has the most pages in their
 /// turn, of those that are looked at: so an order in which blocks stand as they were programmed comes before one in which they do not.
 ///
 /// It takes no memory but that of the room.

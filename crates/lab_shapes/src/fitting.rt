@@ -8,7 +8,7 @@ ghost use Rattle.lab_shapes.specs.Ordered.{in_turn_of, ordered, shows_sound};
 ghost use Rattle.lab_shapes.specs.Tried.{IsTried};
 
 use crate::find::ArrangedFit;
-use crate::looking::{count_in_turn, sample_first, shows_sound, told_in_order};
+use crate::looking::{count_in_turn, is_likely, sample_first, shows_sound, told_in_order};
 use lab_arrange::{Arrangement, fit_arrangement, wanted_length};
 use lab_dump::{Dump, DumpFault, fit_of, looked_count};
 use page_layout::geometry::Geometry;
@@ -36,6 +36,10 @@ fn fit_whole<D: Dump>(
 {
     let shows = shows_sound(dump, size, geometry, arrangement, raw, page)?;
     if !shows {
+        return Ok(None);
+    }
+    let likely = is_likely(dump, size, geometry, arrangement, raw, page)?;
+    if !likely {
         return Ok(None);
     }
     let looked = looked_count(geometry.rows());

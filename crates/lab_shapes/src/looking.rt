@@ -4,7 +4,7 @@ ghost use Rattle.page_layout.specs.Geometry.{page_bytes, row_count};
 ghost use Rattle.lab_arrange.specs.Place.{IsFitting};
 ghost use Rattle.lab_dump.specs.Sample.{looked_count};
 ghost use Rattle.lab_dump.specs.Told.{told_of};
-ghost use Rattle.lab_shapes.specs.Ordered.{follows, in_turn_of, is_in_turn, look_in, ordered, sample_first, shows_sound};
+ghost use Rattle.lab_shapes.specs.Ordered.{follows, in_turn_of, is_in_turn, is_likely, look_in, ordered, sample_first, shows_sound};
 
 use lab_arrange::{Arrangement, read_page, read_spare};
 use lab_dump::{
@@ -198,6 +198,31 @@ pub(crate) fn shows_sound<D: Dump>(
         }
     }
     Ok(false)
+}
+
+/// Whether what fits is no chance: where something was cut off, whether of the first 64 pages that are looked at more are sound than neither sound nor
+/// erased, when the dump is put in order. `raw` and `page` are scratch.
+pub(crate) fn is_likely<D: Dump>(
+    dump: &mut D,
+    size: u64,
+    geometry: &Geometry,
+    arrangement: &Arrangement,
+    raw: &mut [u8],
+    page: &mut [u8],
+) -> Result<bool, DumpFault>
+    requires fits { IsFitting geometry.now arrangement.now }
+    requires page_room { length page.old ≡ page_bytes geometry.now }
+    requires raw_room { length raw.old ≡ page_bytes geometry.now + 2 }
+    ensures likely { IfOk result (λ likely. (all : List ℕ) → D.bytes dump.old ≡ Some all → size ≡ length all → likely ≡ is_likely geometry.now arrangement.now (ordered geometry.now arrangement.now all)) }
+    ensures failed { OnErr result (D.failed dump.new ≡ true) }
+    ensures same { D.bytes dump.new ≡ D.bytes dump.old }
+{
+    if arrangement.cut.is_none() {
+        return Ok(true);
+    }
+    let places = geometry.rows().min(PROBED);
+    let first = sample_first(dump, size, geometry, arrangement, places, raw, page)?;
+    Ok(first.unsound < first.sound)
 }
 
 /// How many of the pages that are looked at are sound and in their turn, when the dump is put in order. `raw` and `page` are scratch.

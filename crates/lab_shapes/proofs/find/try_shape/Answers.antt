@@ -1,6 +1,6 @@
-use Rattle.std.proofs.Common.{◌∙◌, subst, sym, Some}
+use Rattle.std.proofs.Common.{subst, Some}
 use Rattle.lab_shapes.specs.Better.{IsFoundAs, IsShapeIn}
-use Rattle.lab_shapes.proofs.ShapeLemmas.{no_shape, none_fits, none_likely, one_fits}
+use Rattle.lab_shapes.proofs.ShapeLemmas.{no_shape, none_fits, one_fits}
 use Rattle.lab_shapes.proofs.TriedLemmas.{tried_of_way}
 use Rattle.lab_shapes.proofs.find.try_shape.Goals as goal
 
@@ -12,29 +12,16 @@ returns-in_default-clause-better g c = λ all told size.
     let p = c.args.pages in
     no_shape all w c.args.size d s p c.args.room.now.best size (subst (IsShapeIn c.args.size w d s p) c.in_default.is c.shape_in.ensures)
 
-pub returns-then-is_likely-clause-better : goal.returns-then-is_likely-clause-better
-returns-then-is_likely-clause-better g c = λ all told size.
+pub returns-in-Some-found-clause-better : goal.returns-in-Some-found-clause-better
+returns-in-Some-found-clause-better g c = λ all told size.
     let w = c.args.way.now in
     let d = c.args.data_bytes in
     let s = c.args.spare_bytes in
     let p = c.args.pages in
     let geo = c.in-Some.geometry in
     let a = c.in-Some.arrangement in
-    let is = subst (IsShapeIn c.args.size w d s p) c.in-Some.is c.shape_in.ensures in
-    let found = subst (IsFoundAs all geo a) c.in-Some-found.is (c.in_ok-found.ensures.found all told size) in
-    one_fits all w geo a c.in-Some-found.found c.args.size d s p c.args.room.now.best (Some c.better.result) c.requires.tried size is found (sym c.is_likely.ensures ∙ c.if-is_likely.true) c.better.ensures.better
-
-pub returns-else-is_likely-clause-better : goal.returns-else-is_likely-clause-better
-returns-else-is_likely-clause-better g c = λ all told size.
-    let w = c.args.way.now in
-    let d = c.args.data_bytes in
-    let s = c.args.spare_bytes in
-    let p = c.args.pages in
-    let geo = c.in-Some.geometry in
-    let a = c.in-Some.arrangement in
-    let is = subst (IsShapeIn c.args.size w d s p) c.in-Some.is c.shape_in.ensures in
-    let found = subst (IsFoundAs all geo a) c.in-Some-found.is (c.in_ok-found.ensures.found all told size) in
-    none_likely all w geo a c.in-Some-found.found c.args.size d s p c.args.room.now.best c.requires.tried size is found (sym c.is_likely.ensures ∙ c.if-is_likely.false)
+    one_fits all w geo a c.in-Some-found.found c.args.size d s p c.args.room.now.best (Some c.better.result) c.requires.tried size
+    (subst (IsShapeIn c.args.size w d s p) c.in-Some.is c.shape_in.ensures) (subst (IsFoundAs all geo a) c.in-Some-found.is (c.in_ok-found.ensures.found all told size)) c.better.ensures.better
 
 pub returns-in_default-found-clause-better : goal.returns-in_default-found-clause-better
 returns-in_default-found-clause-better g c = λ all told size.
