@@ -21,7 +21,7 @@ use Rattle.ftl_device.specs.Calls.{reply_of, read_reply_of, number_of}
 use Rattle.command_queue.specs.Commands.{HasRoom}
 use Rattle.command_queue.specs.Exchanges.{Exchange, reply_in, answer_to}
 use Rattle.command_queue.specs.Tells.{Tells}
-use Rattle.block_server.specs.Session.{Answers, HasServed, ServesNext, IsBodyOf}
+use Rattle.block_server.specs.Session.{AnswersRequest, HasServed, ServesNext, IsBodyOf}
 
 -- ---- statuses and sectors
 
@@ -110,10 +110,10 @@ module _ {N : Type 0} (flash : N → Flash) (recorded : N → Option Recording) 
     written = wrote;
   }
 
-  pub next_served : (h : Header) (done : Unit {0}) → ReadsRequest (length buffer) u v buffer (Ok (next.Whole h)) → Answers flash recorded honest failed erases old new (request_at h buffer) b a (Ok done) → ServesNext flash recorded honest failed erases old new u v b a (Ok None)
+  pub next_served : (h : Header) (done : Unit {0}) → ReadsRequest (length buffer) u v buffer (Ok (next.Whole h)) → AnswersRequest flash recorded honest failed erases old new (request_at h buffer) b a (Ok done) → ServesNext flash recorded honest failed erases old new u v b a (Ok None)
   next_served h done read answers = served h (Appends b a) answers.exchange read answers.command_is answers.tells answers.sends
 
-  pub next_unsent : (h : Header) (e : ServeFault) → ReadsRequest (length buffer) u v buffer (Ok (next.Whole h)) → Answers flash recorded honest failed erases old new (request_at h buffer) b a (Err e) → ServesNext flash recorded honest failed erases old new u v b a (Err e)
+  pub next_unsent : (h : Header) (e : ServeFault) → ReadsRequest (length buffer) u v buffer (Ok (next.Whole h)) → AnswersRequest flash recorded honest failed erases old new (request_at h buffer) b a (Err e) → ServesNext flash recorded honest failed erases old new u v b a (Err e)
   next_unsent h e read answers =
       subst (λ k. ServesNext flash recorded honest failed erases old new u v b a (Err k)) (sym answers.sends.0) (served h (AppendsFront b a) answers.exchange read answers.command_is answers.tells answers.sends.1)
 

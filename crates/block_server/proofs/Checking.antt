@@ -32,8 +32,8 @@ use Rattle.ftl_device.specs.declared.fault.DeviceFault.TheVariants.{BusFault}
 use Rattle.command_queue.proofs.AcceptedLemmas.{started_well, ran_accepted, ran_each}
 use Rattle.command_queue.proofs.ToldLemmas.{until_so, fault_rose}
 use Rattle.block_server.specs.declared.server.Served.{Served}
-use Rattle.block_server.specs.Session.{Session, Serves}
-use Rattle.block_server.specs.Checked.{HoldsTo, HasFailed, IsBegun, IsServed}
+use Rattle.block_server.specs.Session.{Session, ServesRequests}
+use Rattle.block_server.specs.Checked.{HoldsTo, HasBusFailed, IsBegun, IsServed}
 
 -- what was accepted for the image before the reads is so for that after them
 pub accepted_for : (s t : Flash) (g : Geometry) (capacity : ℕ) (c : Claim) (a : Acceptance) → t ≡ s → s.geometry ≡ g → IsImage g s.image → IsAcceptance g capacity s.image c a → IsAcceptedFor t a
@@ -124,7 +124,7 @@ module _ {N : Type 0} (flash : N → Flash) (recorded : N → Option Recording) 
         }
 
     -- the call that came then, and that the bus failed in
-    has_failed : (x : Exchange) (f : Device N) → AreKnown xs → x.result ≡ Err BusFault → Tells flash recorded honest failed erases e x f → HasFailed flash recorded honest failed erases e x f
+    has_failed : (x : Exchange) (f : Device N) → AreKnown xs → x.result ≡ Err BusFault → Tells flash recorded honest failed erases e x f → HasBusFailed flash recorded honest failed erases e x f
     has_failed x f known bus tells = record { tells = tells; rose = fault_rose flash recorded honest failed erases e f x tells (runs_to.0.going (ap (λ (r : Ram). stop_of r.fault) begun) known) bus }
 
   -- the device as it was started
@@ -150,9 +150,9 @@ module _ {N : Type 0} (flash : N → Flash) (recorded : N → Option Recording) 
         let from : HasRisen (failed checked) (failed e.engine.nand) = subst (λ n. HasRisen (failed n) (failed e.engine.nand)) nand_is risen in
         inr (subst (λ n. HasRisen (failed nand) (failed n)) (sym given_is) (risen_over (failed nand) (failed checked) (failed e.engine.nand) failed_is from))
 
-    holds_until : (xs : List Exchange) → Until (RunsTo flash recorded honest failed erases d) (Tells flash recorded honest failed erases) xs e → Until (HoldsTo flash recorded honest failed erases nand g capacity c d) (HasFailed flash recorded honest failed erases) xs e
+    holds_until : (xs : List Exchange) → Until (RunsTo flash recorded honest failed erases d) (Tells flash recorded honest failed erases) xs e → Until (HoldsTo flash recorded honest failed erases nand g capacity c d) (HasBusFailed flash recorded honest failed erases) xs e
     holds_until xs until =
-        until_so (λ f. f) (RunsTo flash recorded honest failed erases d) (HoldsTo flash recorded honest failed erases nand g capacity c d) (Tells flash recorded honest failed erases) (HasFailed flash recorded honest failed erases) xs e holds_to (λ before mid x known runs_to bus tells. has_failed before mid runs_to x e known bus tells) until
+        until_so (λ f. f) (RunsTo flash recorded honest failed erases d) (HoldsTo flash recorded honest failed erases nand g capacity c d) (Tells flash recorded honest failed erases) (HasBusFailed flash recorded honest failed erases) xs e holds_to (λ before mid x known runs_to bus tells. has_failed before mid runs_to x e known bus tells) until
 
     pub is_served : (u v b w : Option (List ℕ)) (result : Result Served ServeFault) → calm e.engine.nand ≡ calm d.engine.nand → Session flash recorded honest failed erases d e u v b w result → IsServed flash recorded honest calm failed erases nand g capacity c u v b w result given
     is_served u v b w result still session =
@@ -161,7 +161,7 @@ module _ {N : Type 0} (flash : N → Flash) (recorded : N → Option Recording) 
           requests = session.requests;
           exchanges = session.exchanges;
           commands = session.commands;
-          stream = subst (λ (k : Geometry). Serves k.data_bytes u v b w session.requests (replies_in session.exchanges) result) geometry_is session.stream;
+          stream = subst (λ (k : Geometry). ServesRequests k.data_bytes u v b w session.requests (replies_in session.exchanges) result) geometry_is session.stream;
           stays = calls.stays;
           back = record {
             honest_is = ap honest given_is ∙ (calls.honest_is ∙ (ap honest nand_is ∙ honest_is));

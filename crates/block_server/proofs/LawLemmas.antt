@@ -15,7 +15,7 @@ use Rattle.command_queue.specs.Exchanges.{commands_in, replies_in}
 use Rattle.command_queue.specs.Run.{accepted_device}
 use Rattle.command_queue.proofs.EventLemmas.{run_records}
 use Rattle.command_queue.proofs.ToldLemmas.{until_known}
-use Rattle.block_server.specs.Checked.{Headline, Holds, HoldsTo, HasFailed}
+use Rattle.block_server.specs.Checked.{Headline, HeadlineHolds, HoldsTo, HasBusFailed}
 use Rattle.block_server.specs.Laws.{OneArrayLaw, HeadlineAnswersLaw, HeadlineLeadsLaw, HeadlineBadLaw, HeadlineOnceLaw, BegunImageLaw, BegunRecordLaw, ServedRecordLaw, FailedCallLaw, BegunCountsLaw, ServedLaw, BackLaw, UnservedLaw}
 
 pub one_array : OneArrayLaw
@@ -64,7 +64,7 @@ module _ {N : Type 0} (flash : N → Flash) (recorded : N → Option Recording) 
     s.commands,
     s.each,
     λ h known.
-        let all = until_known (HoldsTo flash recorded honest failed erases nand g capacity c s.first) (HasFailed flash recorded honest failed erases) s.exchanges s.last s.headline known h in
+        let all = until_known (HoldsTo flash recorded honest failed erases nand g capacity c s.first) (HasBusFailed flash recorded honest failed erases) s.exchanges s.last s.headline known h in
         subst (λ (f : Flash). Headline g capacity c (flash nand) f s.exchanges) (ap flash (sym s.given_is)) all.headline,
   )
 

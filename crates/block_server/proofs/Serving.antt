@@ -23,7 +23,7 @@ use Rattle.command_queue.specs.Exchanges.{Exchange, reply_in, commands_in, repli
 use Rattle.command_queue.specs.Told.{WasTold}
 use Rattle.command_queue.proofs.ToldLemmas.{all_more, told_none, told_more}
 use Rattle.block_server.specs.declared.server.Served.{Served}
-use Rattle.block_server.specs.Session.{Reads, Session, HasServed, HasNone, ServesNext, left_of}
+use Rattle.block_server.specs.Session.{ReadsRequests, Session, HasServed, HasNone, ServesNext, left_of}
 
 abbrev failure : ServeFault → Result Served ServeFault
 failure e = Err e
@@ -46,7 +46,7 @@ pub record IsServing {N : Type 0} (flash : N → Flash) (recorded : N → Option
   pub exchanges : List Exchange
   pub commands : commands_in exchanges ≡ map command_of requests
   pub told : WasTold flash recorded honest failed erases old exchanges now
-  pub read : Reads old.engine.geometry.data_bytes unread left requests []
+  pub read : ReadsRequests old.engine.geometry.data_bytes unread left requests []
   pub counted : count ≡ length requests
   pub written : writes (replies_bytes requests (replies_in exchanges))
 
@@ -67,7 +67,7 @@ module _ {N : Type 0} (flash : N → Flash) (recorded : N → Option Recording) 
     size_is = ap (λ g. g.data_bytes) so_far.told.calls.sized
 
     -- the requests, and then these bytes
-    reads_then : (w : Option (List ℕ)) (tail : List ℕ) → Consumes v w tail → Reads old.engine.geometry.data_bytes u w so_far.requests tail
+    reads_then : (w : Option (List ℕ)) (tail : List ℕ) → Consumes v w tail → ReadsRequests old.engine.geometry.data_bytes u w so_far.requests tail
     reads_then w tail more =
         let all : List ℕ = flat_map request_bytes so_far.requests in
         record { each = so_far.read.each; bytes = Consumes-trans u v w all tail (subst (Consumes u v) (append-nil all) so_far.read.bytes) more }
@@ -83,7 +83,7 @@ module _ {N : Type 0} (flash : N → Flash) (recorded : N → Option Recording) 
         let joined : replies_bytes (rs ++ r ∷ []) (replies_in (xs ++ x ∷ [])) ≡ front ++ reply_bytes r (reply_in x) =
         ap (replies_bytes (rs ++ r ∷ [])) (map-append reply_in xs (x ∷ [])) ∙ (replies_join rs (r ∷ []) (replies_in xs) (reply_in x ∷ []) (as_many xs rs so_far.commands) ∙ ap (λ l. front ++ l) (append-nil (reply_bytes r (reply_in x)))) in
         let whole : List ℕ = flat_map request_bytes (rs ++ r ∷ []) in
-        let later : Reads old.engine.geometry.data_bytes u w rs (request_bytes r) = reads_then w (request_bytes r) one.read in
+        let later : ReadsRequests old.engine.geometry.data_bytes u w rs (request_bytes r) = reads_then w (request_bytes r) one.read in
         record {
           requests = rs ++ r ∷ [];
           exchanges = xs ++ x ∷ [];
@@ -142,7 +142,7 @@ module _ {N : Type 0} (flash : N → Flash) (recorded : N → Option Recording) 
       ends_so BadFrame tail left (long, bad) =
           (omega (arith, length-append tail left, long), ap is_header (take_at tail left 12 long) ∙ bad)
 
-      splits_so : (all w' : Option (List ℕ)) (tail : List ℕ) → Reads old.engine.geometry.data_bytes all w' so_far.requests tail → Rests old.engine.geometry.data_bytes end tail w' → IfSome all (λ input. Splits old.engine.geometry.data_bytes input so_far.requests end (tail ++ left_of w'))
+      splits_so : (all w' : Option (List ℕ)) (tail : List ℕ) → ReadsRequests old.engine.geometry.data_bytes all w' so_far.requests tail → Rests old.engine.geometry.data_bytes end tail w' → IfSome all (λ input. Splits old.engine.geometry.data_bytes input so_far.requests end (tail ++ left_of w'))
       splits_so None w' tail reads rest = tt
       splits_so (Some input) None tail reads rest = absurd reads.bytes
       splits_so (Some input) (Some left) tail reads rest = record {

@@ -27,7 +27,7 @@ use Rattle.command_queue.specs.Told.{Until}
 use Rattle.block_server.specs.declared.server.Served.{Served}
 use Rattle.block_server.specs.declared.checked.RunFault.{RunFault}
 use Rattle.block_server.specs.declared.checked.RunFault.TheVariants.{Refused, Start, Serve}
-use Rattle.block_server.specs.Session.{Serves}
+use Rattle.block_server.specs.Session.{ServesRequests}
 
 -- THE HEADLINE, of a die that held the image of `s` and holds that of `t` after these exchanges.
 --
@@ -45,7 +45,7 @@ pub record Headline (g : Geometry) (capacity : ℕ) (c : Claim) (s t : Flash) (x
   pub legal : IsLegal g s.image (is_bad_in c) (log_of run.events)
 
 -- the headline holds of these exchanges, and its events are the calls that lead from the one device to the other
-pub record Holds {N : Type 0} (flash : N → Flash) (recorded : N → Option Recording) (honest : N → Bool) (failed erases : N → ℕ) (g : Geometry)
+pub record HeadlineHolds {N : Type 0} (flash : N → Flash) (recorded : N → Option Recording) (honest : N → Bool) (failed erases : N → ℕ) (g : Geometry)
     (capacity : ℕ) (c : Claim) (s : Flash) (old : Device N) (xs : List Exchange) (new : Device N) : Type 0 where
   pub headline : Headline g capacity c s (flash new.engine.nand) xs
   pub each : HappensEach flash recorded honest failed erases old headline.run.events xs new
@@ -53,10 +53,10 @@ pub record Holds {N : Type 0} (flash : N → Flash) (recorded : N → Option Rec
   pub pinned_is : headline.pinned ≡ is_some new.engine.pinned
 
 abbrev pub HoldsTo : {N : Type 0} → (N → Flash) → (N → Option Recording) → (N → Bool) → (failed erases : N → ℕ) → N → Geometry → ℕ → Claim → Device N → List Exchange → Device N → Type 0
-HoldsTo flash recorded honest failed erases nand g capacity c old xs new = honest nand ≡ true → Holds flash recorded honest failed erases g capacity c (flash nand) old xs new
+HoldsTo flash recorded honest failed erases nand g capacity c old xs new = honest nand ≡ true → HeadlineHolds flash recorded honest failed erases g capacity c (flash nand) old xs new
 
 -- the bus failed in this call: the die's count of failures rose in it, or stands at its top
-pub record HasFailed {N : Type 0} (flash : N → Flash) (recorded : N → Option Recording) (honest : N → Bool) (failed erases : N → ℕ) (old : Device N) (x : Exchange) (new : Device N) : Type 0 where
+pub record HasBusFailed {N : Type 0} (flash : N → Flash) (recorded : N → Option Recording) (honest : N → Bool) (failed erases : N → ℕ) (old : Device N) (x : Exchange) (new : Device N) : Type 0 where
   pub tells : Tells flash recorded honest failed erases old x new
   pub rose : HasRisen (failed old.engine.nand) (failed new.engine.nand)
 
@@ -88,7 +88,7 @@ pub record IsServed {N : Type 0} (flash : N → Flash) (recorded : N → Option 
   pub requests : List Request
   pub exchanges : List Exchange
   pub commands : commands_in exchanges ≡ map command_of requests
-  pub stream : Serves g.data_bytes unread left before after requests (replies_in exchanges) result
+  pub stream : ServesRequests g.data_bytes unread left before after requests (replies_in exchanges) result
   pub stays : StaysStopped exchanges
   pub back : IsHandedBack flash honest calm failed nand g given
   pub rose : AreKnown exchanges ⊎ HasRisen (failed nand) (failed given)
@@ -97,7 +97,7 @@ pub record IsServed {N : Type 0} (flash : N → Flash) (recorded : N → Option 
   pub begun : IsBegun flash recorded honest failed nand g c first
   pub each : ToldEach flash recorded honest failed erases first exchanges last
   pub given_is : given ≡ last.engine.nand
-  pub headline : Until (HoldsTo flash recorded honest failed erases nand g capacity c first) (HasFailed flash recorded honest failed erases) exchanges last
+  pub headline : Until (HoldsTo flash recorded honest failed erases nand g capacity c first) (HasBusFailed flash recorded honest failed erases) exchanges last
 
 -- nothing was read or written
 pub record IsUntouched (unread left before after : Option (List ℕ)) : Type 0 where
@@ -118,8 +118,8 @@ pub record IsUnstarted {N : Type 0} (flash : N → Flash) (honest calm : N → B
   pub back : IsHandedBack flash honest calm failed nand g given
 
 -- why requests were not served to their end
-abbrev pub Fails : {N : Type 0} → (N → Flash) → (N → Option Recording) → (honest calm : N → Bool) → (failed erases : N → ℕ) → N → Geometry → ℕ
+abbrev pub FailsToServe : {N : Type 0} → (N → Flash) → (N → Option Recording) → (honest calm : N → Bool) → (failed erases : N → ℕ) → N → Geometry → ℕ
     → Claim → (unread left before after : Option (List ℕ)) → RunFault N → Type 0
-Fails flash recorded honest calm failed erases nand g capacity c unread left before after (Refused why given) = IsUntouched unread left before after × IsUnaccepted flash honest calm failed nand g capacity c why given
-Fails flash recorded honest calm failed erases nand g capacity c unread left before after (Start given) = IsUntouched unread left before after × IsUnstarted flash honest calm failed nand g capacity c given
-Fails flash recorded honest calm failed erases nand g capacity c unread left before after (Serve stop given) = IsServed flash recorded honest calm failed erases nand g capacity c unread left before after (Err stop) given
+FailsToServe flash recorded honest calm failed erases nand g capacity c unread left before after (Refused why given) = IsUntouched unread left before after × IsUnaccepted flash honest calm failed nand g capacity c why given
+FailsToServe flash recorded honest calm failed erases nand g capacity c unread left before after (Start given) = IsUntouched unread left before after × IsUnstarted flash honest calm failed nand g capacity c given
+FailsToServe flash recorded honest calm failed erases nand g capacity c unread left before after (Serve stop given) = IsServed flash recorded honest calm failed erases nand g capacity c unread left before after (Err stop) given

@@ -24,7 +24,7 @@ use Rattle.command_queue.specs.Exchanges.{Exchange, commands_in, replies_in, Are
 use Rattle.command_queue.specs.Tells.{ToldEach}
 use Rattle.command_queue.specs.Run.{accepted_device}
 use Rattle.block_server.specs.declared.server.Served.{Served}
-use Rattle.block_server.specs.Checked.{Headline, Holds, HasFailed, IsBegun, IsHandedBack, IsServed, IsUnaccepted, IsUnstarted}
+use Rattle.block_server.specs.Checked.{Headline, HeadlineHolds, HasBusFailed, IsBegun, IsHandedBack, IsServed, IsUnaccepted, IsUnstarted}
 
 -- ---- of the headline
 
@@ -71,14 +71,14 @@ BegunCountsLaw {N} flash recorded honest failed = (nand : N) (g : Geometry) (c :
 -- THE RECORD OF WHAT WAS SERVED: what an honest die tells afterwards is what it told as it was handed in, with the log of the run, unless the record has ended
 abbrev pub ServedRecordLaw : {N : Type 0} → (N → Flash) → (N → Option Recording) → (N → Bool) → (failed erases : N → ℕ) → Type 0
 ServedRecordLaw {N} flash recorded honest failed erases = (nand : N) (g : Geometry) (capacity : ℕ) (c : Claim) (first new : Device N) (xs : List Exchange)
-    → IsBegun flash recorded honest failed nand g c first → honest nand ≡ true → (h : Holds flash recorded honest failed erases g capacity c (flash nand) first xs new)
+    → IsBegun flash recorded honest failed nand g c first → honest nand ≡ true → (h : HeadlineHolds flash recorded honest failed erases g capacity c (flash nand) first xs new)
     → Records (recorded nand) (log_of h.headline.run.events) (recorded new.engine.nand)
 
 -- ---- of the call that the bus failed in
 
 -- the die's count of failures rose in it, or stands at its top
 abbrev pub FailedCallLaw : {N : Type 0} → (N → Flash) → (N → Option Recording) → (N → Bool) → (failed erases : N → ℕ) → Type 0
-FailedCallLaw {N} flash recorded honest failed erases = (old new : Device N) (x : Exchange) → HasFailed flash recorded honest failed erases old x new
+FailedCallLaw {N} flash recorded honest failed erases = (old new : Device N) (x : Exchange) → HasBusFailed flash recorded honest failed erases old x new
     → HasRisen (failed old.engine.nand) (failed new.engine.nand)
 
 -- ---- of all that was served

@@ -22,7 +22,7 @@ use Rattle.block_server.specs.declared.server.Served.{Served}
 -- ---- the streams
 
 -- these requests were read, and then these bytes
-pub record Reads (size : ℕ) (unread left : Option (List ℕ)) (requests : List Request) (tail : List ℕ) : Type 0 where
+pub record ReadsRequests (size : ℕ) (unread left : Option (List ℕ)) (requests : List Request) (tail : List ℕ) : Type 0 where
   pub each : AllByRecursion (IsRequest size) requests
   pub bytes : Consumes unread left (flat_map request_bytes requests ++ tail)
 
@@ -34,18 +34,18 @@ left_of (Some bytes) = bytes
 -- WHAT WAS READ AND WRITTEN, by the result, of requests and the replies to them. Where the stream ended, its bytes are these requests and
 -- the rest that `end` names, and what was written is all replies, counted. After `Read` what was written answers the requests that were read
 -- whole. After `Write` it is a beginning of the replies. After `OutOfMemory` there is none.
-abbrev pub Serves : ℕ → (unread left before after : Option (List ℕ)) → List Request → List Reply → Result Served ServeFault → Type 0
-Serves size unread left before after requests replies (Ok served) =
-    (tail : List ℕ) × Reads size unread left requests tail × Rests size served.end tail left
+abbrev pub ServesRequests : ℕ → (unread left before after : Option (List ℕ)) → List Request → List Reply → Result Served ServeFault → Type 0
+ServesRequests size unread left before after requests replies (Ok served) =
+    (tail : List ℕ) × ReadsRequests size unread left requests tail × Rests size served.end tail left
     × Appends before after (out_bytes requests replies served.end)
     × (served.replies ≡ length requests + last_count served.end)
     × IfSome unread (λ input. Splits size input requests served.end (tail ++ left_of left))
-Serves size unread left before after requests replies (Err fault.Read) =
-    (tail : List ℕ) × Reads size unread left requests tail × IsBeginning size tail × Appends before after (replies_bytes requests replies)
-Serves size unread left before after requests replies (Err fault.Write) =
-    (Reads size unread left requests [] × AppendsFront before after (replies_bytes requests replies))
-    ⊎ ((tail : List ℕ) × Reads size unread left requests tail × (length tail ≡ 12) × (is_header tail ≡ false) × AppendsFront before after (out_bytes requests replies BadFrame))
-Serves size unread left before after requests replies (Err fault.OutOfMemory) = (requests ≡ []) × Keeps unread left × Keeps before after
+ServesRequests size unread left before after requests replies (Err fault.Read) =
+    (tail : List ℕ) × ReadsRequests size unread left requests tail × IsBeginning size tail × Appends before after (replies_bytes requests replies)
+ServesRequests size unread left before after requests replies (Err fault.Write) =
+    (ReadsRequests size unread left requests [] × AppendsFront before after (replies_bytes requests replies))
+    ⊎ ((tail : List ℕ) × ReadsRequests size unread left requests tail × (length tail ≡ 12) × (is_header tail ≡ false) × AppendsFront before after (out_bytes requests replies BadFrame))
+ServesRequests size unread left before after requests replies (Err fault.OutOfMemory) = (requests ≡ []) × Keeps unread left × Keeps before after
 
 -- ---- the device
 
@@ -56,7 +56,7 @@ pub record Session {N : Type 0} (flash : N → Flash) (recorded : N → Option R
   pub exchanges : List Exchange
   pub commands : commands_in exchanges ≡ map command_of requests
   pub told : WasTold flash recorded honest failed erases old exchanges new
-  pub stream : Serves old.engine.geometry.data_bytes unread left before after requests (replies_in exchanges) result
+  pub stream : ServesRequests old.engine.geometry.data_bytes unread left before after requests (replies_in exchanges) result
 
 -- ---- one request
 
@@ -69,7 +69,7 @@ IsBodyOf body told.Flush = Unit {0}
 IsBodyOf body told.Turn = Unit {0}
 
 -- the device was told what the request asks, and the reply was written, or a beginning of it
-pub record Answers {N : Type 0} (flash : N → Flash) (recorded : N → Option Recording) (honest : N → Bool) (failed erases : N → ℕ)
+pub record AnswersRequest {N : Type 0} (flash : N → Flash) (recorded : N → Option Recording) (honest : N → Bool) (failed erases : N → ℕ)
     (old new : Device N) (r : Request) (before after : Option (List ℕ)) (result : Result (Unit {0}) ServeFault) : Type 0 where
   pub exchange : Exchange
   pub command_is : exchange.command ≡ command_of r

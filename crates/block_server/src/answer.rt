@@ -6,7 +6,7 @@ ghost use Rattle.request_stream.specs.Frames.{request_at};
 ghost use Rattle.ftl_device.specs.Device.{IsDevice};
 ghost use Rattle.command_queue.specs.Commands.{command_of, HasRoom};
 ghost use Rattle.command_queue.specs.Exchanges.{answer_to};
-ghost use Rattle.block_server.specs.Session.{Answers, ServesNext, IsBodyOf};
+ghost use Rattle.block_server.specs.Session.{AnswersRequest, ServesNext, IsBodyOf};
 
 use command_queue::{Command, tell};
 use ftl_device::{Device, DeviceFault};
@@ -65,7 +65,7 @@ fn answer<N: Nand, W: Write>(
     requires body { length body.now ≡ device.old.engine.geometry.data_bytes }
     requires bytes { length bytes.old ≡ device.old.engine.geometry.data_bytes }
     ensures calm { N.calm device.new.engine.nand ≡ N.calm device.old.engine.nand }
-    ensures answers { Answers N.flash N.recorded N.honest N.failed N.erases device.old device.new (request_at header body.now)
+    ensures answers { AnswersRequest N.flash N.recorded N.honest N.failed N.erases device.old device.new (request_at header body.now)
         (W.contents writer.old) (W.contents writer.new) result }
 {
     let done = tell(device, command_for(header, body), bytes);

@@ -1,6 +1,6 @@
 //! A die is checked, a device is started over it, and requests are served.
 ghost use Rattle.std.specs.Prelude.{◌≡◌, Ok, IfOk, IfErr};
-ghost use Rattle.block_server.specs.Checked.{IsServed, Fails};
+ghost use Rattle.block_server.specs.Checked.{IsServed, FailsToServe};
 
 use crate::server::{Served, serve};
 use certificate::Certificate;
@@ -71,7 +71,7 @@ pub fn serve_checked<N: Nand, R: Read, W: Write>(
     requires same_geometry { (N.flash nand).geometry ≡ geometry.now }
     ensures served { IfOk result (λ done. IsServed N.flash N.recorded N.honest N.calm N.failed N.erases nand geometry.now capacity certificate.now
         (R.remaining reader.old) (R.remaining reader.new) (W.contents writer.old) (W.contents writer.new) (Ok done.0) done.1) }
-    ensures fault { IfErr result (Fails N.flash N.recorded N.honest N.calm N.failed N.erases nand geometry.now capacity certificate.now
+    ensures fault { IfErr result (FailsToServe N.flash N.recorded N.honest N.calm N.failed N.erases nand geometry.now capacity certificate.now
         (R.remaining reader.old) (R.remaining reader.new) (W.contents writer.old) (W.contents writer.new)) }
 {
     let accepted = match check(alloc, &mut nand, geometry, capacity, certificate) {

@@ -8,7 +8,7 @@ use Rattle.collection.specs.declared.engine.Engine.{Engine}
 use Rattle.collection.specs.declared.fault.WriteFault.{WriteFault}
 use Rattle.collection.specs.declared.fault.WriteFault.TheVariants.{Bus}
 use Rattle.collection.specs.Safe.{IsSafe, ram}
-use Rattle.collection.specs.Acts.{OnlyLooks, Acts, Stands}
+use Rattle.collection.specs.Acts.{EngineLooks, EngineActs, Stands}
 use Rattle.collection.specs.Results.{fault_after}
 use Rattle.collection.proofs.Costs.{risen_over, err_as, not_bus}
 use Rattle.collection.proofs.Gates.{ram_noted, went_noted}
@@ -33,7 +33,7 @@ is_standing (Some f) e is = (let same : e ≡ f = cc in ap Some (sym same))
 module _ {N : Type 0} {flash : N → Flash} {recorded : N → Option Recording} {honest calm : N → Bool} {failed : N → ℕ} where
   -- ---- calls that act
 
-  pub acts_same : (a : Engine N) → IsSafe flash a → Acts {A = Unit {0}} flash recorded honest calm failed a a (Ok tt)
+  pub acts_same : (a : Engine N) → IsSafe flash a → EngineActs {A = Unit {0}} flash recorded honest calm failed a a (Ok tt)
   acts_same a safe = record {
     safe = safe;
     fault = refl;
@@ -44,7 +44,7 @@ module _ {N : Type 0} {flash : N → Flash} {recorded : N → Option Recording} 
     went = λ known ne. went_same (ram a) (flash a.nand) (recorded a.nand);
   }
 
-  pub acts_then : {A B : Type 0} (a b c : Engine N) (x : A) (result : Result B WriteFault) → (ram b).geometry ≡ (ram a).geometry → Acts flash recorded honest calm failed a b (Ok x) → Acts flash recorded honest calm failed b c result → Acts flash recorded honest calm failed a c result
+  pub acts_then : {A B : Type 0} (a b c : Engine N) (x : A) (result : Result B WriteFault) → (ram b).geometry ≡ (ram a).geometry → EngineActs flash recorded honest calm failed a b (Ok x) → EngineActs flash recorded honest calm failed b c result → EngineActs flash recorded honest calm failed a c result
   acts_then a b c x result same p q = record {
     safe = q.safe;
     fault = q.fault ∙ p.fault;
@@ -56,7 +56,7 @@ module _ {N : Type 0} {flash : N → Flash} {recorded : N → Option Recording} 
   }
 
   -- an answer of another type
-  pub acts_ok : {A B : Type 0} (a b : Engine N) (x : A) (y : B) → Acts flash recorded honest calm failed a b (Ok x) → Acts flash recorded honest calm failed a b (Ok y)
+  pub acts_ok : {A B : Type 0} (a b : Engine N) (x : A) (y : B) → EngineActs flash recorded honest calm failed a b (Ok x) → EngineActs flash recorded honest calm failed a b (Ok y)
   acts_ok a b x y p = record {
     safe = p.safe;
     fault = p.fault;
@@ -67,7 +67,7 @@ module _ {N : Type 0} {flash : N → Flash} {recorded : N → Option Recording} 
     went = λ known ne. p.went known (ok_not_bus x);
   }
 
-  pub acts_err : {A B : Type 0} (a b : Engine N) (fault : WriteFault) → Acts flash recorded honest calm failed a b (err_as A fault) → Acts flash recorded honest calm failed a b (err_as B fault)
+  pub acts_err : {A B : Type 0} (a b : Engine N) (fault : WriteFault) → EngineActs flash recorded honest calm failed a b (err_as A fault) → EngineActs flash recorded honest calm failed a b (err_as B fault)
   acts_err {A} {B} a b fault p = record {
     safe = p.safe;
     fault = p.fault;
@@ -79,7 +79,7 @@ module _ {N : Type 0} {flash : N → Flash} {recorded : N → Option Recording} 
   }
 
   -- a call that is refused for another reason than the die
-  pub acts_end : {A B : Type 0} (a b : Engine N) (x : A) (fault : WriteFault) → fault ≢ Bus → Acts flash recorded honest calm failed a b (Ok x) → Acts flash recorded honest calm failed a b (err_as B fault)
+  pub acts_end : {A B : Type 0} (a b : Engine N) (x : A) (fault : WriteFault) → fault ≢ Bus → EngineActs flash recorded honest calm failed a b (Ok x) → EngineActs flash recorded honest calm failed a b (err_as B fault)
   acts_end {A} {B} a b x fault other p = record {
     safe = p.safe;
     fault = p.fault;
@@ -91,7 +91,7 @@ module _ {N : Type 0} {flash : N → Flash} {recorded : N → Option Recording} 
   }
 
   -- a call that first filled the page buffer
-  pub acts_filled : {A : Type 0} (a b : Engine N) (page : Buffer) (result : Result A WriteFault) → Acts flash recorded honest calm failed (record a { page = page }) b result → Acts flash recorded honest calm failed a b result
+  pub acts_filled : {A : Type 0} (a b : Engine N) (page : Buffer) (result : Result A WriteFault) → EngineActs flash recorded honest calm failed (record a { page = page }) b result → EngineActs flash recorded honest calm failed a b result
   acts_filled a b page result p = record {
     safe = p.safe;
     fault = p.fault;
@@ -118,7 +118,7 @@ module _ {N : Type 0} {flash : N → Flash} {recorded : N → Option Recording} 
   }
 
   -- it is noted
-  pub acts_noted : {A : Type 0} (a b : Engine N) (result : Result A WriteFault) → a.fault ≡ None → Acts flash recorded honest calm failed a b result → Stands flash recorded honest calm failed a (record b { fault = fault_after b.fault result }) result
+  pub acts_noted : {A : Type 0} (a b : Engine N) (result : Result A WriteFault) → a.fault ≡ None → EngineActs flash recorded honest calm failed a b result → Stands flash recorded honest calm failed a (record b { fault = fault_after b.fault result }) result
   acts_noted a b result none p = record {
     safe = record { memory = ram_noted _ (ram b) p.safe.memory; geometry = p.safe.geometry; page = p.safe.page; scratch = p.safe.scratch };
     standing = λ fault is. (let never : ⊥ = cc in absurd never);
@@ -144,7 +144,7 @@ module _ {N : Type 0} {flash : N → Flash} {honest calm : N → Bool} {programs
   }
 
 module _ {N : Type 0} {flash : N → Flash} {recorded : N → Option Recording} {honest calm : N → Bool} {programs erases failed : N → ℕ} where
-  pub looks_same : (a : Engine N) → IsSafe flash a → OnlyLooks {A = Unit {0}} flash recorded honest calm programs erases failed a a (Ok tt)
+  pub looks_same : (a : Engine N) → IsSafe flash a → EngineLooks {A = Unit {0}} flash recorded honest calm programs erases failed a a (Ok tt)
   looks_same a safe = record {
     safe = safe;
     memory = refl;
@@ -155,7 +155,7 @@ module _ {N : Type 0} {flash : N → Flash} {recorded : N → Option Recording} 
     told = λ known ne. refl;
   }
 
-  pub looks_then : {A B : Type 0} (a b c : Engine N) (x : A) (result : Result B WriteFault) → OnlyLooks flash recorded honest calm programs erases failed a b (Ok x) → OnlyLooks flash recorded honest calm programs erases failed b c result → OnlyLooks flash recorded honest calm programs erases failed a c result
+  pub looks_then : {A B : Type 0} (a b c : Engine N) (x : A) (result : Result B WriteFault) → EngineLooks flash recorded honest calm programs erases failed a b (Ok x) → EngineLooks flash recorded honest calm programs erases failed b c result → EngineLooks flash recorded honest calm programs erases failed a c result
   looks_then a b c x result p q = record {
     safe = q.safe;
     memory = q.memory ∙ p.memory;
@@ -166,7 +166,7 @@ module _ {N : Type 0} {flash : N → Flash} {recorded : N → Option Recording} 
     told = λ known ne. q.told (p.only_reads.honest_is ∙ known) ne ∙ p.told known (ok_not_bus x);
   }
 
-  pub looks_ok : {A B : Type 0} (a b : Engine N) (x : A) (y : B) → OnlyLooks flash recorded honest calm programs erases failed a b (Ok x) → OnlyLooks flash recorded honest calm programs erases failed a b (Ok y)
+  pub looks_ok : {A B : Type 0} (a b : Engine N) (x : A) (y : B) → EngineLooks flash recorded honest calm programs erases failed a b (Ok x) → EngineLooks flash recorded honest calm programs erases failed a b (Ok y)
   looks_ok a b x y p = record {
     safe = p.safe;
     memory = p.memory;
@@ -177,7 +177,7 @@ module _ {N : Type 0} {flash : N → Flash} {recorded : N → Option Recording} 
     told = λ known ne. p.told known (ok_not_bus x);
   }
 
-  pub looks_err : {A B : Type 0} (a b : Engine N) (fault : WriteFault) → OnlyLooks flash recorded honest calm programs erases failed a b (err_as A fault) → OnlyLooks flash recorded honest calm programs erases failed a b (err_as B fault)
+  pub looks_err : {A B : Type 0} (a b : Engine N) (fault : WriteFault) → EngineLooks flash recorded honest calm programs erases failed a b (err_as A fault) → EngineLooks flash recorded honest calm programs erases failed a b (err_as B fault)
   looks_err {A} {B} a b fault p = record {
     safe = p.safe;
     memory = p.memory;
@@ -189,7 +189,7 @@ module _ {N : Type 0} {flash : N → Flash} {recorded : N → Option Recording} 
   }
 
   -- a call that only looks acts in no other way
-  pub looked : {A : Type 0} (a b : Engine N) (result : Result A WriteFault) → OnlyLooks flash recorded honest calm programs erases failed a b result → Acts flash recorded honest calm failed a b result
+  pub looked : {A : Type 0} (a b : Engine N) (result : Result A WriteFault) → EngineLooks flash recorded honest calm programs erases failed a b result → EngineActs flash recorded honest calm failed a b result
   looked a b result p = record {
     safe = p.safe;
     fault = ap (λ r. r.fault) p.memory;

@@ -26,7 +26,7 @@ use Rattle.collection.specs.State.{Ram}
 use Rattle.collection.specs.Safe.{IsRam}
 use Rattle.collection.specs.Cost.{moved_live, FailsTry, PassesTry}
 use Rattle.collection.specs.Log.{Went}
-use Rattle.collection.specs.Results.{CanProgram, IsStep, MayPut, IsKept, IsPut, GoesPut, last_record}
+use Rattle.collection.specs.Results.{CanProgram, IsStep, MayPut, IsImageKept, IsPut, GoesPut, last_record}
 use Rattle.collection.proofs.Blocks.{IsMade, IsTaken, taken_at, block_of_taken, taken_table, taken_pointer, failed_bad, made_taken, made_failed}
 use Rattle.collection.proofs.Blocks.{made_passed, moved_pointer, counts_failed, counts_passed}
 use Rattle.collection.proofs.Memory.{Ticks, made_ram, made_goes, table_kept, table_failed}
@@ -134,7 +134,7 @@ module _ (stream : Stream) (block row : ℕ) (r : Ram) (t : State) (s : IsRam r)
     may_program wear = can_program None r old block row (next_record kind n r.next wear) s m.truth is.next.within is.next.good is.next.room is.row_is refl of_key
 
     module _ (r' : Ram) (ticks : Ticks r r') (new : Image) (whole : IsImage r.geometry new) (others : (q : ℕ) → q ≢ row → slice_get new q ≡ slice_get old q) where
-      pub failed_kept : r'.blocks ≡ without block t → Keeps r.geometry old new → IsKept r old r' new
+      pub failed_kept : r'.blocks ≡ without block t → Keeps r.geometry old new → IsImageKept r old r' new
       failed_kept e k = record {
         truth = true_failed None stream block row r r' old new s ticks is.next is.row_is whole others (e ∙ ap (without block) is.left) m.truth k;
         keeps = k;

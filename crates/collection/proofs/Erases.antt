@@ -30,7 +30,7 @@ use Rattle.collection.specs.Safe.{IsRam}
 use Rattle.collection.specs.Truth.{IsTrue, AreFilled, HasTable}
 use Rattle.collection.specs.Log.{IsAccounted, Follows, Went}
 use Rattle.collection.specs.Maps.{Maps}
-use Rattle.collection.specs.Results.{IsKept}
+use Rattle.collection.specs.Results.{IsImageKept}
 use Rattle.collection.specs.Collect.{GoesBut, IsReleased}
 use Rattle.collection.proofs.Blocks.{IsMade, safe_counted}
 use Rattle.collection.proofs.MapLemmas.{maps_stays}
@@ -273,7 +273,7 @@ filled_ended block s t old new m lost pointers zero_at gone f =
 passed_erases : (g : Geometry) (before after : Flash) (block : ℕ) (passed : Bool) (left : List Page) → before.geometry ≡ g → Steps before (Erase block passed left) after → passed ≡ true → ErasesIn g block before.image after.image
 passed_erases g before after block passed left same step did = erase_erases g before after block left same (let P : Bool → Type 0 = λ p. Steps before (Erase block p left) after in subst P did step)
 
-pub ended_kept : (r r' : Ram) (before after : Flash) (block : ℕ) (passed : Bool) (left : List Page) → IsRam r → IsTrue None r before.image → before.geometry ≡ r.geometry → HoldsNone r.geometry.pages block before.image → Steps before (Erase block passed left) after → IsImage r.geometry after.image → IsCleared r r' → HasEnded block passed r.blocks r'.blocks → IsKept r before.image r' after.image
+pub ended_kept : (r r' : Ram) (before after : Flash) (block : ℕ) (passed : Bool) (left : List Page) → IsRam r → IsTrue None r before.image → before.geometry ≡ r.geometry → HoldsNone r.geometry.pages block before.image → Steps before (Erase block passed left) after → IsImage r.geometry after.image → IsCleared r r' → HasEnded block passed r.blocks r'.blocks → IsImageKept r before.image r' after.image
 ended_kept r r' before after block passed left s w same none step whole t h = record { truth = truth; keeps = k }
   where
     k : Keeps r.geometry before.image after.image

@@ -16,7 +16,7 @@ use Rattle.mapping_cache.specs.declared.slot.Slot.{Slot}
 use Rattle.collection.specs.declared.fault.WriteFault.{WriteFault}
 use Rattle.collection.specs.declared.fault.WriteFault.TheVariants.{ReadOnly, SequenceSpent, Damaged, Bus}
 use Rattle.collection.specs.State.{Ram}
-use Rattle.collection.specs.Pages.{newest_row, place_of}
+use Rattle.collection.specs.Pages.{directory_place, newest_row}
 use Rattle.collection.specs.Truth.{IsTrue}
 use Rattle.collection.specs.Safe.{IsRam}
 use Rattle.collection.specs.Cost.{HasTried, PutCosts}
@@ -88,7 +88,7 @@ row_of_cached r image n None row w some is at = absurd (cached_known r.mapping n
 row_of_cached r image n (Some x) row w some is at = at x refl ∙ w.maps.known_is n x (none_not (Sector n)) (sym is)
 
 -- what a look at the directory tells
-pub row_of_place : (r : Ram) (image : Image) (key : Key) (at : ℕ) (row : Option ℕ) → IsTrue None r image → IsKeyOf r.geometry key → place_of r.geometry key ≡ Some at → slice_get r.directory at ≡ Some row → row ≡ newest_row image key
+pub row_of_place : (r : Ram) (image : Image) (key : Key) (at : ℕ) (row : Option ℕ) → IsTrue None r image → IsKeyOf r.geometry key → directory_place r.geometry key ≡ Some at → slice_get r.directory at ≡ Some row → row ≡ newest_row image key
 row_of_place r image key at row w of_key place is = (let e : slice_get r.directory at ≡ Some (newest_row image key) = w.maps.directory_is key at of_key (none_not key) place in let same : row ≡ newest_row image key = cc in same)
 
 pub row_in_range : (r : Ram) (at : ℕ) (row : Option ℕ) → IsRam r → slice_get r.directory at ≡ Some row → ForSome row (λ q. q < row_count r.geometry)

@@ -25,7 +25,7 @@ use Rattle.collection.specs.declared.fault.WriteFault.TheVariants.{ReadOnly, Seq
 use Rattle.collection.specs.State.{Ram}
 use Rattle.collection.specs.declared.engine.Engine.{Engine}
 use Rattle.collection.specs.Safe.{IsRam, IsIdle, ram}
-use Rattle.collection.specs.Acts.{Acts, RestsOrErases}
+use Rattle.collection.specs.Acts.{EngineActs, RestsOrErases}
 use Rattle.collection.specs.Log.{Went}
 use Rattle.collection.specs.Room.{IsFundedOn, IsWorth, Collects}
 use Rattle.collection.specs.Truth.{IsTrue}
@@ -194,7 +194,7 @@ sparing_from a b to flushing block (Ok u) k =
     }
 sparing_from a b to flushing block (Err fault) k = tt
 
-pub acts_from : {A N : Type 0} {flash : N → Flash} {recorded : N → Option Recording} {honest calm : N → Bool} {failed : N → ℕ} (a b : Engine N) (to : Option Pinned) (result : Result A WriteFault) → Acts flash recorded honest calm failed (record a { pinned = to }) b result → Acts flash recorded honest calm failed a b result
+pub acts_from : {A N : Type 0} {flash : N → Flash} {recorded : N → Option Recording} {honest calm : N → Bool} {failed : N → ℕ} (a b : Engine N) (to : Option Pinned) (result : Result A WriteFault) → EngineActs flash recorded honest calm failed (record a { pinned = to }) b result → EngineActs flash recorded honest calm failed a b result
 acts_from a b to result p = record {
   safe = p.safe;
   fault = p.fault;

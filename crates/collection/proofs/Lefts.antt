@@ -24,7 +24,7 @@ use Rattle.collection.specs.Safe.{IsRam, is_shut}
 use Rattle.collection.specs.Pages.{newest_row}
 use Rattle.collection.specs.Truth.{IsTrue}
 use Rattle.collection.specs.Live.{HoldsNoneIn}
-use Rattle.collection.specs.Results.{Leaves}
+use Rattle.collection.specs.Results.{LeavesNewest}
 use Rattle.collection.specs.Collect.{has_moved, is_due, due_count}
 use Rattle.collection.specs.Left.{sectors_in, is_of_some, is_touched, touched_count, left_in, IsHalfDone, IsCalm, LeavesPin, TouchesNoMore}
 use Rattle.collection.proofs.Copies.{exact_at}
@@ -89,7 +89,7 @@ exact_live : (r : Ram) (image : Image) (block : ℕ) → IsRam r → IsTrue None
 exact_live r image block s w lt = omega (arith, sectors_live r.geometry image block, exact_at r image block s w lt)
 
 -- no newest page comes into a shut block
-stays_in : (r r' : Ram) (x y : Image) (block n : ℕ) → r'.geometry ≡ r.geometry → is_shut r.blocks block ≡ true → Leaves r x y → is_in_block r.geometry.pages block (newest_row y (Sector n)) ≡ true → is_in_block r.geometry.pages block (newest_row x (Sector n)) ≡ true
+stays_in : (r r' : Ram) (x y : Image) (block n : ℕ) → r'.geometry ≡ r.geometry → is_shut r.blocks block ≡ true → LeavesNewest r x y → is_in_block r.geometry.pages block (newest_row y (Sector n)) ≡ true → is_in_block r.geometry.pages block (newest_row x (Sector n)) ≡ true
 stays_in r r' x y block n same shut l is =
     let at = in_by r.geometry.pages block (newest_row y (Sector n)) is in
     elim (l.each (Sector n)) [
@@ -100,7 +100,7 @@ stays_in r r' x y block n same shut l is =
           let never : ⊥ = cc in absurd never
     ]
 
-some_stays : (r r' : Ram) (x y : Image) (block t : ℕ) → r'.geometry ≡ r.geometry → is_shut r.blocks block ≡ true → Leaves r x y → is_of_some (entries r'.geometry) (sectors_in r'.geometry y block) t ≡ true → is_of_some (entries r.geometry) (sectors_in r.geometry x block) t ≡ true
+some_stays : (r r' : Ram) (x y : Image) (block t : ℕ) → r'.geometry ≡ r.geometry → is_shut r.blocks block ≡ true → LeavesNewest r x y → is_of_some (entries r'.geometry) (sectors_in r'.geometry y block) t ≡ true → is_of_some (entries r.geometry) (sectors_in r.geometry x block) t ≡ true
 some_stays r r' x y block t same shut l is =
     let here : is_of_some (entries r.geometry) (sectors_in r.geometry y block) t ≡ true = (let P : Geometry → Type 0 = λ g. is_of_some (entries g) (sectors_in g y block) t ≡ true in subst P same is) in
     let fewer = count_filter (λ n. n / entries r.geometry == t) (λ n. is_in_block r.geometry.pages block (newest_row x (Sector n))) (λ n. is_in_block r.geometry.pages block (newest_row y (Sector n))) (range_with_len 0 r.geometry.sectors) (λ n now. stays_in r r' x y block n same shut l now) in
@@ -108,7 +108,7 @@ some_stays r r' x y block t same shut l is =
     positive_some (count_by (λ n. n / entries r.geometry == t) (sectors_in r.geometry x block)) (omega arith)
 
 -- as many translation pages are touched, or fewer
-pub touched_kept : (flushing : Bool) (r r' : Ram) (x y : Image) (block : ℕ) → r'.geometry ≡ r.geometry → is_shut r.blocks block ≡ true → Leaves r x y → ((t : ℕ) → is_due flushing r' t ≡ true → is_touched flushing r x block t ≡ true) → touched_count flushing r' y block ≤ touched_count flushing r x block
+pub touched_kept : (flushing : Bool) (r r' : Ram) (x y : Image) (block : ℕ) → r'.geometry ≡ r.geometry → is_shut r.blocks block ≡ true → LeavesNewest r x y → ((t : ℕ) → is_due flushing r' t ≡ true → is_touched flushing r x block t ≡ true) → touched_count flushing r' y block ≤ touched_count flushing r x block
 touched_kept flushing r r' x y block same shut l due =
     let e : count_by (is_touched flushing r' y block) (range_with_len 0 (translation_pages r.geometry)) ≤ touched_count flushing r x block = count_less (is_touched flushing r x block) (is_touched flushing r' y block) (range_with_len 0 (translation_pages r.geometry)) (λ t is. elim (or_cases (is_due flushing r' t) (is_of_some (entries r'.geometry) (sectors_in r'.geometry y block) t) is) [
       | inl first ↦ due t first

@@ -17,7 +17,7 @@ use Rattle.collection.specs.Safe.{IsRam, is_shut}
 use Rattle.collection.specs.Truth.{IsTrue}
 use Rattle.collection.specs.Cost.{HasPut}
 use Rattle.collection.specs.Live.{NotAt, HoldsNoneIn, IsLivePage, FindsFirst, IsFirstLive}
-use Rattle.collection.specs.Results.{IsSame, Leaves}
+use Rattle.collection.specs.Results.{IsSame, LeavesNewest}
 use Rattle.collection.specs.Collect.{has_moved, is_marked, is_due, due_count, IsLowestDue, HasNoneDue, IsMovedOut, IsCopied, HasWritten}
 use Rattle.collection.specs.Settle.{HasNoMore}
 use Rattle.mapping_cache.specs.Mapping.{cleaned}
@@ -49,7 +49,7 @@ shut_closed s block closed = by (is_good_at s.table block) (is_closed s block) c
     by false b e = refl
 
 -- no newest page comes into a block that is closed
-pub none_leaves : (r : Ram) (x y : Image) (block first end : ℕ) → is_shut r.blocks block ≡ true → end ≤ r.geometry.pages → Leaves r x y → HoldsNoneIn r.geometry.pages block first end x → HoldsNoneIn r.geometry.pages block first end y
+pub none_leaves : (r : Ram) (x y : Image) (block first end : ℕ) → is_shut r.blocks block ≡ true → end ≤ r.geometry.pages → LeavesNewest r x y → HoldsNoneIn r.geometry.pages block first end x → HoldsNoneIn r.geometry.pages block first end y
 none_leaves r x y block first end shut le l h = record {
   none = λ p ge lt key is. elim (l.each key) [
     | inl stayed ↦ h.none p ge lt key (sym stayed ∙ is)

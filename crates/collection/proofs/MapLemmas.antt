@@ -13,7 +13,7 @@ use Rattle.page_layout.proofs.KeyLemmas.{cases_key}
 use Rattle.mapping_cache.specs.Mapping.{MappingState, known, pending}
 use Rattle.translation_pages.specs.TranslationPage.{entry_at}
 use Rattle.translation_pages.specs.Entry.{entry_in, entry_of}
-use Rattle.collection.specs.Pages.{newest_row, place_of}
+use Rattle.collection.specs.Pages.{directory_place, newest_row}
 use Rattle.page_layout.specs.Change.{Keeps, Writes}
 use Rattle.collection.specs.Maps.{Maps, IsPageFor}
 use Rattle.page_layout.proofs.ArrayLemmas.{slice_get-set_same, slice_get-set_other}
@@ -81,11 +81,11 @@ maps_entry g image directory m m' k row w here known_now pending_now known_other
     apart : (n : ℕ) → n ≢ k → Some (Sector k) ≢ Some (Sector n)
     apart n ne e = (let same : n ≡ k = cc in ne same)
 
-    meta : (key : Key) (at : ℕ) → place_of g key ≡ Some at → Some (Sector k) ≢ Some key
-    meta key at is e = (let same : place_of g (Sector k) ≡ place_of g key = ap (place_of g) (let s : Sector k ≡ key = cc in s) in let no : ⊥ = cc in no)
+    meta : (key : Key) (at : ℕ) → directory_place g key ≡ Some at → Some (Sector k) ≢ Some key
+    meta key at is e = (let same : directory_place g (Sector k) ≡ directory_place g key = ap (directory_place g) (let s : Sector k ≡ key = cc in s) in let no : ⊥ = cc in no)
 
 -- two keys don't share a place
-pub places_apart : (g : Geometry) (a b : Key) (i : ℕ) → IsKeyOf g a → IsKeyOf g b → place_of g a ≡ Some i → place_of g b ≡ Some i → a ≡ b
+pub places_apart : (g : Geometry) (a b : Key) (i : ℕ) → IsKeyOf g a → IsKeyOf g b → directory_place g a ≡ Some i → directory_place g b ≡ Some i → a ≡ b
 places_apart g (Translation t) (Translation s) i la lb x y = (let e : t ≡ s = cc in ap Translation e)
 places_apart g (Table t) (Table s) i la lb x y =
     let e : Some (translation_pages g + t) ≡ Some (translation_pages g + s) = x ∙ sym y in
@@ -105,11 +105,11 @@ places_apart g (Translation t) (Sector n) i la lb x y = (let no : ⊥ = cc in ab
 places_apart g (Table t) (Sector n) i la lb x y = (let no : ⊥ = cc in absurd no)
 
 -- a row of the directory
-pub maps_directory : (g : Geometry) (image : Image) (directory : List (Option ℕ)) (m : MappingState) (key : Key) (i : ℕ) (row : Option ℕ) → Maps (Some key) g image directory m → IsKeyOf g key → place_of g key ≡ Some i → i < length directory → newest_row image key ≡ row → Maps None g image (set directory i row) m
+pub maps_directory : (g : Geometry) (image : Image) (directory : List (Option ℕ)) (m : MappingState) (key : Key) (i : ℕ) (row : Option ℕ) → Maps (Some key) g image directory m → IsKeyOf g key → directory_place g key ≡ Some i → i < length directory → newest_row image key ≡ row → Maps None g image (set directory i row) m
 maps_directory g image directory m key i row w of_key place within here = record {
   directory_is = λ k at lt ne is. elim (cases_key key k) [
     | inl same ↦
-        let e : Some i ≡ Some at = sym place ∙ (ap (place_of g) same ∙ is) in
+        let e : Some i ≡ Some at = sym place ∙ (ap (directory_place g) same ∙ is) in
         let ia : i ≡ at = cc in
         ap (slice_get (set directory i row)) (sym ia) ∙ (slice_get-set_same directory i row within ∙ ap Some (sym here ∙ ap (newest_row image) same))
     | inr other ↦ slice_get-set_other directory i at row (λ e. other (places_apart g key k i of_key lt place (is ∙ ap Some e))) ∙ w.directory_is k at lt (λ e. other (let s : key ≡ k = cc in s)) is
@@ -119,7 +119,7 @@ maps_directory g image directory m key i row w of_key place within here = record
 }
   where
     sector : (n : ℕ) → Some key ≢ Some (Sector n)
-    sector n e = (let same : key ≡ Sector n = cc in let p : place_of g key ≡ None = ap (place_of g) same in let no : ⊥ = cc in no)
+    sector n e = (let same : key ≡ Sector n = cc in let p : directory_place g key ≡ None = ap (directory_place g) same in let no : ⊥ = cc in no)
 
 -- translation page t has every row of its sectors, and the mapping forgets that it lacked some
 pub maps_clean : (g : Geometry) (image : Image) (directory : List (Option ℕ)) (m m' : MappingState) (t : ℕ) → Maps None g image directory m → ((n : ℕ) → n < g.sectors → n / entries g ≡ t → entry_of g image n ≡ newest_row image (Sector n)) → ((n : ℕ) (row : Option ℕ) → known m' n ≡ Some row → known m n ≡ Some row) → ((n : ℕ) → n / entries g ≢ t → pending m' n ≡ pending m n) → Maps None g image directory m'

@@ -25,21 +25,21 @@ use Rattle.collection.specs.Pages.{newest_row}
 use Rattle.collection.specs.Maps.{IsPageFor}
 use Rattle.collection.specs.Truth.{IsTrue}
 use Rattle.collection.specs.Safe.{IsOutside, is_shut}
-use Rattle.collection.specs.Results.{MayPut, Attempted, IsKept, IsPut, IsSame, KeepsPage, Leaves, Refused, Goes, GoesPut, last_record, array_after}
+use Rattle.collection.specs.Results.{MayPut, Attempted, IsImageKept, IsPut, IsSame, KeepsPage, LeavesNewest, Refused, Goes, GoesPut, last_record, array_after}
 use Rattle.collection.proofs.Memory.{shut_row}
 use Rattle.collection.proofs.Truths.{row_in_block, newest_in}
 
-pub kept_same : (r : Ram) (image : Image) → IsTrue None r image → IsKept r image r image
+pub kept_same : (r : Ram) (image : Image) → IsTrue None r image → IsImageKept r image r image
 kept_same r image w = record { truth = w; keeps = Keeps-refl r.geometry image w.one }
 
 -- what was kept has the same array
-pub same_kept : (a b : Ram) (x y : Image) → IsKept a x b y → IsSame a x b y
+pub same_kept : (a b : Ram) (x y : Image) → IsImageKept a x b y → IsSame a x b y
 same_kept a b x y k = record { truth = k.truth; array = array_kept a.geometry x y k.keeps; leaves = record { each = λ key. inl (k.keeps.newest_same key); versions = kept_adds_none a.geometry x y k.keeps } }
 
-pub leaves_same : (r : Ram) (old new : Image) → new ≡ old → Leaves r old new
+pub leaves_same : (r : Ram) (old new : Image) → new ≡ old → LeavesNewest r old new
 leaves_same r old new same = record { each = λ key. inl (ap (λ i. newest_row i key) same); versions = λ two key row at. subst (λ i. HasOldAt i key row) same at }
 
-pub leaves_written : (r : Ram) (rec : Record) (row : ℕ) (body : List ℕ) (old new : Image) → Writes r.geometry rec row body old new → IsOutside r row → Leaves r old new
+pub leaves_written : (r : Ram) (rec : Record) (row : ℕ) (body : List ℕ) (old new : Image) → Writes r.geometry rec row body old new → IsOutside r row → LeavesNewest r old new
 leaves_written r rec row body old new w out = record {
   each = λ k. elim (cases_key (key_of rec) k) [
     | inl same ↦ inr (λ q is. (let e : newest_row new k ≡ Some row = ap (newest_row new) (sym same) ∙ w.newest_now in let h : q ≡ row = cc in rw h out.outside))
@@ -75,16 +75,16 @@ module _ (a b c : Ram) (x y z : Image) (goes : Goes a b) (after : c.geometry ≡
   keeps_over : Keeps a.geometry x y → Keeps b.geometry y z → Keeps a.geometry x z
   keeps_over s t = (let P : Geometry → Type 0 = λ g. Keeps g y z in Keeps-trans a.geometry x y z s (subst P goes.geometry t))
 
-  pub kept_then : IsKept a x b y → IsKept b y c z → IsKept a x c z
+  pub kept_then : IsImageKept a x b y → IsImageKept b y c z → IsImageKept a x c z
   kept_then k l = record { truth = l.truth; keeps = keeps_over k.keeps l.keeps }
 
-  pub put_after : (kind : Kind) (n row : ℕ) (body : List ℕ) → IsKept a x b y → IsPut kind n row body b y c z → IsPut kind n row body a x c z
+  pub put_after : (kind : Kind) (n row : ℕ) (body : List ℕ) → IsImageKept a x b y → IsPut kind n row body b y c z → IsPut kind n row body a x c z
   put_after kind n row body k p = record {
     truth = p.truth;
     writes = (let P : Geometry → Type 0 = λ g. Writes g (last_record kind n row c) row body y z in Keeps-Writes a.geometry (last_record kind n row c) row body x y z k.keeps (subst P goes.geometry p.writes));
   }
 
-  pub leaves_then : IsTrue None c z → Leaves a x y → Leaves b y z → Leaves a x z
+  pub leaves_then : IsTrue None c z → LeavesNewest a x y → LeavesNewest b y z → LeavesNewest a x z
   leaves_then w k l = record {
     each = λ key. elim (l.each key) [
       | inl same ↦ elim (k.each key) [
@@ -124,7 +124,7 @@ page_still g old new m body (Sector n) s f = tt
 page_still g old new m body (Translation t) s f = λ n lt at none. f n lt at none ∙ sym (s.newest_same (Sector n))
 page_still g old new m body (Table u) s f = f
 
-pub may_still : (kind : Kind) (n : ℕ) (old_row : Option ℕ) (body body' : List ℕ) (a b : Ram) (x y : Image) → MayPut kind n old_row body a x → body' ≡ body → GoesPut a b → IsKept a x b y → MayPut kind n old_row body' b y
+pub may_still : (kind : Kind) (n : ℕ) (old_row : Option ℕ) (body body' : List ℕ) (a b : Ram) (x y : Image) → MayPut kind n old_row body a x → body' ≡ body → GoesPut a b → IsImageKept a x b y → MayPut kind n old_row body' b y
 may_still kind n old_row body body' a b x y m same goes k = record {
   truth = k.truth;
   page_for = (let e : IsPageFor a.geometry y a.mapping body (key_from kind n) = page_still a.geometry x y a.mapping body (key_from kind n) k.keeps m.page_for in
@@ -133,7 +133,7 @@ may_still kind n old_row body body' a b x y m same goes k = record {
   old_row_is = m.old_row_is ∙ sym (k.keeps.newest_same (key_from kind n));
 }
 
-pub attempted_none : (kind : Kind) (n : ℕ) (body : List ℕ) (a b : Ram) (x y : Image) (o : Option ℕ) → Attempted kind n body a x b y o → o ≡ None → IsKept a x b y
+pub attempted_none : (kind : Kind) (n : ℕ) (body : List ℕ) (a b : Ram) (x y : Image) (o : Option ℕ) → Attempted kind n body a x b y o → o ≡ None → IsImageKept a x b y
 attempted_none kind n body a b x y o t is = (let P : Option ℕ → Type 0 = λ v. Attempted kind n body a x b y v in subst P is t)
 
 pub attempted_some : (kind : Kind) (n row : ℕ) (body body' : List ℕ) (a b : Ram) (x y : Image) (o : Option ℕ) → Attempted kind n body' a x b y o → o ≡ Some row → body' ≡ body → IsPut kind n row body a x b y

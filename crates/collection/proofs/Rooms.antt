@@ -31,7 +31,7 @@ use Rattle.collection.specs.State.{Ram}
 use Rattle.collection.specs.Safe.{IsRam, is_shut}
 use Rattle.collection.specs.Pages.{newest_row}
 use Rattle.collection.specs.Truth.{IsTrue}
-use Rattle.collection.specs.Results.{IsSame, Leaves, Refused}
+use Rattle.collection.specs.Results.{IsSame, LeavesNewest, Refused}
 use Rattle.page_layout.specs.Sound.{version_for}
 use Rattle.collection.specs.Collect.{GoesOn, GoesBut, CollectCosts, CollectCounts, HasNoneWorth, RoomTells, IsRearranged, RoomRefused}
 use Rattle.collection.specs.declared.engine.Engine.{Engine}
@@ -149,7 +149,7 @@ pub in_by : (pages k : ℕ) (o : Option ℕ) → is_in_block pages k o ≡ true 
 in_by pages k None is = (let no : ⊥ = cc in absurd no)
 in_by pages k (Some row) is = (row, refl, eqb-true (row / pages) k is)
 
-pub shut_fewer : (r r' : Ram) (x y : Image) (k : ℕ) → IsRam r → IsRam r' → r'.geometry ≡ r.geometry → IsTrue None r x → IsTrue None r' y → Leaves r x y → k < r.geometry.blocks → is_shut r.blocks k ≡ true → live_at r'.blocks k ≤ live_at r.blocks k
+pub shut_fewer : (r r' : Ram) (x y : Image) (k : ℕ) → IsRam r → IsRam r' → r'.geometry ≡ r.geometry → IsTrue None r x → IsTrue None r' y → LeavesNewest r x y → k < r.geometry.blocks → is_shut r.blocks k ≡ true → live_at r'.blocks k ≤ live_at r.blocks k
 shut_fewer r r' x y k s s' same w w' l lt shut =
     let fewer : live r.geometry (marks y) k ≤ live r.geometry (marks x) k = live_fewer r.geometry x y k (λ key is.
     let at = in_by r.geometry.pages k (newest_row y key) is in

@@ -18,7 +18,7 @@ use Rattle.collection.specs.Maps.{Maps}
 use Rattle.collection.specs.Truth.{IsTrue}
 use Rattle.collection.specs.Safe.{IsRam}
 use Rattle.collection.specs.Cost.{HasPut}
-use Rattle.collection.specs.Settle.{SetsMapping, SetsDirectory, Settles}
+use Rattle.collection.specs.Settle.{SetsMapping, SetsDirectory, SettlesRow}
 use Rattle.collection.specs.Results.{Goes, IsPut, IsReplaced}
 use Rattle.collection.proofs.MapLemmas.{maps_entry, maps_directory}
 
@@ -33,7 +33,7 @@ maps_by g image directory directory' m m' (Table u) row size w of_key here d s =
     let e : Maps None g image (set directory (translation_pages g + u) (Some row)) m = maps_directory g image directory m (Table u) (translation_pages g + u) (Some row) w of_key refl (omega arith) here in
     rw (d, s) e
 
-pub settled_true : (r r' : Ram) (image : Image) (key : Key) (row : ℕ) → IsRam r → IsTrue (Some key) r image → IsKeyOf r.geometry key → newest_row image key ≡ Some row → Settles key row r r' → IsTrue None r' image
+pub settled_true : (r r' : Ram) (image : Image) (key : Key) (row : ℕ) → IsRam r → IsTrue (Some key) r image → IsKeyOf r.geometry key → newest_row image key ≡ Some row → SettlesRow key row r r' → IsTrue None r' image
 settled_true r r' image key row s w of_key here t = record {
   whole = (let x = w.whole in rw t.geometry x);
   one = (let x = w.one in rw t.geometry x);
@@ -82,7 +82,7 @@ left r r' (Table u) row s of_key lt d m = record {
   mapping_of = ap (λ z. z.geometry) m;
 }
 
-pub settled_ram : (r r' : Ram) (key : Key) (row : ℕ) → IsRam r → IsKeyOf r.geometry key → row < row_count r.geometry → Settles key row r r' → IsRam r'
+pub settled_ram : (r r' : Ram) (key : Key) (row : ℕ) → IsRam r → IsKeyOf r.geometry key → row < row_count r.geometry → SettlesRow key row r r' → IsRam r'
 settled_ram r r' key row s of_key lt t =
     let l : Left r r' = left r r' key row s of_key lt t.directory t.mapping in
     record {
@@ -96,14 +96,14 @@ settled_ram r r' key row s of_key lt t =
       marks = (let x = s.marks in rw (t.pin, t.geometry) x);
     }
 
-pub settled_goes : (a b c : Ram) (key : Key) (row : ℕ) → Goes a b → Settles key row b c → Goes a c
+pub settled_goes : (a b c : Ram) (key : Key) (row : ℕ) → Goes a b → SettlesRow key row b c → Goes a c
 settled_goes a b c key row goes t = record {
   geometry = t.geometry ∙ goes.geometry;
   next = (let x = goes.next in rw t.next x);
   shut = (let x = goes.shut in rw t.blocks x);
 }
 
-pub settled_cost : (stream : Stream) (a b c : Ram) (key : Key) (row : ℕ) → HasPut stream a b → Settles key row b c → HasPut stream a c
+pub settled_cost : (stream : Stream) (a b c : Ram) (key : Key) (row : ℕ) → HasPut stream a b → SettlesRow key row b c → HasPut stream a c
 settled_cost stream a b c key row cost t = record {
   failures = cost.failures;
   put = (let x = cost.put in rw t.blocks x);
@@ -111,7 +111,7 @@ settled_cost stream a b c key row cost t = record {
 }
 
 -- a put, and the memory that followed it
-pub replaced_by : (kind : Kind) (n row : ℕ) (body : List ℕ) (a b c : Ram) (x y z : Image) → IsPut kind n row body a x b y → z ≡ y → IsRam b → IsKeyOf a.geometry (key_from kind n) → Goes a b → Settles (key_from kind n) row b c → IsReplaced kind n row body a x c z
+pub replaced_by : (kind : Kind) (n row : ℕ) (body : List ℕ) (a b c : Ram) (x y z : Image) → IsPut kind n row body a x b y → z ≡ y → IsRam b → IsKeyOf a.geometry (key_from kind n) → Goes a b → SettlesRow (key_from kind n) row b c → IsReplaced kind n row body a x c z
 replaced_by kind n row body a b c x y z p same s of_key goes t =
     let k : IsKeyOf b.geometry (key_from kind n) = rw goes.geometry of_key in
     let e : IsReplaced kind n row body a x c y = record { truth = settled_true b c y (key_from kind n) row s p.truth k p.writes.newest_now t; writes = (let w = p.writes in rw (t.next, t.blocks, t.geometry) w) } in

@@ -21,7 +21,7 @@ use Rattle.collection.specs.Safe.{IsRam, IsIdle, is_shut}
 use Rattle.collection.specs.Truth.{IsTrue}
 use Rattle.collection.specs.declared.fault.WriteFault.{WriteFault}
 use Rattle.collection.specs.declared.fault.WriteFault.TheVariants.{Bus}
-use Rattle.collection.specs.Results.{IsSame, IsKept, Leaves, Goes, Refused}
+use Rattle.collection.specs.Results.{IsSame, IsImageKept, LeavesNewest, Goes, Refused}
 use Rattle.collection.specs.Collect.{has_moved, is_due, HasNoneDue, GoesBut, IsEmptied, IsCopiedOr, HasErased, FaultCosts, Refreshes}
 use Rattle.collection.proofs.Puts.{same_then, same_kept, refused_then}
 use Rattle.collection.proofs.Copies.{exact_at}
@@ -56,7 +56,7 @@ zero_live g image block h = count_by_none (λ key. is_in_block g.pages block (ne
 pub live_none : (r : Ram) (image : Image) (block : ℕ) → IsRam r → IsTrue None r image → block < r.geometry.blocks → HoldsNone r.geometry.pages block image → live_at r.blocks block ≡ 0
 live_none r image block s w lt h = exact_at r image block s w lt ∙ zero_live r.geometry image block h
 
-pub hold_leaves : (r : Ram) (x y : Image) (block : ℕ) → is_shut r.blocks block ≡ true → HoldsNone r.geometry.pages block x → Leaves r x y → HoldsNone r.geometry.pages block y
+pub hold_leaves : (r : Ram) (x y : Image) (block : ℕ) → is_shut r.blocks block ≡ true → HoldsNone r.geometry.pages block x → LeavesNewest r x y → HoldsNone r.geometry.pages block y
 hold_leaves r x y block shut h l = record {
   none = λ key row is in_block. elim (l.each key) [
     | inl stayed ↦ h.none key row (sym stayed ∙ is) in_block
@@ -84,7 +84,7 @@ module _ (block : ℕ) (r r1 : Ram) (x x1 : Image) (same : r1 ≡ r) (goes : Goe
       }
 
   -- the block was erased
-  pub emptied_erased : (r3 : Ram) (x3 : Image) → IsRam r3 → r3.geometry ≡ r1.geometry → IsKept r1 x1 r3 x3 → IsEmptied block r x r3 x3
+  pub emptied_erased : (r3 : Ram) (x3 : Image) → IsRam r3 → r3.geometry ≡ r1.geometry → IsImageKept r1 x1 r3 x3 → IsEmptied block r x r3 x3
   emptied_erased r3 x3 s3 after k =
       let h : HoldsNone r1.geometry.pages block x3 = record { none = λ key row is. none_now.none key row (sym (k.keeps.newest_same key) ∙ is) } in
       let g : r3.geometry ≡ r.geometry = after ∙ ap (λ (z : Ram). z.geometry) same in

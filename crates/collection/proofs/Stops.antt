@@ -29,8 +29,8 @@ use Rattle.collection.specs.Live.{FindsFirst, IsFirstLive, IsLivePage}
 use Rattle.collection.specs.State.{Ram}
 use Rattle.collection.specs.Safe.{IsRam}
 use Rattle.collection.specs.Truth.{IsTrue}
-use Rattle.collection.specs.Results.{CanProgram, IsSame, IsKept, Refused}
-use Rattle.collection.specs.Stops.{IsLeft, IsKeptOr, OneGainLaw, room_of}
+use Rattle.collection.specs.Results.{CanProgram, IsSame, IsImageKept, Refused}
+use Rattle.collection.specs.Stops.{IsLeftByStop, IsKeptOr, OneGainLaw, room_of}
 use Rattle.collection.proofs.Mounts.{orderly}
 
 -- ---- one record, one log
@@ -108,28 +108,28 @@ array_sized : (a b : Ram) (x y : Image) → IsSized a b → array_of b.geometry 
 array_sized a b x y s e = subst (λ g. array_of g x ≡ array_of g y) s.geometry e
 
 -- an image that memory knows
-pub left_known : (a b : Ram) (x y : Image) → IsSized a b → IsRam b → IsTrue None b y → (array_of a.geometry y ≡ array_of a.geometry x) → (z : Image) → IsLeft a x z y
+pub left_known : (a b : Ram) (x y : Image) → IsSized a b → IsRam b → IsTrue None b y → (array_of a.geometry y ≡ array_of a.geometry x) → (z : Image) → IsLeftByStop a x z y
 left_known a b x y s safe w e z = record { array = inl e; orderly = orderly_sized a b y s (orderly b y safe w) }
 
 -- A PAGE WAS PROGRAMMED AND ITS ROW IS SET
-pub settled_left : (a b : Ram) (x y left : Image) → IsSized a b → IsRam a → IsRam b → IsTrue None a x → IsTrue None b y → IsKeptOr a.geometry x y left → IsLeft a x y left
+pub settled_left : (a b : Ram) (x y left : Image) → IsSized a b → IsRam a → IsRam b → IsTrue None a x → IsTrue None b y → IsKeptOr a.geometry x y left → IsLeftByStop a x y left
 settled_left a b x y left s safe safe' w v (inl k) = record {
   array = inl (array_kept a.geometry x left k);
   orderly = orderly_kept a.geometry (room_of a) x left k (orderly a x safe w);
 }
-settled_left a b x y left s safe safe' w v (inr e) = subst (λ i. IsLeft a x y i) (sym e) (record {
+settled_left a b x y left s safe safe' w v (inr e) = subst (λ i. IsLeftByStop a x y i) (sym e) (record {
   array = inr refl;
   orderly = orderly_sized a b y s (orderly b y safe' v);
 })
 
 -- after a call that keeps the array
-later_left : (a b : Ram) (x y z left : Image) → IsSized a b → array_of a.geometry y ≡ array_of a.geometry x → IsLeft b y z left → IsLeft a x z left
+later_left : (a b : Ram) (x y z left : Image) → IsSized a b → array_of a.geometry y ≡ array_of a.geometry x → IsLeftByStop b y z left → IsLeftByStop a x z left
 later_left a b x y z left s e l = record {
   array = elim l.array [ inl was ↦ inl (array_sized a b left y s was ∙ e) | inr is ↦ inr (array_sized a b left z s is) ];
   orderly = orderly_sized a b left s l.orderly;
 }
 
-first_left : (a : Ram) (x y z left : Image) → array_of a.geometry y ≡ array_of a.geometry x → IsLeft a x y left → IsLeft a x z left
+first_left : (a : Ram) (x y z left : Image) → array_of a.geometry y ≡ array_of a.geometry x → IsLeftByStop a x y left → IsLeftByStop a x z left
 first_left a x y z left e l = record {
   array = elim l.array [ inl was ↦ inl was | inr is ↦ inl (is ∙ e) ];
   orderly = l.orderly;
@@ -137,10 +137,10 @@ first_left a x y z left e l = record {
 
 -- ONE CALL AFTER ANOTHER, of which the first keeps the array
 pub stops_then : (a b : Ram) (x y z : Flash) (rx ry rz : Option Recording) → IsSized a b → array_of a.geometry y.image ≡ array_of a.geometry x.image
-    → LeavesOnly x y rx ry (IsLeft a x.image y.image) → LeavesOnly y z ry rz (IsLeft b y.image z.image) → LeavesOnly x z rx rz (IsLeft a x.image z.image)
-stops_then a b x y z rx ry rz s e p q = leaves_join x y z rx ry rz (IsLeft a x.image z.image)
-    (leaves_more x y rx ry (IsLeft a x.image y.image) (IsLeft a x.image z.image) (λ i l. first_left a x.image y.image z.image i e l) p)
-    (leaves_more y z ry rz (IsLeft b y.image z.image) (IsLeft a x.image z.image) (λ i l. later_left a b x.image y.image z.image i s e l) q)
+    → LeavesOnly x y rx ry (IsLeftByStop a x.image y.image) → LeavesOnly y z ry rz (IsLeftByStop b y.image z.image) → LeavesOnly x z rx rz (IsLeftByStop a x.image z.image)
+stops_then a b x y z rx ry rz s e p q = leaves_join x y z rx ry rz (IsLeftByStop a x.image z.image)
+    (leaves_more x y rx ry (IsLeftByStop a x.image y.image) (IsLeftByStop a x.image z.image) (λ i l. first_left a x.image y.image z.image i e l) p)
+    (leaves_more y z ry rz (IsLeftByStop b y.image z.image) (IsLeftByStop a x.image z.image) (λ i l. later_left a b x.image y.image z.image i s e l) q)
 
 -- what a refused call knows, where the die gave no fault
 pub refused_same : (a b : Ram) (x y : Image) (fault : WriteFault) → fault ≢ Bus → Refused a x b y fault → IsSame a x b y
@@ -150,30 +150,30 @@ refused_same a b x y Damaged ne k = absurd k
 refused_same a b x y Bus ne k = absurd (ne refl)
 
 -- a page with its tries, where memory knows the image before and after
-pub put_left : (a b : Ram) (x y : Flash) (rx ry : Option Recording) → IsSized a b → IsRam a → IsRam b → IsTrue None a x.image → IsTrue None b y.image → LeavesOnly x y rx ry (IsKeptOr a.geometry x.image y.image) → LeavesOnly x y rx ry (IsLeft a x.image y.image)
-put_left a b x y rx ry s safe safe' w v l = leaves_more x y rx ry (IsKeptOr a.geometry x.image y.image) (IsLeft a x.image y.image) (λ i k. settled_left a b x.image y.image i s safe safe' w v k) l
+pub put_left : (a b : Ram) (x y : Flash) (rx ry : Option Recording) → IsSized a b → IsRam a → IsRam b → IsTrue None a x.image → IsTrue None b y.image → LeavesOnly x y rx ry (IsKeptOr a.geometry x.image y.image) → LeavesOnly x y rx ry (IsLeftByStop a x.image y.image)
+put_left a b x y rx ry s safe safe' w v l = leaves_more x y rx ry (IsKeptOr a.geometry x.image y.image) (IsLeftByStop a x.image y.image) (λ i k. settled_left a b x.image y.image i s safe safe' w v k) l
 
 -- a memory that knows the image before, and a call that changed nothing
-pub same_left : (a : Ram) (x z : Image) → IsRam a → IsTrue None a x → IsLeft a x z x
+pub same_left : (a : Ram) (x z : Image) → IsRam a → IsTrue None a x → IsLeftByStop a x z x
 same_left a x z safe w = left_known a a x x (sized_same a) safe w refl z
 
 -- after a call that looked
-pub stops_looked : (a b : Ram) (x x1 y : Flash) (rx r1 ry : Option Recording) → b ≡ a → x1 ≡ x → r1 ≡ rx → LeavesOnly x1 y r1 ry (IsLeft b x1.image y.image) → LeavesOnly x y rx ry (IsLeft a x.image y.image)
+pub stops_looked : (a b : Ram) (x x1 y : Flash) (rx r1 ry : Option Recording) → b ≡ a → x1 ≡ x → r1 ≡ rx → LeavesOnly x1 y r1 ry (IsLeftByStop b x1.image y.image) → LeavesOnly x y rx ry (IsLeftByStop a x.image y.image)
 stops_looked a b x x1 y rx r1 ry same still told l =
-    subst (λ r. LeavesOnly x y rx ry (IsLeft r x.image y.image)) same (subst (λ f. LeavesOnly f y rx ry (IsLeft b f.image y.image)) still (subst (λ t. LeavesOnly x1 y t ry (IsLeft b x1.image y.image)) told l))
+    subst (λ r. LeavesOnly x y rx ry (IsLeftByStop r x.image y.image)) same (subst (λ f. LeavesOnly f y rx ry (IsLeftByStop b f.image y.image)) still (subst (λ t. LeavesOnly x1 y t ry (IsLeftByStop b x1.image y.image)) told l))
 
 -- by a memory of the same size
-pub stops_sized : (a b : Ram) (x y : Flash) (rx ry : Option Recording) → IsSized a b → LeavesOnly x y rx ry (IsLeft b x.image y.image) → LeavesOnly x y rx ry (IsLeft a x.image y.image)
-stops_sized a b x y rx ry s l = leaves_more x y rx ry (IsLeft b x.image y.image) (IsLeft a x.image y.image) (λ i k. later_left a b x.image x.image y.image i s refl k) l
+pub stops_sized : (a b : Ram) (x y : Flash) (rx ry : Option Recording) → IsSized a b → LeavesOnly x y rx ry (IsLeftByStop b x.image y.image) → LeavesOnly x y rx ry (IsLeftByStop a x.image y.image)
+stops_sized a b x y rx ry s l = leaves_more x y rx ry (IsLeftByStop b x.image y.image) (IsLeftByStop a x.image y.image) (λ i k. later_left a b x.image x.image y.image i s refl k) l
 
 -- what keeps leaves the array
-kept_left : (a : Ram) (x y left : Image) → IsRam a → IsTrue None a x → Keeps a.geometry x left → IsLeft a x y left
+kept_left : (a : Ram) (x y left : Image) → IsRam a → IsTrue None a x → Keeps a.geometry x left → IsLeftByStop a x y left
 kept_left a x y left safe w k = record { array = inl (array_kept a.geometry x left k); orderly = orderly_kept a.geometry (room_of a) x left k (orderly a x safe w) }
 
 -- ONE ERASE of a block that holds no newest page
-pub erase_stops : (a b : Ram) (block : ℕ) (passed : Bool) (left : List Page) (x y : Flash) (rx ry : Option Recording) → x.geometry ≡ a.geometry → IsRam a → IsTrue None a x.image → HoldsNone a.geometry.pages block x.image → Steps x (Erase block passed left) y → Records rx (Erase block passed left ∷ []) ry → IsKept a x.image b y.image → LeavesOnly x y rx ry (IsLeft a x.image y.image)
+pub erase_stops : (a b : Ram) (block : ℕ) (passed : Bool) (left : List Page) (x y : Flash) (rx ry : Option Recording) → x.geometry ≡ a.geometry → IsRam a → IsTrue None a x.image → HoldsNone a.geometry.pages block x.image → Steps x (Erase block passed left) y → Records rx (Erase block passed left ∷ []) ry → IsImageKept a x.image b y.image → LeavesOnly x y rx ry (IsLeftByStop a x.image y.image)
 erase_stops a b block passed left x y rx ry same safe w none step records kept =
-    leaves_one x y (Erase block passed left) rx ry (IsLeft a x.image y.image) step records
+    leaves_one x y (Erase block passed left) rx ry (IsLeftByStop a x.image y.image) step records
     (λ image whole torn. kept_left a x.image y.image image safe w (lost_keeps a.geometry block x.image image w.one none (subst (λ g. LosesIn g.pages block x.image image) same torn)))
     (kept_left a x.image y.image y.image safe w kept.keeps)
 

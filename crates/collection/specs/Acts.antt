@@ -15,7 +15,7 @@ use Rattle.collection.specs.Log.{Went}
 use Rattle.collection.specs.Results.{fault_after}
 
 -- A CALL THAT LOOKS: memory stays, the die is only read, and an honest one stays as it is, and so does what it tells, unless it gave a fault
-pub record OnlyLooks {A N : Type 0} (flash : N → Flash) (recorded : N → Option Recording) (honest calm : N → Bool) (programs erases failed : N → ℕ)
+pub record EngineLooks {A N : Type 0} (flash : N → Flash) (recorded : N → Option Recording) (honest calm : N → Bool) (programs erases failed : N → ℕ)
     (old new : Engine N) (result : Result A WriteFault) : Type 0 where
   pub safe : IsSafe flash new
   pub memory : ram new ≡ ram old
@@ -26,7 +26,7 @@ pub record OnlyLooks {A N : Type 0} (flash : N → Flash) (recorded : N → Opti
   pub told : honest old.nand ≡ true → result ≢ Err Bus → recorded new.nand ≡ recorded old.nand
 
 -- A CALL THAT ACTS, and notes no fault: what an honest die did is one log, unless the die gave a fault, and that is counted
-pub record Acts {A N : Type 0} (flash : N → Flash) (recorded : N → Option Recording) (honest calm : N → Bool) (failed : N → ℕ) (old new : Engine N) (result : Result A WriteFault) : Type 0 where
+pub record EngineActs {A N : Type 0} (flash : N → Flash) (recorded : N → Option Recording) (honest calm : N → Bool) (failed : N → ℕ) (old new : Engine N) (result : Result A WriteFault) : Type 0 where
   pub safe : IsSafe flash new
   pub fault : new.fault ≡ old.fault
   pub honest_is : honest new.nand ≡ honest old.nand

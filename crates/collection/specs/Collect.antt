@@ -77,12 +77,12 @@ abbrev pub IsUpToDate : MappingState → ℕ → Type 0
 IsUpToDate m t = (n : ℕ) → n / per_page m ≡ t → pending m n ≡ None
 
 -- it lacks none, unless it is marked
-abbrev pub IsFresh : Ram → ℕ → Type 0
-IsFresh r t = is_marked r t ≡ false → IsUpToDate r.mapping t
+abbrev pub IsUpToDateUnmarked : Ram → ℕ → Type 0
+IsUpToDateUnmarked r t = is_marked r t ≡ false → IsUpToDate r.mapping t
 
 -- IN A FLUSH: each translation page that lacked no row, or was marked, lacks none or is marked
 pub record Refreshes (old new : Ram) : Type 0 where
-  pub each : (t : ℕ) → t < translation_pages old.geometry → IsFresh old t → IsFresh new t
+  pub each : (t : ℕ) → t < translation_pages old.geometry → IsUpToDateUnmarked old t → IsUpToDateUnmarked new t
 
 -- ---- what stays, whatever the die does
 

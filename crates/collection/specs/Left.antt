@@ -18,7 +18,7 @@ use Rattle.collection.specs.Pages.{newest_row}
 use Rattle.collection.specs.Live.{HoldsNoneIn}
 use Rattle.collection.specs.Safe.{IsRam, IsIdle}
 use Rattle.collection.specs.Truth.{IsTrue}
-use Rattle.collection.specs.Results.{Goes, Leaves, IsSame}
+use Rattle.collection.specs.Results.{Goes, LeavesNewest, IsSame}
 use Rattle.collection.specs.Collect.{is_due, due_count, has_moved, HasCopied, HasWritten, HasErased}
 
 -- ---- how much is left
@@ -158,7 +158,7 @@ PinLaw = (r : Ram) (p : Pinned) → p.block < r.geometry.blocks → r.mapping.mo
 -- ANOTHER CALL NEVER RAISES IT
 abbrev pub KeptLaw : Type 0
 KeptLaw = (old new : Ram) (before after : Image) (block : ℕ) → IsRam old → IsRam new → IsTrue None old before → IsTrue None new after
-    → block < old.geometry.blocks → is_closed old.blocks block ≡ true → LeavesPin old new → Leaves old before after
+    → block < old.geometry.blocks → is_closed old.blocks block ≡ true → LeavesPin old new → LeavesNewest old before after
     → left_in false new after block ≤ left_in false old before block
 
 -- memory stays calm in it
@@ -167,17 +167,17 @@ CalmLaw = (old new : Ram) → LeavesPin old new → IsCalm old → IsCalm new
 
 -- pages that were passed stay so
 abbrev pub PassedLaw : Type 0
-PassedLaw = (old new : Ram) (before after : Image) → IsCalm old → LeavesPin old new → Leaves old before after → PinHasPassed old before → PinHasPassed new after
+PassedLaw = (old new : Ram) (before after : Image) → IsCalm old → LeavesPin old new → LeavesNewest old before after → PinHasPassed old before → PinHasPassed new after
 
 -- and few pages stay few
 abbrev pub FewLaw : Type 0
 FewLaw = (extra : ℕ) (old new : Ram) (before after : Image) → IsRam old → IsRam new → IsTrue None old before → IsTrue None new after → IsCalm old
-    → LeavesPin old new → Leaves old before after → PinIsFew extra old → PinIsFew extra new
+    → LeavesPin old new → LeavesNewest old before after → PinIsFew extra old → PinIsFew extra new
 
 -- EACH PAGE THAT IS COPIED LOWERS IT: where another sector is moved, its newest page was in the block
 abbrev pub CopyLaw : Type 0
 CopyLaw = (flushing : Bool) (old new : Ram) (before after : Image) (block : ℕ) → block < old.geometry.blocks → is_closed old.blocks block ≡ true
-    → new.geometry ≡ old.geometry → Leaves old before after → TouchesNoMore flushing block old before new
+    → new.geometry ≡ old.geometry → LeavesNewest old before after → TouchesNoMore flushing block old before new
     → live_at new.blocks block + 1 ≡ live_at old.blocks block → left_in flushing new after block + 1 ≤ left_in flushing old before block
 
 -- EACH TRANSLATION PAGE THAT IS WRITTEN LOWERS IT, where no newest page is left then

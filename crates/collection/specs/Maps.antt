@@ -10,12 +10,12 @@ use Rattle.bad_blocks.specs.TablePage.{IsWellFormed}
 use Rattle.mapping_cache.specs.Mapping.{MappingState, known, pending}
 use Rattle.translation_pages.specs.TranslationPage.{entry_at}
 use Rattle.translation_pages.specs.Entry.{entry_of}
-use Rattle.collection.specs.Pages.{newest_row, place_of}
+use Rattle.collection.specs.Pages.{directory_place, newest_row}
 
 -- They are right for each key but this one: the directory's row and the mapping's are those of newest pages, and where the mapping has no
 -- row that its translation page lacks, the entry there is right.
 pub record Maps (but : Option Key) (g : Geometry) (image : Image) (directory : List (Option ℕ)) (m : MappingState) : Type 0 where
-  pub directory_is : (key : Key) (at : ℕ) → IsKeyOf g key → but ≢ Some key → place_of g key ≡ Some at → slice_get directory at ≡ Some (newest_row image key)
+  pub directory_is : (key : Key) (at : ℕ) → IsKeyOf g key → but ≢ Some key → directory_place g key ≡ Some at → slice_get directory at ≡ Some (newest_row image key)
   pub known_is : (n : ℕ) (row : Option ℕ) → but ≢ Some (Sector n) → known m n ≡ Some row → row ≡ newest_row image (Sector n)
   pub entry_is : (n : ℕ) → n < g.sectors → but ≢ Some (Sector n) → pending m n ≡ None → entry_of g image n ≡ newest_row image (Sector n)
 

@@ -13,7 +13,7 @@ abbrev pub newest_row : Image → Key → Option ℕ
 newest_row image key = newest (marks image) key
 
 -- where the directory has a key's row; a sector has no place there
-abbrev pub place_of : Geometry → Key → Option ℕ
-place_of g (Sector n) = None
-place_of g (Translation t) = Some t
-place_of g (Table u) = Some (translation_pages g + u)
+abbrev pub directory_place : Geometry → Key → Option ℕ
+directory_place g (Sector n) = None
+directory_place g (Translation t) = Some t
+directory_place g (Table u) = Some (translation_pages g + u)

@@ -51,7 +51,7 @@ pub record IsStep (row : ℕ) (outcome : Outcome) (old : Flash) (told : Option R
 -- ---- what a call leaves, where the die is honest
 
 -- nothing that counts has changed
-pub record IsKept (old : Ram) (before : Image) (new : Ram) (after : Image) : Type 0 where
+pub record IsImageKept (old : Ram) (before : Image) (new : Ram) (after : Image) : Type 0 where
   pub truth : IsTrue None new after
   pub keeps : Keeps old.geometry before after
 
@@ -86,7 +86,7 @@ pub record IsReplaced (kind : Kind) (n row : ℕ) (body : List ℕ) (old : Ram) 
 
 -- Each newest page is where it was, or in a block that was neither bad nor closed. Where the die has version 2, no newest page of version 1 is
 -- added.
-pub record Leaves (r : Ram) (old new : Image) : Type 0 where
+pub record LeavesNewest (r : Ram) (old new : Image) : Type 0 where
   pub each : (key : Key) → (newest_row new key ≡ newest_row old key) ⊎ ((row : ℕ) → newest_row new key ≡ Some row → is_shut r.blocks (row / r.geometry.pages) ≡ false)
   pub versions : AddsNoOld r.geometry old new
 
@@ -99,7 +99,7 @@ pub record KeepsPage (key : Key) (before after : Image) : Type 0 where
 pub record IsSame (old : Ram) (before : Image) (new : Ram) (after : Image) : Type 0 where
   pub truth : IsTrue None new after
   pub array : array_of old.geometry after ≡ array_of old.geometry before
-  pub leaves : Leaves old before after
+  pub leaves : LeavesNewest old before after
 
 -- after a fault: where the die gave none, nothing that counts has changed, and nothing was damaged
 abbrev pub Refused : Ram → Image → Ram → Image → WriteFault → Type 0
@@ -116,14 +116,14 @@ pub record MayPut (kind : Kind) (n : ℕ) (old_row : Option ℕ) (body : List �
 
 -- one attempt: the row, where it passed
 abbrev pub Attempted : Kind → ℕ → List ℕ → Ram → Image → Ram → Image → Option ℕ → Type 0
-Attempted kind n body old before new after None = IsKept old before new after
+Attempted kind n body old before new after None = IsImageKept old before new after
 Attempted kind n body old before new after (Some row) = IsPut kind n row body old before new after
 
 -- the sector holds what was handed in, in a newest page of this kind
 pub record IsWritten (kind : Kind) (n : ℕ) (body : List ℕ) (old : Ram) (before : Image) (new : Ram) (after : Image) : Type 0 where
   pub truth : IsTrue None new after
   pub array : array_of old.geometry after ≡ slice_set (array_of old.geometry before) n (content_of_kind old.geometry kind body)
-  pub leaves : Leaves old before after
+  pub leaves : LeavesNewest old before after
   pub row : ℕ
   pub writes : Writes old.geometry (last_record kind n row new) row body before after
 

@@ -45,7 +45,7 @@ SetsDirectory g (Translation t) row old new = new ≡ slice_set old t (Some row)
 SetsDirectory g (Table u) row old new = new ≡ slice_set old (translation_pages g + u) (Some row)
 
 -- the row of a key is set, and all else in memory is as it was
-pub record Settles (key : Key) (row : ℕ) (old new : Ram) : Type 0 where
+pub record SettlesRow (key : Key) (row : ℕ) (old new : Ram) : Type 0 where
   pub geometry : new.geometry ≡ old.geometry
   pub directory : SetsDirectory old.geometry key row old.directory new.directory
   pub mapping : SetsMapping key row old.mapping new.mapping

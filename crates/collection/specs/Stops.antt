@@ -17,7 +17,7 @@ abbrev pub room_of : Ram → ℕ
 room_of r = r.mapping.capacity + r.geometry.pages
 
 -- AN IMAGE THAT A STOP IN A CALL MAY LEAVE: its array is the one before the call or the one after it, and it mounts
-pub record IsLeft (r : Ram) (before after left : Image) : Type 0 where
+pub record IsLeftByStop (r : Ram) (before after left : Image) : Type 0 where
   pub array : (array_of r.geometry left ≡ array_of r.geometry before) ⊎ (array_of r.geometry left ≡ array_of r.geometry after)
   pub orderly : IsOrderly r.geometry (room_of r) left
 
@@ -31,7 +31,7 @@ Stops flash recorded is_so old new = LeavesOnly (flash old.nand) (flash new.nand
 
 -- A CALL THAT A STOP MAY CUT SHORT: whatever the stop leaves mounts, and has the array before the call or the one after it
 abbrev pub StopsSafely : {N : Type 0} → (N → Flash) → (N → Option Recording) → Engine N → Engine N → Type 0
-StopsSafely flash recorded old new = Stops flash recorded (IsLeft (ram old) (image_in flash old) (image_in flash new)) old new
+StopsSafely flash recorded old new = Stops flash recorded (IsLeftByStop (ram old) (image_in flash old) (image_in flash new)) old new
 
 -- ---- laws
 

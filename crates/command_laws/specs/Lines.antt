@@ -6,18 +6,18 @@ use Rattle.commands.specs.declared.text.CommandFault.{CommandFault}
 use Rattle.commands.specs.declared.text.ServeStop.{ServeStop}
 use Rattle.commands.specs.Files.{Stored, written, unwritten, with_store}
 use Rattle.commands.specs.Lines.{IsUnprinted}
-use Rattle.commands.specs.Text.{IsTold, told_line, status_of}
-use Rattle.commands.specs.Serve.{Ends}
+use Rattle.commands.specs.Text.{IsCommandFaultTold, told_line, status_of}
+use Rattle.commands.specs.Serve.{EndsServing}
 
 -- THE LINE OF A FAULT was written, and the status is the fault's; or a part of it was, and the status is 3
 abbrev pub ToldLaw : Type 0
-ToldLaw = (fault : CommandFault) (before after : Option (List ℕ)) (status : ℕ) → IsTold fault before after status
+ToldLaw = (fault : CommandFault) (before after : Option (List ℕ)) (status : ℕ) → IsCommandFaultTold fault before after status
     → (status ≢ 3 → (status ≡ status_of fault) × Appends before after (told_line fault))
     × (status ≢ status_of fault → AppendsPart before after (told_line fault))
 
 -- A LINE THAT STANDS THERE WHOLE goes with its fault's own status
 abbrev pub WholeLineLaw : Type 0
-WholeLineLaw = (fault : CommandFault) (before : List ℕ) (after : Option (List ℕ)) (status : ℕ) → IsTold fault (Some before) after status
+WholeLineLaw = (fault : CommandFault) (before : List ℕ) (after : Option (List ℕ)) (status : ℕ) → IsCommandFaultTold fault (Some before) after status
     → Appends (Some before) after (told_line fault) → status ≡ status_of fault
 
 -- ON STANDARD OUTPUT too: a line that is told as unprinted does not stand there whole
@@ -34,5 +34,5 @@ StoresInOrderLaw = (earlier : List Stored) (last : Stored) → with_store (Some 
 
 -- A SERVER THAT IS TOLD AS DONE was not stopped
 abbrev pub UnstoredLaw : Type 0
-UnstoredLaw = (path image : List ℕ) (how : Option ServeStop) (before after : Option (List Stored)) → Ends path image how before after (Ok tt)
+UnstoredLaw = (path image : List ℕ) (how : Option ServeStop) (before after : Option (List Stored)) → EndsServing path image how before after (Ok tt)
     → (how ≡ None) × (after ≡ with_store before (written path image))

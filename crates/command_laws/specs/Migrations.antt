@@ -28,7 +28,7 @@ use Rattle.commands.specs.declared.files.FileFault.{FileFault}
 use Rattle.commands.specs.declared.text.CommandFault.{CommandFault}
 use Rattle.commands.specs.Check.{AsksForCapacity}
 use Rattle.commands.specs.Files.{Left, Stored, with_store, written, unwritten}
-use Rattle.commands.specs.Migrate.{Calls, DoesMigrate, EndsShort, MigratesDie, migrated_line}
+use Rattle.commands.specs.Migrate.{CallsMigrate, DoesMigrate, EndsShort, MigratesDie, migrated_line}
 use Rattle.commands.specs.Serve.{Driver, bad_in, checked_words, flash_behind, recorded_of}
 use Rattle.commands.specs.Text.{device_words, line_of}
 
@@ -89,7 +89,7 @@ abbrev pub RenewsWithRoom : {N : Type 0} → (N → Flash) → (N → Option Rec
 RenewsWithRoom flash recorded honest calm programs erases failed zero old new = new ≡ old
 RenewsWithRoom {N} flash recorded honest calm programs erases failed (suc count) old new =
     (mid : Device N) × RenewsWithRoom flash recorded honest calm programs erases failed count old mid × (9 ≤ free_count (ram mid.engine).blocks)
-    × Calls flash recorded honest calm programs erases failed mid (Ok true) new
+    × CallsMigrate flash recorded honest calm programs erases failed mid (Ok true) new
 
 -- THE NUMBER OF CALLS THAT ANSWERED TRUE IS ONE, where nine blocks are free as each begins: two tellings of calls from one device to one image have as
 -- many. So none tells two calls as one.

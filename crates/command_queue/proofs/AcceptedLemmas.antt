@@ -28,7 +28,7 @@ use Rattle.ftl_device.specs.declared.fault.DeviceFault.TheVariants.{OutOfRange, 
 use Rattle.ftl_device.specs.Begin.{begun_ram, is_bad_in, wear_in, free_in, is_scarce}
 use Rattle.ftl_device.specs.Device.{IsAcceptedFor}
 use Rattle.ftl_device.specs.Calls.{stop_of, PinIsTrue, IsWell}
-use Rattle.ftl_device.specs.Counts.{is_bad_by, IsShortIn, IsShown, IsLeft}
+use Rattle.ftl_device.specs.Counts.{is_bad_by, IsShortIn, IsShown, IsLeftReadOnly}
 use Rattle.command_queue.specs.Exchanges.{Exchange}
 use Rattle.command_queue.specs.Tells.{die_in}
 use Rattle.command_queue.specs.Run.{AreFair, HasRun, HappensEach, Ran, accepted_device, RanFrom}
@@ -76,7 +76,7 @@ module _ (g : Geometry) (p q : ℕ → Bool) (u v : ℕ → ℕ) (same : (b : �
   scarce_as before call ro (inl few) = inl (omega (arith, good_as (before ++ call)))
   scarce_as before call ro (inr more) = inr more
 
-  left_as : (command : Command) (before call : List Operation) (ro : Bool) (result : Result (Unit {0}) DeviceFault) → IsLeft command g p before call ro result → IsLeft command g q before call ro result
+  left_as : (command : Command) (before call : List Operation) (ro : Bool) (result : Result (Unit {0}) DeviceFault) → IsLeftReadOnly command g p before call ro result → IsLeftReadOnly command g q before call ro result
   left_as command before call ro (Ok done) left = elim left [ inl short ↦ inl (scarce_as before call ro short) | inr flushes ↦ inr flushes ]
   left_as command before call ro (Err OutOfRange) left = tt
   left_as command before call ro (Err (ReadOnly good wanted failed)) left = tt

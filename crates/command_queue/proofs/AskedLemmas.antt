@@ -26,7 +26,7 @@ use Rattle.ftl_device.specs.Renewed.{HasOldTablesOnly, HasNoneOld}
 use Rattle.ftl_device.proofs.RenewedLemmas.{adds_then, stays_new, finishes}
 use Rattle.command_queue.specs.Exchanges.{Exchange}
 use Rattle.command_queue.specs.Tells.{Tells, ToldEach}
-use Rattle.command_queue.specs.Asked.{Asked, Told, Migrated, command_asked, reply_asked, HaveOutcomes, HaveFlushed, MigratesOne, AskedEach, Does, DoesEach, log_asked, DoesAll}
+use Rattle.command_queue.specs.Asked.{Asked, Told, Migrated, command_asked, reply_asked, HaveOutcomes, HaveFlushed, MigratesOne, AskedEach, DoesCall, DoesEach, log_asked, DoesAll}
 
 pub room_two : (g : Geometry) → 40 ≤ g.spare_bytes → version_for g ≡ 2
 room_two g room = (let e : nat_le 40 g.spare_bytes ≡ true = le-leb 40 g.spare_bytes room in let pick : Bool → ℕ = λ b. if b then 2 else 1 in ap pick e)
@@ -45,12 +45,12 @@ module _ {N : Type 0} (flash : N → Flash) (recorded : N → Option Recording) 
   -- ---- one call
 
   module _ (old mid : Device N) (is_honest : honest old.engine.nand ≡ true) (well : IsWell flash old) where
-    does_told : (x : Exchange) → x.result ≢ Err BusFault → Tells flash recorded honest failed erases old x mid → Does flash recorded old (Told x) mid
+    does_told : (x : Exchange) → x.result ≢ Err BusFault → Tells flash recorded honest failed erases old x mid → DoesCall flash recorded old (Told x) mid
     does_told x some tells =
         let h = tells.happened is_honest well some in
         record { sized = tells.sized; step = h.step; went = h.went; stopped = h.stopped; versions = h.versions; well = tells.well is_honest well some }
 
-    does_migrated : (result : Result Bool DeviceFault) → ended result ≢ Err BusFault → MigratesOne flash recorded honest calm programs erases failed old result mid → Does flash recorded old (Migrated result) mid
+    does_migrated : (result : Result Bool DeviceFault) → ended result ≢ Err BusFault → MigratesOne flash recorded honest calm programs erases failed old result mid → DoesCall flash recorded old (Migrated result) mid
     does_migrated result some m =
         let logs = m.upkeeps.logs is_honest some in
         let means = m.upkeeps.means is_honest well some in
@@ -81,7 +81,7 @@ module _ {N : Type 0} (flash : N → Flash) (recorded : N → Option Recording) 
         well = well;
       })
 
-  does_more : (old mid new : Device N) (call : Asked) (calls : List Asked) (log : List Operation) (here : Does flash recorded old call mid) → DoesAll flash recorded mid calls new log → DoesAll flash recorded old (call ∷ calls) new (here.went.log ++ log)
+  does_more : (old mid new : Device N) (call : Asked) (calls : List Asked) (log : List Operation) (here : DoesCall flash recorded old call mid) → DoesAll flash recorded mid calls new log → DoesAll flash recorded old (call ∷ calls) new (here.went.log ++ log)
   does_more old mid new call calls log here rest = record {
     array = (state_in flash mid, here.step, subst (λ g. ArrayRun g (state_in flash mid) (map command_asked calls) (map reply_asked calls) (state_in flash new)) here.sized rest.array);
     leads = Leads-append (flash old.engine.nand) (flash mid.engine.nand) (flash new.engine.nand) here.went.log log here.went.leads rest.leads;

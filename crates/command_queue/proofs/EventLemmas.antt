@@ -15,7 +15,7 @@ use Rattle.image_check.specs.Stale.{is_stale}
 use Rattle.collection.specs.Safe.{image_in}
 use Rattle.ftl_device.specs.declared.device.Device.{Device}
 use Rattle.ftl_device.specs.declared.fault.DeviceFault.TheVariants.{ReadOnly, SequenceSpent, Damaged}
-use Rattle.ftl_device.specs.Counts.{IsLeft, IsShown}
+use Rattle.ftl_device.specs.Counts.{IsLeftReadOnly, IsShown}
 use Rattle.ftl_device.specs.Changes.{MayPin}
 use Rattle.ftl_device.specs.Flush.{First}
 use Rattle.ftl_device.specs.Stopped.{changes_sector, HoldsEither}
@@ -105,7 +105,7 @@ spent_event first old before event x fair = (fair.shown SequenceSpent, fair.show
 
 pub left_event : LeftEventLaw
 left_event first old before event x fair done on =
-    subst (IsLeft x.command first.geometry first.bad before event.piece old.ro) done (fair.left on)
+    subst (IsLeftReadOnly x.command first.geometry first.bad before event.piece old.ro) done (fair.left on)
 
 pub flush_event : FlushEventLaw
 flush_event first old before event x fair flushes done = (fair.flushed flushes done).fresh

@@ -14,7 +14,7 @@ use Rattle.collection.specs.Log.{Follows}
 use Rattle.ftl_device.specs.declared.fault.DeviceFault.{DeviceFault}
 use Rattle.ftl_device.specs.declared.fault.DeviceFault.TheVariants.{OutOfRange, ReadOnly, SequenceSpent, OutOfMemory, Damaged, BusFault}
 use Rattle.ftl_device.specs.Calls.{Says}
-use Rattle.ftl_device.specs.Counts.{is_bad_by, IsShown, IsLeft}
+use Rattle.ftl_device.specs.Counts.{is_bad_by, IsShown, IsLeftReadOnly}
 use Rattle.ftl_device.proofs.CountLemmas.{good_of_log, short_in, bads}
 
 -- a call was not answered `Damaged`
@@ -47,7 +47,7 @@ module _ (old new : Ram) (call : List Operation) (safe : IsRam old) (safe' : IsR
   shown_on next ro image (Err Damaged) w spent says shown sound ne = sound
   shown_on next ro image (Err BusFault) w spent says shown sound ne = ne refl
 
-  pub left_on : (command : Command) (ro : Bool) (result : Result (Unit {0}) DeviceFault) → IsLeft command old.geometry (is_bad_by old) [] call ro result → IsLeft command old.geometry bad before call ro result
+  pub left_on : (command : Command) (ro : Bool) (result : Result (Unit {0}) DeviceFault) → IsLeftReadOnly command old.geometry (is_bad_by old) [] call ro result → IsLeftReadOnly command old.geometry bad before call ro result
   left_on command ro (Ok done) left = elim left [ inl short ↦ inl (short_on ro short) | inr flushes ↦ inr flushes ]
   left_on command ro (Err OutOfRange) left = tt
   left_on command ro (Err (ReadOnly good wanted failed)) left = tt

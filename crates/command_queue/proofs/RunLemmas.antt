@@ -35,7 +35,7 @@ use Rattle.ftl_device.specs.declared.device.Device.{Device}
 use Rattle.ftl_device.specs.declared.fault.DeviceFault.{DeviceFault}
 use Rattle.ftl_device.specs.declared.fault.DeviceFault.TheVariants.{OutOfRange, ReadOnly, SequenceSpent, OutOfMemory, Damaged, BusFault}
 use Rattle.ftl_device.specs.Calls.{IsWell, Says, HasRescued, state_in, reply_of, read_reply_of}
-use Rattle.ftl_device.specs.Counts.{is_bad_by, is_flush, IsShown, IsLeft}
+use Rattle.ftl_device.specs.Counts.{is_bad_by, is_flush, IsShown, IsLeftReadOnly}
 use Rattle.ftl_device.specs.Read.{LeavesRead, IsReadRefusal}
 use Rattle.command_queue.specs.Commands.{needs_no_memory, is_read, is_turn}
 use Rattle.ftl_device.specs.Changes.{MayPin}
@@ -110,7 +110,7 @@ read_shown g bad next before call ro image n bytes s t (Err OutOfMemory) of_read
 read_shown g bad next before call ro image n bytes s t (Err Damaged) of_read is ne = is
 read_shown g bad next before call ro image n bytes s t (Err BusFault) of_read is ne = ne refl
 
-read_left : (g : Geometry) (bad : ℕ → Bool) (before call : List Operation) (ro : Bool) (n : ℕ) (result : Result (Unit {0}) DeviceFault) → ro ≡ true → IsLeft (step.Read n) g bad before call ro result
+read_left : (g : Geometry) (bad : ℕ → Bool) (before call : List Operation) (ro : Bool) (n : ℕ) (result : Result (Unit {0}) DeviceFault) → ro ≡ true → IsLeftReadOnly (step.Read n) g bad before call ro result
 read_left g bad before call ro n (Ok done) on = inl (inr (inr on))
 read_left g bad before call ro n (Err OutOfRange) on = tt
 read_left g bad before call ro n (Err (ReadOnly good wanted failed)) on = tt
@@ -183,7 +183,7 @@ module _ {N : Type 0} (flash : N → Flash) (recorded : N → Option Recording) 
     twelve_so h t = leaves_twelve (ram old.engine) (ram new.engine) w.log safe safe' sized w.follows h w.next (image_in flash old.engine) (image_in flash new.engine) was.truth well.truth unwritten t
 
     -- a call that may change sectors
-    pub changed : (command : step.Command) (bytes : List ℕ) → is_read command ≡ false → (is_turn command ≡ true → OnOk result (HasRescued (ram old.engine) (ram new.engine))) → (is_turn command ≡ true → OnOk result (HasTurned (ram old.engine) (ram new.engine))) → (is_flush command ≡ true → result ≡ Ok tt → IsFlushedOut (first_of (ram old.engine)) w.log (image_in flash new.engine)) → (new.read_only ≡ true → IsLeft command old.engine.geometry (is_bad_by (ram old.engine)) [] w.log old.read_only result) → NoDamage result → (needs_no_memory (is_some old.engine.pinned) old.engine.geometry (image_in flash old.engine) command ≡ true → result ≢ Err OutOfMemory) → ArrayStep old.engine.geometry (state_in flash old) command (answer_to command bytes result) (state_in flash new)
+    pub changed : (command : step.Command) (bytes : List ℕ) → is_read command ≡ false → (is_turn command ≡ true → OnOk result (HasRescued (ram old.engine) (ram new.engine))) → (is_turn command ≡ true → OnOk result (HasTurned (ram old.engine) (ram new.engine))) → (is_flush command ≡ true → result ≡ Ok tt → IsFlushedOut (first_of (ram old.engine)) w.log (image_in flash new.engine)) → (new.read_only ≡ true → IsLeftReadOnly command old.engine.geometry (is_bad_by (ram old.engine)) [] w.log old.read_only result) → NoDamage result → (needs_no_memory (is_some old.engine.pinned) old.engine.geometry (image_in flash old.engine) command ≡ true → result ≢ Err OutOfMemory) → ArrayStep old.engine.geometry (state_in flash old) command (answer_to command bytes result) (state_in flash new)
         → SurvivesStops old.engine.geometry old.engine.mapping.capacity command result (image_in flash old.engine) (image_in flash new.engine) (recorded new.engine.nand) w.log → AddsNoOld old.engine.geometry (image_in flash old.engine) (image_in flash new.engine) → Happened flash recorded old (record { command = command; result = result; bytes = bytes }) new
     changed command bytes no_read rescued turned flushed left is stale whole survives versions = record {
       stopped = survives;
@@ -291,7 +291,7 @@ module _ {N : Type 0} (flash : N → Flash) (recorded : N → Option Recording) 
         let here = h.shown (is_bad_by (ram old.engine)) old.engine.next (log_of ran.run.events) (bads_then mid.engine.geometry sized) next in
         let there = subst (λ (g : Geometry). IfErr x.result (IsShown g (is_bad_by (ram old.engine)) old.engine.next (log_of ran.run.events) h.went.log mid.read_only (image_in flash new.engine))) sized here in
         subst (λ r. IfErr r (IsShown old.engine.geometry (is_bad_by (ram old.engine)) old.engine.next (log_of ran.run.events) h.went.log mid.read_only (image_in flash new.engine))) e there;
-    left = λ on. subst (λ (g : Geometry). IsLeft x.command g (is_bad_by (ram old.engine)) (log_of ran.run.events) h.went.log mid.read_only x.result) sized (h.left (is_bad_by (ram old.engine)) (log_of ran.run.events) (bads_then mid.engine.geometry sized) on);
+    left = λ on. subst (λ (g : Geometry). IsLeftReadOnly x.command g (is_bad_by (ram old.engine)) (log_of ran.run.events) h.went.log mid.read_only x.result) sized (h.left (is_bad_by (ram old.engine)) (log_of ran.run.events) (bads_then mid.engine.geometry sized) on);
     flushed = λ is done.
         let its = h.flushed is done in
         let mid_bad : (b : ℕ) → b < mid.engine.geometry.blocks → is_bad_by (ram new.engine) b ≡ bad_of mid.engine.geometry.pages (is_bad_by (ram mid.engine)) h.went.log b = λ b lt. bad_now_law (ram mid.engine) (ram new.engine) h.went.log b mid_safe.blocks_of h.went.follows lt in

@@ -17,7 +17,7 @@ use Rattle.ftl_device.specs.declared.fault.DeviceFault.{DeviceFault}
 use Rattle.ftl_device.specs.declared.fault.DeviceFault.TheVariants.{OutOfRange, ReadOnly, SequenceSpent, OutOfMemory, Damaged, BusFault}
 use Rattle.ftl_device.specs.Device.{IsDevice}
 use Rattle.ftl_device.specs.Calls.{stop_of, IsWell}
-use Rattle.command_queue.specs.Exchanges.{Exchange, IsKnown, AreKnown, Stops, AreRefused, StaysStopped}
+use Rattle.command_queue.specs.Exchanges.{Exchange, IsKnown, AreKnown, StopsDevice, AreRefused, StaysStopped}
 use Rattle.command_queue.specs.Run.{Ran}
 use Rattle.command_queue.specs.Tells.{Tells, ToldEach}
 use Rattle.command_queue.specs.Told.{AreTold, WasTold, AreHalted, EndsBy, Until, RunsTo}
@@ -70,7 +70,7 @@ risen_on a b c low high (inr top) = risen_by a b c low high top (eq-or-lt_of_le 
 -- ---- up to the first fault of the bus
 
 -- the fault stops the device after any command
-bus_stops : (command : step.Command) → Stops command BusFault
+bus_stops : (command : step.Command) → StopsDevice command BusFault
 bus_stops (step.Read sector) = tt
 bus_stops (step.Write sector body) = tt
 bus_stops (step.Trim sector) = tt
@@ -165,8 +165,8 @@ module _ {N : Type 0} (flash : N → Flash) (recorded : N → Option Recording) 
       let now_well : IsWell flash new = tells.well still before.0 ne in
       (now_well, ran_more flash recorded honest failed erases old now new xs x so_far.sized tells.sized so_far.device.engine.geometry tells.device.engine.geometry (limits_then old.engine.mapping now.engine.mapping new.engine.mapping so_far.limits tells.limits) well.truth.worn.most safe.engine.memory so_far.limits so_far.device.engine.memory tells.device.engine.memory now_well before.1 tells (tells.happened still before.0 ne))
 
-  its_stop : (fault : DeviceFault) → x.result ≡ Err fault → Stops x.command fault → stop_of new.engine.fault ≡ Some fault
-  its_stop fault is there = subst (λ r. IfErr r (λ f. Stops x.command f → stop_of new.engine.fault ≡ Some f)) is tells.stops there
+  its_stop : (fault : DeviceFault) → x.result ≡ Err fault → StopsDevice x.command fault → stop_of new.engine.fault ≡ Some fault
+  its_stop fault is there = subst (λ r. IfErr r (λ f. StopsDevice x.command f → stop_of new.engine.fault ≡ Some f)) is tells.stops there
 
   stopped_on : ForSome (stop_of old.engine.fault) (λ fault. AreRefused fault (xs ++ x ∷ []) × (new ≡ old))
   stopped_on fault is =
@@ -176,7 +176,7 @@ module _ {N : Type 0} (flash : N → Flash) (recorded : N → Option Recording) 
 
   halted_on : AreHalted (stop_of new.engine.fault) (xs ++ x ∷ [])
   halted_on =
-      all_more (λ (y : Exchange). (fault : DeviceFault) → y.result ≡ Err fault → Stops y.command fault → stop_of new.engine.fault ≡ Some fault) xs x
+      all_more (λ (y : Exchange). (fault : DeviceFault) → y.result ≡ Err fault → StopsDevice y.command fault → stop_of new.engine.fault ≡ Some fault) xs x
       (halted_still (stop_of now.engine.fault) (stop_of new.engine.fault) xs (λ fault is. ap (λ (d : Device N). stop_of d.engine.fault) (tells.stopped fault is).1 ∙ is) so_far.halted) its_stop
 
   abbrev RoseBy : List Exchange → Type 0
@@ -207,7 +207,7 @@ module _ {N : Type 0} (flash : N → Flash) (recorded : N → Option Recording) 
 
   -- after a fault of the bus the device answers it again, and is as it was
   again : (mid : Device N) (y : Exchange) → y.result ≡ Err BusFault → Tells flash recorded honest failed erases mid y now → (x.result ≡ Err BusFault) × (new ≡ now)
-  again mid y bus its = tells.stopped BusFault (subst (λ r. IfErr r (λ fault. Stops y.command fault → stop_of now.engine.fault ≡ Some fault)) bus its.stops (bus_stops y.command))
+  again mid y bus its = tells.stopped BusFault (subst (λ r. IfErr r (λ fault. StopsDevice y.command fault → stop_of now.engine.fault ≡ Some fault)) bus its.stops (bus_stops y.command))
 
   until_on : (before rest : List Exchange) (mid : Device N) → xs ≡ before ++ rest → AreKnown before → AreRefused BusFault rest → RunsTo flash recorded honest failed erases old before mid → EndsBy (Tells flash recorded honest failed erases) mid rest now → (x.result ≡ Err BusFault) ⊎ (x.result ≢ Err BusFault) → Until (RunsTo flash recorded honest failed erases old) (Tells flash recorded honest failed erases) (xs ++ x ∷ []) new
   until_on before [] mid joined known refused runs ends (inl bus) = record {

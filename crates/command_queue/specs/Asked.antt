@@ -80,7 +80,7 @@ AskedEach {N} flash recorded honest calm programs failed erases old (Migrated re
 
 -- OF ONE CALL, whichever it is: its answer is a step of the array, one log leads the die on, a stop at any moment of it leaves either array, no
 -- newest page of version 1 is added where the die has version 2, and the device is well after it
-pub record Does {N : Type 0} (flash : N → Flash) (recorded : N → Option Recording) (old : Device N) (call : Asked) (new : Device N) : Type 0 where
+pub record DoesCall {N : Type 0} (flash : N → Flash) (recorded : N → Option Recording) (old : Device N) (call : Asked) (new : Device N) : Type 0 where
   pub sized : new.engine.geometry ≡ old.engine.geometry
   pub step : ArrayStep old.engine.geometry (state_in flash old) (command_asked call) (reply_asked call) (state_in flash new)
   pub went : Went (ram old.engine) (flash old.engine.nand) (recorded old.engine.nand) (ram new.engine) (flash new.engine.nand) (recorded new.engine.nand)
@@ -91,7 +91,7 @@ pub record Does {N : Type 0} (flash : N → Flash) (recorded : N → Option Reco
 -- of each of them, from a device to the next
 abbrev pub DoesEach : {N : Type 0} → (N → Flash) → (N → Option Recording) → Device N → List Asked → Device N → Type 0
 DoesEach flash recorded old [] new = new ≡ old
-DoesEach {N} flash recorded old (call ∷ calls) new = (mid : Device N) × Does flash recorded old call mid × DoesEach flash recorded mid calls new
+DoesEach {N} flash recorded old (call ∷ calls) new = (mid : Device N) × DoesCall flash recorded old call mid × DoesEach flash recorded mid calls new
 
 -- their logs, one after another
 abbrev pub log_asked : {N : Type 0} → (flash : N → Flash) → (recorded : N → Option Recording) → (old : Device N) → (calls : List Asked)

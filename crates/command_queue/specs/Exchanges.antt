@@ -49,17 +49,17 @@ abbrev pub AreKnown : List Exchange → Type 0
 AreKnown xs = AllByRecursion IsKnown xs
 
 -- the fault stops the device: the die's after any command, damage after all but a read
-abbrev pub Stops : step.Command → DeviceFault → Type 0
-Stops command OutOfRange = ⊥
-Stops command (ReadOnly good wanted failed) = ⊥
-Stops command SequenceSpent = ⊥
-Stops command OutOfMemory = ⊥
-Stops (step.Read sector) Damaged = ⊥
-Stops (step.Write sector body) Damaged = Unit {0}
-Stops (step.Trim sector) Damaged = Unit {0}
-Stops step.Flush Damaged = Unit {0}
-Stops step.Turn Damaged = Unit {0}
-Stops command BusFault = Unit {0}
+abbrev pub StopsDevice : step.Command → DeviceFault → Type 0
+StopsDevice command OutOfRange = ⊥
+StopsDevice command (ReadOnly good wanted failed) = ⊥
+StopsDevice command SequenceSpent = ⊥
+StopsDevice command OutOfMemory = ⊥
+StopsDevice (step.Read sector) Damaged = ⊥
+StopsDevice (step.Write sector body) Damaged = Unit {0}
+StopsDevice (step.Trim sector) Damaged = Unit {0}
+StopsDevice step.Flush Damaged = Unit {0}
+StopsDevice step.Turn Damaged = Unit {0}
+StopsDevice command BusFault = Unit {0}
 
 -- each was answered this fault
 abbrev pub AreRefused : DeviceFault → List Exchange → Type 0
@@ -68,4 +68,4 @@ AreRefused fault xs = AllByRecursion (λ (x : Exchange). x.result ≡ Err fault)
 -- after one that stopped the device each is answered its fault
 abbrev pub StaysStopped : List Exchange → Type 0
 StaysStopped [] = Unit {0}
-StaysStopped (x ∷ xs) = ((fault : DeviceFault) → x.result ≡ Err fault → Stops x.command fault → AreRefused fault xs) × StaysStopped xs
+StaysStopped (x ∷ xs) = ((fault : DeviceFault) → x.result ≡ Err fault → StopsDevice x.command fault → AreRefused fault xs) × StaysStopped xs

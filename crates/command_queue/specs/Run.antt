@@ -19,7 +19,7 @@ use Rattle.ftl_device.specs.declared.fault.DeviceFault.{DeviceFault}
 use Rattle.ftl_device.specs.declared.fault.DeviceFault.TheVariants.{OutOfMemory}
 use Rattle.ftl_device.specs.Begin.{begun_ram, is_bad_in, wear_in, free_in, is_scarce}
 use Rattle.ftl_device.specs.Flush.{First, first_of, IsFlushedOut}
-use Rattle.ftl_device.specs.Counts.{is_flush, IsShown, IsLeft}
+use Rattle.ftl_device.specs.Counts.{is_flush, IsShown, IsLeftReadOnly}
 use Rattle.ftl_device.specs.Changes.{MayPin}
 use Rattle.ftl_device.specs.Stopped.{SurvivesStops}
 use Rattle.command_queue.specs.Commands.{needs_no_memory, is_read, is_turn}
@@ -36,7 +36,7 @@ use Rattle.command_queue.specs.Tells.{die_in, Happened, Tells}
 -- write or trim that is done, the one after it: so whatever was answered stays. Where the die has version 2 no newest page of version 1 is added.
 pub record IsFair (first : First) (old : runs.DeviceView) (before : List Operation) (event : Event) (x : Exchange) : Type 0 where
   pub shown : (fault : DeviceFault) → x.result ≡ Err fault → IsShown first.geometry first.bad first.next before event.piece old.ro event.left.flash.image fault
-  pub left : event.left.ro ≡ true → IsLeft x.command first.geometry first.bad before event.piece old.ro x.result
+  pub left : event.left.ro ≡ true → IsLeftReadOnly x.command first.geometry first.bad before event.piece old.ro x.result
   pub stale : needs_no_memory old.pinned first.geometry old.flash.image x.command ≡ true → x.result ≢ Err OutOfMemory
   pub flushed : is_flush x.command ≡ true → x.result ≡ Ok tt → IsFlushedOut first (before ++ event.piece) event.left.flash.image
   pub mountable : first.capacity + first.geometry.pages ≤ 65536 → IsMountable first.geometry (first.capacity + first.geometry.pages) event.left.flash.image

@@ -23,12 +23,12 @@ use Rattle.ftl_device.specs.Calls.{state_in, stop_of, IsWell, HasRescued, HasWor
 use Rattle.ftl_device.specs.Changes.{RefusesUpkeep, ProgramsSector, LeavesUnpinned}
 use Rattle.ftl_device.specs.Flush.{first_of, IsFlushedOut}
 use Rattle.ftl_device.specs.FlushSteps.{HasFlushed}
-use Rattle.ftl_device.specs.Counts.{is_bad_by, is_flush, IsShown, IsLeft}
+use Rattle.ftl_device.specs.Counts.{is_bad_by, is_flush, IsShown, IsLeftReadOnly}
 use Rattle.ftl_device.specs.Stopped.{SurvivesStops}
 use Rattle.ftl_device.specs.Turn.{HasTurned}
 use Rattle.ftl_device.specs.Brings.{RescuesLowest}
 use Rattle.command_queue.specs.Commands.{needs_no_memory, is_read, is_turn}
-use Rattle.command_queue.specs.Exchanges.{Exchange, reply_in, Stops}
+use Rattle.command_queue.specs.Exchanges.{Exchange, reply_in, StopsDevice}
 use Rattle.command_queue.specs.Rescues.{Rescues, LeavesTwelve}
 
 -- a device between two commands
@@ -51,7 +51,7 @@ pub record Happened {N : Type 0} (flash : N → Flash) (recorded : N → Option 
   pub left : (bad : ℕ → Bool) (before : List Operation)
       → ((b : ℕ) → b < old.engine.geometry.blocks → is_bad_by (ram new.engine) b ≡ bad_of old.engine.geometry.pages bad (before ++ went.log) b)
       → new.read_only ≡ true
-      → IsLeft x.command old.engine.geometry bad before went.log old.read_only x.result
+      → IsLeftReadOnly x.command old.engine.geometry bad before went.log old.read_only x.result
   pub flushed : is_flush x.command ≡ true → x.result ≡ Ok tt → IsFlushedOut (first_of (ram old.engine)) went.log (image_in flash new.engine)
   pub reads : is_read x.command ≡ true → (went.log ≡ []) × (die_in flash new ≡ die_in flash old)
   pub rescues : is_turn x.command ≡ true → x.result ≡ Ok tt → Rescues old.engine.geometry (is_bad_by (ram old.engine)) went.log (image_in flash old.engine) (image_in flash new.engine)
@@ -102,7 +102,7 @@ pub record Tells {N : Type 0} (flash : N → Flash) (recorded : N → Option Rec
   pub failed_is : failed old.engine.nand ≤ failed new.engine.nand
   -- a stopped device answers its fault, and the fault that stopped it is the one that it answered
   pub stopped : ForSome (stop_of old.engine.fault) (λ fault. (x.result ≡ Err fault) × (new ≡ old))
-  pub stops : IfErr x.result (λ fault. Stops x.command fault → stop_of new.engine.fault ≡ Some fault)
+  pub stops : IfErr x.result (λ fault. StopsDevice x.command fault → stop_of new.engine.fault ≡ Some fault)
   pub standing : ForSome (stop_of new.engine.fault) (λ fault. x.result ≡ Err fault)
   pub rose : stop_of old.engine.fault ≡ None → x.result ≡ Err BusFault → HasRisen (failed old.engine.nand) (failed new.engine.nand)
   pub well : honest old.engine.nand ≡ true → IsWell flash old → x.result ≢ Err BusFault → IsWell flash new

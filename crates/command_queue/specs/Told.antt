@@ -15,7 +15,7 @@ use Rattle.ftl_device.specs.declared.fault.DeviceFault.TheVariants.{BusFault}
 use Rattle.ftl_device.specs.Begin.{begun_ram}
 use Rattle.ftl_device.specs.Device.{IsDevice, IsAcceptedFor}
 use Rattle.ftl_device.specs.Calls.{stop_of, IsWell}
-use Rattle.command_queue.specs.Exchanges.{Exchange, AreKnown, Stops, AreRefused, StaysStopped}
+use Rattle.command_queue.specs.Exchanges.{Exchange, AreKnown, StopsDevice, AreRefused, StaysStopped}
 use Rattle.command_queue.specs.Tells.{Tells, ToldEach}
 use Rattle.command_queue.specs.Run.{Ran, RanFrom}
 
@@ -23,7 +23,7 @@ use Rattle.command_queue.specs.Run.{Ran, RanFrom}
 
 -- an exchange that stopped the device: it is stopped now
 abbrev pub AreHalted : Option DeviceFault → List Exchange → Type 0
-AreHalted stop xs = AllByRecursion (λ (x : Exchange). (fault : DeviceFault) → x.result ≡ Err fault → Stops x.command fault → stop ≡ Some fault) xs
+AreHalted stop xs = AllByRecursion (λ (x : Exchange). (fault : DeviceFault) → x.result ≡ Err fault → StopsDevice x.command fault → stop ≡ Some fault) xs
 
 -- MANY CALLS, one after another, from the one device to the other, whatever the die does. A device that was stopped, before them or by one of
 -- them, stays so; `BusFault` came, of a device not stopped before, only where the die's count of failures rose or stands at its top.

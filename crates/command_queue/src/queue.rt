@@ -10,7 +10,7 @@ ghost use Rattle.ftl_device.specs.Changes.{LeavesUnpinned};
 ghost use Rattle.command_queue.specs.Commands.{command_of, is_turn, told, HasRoom, AreWhole, AreAnswered};
 ghost use Rattle.command_queue.specs.Exchanges.{exchanges_of, AreKnown};
 ghost use Rattle.command_queue.specs.Commands.{KeepsBytes, HaveKept};
-ghost use Rattle.command_queue.specs.Exchanges.{Stops, StaysStopped};
+ghost use Rattle.command_queue.specs.Exchanges.{StopsDevice, StaysStopped};
 ghost use Rattle.command_queue.specs.Tells.{Happened, Tells, TakesIfTurn, Programs};
 ghost use Rattle.command_queue.specs.Asked.{MigratesOne};
 ghost use Rattle.command_queue.specs.Told.{WasTold, ToldFrom, Until, RunsFrom};
@@ -46,7 +46,7 @@ pub fn tell<N: Nand>(
     ensures failed { N.failed device.old.engine.nand ≤ N.failed device.new.engine.nand }
     ensures kept { KeepsBytes (command_of command.entry) result bytes.old bytes.new }
     ensures stopped { ForSome (stop_of device.old.engine.fault) (λ fault. (result ≡ Err fault) × (device.new ≡ device.old)) }
-    ensures stops { IfErr result (λ fault. Stops (command_of command.entry) fault → stop_of device.new.engine.fault ≡ Some fault) }
+    ensures stops { IfErr result (λ fault. StopsDevice (command_of command.entry) fault → stop_of device.new.engine.fault ≡ Some fault) }
     ensures standing { ForSome (stop_of device.new.engine.fault) (λ fault. result ≡ Err fault) }
     ensures rose { stop_of device.old.engine.fault ≡ None → result ≡ Err DeviceFault.BusFault →
         HasRisen (N.failed device.old.engine.nand) (N.failed device.new.engine.nand) }

@@ -17,7 +17,7 @@ use Rattle.nand_die.specs.Made.{AreNames, RefusesImage, is_named}
 use Rattle.ftl_device.specs.Begin.{is_bad_in, no_block}
 use Rattle.commands.specs.declared.text.CommandFault.TheVariants as fault
 use Rattle.commands.specs.Check.{IsWhole}
-use Rattle.commands.specs.Serve.{bad_in, IsUnmade}
+use Rattle.commands.specs.Serve.{bad_in, IsDieUnmade}
 
 -- a block of class 4 or 5 is bad
 pub bad_here : (c : Claim) (block : ℕ) (s : BlockState) → slice_get c.blocks block ≡ Some s → nat_le 4 s.class ≡ is_bad_in c block
@@ -47,7 +47,7 @@ pub bad_names : (g : Geometry) (c : Claim) → AreNames g (bad_in g c)
 bad_names g c = rising_names g (min g.blocks c.sizes.blocks) (bad_in g c) (omega arith) (filter_rising (is_bad_in c) (min g.blocks c.sizes.blocks))
 
 -- so a die of a whole image is refused for want of memory alone
-pub unmade : (g : Geometry) (bytes : List ℕ) (c : Claim) (broken : DieFault) → IsWhole g bytes → RefusesImage g bytes (bad_in g c) broken → IsUnmade g bytes (fault.Die broken)
+pub unmade : (g : Geometry) (bytes : List ℕ) (c : Claim) (broken : DieFault) → IsWhole g bytes → RefusesImage g bytes (bad_in g c) broken → IsDieUnmade g bytes (fault.Die broken)
 unmade g bytes c die.WrongLength whole refused = absurd (refused whole)
 unmade g bytes c (die.BadMark block) whole refused = absurd (bad_names g c refused.1.at block refused.1.misnamed)
 unmade g bytes c die.OutOfMemory whole refused = (whole, refl)

@@ -19,7 +19,7 @@ use Rattle.commands.specs.declared.text.CommandFault.TheVariants as fault
 use Rattle.command_words.specs.declared.words.CertificateWords.{CertificateWords}
 use Rattle.commands.specs.Files.{Gives}
 use Rattle.commands.specs.Inputs.{IsUnread}
-use Rattle.commands.specs.Check.{Accepts, DoesCheck, HasCertificate, HasFiles, DiffersAs, IsCheckFault, IsHeld, IsHeldAs, IsKept, IsSpelled, IsToldAs, IsUnheld, IsWhole, accepted_line}
+use Rattle.commands.specs.Check.{Accepts, DoesCheck, HasCertificate, HasFiles, DiffersAs, IsCheckFault, IsHeld, IsHeldAs, IsOutputKept, IsSpelled, IsToldAs, IsUnheld, IsWhole, accepted_line}
 use Rattle.commands.specs.Lines.{IsUnprinted}
 
 -- a count of failures that stays at none did not rise
@@ -34,7 +34,7 @@ unread_before old new text (fault.Read path) same unread = (unread.0, same text 
 unread_before old new text fault.OutOfMemory same unread = same text (Err file.OutOfMemory) unread
 unread_before old new text _ same unread = absurd unread
 
-kept : (stop : CommandFault) (before after : Option (List ℕ)) → Keeps before after → IsKept stop before after
+kept : (stop : CommandFault) (before after : Option (List ℕ)) → Keeps before after → IsOutputKept stop before after
 kept (fault.Write path) before after keeps = tt
 kept _ before after keeps = keeps
 
@@ -67,7 +67,7 @@ accepted_does gives tells words g capacity known written c before after result f
     has : HasCertificate gives tells words
     has = record { geometry = g; capacity = capacity; known = known; written = written; claim = c; files = files; spelled = spelled }
 
-    unkept : (stop : CommandFault) → IsUnprinted accepted_line before after stop → IsKept stop before after
+    unkept : (stop : CommandFault) → IsUnprinted accepted_line before after stop → IsOutputKept stop before after
     unkept (fault.Write path) is = tt
     unkept _ is = absurd is
 

@@ -12,10 +12,10 @@ use Rattle.command_words.specs.declared.words.CertificateWords.{CertificateWords
 use Rattle.command_words.specs.declared.words.ServeWords.{ServeWords}
 use Rattle.commands.specs.Check.{IsCheckFault}
 use Rattle.commands.specs.Mount.{DoesMount}
-use Rattle.commands.specs.Serve.{DoesServe, IsUnstarted}
+use Rattle.commands.specs.Serve.{DoesServe, IsServeUnstarted}
 use Rattle.commands.specs.Migrate.{DoesMigrate, IsClaimUnmigrated, IsUnbegun}
-use Rattle.commands.specs.Commands.{Does, Obeys}
-use Rattle.commands.specs.Files.{Gives, Left, Leaves}
+use Rattle.commands.specs.Commands.{Obeys, OrderComesTo}
+use Rattle.commands.specs.Files.{Gives, Left, LeavesUntouched}
 use Rattle.commands.specs.Inputs.{IsUnread}
 use Rattle.commands.specs.Sector.{DoesSector, AsksForNumber, HasImage}
 use Rattle.commands.specs.Show.{DoesShow, IsUnshown, Shows}
@@ -60,7 +60,7 @@ mount_is_command gives words before after (inr (inl unstored)) = unstored.1
 mount_is_command gives words before after (inr (inr unprinted)) = unprinted.2
 
 -- for want of memory nothing is left
-mount_leaves : (gives : Gives) (words : CertificateWords) (before after : Left) → DoesMount gives words before after (Err fault.OutOfMemory) → Leaves before after
+mount_leaves : (gives : Gives) (words : CertificateWords) (before after : Left) → DoesMount gives words before after (Err fault.OutOfMemory) → LeavesUntouched before after
 mount_leaves gives words before after (inl unstarted) = unstarted.0
 mount_leaves gives words before after (inr (inl unstored)) = (unstored.1, unstored.2)
 mount_leaves gives words before after (inr (inr unprinted)) = absurd unprinted.2
@@ -68,7 +68,7 @@ mount_leaves gives words before after (inr (inr unprinted)) = absurd unprinted.2
 serve_is_command : (gives : Gives) (words : ServeWords) (unread left : Option (List ℕ)) (before after : Left) → DoesServe gives words unread left before after (Err fault.NoSuchCommand) → ⊥
 serve_is_command gives words unread left before after (inl none) = unstarted none.because
   where
-    unstarted : IsUnstarted gives words fault.NoSuchCommand → ⊥
+    unstarted : IsServeUnstarted gives words fault.NoSuchCommand → ⊥
     unstarted (inl unasked) = unasked
     unstarted (inr (inl unopened)) = unopened.unread
     unstarted (inr (inr (inl lacks))) = lacks.unread
@@ -96,7 +96,7 @@ migrate_is_command gives words before after (inr (inr (image, count, has, stored
 
 -- what the order of the words came to, the words came to
 pub order_obeys : (gives : Gives) (tells : Bool) (words : List (List ℕ)) (unread left : Option (List ℕ)) (before after : Left) (result : Result (Unit {0}) CommandFault) (asked : Order)
-    → IsOrder words asked → Does gives tells asked unread left before after result → Obeys gives tells words unread left before after result
+    → IsOrder words asked → OrderComesTo gives tells asked unread left before after result → Obeys gives tells words unread left before after result
 order_obeys gives tells words unread left before after (Ok done) asked is does = (asked, is, does)
 order_obeys gives tells words unread left before after (Err fault.NoSuchCommand) (order.Sector w) is does = absurd does.0
 order_obeys gives tells words unread left before after (Err fault.NoSuchCommand) (order.Show w) is does = absurd does.0

@@ -16,12 +16,12 @@ use Rattle.mount.specs.Log.{failures}
 use Rattle.commands.specs.declared.text.CommandFault.{CommandFault}
 use Rattle.commands.specs.declared.text.CommandFault.TheVariants as fault
 use Rattle.command_words.specs.declared.words.FileWords.{FileWords}
-use Rattle.commands.specs.Files.{Gives, Left, Leaves, IsUnstored, with_store, written}
+use Rattle.commands.specs.Files.{Gives, Left, LeavesUntouched, IsUnstored, with_store, written}
 use Rattle.commands.specs.Lines.{IsUnprinted}
 use Rattle.commands.specs.Inputs.{IsUnread}
 use Rattle.commands.specs.Steady.{is_flawless}
 use Rattle.commands.proofs.LogLemmas.{all_passed}
-use Rattle.commands.specs.Format.{DoesFormat, HasFormatted, HasInput, IsFormattedImage, IsGeometry, IsRefused, IsUnformatted, good_line}
+use Rattle.commands.specs.Format.{DoesFormat, HasFormatted, HasInput, IsFormatRefused, IsFormattedImage, IsGeometry, IsUnformatted, good_line}
 
 -- the die that came back holds the image of the one that was formatted, and no program failed
 pub formatted_image : (g : Geometry) (before after : List ℕ) (good : ℕ) (old new : Flash) (back : DieValue) → length before ≡ row_count g * page_bytes g
@@ -46,7 +46,7 @@ not_risen was now most (inr top) le none = omega arith
 
 -- a refusal of a die of which no program failed
 refused_as : (g : Geometry) (before : List ℕ) (refused : FormatFault) (back : DieValue) → is_flawless back ≡ true → (refused ≡ refuse.Bus → ⊥)
-    → Formats g (loaded_flash g before []) back.state.flash (Err refused) → IsRefused g (raw_image g before) refused
+    → Formats g (loaded_flash g before []) back.state.flash (Err refused) → IsFormatRefused g (raw_image g before) refused
 refused_as g before (refuse.TooFewGood good asked) back flawless answered few =
     let passed : failures few.log ≡ 0 = all_passed g before _ back few.log flawless few.done.legal few.done.leads in
     (omega (arith, few.fewer, passed), few.few, few.asked_is)
@@ -69,14 +69,14 @@ unformatted g before refused old new back whole loaded formats same flawless ans
 
 -- a file that was not read ends it
 pub unread_formats : (gives : Gives) (words : FileWords) (g : Geometry) (before after : Left) (fault : CommandFault)
-    → IsGeometry words g → Leaves before after → IsUnread gives words.input.now fault → DoesFormat gives words before after (Err fault)
+    → IsGeometry words g → LeavesUntouched before after → IsUnread gives words.input.now fault → DoesFormat gives words before after (Err fault)
 unread_formats gives words g before after (fault.Read path) asked leaves unread = (leaves, unread.0, unread.1, (g, asked))
 unread_formats gives words g before after fault.OutOfMemory asked leaves unread = (leaves, inl (g, asked, unread))
 unread_formats gives words g before after _ asked leaves unread = absurd unread
 
 -- so does an image that was not formatted
 pub refused_formats : (gives : Gives) (words : FileWords) (g : Geometry) (bytes : List ℕ) (before after : Left) (fault : CommandFault)
-    → HasInput gives words g bytes → Leaves before after → IsUnformatted g bytes fault → DoesFormat gives words before after (Err fault)
+    → HasInput gives words g bytes → LeavesUntouched before after → IsUnformatted g bytes fault → DoesFormat gives words before after (Err fault)
 refused_formats gives words g bytes before after fault.WrongLength input leaves un = (leaves, (g, bytes, input, un))
 refused_formats gives words g bytes before after (fault.Die broken) input leaves un = (leaves, (g, bytes, input, un))
 refused_formats gives words g bytes before after (fault.Format refused) input leaves un = (leaves, (g, bytes, input, un))

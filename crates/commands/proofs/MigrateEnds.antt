@@ -28,7 +28,7 @@ use Rattle.page_layout.specs.Counter.{HasRisen}
 use Rattle.command_words.specs.declared.words.ServeWords.{ServeWords}
 use Rattle.commands.specs.declared.text.CommandFault.{CommandFault}
 use Rattle.commands.specs.Check.{AsksForCapacity, IsSpelled}
-use Rattle.commands.specs.Files.{Gives, Left, Leaves, with_store, written}
+use Rattle.commands.specs.Files.{Gives, Left, LeavesUntouched, with_store, written}
 use Rattle.commands.specs.Lines.{IsUnprinted}
 use Rattle.commands.specs.Steady.{has_spared}
 use Rattle.commands.specs.Serve.{Driver, HasClaim, bad_in, checked_words, erases_of, failures_of, flash_behind, is_calm_as, is_honest, programs_of, recorded_of}
@@ -41,7 +41,7 @@ use Rattle.commands.proofs.PassedLemmas.{none_failed}
 
 -- a step before a device was started ended it
 pub stops : (gives : Gives) (words : ServeWords) (before after : Left) (result : Result (Unit {0}) CommandFault) (stop : CommandFault)
-    → result ≡ Err stop → Leaves before after → IsUnbegun gives words stop → DoesMigrate gives words before after result
+    → result ≡ Err stop → LeavesUntouched before after → IsUnbegun gives words stop → DoesMigrate gives words before after result
 stops gives words before after result stop is leaves because =
     let P : Result (Unit {0}) CommandFault → Type 0 = λ r. DoesMigrate gives words before after r in
     subst P (sym is) (inl (leaves, because))

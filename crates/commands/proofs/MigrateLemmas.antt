@@ -28,7 +28,7 @@ use Rattle.ftl_device.specs.Changes.{Upkeeps}
 use Rattle.ftl_device.specs.Brings.{HasBrought, BringsOne}
 use Rattle.ftl_device.specs.Migrate.{ended, HasMovedOn, Migrates}
 use Rattle.ftl_device.specs.Renewed.{Finishes, HasOldTablesOnly}
-use Rattle.commands.specs.Migrate.{Calls, Renews, RenewsAll, RenewsThenFlushes, IsSettled, KeepsAll}
+use Rattle.commands.specs.Migrate.{CallsMigrate, Renews, RenewsAll, RenewsThenFlushes, IsSettled, KeepsAll}
 
 -- ---- how many calls there are
 
@@ -117,7 +117,7 @@ module _ {N : Type 0} (flash : N → Flash) (recorded : N → Option Recording) 
       → (honest mid.engine.nand ≡ true → IsWell flash mid → result ≡ Ok true → BringsOne flash recorded mid new)
       → (result ≢ Ok true → new.cursor ≡ mid.cursor)
       → (honest mid.engine.nand ≡ true → IsWell flash mid → result ≡ Ok true → HasMovedOn mid.cursor (image_in flash mid.engine) new.cursor)
-      → Calls flash recorded honest calm programs erases failed mid result new
+      → CallsMigrate flash recorded honest calm programs erases failed mid result new
   calls_as g old mid new count result roomy going upkeeps migrates rests brought brings stays moves_on = record {
     upkeeps = upkeeps;
     migrates = migrates going.still going.keeps.well (subst (λ (k : Geometry). 40 ≤ k.spare_bytes) (sym going.sized) roomy);
@@ -129,7 +129,7 @@ module _ {N : Type 0} (flash : N → Flash) (recorded : N → Option Recording) 
   }
 
   -- the next that answered true
-  pub goes_on : (g : Geometry) (old mid new : Device N) (count : ℕ) → 40 ≤ g.spare_bytes → IsGoing g old count mid → Calls flash recorded honest calm programs erases failed mid (Ok true) new
+  pub goes_on : (g : Geometry) (old mid new : Device N) (count : ℕ) → 40 ≤ g.spare_bytes → IsGoing g old count mid → CallsMigrate flash recorded honest calm programs erases failed mid (Ok true) new
       → IsDevice flash new → new.engine.geometry ≡ mid.engine.geometry → IsGoing g old (count + 1) new
   goes_on g old mid new count roomy going its device sized =
       let fewer : old_pages g (image_in flash new.engine) < old_pages g (image_in flash mid.engine) =
@@ -156,7 +156,7 @@ module _ {N : Type 0} (flash : N → Flash) (recorded : N → Option Recording) 
     pub rose : result ≡ Err BusFault → HasRisen (failed old.engine.nand) (failed new.engine.nand)
     pub none : OnOk result (HasOldTablesOnly (image_in flash new.engine))
 
-  pub ends_done : (g : Geometry) (old mid new : Device N) (count : ℕ) → IsGoing g old count mid → Calls flash recorded honest calm programs erases failed mid (Ok false) new → HasEnded g old (Ok count) new
+  pub ends_done : (g : Geometry) (old mid new : Device N) (count : ℕ) → IsGoing g old count mid → CallsMigrate flash recorded honest calm programs erases failed mid (Ok false) new → HasEnded g old (Ok count) new
   ends_done g old mid new count going its = record {
     began = going.began;
     still = its.upkeeps.stays.honest_is ∙ going.still;
@@ -170,7 +170,7 @@ module _ {N : Type 0} (flash : N → Flash) (recorded : N → Option Recording) 
   err_ne : (fault : DeviceFault) → fault ≢ BusFault → refused_as fault ≢ refused_as BusFault
   err_ne fault ne is = ne (let same : fault ≡ BusFault = cc in same)
 
-  pub ends_refused : (g : Geometry) (old mid new : Device N) (count : ℕ) (fault : DeviceFault) → IsGoing g old count mid → Calls flash recorded honest calm programs erases failed mid (Err fault) new → HasEnded g old (Err fault) new
+  pub ends_refused : (g : Geometry) (old mid new : Device N) (count : ℕ) (fault : DeviceFault) → IsGoing g old count mid → CallsMigrate flash recorded honest calm programs erases failed mid (Err fault) new → HasEnded g old (Err fault) new
   ends_refused g old mid new count fault going its = record {
     began = going.began;
     still = its.upkeeps.stays.honest_is ∙ going.still;

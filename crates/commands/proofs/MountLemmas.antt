@@ -6,13 +6,13 @@ use Rattle.commands.specs.declared.mount_image.Mounted.{Mounted}
 use Rattle.commands.specs.declared.text.CommandFault.{CommandFault}
 use Rattle.command_words.specs.declared.words.CertificateWords.{CertificateWords}
 use Rattle.commands.specs.Check.{AsksForCapacity}
-use Rattle.commands.specs.Files.{Gives, IsUnstored, Left, Leaves, with_store, written}
+use Rattle.commands.specs.Files.{Gives, IsUnstored, Left, LeavesUntouched, with_store, written}
 use Rattle.commands.specs.Lines.{IsUnprinted}
 use Rattle.commands.specs.Mount.{DoesMount, HasMounted, IsMountedAs, IsUncertified, Stores, line_of, mounted_line}
 
 -- a step before the storing that ended the command
 pub stops : (gives : Gives) (words : CertificateWords) (before after : Left) (result : Result (Unit {0}) CommandFault) (stop : CommandFault)
-    → result ≡ Err stop → Leaves before after → IsUncertified gives words stop → DoesMount gives words before after result
+    → result ≡ Err stop → LeavesUntouched before after → IsUncertified gives words stop → DoesMount gives words before after result
 stops gives words before after result stop is leaves because =
     let P : Result (Unit {0}) CommandFault → Type 0 = λ r. DoesMount gives words before after r in
     subst P (sym is) (inl (leaves, because))

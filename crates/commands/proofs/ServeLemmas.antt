@@ -17,7 +17,7 @@ use Rattle.command_queue.specs.Run.{accepted_device}
 use Rattle.command_queue.specs.Exchanges.{Exchange, AreKnown}
 use Rattle.block_server.specs.declared.server.Served.{Served}
 use Rattle.command_queue.proofs.ToldLemmas.{until_known}
-use Rattle.block_server.specs.Checked.{HoldsTo, HasFailed, IsServed}
+use Rattle.block_server.specs.Checked.{HoldsTo, HasBusFailed, IsServed}
 use Rattle.commands.specs.declared.text.ServeStop.{ServeStop}
 use Rattle.nand_die.specs.Made.{loaded_flash}
 use Rattle.image_check.specs.Agrees.{Agrees}
@@ -28,8 +28,8 @@ use Rattle.command_words.specs.declared.words.ServeWords.{ServeWords}
 use Rattle.commands.specs.declared.text.CommandFault.{CommandFault}
 use Rattle.commands.specs.declared.text.CommandFault.TheVariants as fault
 use Rattle.commands.specs.Check.{IsWhole}
-use Rattle.commands.specs.Files.{Gives, Left, Leaves}
-use Rattle.commands.specs.Serve.{Driver, flash_behind, recorded_of, is_honest, is_calm_as, failures_of, erases_of, bad_in, stop_in, DoesServe, Ends, HasClaim, HasRun, HasServed, IsUnserved, IsUnservedDie, IsUnstarted, ServesDie, IsUnmade}
+use Rattle.commands.specs.Files.{Gives, Left, LeavesUntouched}
+use Rattle.commands.specs.Serve.{Driver, flash_behind, recorded_of, is_honest, is_calm_as, failures_of, erases_of, bad_in, stop_in, DoesServe, EndsServing, HasClaim, HasServedImage, HasServed, IsUnserved, IsUnservedDie, IsServeUnstarted, ServesDie, IsDieUnmade}
 use Rattle.commands.specs.Steady.{has_spared}
 use Rattle.commands.proofs.BadLemmas.{named_bad}
 use Rattle.commands.proofs.PassedLemmas.{none_failed}
@@ -54,7 +54,7 @@ pub die_served : (nand given : Driver) (g : Geometry) (capacity : ℕ) (c : Clai
 die_served nand given g capacity c u v b w result how after back most s le none same sized spared how_is pages bytes =
     let known : AreKnown s.exchanges = all_known s.exchanges (failures_of nand) (failures_of given) most s.rose le none in
     let there : back ≡ flash_behind s.last.engine.nand = same ∙ ap flash_behind s.given_is in
-    let holds = until_known (HoldsTo flash_behind recorded_of is_honest failures_of erases_of nand g capacity c s.first) (HasFailed flash_behind recorded_of is_honest failures_of erases_of) s.exchanges s.last s.headline known refl in
+    let holds = until_known (HoldsTo flash_behind recorded_of is_honest failures_of erases_of nand g capacity c s.first) (HasBusFailed flash_behind recorded_of is_honest failures_of erases_of) s.exchanges s.last s.headline known refl in
     let passed : (before : List ℕ) → flash_behind nand ≡ loaded_flash g before (bad_in g c) → failures (log_of holds.headline.run.events) ≡ 0 = λ before loaded.
     passed_in g before c (flash_behind nand) (flash_behind s.last.engine.nand) holds.headline.ro holds.headline.pinned holds.headline.run.events (accepted_device (flash_behind nand) c) refl holds.headline.run.run holds.headline.legal loaded
     (subst (λ (f : Flash). has_spared f ≡ true) there spared) in
@@ -89,13 +89,13 @@ read_through g capacity image c r was now most (inr wrong) rose le none = inr wr
 
 -- a step before the run ended it
 pub stops : (gives : Gives) (words : ServeWords) (unread left : Option (List ℕ)) (before after : Left) (result : Result (Unit {0}) CommandFault) (stop : CommandFault)
-    → result ≡ Err stop → Leaves before after → Keeps unread left → IsUnstarted gives words stop → DoesServe gives words unread left before after result
+    → result ≡ Err stop → LeavesUntouched before after → Keeps unread left → IsServeUnstarted gives words stop → DoesServe gives words unread left before after result
 stops gives words unread left before after result stop is leaves keeps because =
     let P : Result (Unit {0}) CommandFault → Type 0 = λ r. DoesServe gives words unread left before after r in
     subst P (sym is) (inl (record { leaves = leaves; unread_is = keeps; because = because }))
 
 -- an image of which no die was made
-pub undied : (g : Geometry) (capacity : ℕ) (bytes : List ℕ) (c : Claim) (stop : CommandFault) → IsUnmade g bytes stop → IsUnserved g capacity bytes c stop
+pub undied : (g : Geometry) (capacity : ℕ) (bytes : List ℕ) (c : Claim) (stop : CommandFault) → IsDieUnmade g bytes stop → IsUnserved g capacity bytes c stop
 undied g capacity bytes c fault.WrongLength unmade = unmade
 undied g capacity bytes c (fault.Die broken) unmade = unmade
 undied g capacity bytes c _ unmade = absurd unmade
@@ -112,7 +112,7 @@ unserved g capacity bytes c s _ whole same h = absurd h
 pub served_does : (gives : Gives) (words : ServeWords) (unread left : Option (List ℕ)) (before after : Left) (result : Result (Unit {0}) CommandFault)
     (g : Geometry) (capacity : ℕ) (bytes image : List ℕ) (c : Claim) (s : Flash) (how : Option ServeStop)
     → HasClaim gives words g capacity bytes c → s ≡ loaded_flash g bytes (bad_in g c) → HasServed g capacity c s image unread left before.out after.out how
-    → Ends words.output.now image how before.stores after.stores result → DoesServe gives words unread left before after result
+    → EndsServing words.output.now image how before.stores after.stores result → DoesServe gives words unread left before after result
 served_does gives words unread left before after result g capacity bytes image c s how has same served ends = does result (record {
   geometry = g;
   capacity = capacity;
@@ -122,9 +122,9 @@ served_does gives words unread left before after result g capacity bytes image c
   image = image;
   came = served.came;
   serves = subst (λ (f : Flash). ServesDie g capacity c f image unread left before.out after.out served.came) same served.serves;
-  ends = subst (λ (h : Option ServeStop). Ends words.output.now image h before.stores after.stores result) served.how_is ends;
+  ends = subst (λ (h : Option ServeStop). EndsServing words.output.now image h before.stores after.stores result) served.how_is ends;
 })
   where
-    does : (r : Result (Unit {0}) CommandFault) → HasRun gives words unread left before after r → DoesServe gives words unread left before after r
+    does : (r : Result (Unit {0}) CommandFault) → HasServedImage gives words unread left before after r → DoesServe gives words unread left before after r
     does (Ok done) ran = ran
     does (Err stop) ran = inr ran

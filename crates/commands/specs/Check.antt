@@ -106,14 +106,14 @@ Accepts g capacity path known c before after (Err stop) =
     (Keeps before after × IsUnheld g capacity path known c stop) ⊎ (IsHeldAs g capacity known c × IsUnprinted accepted_line before after stop)
 
 -- nothing was written to standard output, unless it is what failed
-abbrev pub IsKept : CommandFault → Option (List ℕ) → Option (List ℕ) → Type 0
-IsKept (fault.Write path) before after = Unit {0}
-IsKept _ before after = Keeps before after
+abbrev pub IsOutputKept : CommandFault → Option (List ℕ) → Option (List ℕ) → Type 0
+IsOutputKept (fault.Write path) before after = Unit {0}
+IsOutputKept _ before after = Keeps before after
 
 -- ---- the command
 
 -- the words ask for a check, and the image's file was not opened
-pub record IsUnopened (gives : Gives) (words : CertificateWords) (stop : CommandFault) : Type 0 where
+pub record IsImageUnopened (gives : Gives) (words : CertificateWords) (stop : CommandFault) : Type 0 where
   pub geometry : Geometry
   pub capacity : ℕ
   pub asked : AsksForCapacity words geometry capacity
@@ -148,8 +148,8 @@ pub record HasCertificate (gives : Gives) (tells : Bool) (words : CertificateWor
   pub spelled : IsSpelled claim written
 
 -- the certificate is what is asked for, the image is whole, and the one agrees with the other
-abbrev pub Holds : {gives : Gives} {tells : Bool} {words : CertificateWords} → HasCertificate gives tells words → Type 0
-Holds has = IsHeldAs has.geometry has.capacity has.known has.claim
+abbrev pub CertificateHolds : {gives : Gives} {tells : Bool} {words : CertificateWords} → HasCertificate gives tells words → Type 0
+CertificateHolds has = IsHeldAs has.geometry has.capacity has.known has.claim
 
 -- or it was not found to
 abbrev pub HoldsNot : {gives : Gives} {tells : Bool} {words : CertificateWords} → HasCertificate gives tells words → CommandFault → Type 0
@@ -160,13 +160,13 @@ HoldsNot {words = words} has stop = IsUnheld has.geometry has.capacity words.ima
 abbrev pub IsCheckFault : Gives → Bool → CertificateWords → Option (List ℕ) → Option (List ℕ) → CommandFault → Type 0
 IsCheckFault gives tells words before after stop =
     IsUnasked words stop
-    ⊎ IsUnopened gives words stop
+    ⊎ IsImageUnopened gives words stop
     ⊎ LacksCertificate gives tells words stop
     ⊎ HasNoCertificate gives tells words stop
     ⊎ ((has : HasCertificate gives tells words) × HoldsNot has stop)
-    ⊎ ((has : HasCertificate gives tells words) × Holds has × IsUnprinted accepted_line before after stop)
+    ⊎ ((has : HasCertificate gives tells words) × CertificateHolds has × IsUnprinted accepted_line before after stop)
 
 -- What the command came to, with the bytes of standard output before and after.
 abbrev pub DoesCheck : Gives → Bool → CertificateWords → Option (List ℕ) → Option (List ℕ) → Result (Unit {0}) CommandFault → Type 0
-DoesCheck gives tells words before after (Ok done) = (has : HasCertificate gives tells words) × Holds has × Appends before after accepted_line
-DoesCheck gives tells words before after (Err stop) = IsKept stop before after × IsCheckFault gives tells words before after stop
+DoesCheck gives tells words before after (Ok done) = (has : HasCertificate gives tells words) × CertificateHolds has × Appends before after accepted_line
+DoesCheck gives tells words before after (Err stop) = IsOutputKept stop before after × IsCheckFault gives tells words before after stop

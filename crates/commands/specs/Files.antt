@@ -53,5 +53,5 @@ abbrev pub left : Option (List Stored) → Option (List ℕ) → Left
 left stores out = record { stores = stores; out = out }
 
 -- nothing was stored and nothing written
-abbrev pub Leaves : Left → Left → Type 0
-Leaves before after = (after.stores ≡ before.stores) × Keeps before.out after.out
+abbrev pub LeavesUntouched : Left → Left → Type 0
+LeavesUntouched before after = (after.stores ≡ before.stores) × Keeps before.out after.out

@@ -22,7 +22,7 @@ use Rattle.commands.specs.declared.text.CommandFault.{CommandFault}
 use Rattle.commands.specs.declared.text.CommandFault.TheVariants as fault
 use Rattle.command_words.specs.declared.words.FileWords.{FileWords}
 use Rattle.command_words.specs.Numbers.{SpellsGeometry}
-use Rattle.commands.specs.Files.{Gives, Left, Leaves, with_store, written, unwritten}
+use Rattle.commands.specs.Files.{Gives, Left, LeavesUntouched, with_store, written, unwritten}
 
 -- ---- an image in place
 
@@ -37,18 +37,18 @@ pub record IsFormattedImage (g : Geometry) (before after : List ℕ) (good : ℕ
 
 -- Why the die that holds an image was not formatted: too few of its blocks are unmarked, or a page is used. It answers each read, and each
 -- program passes.
-abbrev pub IsRefused : Geometry → Image → FormatFault → Type 0
-IsRefused g image (refuse.TooFewGood good asked) = (good ≡ good_after g image []) × (good < need g) × (asked ≡ need g)
-IsRefused g image refuse.Bus = ⊥
-IsRefused g image refuse.OutOfMemory = Unit {0}
-IsRefused g image refuse.WriteFailed = ⊥
-IsRefused g image (refuse.NotFresh row) = (need g ≤ good_after g image []) × IsFirstPass (is_used g image) 0 (row_count g) row
+abbrev pub IsFormatRefused : Geometry → Image → FormatFault → Type 0
+IsFormatRefused g image (refuse.TooFewGood good asked) = (good ≡ good_after g image []) × (good < need g) × (asked ≡ need g)
+IsFormatRefused g image refuse.Bus = ⊥
+IsFormatRefused g image refuse.OutOfMemory = Unit {0}
+IsFormatRefused g image refuse.WriteFailed = ⊥
+IsFormatRefused g image (refuse.NotFresh row) = (need g ≤ good_after g image []) × IsFirstPass (is_used g image) 0 (row_count g) row
 
 -- why an image was not formatted
 abbrev pub IsUnformatted : Geometry → List ℕ → CommandFault → Type 0
 IsUnformatted g bytes fault.WrongLength = length bytes ≢ row_count g * page_bytes g
 IsUnformatted g bytes (fault.Die die.OutOfMemory) = length bytes ≡ row_count g * page_bytes g
-IsUnformatted g bytes (fault.Format refused) = (length bytes ≡ row_count g * page_bytes g) × IsRefused g (raw_image g bytes) refused
+IsUnformatted g bytes (fault.Format refused) = (length bytes ≡ row_count g * page_bytes g) × IsFormatRefused g (raw_image g bytes) refused
 IsUnformatted g bytes _ = ⊥
 
 -- ---- the command
@@ -86,19 +86,19 @@ IsUnwritten words bytes good before after path =
 abbrev pub DoesFormat : Gives → FileWords → Left → Left → Result (Unit {0}) CommandFault → Type 0
 DoesFormat gives words before after (Ok done) = (bytes : List ℕ) × (good : ℕ) × HasFormatted gives words bytes good
     × (after.stores ≡ with_store before.stores (written words.output.now bytes)) × Appends before.out after.out (good_line good)
-DoesFormat gives words before after (Err (fault.BadNumber word)) = Leaves before after
+DoesFormat gives words before after (Err (fault.BadNumber word)) = LeavesUntouched before after
     × (word.now ≡ words.geometry.now) × ((numbers : GeometryNumbers) → ¬ SpellsGeometry words.geometry.now numbers)
-DoesFormat gives words before after (Err (fault.Geometry broken)) = Leaves before after × ((numbers : GeometryNumbers) × SpellsGeometry words.geometry.now numbers
+DoesFormat gives words before after (Err (fault.Geometry broken)) = LeavesUntouched before after × ((numbers : GeometryNumbers) × SpellsGeometry words.geometry.now numbers
     × IsFirstFault numbers.data_bytes numbers.spare_bytes numbers.pages numbers.blocks numbers.sectors broken)
-DoesFormat gives words before after (Err (fault.Read path)) = Leaves before after × (path.now ≡ words.input.now) × gives words.input.now (Err file.Failed) × ((g : Geometry) × IsGeometry words g)
-DoesFormat gives words before after (Err fault.WrongLength) = Leaves before after
+DoesFormat gives words before after (Err (fault.Read path)) = LeavesUntouched before after × (path.now ≡ words.input.now) × gives words.input.now (Err file.Failed) × ((g : Geometry) × IsGeometry words g)
+DoesFormat gives words before after (Err fault.WrongLength) = LeavesUntouched before after
     × ((g : Geometry) × (bytes : List ℕ) × HasInput gives words g bytes × IsUnformatted g bytes fault.WrongLength)
-DoesFormat gives words before after (Err (fault.Die broken)) = Leaves before after
+DoesFormat gives words before after (Err (fault.Die broken)) = LeavesUntouched before after
     × ((g : Geometry) × (bytes : List ℕ) × HasInput gives words g bytes × IsUnformatted g bytes (fault.Die broken))
-DoesFormat gives words before after (Err (fault.Format refused)) = Leaves before after
+DoesFormat gives words before after (Err (fault.Format refused)) = LeavesUntouched before after
     × ((g : Geometry) × (bytes : List ℕ) × HasInput gives words g bytes × IsUnformatted g bytes (fault.Format refused))
 DoesFormat gives words before after (Err (fault.Write path)) = (bytes : List ℕ) × (good : ℕ) × HasFormatted gives words bytes good × IsUnwritten words bytes good before after path.now
-DoesFormat gives words before after (Err fault.OutOfMemory) = Leaves before after
+DoesFormat gives words before after (Err fault.OutOfMemory) = LeavesUntouched before after
     × (((g : Geometry) × IsGeometry words g × gives words.input.now (Err file.OutOfMemory))
     ⊎ ((bytes : List ℕ) × (good : ℕ) × HasFormatted gives words bytes good))
 DoesFormat gives words before after (Err _) = ⊥

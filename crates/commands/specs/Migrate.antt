@@ -34,10 +34,10 @@ use Rattle.block_server.specs.Checked.{IsBegun}
 use Rattle.command_words.specs.declared.words.ServeWords.{ServeWords}
 use Rattle.commands.specs.declared.text.CommandFault.{CommandFault}
 use Rattle.commands.specs.declared.text.CommandFault.TheVariants as fault
-use Rattle.commands.specs.Check.{HasNoCertificate, IsUnasked, IsUnopened, IsWhole, LacksCertificate}
-use Rattle.commands.specs.Files.{Gives, Left, Leaves, Stored, with_store, written, unwritten}
+use Rattle.commands.specs.Check.{HasNoCertificate, IsImageUnopened, IsUnasked, IsWhole, LacksCertificate}
+use Rattle.commands.specs.Files.{Gives, Left, LeavesUntouched, Stored, with_store, written, unwritten}
 use Rattle.commands.specs.Lines.{IsUnprinted}
-use Rattle.commands.specs.Serve.{Driver, HasClaim, IsUnmade, bad_in, checked_words}
+use Rattle.commands.specs.Serve.{Driver, HasClaim, IsDieUnmade, bad_in, checked_words}
 use Rattle.commands.specs.Serve.{erases_of, failures_of, flash_behind, is_calm_as, is_honest, programs_of, recorded_of}
 
 -- ---- one call after another, of a device on an honest die whose pages have room for version 2
@@ -45,7 +45,7 @@ use Rattle.commands.specs.Serve.{erases_of, failures_of, flash_behind, is_calm_a
 -- WHAT ONE CALL PROMISES: all that a turn promises of the array; where it answered true there are fewer newest pages of version 1 than before, and where it
 -- answered false none but table pages, and nothing was programmed or erased. One that answered true made room and brought one page: the one that its look found, or none
 -- where making room had moved it; and the cursor went past its row.
-pub record Calls {N : Type 0} (flash : N → Flash) (recorded : N → Option Recording) (honest calm : N → Bool) (programs erases failed : N → ℕ)
+pub record CallsMigrate {N : Type 0} (flash : N → Flash) (recorded : N → Option Recording) (honest calm : N → Bool) (programs erases failed : N → ℕ)
     (old : Device N) (result : Result Bool DeviceFault) (new : Device N) : Type 0 where
   pub upkeeps : Upkeeps flash recorded honest calm failed Turn old (ended result) new
   pub migrates : IfOk result (λ found. Migrates found old.engine.geometry (image_in flash old.engine) (image_in flash new.engine))
@@ -61,17 +61,17 @@ abbrev pub Renews : {N : Type 0} → (N → Flash) → (N → Option Recording) 
 Renews flash recorded honest calm programs erases failed zero old new = new ≡ old
 Renews {N} flash recorded honest calm programs erases failed (suc count) old new =
     (mid : Device N) × Renews flash recorded honest calm programs erases failed count old mid
-    × Calls flash recorded honest calm programs erases failed mid (Ok true) new
+    × CallsMigrate flash recorded honest calm programs erases failed mid (Ok true) new
 
 -- ALL CALLS: so many answered true and the next one false, or after so many one was refused
 abbrev pub RenewsAll : {N : Type 0} → (N → Flash) → (N → Option Recording) → (honest calm : N → Bool) → (programs erases failed : N → ℕ)
     → Device N → Result ℕ DeviceFault → Device N → Type 0
 RenewsAll {N} flash recorded honest calm programs erases failed old (Ok count) new =
     (mid : Device N) × Renews flash recorded honest calm programs erases failed count old mid
-    × Calls flash recorded honest calm programs erases failed mid (Ok false) new
+    × CallsMigrate flash recorded honest calm programs erases failed mid (Ok false) new
 RenewsAll {N} flash recorded honest calm programs erases failed old (Err refused) new =
     (count : ℕ) × (mid : Device N) × Renews flash recorded honest calm programs erases failed count old mid
-    × Calls flash recorded honest calm programs erases failed mid (Err refused) new
+    × CallsMigrate flash recorded honest calm programs erases failed mid (Err refused) new
 
 -- and then, where none was refused, a flush
 abbrev pub RenewsThenFlushes : {N : Type 0} → (N → Flash) → (N → Option Recording) → (honest calm : N → Bool) → (programs erases failed : N → ℕ)
@@ -147,14 +147,14 @@ pub record IsClaimUnmigrated (gives : Gives) (words : ServeWords) (stopped : Com
   pub bytes : List ℕ
   pub claim : Claim
   pub has : HasClaim gives words geometry capacity bytes claim
-  pub unmigrated : IsUnmade geometry bytes stopped
+  pub unmigrated : IsDieUnmade geometry bytes stopped
       ⊎ (IsWhole geometry bytes × IsUnmigratedDie geometry capacity claim (loaded_flash geometry bytes (bad_in geometry claim)) stopped)
 
 -- Why the command ended before a device was started. Each case says that none before it in the order held.
 abbrev pub IsUnbegun : Gives → ServeWords → CommandFault → Type 0
 IsUnbegun gives words stopped =
     IsUnasked (checked_words words) stopped
-    ⊎ IsUnopened gives (checked_words words) stopped
+    ⊎ IsImageUnopened gives (checked_words words) stopped
     ⊎ LacksCertificate gives true (checked_words words) stopped
     ⊎ HasNoCertificate gives true (checked_words words) stopped
     ⊎ IsClaimUnmigrated gives words stopped
@@ -192,7 +192,7 @@ abbrev pub DoesMigrate : Gives → ServeWords → Left → Left → Result (Unit
 DoesMigrate gives words before after (Ok done) = (image : List ℕ) × (count : ℕ) × HasMigrated gives words image (Ok count)
     × (after.stores ≡ with_store before.stores (written words.output.now image)) × Appends before.out after.out (migrated_line count)
 DoesMigrate gives words before after (Err stop) =
-    (Leaves before after × IsUnbegun gives words stop)
+    (LeavesUntouched before after × IsUnbegun gives words stop)
     ⊎ ((image : List ℕ) × (came : Result ℕ DeviceFault) × HasMigrated gives words image came × EndsShort words.output.now image came before.stores after.stores stop
     × Keeps before.out after.out)
     ⊎ ((image : List ℕ) × (count : ℕ) × HasMigrated gives words image (Ok count) × (after.stores ≡ with_store before.stores (written words.output.now image))

@@ -14,8 +14,8 @@ use Rattle.commands.specs.declared.mount_image.Mounted.{Mounted}
 use Rattle.commands.specs.declared.text.CommandFault.{CommandFault}
 use Rattle.commands.specs.declared.text.CommandFault.TheVariants as fault
 use Rattle.command_words.specs.declared.words.CertificateWords.{CertificateWords}
-use Rattle.commands.specs.Check.{AsksForCapacity, IsUnasked, IsUnopened, IsWhole}
-use Rattle.commands.specs.Files.{Gives, IsUnstored, Left, Leaves, with_store, written}
+use Rattle.commands.specs.Check.{AsksForCapacity, IsImageUnopened, IsUnasked, IsWhole}
+use Rattle.commands.specs.Files.{Gives, IsUnstored, Left, LeavesUntouched, with_store, written}
 use Rattle.commands.specs.Lines.{IsUnprinted}
 
 -- the bytes are an image, and this is its certificate
@@ -38,11 +38,11 @@ IsUnspelled (fault.Certificate broken) = broken ≡ certificate.OutOfMemory
 IsUnspelled _ = ⊥
 
 -- why there is no certificate of the bytes, or why it was not spelled
-abbrev pub IsUnmounted : Geometry → ℕ → List ℕ → CommandFault → Type 0
-IsUnmounted g capacity bytes fault.WrongLength = ¬ IsWhole g bytes
-IsUnmounted g capacity bytes (fault.Mount refusal) = IsWhole g bytes × ((refusal ≡ refusals.OutOfMemory) ⊎ IsUnmountable g capacity (raw_image g bytes) refusal)
-IsUnmounted g capacity bytes (fault.Certificate broken) = IsWhole g bytes × (broken ≡ certificate.OutOfMemory)
-IsUnmounted g capacity bytes _ = ⊥
+abbrev pub IsImageUnmounted : Geometry → ℕ → List ℕ → CommandFault → Type 0
+IsImageUnmounted g capacity bytes fault.WrongLength = ¬ IsWhole g bytes
+IsImageUnmounted g capacity bytes (fault.Mount refusal) = IsWhole g bytes × ((refusal ≡ refusals.OutOfMemory) ⊎ IsUnmountable g capacity (raw_image g bytes) refusal)
+IsImageUnmounted g capacity bytes (fault.Certificate broken) = IsWhole g bytes × (broken ≡ certificate.OutOfMemory)
+IsImageUnmounted g capacity bytes _ = ⊥
 
 -- the line: the next sequence, the good blocks and the stale sectors
 abbrev pub mounted_line : ℕ → ℕ → ℕ → List ℕ
@@ -67,7 +67,7 @@ pub record LacksMount (gives : Gives) (words : CertificateWords) (stop : Command
   pub bytes : List ℕ
   pub asked : AsksForCapacity words geometry capacity
   pub image : gives words.image.now (Ok bytes)
-  pub unmounted : IsUnmounted geometry capacity bytes stop
+  pub unmounted : IsImageUnmounted geometry capacity bytes stop
 
 -- the line of an image and its certificate
 abbrev pub line_of : {gives : Gives} {words : CertificateWords} → HasMounted gives words → List ℕ
@@ -84,7 +84,7 @@ StoresNot {words = words} has before after stop = IsUnstored words.certificate.n
 -- Why the command ended before there was a certificate to store. Each case says that none before it in the order held: the
 -- words, the image's file, and the image.
 abbrev pub IsUncertified : Gives → CertificateWords → CommandFault → Type 0
-IsUncertified gives words stop = IsUnasked words stop ⊎ IsUnopened gives words stop ⊎ LacksMount gives words stop
+IsUncertified gives words stop = IsUnasked words stop ⊎ IsImageUnopened gives words stop ⊎ LacksMount gives words stop
 
 -- What the command came to, with the stores and the bytes of standard output before and after. Where there is no
 -- certificate nothing is stored and nothing printed; where it was not stored nothing is printed; where the line was not
@@ -92,6 +92,6 @@ IsUncertified gives words stop = IsUnasked words stop ⊎ IsUnopened gives words
 abbrev pub DoesMount : Gives → CertificateWords → Left → Left → Result (Unit {0}) CommandFault → Type 0
 DoesMount gives words before after (Ok done) = (has : HasMounted gives words) × Stores has before after × Appends before.out after.out (line_of has)
 DoesMount gives words before after (Err stop) =
-    (Leaves before after × IsUncertified gives words stop)
+    (LeavesUntouched before after × IsUncertified gives words stop)
     ⊎ ((has : HasMounted gives words) × StoresNot has before after stop × Keeps before.out after.out)
     ⊎ ((has : HasMounted gives words) × Stores has before after × IsUnprinted (line_of has) before.out after.out stop)

@@ -23,8 +23,8 @@ use Rattle.ftl_device.specs.declared.device.Device.{Device}
 use Rattle.ftl_device.specs.Begin.{is_bad_in}
 use Rattle.command_queue.specs.Exchanges.{Exchange, commands_in, replies_in}
 use Rattle.block_server.specs.declared.server.Served.{Served}
-use Rattle.block_server.specs.Session.{Serves}
-use Rattle.block_server.specs.Checked.{IsBegun, Holds}
+use Rattle.block_server.specs.Session.{ServesRequests}
+use Rattle.block_server.specs.Checked.{IsBegun, HeadlineHolds}
 use Rattle.command_words.specs.declared.words.CertificateWords.{CertificateWords}
 use Rattle.command_words.specs.declared.words.ServeWords.{ServeWords}
 use Rattle.commands.specs.declared.text.CommandFault.{CommandFault}
@@ -33,9 +33,9 @@ use Rattle.commands.specs.declared.steady.SteadyDie.{SteadyDie}
 use Rattle.commands.specs.Steady.{is_flawless}
 use Rattle.commands.specs.declared.text.ServeStop.{ServeStop}
 use Rattle.commands.specs.declared.text.ServeStop.TheVariants as stop
-use Rattle.commands.specs.Check.{HasFiles, HasNoCertificate, IsSpelled, IsUnasked, IsUnopened, IsWhole, LacksCertificate}
+use Rattle.commands.specs.Check.{HasFiles, HasNoCertificate, IsImageUnopened, IsSpelled, IsUnasked, IsWhole, LacksCertificate}
 use Rattle.commands.specs.Steady.{is_flawless}
-use Rattle.commands.specs.Files.{Gives, Left, Leaves, Stored, with_store, written, unwritten}
+use Rattle.commands.specs.Files.{Gives, Left, LeavesUntouched, Stored, with_store, written, unwritten}
 
 -- ---- an image in place
 
@@ -77,13 +77,13 @@ pub record ServesDie (g : Geometry) (capacity : ℕ) (c : Claim) (s : Flash) (af
   pub requests : List Request
   pub exchanges : List Exchange
   pub commands : commands_in exchanges ≡ map command_of requests
-  pub stream : Serves g.data_bytes unread left out out' requests (replies_in exchanges) result
+  pub stream : ServesRequests g.data_bytes unread left out out' requests (replies_in exchanges) result
   pub nand : Driver
   pub first : Device Driver
   pub last : Device Driver
   pub held : flash_behind nand ≡ s
   pub begun : IsBegun flash_behind recorded_of is_honest failures_of nand g c first
-  pub holds : Holds flash_behind recorded_of is_honest failures_of erases_of g capacity c s first exchanges last
+  pub holds : HeadlineHolds flash_behind recorded_of is_honest failures_of erases_of g capacity c s first exchanges last
   pub passed : (before : List ℕ) → s ≡ loaded_flash g before (bad_in g c) → failures (log_of holds.headline.run.events) ≡ 0
   pub pages : raw_image g after ≡ (flash_behind last.engine.nand).image
   pub bytes : after ≡ raw_bytes (flash_behind last.engine.nand).image
@@ -103,10 +103,10 @@ stop_in (Ok served) = stop_at served.end
 stop_in (Err stopped) = Some (stop.Fault stopped)
 
 -- why no die was made of the image
-abbrev pub IsUnmade : Geometry → List ℕ → CommandFault → Type 0
-IsUnmade g bytes fault.WrongLength = ¬ IsWhole g bytes
-IsUnmade g bytes (fault.Die broken) = IsWhole g bytes × (broken ≡ die.OutOfMemory)
-IsUnmade g bytes _ = ⊥
+abbrev pub IsDieUnmade : Geometry → List ℕ → CommandFault → Type 0
+IsDieUnmade g bytes fault.WrongLength = ¬ IsWhole g bytes
+IsDieUnmade g bytes (fault.Die broken) = IsWhole g bytes × (broken ≡ die.OutOfMemory)
+IsDieUnmade g bytes _ = ⊥
 
 -- why the die was not served: nothing was read and nothing written
 abbrev pub IsUnserved : Geometry → ℕ → List ℕ → Claim → CommandFault → Type 0
@@ -151,27 +151,27 @@ pub record IsClaimUnserved (gives : Gives) (words : ServeWords) (stopped : Comma
 
 -- Why the command ended before anything was read from standard input. Each case says that none before it in the order held. The image's
 -- file was loaded whole, so its bytes are known.
-abbrev pub IsUnstarted : Gives → ServeWords → CommandFault → Type 0
-IsUnstarted gives words stopped =
+abbrev pub IsServeUnstarted : Gives → ServeWords → CommandFault → Type 0
+IsServeUnstarted gives words stopped =
     IsUnasked (checked_words words) stopped
-    ⊎ IsUnopened gives (checked_words words) stopped
+    ⊎ IsImageUnopened gives (checked_words words) stopped
     ⊎ LacksCertificate gives true (checked_words words) stopped
     ⊎ HasNoCertificate gives true (checked_words words) stopped
     ⊎ IsClaimUnserved gives words stopped
 
 -- How it ended after the run: the image was stored, and what stopped the server is told; or it could not be stored, and that is told, after
 -- what stopped the server.
-abbrev pub Ends : List ℕ → List ℕ → Option ServeStop → Option (List Stored) → Option (List Stored) → Result (Unit {0}) CommandFault → Type 0
-Ends path image how before after (Ok done) = (how ≡ None) × (after ≡ with_store before (written path image))
-Ends path image how before after (Err (fault.Serve stopped)) = (how ≡ Some stopped) × (after ≡ with_store before (written path image))
-Ends path image how before after (Err (fault.Write text)) = (how ≡ None) × (text.now ≡ path) × (after ≡ with_store before (unwritten path image))
-Ends path image how before after (Err fault.OutOfMemory) = (how ≡ None) × (after ≡ before)
-Ends path image how before after (Err (fault.ServeUnstored stopped text)) = (how ≡ Some stopped) × (text.now ≡ path)
+abbrev pub EndsServing : List ℕ → List ℕ → Option ServeStop → Option (List Stored) → Option (List Stored) → Result (Unit {0}) CommandFault → Type 0
+EndsServing path image how before after (Ok done) = (how ≡ None) × (after ≡ with_store before (written path image))
+EndsServing path image how before after (Err (fault.Serve stopped)) = (how ≡ Some stopped) × (after ≡ with_store before (written path image))
+EndsServing path image how before after (Err (fault.Write text)) = (how ≡ None) × (text.now ≡ path) × (after ≡ with_store before (unwritten path image))
+EndsServing path image how before after (Err fault.OutOfMemory) = (how ≡ None) × (after ≡ before)
+EndsServing path image how before after (Err (fault.ServeUnstored stopped text)) = (how ≡ Some stopped) × (text.now ≡ path)
     × ((after ≡ with_store before (unwritten path image)) ⊎ (after ≡ before))
-Ends path image how before after (Err _) = ⊥
+EndsServing path image how before after (Err _) = ⊥
 
 -- it ran: requests were served over the image, and it ended so
-pub record HasRun (gives : Gives) (words : ServeWords) (unread left : Option (List ℕ)) (before after : Left) (result : Result (Unit {0}) CommandFault) : Type 0 where
+pub record HasServedImage (gives : Gives) (words : ServeWords) (unread left : Option (List ℕ)) (before after : Left) (result : Result (Unit {0}) CommandFault) : Type 0 where
   pub geometry : Geometry
   pub capacity : ℕ
   pub bytes : List ℕ
@@ -180,15 +180,15 @@ pub record HasRun (gives : Gives) (words : ServeWords) (unread left : Option (Li
   pub image : List ℕ
   pub came : Result Served ServeFault
   pub serves : ServesImage geometry capacity claim bytes image unread left before.out after.out came
-  pub ends : Ends words.output.now image (stop_in came) before.stores after.stores result
+  pub ends : EndsServing words.output.now image (stop_in came) before.stores after.stores result
 
 -- nothing was read from standard input, stored or printed
 pub record HasNotRun (gives : Gives) (words : ServeWords) (unread left : Option (List ℕ)) (before after : Left) (stopped : CommandFault) : Type 0 where
-  pub leaves : Leaves before after
+  pub leaves : LeavesUntouched before after
   pub unread_is : Keeps unread left
-  pub because : IsUnstarted gives words stopped
+  pub because : IsServeUnstarted gives words stopped
 
 -- What the command came to, with what standard input had, and the stores and the bytes of standard output before and after.
 abbrev pub DoesServe : Gives → ServeWords → Option (List ℕ) → Option (List ℕ) → Left → Left → Result (Unit {0}) CommandFault → Type 0
-DoesServe gives words unread left before after (Ok done) = HasRun gives words unread left before after (Ok done)
-DoesServe gives words unread left before after (Err stopped) = HasNotRun gives words unread left before after stopped ⊎ HasRun gives words unread left before after (Err stopped)
+DoesServe gives words unread left before after (Ok done) = HasServedImage gives words unread left before after (Ok done)
+DoesServe gives words unread left before after (Err stopped) = HasNotRun gives words unread left before after stopped ⊎ HasServedImage gives words unread left before after (Err stopped)

@@ -4,7 +4,7 @@ ghost use Rattle.std.specs.Io.KnownBytes.{Appends};
 ghost use Rattle.certificate.specs.Spelling.{certificate_bytes};
 ghost use Rattle.commands.specs.Files.{left};
 ghost use Rattle.commands.specs.Lines.{IsUnprinted};
-ghost use Rattle.commands.specs.Mount.{DoesMount, IsMountedAs, IsUnmounted, IsUnspelled, mounted_line};
+ghost use Rattle.commands.specs.Mount.{DoesMount, IsImageUnmounted, IsMountedAs, IsUnspelled, mounted_line};
 
 use crate::files::FileStore;
 use crate::inputs::{CacheAsked, cache_asked, load};
@@ -48,7 +48,7 @@ fn mount_bytes<'a>(
     requires least { 1 ≤ asked.now.capacity }
     requires most { asked.now.capacity ≤ 65536 }
     ensures ok { IfOk result (IsMountedAs asked.now.geometry asked.now.capacity bytes.now) }
-    ensures fault { IfErr result (IsUnmounted asked.now.geometry asked.now.capacity bytes.now) }
+    ensures fault { IfErr result (IsImageUnmounted asked.now.geometry asked.now.capacity bytes.now) }
 {
     let mut image = match ImageSlice::new(&asked.geometry, bytes) {
         Ok(image) => image,

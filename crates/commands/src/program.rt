@@ -1,5 +1,5 @@
 //! The program's commands.
-ghost use Rattle.commands.specs.Commands.{Does, Obeys, Runs};
+ghost use Rattle.commands.specs.Commands.{CommandRuns, Obeys, OrderComesTo};
 ghost use Rattle.commands.specs.Files.{left};
 ghost use Rattle.command_words.specs.Words.{texts};
 
@@ -24,7 +24,7 @@ fn carry_out<'a, F: FileStore, R: Read, W: Write>(
     input: &mut R,
     out: &mut W,
 ) -> Result<(), CommandFault<'a>>
-    ensures { Does (F.gives files.old) (F.tells files.old) order.entry (R.remaining input.old) (R.remaining input.new)
+    ensures { OrderComesTo (F.gives files.old) (F.tells files.old) order.entry (R.remaining input.old) (R.remaining input.new)
         (left (F.stores files.old) (W.contents out.old)) (left (F.stores files.new) (W.contents out.new)) result }
 {
     match order {
@@ -76,7 +76,7 @@ pub fn run<F: FileStore, R: Read, W: Write, E: Write>(
     out: &mut W,
     err: &mut E,
 ) -> u8
-    ensures { Runs (F.gives files.old) (F.tells files.old) (texts words.now) (R.remaining input.old) (R.remaining input.new)
+    ensures { CommandRuns (F.gives files.old) (F.tells files.old) (texts words.now) (R.remaining input.old) (R.remaining input.new)
         (left (F.stores files.old) (W.contents out.old)) (left (F.stores files.new) (W.contents out.new)) (E.contents err.old) (E.contents err.new) result }
 {
     match obey(alloc, words, files, input, out) {

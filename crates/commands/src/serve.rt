@@ -9,7 +9,7 @@ ghost use Rattle.ftl_device.specs.Begin.{is_bad_in};
 ghost use Rattle.commands.specs.Check.{IsWhole};
 ghost use Rattle.commands.specs.Files.{left};
 ghost use Rattle.commands.specs.Steady.{is_steady};
-ghost use Rattle.commands.specs.Serve.{bad_in, stop_in, Ends, HasServed, IsUnmade, IsUnservedDie, DoesServe};
+ghost use Rattle.commands.specs.Serve.{bad_in, stop_in, EndsServing, HasServed, IsDieUnmade, IsUnservedDie, DoesServe};
 
 use crate::check::certificate_in;
 use crate::files::{FileFault, FileStore};
@@ -63,7 +63,7 @@ pub(crate) fn die_of<'a>(
     ensures made { IfOk result (λ die. die ≡ before_reset (loaded_flash asked.now.geometry bytes.now (bad_in asked.now.geometry certificate.now))) }
     ensures steady { IfOk result (λ die. is_steady die ≡ true) }
     ensures whole { OnOk result (IsWhole asked.now.geometry bytes.now) }
-    ensures fault { IfErr result (IsUnmade asked.now.geometry bytes.now) }
+    ensures fault { IfErr result (IsDieUnmade asked.now.geometry bytes.now) }
 {
     if ImageSlice::new(&asked.geometry, bytes).is_err() {
         return Err(CommandFault::WrongLength);
@@ -132,7 +132,7 @@ fn finish<'a, F: FileStore>(
     image: &[u8],
     stop: Option<ServeStop>,
 ) -> Result<(), CommandFault<'a>>
-    ensures { Ends path.now image.now stop (F.stores files.old) (F.stores files.new) result }
+    ensures { EndsServing path.now image.now stop (F.stores files.old) (F.stores files.new) result }
 {
     match (stop, files.store(path, image)) {
         (None, Ok(())) => Ok(()),

@@ -1,7 +1,7 @@
 //! What the program says when a command ends before it is done: one line, or two where two things failed, and the exit status.
 ghost use Rattle.std.specs.Prelude.{◌≡◌, ◌++◌};
 ghost use Rattle.commands.specs.Said.{said_bytes};
-ghost use Rattle.commands.specs.Text.{IsTold, line_of, stop_words};
+ghost use Rattle.commands.specs.Text.{IsCommandFaultTold, line_of, stop_words};
 
 use crate::said::{self, Said, send_said};
 use certificate::CertFault;
@@ -165,7 +165,7 @@ fn line<'a>(fault: &CommandFault<'a>) -> (&'a str, Said<'a>)
 /// lines. Where a write failed, was interrupted or took nothing it answers 3, and a beginning of the line stands there, or nothing,
 /// and never all of it. (The lines and the statuses are this project's.)
 pub fn tell<E: Write>(fault: &CommandFault<'_>, err: &mut E) -> u8
-    ensures { IsTold fault.now (E.contents err.old) (E.contents err.new) result }
+    ensures { IsCommandFaultTold fault.now (E.contents err.old) (E.contents err.new) result }
 {
     let (area, said) = line(fault);
     match send_said(err, area, said) {

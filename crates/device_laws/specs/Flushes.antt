@@ -10,7 +10,7 @@ use Rattle.promises.specs.Step.{Command}
 use Rattle.promises.specs.Log.{failed_count, IsShort}
 use Rattle.image_check.specs.Stale.{stale_sectors}
 use Rattle.ftl_device.specs.declared.fault.DeviceFault.TheVariants.{ReadOnly}
-use Rattle.ftl_device.specs.Counts.{IsShown, IsLeft}
+use Rattle.ftl_device.specs.Counts.{IsShown, IsLeftReadOnly}
 use Rattle.ftl_device.specs.Flush.{First, IsFlushedOut}
 
 -- NO SECTOR IS STALE after a flush that is done
@@ -24,7 +24,7 @@ NoTableOldLaw = (first : First) (log : List Operation) (image : Image) (u : ℕ)
 -- ONE FAILURE LEAVES NO DEVICE READ-ONLY, in a flush that is done as in any other call, unless there is a shortage
 abbrev pub OneFailureLaw : Type 0
 OneFailureLaw = (command : Command) (g : Geometry) (bad : ℕ → Bool) (before call : List Operation) (ro : Bool) → failed_count g call ≤ 1
-    → IsLeft command g bad before call ro (Ok tt) → IsShort g bad before call ro
+    → IsLeftReadOnly command g bad before call ro (Ok tt) → IsShort g bad before call ro
 
 -- READ-ONLY IS ANSWERED IN A SHORTAGE alone
 abbrev pub ShownShortLaw : Type 0

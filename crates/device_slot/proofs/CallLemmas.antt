@@ -12,15 +12,15 @@ use Rattle.ftl_device.specs.declared.fault.DeviceFault.TheVariants.{OutOfRange, 
 use Rattle.ftl_device.specs.Calls.{stop_of, IsWell}
 use Rattle.ftl_device.specs.Device.{IsDevice}
 use Rattle.command_queue.specs.Commands.{KeepsBytes, is_read}
-use Rattle.command_queue.specs.Exchanges.{Exchange, Stops}
+use Rattle.command_queue.specs.Exchanges.{Exchange, StopsDevice}
 use Rattle.command_queue.specs.Tells.{Tells}
 use Rattle.command_queue.specs.Told.{WasTold, RunsTo}
 use Rattle.command_queue.proofs.AcceptedLemmas.{started_well, ran_accepted}
 use Rattle.command_queue.proofs.ToldLemmas.{told_none, told_more, until_so}
 use Rattle.device_slot.specs.declared.slot.CallFault.{CallFault}
 use Rattle.device_slot.specs.declared.slot.Shortage.{Shortage}
-use Rattle.device_slot.specs.Begun.{IsKept}
-use Rattle.device_slot.specs.Calls.{answer_of, Told, Call, CalledEach, exchange_by, exchanges_in}
+use Rattle.device_slot.specs.Begun.{IsDeviceKept}
+use Rattle.device_slot.specs.Calls.{answer_of, ToldCommand, Call, CalledEach, exchange_by, exchanges_in}
 use Rattle.device_slot.specs.Laws.{SizedCallLaw, CallsToldLaw, CallsRunLaw, RunsFromBegun}
 
 nil_on : (xs : List Exchange) → [] ++ xs ≡ xs
@@ -29,7 +29,7 @@ nil_on (x ∷ xs) = refl
 
 -- ---- a device between calls
 
-bus_stops : (command : step.Command) → Stops command BusFault
+bus_stops : (command : step.Command) → StopsDevice command BusFault
 bus_stops (step.Read sector) = tt
 bus_stops (step.Write sector body) = tt
 bus_stops (step.Trim sector) = tt
@@ -37,7 +37,7 @@ bus_stops step.Flush = tt
 bus_stops step.Turn = tt
 
 -- a call after which the device goes on was not answered by a fault of the bus
-not_bus : (command : step.Command) (stop : Option DeviceFault) (result : Result (Unit {0}) DeviceFault) → IfErr result (λ fault. Stops command fault → stop ≡ Some fault)
+not_bus : (command : step.Command) (stop : Option DeviceFault) (result : Result (Unit {0}) DeviceFault) → IfErr result (λ fault. StopsDevice command fault → stop ≡ Some fault)
     → stop ≡ None → result ≢ Err BusFault
 not_bus command stop (Ok done) stops going = λ e. (let no : ⊥ = cc in no)
 not_bus command stop (Err OutOfRange) stops going = λ e. (let no : ⊥ = cc in no)
@@ -53,10 +53,10 @@ going_was : {N : Type 0} (old new : Device N) (result : Result (Unit {0}) Device
 going_was old new result None is stopped going = is
 going_was {N} old new result (Some fault) is stopped going = ap (λ (d : Device N). stop_of d.engine.fault) (sym (stopped fault is).1) ∙ going
 
-pub kept_on : {N : Type 0} (flash : N → Flash) (honest : N → Bool) (old new : Device N) (command : step.Command) (result : Result (Unit {0}) DeviceFault) → IsKept flash honest old → IsDevice flash new
+pub kept_on : {N : Type 0} (flash : N → Flash) (honest : N → Bool) (old new : Device N) (command : step.Command) (result : Result (Unit {0}) DeviceFault) → IsDeviceKept flash honest old → IsDevice flash new
     → honest new.engine.nand ≡ honest old.engine.nand → ForSome (stop_of old.engine.fault) (λ fault. (result ≡ Err fault) × (new ≡ old))
-    → IfErr result (λ fault. Stops command fault → stop_of new.engine.fault ≡ Some fault)
-    → (honest old.engine.nand ≡ true → IsWell flash old → result ≢ Err BusFault → IsWell flash new) → IsKept flash honest new
+    → IfErr result (λ fault. StopsDevice command fault → stop_of new.engine.fault ≡ Some fault)
+    → (honest old.engine.nand ≡ true → IsWell flash old → result ≢ Err BusFault → IsWell flash new) → IsDeviceKept flash honest new
 kept_on flash honest old new command result kept device same stopped stops well = record {
   device = device;
   well = λ h going.
@@ -76,9 +76,9 @@ none_of step.Turn result out quiet kept = kept
 
 module _ {N : Type 0} (flash : N → Flash) (recorded : N → Option Recording) (honest : N → Bool) (failed erases : N → ℕ) where
   pub told_none_out : (old new : Device N) (command : step.Command) (answer : Result (Unit {0}) CallFault) (out : List ℕ) (noted : Option Shortage) → is_read command ≡ false
-      → Told flash recorded honest failed erases old command [] answer out new noted → Told flash recorded honest failed erases old command [] answer [] new noted
+      → ToldCommand flash recorded honest failed erases old command [] answer out new noted → ToldCommand flash recorded honest failed erases old command [] answer [] new noted
   told_none_out old new command answer out noted quiet told =
-      subst (λ (o : List ℕ). Told flash recorded honest failed erases old command [] answer o new noted) (none_of command told.result out quiet told.kept) told
+      subst (λ (o : List ℕ). ToldCommand flash recorded honest failed erases old command [] answer o new noted) (none_of command told.result out quiet told.kept) told
 
   pub sized_call : SizedCallLaw flash recorded honest failed erases
   sized_call old new noted noted' call size given sized = elim (cases_eq size old.engine.geometry.data_bytes) [

@@ -33,15 +33,15 @@ use Rattle.command_queue.proofs.AcceptedLemmas.{started_well}
 use Rattle.collection.proofs.Costs.{risen_over}
 use Rattle.device_slot.specs.declared.power.PowerFault.{PowerFault}
 use Rattle.device_slot.specs.declared.power.PowerFault.TheVariants.{Refused, Start, Flush as OfFlush}
-use Rattle.device_slot.specs.Begun.{IsBegun}
-use Rattle.device_slot.specs.Power.{nand_of, entries_for, HasCertificate, HoldsSame, IsBrought, IsHandedBack, IsPastEachCache, IsTooStale, IsUnbrought, IsUnmounted, IsUnsettled, IsUnsettledWith, StopsFlush, WantsCache, WantsMore}
+use Rattle.device_slot.specs.Begun.{IsDeviceBegun}
+use Rattle.device_slot.specs.Power.{nand_of, entries_for, HasCertificate, HoldsSame, IsBrought, IsDieHandedBack, IsPastEachCache, IsTooStale, IsUnbrought, ArePagesUnmounted, IsUnsettled, IsUnsettledWith, StopsFlush, WantsCache, WantsMore}
 
 pub begun_so : {N : Type 0} (flash : N → Flash) (honest : N → Bool) (d : Device N) (nand : N) (a : Acceptance) → IsDevice flash d → d.engine.nand ≡ nand
     → ram d.engine ≡ begun_ram (flash nand).geometry a.claim a.stale
     → (honest nand ≡ true → IsAcceptedFor (flash nand) a → IsTrue None (ram d.engine) (image_in flash d.engine))
     → (honest nand ≡ true → IsAcceptedFor (flash nand) a → d.read_only ≡ is_scarce (free_in (flash nand).geometry a.claim (flash nand).image))
     → (honest nand ≡ true → IsAcceptedFor (flash nand) a → IsAccounted (accounts_of (flash nand).geometry (flash nand).image (is_bad_in a.claim)) (state d.engine.blocks))
-    → (honest nand ≡ true → IsAcceptedFor (flash nand) a) → IsBegun flash honest d
+    → (honest nand ≡ true → IsAcceptedFor (flash nand) a) → IsDeviceBegun flash honest d
 begun_so {N} flash honest d nand a device is begun truth free accounts its =
     let here : honest d.engine.nand ≡ true → honest nand ≡ true = λ h. sym (ap honest is) ∙ h in
     let so : honest d.engine.nand ≡ true → IsTrue None (ram d.engine) (image_in flash d.engine) = λ h. truth (here h) (its (here h)) in
@@ -57,7 +57,7 @@ begun_so {N} flash honest d nand a device is begun truth free accounts its =
 
 -- a flush leaves the array as it was, unless the bus failed
 pub flushed : {N : Type 0} (flash : N → Flash) (recorded : N → Option Recording) (honest calm : N → Bool) (failed : N → ℕ) (d e : Device N) (result : Result (Unit {0}) DeviceFault)
-    → IsBegun flash honest d → Upkeeps flash recorded honest calm failed Flush d result e → result ≢ Err BusFault → honest d.engine.nand ≡ true → array_in flash e ≡ array_in flash d
+    → IsDeviceBegun flash honest d → Upkeeps flash recorded honest calm failed Flush d result e → result ≢ Err BusFault → honest d.engine.nand ≡ true → array_in flash e ≡ array_in flash d
 flushed flash recorded honest calm failed d e result begun upkeeps ne h =
     let well = begun.kept.well h (ap (λ (r : Ram). stop_of r.fault) begun.begun) in
     (quiet d.engine.geometry (state_in flash d) (state_in flash e) (reply_of result)).0 (upkeeps.means h well ne).step
@@ -137,14 +137,14 @@ past_each g capacity image _ given refuses none = tt
 
 module _ {N : Type 0} (flash : N → Flash) (honest : N → Bool) (failed : N → ℕ) (nand : N) (g : Geometry) (capacity : ℕ) where
   -- a die that was refused for what is stale is as it was
-  pub wanted_same : (fault : PowerFault N) (n : ℕ) → IsUnmounted flash honest failed nand g capacity fault → WantsCache capacity fault n → honest nand ≡ true → flash (nand_of fault) ≡ flash nand
+  pub wanted_same : (fault : PowerFault N) (n : ℕ) → ArePagesUnmounted flash honest failed nand g capacity fault → WantsCache capacity fault n → honest nand ≡ true → flash (nand_of fault) ≡ flash nand
   wanted_same (Refused (TooStale stale most) given) n un wants h = un.same (λ e. let no : ⊥ = cc in no) h
   wanted_same (Refused _ given) n un wants h = absurd wants
   wanted_same (Start given) n un wants h = absurd wants
   wanted_same (OfFlush fault given) n un wants h = absurd wants
 
   -- so many of its sectors are stale
-  pub wanted_stale : (fault : PowerFault N) (n : ℕ) → IsUnmounted flash honest failed nand g capacity fault → WantsCache capacity fault n → honest nand ≡ true
+  pub wanted_stale : (fault : PowerFault N) (n : ℕ) → ArePagesUnmounted flash honest failed nand g capacity fault → WantsCache capacity fault n → honest nand ≡ true
       → IsTooStale g capacity (flash nand).image n
   wanted_stale (Refused (TooStale stale most) given) n un wants h = elim (un.shows h) [
     | inl stop ↦ elim stop [ inl source ↦ (let no : ⊥ = cc in absurd no) | inr memory ↦ (let no : ⊥ = cc in absurd no) ]
@@ -161,18 +161,18 @@ module _ {N : Type 0} (flash : N → Flash) (honest : N → Bool) (failed : N �
   wanted_cache (OfFlush fault given) n wants = absurd wants
 
   -- and has more stale sectors than the cache has entries
-  pub wanted_more : (fault : PowerFault N) (n : ℕ) → IsUnmounted flash honest failed nand g capacity fault → WantsCache capacity fault n → honest nand ≡ true
+  pub wanted_more : (fault : PowerFault N) (n : ℕ) → ArePagesUnmounted flash honest failed nand g capacity fault → WantsCache capacity fault n → honest nand ≡ true
       → stale_count g (flash nand).image ≤ capacity → ⊥
   wanted_more fault n un wants h few =
       let its = wanted_stale fault n un wants h in
       let cache = wanted_cache fault n wants in
       omega (arith, its.stale_is, cache.0, few)
 
-  pub wanted_array : (fault : PowerFault N) (n : ℕ) → IsUnmounted flash honest failed nand g capacity fault → WantsCache capacity fault n → HoldsSame flash honest g nand (nand_of fault)
+  pub wanted_array : (fault : PowerFault N) (n : ℕ) → ArePagesUnmounted flash honest failed nand g capacity fault → WantsCache capacity fault n → HoldsSame flash honest g nand (nand_of fault)
   wanted_array fault n un wants h = ap (λ (s : Flash). array_of g s.image) (wanted_same fault n un wants h)
 
   -- where no larger cache is tried
-  pub unbrought : (fault : PowerFault N) → IsUnmounted flash honest failed nand g capacity fault → ((entries : ℕ) → WantsCache capacity fault entries → ⊥)
+  pub unbrought : (fault : PowerFault N) → ArePagesUnmounted flash honest failed nand g capacity fault → ((entries : ℕ) → WantsCache capacity fault entries → ⊥)
       → IsUnbrought flash honest failed nand g capacity fault
   unbrought (Refused why given) un none = record {
     only = un.only;
@@ -191,16 +191,16 @@ module _ {N : Type 0} (flash : N → Flash) (honest : N → Bool) (failed : N �
   }
   unbrought (OfFlush fault given) un none = absurd un
 
-  pub handed_back : (calm : N → Bool) (programs erases : N → ℕ) (given : N) → OnlyReads flash honest calm programs erases failed nand given → IsHandedBack flash honest failed nand given
+  pub handed_back : (calm : N → Bool) (programs erases : N → ℕ) (given : N) → OnlyReads flash honest calm programs erases failed nand given → IsDieHandedBack flash honest failed nand given
   handed_back calm programs erases given reads = record { honest_is = reads.honest_is; geometry_is = reads.geometry_is; failed_is = reads.failed_is }
 
-  pub unsettled_at : (fault : PowerFault N) → IsUnmounted flash honest failed nand g capacity fault → IsUnsettledWith flash honest failed nand g capacity fault
+  pub unsettled_at : (fault : PowerFault N) → ArePagesUnmounted flash honest failed nand g capacity fault → IsUnsettledWith flash honest failed nand g capacity fault
   unsettled_at (Refused why given) un = un
   unsettled_at (Start given) un = un
   unsettled_at (OfFlush fault given) un = absurd un
 
   -- where a device begins the pages go with a certificate
-  pub mounted_begun : (d : Device N) → IsBegun flash honest d → d.engine.geometry ≡ g → d.engine.mapping.capacity ≡ capacity → (honest nand ≡ true → flash d.engine.nand ≡ flash nand)
+  pub mounted_begun : (d : Device N) → IsDeviceBegun flash honest d → d.engine.geometry ≡ g → d.engine.mapping.capacity ≡ capacity → (honest nand ≡ true → flash d.engine.nand ≡ flash nand)
       → honest d.engine.nand ≡ honest nand → honest nand ≡ true → HasCertificate g capacity (flash nand).image
   mounted_begun d begun sized cache pages same h =
       let its = begun.its (same ∙ h) in
@@ -212,7 +212,7 @@ module _ {N : Type 0} (flash : N → Flash) (honest : N → Bool) (failed : N �
       (record { certificate = begun.accepted.claim; agrees = its.accepted.agrees })))
 
   -- as many entries as were asked for are as many as are wanted
-  entries_are : (d : Device N) → IsBegun flash honest d → d.engine.geometry ≡ g → d.engine.mapping.capacity ≡ capacity → honest d.engine.nand ≡ true
+  entries_are : (d : Device N) → IsDeviceBegun flash honest d → d.engine.geometry ≡ g → d.engine.mapping.capacity ≡ capacity → honest d.engine.nand ≡ true
       → d.engine.mapping.capacity ≡ entries_for g capacity (flash d.engine.nand).image
   entries_are d begun sized cache h =
       let its = begun.its h in
@@ -223,7 +223,7 @@ module _ {N : Type 0} (flash : N → Flash) (honest : N → Bool) (failed : N �
       subst (λ (k : Geometry). stale_count k s.image ≤ begun.accepted.claim.capacity) same its.accepted.agrees.fresh in
       omega (arith, fresh, claimed, cache)
 
-  pub brought : (calm : N → Bool) (programs erases : N → ℕ) (d : Device N) → IsBegun flash honest d → d.engine.geometry ≡ g → d.engine.mapping.capacity ≡ capacity
+  pub brought : (calm : N → Bool) (programs erases : N → ℕ) (d : Device N) → IsDeviceBegun flash honest d → d.engine.geometry ≡ g → d.engine.mapping.capacity ≡ capacity
       → (honest nand ≡ true → array_in flash d ≡ array_of g (flash nand).image) → OnlyReads flash honest calm programs erases failed nand d.engine.nand
       → IsBrought flash honest failed nand g capacity d
   brought calm programs erases d begun sized cache array reads = record {
@@ -238,9 +238,9 @@ module _ {N : Type 0} (flash : N → Flash) (honest : N → Bool) (failed : N �
 -- ---- a look at a larger cache, of a die whose pages are as they were
 
 module _ {N : Type 0} (flash : N → Flash) (honest : N → Bool) (failed : N → ℕ) (nand mid : N) (g : Geometry) (capacity stale : ℕ) (more : capacity < stale)
-    (back : IsHandedBack flash honest failed nand mid) (same : honest nand ≡ true → flash mid ≡ flash nand)
+    (back : IsDieHandedBack flash honest failed nand mid) (same : honest nand ≡ true → flash mid ≡ flash nand)
     (wants : honest nand ≡ true → IsTooStale g capacity (flash nand).image stale) where
-  pub unbrought_with : (fault : PowerFault N) → IsUnmounted flash honest failed mid g stale fault → IsUnbrought flash honest failed nand g capacity fault
+  pub unbrought_with : (fault : PowerFault N) → ArePagesUnmounted flash honest failed mid g stale fault → IsUnbrought flash honest failed nand g capacity fault
   unbrought_with (Refused why given) un =
       let is : why ≢ Source → honest nand ≡ true → flash given ≡ flash nand = λ ne h. un.same ne (back.honest_is ∙ h) ∙ same h in
       let was : honest nand ≡ true → Refuses g stale (flash nand).image why =
@@ -298,7 +298,7 @@ module _ {N : Type 0} (flash : N → Flash) (honest : N → Bool) (failed : N �
     };
   }
 
-  pub if_unbrought_with : (r : Result (Device N) (PowerFault N)) → IfErr r (IsUnmounted flash honest failed mid g stale) → IfErr r (IsUnbrought flash honest failed nand g capacity)
+  pub if_unbrought_with : (r : Result (Device N) (PowerFault N)) → IfErr r (ArePagesUnmounted flash honest failed mid g stale) → IfErr r (IsUnbrought flash honest failed nand g capacity)
   if_unbrought_with (Ok d) its = tt
   if_unbrought_with (Err fault) its = unbrought_with fault its
 
@@ -309,11 +309,11 @@ module _ {N : Type 0} (flash : N → Flash) (honest : N → Bool) (failed : N �
 
 -- ---- the die that comes back
 
-pub back_same : {N : Type 0} (flash : N → Flash) (honest : N → Bool) (failed : N → ℕ) (nand : N) → IsHandedBack flash honest failed nand nand
+pub back_same : {N : Type 0} (flash : N → Flash) (honest : N → Bool) (failed : N → ℕ) (nand : N) → IsDieHandedBack flash honest failed nand nand
 back_same flash honest failed nand = record { honest_is = refl; geometry_is = refl; failed_is = omega arith }
 
-pub if_back_on : {N : Type 0} (flash : N → Flash) (honest : N → Bool) (failed : N → ℕ) (nand mid : N) → IsHandedBack flash honest failed nand mid → (r : Result (Device N) (PowerFault N))
-    → IfErr r (λ fault. IsHandedBack flash honest failed mid (nand_of fault)) → IfErr r (λ fault. IsHandedBack flash honest failed nand (nand_of fault))
+pub if_back_on : {N : Type 0} (flash : N → Flash) (honest : N → Bool) (failed : N → ℕ) (nand mid : N) → IsDieHandedBack flash honest failed nand mid → (r : Result (Device N) (PowerFault N))
+    → IfErr r (λ fault. IsDieHandedBack flash honest failed mid (nand_of fault)) → IfErr r (λ fault. IsDieHandedBack flash honest failed nand (nand_of fault))
 if_back_on flash honest failed nand mid back (Ok d) its = tt
 if_back_on flash honest failed nand mid back (Err fault) its = record {
   honest_is = its.honest_is ∙ back.honest_is;
@@ -324,7 +324,7 @@ if_back_on flash honest failed nand mid back (Err fault) its = record {
 -- ---- a look at this cache, of a die that holds the same array
 
 module _ {N : Type 0} (flash : N → Flash) (honest : N → Bool) (failed : N → ℕ) (nand mid : N) (g : Geometry) (capacity : ℕ)
-    (back : IsHandedBack flash honest failed nand mid) (same : HoldsSame flash honest g nand mid) where
+    (back : IsDieHandedBack flash honest failed nand mid) (same : HoldsSame flash honest g nand mid) where
   pub brought_after : (d : Device N) → IsBrought flash honest failed mid g capacity d → IsBrought flash honest failed nand g capacity d
   brought_after d its = record {
     begun = its.begun;
@@ -387,7 +387,7 @@ module _ {N : Type 0} (flash : N → Flash) (recorded : N → Option Recording) 
       ∙ (ap (λ (k : Geometry). array_of k (flash e.engine.nand).image) (sym (sized ∙ its.sized))
       ∙ (flushed flash recorded honest calm failed d e result its.begun upkeeps ne (its.back.honest_is ∙ h) ∙ its.array h))
 
-  pub flushed_back : (given : N) → given ≡ e.engine.nand → (flash given).geometry ≡ e.engine.geometry → (flash nand).geometry ≡ g → IsHandedBack flash honest failed nand given
+  pub flushed_back : (given : N) → given ≡ e.engine.nand → (flash given).geometry ≡ e.engine.geometry → (flash nand).geometry ≡ g → IsDieHandedBack flash honest failed nand given
   flushed_back given is here was = record {
     honest_is = ap honest is ∙ (upkeeps.stays.honest_is ∙ its.back.honest_is);
     geometry_is = here ∙ (sized ∙ (its.sized ∙ sym was));
@@ -411,20 +411,20 @@ module _ {N : Type 0} (flash : N → Flash) (recorded : N → Option Recording) 
 
 -- the die that a refusal gives back
 module _ {N : Type 0} (flash : N → Flash) (honest : N → Bool) (failed : N → ℕ) (nand mid : N) (g : Geometry) (capacity n : ℕ) (fault : PowerFault N)
-    (is : mid ≡ nand_of fault) (un : IsUnmounted flash honest failed nand g capacity fault) (wants : WantsCache capacity fault n) where
+    (is : mid ≡ nand_of fault) (un : ArePagesUnmounted flash honest failed nand g capacity fault) (wants : WantsCache capacity fault n) where
   pub mid_flash : honest nand ≡ true → flash mid ≡ flash nand
   mid_flash h = ap flash is ∙ wanted_same flash honest failed nand g capacity fault n un wants h
 
   pub mid_same : HoldsSame flash honest g nand mid
   mid_same = subst (λ (m : N). HoldsSame flash honest g nand m) (sym is) (wanted_array flash honest failed nand g capacity fault n un wants)
 
-  pub mid_back : IsHandedBack flash honest failed nand (nand_of fault) → IsHandedBack flash honest failed nand mid
-  mid_back back = subst (λ (m : N). IsHandedBack flash honest failed nand m) (sym is) back
+  pub mid_back : IsDieHandedBack flash honest failed nand (nand_of fault) → IsDieHandedBack flash honest failed nand mid
+  mid_back back = subst (λ (m : N). IsDieHandedBack flash honest failed nand m) (sym is) back
 
-  pub mid_sized : IsHandedBack flash honest failed nand (nand_of fault) → (flash nand).geometry ≡ g → (flash mid).geometry ≡ g
+  pub mid_sized : IsDieHandedBack flash honest failed nand (nand_of fault) → (flash nand).geometry ≡ g → (flash mid).geometry ≡ g
   mid_sized back was = ap (λ (m : N). (flash m).geometry) is ∙ (back.geometry_is ∙ was)
 
-  pub mid_wanted : IsHandedBack flash honest failed nand (nand_of fault) → honest mid ≡ true → IsTooStale g capacity (flash mid).image n
+  pub mid_wanted : IsDieHandedBack flash honest failed nand (nand_of fault) → honest mid ≡ true → IsTooStale g capacity (flash mid).image n
   mid_wanted back h =
       let was : honest nand ≡ true = sym (ap honest is ∙ back.honest_is) ∙ h in
       subst (λ (s : Flash). IsTooStale g capacity s.image n) (sym (mid_flash was)) (wanted_stale flash honest failed nand g capacity fault n un wants was)
@@ -435,7 +435,7 @@ module _ {N : Type 0} (flash : N → Flash) (honest : N → Bool) (failed : N �
 
 -- what a start over a die with the same pages is refused for
 module _ {N : Type 0} (flash : N → Flash) (honest : N → Bool) (failed : N → ℕ) (nand mid : N) (g : Geometry) (capacity : ℕ)
-    (back : IsHandedBack flash honest failed nand mid) (same : honest nand ≡ true → flash mid ≡ flash nand) where
+    (back : IsDieHandedBack flash honest failed nand mid) (same : honest nand ≡ true → flash mid ≡ flash nand) where
   few_there : honest nand ≡ true → stale_count g (flash nand).image ≤ capacity → stale_count g (flash mid).image ≤ capacity
   few_there h few = (let is = ap (λ (s : Flash). stale_count g s.image) (same h) in omega (arith, few, is))
 

@@ -13,15 +13,15 @@ use Rattle.ftl_device.specs.Device.{IsDevice, IsAcceptedFor}
 use Rattle.ftl_device.specs.Calls.{stop_of, IsWell}
 
 -- WHAT IS KEPT OF A DEVICE BETWEEN CALLS: whatever its die does it is one, and over an honest die it is well unless it was stopped
-pub record IsKept {N : Type 0} (flash : N → Flash) (honest : N → Bool) (d : Device N) : Type 0 where
+pub record IsDeviceKept {N : Type 0} (flash : N → Flash) (honest : N → Bool) (d : Device N) : Type 0 where
   pub device : IsDevice flash d
   pub well : honest d.engine.nand ≡ true → stop_of d.engine.fault ≡ None → IsWell flash d
 
 -- `Device::start` began it over the die that it has, from a certificate and its stale sectors, which of an honest die were accepted for its image: so it knows that
 -- image, is read-only just where fewer than five blocks are free in it, and its counts are those of the image
-pub record IsBegun {N : Type 0} (flash : N → Flash) (honest : N → Bool) (d : Device N) : Type 0 where
+pub record IsDeviceBegun {N : Type 0} (flash : N → Flash) (honest : N → Bool) (d : Device N) : Type 0 where
   pub accepted : Acceptance
-  pub kept : IsKept flash honest d
+  pub kept : IsDeviceKept flash honest d
   pub begun : ram d.engine ≡ begun_ram (flash d.engine.nand).geometry accepted.claim accepted.stale
   pub its : honest d.engine.nand ≡ true → IsAcceptedFor (flash d.engine.nand) accepted
   pub truth : honest d.engine.nand ≡ true → IsTrue None (ram d.engine) (image_in flash d.engine)

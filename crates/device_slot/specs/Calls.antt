@@ -33,7 +33,7 @@ shortage_in (Err BusFault) = None
 
 -- THE DEVICE WAS TOLD ONE COMMAND, and did of it all that a run of commands needs. The caller has its answer and, of a read that is done, its
 -- bytes; of a refusal for want of blocks the counts are noted.
-pub record Told {N : Type 0} (flash : N → Flash) (recorded : N → Option Recording) (honest : N → Bool) (failed erases : N → ℕ)
+pub record ToldCommand {N : Type 0} (flash : N → Flash) (recorded : N → Option Recording) (honest : N → Bool) (failed erases : N → ℕ)
     (old : Device N) (command : step.Command) (given : List ℕ) (answer : Result (Unit {0}) CallFault) (out : List ℕ) (new : Device N) (noted : Option Shortage) : Type 0 where
   pub result : Result (Unit {0}) DeviceFault
   pub answered : answer ≡ answer_of result
@@ -54,15 +54,15 @@ pub record ToldSized {N : Type 0} (flash : N → Flash) (recorded : N → Option
     (old : Device N) (noted : Option Shortage) (command : step.Command) (size : ℕ) (given : List ℕ) (answer : Result (Unit {0}) CallFault) (out : List ℕ)
     (new : Device N) (noted' : Option Shortage) : Type 0 where
   pub other : size ≢ old.engine.geometry.data_bytes → IsUntold WrongSize old noted given answer out new noted'
-  pub whole : size ≡ old.engine.geometry.data_bytes → Told flash recorded honest failed erases old command given answer out new noted'
+  pub whole : size ≡ old.engine.geometry.data_bytes → ToldCommand flash recorded honest failed erases old command given answer out new noted'
 
 -- A CALL OF A SLOT: `NotStarted` where no device stands there, and nothing is done; else what it comes to of the one that does
 abbrev pub IsCallOn : {N : Type 0} → Option (Device N) → SlotState N → (Device N → Device N → Type 0) → List ℕ → Result (Unit {0}) CallFault → List ℕ → SlotState N → Type 0
 IsCallOn None old comes given answer out new = (answer ≡ Err NotStarted) × (new ≡ old) × (out ≡ given)
 IsCallOn {N} (Some device) old comes given answer out new = (now : Device N) × (new.device ≡ Some now) × comes device now
 
-abbrev pub IsCall : {N : Type 0} → SlotState N → (Device N → Device N → Type 0) → List ℕ → Result (Unit {0}) CallFault → List ℕ → SlotState N → Type 0
-IsCall old comes given answer out new = IsCallOn old.device old comes given answer out new
+abbrev pub IsSlotCall : {N : Type 0} → SlotState N → (Device N → Device N → Type 0) → List ℕ → Result (Unit {0}) CallFault → List ℕ → SlotState N → Type 0
+IsSlotCall old comes given answer out new = IsCallOn old.device old comes given answer out new
 
 -- ---- many calls
 
@@ -73,13 +73,13 @@ pub record Call : Type 0 where
   pub out : List ℕ
 
 -- the device was told it, or it was refused before that and changed nothing
-pub record IsTold {N : Type 0} (flash : N → Flash) (recorded : N → Option Recording) (honest : N → Bool) (failed erases : N → ℕ) (old : Device N) (call : Call) (new : Device N) : Type 0 where
+pub record IsCallTold {N : Type 0} (flash : N → Flash) (recorded : N → Option Recording) (honest : N → Bool) (failed erases : N → ℕ) (old : Device N) (call : Call) (new : Device N) : Type 0 where
   pub given : List ℕ
   pub noted : Option Shortage
-  pub told : Told flash recorded honest failed erases old call.command given call.answer call.out new noted
+  pub told : ToldCommand flash recorded honest failed erases old call.command given call.answer call.out new noted
 
 abbrev pub HasCalled : {N : Type 0} → (N → Flash) → (N → Option Recording) → (N → Bool) → (failed erases : N → ℕ) → Device N → Call → Device N → Type 0
-HasCalled flash recorded honest failed erases old call new = ((call.answer ≡ Err WrongSize) × (new ≡ old)) ⊎ IsTold flash recorded honest failed erases old call new
+HasCalled flash recorded honest failed erases old call new = ((call.answer ≡ Err WrongSize) × (new ≡ old)) ⊎ IsCallTold flash recorded honest failed erases old call new
 
 -- ONE CALL AFTER ANOTHER, from a device to the next
 abbrev pub CalledEach : {N : Type 0} → (N → Flash) → (N → Option Recording) → (N → Bool) → (failed erases : N → ℕ) → Device N → List Call → Device N → Type 0

@@ -10,7 +10,7 @@ use Rattle.command_queue.specs.Run.{RanFrom}
 use Rattle.command_queue.specs.Tells.{Tells}
 use Rattle.command_queue.specs.Told.{Until, WasTold}
 use Rattle.device_slot.specs.declared.slot.Shortage.{Shortage}
-use Rattle.device_slot.specs.Begun.{IsBegun}
+use Rattle.device_slot.specs.Begun.{IsDeviceBegun}
 use Rattle.device_slot.specs.Calls.{Call, ToldSized, HasCalled, CalledEach, exchanges_in}
 
 -- a call that hands over bytes is one of these
@@ -24,12 +24,12 @@ CallsToldLaw {N} flash recorded honest failed erases = (old new : Device N) (cal
     → CalledEach flash recorded honest failed erases old calls new → WasTold flash recorded honest failed erases old (exchanges_in calls) new
 
 -- of an honest die, the device is well, and these are a run of the array that the image of this die holds
-abbrev pub RunsFromBegun : {N : Type 0} → (flash : N → Flash) → (recorded : N → Option Recording) → (honest : N → Bool) → (failed erases : N → ℕ) → (first : Device N) → IsBegun flash honest first → List Exchange → Device N → Type 0
+abbrev pub RunsFromBegun : {N : Type 0} → (flash : N → Flash) → (recorded : N → Option Recording) → (honest : N → Bool) → (failed erases : N → ℕ) → (first : Device N) → IsDeviceBegun flash honest first → List Exchange → Device N → Type 0
 RunsFromBegun flash recorded honest failed erases first begun xs mid = honest first.engine.nand ≡ true
     → IsWell flash mid × RanFrom flash recorded honest failed erases (flash first.engine.nand) begun.accepted.claim xs mid
 
 -- AND FROM A DEVICE THAT POWER BROUGHT they are the headline's run: those before the first fault of the bus
 abbrev pub CallsRunLaw : {N : Type 0} → (N → Flash) → (N → Option Recording) → (N → Bool) → (failed erases : N → ℕ) → Type 0
-CallsRunLaw {N} flash recorded honest failed erases = (first new : Device N) (calls : List Call) (begun : IsBegun flash honest first)
+CallsRunLaw {N} flash recorded honest failed erases = (first new : Device N) (calls : List Call) (begun : IsDeviceBegun flash honest first)
     → CalledEach flash recorded honest failed erases first calls new
     → Until (RunsFromBegun flash recorded honest failed erases first begun) (Tells flash recorded honest failed erases) (exchanges_in calls) new

@@ -17,7 +17,7 @@ use Rattle.ftl_device.specs.declared.device.Device.{Device}
 use Rattle.ftl_device.specs.Calls.{array_in}
 use Rattle.ftl_device.specs.declared.fault.DeviceFault.{DeviceFault}
 use Rattle.ftl_device.specs.declared.fault.DeviceFault.TheVariants.{BusFault, Damaged}
-use Rattle.device_slot.specs.Begun.{IsBegun}
+use Rattle.device_slot.specs.Begun.{IsDeviceBegun}
 use Rattle.device_slot.specs.declared.power.PowerFault.{PowerFault}
 use Rattle.device_slot.specs.declared.power.PowerFault.TheVariants.{Refused, Start, Flush}
 
@@ -34,26 +34,26 @@ pub record HasCertificate (g : Geometry) (capacity : ℕ) (image : Image) : Type
   pub agrees : Agrees g capacity image certificate
 
 -- the pages were refused: of any die by what may come, of an honest die by what is so of them; they are as they were unless a read failed, which was counted
-pub record IsRefused {N : Type 0} (flash : N → Flash) (honest : N → Bool) (failed : N → ℕ) (nand : N) (why : Refusal) (given : N) (MayCome IsSo : Refusal → Type 0) : Type 0 where
+pub record ArePagesRefused {N : Type 0} (flash : N → Flash) (honest : N → Bool) (failed : N → ℕ) (nand : N) (why : Refusal) (given : N) (MayCome IsSo : Refusal → Type 0) : Type 0 where
   pub only : MayCome why
   pub shows : honest nand ≡ true → IsSo why
   pub same : why ≢ Source → honest nand ≡ true → flash given ≡ flash nand
   pub rose : why ≡ Source → HasRisen (failed nand) (failed given)
 
 -- they are as they were and, of an honest die, may be started from; but no memory was left for a device
-pub record IsUnstarted {N : Type 0} (flash : N → Flash) (honest : N → Bool) (nand given : N) (MayStart : Type 0) : Type 0 where
+pub record IsDeviceUnstarted {N : Type 0} (flash : N → Flash) (honest : N → Bool) (nand given : N) (MayStart : Type 0) : Type 0 where
   pub agrees : honest nand ≡ true → MayStart
   pub same : honest nand ≡ true → flash given ≡ flash nand
 
 -- what one look says, where it refuses what is so
 abbrev pub IsUnpowered : {N : Type 0} → (N → Flash) → (N → Bool) → (N → ℕ) → N → (MayCome IsSo : Refusal → Type 0) → (MayStart : Type 0) → PowerFault N → Type 0
-IsUnpowered flash honest failed nand MayCome IsSo MayStart (Refused why given) = IsRefused flash honest failed nand why given MayCome IsSo
-IsUnpowered flash honest failed nand MayCome IsSo MayStart (Start given) = IsUnstarted flash honest nand given MayStart
+IsUnpowered flash honest failed nand MayCome IsSo MayStart (Refused why given) = ArePagesRefused flash honest failed nand why given MayCome IsSo
+IsUnpowered flash honest failed nand MayCome IsSo MayStart (Start given) = IsDeviceUnstarted flash honest nand given MayStart
 IsUnpowered flash honest failed nand MayCome IsSo MayStart (Flush fault given) = ⊥
 
 -- no certificate agrees with the pages at this capacity
-abbrev pub IsUnmounted : {N : Type 0} → (N → Flash) → (N → Bool) → (N → ℕ) → N → Geometry → (capacity : ℕ) → PowerFault N → Type 0
-IsUnmounted flash honest failed nand g capacity fault =
+abbrev pub ArePagesUnmounted : {N : Type 0} → (N → Flash) → (N → Bool) → (N → ℕ) → N → Geometry → (capacity : ℕ) → PowerFault N → Type 0
+ArePagesUnmounted flash honest failed nand g capacity fault =
     IsUnpowered flash honest failed nand IsOfMounting (Refuses g capacity (flash nand).image) (HasCertificate g capacity (flash nand).image) fault
 
 -- what a certificate may be refused for, whatever the pages are: for its geometry just where that is another one
@@ -61,8 +61,8 @@ abbrev pub IsOfChecking : Geometry → (capacity : ℕ) → Claim → Refusal �
 IsOfChecking g capacity c why = (why ≢ WrongLength) × ((why ≡ GeometryDiffers) ↔ (¬ IsAsked g capacity c))
 
 -- this one does not
-abbrev pub IsUnaccepted : {N : Type 0} → (N → Flash) → (N → Bool) → (N → ℕ) → N → Geometry → (capacity : ℕ) → Claim → PowerFault N → Type 0
-IsUnaccepted flash honest failed nand g capacity c fault =
+abbrev pub IsCertificateUnaccepted : {N : Type 0} → (N → Flash) → (N → Bool) → (N → ℕ) → N → Geometry → (capacity : ℕ) → Claim → PowerFault N → Type 0
+IsCertificateUnaccepted flash honest failed nand g capacity c fault =
     IsUnpowered flash honest failed nand (IsOfChecking g capacity c) (IsRefusal g capacity (flash nand).image c) (Agrees g capacity (flash nand).image c) fault
 
 -- what a stop left wants a larger cache than this one: so many entries, which some cache has
@@ -78,7 +78,7 @@ pub record IsTooStale (g : Geometry) (capacity : ℕ) (image : Image) (stale : �
 -- ---- after a flush between two looks
 
 -- whatever the die does, it is as honest as it was, has its geometry, and counts no fewer failures
-pub record IsHandedBack {N : Type 0} (flash : N → Flash) (honest : N → Bool) (failed : N → ℕ) (nand given : N) : Type 0 where
+pub record IsDieHandedBack {N : Type 0} (flash : N → Flash) (honest : N → Bool) (failed : N → ℕ) (nand given : N) : Type 0 where
   pub honest_is : honest given ≡ honest nand
   pub geometry_is : (flash given).geometry ≡ (flash nand).geometry
   pub failed_is : failed nand ≤ failed given
@@ -126,8 +126,8 @@ pub record IsUnflushed {N : Type 0} (honest : N → Bool) (failed : N → ℕ) (
 
 -- one of so many entries
 abbrev pub IsUnsettledWith : {N : Type 0} → (N → Flash) → (N → Bool) → (N → ℕ) → N → Geometry → (entries : ℕ) → PowerFault N → Type 0
-IsUnsettledWith flash honest failed nand g entries (Refused why given) = IsUnmounted flash honest failed nand g entries (Refused why given)
-IsUnsettledWith flash honest failed nand g entries (Start given) = IsUnmounted flash honest failed nand g entries (Start given)
+IsUnsettledWith flash honest failed nand g entries (Refused why given) = ArePagesUnmounted flash honest failed nand g entries (Refused why given)
+IsUnsettledWith flash honest failed nand g entries (Start given) = ArePagesUnmounted flash honest failed nand g entries (Start given)
 IsUnsettledWith flash honest failed nand g entries (Flush fault given) = IsUnflushed honest failed nand fault given (HasCertificate g entries (flash nand).image)
 
 -- the cache had no room for what was stale, and a larger one had
@@ -150,9 +150,9 @@ IsUnsettled flash honest failed nand g capacity (Flush fault given) = IsUnflushe
 -- THE DEVICE THAT POWER BROUGHT, of a die that may have been stopped: begun over what the die holds now, with at least so many entries. Of an honest die it holds
 -- the array that the image held, and has as many entries as what is stale wants, and no more.
 pub record IsBrought {N : Type 0} (flash : N → Flash) (honest : N → Bool) (failed : N → ℕ) (nand : N) (g : Geometry) (capacity : ℕ) (d : Device N) : Type 0 where
-  pub begun : IsBegun flash honest d
+  pub begun : IsDeviceBegun flash honest d
   pub sized : d.engine.geometry ≡ g
   pub cache : capacity ≤ d.engine.mapping.capacity
   pub entries : honest nand ≡ true → d.engine.mapping.capacity ≡ entries_for g capacity (flash d.engine.nand).image
   pub array : honest nand ≡ true → array_in flash d ≡ array_of g (flash nand).image
-  pub back : IsHandedBack flash honest failed nand d.engine.nand
+  pub back : IsDieHandedBack flash honest failed nand d.engine.nand

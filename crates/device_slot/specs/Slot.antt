@@ -21,7 +21,7 @@ pub record IsMostWorn (table : List TableRow) (most : ℕ) : Type 0 where
   pub none : length table ≡ 0 → most ≡ 0
 
 -- HOW A DEVICE STANDS
-pub record Stands {N : Type 0} (d : Device N) (r : Report) : Type 0 where
+pub record DeviceStands {N : Type 0} (d : Device N) (r : Report) : Type 0 where
   pub free : r.free ≡ free_count (state d.engine.blocks)
   pub good : r.good ≡ good_count (state d.engine.blocks).table
   pub bad : r.good + r.bad ≡ d.engine.geometry.blocks
@@ -34,7 +34,7 @@ abbrev pub Reports : {N : Type 0} → Option (Device N) → Option Report → Ty
 Reports None None = Unit {0}
 Reports None (Some r) = ⊥
 Reports (Some d) None = ⊥
-Reports (Some d) (Some r) = Stands d r
+Reports (Some d) (Some r) = DeviceStands d r
 
 -- the die of a device, if there is one
 abbrev pub nand_in : {N : Type 0} → Option (Device N) → Option N

@@ -6,8 +6,8 @@ ghost use Rattle.certificate.specs.Claim.{sizes_of};
 ghost use Rattle.image_check.specs.Stale.{stale_count};
 ghost use Rattle.ftl_device.specs.Calls.{array_in};
 ghost use Rattle.ftl_device.specs.Device.{IsDevice, IsAcceptedFor};
-ghost use Rattle.device_slot.specs.Begun.{IsBegun, IsKept};
-ghost use Rattle.device_slot.specs.Power.{nand_of, HoldsSame, IsBrought, IsHandedBack, IsTooStale, IsUnaccepted, IsUnbrought, IsUnmounted, IsUnsettled, IsUnsettledWith, StopsFlush, WantsCache};
+ghost use Rattle.device_slot.specs.Begun.{IsDeviceBegun, IsDeviceKept};
+ghost use Rattle.device_slot.specs.Power.{nand_of, HoldsSame, IsBrought, IsDieHandedBack, IsTooStale, IsCertificateUnaccepted, IsUnbrought, ArePagesUnmounted, IsUnsettled, IsUnsettledWith, StopsFlush, WantsCache};
 
 use certificate::Certificate;
 use ftl_device::{Device, DeviceFault, StartFault};
@@ -52,7 +52,7 @@ impl<N> PowerFault<N> {
 fn begin<'a, N: Nand>(alloc: Global, nand: N, accepted: Accepted<'a>) -> Result<Device<N>, N>
     requires same_geometry { sizes_of (N.flash nand).geometry ≡ accepted.claim.sizes }
     requires accepted { N.honest nand ≡ true → IsAcceptedFor (N.flash nand) accepted }
-    ensures begun { IfOk result (IsBegun N.flash N.honest) }
+    ensures begun { IfOk result (IsDeviceBegun N.flash N.honest) }
     ensures nand { IfOk result (λ d. d.engine.nand ≡ nand) }
     ensures geometry { IfOk result (λ d. d.engine.geometry ≡ (N.flash nand).geometry) }
     ensures capacity { IfOk result (λ d. d.engine.mapping.capacity ≡ accepted.entry.claim.capacity) }
@@ -85,13 +85,13 @@ pub fn start_mounted<N: Nand>(
     requires same_geometry { (N.flash nand).geometry ≡ geometry.now }
     requires least { 1 ≤ capacity }
     requires most { capacity ≤ 65536 }
-    ensures begun { IfOk result (IsBegun N.flash N.honest) }
+    ensures begun { IfOk result (IsDeviceBegun N.flash N.honest) }
     ensures geometry { IfOk result (λ d. d.engine.geometry ≡ geometry.now) }
     ensures capacity { IfOk result (λ d. d.engine.mapping.capacity ≡ capacity) }
     ensures array { IfOk result (λ d. N.honest nand ≡ true → array_in N.flash d ≡ array_of geometry.now (N.flash nand).image) }
     ensures pages { IfOk result (λ d. N.honest nand ≡ true → N.flash d.engine.nand ≡ N.flash nand) }
     ensures reads { IfOk result (λ d. OnlyReads N.flash N.honest N.calm N.programs N.erases N.failed nand d.engine.nand) }
-    ensures fault { IfErr result (IsUnmounted N.flash N.honest N.failed nand geometry.now capacity) }
+    ensures fault { IfErr result (ArePagesUnmounted N.flash N.honest N.failed nand geometry.now capacity) }
     ensures given { IfErr result (λ fault. OnlyReads N.flash N.honest N.calm N.programs N.erases N.failed nand (nand_of fault)) }
 {
     let (certificate, stale) = match mount_counted(alloc, &mut nand, geometry, capacity) {
@@ -123,13 +123,13 @@ pub fn start_checked<N: Nand>(
     certificate: &Certificate,
 ) -> Result<Device<N>, PowerFault<N>>
     requires same_geometry { (N.flash nand).geometry ≡ geometry.now }
-    ensures begun { IfOk result (IsBegun N.flash N.honest) }
+    ensures begun { IfOk result (IsDeviceBegun N.flash N.honest) }
     ensures geometry { IfOk result (λ d. d.engine.geometry ≡ geometry.now) }
     ensures capacity { IfOk result (λ d. d.engine.mapping.capacity ≡ capacity) }
     ensures array { IfOk result (λ d. N.honest nand ≡ true → array_in N.flash d ≡ array_of geometry.now (N.flash nand).image) }
     ensures pages { IfOk result (λ d. N.honest nand ≡ true → N.flash d.engine.nand ≡ N.flash nand) }
     ensures reads { IfOk result (λ d. OnlyReads N.flash N.honest N.calm N.programs N.erases N.failed nand d.engine.nand) }
-    ensures fault { IfErr result (IsUnaccepted N.flash N.honest N.failed nand geometry.now capacity certificate.now) }
+    ensures fault { IfErr result (IsCertificateUnaccepted N.flash N.honest N.failed nand geometry.now capacity certificate.now) }
     ensures given { IfErr result (λ fault. OnlyReads N.flash N.honest N.calm N.programs N.erases N.failed nand (nand_of fault)) }
 {
     let accepted = match check(alloc, &mut nand, geometry, capacity, certificate) {
@@ -176,10 +176,10 @@ fn settle<N: Nand>(
     requires same_geometry { (N.flash nand).geometry ≡ geometry.now }
     requires least { 1 ≤ stale }
     requires most { stale ≤ 65536 }
-    ensures back { IfOk result (IsHandedBack N.flash N.honest N.failed nand) }
+    ensures back { IfOk result (IsDieHandedBack N.flash N.honest N.failed nand) }
     ensures array { IfOk result (HoldsSame N.flash N.honest geometry.now nand) }
     ensures fault { IfErr result (IsUnsettledWith N.flash N.honest N.failed nand geometry.now stale) }
-    ensures given { IfErr result (λ fault. IsHandedBack N.flash N.honest N.failed nand (nand_of fault)) }
+    ensures given { IfErr result (λ fault. IsDieHandedBack N.flash N.honest N.failed nand (nand_of fault)) }
 {
     let mut device = start_mounted(alloc, nand, geometry, stale)?;
     match settled(device.flush()) {
@@ -219,8 +219,8 @@ fn look<N: Nand>(
     requires most { entries ≤ 65536 }
     ensures brings { IfOk result (IsBrought N.flash N.honest N.failed nand geometry.now entries) }
     ensures pages { IfOk result (λ d. N.honest nand ≡ true → N.flash d.engine.nand ≡ N.flash nand) }
-    ensures fault { IfErr result (IsUnmounted N.flash N.honest N.failed nand geometry.now entries) }
-    ensures given { IfErr result (λ fault. IsHandedBack N.flash N.honest N.failed nand (nand_of fault)) }
+    ensures fault { IfErr result (ArePagesUnmounted N.flash N.honest N.failed nand geometry.now entries) }
+    ensures given { IfErr result (λ fault. IsDieHandedBack N.flash N.honest N.failed nand (nand_of fault)) }
 {
     match start_mounted(alloc, nand, geometry, entries) {
         Ok(device) => Ok(device),
@@ -240,7 +240,7 @@ fn start_either<N: Nand>(
     requires most { capacity ≤ 65536 }
     ensures brings { IfOk result (IsBrought N.flash N.honest N.failed nand geometry.now capacity) }
     ensures fault { IfErr result (IsUnbrought N.flash N.honest N.failed nand geometry.now capacity) }
-    ensures given { IfErr result (λ fault. IsHandedBack N.flash N.honest N.failed nand (nand_of fault)) }
+    ensures given { IfErr result (λ fault. IsDieHandedBack N.flash N.honest N.failed nand (nand_of fault)) }
 {
     let fault = match look(alloc, nand, geometry, capacity) {
         Ok(device) => return Ok(device),
@@ -267,7 +267,7 @@ fn start_settled<N: Nand>(
     requires wanted { N.honest nand ≡ true → IsTooStale geometry.now capacity (N.flash nand).image stale }
     ensures brings { IfOk result (IsBrought N.flash N.honest N.failed nand geometry.now capacity) }
     ensures fault { IfErr result (IsUnsettled N.flash N.honest N.failed nand geometry.now capacity) }
-    ensures given { IfErr result (λ fault. IsHandedBack N.flash N.honest N.failed nand (nand_of fault)) }
+    ensures given { IfErr result (λ fault. IsDieHandedBack N.flash N.honest N.failed nand (nand_of fault)) }
 {
     let nand = match settle(alloc, nand, geometry, stale) {
         Ok(nand) => nand,
@@ -302,7 +302,7 @@ pub fn start<N: Nand>(
     // Where the cache has room for what is stale, nothing is written.
     ensures still { IfOk result (λ d. N.honest nand ≡ true → stale_count geometry.now (N.flash nand).image ≤ capacity → N.flash d.engine.nand ≡ N.flash nand) }
     ensures fault { IfErr result (IsUnsettled N.flash N.honest N.failed nand geometry.now capacity) }
-    ensures given { IfErr result (λ fault. IsHandedBack N.flash N.honest N.failed nand (nand_of fault)) }
+    ensures given { IfErr result (λ fault. IsDieHandedBack N.flash N.honest N.failed nand (nand_of fault)) }
 {
     let fault = match look(alloc, nand, geometry, capacity) {
         Ok(device) => return Ok(device),

@@ -1,10 +1,10 @@
 //! How a device stands.
-ghost use Rattle.device_slot.specs.Begun.{IsKept};
+ghost use Rattle.device_slot.specs.Begun.{IsDeviceKept};
 ghost use Rattle.std.specs.Prelude.{◌≡◌, ◌<◌};
 ghost use Rattle.std.specs.Prelude.{length};
 ghost use Rattle.ftl_device.specs.Calls.{stop_of};
 ghost use Rattle.ftl_device.specs.Device.{IsDevice};
-ghost use Rattle.device_slot.specs.Slot.{IsMostWorn, Stands};
+ghost use Rattle.device_slot.specs.Slot.{DeviceStands, IsMostWorn};
 
 use bad_blocks::Table;
 use collection::WriteFault;
@@ -53,8 +53,8 @@ fn stop_for(fault: Option<WriteFault>) -> Option<DeviceFault>
 
 /// How this one stands.
 pub(crate) fn report_of<N: Nand>(device: &Device<N>) -> Report
-    requires { IsKept N.flash N.honest device.now }
-    ensures { Stands device.now result }
+    requires { IsDeviceKept N.flash N.honest device.now }
+    ensures { DeviceStands device.now result }
 {
     let blocks = &device.engine.blocks;
     let good = blocks.good();

@@ -2,8 +2,8 @@
 ghost use Rattle.std.specs.Prelude.{◌≡◌, ◌≢◌, false, [], length};
 ghost use Rattle.promises.specs.Step as step;
 ghost use Rattle.command_queue.specs.Commands.{command_of, is_read, HasRoom};
-ghost use Rattle.device_slot.specs.Begun.{IsKept};
-ghost use Rattle.device_slot.specs.Calls.{answer_of, shortage_in, Told, ToldSized};
+ghost use Rattle.device_slot.specs.Begun.{IsDeviceKept};
+ghost use Rattle.device_slot.specs.Calls.{answer_of, shortage_in, ToldCommand, ToldSized};
 
 use crate::report::{Report, report_of};
 use command_queue::{Command, tell};
@@ -41,14 +41,14 @@ pub struct DeviceSlot<N: Nand> {
 
 impl<N: Nand> Model for DeviceSlot<N> {
     ghost use Rattle.std.specs.Prelude.{IfSome};
-    ghost use Rattle.device_slot.specs.Begun.{IsKept};
+    ghost use Rattle.device_slot.specs.Begun.{IsDeviceKept};
     ghost use Rattle.device_slot.specs.Slot.{SlotState};
 
     ghost Value = { SlotState N };
 
     ghost view = { λ s. record { device = s.device; shortage = s.shortage } };
 
-    ghost invariant = { λ s. IfSome s.device (IsKept N.flash N.honest) };
+    ghost invariant = { λ s. IfSome s.device (IsDeviceKept N.flash N.honest) };
 }
 
 // The device's answer as that of a call.
@@ -85,10 +85,10 @@ fn told<N: Nand>(
     command: Command<'_>,
     bytes: &mut [u8],
 ) -> Result<(), CallFault>
-    requires kept { IsKept N.flash N.honest device.old }
+    requires kept { IsDeviceKept N.flash N.honest device.old }
     requires room { HasRoom device.old.engine.geometry command bytes.old }
-    ensures kept { IsKept N.flash N.honest device.new }
-    ensures told { Told N.flash N.recorded N.honest N.failed N.erases device.old (command_of command.entry) bytes.old result bytes.new device.new shortage.new }
+    ensures kept { IsDeviceKept N.flash N.honest device.new }
+    ensures told { ToldCommand N.flash N.recorded N.honest N.failed N.erases device.old (command_of command.entry) bytes.old result bytes.new device.new shortage.new }
 {
     let done = tell(device, command, bytes);
     *shortage = shortage_for(done);
@@ -101,11 +101,11 @@ fn told_only<N: Nand>(
     shortage: &mut Option<Shortage>,
     command: Command<'_>,
 ) -> Result<(), CallFault>
-    requires kept { IsKept N.flash N.honest device.old }
+    requires kept { IsDeviceKept N.flash N.honest device.old }
     requires room { HasRoom device.old.engine.geometry command [] }
     requires only { is_read (command_of command) ≡ false }
-    ensures kept { IsKept N.flash N.honest device.new }
-    ensures told { Told N.flash N.recorded N.honest N.failed N.erases device.old (command_of command.entry) [] result [] device.new shortage.new }
+    ensures kept { IsDeviceKept N.flash N.honest device.new }
+    ensures told { ToldCommand N.flash N.recorded N.honest N.failed N.erases device.old (command_of command.entry) [] result [] device.new shortage.new }
 {
     told(device, shortage, command, &mut [])
 }
@@ -117,8 +117,8 @@ fn read<N: Nand>(
     sector: u32,
     out: &mut [u8],
 ) -> Result<(), CallFault>
-    requires { IsKept N.flash N.honest device.old }
-    ensures kept { IsKept N.flash N.honest device.new }
+    requires { IsDeviceKept N.flash N.honest device.old }
+    ensures kept { IsDeviceKept N.flash N.honest device.new }
     ensures told { ToldSized N.flash N.recorded N.honest N.failed N.erases device.old shortage.old (step.Read sector) (length out.old) out.old result out.new device.new shortage.new }
 {
     if out.len() != device.engine.geometry.data_bytes() {
@@ -134,8 +134,8 @@ fn write<N: Nand>(
     sector: u32,
     body: &[u8],
 ) -> Result<(), CallFault>
-    requires { IsKept N.flash N.honest device.old }
-    ensures kept { IsKept N.flash N.honest device.new }
+    requires { IsDeviceKept N.flash N.honest device.old }
+    ensures kept { IsDeviceKept N.flash N.honest device.new }
     ensures told { ToldSized N.flash N.recorded N.honest N.failed N.erases device.old shortage.old (step.Write sector body.now) (length body.now) [] result [] device.new shortage.new }
 {
     if body.len() != device.engine.geometry.data_bytes() {
@@ -148,7 +148,7 @@ impl<N: Nand> DeviceSlot<N> {
     ghost use Rattle.std.specs.Prelude.{◌≡◌, [], None, length, IsSome, IfSome, ◌↔◌, true, option_copied};
     ghost use Rattle.std.specs.Option.{is_some};
     ghost use Rattle.promises.specs.Step as step;
-    ghost use Rattle.device_slot.specs.Calls.{IsCall, Told, ToldSized};
+    ghost use Rattle.device_slot.specs.Calls.{IsSlotCall, ToldCommand, ToldSized};
     ghost use Rattle.device_slot.specs.Slot.{Reports, nand_in};
 
     /// An empty one.
@@ -201,7 +201,7 @@ impl<N: Nand> DeviceSlot<N> {
     ///
     /// `NotStarted` where no device stands there, `WrongSize` where `out` is not as long as a sector: nothing is done. Those of the device.
     pub fn read(&mut self, sector: u32, out: &mut [u8]) -> Result<(), CallFault>
-        ensures { IsCall self.old (λ d now. ToldSized N.flash N.recorded N.honest N.failed N.erases d self.old.shortage (step.Read sector) (length out.old) out.old result out.new now self.new.shortage)
+        ensures { IsSlotCall self.old (λ d now. ToldSized N.flash N.recorded N.honest N.failed N.erases d self.old.shortage (step.Read sector) (length out.old) out.old result out.new now self.new.shortage)
             out.old result out.new self.new }
     {
         let Some(device) = &mut self.device else {
@@ -216,7 +216,7 @@ impl<N: Nand> DeviceSlot<N> {
     ///
     /// As `read`, `WrongSize` where `body` is not as long as a sector.
     pub fn write(&mut self, sector: u32, body: &[u8]) -> Result<(), CallFault>
-        ensures { IsCall self.old (λ d now. ToldSized N.flash N.recorded N.honest N.failed N.erases d self.old.shortage (step.Write sector body.now) (length body.now) [] result [] now self.new.shortage)
+        ensures { IsSlotCall self.old (λ d now. ToldSized N.flash N.recorded N.honest N.failed N.erases d self.old.shortage (step.Write sector body.now) (length body.now) [] result [] now self.new.shortage)
             [] result [] self.new }
     {
         let Some(device) = &mut self.device else {
@@ -231,7 +231,7 @@ impl<N: Nand> DeviceSlot<N> {
     ///
     /// `NotStarted` where no device stands there: nothing is done. Those of the device.
     pub fn trim(&mut self, sector: u32) -> Result<(), CallFault>
-        ensures { IsCall self.old (λ d now. Told N.flash N.recorded N.honest N.failed N.erases d (step.Trim sector) [] result [] now self.new.shortage) [] result [] self.new }
+        ensures { IsSlotCall self.old (λ d now. ToldCommand N.flash N.recorded N.honest N.failed N.erases d (step.Trim sector) [] result [] now self.new.shortage) [] result [] self.new }
     {
         let Some(device) = &mut self.device else {
             return Err(CallFault::NotStarted);
@@ -245,7 +245,7 @@ impl<N: Nand> DeviceSlot<N> {
     ///
     /// As `trim`.
     pub fn flush(&mut self) -> Result<(), CallFault>
-        ensures { IsCall self.old (λ d now. Told N.flash N.recorded N.honest N.failed N.erases d step.Flush [] result [] now self.new.shortage) [] result [] self.new }
+        ensures { IsSlotCall self.old (λ d now. ToldCommand N.flash N.recorded N.honest N.failed N.erases d step.Flush [] result [] now self.new.shortage) [] result [] self.new }
     {
         let Some(device) = &mut self.device else {
             return Err(CallFault::NotStarted);
@@ -259,7 +259,7 @@ impl<N: Nand> DeviceSlot<N> {
     ///
     /// As `trim`.
     pub fn turn(&mut self) -> Result<(), CallFault>
-        ensures { IsCall self.old (λ d now. Told N.flash N.recorded N.honest N.failed N.erases d step.Turn [] result [] now self.new.shortage) [] result [] self.new }
+        ensures { IsSlotCall self.old (λ d now. ToldCommand N.flash N.recorded N.honest N.failed N.erases d step.Turn [] result [] now self.new.shortage) [] result [] self.new }
     {
         let Some(device) = &mut self.device else {
             return Err(CallFault::NotStarted);
@@ -270,11 +270,11 @@ impl<N: Nand> DeviceSlot<N> {
 
 impl<N: Nand + Drop> DeviceSlot<N> {
     ghost use Rattle.std.specs.Prelude.{◌≡◌, None, Some};
-    ghost use Rattle.device_slot.specs.Begun.{IsKept};
+    ghost use Rattle.device_slot.specs.Begun.{IsDeviceKept};
 
     /// Puts a device there, in place of what stood there. No refusal is noted.
     pub fn put(&mut self, device: Device<N>)
-        requires { IsKept N.flash N.honest device }
+        requires { IsDeviceKept N.flash N.honest device }
         ensures { self.new ≡ record { device = Some device; shortage = None } }
     {
         self.device = Some(device);
@@ -292,12 +292,12 @@ impl<N: Nand + Drop> DeviceSlot<N> {
 
 impl<N: Nand> DeviceSlot<N> {
     ghost use Rattle.std.specs.Prelude.{◌≡◌, IfSome};
-    ghost use Rattle.device_slot.specs.Begun.{IsKept};
+    ghost use Rattle.device_slot.specs.Begun.{IsDeviceKept};
 
     /// Gives up the slot for what stands there.
     pub fn into_device(self) -> Option<Device<N>>
         ensures device { result ≡ self.device }
-        ensures kept { IfSome result (IsKept N.flash N.honest) }
+        ensures kept { IfSome result (IsDeviceKept N.flash N.honest) }
     {
         self.device
     }

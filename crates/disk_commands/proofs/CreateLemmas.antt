@@ -7,7 +7,7 @@ use Rattle.file_die.specs.Store.{Held, blank}
 use Rattle.disk_server.specs.declared.format.CreateFault.{CreateFault}
 use Rattle.disk_server.specs.declared.format.CreateFault.TheVariants as create
 use Rattle.disk_server.specs.declared.opened.OpenStoreFault.TheVariants as open_store
-use Rattle.disk_server.specs.Made.{IsUnmade}
+use Rattle.disk_server.specs.Made.{IsDiskUnmade}
 use Rattle.disk_commands.specs.declared.shapes.DiskShape.{DiskShape}
 use Rattle.disk_commands.specs.ShapeText.{shape_text}
 use Rattle.disk_commands.specs.declared.words.CreateWords.{CreateWords}
@@ -19,12 +19,12 @@ use Rattle.disk_commands.specs.Asked.{IsShapeAsked}
 use Rattle.disk_commands.specs.BadBlocks.{AreBadAsked, HasMarks, is_copied}
 use Rattle.disk_commands.specs.declared.files.DiskFileFault.{DiskFileFault}
 use Rattle.disk_commands.specs.Opening.{told_at}
-use Rattle.disk_commands.specs.Created.{HasCreated, IsDieFor, IsUncreated, IsUnformatted, IsUnkept, unformatted}
-use Rattle.disk_commands.specs.Files.{Answers, FailsNoMore, Kept, with_kept}
+use Rattle.disk_commands.specs.Created.{HasCreated, IsDieAskedFor, IsUncreated, IsUnformatted, IsUnkept, unformatted}
+use Rattle.disk_commands.specs.Files.{DiskFileAnswers, FailsNoMore, Kept, with_kept}
 
 -- erased pages were not formatted, for this
-pub not_formatted : {S : Type 0} (held : S → Held) (honest : S → Bool) (failed : S → ℕ) (a : Answers) (path : Bor (List ℕ)) (g : Geometry) (bad : List ℕ) (store given : S) (why : CreateFault)
-    → honest store ≡ a.honest → (honest store ≡ true → HasMarks g bad (held store)) → IsUnmade held honest failed store given why
+pub not_formatted : {S : Type 0} (held : S → Held) (honest : S → Bool) (failed : S → ℕ) (a : DiskFileAnswers) (path : Bor (List ℕ)) (g : Geometry) (bad : List ℕ) (store given : S) (why : CreateFault)
+    → honest store ≡ a.honest → (honest store ≡ true → HasMarks g bad (held store)) → IsDiskUnmade held honest failed store given why
     → IsUnformatted held honest failed a path.now g bad (unformatted path why)
 not_formatted held honest failed a path g bad store given (create.Open open_store.OutOfMemory) is erased un = tt
 not_formatted held honest failed a path g bad store given (create.Open open_store.Device) is erased un = (refl, (store, given, is, erased, un))
@@ -35,7 +35,7 @@ not_formatted held honest failed a path g bad store given (create.Format fault) 
 not_formatted held honest failed a path g bad store given create.Sync is erased un = (refl, (store, given, is, erased, un))
 
 -- no erased pages were made, for this
-pub not_blank : {S : Type 0} (held : S → Held) (honest : S → Bool) (failed : S → ℕ) (a : Answers) (path : Bor (List ℕ)) (g : Geometry) (bad : List ℕ) (why : DiskFileFault) → a.fails path.now why
+pub not_blank : {S : Type 0} (held : S → Held) (honest : S → Bool) (failed : S → ℕ) (a : DiskFileAnswers) (path : Bor (List ℕ)) (g : Geometry) (bad : List ℕ) (why : DiskFileFault) → a.fails path.now why
     → IsUnformatted held honest failed a path.now g bad (told_at why path 0)
 not_blank held honest failed a path g bad file.Read is = (refl, is)
 not_blank held honest failed a path g bad file.Write is = (refl, inl is)
@@ -45,15 +45,15 @@ not_blank held honest failed a path g bad (file.Length found) is = (refl, refl, 
 not_blank held honest failed a path g bad file.OutOfMemory is = tt
 
 -- they were not marked
-pub not_marked : {S : Type 0} (held : S → Held) (honest : S → Bool) (failed : S → ℕ) (a : Answers) (path : Bor (List ℕ)) (g : Geometry) (bad : List ℕ) (store left : S) (told : DiskCommandFault)
+pub not_marked : {S : Type 0} (held : S → Held) (honest : S → Bool) (failed : S → ℕ) (a : DiskFileAnswers) (path : Bor (List ℕ)) (g : Geometry) (bad : List ℕ) (store left : S) (told : DiskCommandFault)
     → honest store ≡ a.honest → (honest store ≡ true → held store ≡ blank g) → 0 < length bad → ((told ≡ fault.OutOfMemory) ⊎ ((told ≡ fault.Write path) × HasRisen (failed store) (failed left)))
     → IsUnformatted held honest failed a path.now g bad told
 not_marked held honest failed a path g bad store left told is erased some (inl memory) = subst (IsUnformatted held honest failed a path.now g bad) (sym memory) tt
 not_marked held honest failed a path g bad store left told is erased some (inr h) = subst (IsUnformatted held honest failed a path.now g bad) (sym h.0) (refl, inr (some, (store, left, is, erased, h.1)))
 
 -- a die that was made was put in its place
-pub created : {S : Type 0} (held : S → Held) (honest : S → Bool) (a : Answers) (words : CreateWords) (shape : DiskShape) (bad : List ℕ) (before between after : Option (List Kept)) (store : S) (result : Result (Unit {0}) DiskCommandFault)
-    → IsShapeAsked words shape → AreBadAsked (is_copied words.make) words.bad shape.geometry bad → a.says_there words.disk.now false → (honest store ≡ true → IsDieFor a words.make shape bad (held store)) → honest store ≡ a.honest → between ≡ before
+pub created : {S : Type 0} (held : S → Held) (honest : S → Bool) (a : DiskFileAnswers) (words : CreateWords) (shape : DiskShape) (bad : List ℕ) (before between after : Option (List Kept)) (store : S) (result : Result (Unit {0}) DiskCommandFault)
+    → IsShapeAsked words shape → AreBadAsked (is_copied words.make) words.bad shape.geometry bad → a.says_there words.disk.now false → (honest store ≡ true → IsDieAskedFor a words.make shape bad (held store)) → honest store ≡ a.honest → between ≡ before
     → OnOk result (after ≡ with_kept between (record { path = words.disk.now; held = held store; text = shape_text shape }))
     → OnOk result (HasCreated held honest a words before after)
 created held honest a words shape bad before between after store (Ok done) asked named free die is same kept =
@@ -71,7 +71,7 @@ created held honest a words shape bad before between after store (Ok done) asked
 created held honest a words shape bad before between after store (Err told) asked named free die is same kept = tt
 
 -- or was not
-unkept_before : (a b : Answers) (path : List ℕ) (told : DiskCommandFault) → FailsNoMore a b → IsUnkept b path told → IsUnkept a path told
+unkept_before : (a b : DiskFileAnswers) (path : List ℕ) (told : DiskCommandFault) → FailsNoMore a b → IsUnkept b path told → IsUnkept a path told
 unkept_before a b path (fault.Read word) no_more h = (h.0, no_more path file.Read h.1)
 unkept_before a b path (fault.Write word) no_more h = (h.0, no_more path file.Write h.1)
 unkept_before a b path (fault.InUse word) no_more h = (h.0, no_more path file.InUse h.1)
@@ -80,7 +80,7 @@ unkept_before a b path (fault.Length word found wanted) no_more h = (h.0, h.1, n
 unkept_before a b path fault.OutOfMemory no_more h = tt
 unkept_before a b path _ no_more h = absurd h
 
-pub not_kept : {S : Type 0} (held : S → Held) (honest : S → Bool) (failed : S → ℕ) (a b : Answers) (words : CreateWords) (shape : DiskShape) (bad : List ℕ) (result : Result (Unit {0}) DiskCommandFault)
+pub not_kept : {S : Type 0} (held : S → Held) (honest : S → Bool) (failed : S → ℕ) (a b : DiskFileAnswers) (words : CreateWords) (shape : DiskShape) (bad : List ℕ) (result : Result (Unit {0}) DiskCommandFault)
     → IsShapeAsked words shape → AreBadAsked (is_copied words.make) words.bad shape.geometry bad → a.says_there words.disk.now false → FailsNoMore a b → IfErr result (IsUnkept b words.disk.now) → IfErr result (IsUncreated held honest failed a words)
 not_kept held honest failed a b words shape bad (Ok done) asked named free no_more h = tt
 not_kept held honest failed a b words shape bad (Err told) asked named free no_more h = inr (shape, asked, inr (bad, named, inr (free, inr (unkept_before a b words.disk.now told no_more h))))

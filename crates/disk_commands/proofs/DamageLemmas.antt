@@ -23,19 +23,19 @@ use Rattle.disk_commands.specs.declared.text.DiskCommandFault.{DiskCommandFault}
 use Rattle.disk_commands.specs.declared.text.DiskCommandFault.TheVariants as fault
 use Rattle.disk_commands.specs.Damage.{IsListAt, IsListBy, IsLookedAt, IsNoListAt, IsUnlookedAt}
 use Rattle.disk_commands.specs.declared.files.DiskFileFault.{DiskFileFault}
-use Rattle.disk_commands.specs.Files.{Answers, AnswersNoMore, SaysNoMore}
+use Rattle.disk_commands.specs.Files.{AnswersNoMore, DiskFileAnswers, SaysNoMore}
 use Rattle.disk_commands.specs.Opening.{file_bytes, IsFaultAt, IsMarkAt, IsNotAt, IsShapeFault, IsStoreAt, IsTextAt, told_at}
 use Rattle.disk_commands.proofs.OpeningLemmas.{no_file}
 
-pub mark_back : (a b : Answers) (path : List ℕ) (marked : Bool) (found : FoundMark) → SaysNoMore a b → IsMarkAt b path marked found → IsMarkAt a path marked found
+pub mark_back : (a b : DiskFileAnswers) (path : List ℕ) (marked : Bool) (found : FoundMark) → SaysNoMore a b → IsMarkAt b path marked found → IsMarkAt a path marked found
 mark_back a b path true found less h = (h.0, less.marks path h.0 h.1, h.2)
 mark_back a b path false found less h = h
 
-pub list_back : (a b : Answers) (path : List ℕ) (listed : Bool) (sectors : ℕ) (lost : List Bool) → SaysNoMore a b → IsListBy listed b path sectors lost → IsListBy listed a path sectors lost
+pub list_back : (a b : DiskFileAnswers) (path : List ℕ) (listed : Bool) (sectors : ℕ) (lost : List Bool) → SaysNoMore a b → IsListBy listed b path sectors lost → IsListBy listed a path sectors lost
 list_back a b path true sectors lost less h = (h.0, less.lists path h.0 h.1, h.2)
 list_back a b path false sectors lost less h = h
 
-pub fault_back : (a b : Answers) (path : List ℕ) (wanted : ℕ) (why : DiskCommandFault) → SaysNoMore a b → IsFaultAt b path wanted why → IsFaultAt a path wanted why
+pub fault_back : (a b : DiskFileAnswers) (path : List ℕ) (wanted : ℕ) (why : DiskCommandFault) → SaysNoMore a b → IsFaultAt b path wanted why → IsFaultAt a path wanted why
 fault_back a b path wanted (fault.Read told) less h = (h.0, less.fails path _ h.1)
 fault_back a b path wanted (fault.Write told) less h = (h.0, less.fails path _ h.1)
 fault_back a b path wanted (fault.InUse told) less h = (h.0, less.fails path _ h.1)
@@ -44,14 +44,14 @@ fault_back a b path wanted (fault.Length told found due) less h = (h.0, h.1, les
 fault_back a b path wanted fault.OutOfMemory less h = less.fails path _ h
 fault_back a b path wanted why less h = h
 
-pub no_list_back : (a b : Answers) (path : List ℕ) (told : DiskText) (why : DiskCommandFault) → SaysNoMore a b → IsNoListAt b path told why → IsNoListAt a path told why
+pub no_list_back : (a b : DiskFileAnswers) (path : List ℕ) (told : DiskText) (why : DiskCommandFault) → SaysNoMore a b → IsNoListAt b path told why → IsNoListAt a path told why
 no_list_back a b path told (fault.List at reason) less h = (h.0, h.1, (h.2.0, less.lists path h.2.0 h.2.1, h.2.2))
 no_list_back a b path told (fault.ReadList at) less h = (h.0, h.1, (h.2.0, less.fails path h.2.0 h.2.1, h.2.2))
 no_list_back a b path told why less h = h
 
 -- ---- a disk that is locked, and then opened
 
-shape_of : (a : Answers) (path : List ℕ) (why : DiskCommandFault) → IsFaultAt a path 0 why → IsShapeFault a path why
+shape_of : (a : DiskFileAnswers) (path : List ℕ) (why : DiskCommandFault) → IsFaultAt a path 0 why → IsShapeFault a path why
 shape_of a path (fault.Read told) h = h
 shape_of a path (fault.Write told) h = h
 shape_of a path (fault.InUse told) h = h
@@ -61,14 +61,14 @@ shape_of a path fault.OutOfMemory h = h
 shape_of a path why h = absurd h
 
 -- its mark was not read
-pub mark_fault : (a b : Answers) (path : List ℕ) (why : DiskCommandFault) → SaysNoMore a b → IsFaultAt b path 0 why → IsNotAt a path why
+pub mark_fault : (a b : DiskFileAnswers) (path : List ℕ) (why : DiskCommandFault) → SaysNoMore a b → IsFaultAt b path 0 why → IsNotAt a path why
 mark_fault a b path why less h = inl (shape_of a path why (fault_back a b path 0 why less h))
 
-pub text_back : (a m : Answers) (path : List ℕ) (told : DiskText) → AnswersNoMore a m → IsTextAt m path told → IsTextAt a path told
+pub text_back : (a m : DiskFileAnswers) (path : List ℕ) (told : DiskText) → AnswersNoMore a m → IsTextAt m path told → IsTextAt a path told
 text_back a m path told less h = record { text = h.text; tells = less.tells path h.text h.tells; says = h.says }
 
 -- its shape was not told
-pub shape_back : (a m : Answers) (path : List ℕ) (why : DiskCommandFault) → AnswersNoMore a m → IsShapeFault m path why → IsShapeFault a path why
+pub shape_back : (a m : DiskFileAnswers) (path : List ℕ) (why : DiskCommandFault) → AnswersNoMore a m → IsShapeFault m path why → IsShapeFault a path why
 shape_back a m path (fault.Shape told why) less h = (h.0, (h.1.0, less.tells path h.1.0 h.1.1, h.1.2))
 shape_back a m path (fault.Read told) less h = fault_back a m path 0 (fault.Read told) less.says h
 shape_back a m path (fault.Write told) less h = fault_back a m path 0 (fault.Write told) less.says h
@@ -79,7 +79,7 @@ shape_back a m path fault.OutOfMemory less h = fault_back a m path 0 fault.OutOf
 shape_back a m path why less h = absurd h
 
 -- with the answers that it had once it was locked
-module _ (a m t : Answers) (path : Bor (List ℕ)) (text : DiskText) (less : AnswersNoMore a m) (same : t ≡ m) (at : IsTextAt m path.now text) where
+module _ (a m t : DiskFileAnswers) (path : Bor (List ℕ)) (text : DiskText) (less : AnswersNoMore a m) (same : t ≡ m) (at : IsTextAt m path.now text) where
   pub not_opened : (f : DiskFileFault) (wanted : ℕ) (told : DiskCommandFault) → t.fails path.now f → wanted ≡ file_bytes text.shape → told ≡ told_at f path wanted → IsNotAt a path.now told
   not_opened f wanted told fails bytes is =
       no_file a f path wanted text told (text_back a m path.now text less at) (less.says.fails path.now f (subst (λ x. x.fails path.now f) same fails)) bytes is
@@ -94,7 +94,7 @@ module _ (a m t : Answers) (path : Bor (List ℕ)) (text : DiskText) (less : Ans
   }
 
 -- what says no more than what says no more
-pub no_more_then : (a m t n : Answers) → AnswersNoMore a m → t ≡ m → SaysNoMore t n → SaysNoMore a n
+pub no_more_then : (a m t n : DiskFileAnswers) → AnswersNoMore a m → t ≡ m → SaysNoMore t n → SaysNoMore a n
 no_more_then a m t n less same more =
     let then : SaysNoMore m n = subst (λ x. SaysNoMore x n) same more in
     record {
@@ -104,7 +104,7 @@ no_more_then a m t n less same more =
     }
 
 -- a growth was refused
-pub no_memory : {S : Type 0} (held : S → Held) (honest : S → Bool) (failed : S → ℕ) (a : Answers) (path : List ℕ) → IsUnlookedAt held honest failed a path fault.OutOfMemory
+pub no_memory : {S : Type 0} (held : S → Held) (honest : S → Bool) (failed : S → ℕ) (a : DiskFileAnswers) (path : List ℕ) → IsUnlookedAt held honest failed a path fault.OutOfMemory
 no_memory held honest failed a path = inr (inl tt)
 
 take_append : (xs ys : List Bool) → take (length xs) (xs ++ ys) ≡ xs
@@ -115,7 +115,7 @@ long_none : (n : ℕ) → length (replicate n false) ≡ n
 long_none zero = refl
 long_none (suc n) = ap suc (long_none n)
 
-list_long : (listed : Bool) (a : Answers) (path : List ℕ) (sectors : ℕ) (lost : List Bool) → IsListBy listed a path sectors lost → length lost ≡ sectors
+list_long : (listed : Bool) (a : DiskFileAnswers) (path : List ℕ) (sectors : ℕ) (lost : List Bool) → IsListBy listed a path sectors lost → length lost ≡ sectors
 list_long true a path sectors lost h = h.2.size
 list_long false a path sectors lost h = ap length h ∙ long_none sectors
 
@@ -124,7 +124,7 @@ pub kept_flags : (n : ℕ) (xs ys : List Bool) → length xs ≡ n → take n (x
 kept_flags n xs ys long = ap (λ k. take k (xs ++ drop (length xs) ys)) (sym long) ∙ take_append xs (drop (length xs) ys)
 
 -- a disk that was looked at
-pub looked_at : {S : Type 0} (held : S → Held) (honest : S → Bool) (a b c : Answers) (path : List ℕ) (told : DiskText) (found : FoundMark) (first store : S) (certificate : Claim) (list lost : List Bool)
+pub looked_at : {S : Type 0} (held : S → Held) (honest : S → Bool) (a b c : DiskFileAnswers) (path : List ℕ) (told : DiskText) (found : FoundMark) (first store : S) (certificate : Claim) (list lost : List Bool)
     → SaysNoMore a b → c ≡ b → IsStoreAt held honest a path told first → IsMarkAt b path told.marked found → IsListAt c path told list → HasCome held honest first store
     → (honest first ≡ true → IsMounted (held first).geometry 65536 (held first).pages certificate)
     → (honest first ≡ true → length list ≡ (held first).geometry.sectors → Adds (is_lost (held first).geometry (held first).pages found.mark.flushed) 0 (held first).geometry.sectors list lost)
@@ -144,7 +144,7 @@ looked_at held honest a b c path told found first store certificate list lost le
     }
 
 -- its pages were not looked at
-pub unseen_at : {S : Type 0} (held : S → Held) (honest : S → Bool) (failed : S → ℕ) (a : Answers) (path : Bor (List ℕ)) (told : DiskText) (found : FoundMark) (store : S) (certificate : Claim) (list : List Bool) (left : S) (why : LostFault)
+pub unseen_at : {S : Type 0} (held : S → Held) (honest : S → Bool) (failed : S → ℕ) (a : DiskFileAnswers) (path : Bor (List ℕ)) (told : DiskText) (found : FoundMark) (store : S) (certificate : Claim) (list : List Bool) (left : S) (why : LostFault)
     → IsLookedAt held honest a path.now told found store certificate list → (why ≡ lost.Store → HasRisen (failed store) (failed left)) → IsUncheckedAt held honest failed a path.now (unseen why path)
 unseen_at held honest failed a path told found store certificate list left lost.OutOfMemory looked rose = inr tt
 unseen_at held honest failed a path told found store certificate list left lost.Store looked rose =

@@ -9,7 +9,7 @@ use Rattle.disk_commands.specs.declared.text.DiskCommandFault.{DiskCommandFault}
 use Rattle.disk_commands.specs.declared.text.DiskCommandFault.TheVariants as fault
 use Rattle.disk_commands.specs.declared.words.DiskServeWords.{DiskServeWords}
 use Rattle.disk_commands.specs.Damage.{IsLookedAt}
-use Rattle.disk_commands.specs.Files.{Answers, Opened, Opens, OpensMarked, OpensMarkedIf, SaysNoMore, with_mark, with_opened}
+use Rattle.disk_commands.specs.Files.{DiskFileAnswers, Opened, OpensMarked, OpensMarkedIf, OpensOnce, SaysNoMore, with_mark, with_opened}
 use Rattle.disk_commands.specs.Guard.{IsUnlistedAt}
 use Rattle.disk_commands.specs.Opening.{IsUnkeptAt}
 use Rattle.disk_commands.specs.Ready.{IsUnkeptBy, MarksBy, access_of}
@@ -17,11 +17,11 @@ use Rattle.disk_commands.proofs.DamageLemmas.{fault_back}
 
 -- ---- the die and the mark
 
-opens_marked_if : (writes : Bool) (path : List ℕ) (access : Access) (before after : Option (List Opened)) → Opens path access before after → OpensMarkedIf writes path access before after
+opens_marked_if : (writes : Bool) (path : List ℕ) (access : Access) (before after : Option (List Opened)) → OpensOnce path access before after → OpensMarkedIf writes path access before after
 opens_marked_if true path access before after h = inl h
 opens_marked_if false path access before after h = h
 
-pub opens_marked : (path : List ℕ) (access : Access) (before after : Option (List Opened)) → Opens path access before after → OpensMarked path access before after
+pub opens_marked : (path : List ℕ) (access : Access) (before after : Option (List Opened)) → OpensOnce path access before after → OpensMarked path access before after
 opens_marked path access before after h = opens_marked_if access.writes path access before after h
 
 marks_if : (writes : Bool) (path : List ℕ) (access : Access) (before mid after : Option (List Opened)) → mid ≡ with_opened before path access → MarksBy writes path mid after → OpensMarkedIf writes path access before after
@@ -35,7 +35,7 @@ marks_then words a before mid after same is marks = marks_if (not words.read_onl
 
 -- ---- why it is not ready
 
-pub unlisted_back : (a b : Answers) (path : List ℕ) (why : DiskCommandFault) → SaysNoMore a b → IsUnlistedAt b path why → IsUnlistedAt a path why
+pub unlisted_back : (a b : DiskFileAnswers) (path : List ℕ) (why : DiskCommandFault) → SaysNoMore a b → IsUnlistedAt b path why → IsUnlistedAt a path why
 unlisted_back a b path fault.OutOfMemory less h = tt
 unlisted_back a b path (fault.Read told) less h = fault_back a b path 0 (fault.Read told) less h
 unlisted_back a b path (fault.Write told) less h = fault_back a b path 0 (fault.Write told) less h
@@ -44,15 +44,15 @@ unlisted_back a b path (fault.Exists told) less h = fault_back a b path 0 (fault
 unlisted_back a b path (fault.Length told found due) less h = fault_back a b path 0 (fault.Length told found due) less h
 unlisted_back a b path why less h = absurd h
 
-unkept_back : {Y : Type 0} (missed : Y → ℕ) (a b : Answers) (path : List ℕ) (why : DiskCommandFault) → SaysNoMore a b → IsUnkeptAt missed b path why → IsUnkeptAt missed a path why
+unkept_back : {Y : Type 0} (missed : Y → ℕ) (a b : DiskFileAnswers) (path : List ℕ) (why : DiskCommandFault) → SaysNoMore a b → IsUnkeptAt missed b path why → IsUnkeptAt missed a path why
 unkept_back missed a b path why less (inl h) = inl (fault_back a b path 0 why less h)
 unkept_back missed a b path why less (inr h) = inr h
 
-pub unkept_by : {Y : Type 0} (read_only : Bool) (missed : Y → ℕ) (a b : Answers) (path : List ℕ) (why : DiskCommandFault) → SaysNoMore a b → IsUnkeptBy read_only missed b path why → IsUnkeptBy read_only missed a path why
+pub unkept_by : {Y : Type 0} (read_only : Bool) (missed : Y → ℕ) (a b : DiskFileAnswers) (path : List ℕ) (why : DiskCommandFault) → SaysNoMore a b → IsUnkeptBy read_only missed b path why → IsUnkeptBy read_only missed a path why
 unkept_by true missed a b path why less h = h
 unkept_by false missed a b path why less h = unkept_back missed a b path why less h
 
 -- the same list
-pub looked_same : {S : Type 0} (held : S → Held) (honest : S → Bool) (a : Answers) (path : List ℕ) (told : DiskText) (found : FoundMark) (store : S) (certificate : Claim) (xs ys : List Bool) → ys ≡ xs
+pub looked_same : {S : Type 0} (held : S → Held) (honest : S → Bool) (a : DiskFileAnswers) (path : List ℕ) (told : DiskText) (found : FoundMark) (store : S) (certificate : Claim) (xs ys : List Bool) → ys ≡ xs
     → IsLookedAt held honest a path told found store certificate xs → IsLookedAt held honest a path told found store certificate ys
 looked_same held honest a path told found store certificate xs ys same = subst (λ l. IsLookedAt held honest a path told found store certificate l) (sym same)

@@ -13,7 +13,7 @@ use Rattle.disk_commands.specs.declared.shapes.Code.TheVariants.{Plain}
 use Rattle.disk_commands.specs.declared.shapes.DiskShape.{DiskShape}
 use Rattle.disk_commands.specs.declared.shapes.SizeFault.{SizeFault}
 use Rattle.disk_commands.specs.declared.shapes.SizeFault.TheVariants.{Zero, TooLarge}
-use Rattle.disk_commands.specs.Shapes.{Formats, IsDie, IsDieFor, IsLeast, IsNoSize, IsPages, IsPagesFor, IsShapeFor, cache_of, most_sectors}
+use Rattle.disk_commands.specs.Shapes.{HasBlocksForFormat, IsDie, IsDieForSectors, IsLeast, IsNoSize, IsPages, IsPagesFor, IsShapeFor, cache_of, most_sectors}
 
 -- what holds of each count of pages
 by_pages : (P : ℕ → Type 0) → P 64 → P 128 → P 256 → (p : ℕ) → IsPages p → P p
@@ -90,7 +90,7 @@ filled p s t = by_pages (λ p. s ≤ most_sectors p → t * 1024 < s + 1024 → 
     p
 
 -- of 3900 blocks a format has enough for up to the most sectors
-pub enough_blocks : (p s : ℕ) → IsPages p → 1 ≤ s → s ≤ most_sectors p → Formats p s 3900
+pub enough_blocks : (p s : ℕ) → IsPages p → 1 ≤ s → s ≤ most_sectors p → HasBlocksForFormat p s 3900
 enough_blocks p s known some few =
     let wide = at_least_64 p known in
     let its = die_of p 3900 s known (omega arith) (omega arith) some (omega (arith, within_limit p s known few)) in
@@ -115,7 +115,7 @@ bound p s b t u = by_pages (λ p. most_sectors p < s → s ≤ t * 1024 → b �
     p
 
 -- and for no more
-pub few_sectors : (p s b : ℕ) → IsPages p → Formats p s b → b ≤ 3900 → s ≤ most_sectors p
+pub few_sectors : (p s b : ℕ) → IsPages p → HasBlocksForFormat p s b → b ≤ 3900 → s ≤ most_sectors p
 few_sectors p s b known formats most = elim (cases_lt (most_sectors p) s) [
   | inl many ↦
       let t_is = div_ceil_times s 1024 (omega arith) in
@@ -125,11 +125,11 @@ few_sectors p s b known formats most = elim (cases_lt (most_sectors p) s) [
   | inr few ↦ few
 ]
 
-pub some_blocks : (p s b : ℕ) → Formats p s b → 12 ≤ b
+pub some_blocks : (p s b : ℕ) → HasBlocksForFormat p s b → 12 ≤ b
 some_blocks p s b formats = subst (λ n. 12 ≤ n) (formats.1).blocks_is (formats.0).limits.block_count.least
 
 -- with a twentieth more blocks a format still has enough
-pub spared : (p s b : ℕ) (g : Geometry) → IsPages p → Formats p s b → IsDie p (b + div_ceil b 20) s g → need g ≤ b + div_ceil b 20
+pub spared : (p s b : ℕ) (g : Geometry) → IsPages p → HasBlocksForFormat p s b → IsDie p (b + div_ceil b 20) s g → need g ≤ b + div_ceil b 20
 spared p s b g known formats die =
     let least = some_blocks p s b formats in
     let wide : 64 ≤ p = at_least_64 p known in
@@ -149,25 +149,25 @@ spared_die p s b spare g known least is die =
     subst (λ n. need g ≤ n) (sym its.blocks_is) (spared p s b g known least.formats its)
 
 -- a die has a twentieth more blocks for no more sectors
-pub die_ends : (p s : ℕ) (g : Geometry) → IsPages p → IsDieFor p s g → s ≤ most_sectors p
+pub die_ends : (p s : ℕ) (g : Geometry) → IsPages p → IsDieForSectors p s g → s ≤ most_sectors p
 die_ends p s g known is =
     let times = div_ceil_times is.needed 20 (omega arith) in
     let most : is.needed + div_ceil is.needed 20 ≤ 4096 = subst (λ n. n ≤ 4096) is.die.blocks_is g.limits.block_count.most in
     few_sectors p s is.needed known is.least.formats (omega (arith, most, times.0))
 
 -- so with fewer pages a block there is no such die
-pub no_fewer : (p s fewer : ℕ) (g : Geometry) → IsPagesFor s p → IsPages fewer → fewer < p → ¬ IsDieFor fewer s g
+pub no_fewer : (p s fewer : ℕ) (g : Geometry) → IsPagesFor s p → IsPages fewer → fewer < p → ¬ IsDieForSectors fewer s g
 no_fewer p s fewer g its known less is = omega (arith, less, its.fewest fewer known (die_ends fewer s g known is))
 
 -- ---- a size with pages has a die
 
-pub roomy : (bytes s p : ℕ) → s ≡ div_ceil bytes 4096 → 1 ≤ bytes → IsPagesFor s p → Formats p s 3900
+pub roomy : (bytes s p : ℕ) → s ≡ div_ceil bytes 4096 → 1 ≤ bytes → IsPagesFor s p → HasBlocksForFormat p s 3900
 roomy bytes s p is some its =
     let times = div_ceil_times bytes 4096 (omega arith) in
     enough_blocks p s its.known (omega (arith, is, some, times.0)) its.enough
 
 -- where there is none of a twentieth more, 3900 blocks are too few
-pub over_die : (p s b spare : ℕ) → IsPages p → IsLeast p s b → spare ≡ div_ceil b 20 → ((g : Geometry) → ¬ IsDie p (b + spare) s g) → ¬ Formats p s 3900
+pub over_die : (p s b spare : ℕ) → IsPages p → IsLeast p s b → spare ≡ div_ceil b 20 → ((g : Geometry) → ¬ IsDie p (b + spare) s g) → ¬ HasBlocksForFormat p s 3900
 over_die p s b spare known least is none formats = elim (cases_lt 3900 b) [
   | inl more ↦ least.least 3900 more formats
   | inr few ↦
@@ -180,7 +180,7 @@ over_die p s b spare known least is none formats = elim (cases_lt 3900 b) [
 ]
 
 -- a size that is refused has no die
-pub no_die : (bytes : ℕ) (fault : SizeFault) → IsNoSize bytes fault → (p : ℕ) → IsPages p → (g : Geometry) → ¬ IsDieFor p (div_ceil bytes 4096) g
+pub no_die : (bytes : ℕ) (fault : SizeFault) → IsNoSize bytes fault → (p : ℕ) → IsPages p → (g : Geometry) → ¬ IsDieForSectors p (div_ceil bytes 4096) g
 no_die bytes Zero none p known g is =
     let times = div_ceil_times bytes 4096 (omega arith) in
     let some : 1 ≤ div_ceil bytes 4096 = subst (λ n. 1 ≤ n) is.die.sectors_is g.limits.sector_count.least in
@@ -195,13 +195,13 @@ pub shaped : (bytes s p b spare : ℕ) (shape : DiskShape) → s ≡ div_ceil by
 shaped bytes s p b spare shape s_is spare_is its least die cache code =
     let g = shape.geometry in
     let same : p ≡ g.pages = sym die.pages_is in
-    let fewest : (fewer : ℕ) → IsPages fewer → fewer < p → (h : Geometry) → ¬ IsDieFor fewer s h = λ fewer known less h. no_fewer p s fewer h its known less in
+    let fewest : (fewer : ℕ) → IsPages fewer → fewer < p → (h : Geometry) → ¬ IsDieForSectors fewer s h = λ fewer known less h. no_fewer p s fewer h its known less in
     let with_spare : IsDie p (b + div_ceil b 20) s g = subst (λ n. IsDie p (b + n) s g) spare_is die in
-    let die_is : IsDieFor p s g = record { needed = b; least = least; die = with_spare } in
+    let die_is : IsDieForSectors p s g = record { needed = b; least = least; die = with_spare } in
     record {
       pages = subst IsPages same its.known;
-      die = subst (λ n. IsDieFor n (div_ceil bytes 4096) g) same (subst (λ n. IsDieFor p n g) s_is die_is);
-      fewest = subst (λ n. (fewer : ℕ) → IsPages fewer → fewer < n → (h : Geometry) → ¬ IsDieFor fewer (div_ceil bytes 4096) h) same (subst (λ n. (fewer : ℕ) → IsPages fewer → fewer < p → (h : Geometry) → ¬ IsDieFor fewer n h) s_is fewest);
+      die = subst (λ n. IsDieForSectors n (div_ceil bytes 4096) g) same (subst (λ n. IsDieForSectors p n g) s_is die_is);
+      fewest = subst (λ n. (fewer : ℕ) → IsPages fewer → fewer < n → (h : Geometry) → ¬ IsDieForSectors fewer (div_ceil bytes 4096) h) same (subst (λ n. (fewer : ℕ) → IsPages fewer → fewer < p → (h : Geometry) → ¬ IsDieForSectors fewer n h) s_is fewest);
       cache = cache;
       code = code;
     }

@@ -18,14 +18,14 @@ use Rattle.disk_commands.specs.declared.text.DiskCommandFault.{DiskCommandFault}
 use Rattle.disk_commands.specs.declared.text.DiskCommandFault.TheVariants as fault
 use Rattle.disk_commands.specs.declared.words.InfoWords.{InfoWords}
 use Rattle.disk_commands.specs.Damage.{IsLookedAt, IsUnlookedAt}
-use Rattle.disk_commands.specs.Files.{Answers}
+use Rattle.disk_commands.specs.Files.{DiskFileAnswers}
 use Rattle.disk_commands.specs.Info.{lost_lines}
 use Rattle.disk_commands.specs.Told.{IsPrintedInPart, form_of}
 
 -- ---- what is found
 
 -- OF THE DISK AT A PATH: its lost sectors, its bad blocks by the certificate, and of an honest store the rows of its pages that are neither erased nor sound
-pub record IsDamageAt {S : Type 0} (held : S → Held) (honest : S → Bool) (a : Answers) (path : List ℕ) (missing bad unsound : List ℕ) : Type 0 where
+pub record IsDamageAt {S : Type 0} (held : S → Held) (honest : S → Bool) (a : DiskFileAnswers) (path : List ℕ) (missing bad unsound : List ℕ) : Type 0 where
   pub told : DiskText
   pub found : FoundMark
   pub store : S
@@ -42,7 +42,7 @@ unseen lost.OutOfMemory path = fault.OutOfMemory
 unseen lost.Store path = fault.Open path why.Device
 
 -- a page of a disk that was looked at was not loaded, which was counted
-pub record FailsCheck {S : Type 0} (held : S → Held) (honest : S → Bool) (failed : S → ℕ) (a : Answers) (path : List ℕ) : Type 0 where
+pub record FailsCheck {S : Type 0} (held : S → Held) (honest : S → Bool) (failed : S → ℕ) (a : DiskFileAnswers) (path : List ℕ) : Type 0 where
   pub told : DiskText
   pub found : FoundMark
   pub store : S
@@ -52,13 +52,13 @@ pub record FailsCheck {S : Type 0} (held : S → Held) (honest : S → Bool) (fa
   pub left : S
   pub rose : HasRisen (failed store) (failed left)
 
-abbrev pub IsUnseen : {S : Type 0} → (S → Held) → (honest : S → Bool) → (failed : S → ℕ) → Answers → (path : List ℕ) → DiskCommandFault → Type 0
+abbrev pub IsUnseen : {S : Type 0} → (S → Held) → (honest : S → Bool) → (failed : S → ℕ) → DiskFileAnswers → (path : List ℕ) → DiskCommandFault → Type 0
 IsUnseen held honest failed a path (fault.Open at why.Device) = (at.now ≡ path) × FailsCheck held honest failed a path
 IsUnseen held honest failed a path fault.OutOfMemory = Unit {0}
 IsUnseen held honest failed a path _ = ⊥
 
 -- the disk was not looked at, or not all of its pages
-abbrev pub IsUncheckedAt : {S : Type 0} → (S → Held) → (honest : S → Bool) → (failed : S → ℕ) → Answers → (path : List ℕ) → DiskCommandFault → Type 0
+abbrev pub IsUncheckedAt : {S : Type 0} → (S → Held) → (honest : S → Bool) → (failed : S → ℕ) → DiskFileAnswers → (path : List ℕ) → DiskCommandFault → Type 0
 IsUncheckedAt held honest failed a path told = IsUnlookedAt held honest failed a path told ⊎ IsUnseen held honest failed a path told
 
 -- ---- what is told
@@ -70,7 +70,7 @@ damage_text Json missing bad unsound =
     codes "{\"lost\":[" ++ (with_commas missing ++ (codes "],\"bad\":[" ++ (with_commas bad ++ (codes "],\"unsound\":[" ++ (with_commas unsound ++ codes "]}\n")))))
 
 -- ALL WAS LOOKED AT AND TOLD, and so many sectors are lost
-pub record HasChecked {S : Type 0} (held : S → Held) (honest : S → Bool) (a : Answers) (words : InfoWords) (count : ℕ) (before after : Option (List ℕ)) : Type 0 where
+pub record HasChecked {S : Type 0} (held : S → Held) (honest : S → Bool) (a : DiskFileAnswers) (words : InfoWords) (count : ℕ) (before after : Option (List ℕ)) : Type 0 where
   pub missing : List ℕ
   pub bad : List ℕ
   pub unsound : List ℕ
@@ -79,12 +79,12 @@ pub record HasChecked {S : Type 0} (held : S → Held) (honest : S → Bool) (a 
   pub printed : Appends before after (damage_text (form_of words.json) missing bad unsound)
 
 -- so many sectors are lost, which was told with the rest
-abbrev pub FindsLost : {S : Type 0} → (S → Held) → (honest : S → Bool) → Answers → InfoWords → (before after : Option (List ℕ)) → DiskCommandFault → Type 0
+abbrev pub FindsLost : {S : Type 0} → (S → Held) → (honest : S → Bool) → DiskFileAnswers → InfoWords → (before after : Option (List ℕ)) → DiskCommandFault → Type 0
 FindsLost held honest a words before after (fault.Lost at count) = (at ≡ words.disk) × (0 < count) × HasChecked held honest a words count before after
 FindsLost held honest a words before after _ = ⊥
 
 -- it was looked at, and was not printed
-pub record HasNotChecked {S : Type 0} (held : S → Held) (honest : S → Bool) (a : Answers) (words : InfoWords) (before after : Option (List ℕ)) (told : DiskCommandFault) : Type 0 where
+pub record HasNotChecked {S : Type 0} (held : S → Held) (honest : S → Bool) (a : DiskFileAnswers) (words : InfoWords) (before after : Option (List ℕ)) (told : DiskCommandFault) : Type 0 where
   pub missing : List ℕ
   pub bad : List ℕ
   pub unsound : List ℕ
@@ -92,6 +92,6 @@ pub record HasNotChecked {S : Type 0} (held : S → Held) (honest : S → Bool) 
   pub part : IsPrintedInPart (damage_text (form_of words.json) missing bad unsound) before after told
 
 -- why the answer is not that all is there: the disk was not looked at, and nothing was printed; that failed; or sectors are lost
-abbrev pub IsUnclean : {S : Type 0} → (S → Held) → (honest : S → Bool) → (failed : S → ℕ) → Answers → InfoWords → (before after : Option (List ℕ)) → DiskCommandFault → Type 0
+abbrev pub IsUnclean : {S : Type 0} → (S → Held) → (honest : S → Bool) → (failed : S → ℕ) → DiskFileAnswers → InfoWords → (before after : Option (List ℕ)) → DiskCommandFault → Type 0
 IsUnclean held honest failed a words before after told =
     (IsUncheckedAt held honest failed a words.disk.now told × Keeps before after) ⊎ (HasNotChecked held honest a words before after told ⊎ FindsLost held honest a words before after told)

@@ -16,14 +16,14 @@ use Rattle.disk_commands.specs.declared.words.MakeWords.TheVariants as make
 use Rattle.disk_server.specs.declared.opened.OpenStoreFault.TheVariants as open_store
 use Rattle.disk_server.specs.declared.format.CreateFault.{CreateFault}
 use Rattle.disk_server.specs.declared.format.CreateFault.TheVariants as create
-use Rattle.disk_server.specs.Made.{IsMade, IsUnmade}
+use Rattle.disk_server.specs.Made.{IsDiskMade, IsDiskUnmade}
 use Rattle.disk_server.specs.Opened.{IsUnopened}
 use Rattle.disk_commands.specs.declared.text.DiskCommandFault.{DiskCommandFault}
 use Rattle.disk_commands.specs.declared.files.DiskFileFault.TheVariants as file
 use Rattle.disk_commands.specs.declared.text.DiskCommandFault.TheVariants as fault
 use Rattle.disk_commands.specs.BadBlocks.{AreBadAsked, AreNoneAsked, HasMarks, is_copied}
 use Rattle.disk_commands.specs.Asked.{IsNoShapeAsked, IsShapeAsked}
-use Rattle.disk_commands.specs.Files.{Answers, Kept, with_kept}
+use Rattle.disk_commands.specs.Files.{DiskFileAnswers, Kept, with_kept}
 use Rattle.disk_commands.specs.Opening.{IsCopyFault, IsFaultAt, IsNotFree}
 
 -- ---- the die
@@ -33,7 +33,7 @@ pub record IsNewDie (g : Geometry) (bad : List ℕ) (s : Held) : Type 0 where
   pub first : Held
   pub marks : HasMarks g bad first
   pub good : ℕ
-  pub made : IsMade first s good
+  pub made : IsDiskMade first s good
 
 -- A STORE WHOSE PAGES MOUNT with a cache of so many entries; or too many of its sectors are stale for that, and a server makes room. They stay
 pub record Mounts (s : Held) (capacity : ℕ) (t : Held) : Type 0 where
@@ -42,29 +42,29 @@ pub record Mounts (s : Held) (capacity : ℕ) (t : Held) : Type 0 where
   pub mounts : ((c : Claim) × IsMounted s.geometry capacity s.pages c) ⊎ ((stale asked : ℕ) × Refuses s.geometry capacity s.pages (TooStale stale asked))
 
 -- the pages of a dump are such
-pub record IsDieOf (a : Answers) (dump : List ℕ) (shape : DiskShape) (s : Held) : Type 0 where
+pub record IsDieOf (a : DiskFileAnswers) (dump : List ℕ) (shape : DiskShape) (s : Held) : Type 0 where
   pub first : Held
   pub holds : a.holds dump first
   pub geometry : first.geometry ≡ shape.geometry
   pub mounts : Mounts first shape.cache s
 
 -- what was asked for
-abbrev pub IsDieFor : Answers → MakeWords → DiskShape → (bad : List ℕ) → Held → Type 0
-IsDieFor a (make.Size word) shape bad s = IsNewDie shape.geometry bad s
-IsDieFor a (make.Geometry word) shape bad s = IsNewDie shape.geometry bad s
-IsDieFor a (make.Dump word from) shape bad s = IsDieOf a from.now shape s
+abbrev pub IsDieAskedFor : DiskFileAnswers → MakeWords → DiskShape → (bad : List ℕ) → Held → Type 0
+IsDieAskedFor a (make.Size word) shape bad s = IsNewDie shape.geometry bad s
+IsDieAskedFor a (make.Geometry word) shape bad s = IsNewDie shape.geometry bad s
+IsDieAskedFor a (make.Dump word from) shape bad s = IsDieOf a from.now shape s
 
 -- ---- the disk
 
 -- THE DISK AT A PATH: its die is what was asked for, and the text beside it tells its shape
-pub record HasCreated {S : Type 0} (held : S → Held) (honest : S → Bool) (a : Answers) (words : CreateWords) (before after : Option (List Kept)) : Type 0 where
+pub record HasCreated {S : Type 0} (held : S → Held) (honest : S → Bool) (a : DiskFileAnswers) (words : CreateWords) (before after : Option (List Kept)) : Type 0 where
   pub shape : DiskShape
   pub asked : IsShapeAsked words shape
   pub bad : List ℕ
   pub bad_asked : AreBadAsked (is_copied words.make) words.bad shape.geometry bad
   pub free : a.says_there words.disk.now false
   pub store : S
-  pub die : honest store ≡ true → IsDieFor a words.make shape bad (held store)
+  pub die : honest store ≡ true → IsDieAskedFor a words.make shape bad (held store)
   pub is_honest : honest store ≡ a.honest
   pub kept : after ≡ with_kept before (record { path = words.disk.now; held = held store; text = shape_text shape })
 
@@ -76,36 +76,36 @@ unformatted path (create.Open open_store.OutOfMemory) = fault.OutOfMemory
 unformatted path why = fault.Create path why
 
 -- the blocks that are bad from the start were not marked: a put failed
-abbrev pub IsUnmarked : {S : Type 0} → (S → Held) → (honest : S → Bool) → (failed : S → ℕ) → Answers → Geometry → (bad : List ℕ) → Type 0
+abbrev pub IsUnmarked : {S : Type 0} → (S → Held) → (honest : S → Bool) → (failed : S → ℕ) → DiskFileAnswers → Geometry → (bad : List ℕ) → Type 0
 IsUnmarked {S} held honest failed a g bad =
     (0 < length bad) × ((store left : S) × (honest store ≡ a.honest) × (honest store ≡ true → held store ≡ blank g) × HasRisen (failed store) (failed left))
 
 -- erased pages were not marked or not formatted
-abbrev pub IsUnformatted : {S : Type 0} → (S → Held) → (honest : S → Bool) → (failed : S → ℕ) → Answers → (path : List ℕ) → Geometry → (bad : List ℕ) → DiskCommandFault → Type 0
+abbrev pub IsUnformatted : {S : Type 0} → (S → Held) → (honest : S → Bool) → (failed : S → ℕ) → DiskFileAnswers → (path : List ℕ) → Geometry → (bad : List ℕ) → DiskCommandFault → Type 0
 IsUnformatted {S} held honest failed a path g bad (fault.Create told why) =
-    (told.now ≡ path) × ((store given : S) × (honest store ≡ a.honest) × (honest store ≡ true → HasMarks g bad (held store)) × IsUnmade held honest failed store given why)
+    (told.now ≡ path) × ((store given : S) × (honest store ≡ a.honest) × (honest store ≡ true → HasMarks g bad (held store)) × IsDiskUnmade held honest failed store given why)
 IsUnformatted held honest failed a path g bad (fault.Write told) = (told.now ≡ path) × (a.fails path file.Write ⊎ IsUnmarked held honest failed a g bad)
 IsUnformatted held honest failed a path g bad fault.OutOfMemory = Unit {0}
 IsUnformatted held honest failed a path g bad told = IsFaultAt a path 0 told
 
 -- a dump was not copied, or is no die with a device on it
-abbrev pub IsNoDump : {S : Type 0} → (S → Held) → (honest : S → Bool) → (failed : S → ℕ) → Answers → (path dump : List ℕ) → DiskShape → DiskCommandFault → Type 0
+abbrev pub IsNoDump : {S : Type 0} → (S → Held) → (honest : S → Bool) → (failed : S → ℕ) → DiskFileAnswers → (path dump : List ℕ) → DiskShape → DiskCommandFault → Type 0
 IsNoDump {S} held honest failed a path dump shape (fault.Open told why) =
     (told.now ≡ dump) × ((store given : S) × a.holds dump (held store) × ((held store).geometry ≡ shape.geometry) × IsUnopened held honest failed store shape.cache given why)
 IsNoDump held honest failed a path dump shape told = IsCopyFault a path dump (row_count shape.geometry * page_bytes shape.geometry) told
 
-abbrev pub IsUnmadeFor : {S : Type 0} → (S → Held) → (honest : S → Bool) → (failed : S → ℕ) → Answers → (path : List ℕ) → MakeWords → DiskShape → (bad : List ℕ) → DiskCommandFault → Type 0
+abbrev pub IsUnmadeFor : {S : Type 0} → (S → Held) → (honest : S → Bool) → (failed : S → ℕ) → DiskFileAnswers → (path : List ℕ) → MakeWords → DiskShape → (bad : List ℕ) → DiskCommandFault → Type 0
 IsUnmadeFor held honest failed a path (make.Size word) shape bad told = IsUnformatted held honest failed a path shape.geometry bad told
 IsUnmadeFor held honest failed a path (make.Geometry word) shape bad told = IsUnformatted held honest failed a path shape.geometry bad told
 IsUnmadeFor held honest failed a path (make.Dump word from) shape bad told = IsNoDump held honest failed a path from.now shape told
 
 -- the die was not put in its place, or memory for the text was refused
-abbrev pub IsUnkept : Answers → (path : List ℕ) → DiskCommandFault → Type 0
+abbrev pub IsUnkept : DiskFileAnswers → (path : List ℕ) → DiskCommandFault → Type 0
 IsUnkept a path fault.OutOfMemory = Unit {0}
 IsUnkept a path told = IsFaultAt a path 0 told
 
 -- the first of this order: no shape was asked for, or no bad blocks of it, something stands there, the die was not made, it was not put in its place
-abbrev pub IsUncreated : {S : Type 0} → (S → Held) → (honest : S → Bool) → (failed : S → ℕ) → Answers → CreateWords → DiskCommandFault → Type 0
+abbrev pub IsUncreated : {S : Type 0} → (S → Held) → (honest : S → Bool) → (failed : S → ℕ) → DiskFileAnswers → CreateWords → DiskCommandFault → Type 0
 IsUncreated held honest failed a words told =
     IsNoShapeAsked words told
     ⊎ ((shape : DiskShape) × IsShapeAsked words shape × (AreNoneAsked (is_copied words.make) words.bad shape.geometry told

@@ -20,18 +20,18 @@ use Rattle.disk_commands.specs.declared.mark.FoundMark.{FoundMark}
 use Rattle.disk_commands.specs.declared.shape_text.DiskText.{DiskText}
 use Rattle.disk_commands.specs.declared.text.DiskCommandFault.{DiskCommandFault}
 use Rattle.disk_commands.specs.declared.text.DiskCommandFault.TheVariants as fault
-use Rattle.disk_commands.specs.Files.{Answers}
+use Rattle.disk_commands.specs.Files.{DiskFileAnswers}
 use Rattle.disk_commands.specs.Info.{lost_lines, mended_lines}
 use Rattle.disk_commands.specs.Opening.{IsMarkAt, IsNotAt, IsStoreAt, IsTextAt}
 
 -- ---- the list beside a disk
 
 -- by whether its shape says that one stands there: what its file says of each sector; else none is lost
-abbrev pub IsListBy : (listed : Bool) → Answers → (path : List ℕ) → (sectors : ℕ) → List Bool → Type 0
+abbrev pub IsListBy : (listed : Bool) → DiskFileAnswers → (path : List ℕ) → (sectors : ℕ) → List Bool → Type 0
 IsListBy false a path sectors lost = lost ≡ replicate sectors false
 IsListBy true a path sectors lost = (text : List ℕ) × a.lists path text × IsListText text sectors lost
 
-abbrev pub IsListAt : Answers → (path : List ℕ) → DiskText → List Bool → Type 0
+abbrev pub IsListAt : DiskFileAnswers → (path : List ℕ) → DiskText → List Bool → Type 0
 IsListAt a path told lost = IsListBy told.lost a path told.shape.geometry.sectors lost
 
 -- how it is told that it could not be read, or is none
@@ -44,7 +44,7 @@ no_list listing.OutOfMemory path = fault.OutOfMemory
 no_list why path = fault.List path why
 
 -- WHY THERE IS NONE, where one is to stand there: its file could not be read, or is no list of so many sectors; or a growth was refused
-abbrev pub IsNoListAt : Answers → (path : List ℕ) → DiskText → DiskCommandFault → Type 0
+abbrev pub IsNoListAt : DiskFileAnswers → (path : List ℕ) → DiskText → DiskCommandFault → Type 0
 IsNoListAt a path told (fault.List at why) = (told.lost ≡ true) × (at.now ≡ path) × ((text : List ℕ) × a.lists path text × IsNoList text told.shape.geometry.sectors why)
 IsNoListAt a path told (fault.ReadList at) = (told.lost ≡ true) × (at.now ≡ path) × ((why : DiskFileFault) × a.fails path why × (why ≢ file.OutOfMemory))
 IsNoListAt a path told fault.OutOfMemory = Unit {0}
@@ -53,7 +53,7 @@ IsNoListAt a path told _ = ⊥
 -- ---- the disk
 
 -- A DISK THAT WAS LOOKED AT: the store at the path came back of a mount with its certificate. Lost are the sectors on the list beside the disk, and those of the store's pages at the mark
-pub record IsLookedAt {S : Type 0} (held : S → Held) (honest : S → Bool) (a : Answers) (path : List ℕ) (told : DiskText) (found : FoundMark) (store : S) (certificate : Claim) (lost : List Bool) : Type 0 where
+pub record IsLookedAt {S : Type 0} (held : S → Held) (honest : S → Bool) (a : DiskFileAnswers) (path : List ℕ) (told : DiskText) (found : FoundMark) (store : S) (certificate : Claim) (lost : List Bool) : Type 0 where
   pub first : S
   pub at : IsStoreAt held honest a path told first
   pub mark : IsMarkAt a path told.marked found
@@ -65,7 +65,7 @@ pub record IsLookedAt {S : Type 0} (held : S → Held) (honest : S → Bool) (a 
   pub kept : DropsNone list lost
 
 -- the store at the path was not mounted, or its lost sectors were not found
-abbrev pub IsNoneFound : {S : Type 0} → (S → Held) → (honest : S → Bool) → (failed : S → ℕ) → Answers → (path : List ℕ) → DiskCommandFault → Type 0
+abbrev pub IsNoneFound : {S : Type 0} → (S → Held) → (honest : S → Bool) → (failed : S → ℕ) → DiskFileAnswers → (path : List ℕ) → DiskCommandFault → Type 0
 IsNoneFound {S} held honest failed a path (fault.Open at why) = (at.now ≡ path) × ((told : DiskText) × (store : S) × IsStoreAt held honest a path told store × IsUnfound held honest failed store why)
 IsNoneFound held honest failed a path _ = ⊥
 
@@ -75,7 +75,7 @@ IsOutOfMemory fault.OutOfMemory = Unit {0}
 IsOutOfMemory _ = ⊥
 
 -- why it was not: the disk was not opened, or its mark not read; its list was not read; its store was not mounted; or a growth was refused
-abbrev pub IsUnlookedAt : {S : Type 0} → (S → Held) → (honest : S → Bool) → (failed : S → ℕ) → Answers → (path : List ℕ) → DiskCommandFault → Type 0
+abbrev pub IsUnlookedAt : {S : Type 0} → (S → Held) → (honest : S → Bool) → (failed : S → ℕ) → DiskFileAnswers → (path : List ℕ) → DiskCommandFault → Type 0
 IsUnlookedAt held honest failed a path why =
     IsNotAt a path why
     ⊎ (IsOutOfMemory why

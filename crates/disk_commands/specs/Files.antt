@@ -7,7 +7,7 @@ use Rattle.disk_commands.specs.declared.files.DiskFileFault.{DiskFileFault}
 use Rattle.disk_commands.specs.declared.files.DiskFileFault.TheVariants as file
 
 -- what the files may answer, by the paths as written
-pub record Answers : Type 1 where
+pub record DiskFileAnswers : Type 1 where
   -- whether something stands at the path of a disk, or beside it where its shape is told
   pub says_there : List ℕ → Bool → Type 0
   -- the bytes of the file that tells the shape of the disk at a path
@@ -24,7 +24,7 @@ pub record Answers : Type 1 where
   pub honest : Bool
 
 -- files of which nothing is known
-abbrev pub unknown : Answers
+abbrev pub unknown : DiskFileAnswers
 unknown = record {
   says_there = λ path yes. Unit {0};
   tells = λ path text. Unit {0};
@@ -36,24 +36,24 @@ unknown = record {
 }
 
 -- a call may fail in no new way
-abbrev pub FailsNoMore : Answers → Answers → Type 0
+abbrev pub FailsNoMore : DiskFileAnswers → DiskFileAnswers → Type 0
 FailsNoMore old new = (path : List ℕ) (fault : DiskFileFault) → new.fails path fault → old.fails path fault
 
 -- nor tell another mark, or another list
-pub record SaysNoMore (old new : Answers) : Type 0 where
+pub record SaysNoMore (old new : DiskFileAnswers) : Type 0 where
   pub marks : (path : List ℕ) (text : Option (List ℕ)) → new.marks path text → old.marks path text
   pub lists : (path text : List ℕ) → new.lists path text → old.lists path text
   pub fails : FailsNoMore old new
 
 -- nor anything else
-pub record AnswersNoMore (old new : Answers) : Type 0 where
+pub record AnswersNoMore (old new : DiskFileAnswers) : Type 0 where
   pub tells : (path text : List ℕ) → new.tells path text → old.tells path text
   pub holds : (path : List ℕ) (held : Held) → new.holds path held → old.holds path held
   pub honest : new.honest ≡ old.honest
   pub says : SaysNoMore old new
 
 -- how a copy of a dump may fail that is made beside a path: for the dump, or for what is made
-abbrev pub FailsCopy : Answers → (path dump : List ℕ) → DiskFileFault → Type 0
+abbrev pub FailsCopy : DiskFileAnswers → (path dump : List ℕ) → DiskFileFault → Type 0
 FailsCopy a path dump file.Read = a.fails dump file.Read
 FailsCopy a path dump (file.Length bytes) = a.fails dump (file.Length bytes)
 FailsCopy a path dump file.Write = a.fails path file.Write
@@ -79,13 +79,13 @@ abbrev pub with_mark : Option (List Opened) → (path : List ℕ) → Option (Li
 with_mark opened path = option_map (λ known. known ++ (record { path = path; mark = true; writes = true; wait = 0 } ∷ [])) opened
 
 -- this one was to be opened, once
-abbrev pub Opens : (path : List ℕ) → Access → (before after : Option (List Opened)) → Type 0
-Opens path access before after = after ≡ with_opened before path access
+abbrev pub OpensOnce : (path : List ℕ) → Access → (before after : Option (List Opened)) → Type 0
+OpensOnce path access before after = after ≡ with_opened before path access
 
 -- and where it is to be written, its mark behind it, or not
 abbrev pub OpensMarkedIf : (writes : Bool) → (path : List ℕ) → Access → (before after : Option (List Opened)) → Type 0
-OpensMarkedIf true path access before after = Opens path access before after ⊎ (after ≡ with_mark (with_opened before path access) path)
-OpensMarkedIf false path access before after = Opens path access before after
+OpensMarkedIf true path access before after = OpensOnce path access before after ⊎ (after ≡ with_mark (with_opened before path access) path)
+OpensMarkedIf false path access before after = OpensOnce path access before after
 
 abbrev pub OpensMarked : (path : List ℕ) → Access → (before after : Option (List Opened)) → Type 0
 OpensMarked path access before after = OpensMarkedIf access.writes path access before after

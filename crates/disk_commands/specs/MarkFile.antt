@@ -1,6 +1,6 @@
 -- THE FILES OF A DISK AS IT IS SYNCED: that of its die, and that of its mark, where one is kept.
 use Rattle.std.specs.Prelude.{◌≡◌, ◌⊎◌, ℕ, Bool, true, false, not, if◌then◌else◌, List, length, replicate, slice_set, Option, Some, None}
-use Rattle.file_die.specs.Bytes.{Bytes, Settles}
+use Rattle.file_die.specs.Bytes.{Bytes, SyncsBytes}
 use Rattle.file_die.specs.Rows.{WritesAll}
 use Rattle.disk_server.specs.declared.mark.SyncMark.{SyncMark}
 use Rattle.disk_commands.specs.declared.mark_file.MarkFile.{MarkFile}
@@ -19,8 +19,8 @@ WritesSlot s second m done t = WritesAll s (slot_at second) (slot_text m) done t
 
 -- THE FIRST MARK since the file was opened: it is written over the slot that is next, and then made to last; or one of the two failed
 abbrev pub BeginsMark : Bytes → (second : Bool) → SyncMark → (done : Bool) → Bytes → Type 0
-BeginsMark s second m true t = (mid : Bytes) × WritesSlot s second m true mid × Settles mid true t
-BeginsMark s second m false t = WritesSlot s second m false t ⊎ ((mid : Bytes) × WritesSlot s second m true mid × Settles mid false t)
+BeginsMark s second m true t = (mid : Bytes) × WritesSlot s second m true mid × SyncsBytes mid true t
+BeginsMark s second m false t = WritesSlot s second m false t ⊎ ((mid : Bytes) × WritesSlot s second m true mid × SyncsBytes mid false t)
 
 -- A MARK IS KEPT: it is written over the slot that is next. The first one lasts there before it is written over the other slot too
 abbrev pub KeepsMark : (fresh : Bool) → Bytes → (second : Bool) → SyncMark → (done : Bool) → Bytes → Type 0
@@ -44,24 +44,24 @@ blank_file = slice_set (slice_set (replicate file_length 0) 0 1) second_at 1
 
 -- it was written and made to last
 abbrev pub HasPutBlank : Bytes → Bytes → Type 0
-HasPutBlank s t = (mid : Bytes) × WritesAll s 0 blank_file true mid × Settles mid true t
+HasPutBlank s t = (mid : Bytes) × WritesAll s 0 blank_file true mid × SyncsBytes mid true t
 
 -- ---- both files
 
 -- THE MARK IS KEPT WHERE THERE IS A FILE OF IT. One that could not be written is the last that is tried: its slot may be torn, and the other one counts. That is a failure where it was the first
-abbrev pub KeepsIfAny : {F : Type 0} → (held : F → Bytes) → (honest : F → Bool) → Option (MarkFile F) → SyncMark → (done : Bool) → Option (MarkFile F) → Type 0
-KeepsIfAny held honest None m done left = (done ≡ true) × (left ≡ None)
-KeepsIfAny {F} held honest (Some file) m done None = (done ≡ not file.fresh) × (broken : MarkFile F) × KeepsIn held honest file m false broken
-KeepsIfAny held honest (Some file) m done (Some left) = (done ≡ true) × KeepsIn held honest file m true left
+abbrev pub KeepsMarkIfAny : {F : Type 0} → (held : F → Bytes) → (honest : F → Bool) → Option (MarkFile F) → SyncMark → (done : Bool) → Option (MarkFile F) → Type 0
+KeepsMarkIfAny held honest None m done left = (done ≡ true) × (left ≡ None)
+KeepsMarkIfAny {F} held honest (Some file) m done None = (done ≡ not file.fresh) × (broken : MarkFile F) × KeepsIn held honest file m false broken
+KeepsMarkIfAny held honest (Some file) m done (Some left) = (done ≡ true) × KeepsIn held honest file m true left
 
 -- by whether the die's file was synced: where it was not, the file of the mark is left alone
 abbrev pub KeepsAfter : {F : Type 0} → (synced : Bool) → (held : F → Bytes) → (honest : F → Bool) → Option (MarkFile F) → SyncMark → (done : Bool) → Option (MarkFile F) → Type 0
-KeepsAfter true held honest kept m done left = KeepsIfAny held honest kept m done left
+KeepsAfter true held honest kept m done left = KeepsMarkIfAny held honest kept m done left
 KeepsAfter false held honest kept m done left = (done ≡ false) × (left ≡ kept)
 
 -- A SYNC OF A DISK'S FILES: the die's is synced, and once that is done the mark is kept
 pub record SettlesFiles {F : Type 0} (held : F → Bytes) (honest : F → Bool) (old : FileSyncs F) (m : SyncMark) (done : Bool) (new : FileSyncs F) : Type 0 where
   pub synced : Bool
-  pub die : honest old.die ≡ true → Settles (held old.die) synced (held new.die)
+  pub die : honest old.die ≡ true → SyncsBytes (held old.die) synced (held new.die)
   pub as_honest : honest new.die ≡ honest old.die
   pub mark : KeepsAfter synced held honest old.kept m done new.kept

@@ -17,7 +17,7 @@ use Rattle.disk_commands.specs.declared.files.DiskFileFault.{DiskFileFault}
 use Rattle.disk_commands.specs.declared.files.DiskFileFault.TheVariants as file
 use Rattle.disk_commands.specs.declared.text.DiskCommandFault.{DiskCommandFault}
 use Rattle.disk_commands.specs.declared.text.DiskCommandFault.TheVariants as fault
-use Rattle.disk_commands.specs.Files.{Answers}
+use Rattle.disk_commands.specs.Files.{DiskFileAnswers}
 
 -- ---- its bytes
 
@@ -50,7 +50,7 @@ told_of_copy (file.Length found) path dump wanted = fault.Length dump found want
 told_of_copy file.OutOfMemory path dump wanted = fault.OutOfMemory
 
 -- a call that names this path failed, and that is told of the path
-abbrev pub IsFaultAt : Answers → (path : List ℕ) → (wanted : ℕ) → DiskCommandFault → Type 0
+abbrev pub IsFaultAt : DiskFileAnswers → (path : List ℕ) → (wanted : ℕ) → DiskCommandFault → Type 0
 IsFaultAt a path wanted (fault.Read told) = (told.now ≡ path) × a.fails path file.Read
 IsFaultAt a path wanted (fault.Write told) = (told.now ≡ path) × a.fails path file.Write
 IsFaultAt a path wanted (fault.InUse told) = (told.now ≡ path) × a.fails path file.InUse
@@ -60,49 +60,49 @@ IsFaultAt a path wanted fault.OutOfMemory = a.fails path file.OutOfMemory
 IsFaultAt a path wanted _ = ⊥
 
 -- a copy failed, for the dump or for what was made
-abbrev pub IsCopyFault : Answers → (path dump : List ℕ) → (wanted : ℕ) → DiskCommandFault → Type 0
+abbrev pub IsCopyFault : DiskFileAnswers → (path dump : List ℕ) → (wanted : ℕ) → DiskCommandFault → Type 0
 IsCopyFault a path dump wanted told = IsFaultAt a dump wanted told ⊎ IsFaultAt a path wanted told
 
 -- something stands at the path, or they could not be asked
-abbrev pub IsNotFree : Answers → List ℕ → DiskCommandFault → Type 0
+abbrev pub IsNotFree : DiskFileAnswers → List ℕ → DiskCommandFault → Type 0
 IsNotFree a path (fault.Exists told) = (told.now ≡ path) × (a.says_there path true ⊎ a.fails path file.Exists)
 IsNotFree a path told = IsFaultAt a path 0 told
 
 -- ---- its shape
 
 -- the file beside the disk tells it
-pub record IsTextAt (a : Answers) (path : List ℕ) (told : DiskText) : Type 0 where
+pub record IsTextAt (a : DiskFileAnswers) (path : List ℕ) (told : DiskText) : Type 0 where
   pub text : List ℕ
   pub tells : a.tells path text
   pub says : IsShapeText text told
 
 -- the die was not locked, that file could not be read, or it tells none
-abbrev pub IsShapeFault : Answers → List ℕ → DiskCommandFault → Type 0
+abbrev pub IsShapeFault : DiskFileAnswers → List ℕ → DiskCommandFault → Type 0
 IsShapeFault a path (fault.Shape told why) = (told.now ≡ path) × ((text : List ℕ) × a.tells path text × IsNoShape text why)
 IsShapeFault a path told = IsFaultAt a path 0 told
 
 -- ---- its mark
 
 -- WHAT IS FOUND OF THE MARK beside a disk, where one counts: what its file tells
-abbrev pub IsMarkAt : Answers → (path : List ℕ) → (marked : Bool) → FoundMark → Type 0
+abbrev pub IsMarkAt : DiskFileAnswers → (path : List ℕ) → (marked : Bool) → FoundMark → Type 0
 IsMarkAt a path true found = (text : Option (List ℕ)) × a.marks path text × IsMarkRead text found
 IsMarkAt a path false found = found ≡ none_found
 
 -- ---- its die
 
 -- THE STORE OF THE DISK AT A PATH: it holds what the file of the path does, with the geometry of the shape that is told beside it
-pub record IsStoreAt {S : Type 0} (held : S → Held) (honest : S → Bool) (a : Answers) (path : List ℕ) (told : DiskText) (store : S) : Type 0 where
+pub record IsStoreAt {S : Type 0} (held : S → Held) (honest : S → Bool) (a : DiskFileAnswers) (path : List ℕ) (told : DiskText) (store : S) : Type 0 where
   pub text : IsTextAt a path told
   pub holds : a.holds path (held store)
   pub geometry : (held store).geometry ≡ told.shape.geometry
   pub is_honest : honest store ≡ a.honest
 
 -- the file of the die was not opened: it has another number of bytes than the pages of the shape, or it failed
-abbrev pub IsNoFile : Answers → List ℕ → DiskCommandFault → Type 0
+abbrev pub IsNoFile : DiskFileAnswers → List ℕ → DiskCommandFault → Type 0
 IsNoFile a path told = (text : DiskText) × IsTextAt a path text × IsFaultAt a path (file_bytes text.shape) told
 
 -- the files of the disk at a path were not opened: for its lock or its shape, or for its die
-abbrev pub IsNotAt : Answers → List ℕ → DiskCommandFault → Type 0
+abbrev pub IsNotAt : DiskFileAnswers → List ℕ → DiskCommandFault → Type 0
 IsNotAt a path told = IsShapeFault a path told ⊎ IsNoFile a path told
 
 -- ---- a disk that is to be written
@@ -113,5 +113,5 @@ IsUnmarkedAt {Y} missed path (fault.Device told) = (told.now ≡ path) × ((old 
 IsUnmarkedAt missed path _ = ⊥
 
 -- or its file was not opened or made
-abbrev pub IsUnkeptAt : {Y : Type 0} → (missed : Y → ℕ) → Answers → List ℕ → DiskCommandFault → Type 0
+abbrev pub IsUnkeptAt : {Y : Type 0} → (missed : Y → ℕ) → DiskFileAnswers → List ℕ → DiskCommandFault → Type 0
 IsUnkeptAt missed a path told = IsFaultAt a path 0 told ⊎ IsUnmarkedAt missed path told

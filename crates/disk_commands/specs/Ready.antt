@@ -26,10 +26,10 @@ use Rattle.disk_commands.specs.declared.words.DiskServeWords.{DiskServeWords}
 use Rattle.disk_commands.specs.declared.text.DiskCommandFault.TheVariants as fault
 use Rattle.disk_commands.specs.Anew.{most_stale}
 use Rattle.disk_commands.specs.Damage.{IsLookedAt, IsUnlookedAt}
-use Rattle.disk_commands.specs.Files.{Answers, Opened, with_mark}
+use Rattle.disk_commands.specs.Files.{DiskFileAnswers, Opened, with_mark}
 use Rattle.disk_commands.specs.Guard.{IsUnlistedAt}
 use Rattle.disk_commands.specs.Opening.{IsUnkeptAt}
-use Rattle.disk_commands.specs.Told.{IsUnprinted}
+use Rattle.disk_commands.specs.Told.{HasPrintingFailed}
 
 -- ---- what the words ask for
 
@@ -76,7 +76,7 @@ IsNoneOf held honest failed kept unlisted path read_only told found store lost p
 IsNoneOf held honest failed kept unlisted path read_only told found store lost place left _ = ⊥
 
 -- its mark was not kept, where it was to be written
-abbrev pub IsUnkeptBy : {Y : Type 0} → (read_only : Bool) → (missed : Y → ℕ) → Answers → (path : List ℕ) → DiskCommandFault → Type 0
+abbrev pub IsUnkeptBy : {Y : Type 0} → (read_only : Bool) → (missed : Y → ℕ) → DiskFileAnswers → (path : List ℕ) → DiskCommandFault → Type 0
 IsUnkeptBy true missed a path why = ⊥
 IsUnkeptBy false missed a path why = IsUnkeptAt missed a path why
 
@@ -89,7 +89,7 @@ MarksBy false path before after = after ≡ before
 
 -- THE DISK AT A PATH, whose lost sectors are guarded: those of the list beside it and of the pages of its store, as it was looked at; that store tells what was wrong with its pages. Where it is to be written, and any is lost, their list lasts;
 -- else none was kept, for at the place of the list none was before. The device of the store is there, and is opened anew with a cache that has room for all that may be stale
-pub record IsReadyAt {S Y K : Type 0} (held : S → Held) (honest : S → Bool) (mended_in : S → Mended) (marked : Y → SyncMark) (kept : K → List Bool) (a : Answers) (path : List ℕ) (read_only always : Bool) (told : DiskText) (mended : Mended)
+pub record IsReadyAt {S Y K : Type 0} (held : S → Held) (honest : S → Bool) (mended_in : S → Mended) (marked : Y → SyncMark) (kept : K → List Bool) (a : DiskFileAnswers) (path : List ℕ) (read_only always : Bool) (told : DiskText) (mended : Mended)
     (disk : GuardedSectors (Reopened S) K) (syncs : Y) : Type 0 where
   pub found : FoundMark
   pub store : S
@@ -108,7 +108,7 @@ pub record IsReadyAt {S Y K : Type 0} (held : S → Held) (honest : S → Bool) 
   pub lasts : KeepsBy read_only kept disk.lost.items place disk.keeper
 
 -- a disk that was looked at was not opened, or its mark not kept
-pub record IsNotOpened {S Y K : Type 0} (held : S → Held) (honest : S → Bool) (failed : S → ℕ) (missed : Y → ℕ) (kept : K → List Bool) (unlisted : K → ℕ) (a : Answers) (path : List ℕ) (read_only : Bool) (why : DiskCommandFault)
+pub record IsNotOpened {S Y K : Type 0} (held : S → Held) (honest : S → Bool) (failed : S → ℕ) (missed : Y → ℕ) (kept : K → List Bool) (unlisted : K → ℕ) (a : DiskFileAnswers) (path : List ℕ) (read_only : Bool) (why : DiskCommandFault)
     : Type 0 where
   pub told : DiskText
   pub found : FoundMark
@@ -122,10 +122,10 @@ pub record IsNotOpened {S Y K : Type 0} (held : S → Held) (honest : S → Bool
   pub unopened : IsNoneOf held honest failed kept unlisted path read_only told found store lost place left why ⊎ IsUnkeptBy read_only missed a path why
 
 -- why it is not ready: it was not looked at, there is no place for the list of its lost sectors, it was not opened, or they were not named
-abbrev pub IsUnreadyAt : {S Y K : Type 0} → (S → Held) → (honest : S → Bool) → (failed : S → ℕ) → (missed : Y → ℕ) → (kept : K → List Bool) → (unlisted : K → ℕ) → Answers → (path : List ℕ) → (read_only : Bool) → DiskCommandFault
+abbrev pub IsUnreadyAt : {S Y K : Type 0} → (S → Held) → (honest : S → Bool) → (failed : S → ℕ) → (missed : Y → ℕ) → (kept : K → List Bool) → (unlisted : K → ℕ) → DiskFileAnswers → (path : List ℕ) → (read_only : Bool) → DiskCommandFault
     → Type 0
 IsUnreadyAt held honest failed missed kept unlisted a path read_only why =
     IsUnlookedAt held honest failed a path why
     ⊎ (IsUnlistedAt a path why
     ⊎ (IsNotOpened held honest failed missed kept unlisted a path read_only why
-    ⊎ IsUnprinted why))
+    ⊎ HasPrintingFailed why))

@@ -14,7 +14,7 @@ use Rattle.nbd_stream.specs.declared.request.StreamEnd.{StreamEnd}
 use Rattle.nbd_stream.specs.declared.request.StreamEnd.TheVariants as end
 use Rattle.nbd_stream.specs.declared.task.Task.{Task}
 use Rattle.nbd_stream.specs.declared.task.Task.TheVariants.{Flush}
-use Rattle.nbd_stream.specs.Disk.{Contents, Performs, answer_from}
+use Rattle.nbd_stream.specs.Disk.{Contents, PerformsTask, answer_from}
 use Rattle.nbd_stream.specs.Transmission.{Serves}
 use Rattle.disk_commands.specs.declared.serve.Terms.{Terms}
 use Rattle.disk_commands.specs.declared.shapes.DiskShape.{DiskShape}
@@ -25,14 +25,15 @@ use Rattle.disk_server.specs.declared.synced.SyncPace.{SyncPace}
 use Rattle.disk_server.specs.declared.mark.SyncMark.{SyncMark}
 use Rattle.disk_server.specs.Synced.{Closes, RestsSynced, SyncsTask, export_of}
 use Rattle.disk_server.specs.Reading.{OnlyAsksReads, RestsNever}
+use Rattle.nbd_stream.specs.Streams.{HasStopped}
 use Rattle.nbd_stream.specs.Through.{Through}
 use Rattle.disk_commands.specs.declared.text.DiskCommandFault.{DiskCommandFault}
 use Rattle.disk_commands.specs.declared.text.DiskCommandFault.TheVariants as fault
-use Rattle.disk_commands.specs.Files.{Answers}
+use Rattle.disk_commands.specs.Files.{DiskFileAnswers}
 use Rattle.disk_commands.specs.declared.shape_text.DiskText.{DiskText}
 use Rattle.disk_commands.specs.Damage.{NamesAll}
 use Rattle.disk_commands.specs.Ready.{IsReadyAt, IsUnreadyAt}
-use Rattle.disk_commands.specs.Told.{IsUnprinted}
+use Rattle.disk_commands.specs.Told.{HasPrintingFailed}
 use Rattle.disk_server.specs.declared.guarded.GuardedSectors.{GuardedSectors}
 use Rattle.disk_server.specs.Guarded.{PassesOn, ReadsGuarded, shown}
 
@@ -64,17 +65,21 @@ end_of (Ok end.Unfinished) = Ok tt
 end_of (Ok end.BadFrame) = Err fault.BadFrame
 end_of (Err e) = Err fault.Stream
 
+-- WHERE IT IS TOLD THAT A STREAM FAILED the last call of the client's input or output failed, or as many requests were read as can be counted
+abbrev pub StreamStops : {I O : Type 0} → (reads : I → I → Type 0) → (writes : O → O → Type 0) → (unread left : Option (List ℕ)) → I → O → Result (Unit {0}) DiskCommandFault → Type 0
+StreamStops reads writes unread left input out result = result ≡ Err fault.Stream → (e : ServeFault) × HasStopped reads writes unread left input out e
+
 -- but a disk that was not closed is told first
 abbrev pub told_at_end : Result (Unit {0}) NbdFault → Bor (List ℕ) → Result StreamEnd ServeFault → Result (Unit {0}) DiskCommandFault
 told_at_end (Ok done) path answer = end_of answer
 told_at_end (Err e) path answer = Err (fault.Device path)
 
 -- THE DISK IS CLOSED as its session ends: it is flushed, as the device says, and that synced and marked; unless its mark, where one counts, says that all of it is
-pub record IsClosed {D Y : Type 0} (contents : D → Contents) (honest : D → Bool) (does : D → Task → Result (Unit {0}) NbdFault → D → Type 0) (next : D → ℕ) (takes : D → Bool)
+pub record IsDiskClosed {D Y : Type 0} (contents : D → Contents) (honest : D → Bool) (does : D → Task → Result (Unit {0}) NbdFault → D → Type 0) (next : D → ℕ) (takes : D → Bool)
     (synced failed : Y → ℕ) (marked : Y → SyncMark) (counts : Bool) (path : Bor (List ℕ)) (last : SyncedDisk D Y) (answer : Result StreamEnd ServeFault) (result : Result (Unit {0}) DiskCommandFault) : Type 0 where
   pub done : Result (Unit {0}) NbdFault
   pub left : SyncedDisk D Y
-  pub performs : Performs (λ s. contents s.disk) (λ s. honest s.disk) (λ _. false) Flush [] last (answer_from done []) left
+  pub performs : PerformsTask (λ s. contents s.disk) (λ s. honest s.disk) (λ _. false) Flush [] last (answer_from done []) left
   pub closes : Closes does synced failed marked next takes counts last done left
   pub told : result ≡ told_at_end done path answer
 
@@ -94,7 +99,7 @@ pub record HasServedDisk {D Y : Type 0} (contents : D → Contents) (honest : D 
   pub answer : Result StreamEnd ServeFault
   pub serves : Serves (λ s. contents s.disk) (λ s. honest s.disk) (λ _. false) (SyncsTask does synced failed marked next) (RestsSynced rests)
       (export_of terms.offer (length (contents first.disk).bytes)) terms.offer.maximum first last unread left before after answer
-  pub ends : IsClosed contents honest does next takes synced failed marked terms.marked path last answer result
+  pub ends : IsDiskClosed contents honest does next takes synced failed marked terms.marked path last answer result
 
 -- A DISK THAT WAS ONLY READ by one client: what stands under it was asked for reads of its sectors, and for nothing else
 pub record HasReadDisk {D : Type 0} (contents : D → Contents) (honest : D → Bool) (reads : D → D → Type 0)
@@ -144,7 +149,7 @@ does_in held honest full failed = AsksSectors (shown_in held honest) (λ d. hold
 
 -- IT SERVED: the disk at the path was opened, its lost sectors were named and guarded, what was wrong with its pages was told, and it was served. No byte of a lost sector is one of its array: so a read of one is not answered without an error until it was
 -- written or trimmed (`guard_laws`)
-pub record HasServedAt {S Y K : Type 0} (held : S → Held) (honest full : S → Bool) (mended_in : S → Mended) (failed : S → ℕ) (synced missed : Y → ℕ) (marked : Y → SyncMark) (kept : K → List Bool) (a : Answers) (words : DiskServeWords)
+pub record HasServedAt {S Y K : Type 0} (held : S → Held) (honest full : S → Bool) (mended_in : S → Mended) (failed : S → ℕ) (synced missed : Y → ℕ) (marked : Y → SyncMark) (kept : K → List Bool) (a : DiskFileAnswers) (words : DiskServeWords)
     (unread left before after telling told_after : Option (List ℕ)) (result : Result (Unit {0}) DiskCommandFault) : Type 0 where
   pub told : DiskText
   pub disk : GuardedSectors (Reopened S) K
@@ -156,10 +161,10 @@ pub record HasServedAt {S Y K : Type 0} (held : S → Held) (honest full : S →
       (λ d. next_in d.sectors) (λ d. takes_in d.sectors) synced missed marked (terms_of told words.read_only) words.disk disk syncs unread left before after result
 
 -- or it did not, and nothing was sent: the disk was not ready. Lost sectors may have been named where that is told, or where a growth was refused
-pub record HasNotServed {S Y K : Type 0} (held : S → Held) (honest : S → Bool) (failed : S → ℕ) (missed : Y → ℕ) (kept : K → List Bool) (unlisted : K → ℕ) (a : Answers) (words : DiskServeWords) (before after telling told_after : Option (List ℕ))
+pub record HasNotServed {S Y K : Type 0} (held : S → Held) (honest : S → Bool) (failed : S → ℕ) (missed : Y → ℕ) (kept : K → List Bool) (unlisted : K → ℕ) (a : DiskFileAnswers) (words : DiskServeWords) (before after telling told_after : Option (List ℕ))
     (result : Result (Unit {0}) DiskCommandFault) : Type 0 where
   pub told : DiskCommandFault
   pub is : result ≡ Err told
   pub why : IsUnreadyAt held honest failed missed kept unlisted a words.disk.now words.read_only told
   pub silent : Keeps before after
-  pub unnamed : (told_after ≡ telling) ⊎ IsUnprinted told
+  pub unnamed : (told_after ≡ telling) ⊎ HasPrintingFailed told

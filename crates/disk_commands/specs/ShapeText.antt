@@ -103,9 +103,9 @@ pub record TellsLater (code : Code) (lost : Bool) (d : Data) : Type 0 where
   pub none_waits : number_at name.Share d ≡ Some 0
 
 -- by whether it is of version 2: its number, and how many members it has
-abbrev pub version_of : (second : Bool) → ℕ
-version_of false = 1
-version_of true = 2
+abbrev pub shape_version_of : (second : Bool) → ℕ
+shape_version_of false = 1
+shape_version_of true = 2
 
 abbrev pub members_of : (second : Bool) → ℕ
 members_of false = 3
@@ -118,7 +118,7 @@ TellsLaterBy true code lost d = TellsLater code lost d
 
 -- AN OBJECT WITH THE MEMBERS OF ITS VERSION AND NO OTHER, which say this. A mark counts from version 2 on
 pub record TellsText (d : Data) (t : DiskText) : Type 0 where
-  pub version : number_at name.Version d ≡ Some (version_of t.marked)
+  pub version : number_at name.Version d ≡ Some (shape_version_of t.marked)
   pub shape : TellsShape d t.shape.geometry t.shape.cache
   pub later : TellsLaterBy t.marked t.shape.code t.lost d
   pub alone : size_of d ≡ Some (members_of t.marked)
@@ -149,7 +149,7 @@ TellsNone d fault.NotJson = ⊥
 TellsNone d fault.NotObject = as_object d ≡ None
 TellsNone d (fault.Missing m) = LacksMember d m
 TellsNone d (fault.WrongType m) = HasOther d m
-TellsNone d fault.Unknown = (second : Bool) × (number_at name.Version d ≡ Some (version_of second)) × ((size : ℕ) × (size_of d ≡ Some size) × (size ≢ members_of second))
+TellsNone d fault.Unknown = (second : Bool) × (number_at name.Version d ≡ Some (shape_version_of second)) × ((size : ℕ) × (size_of d ≡ Some size) × (size ≢ members_of second))
 TellsNone d fault.Version = (version : ℕ) × (number_at name.Version d ≡ Some version) × (version ≢ 1) × (version ≢ 2)
 TellsNone d fault.BadGeometry = HasBadGeometry d word.NoNumbers
 TellsNone d (fault.Geometry limit) = HasBadGeometry d (word.Limit limit)

@@ -18,7 +18,7 @@ cache_of g = if nat_le g.sectors 65536 then max (min g.sectors 65280) 64 else 57
 abbrev pub IsPages : ℕ → Type 0
 IsPages pages = (pages ≡ 64) ⊎ ((pages ≡ 128) ⊎ (pages ≡ 256))
 
--- the most sectors for which there is a die with so many pages a block (`IsDieFor`)
+-- the most sectors for which there is a die with so many pages a block (`IsDieForSectors`)
 abbrev pub most_sectors : ℕ → ℕ
 most_sectors pages = if nat_le pages 64 then 124353 else (if nat_le pages 128 then 248712 else 497429)
 
@@ -39,16 +39,16 @@ abbrev pub IsDie : ℕ → ℕ → ℕ → Geometry → Type 0
 IsDie pages blocks sectors g = HasNumbers 4096 128 pages blocks sectors g
 
 -- of such a die the blocks are as many as a format needs
-abbrev pub Formats : ℕ → ℕ → ℕ → Type 0
-Formats pages sectors blocks = (g : Geometry) × IsDie pages blocks sectors g × (need g ≤ blocks)
+abbrev pub HasBlocksForFormat : ℕ → ℕ → ℕ → Type 0
+HasBlocksForFormat pages sectors blocks = (g : Geometry) × IsDie pages blocks sectors g × (need g ≤ blocks)
 
 -- of fewer they are not
 pub record IsLeast (pages sectors blocks : ℕ) : Type 0 where
-  pub formats : Formats pages sectors blocks
-  pub least : (fewer : ℕ) → fewer < blocks → ¬ Formats pages sectors fewer
+  pub formats : HasBlocksForFormat pages sectors blocks
+  pub least : (fewer : ℕ) → fewer < blocks → ¬ HasBlocksForFormat pages sectors fewer
 
 -- As many blocks as a format needs, and a twentieth more, rounded up.
-pub record IsDieFor (pages sectors : ℕ) (g : Geometry) : Type 0 where
+pub record IsDieForSectors (pages sectors : ℕ) (g : Geometry) : Type 0 where
   pub needed : ℕ
   pub least : IsLeast pages sectors needed
   pub die : IsDie pages (needed + div_ceil needed 20) sectors g
@@ -58,8 +58,8 @@ pub record IsDieFor (pages sectors : ℕ) (g : Geometry) : Type 0 where
 -- Whole sectors for the bytes; the fewest pages a block of which there is such a die, and that die; its cache; and no code.
 pub record IsShapeFor (bytes : ℕ) (s : DiskShape) : Type 0 where
   pub pages : IsPages s.geometry.pages
-  pub die : IsDieFor s.geometry.pages (div_ceil bytes 4096) s.geometry
-  pub fewest : (fewer : ℕ) → IsPages fewer → fewer < s.geometry.pages → (g : Geometry) → ¬ IsDieFor fewer (div_ceil bytes 4096) g
+  pub die : IsDieForSectors s.geometry.pages (div_ceil bytes 4096) s.geometry
+  pub fewest : (fewer : ℕ) → IsPages fewer → fewer < s.geometry.pages → (g : Geometry) → ¬ IsDieForSectors fewer (div_ceil bytes 4096) g
   pub cache : s.cache ≡ cache_of s.geometry
   pub code : s.code ≡ Plain
 

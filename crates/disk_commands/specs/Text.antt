@@ -101,7 +101,7 @@ told_line fault = line_of fault ++ (10 ∷ [])
 
 -- The fault's line was written, and the status is the fault's. Or it could not be written: the status is 3, and a beginning of the line
 -- stands there, or nothing, and never all of it.
-abbrev pub IsTold : DiskCommandFault → Option (List ℕ) → Option (List ℕ) → ℕ → Type 0
-IsTold fault before after status =
+abbrev pub IsDiskFaultTold : DiskCommandFault → Option (List ℕ) → Option (List ℕ) → ℕ → Type 0
+IsDiskFaultTold fault before after status =
     ((status ≡ status_of fault) × Appends before after (told_line fault))
     ⊎ ((status ≡ 3) × AppendsPart before after (told_line fault))

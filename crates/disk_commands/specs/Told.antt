@@ -14,7 +14,7 @@ use Rattle.disk_commands.specs.declared.printed.Form.TheVariants.{Text, Json}
 use Rattle.disk_commands.specs.declared.printed.Info.{Info}
 use Rattle.disk_commands.specs.declared.text.DiskCommandFault.{DiskCommandFault}
 use Rattle.disk_commands.specs.declared.text.DiskCommandFault.TheVariants as fault
-use Rattle.disk_commands.specs.Files.{Answers}
+use Rattle.disk_commands.specs.Files.{DiskFileAnswers}
 use Rattle.disk_commands.specs.Info.{info_of, info_text}
 use Rattle.disk_commands.specs.Damage.{IsLookedAt, IsUnlookedAt}
 
@@ -23,7 +23,7 @@ abbrev pub form_of : (json : Bool) → Form
 form_of json = if json then Json else Text
 
 -- WHAT IS TOLD OF THE DISK AT A PATH: what its shape and a certificate tell, which is one of a mount of the pages of an honest store, what that store tells was wrong with its pages, and which sectors are lost
-pub record IsInfoAt {S : Type 0} (held : S → Held) (honest : S → Bool) (mended : S → Mended) (a : Answers) (path : List ℕ) (info : Info) (missing : List ℕ) : Type 0 where
+pub record IsInfoAt {S : Type 0} (held : S → Held) (honest : S → Bool) (mended : S → Mended) (a : DiskFileAnswers) (path : List ℕ) (info : Info) (missing : List ℕ) : Type 0 where
   pub told : DiskText
   pub found : FoundMark
   pub store : S
@@ -34,17 +34,17 @@ pub record IsInfoAt {S : Type 0} (held : S → Held) (honest : S → Bool) (mend
   pub lost_are : missing ≡ listed_sectors list
 
 -- it was printed
-pub record HasTold {S : Type 0} (held : S → Held) (honest : S → Bool) (mended : S → Mended) (a : Answers) (words : InfoWords) (before after : Option (List ℕ)) : Type 0 where
+pub record HasTold {S : Type 0} (held : S → Held) (honest : S → Bool) (mended : S → Mended) (a : DiskFileAnswers) (words : InfoWords) (before after : Option (List ℕ)) : Type 0 where
   pub info : Info
   pub missing : List ℕ
   pub at : IsInfoAt held honest mended a words.disk.now info missing
   pub printed : Appends before after (info_text (form_of words.json) info missing)
 
 -- standard output failed, or memory was refused
-abbrev pub IsUnprinted : DiskCommandFault → Type 0
-IsUnprinted (fault.Write told) = told.now ≡ codes "-"
-IsUnprinted fault.OutOfMemory = Unit {0}
-IsUnprinted _ = ⊥
+abbrev pub HasPrintingFailed : DiskCommandFault → Type 0
+HasPrintingFailed (fault.Write told) = told.now ≡ codes "-"
+HasPrintingFailed fault.OutOfMemory = Unit {0}
+HasPrintingFailed _ = ⊥
 
 -- A TEXT WAS NOT PRINTED: standard output failed, where a beginning of it stands, or nothing, and never all of it; or memory was refused, and nothing does
 abbrev pub IsPrintedInPart : (text : List ℕ) → (before after : Option (List ℕ)) → DiskCommandFault → Type 0
@@ -53,13 +53,13 @@ IsPrintedInPart text before after fault.OutOfMemory = Keeps before after
 IsPrintedInPart text before after _ = ⊥
 
 -- it was looked at, and was not printed
-pub record HasNotTold {S : Type 0} (held : S → Held) (honest : S → Bool) (mended : S → Mended) (a : Answers) (words : InfoWords) (before after : Option (List ℕ)) (told : DiskCommandFault) : Type 0 where
+pub record HasNotTold {S : Type 0} (held : S → Held) (honest : S → Bool) (mended : S → Mended) (a : DiskFileAnswers) (words : InfoWords) (before after : Option (List ℕ)) (told : DiskCommandFault) : Type 0 where
   pub info : Info
   pub missing : List ℕ
   pub at : IsInfoAt held honest mended a words.disk.now info missing
   pub part : IsPrintedInPart (info_text (form_of words.json) info missing) before after told
 
 -- why it was not: the disk was not opened, and nothing was printed; or that failed
-abbrev pub IsUntold : {S : Type 0} → (S → Held) → (honest : S → Bool) → (mended : S → Mended) → (failed : S → ℕ) → Answers → InfoWords → (before after : Option (List ℕ)) → DiskCommandFault → Type 0
-IsUntold held honest mended failed a words before after told =
+abbrev pub IsDiskUntold : {S : Type 0} → (S → Held) → (honest : S → Bool) → (mended : S → Mended) → (failed : S → ℕ) → DiskFileAnswers → InfoWords → (before after : Option (List ℕ)) → DiskCommandFault → Type 0
+IsDiskUntold held honest mended failed a words before after told =
     (IsUnlookedAt held honest failed a words.disk.now told × Keeps before after) ⊎ HasNotTold held honest mended a words before after told

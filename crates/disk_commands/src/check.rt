@@ -1,7 +1,7 @@
 //! The command `check`: all of a disk is looked at.
 ghost use Rattle.std.specs.Prelude.{◌≡◌, IfErr, IfOk, OnOk, string_bytes};
 ghost use Rattle.disk_commands.specs.Check.{HasChecked, IsDamageAt, IsUncheckedAt, IsUnclean, damage_text};
-ghost use Rattle.disk_commands.specs.Files.{Opens, to_look};
+ghost use Rattle.disk_commands.specs.Files.{OpensOnce, to_look};
 
 use crate::damage::look_at;
 use crate::files::{DiskFiles, to_look};
@@ -44,7 +44,7 @@ fn damage_at<'a, F: DiskFiles>(
 ) -> Result<Damage, DiskCommandFault<'a>>
     ensures ok { IfOk result (λ d. IsDamageAt F.Store.held F.Store.honest (F.answers files.old) path.now d.lost.items d.bad.items d.unsound.items) }
     ensures fault { IfErr result (IsUncheckedAt F.Store.held F.Store.honest F.Store.failed (F.answers files.old) path.now) }
-    ensures opened { Opens path.now to_look (F.opened files.old) (F.opened files.new) }
+    ensures opened { OpensOnce path.now to_look (F.opened files.old) (F.opened files.new) }
     ensures kept { F.kept files.new ≡ F.kept files.old }
 {
     let mut looked = match look_at(alloc, files, path, to_look()) {
@@ -109,7 +109,7 @@ pub(crate) fn check_command<'a, F: DiskFiles, W: Write>(
     ensures ok { OnOk result (HasChecked F.Store.held F.Store.honest (F.answers files.old) words.entry 0 (W.contents out.old) (W.contents out.new)) }
     ensures fault { IfErr result (IsUnclean F.Store.held F.Store.honest F.Store.failed (F.answers files.old) words.entry (W.contents out.old) (W.contents out.new)) }
     ensures kept { F.kept files.new ≡ F.kept files.old }
-    ensures opened { Opens words.entry.disk.now to_look (F.opened files.old) (F.opened files.new) }
+    ensures opened { OpensOnce words.entry.disk.now to_look (F.opened files.old) (F.opened files.new) }
 {
     let damage = match damage_at(alloc, files, words.disk) {
         Ok(damage) => damage,

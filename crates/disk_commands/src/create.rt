@@ -2,7 +2,7 @@
 ghost use Rattle.std.specs.Prelude.{◌≡◌, ◌≤◌, true, false, IfOk, IfErr, OnOk, OnErr};
 ghost use Rattle.disk_commands.specs.ShapeText.{IsWithin, shape_text};
 ghost use Rattle.nand_die.specs.Made.{AreNames};
-ghost use Rattle.disk_commands.specs.Created.{HasCreated, IsDieFor, IsDieOf, IsNewDie, IsNoDump, IsUncreated, IsUnformatted, IsUnkept, IsUnmadeFor, Mounts};
+ghost use Rattle.disk_commands.specs.Created.{HasCreated, IsDieAskedFor, IsDieOf, IsNewDie, IsNoDump, IsUncreated, IsUnformatted, IsUnkept, IsUnmadeFor, Mounts};
 ghost use Rattle.disk_server.specs.Opened.{IsUnopened};
 ghost use Rattle.disk_commands.specs.Files.{FailsNoMore, with_kept};
 
@@ -119,7 +119,7 @@ fn make<'a, F: DiskFiles>(
 ) -> Result<F::Store, DiskCommandFault<'a>>
     requires cache { IsWithin shape.now.cache }
     requires named { AreNames shape.now.geometry bad.now }
-    ensures made { IfOk result (λ store. F.Store.honest store ≡ true → IsDieFor (F.answers files.old) words.now.make shape.now bad.now (F.Store.held store)) }
+    ensures made { IfOk result (λ store. F.Store.honest store ≡ true → IsDieAskedFor (F.answers files.old) words.now.make shape.now bad.now (F.Store.held store)) }
     ensures honest { IfOk result (λ store. F.Store.honest store ≡ (F.answers files.old).honest) }
     ensures fault { IfErr result (IsUnmadeFor F.Store.held F.Store.honest F.Store.failed (F.answers files.old) words.now.disk.now words.now.make shape.now bad.now) }
     ensures no_more { OnOk result (FailsNoMore (F.answers files.old) (F.answers files.new)) }

@@ -1,9 +1,9 @@
 //! What is lost of the disk at a path: the list beside it, and what its pages show.
 ghost use Rattle.std.specs.Prelude.{◌≡◌, false, IfErr, IfOk, OnOk, replicate};
 ghost use Rattle.disk_commands.specs.Damage.{IsListAt, IsLookedAt, IsNoListAt, IsUnlookedAt, Names, NamesMended};
-ghost use Rattle.disk_commands.specs.Files.{Opens, SaysNoMore};
+ghost use Rattle.disk_commands.specs.Files.{OpensOnce, SaysNoMore};
 ghost use Rattle.disk_commands.specs.ShapeText.{IsWithin};
-ghost use Rattle.disk_commands.specs.Told.{IsUnprinted};
+ghost use Rattle.disk_commands.specs.Told.{HasPrintingFailed};
 
 use crate::files::{Access, DiskFileFault, DiskFiles};
 use crate::info::unprinted;
@@ -94,7 +94,7 @@ pub(crate) fn look_at<'a, F: DiskFiles>(
 ) -> Result<Looked<F::Store, F::Syncs>, DiskCommandFault<'a>>
     ensures ok { IfOk result (λ looked. IsLookedAt F.Store.held F.Store.honest (F.answers files.old) path.now looked.told looked.found looked.store looked.certificate looked.lost.items) }
     ensures fault { IfErr result (IsUnlookedAt F.Store.held F.Store.honest F.Store.failed (F.answers files.old) path.now) }
-    ensures opened { Opens path.now access (F.opened files.old) (F.opened files.new) }
+    ensures opened { OpensOnce path.now access (F.opened files.old) (F.opened files.new) }
     ensures within { IfOk result (λ looked. IsWithin looked.told.shape.cache) }
     ensures no_more { OnOk result (SaysNoMore (F.answers files.old) (F.answers files.new)) }
     ensures kept { F.kept files.new ≡ F.kept files.old }
@@ -132,7 +132,7 @@ pub(crate) fn name_mended<'a, E: Write>(
     err: &mut E,
 ) -> Result<(), DiskCommandFault<'a>>
     ensures named { OnOk result (NamesMended code mended (E.contents err.old) (E.contents err.new)) }
-    ensures fault { IfErr result IsUnprinted }
+    ensures fault { IfErr result HasPrintingFailed }
 {
     if mended.turned == 0 && mended.lost == 0 {
         return Ok(());
@@ -153,7 +153,7 @@ pub(crate) fn name_lost<'a, E: Write>(
     err: &mut E,
 ) -> Result<(), DiskCommandFault<'a>>
     ensures named { OnOk result (Names lost.now (E.contents err.old) (E.contents err.new)) }
-    ensures fault { IfErr result IsUnprinted }
+    ensures fault { IfErr result HasPrintingFailed }
 {
     let Ok(sectors) = numbers_of(alloc, lost) else {
         return Err(DiskCommandFault::OutOfMemory);

@@ -64,7 +64,7 @@ pub trait LockedDie {
 pub trait DiskFiles {
     ghost use Rattle.std.specs.Prelude.{◌≡◌, true, List, [], Option, option_map, IfOk, IfErr};
     ghost use Rattle.file_die.specs.Store.{blank};
-    ghost use Rattle.disk_commands.specs.Files.{Answers, AnswersNoMore, FailsCopy, FailsNoMore, Kept, Opened, SaysNoMore, kept_after, with_mark, with_opened};
+    ghost use Rattle.disk_commands.specs.Files.{AnswersNoMore, DiskFileAnswers, FailsCopy, FailsNoMore, Kept, Opened, SaysNoMore, kept_after, with_mark, with_opened};
 
     /// The file of a die, open and locked: while it is there no other program writes or makes the disk, nor opens it, where this one is to write it.
     type Locked: LockedDie + Drop;
@@ -79,7 +79,7 @@ pub trait DiskFiles {
     type Lists: KeepsLost + Drop;
 
     /// What they may answer. Of the system's files it may be anything.
-    ghost answers: { Self → Answers };
+    ghost answers: { Self → DiskFileAnswers };
 
     /// The disks that were put in their places so far, in order. Of the system's files it isn't known.
     ghost kept: { Self → Option (List Kept) };

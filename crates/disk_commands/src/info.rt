@@ -2,9 +2,9 @@
 ghost use Rattle.std.specs.Prelude.{◌≡◌, OnOk, IfOk, IfErr};
 ghost use Rattle.std.specs.Io.KnownBytes.{Appends};
 ghost use Rattle.std.specs.IoError.{error_kind};
-ghost use Rattle.disk_commands.specs.Files.{Opens, to_look};
+ghost use Rattle.disk_commands.specs.Files.{OpensOnce, to_look};
 ghost use Rattle.disk_commands.specs.Damage.{IsUnlookedAt};
-ghost use Rattle.disk_commands.specs.Told.{HasTold, IsInfoAt, IsPrintedInPart, IsUnprinted, IsUntold, form_of};
+ghost use Rattle.disk_commands.specs.Told.{HasPrintingFailed, HasTold, IsDiskUntold, IsInfoAt, IsPrintedInPart, form_of};
 
 use crate::damage::look_at;
 use crate::files::{DiskFiles, to_look};
@@ -26,7 +26,7 @@ fn info_at<'a, F: DiskFiles>(
     ensures ok { IfOk result (λ told. IsInfoAt F.Store.held F.Store.honest F.Store.mended (F.answers files.old) path.now told.0 told.1.items) }
     ensures fault { IfErr result (IsUnlookedAt F.Store.held F.Store.honest F.Store.failed (F.answers files.old) path.now) }
     ensures kept { F.kept files.new ≡ F.kept files.old }
-    ensures opened { Opens path.now to_look (F.opened files.old) (F.opened files.new) }
+    ensures opened { OpensOnce path.now to_look (F.opened files.old) (F.opened files.new) }
 {
     let looked = match look_at(alloc, files, path, to_look()) {
         Ok(looked) => looked,
@@ -51,7 +51,7 @@ pub(crate) fn form_of(json: bool) -> Form
 
 /// How a failed write to standard output is told.
 pub(crate) fn unprinted<'a>(error: Error) -> DiskCommandFault<'a>
-    ensures { IsUnprinted result }
+    ensures { HasPrintingFailed result }
 {
     if error.kind() == ErrorKind::OutOfMemory {
         DiskCommandFault::OutOfMemory
@@ -89,9 +89,9 @@ pub(crate) fn info_command<'a, F: DiskFiles, W: Write>(
     out: &mut W,
 ) -> Result<(), DiskCommandFault<'a>>
     ensures ok { OnOk result (HasTold F.Store.held F.Store.honest F.Store.mended (F.answers files.old) words.entry (W.contents out.old) (W.contents out.new)) }
-    ensures fault { IfErr result (IsUntold F.Store.held F.Store.honest F.Store.mended F.Store.failed (F.answers files.old) words.entry (W.contents out.old) (W.contents out.new)) }
+    ensures fault { IfErr result (IsDiskUntold F.Store.held F.Store.honest F.Store.mended F.Store.failed (F.answers files.old) words.entry (W.contents out.old) (W.contents out.new)) }
     ensures kept { F.kept files.new ≡ F.kept files.old }
-    ensures opened { Opens words.entry.disk.now to_look (F.opened files.old) (F.opened files.new) }
+    ensures opened { OpensOnce words.entry.disk.now to_look (F.opened files.old) (F.opened files.new) }
 {
     let (info, lost) = match info_at(alloc, files, words.disk) {
         Ok(told) => told,

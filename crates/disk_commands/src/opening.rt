@@ -2,7 +2,7 @@
 ghost use Rattle.std.specs.Prelude.{◌≡◌, ◌*◌, IfOk, IfErr, OnOk, false};
 ghost use Rattle.page_layout.specs.Geometry.{page_bytes, row_count};
 ghost use Rattle.disk_commands.specs.ShapeText.{IsWithin};
-ghost use Rattle.disk_commands.specs.Files.{Opens, SaysNoMore};
+ghost use Rattle.disk_commands.specs.Files.{OpensOnce, SaysNoMore};
 ghost use Rattle.disk_commands.specs.Opening.{file_bytes, IsFaultAt, IsMarkAt, IsNotAt, IsNotFree, IsShapeFault, IsStoreAt, IsTextAt, told_at, told_of_copy};
 
 use crate::files::{Access, DiskFileFault, DiskFiles};
@@ -91,7 +91,7 @@ pub(crate) fn open_at<'a, F: DiskFiles>(
 ) -> Result<(F::Store, F::Syncs, DiskText), DiskCommandFault<'a>>
     ensures ok { IfOk result (λ opened. IsStoreAt F.Store.held F.Store.honest (F.answers files.old) path.now opened.2 opened.0) }
     ensures fault { IfErr result (IsNotAt (F.answers files.old) path.now) }
-    ensures opened { Opens path.now access (F.opened files.old) (F.opened files.new) }
+    ensures opened { OpensOnce path.now access (F.opened files.old) (F.opened files.new) }
     ensures within { IfOk result (λ opened. IsWithin opened.2.shape.cache) }
     ensures no_more { OnOk result (SaysNoMore (F.answers files.old) (F.answers files.new)) }
     ensures kept { F.kept files.new ≡ F.kept files.old }

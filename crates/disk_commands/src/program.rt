@@ -1,6 +1,6 @@
 //! The program's commands.
 ghost use Rattle.program_words.specs.Met.{texts};
-ghost use Rattle.disk_commands.specs.Program.{Obeys, Runs};
+ghost use Rattle.disk_commands.specs.Program.{DiskCommandRuns, ObeysDiskWords};
 
 use crate::check::check_command;
 use crate::create::create_command;
@@ -22,7 +22,7 @@ fn obey<'a, F: DiskFiles, I: Read, O: Write, E: Write>(
     out: &mut O,
     err: &mut E,
 ) -> Result<(), DiskCommandFault<'a>>
-    ensures { Obeys F.Store.held F.Store.honest F.Store.full F.Store.mended F.Store.failed F.Syncs.synced F.Syncs.failed F.Syncs.marked F.Lists.kept F.Lists.failed (F.answers files.old) (texts words.now)
+    ensures { ObeysDiskWords F.Store.held F.Store.honest F.Store.full F.Store.mended F.Store.failed F.Syncs.synced F.Syncs.failed F.Syncs.marked F.Lists.kept F.Lists.failed (F.answers files.old) (texts words.now)
         (record { kept = F.kept files.old; opened = F.opened files.old; input = I.remaining input.old; out = O.contents out.old; err = E.contents err.old })
         (record { kept = F.kept files.new; opened = F.opened files.new; input = I.remaining input.new; out = O.contents out.new; err = E.contents err.new }) result }
 {
@@ -49,7 +49,7 @@ pub fn run<F: DiskFiles, I: Read, O: Write, E: Write>(
     out: &mut O,
     err: &mut E,
 ) -> u8
-    ensures { Runs F.Store.held F.Store.honest F.Store.full F.Store.mended F.Store.failed F.Syncs.synced F.Syncs.failed F.Syncs.marked F.Lists.kept F.Lists.failed (F.answers files.old) (texts words.now)
+    ensures { DiskCommandRuns F.Store.held F.Store.honest F.Store.full F.Store.mended F.Store.failed F.Syncs.synced F.Syncs.failed F.Syncs.marked F.Lists.kept F.Lists.failed (F.answers files.old) (texts words.now)
         (record { kept = F.kept files.old; opened = F.opened files.old; input = I.remaining input.old; out = O.contents out.old; err = E.contents err.old })
         (record { kept = F.kept files.new; opened = F.opened files.new; input = I.remaining input.new; out = O.contents out.new; err = E.contents err.new }) result }
 {

@@ -9,7 +9,7 @@ ghost use Rattle.disk_commands.specs.Files.{OpensMarked, with_mark};
 ghost use Rattle.disk_commands.specs.Opening.{IsUnkeptAt};
 ghost use Rattle.disk_commands.specs.Ready.{HoldsPages, IsNoneOf, IsReadyAt, KeepsBy, IsUnkeptBy, IsUnreadyAt, MarksBy, access_of, sync_when};
 ghost use Rattle.disk_commands.specs.ShapeText.{IsWithin};
-ghost use Rattle.disk_commands.specs.Told.{IsUnprinted};
+ghost use Rattle.disk_commands.specs.Told.{HasPrintingFailed};
 
 use crate::anew::reopening;
 use crate::damage::{Looked, look_at, name_lost, name_mended};
@@ -156,7 +156,7 @@ fn name_all<'a, E: Write>(
     err: &mut E,
 ) -> Result<(), DiskCommandFault<'a>>
     ensures named { OnOk result (NamesAll lost.now code mended (E.contents err.old) (E.contents err.new)) }
-    ensures fault { IfErr result IsUnprinted }
+    ensures fault { IfErr result HasPrintingFailed }
 {
     match name_lost(alloc, lost, err) {
         Ok(()) => name_mended(alloc, code, mended, err),
@@ -175,7 +175,7 @@ pub(crate) fn ready<'a, F: DiskFiles, E: Write>(
     ensures ok { IfOk result (λ r. IsReadyAt F.Store.held F.Store.honest F.Store.mended F.Syncs.marked F.Lists.kept (F.answers files.old) words.now.disk.now words.now.read_only words.now.sync_always r.2 r.3 r.0 r.1) }
     ensures named { IfOk result (λ r. NamesAll r.0.lost.items r.2.shape.code r.3 (E.contents err.old) (E.contents err.new)) }
     ensures fault { IfErr result (IsUnreadyAt F.Store.held F.Store.honest F.Store.failed F.Syncs.failed F.Lists.kept F.Lists.failed (F.answers files.old) words.now.disk.now words.now.read_only) }
-    ensures unnamed { IfErr result (λ fault. (E.contents err.new ≡ E.contents err.old) ⊎ IsUnprinted fault) }
+    ensures unnamed { IfErr result (λ fault. (E.contents err.new ≡ E.contents err.old) ⊎ HasPrintingFailed fault) }
     ensures opened { OpensMarked words.now.disk.now (access_of words.now) (F.opened files.old) (F.opened files.new) }
     ensures kept { F.kept files.new ≡ F.kept files.old }
 {

@@ -4,7 +4,7 @@ ghost use Rattle.std.specs.Io.KnownBytes.{Keeps};
 ghost use Rattle.disk_commands.specs.declared.text.DiskCommandFault.TheVariants as fault;
 ghost use Rattle.disk_commands.specs.Files.{OpensMarked};
 ghost use Rattle.disk_commands.specs.Ready.{access_of};
-ghost use Rattle.disk_commands.specs.Serve.{HasNotServed, HasReadDisk, HasServedAt, HasServedDisk, HasServedOn, IsClosed, end_of, offer_of, pace_of, terms_of};
+ghost use Rattle.disk_commands.specs.Serve.{HasNotServed, HasReadDisk, HasServedAt, HasServedDisk, HasServedOn, IsDiskClosed, StreamStops, end_of, offer_of, pace_of, terms_of};
 ghost use Rattle.disk_server.specs.Asked.{AsksSectors};
 ghost use Rattle.disk_server.specs.Reading.{AllLasts};
 
@@ -18,11 +18,11 @@ use disk_server::{
     Lasting, Offer, ReadOnlyDisk, SectorDisk, Sectors, SyncPace, SyncedDisk, Syncs, serve_reading,
     serve_synced,
 };
-use nbd_stream::StreamEnd;
+use nbd_stream::{Incoming, Outgoing, StreamEnd};
 use page_layout::geometry::Geometry;
 use request_stream::ServeFault;
 use std::alloc::Global;
-use std::io::{Read, Write};
+use std::io::Write;
 
 // The most bytes that one request reads or writes.
 const MOST: u32 = 1_048_576;
@@ -105,7 +105,7 @@ fn end_session<'a, S: Lasting, Y: Syncs>(
     path: &'a str,
     served: Result<StreamEnd, ServeFault>,
 ) -> Result<(), DiskCommandFault<'a>>
-    ensures { IsClosed S.contents S.honest (AsksSectors S.contents S.honest S.reads S.flushes) S.next S.takes Y.synced Y.failed Y.marked marked path.entry disk.old served result }
+    ensures { IsDiskClosed S.contents S.honest (AsksSectors S.contents S.honest S.reads S.flushes) S.next S.takes Y.synced Y.failed Y.marked marked path.entry disk.old served result }
 {
     match disk.close(marked) {
         Ok(()) => end_of(served),
@@ -114,7 +114,7 @@ fn end_session<'a, S: Lasting, Y: Syncs>(
 }
 
 // Serves a disk to one client, and closes it when the client has gone.
-fn serve_writing<'a, S: Lasting + Drop, Y: Syncs + Drop, I: Read, O: Write>(
+fn serve_writing<'a, S: Lasting + Drop, Y: Syncs + Drop, I: Incoming, O: Outgoing>(
     opened: (SectorDisk<S>, Y),
     terms: Terms,
     path: &'a str,
@@ -123,7 +123,8 @@ fn serve_writing<'a, S: Lasting + Drop, Y: Syncs + Drop, I: Read, O: Write>(
     out: &mut O,
 ) -> Result<(), DiskCommandFault<'a>>
     requires { length buffer.old ≡ terms.offer.maximum }
-    ensures { HasServedDisk S.contents S.honest (AsksSectors S.contents S.honest S.reads S.flushes) S.rests S.next S.takes Y.synced Y.failed Y.marked terms path.entry opened.0 opened.1 (I.remaining input.old) (I.remaining input.new) (O.contents out.old) (O.contents out.new) result }
+    ensures served { HasServedDisk S.contents S.honest (AsksSectors S.contents S.honest S.reads S.flushes) S.rests S.next S.takes Y.synced Y.failed Y.marked terms path.entry opened.0 opened.1 (I.remaining input.old) (I.remaining input.new) (O.contents out.old) (O.contents out.new) result }
+    ensures stops { StreamStops I.fails O.fails (I.remaining input.old) (I.remaining input.new) input.new out.new result }
 {
     let (disk, syncs) = opened;
     let mut disk = SyncedDisk::new(disk, syncs, terms.pace);
@@ -132,7 +133,7 @@ fn serve_writing<'a, S: Lasting + Drop, Y: Syncs + Drop, I: Read, O: Write>(
 }
 
 // Serves a disk that is only read to one client.
-fn serve_only_reading<'a, S: Sectors + Drop, I: Read, O: Write>(
+fn serve_only_reading<'a, S: Sectors + Drop, I: Incoming, O: Outgoing>(
     disk: SectorDisk<S>,
     terms: Terms,
     buffer: &mut [u8],
@@ -142,14 +143,15 @@ fn serve_only_reading<'a, S: Sectors + Drop, I: Read, O: Write>(
     requires lasts { S.honest disk ≡ true → AllLasts (S.contents disk) }
     requires read_only { terms.offer.read_only ≡ true }
     requires room { length buffer.old ≡ terms.offer.maximum }
-    ensures { HasReadDisk S.contents S.honest S.reads terms disk (I.remaining input.old) (I.remaining input.new) (O.contents out.old) (O.contents out.new) result }
+    ensures served { HasReadDisk S.contents S.honest S.reads terms disk (I.remaining input.old) (I.remaining input.new) (O.contents out.old) (O.contents out.new) result }
+    ensures stops { StreamStops I.fails O.fails (I.remaining input.old) (I.remaining input.new) input.new out.new result }
 {
     let mut disk = ReadOnlyDisk::new(disk);
     end_of(serve_reading(&mut disk, terms.offer, buffer, input, out))
 }
 
 // Serves a disk to one client, on these terms.
-fn serve_client<'a, S: Lasting + Drop, Y: Syncs + Drop, I: Read, O: Write>(
+fn serve_client<'a, S: Lasting + Drop, Y: Syncs + Drop, I: Incoming, O: Outgoing>(
     alloc: Global,
     opened: (SectorDisk<S>, Y),
     terms: Terms,
@@ -158,8 +160,9 @@ fn serve_client<'a, S: Lasting + Drop, Y: Syncs + Drop, I: Read, O: Write>(
     out: &mut O,
 ) -> Result<(), DiskCommandFault<'a>>
     requires { S.honest opened.0 ≡ true → AllLasts (S.contents opened.0) }
-    ensures { HasServedOn S.contents S.honest (AsksSectors S.contents S.honest S.reads S.flushes) S.rests S.reads S.next S.takes Y.synced Y.failed Y.marked terms path.entry opened.0 opened.1 (I.remaining input.old) (I.remaining input.new) (O.contents out.old) (O.contents out.new) result
+    ensures served { HasServedOn S.contents S.honest (AsksSectors S.contents S.honest S.reads S.flushes) S.rests S.reads S.next S.takes Y.synced Y.failed Y.marked terms path.entry opened.0 opened.1 (I.remaining input.old) (I.remaining input.new) (O.contents out.old) (O.contents out.new) result
         ⊎ ((result ≡ Err fault.OutOfMemory) × Keeps (O.contents out.old) (O.contents out.new)) }
+    ensures stops { StreamStops I.fails O.fails (I.remaining input.old) (I.remaining input.new) input.new out.new result }
 {
     let Ok(mut buffer) = vec![in alloc; 0u8; terms.offer.maximum as usize] else {
         return Err(DiskCommandFault::OutOfMemory);
@@ -186,7 +189,7 @@ fn serve_client<'a, S: Lasting + Drop, Y: Syncs + Drop, I: Read, O: Write>(
 /// `Open` where the disk was not opened; `Read`, `Write` or `OutOfMemory` where its mark cannot be kept, `Device` where the first sync failed; `Write` of `-` where lost sectors were not named;
 /// `OutOfMemory` for the memory of a request. After each of these nothing was sent. Then `Device` where the flush at the end failed, or a sync;
 /// `BadFrame` where the client sent what is no request, `Stream` where `input` or `out` failed. (This project's.)
-pub(crate) fn serve_command<'a, F: DiskFiles, I: Read, O: Write, E: Write>(
+pub(crate) fn serve_command<'a, F: DiskFiles, I: Incoming, O: Outgoing, E: Write>(
     alloc: Global,
     words: DiskServeWords<'a>,
     files: &mut F,
@@ -197,6 +200,7 @@ pub(crate) fn serve_command<'a, F: DiskFiles, I: Read, O: Write, E: Write>(
     ensures served { HasServedAt F.Store.held F.Store.honest F.Store.full F.Store.mended F.Store.failed F.Syncs.synced F.Syncs.failed F.Syncs.marked F.Lists.kept (F.answers files.old) words.entry (I.remaining input.old) (I.remaining input.new) (O.contents out.old) (O.contents out.new)
         (E.contents err.old) (E.contents err.new) result
         ⊎ HasNotServed F.Store.held F.Store.honest F.Store.failed F.Syncs.failed F.Lists.kept F.Lists.failed (F.answers files.old) words.entry (O.contents out.old) (O.contents out.new) (E.contents err.old) (E.contents err.new) result }
+    ensures stops { StreamStops I.fails O.fails (I.remaining input.old) (I.remaining input.new) input.new out.new result }
     ensures opened { OpensMarked words.entry.disk.now (access_of words.entry) (F.opened files.old) (F.opened files.new) }
     ensures kept { F.kept files.new ≡ F.kept files.old }
 {

@@ -2,7 +2,7 @@
 ghost use Rattle.std.specs.Prelude.{◌≡◌, ◌≢◌, false, Some, IfOk, IfErr, OnOk, codes, string_bytes};
 ghost use Rattle.serde_json.specs.View.{view};
 ghost use Rattle.disk_commands.specs.declared.shape_text.Member.{Member};
-ghost use Rattle.disk_commands.specs.ShapeText.{IsGeometryTold, IsNoShape, IsShapeText, IsTextMember, IsWithin, TellsLater, TellsLaterBy, TellsNone, TellsShape, TellsText, code_words, flag_at, geometry_words, listed_text, number_at, shape_data, shape_text, members_of, size_of, text_at, version_of, without_feed};
+ghost use Rattle.disk_commands.specs.ShapeText.{IsGeometryTold, IsNoShape, IsShapeText, IsTextMember, IsWithin, TellsLater, TellsLaterBy, TellsNone, TellsShape, TellsText, code_words, flag_at, geometry_words, listed_text, number_at, shape_data, shape_text, members_of, size_of, text_at, shape_version_of, without_feed};
 
 use crate::shape_words::{GeometryText, GeometryWordFault, geometry_from};
 use crate::shapes::{Code, DiskShape};
@@ -234,7 +234,7 @@ fn cache_told(value: &Value) -> Result<u32, ShapeFault>
 
 // Whether an object is of version 2, and not of version 1.
 fn is_second(value: &Value) -> Result<bool, ShapeFault>
-    ensures ok { IfOk result (λ second. number_at Member.Version (view value.now) ≡ Some (version_of second)) }
+    ensures ok { IfOk result (λ second. number_at Member.Version (view value.now) ≡ Some (shape_version_of second)) }
     ensures fault { IfErr result (TellsNone (view value.now)) }
 {
     match number(value, Member::Version)? {
@@ -313,7 +313,7 @@ fn members_wanted(second: bool) -> usize
 
 // That a value is an object of so many members.
 fn require_alone(value: &Value, second: bool) -> Result<(), ShapeFault>
-    requires version { number_at Member.Version (view value.now) ≡ Some (version_of second) }
+    requires version { number_at Member.Version (view value.now) ≡ Some (shape_version_of second) }
     ensures ok { OnOk result (size_of (view value.now) ≡ Some (members_of second)) }
     ensures fault { IfErr result (TellsNone (view value.now)) }
 {

@@ -3,7 +3,7 @@ ghost use Rattle.std.specs.Prelude.{◌≡◌, ◌↔◌, ◌+◌, ◌*◌, ◌<
 ghost use Rattle.std.specs.Int.{div_ceil};
 ghost use Rattle.page_layout.specs.Faults.{HasNumbers};
 ghost use Rattle.page_layout.specs.Geometry.{need};
-ghost use Rattle.disk_commands.specs.Shapes.{Formats, IsDie, IsDieFor, IsLeast, IsNoSize, IsPages, IsPagesFor, IsShapeFor, cache_of, most_bytes, most_sectors};
+ghost use Rattle.disk_commands.specs.Shapes.{HasBlocksForFormat, IsDie, IsDieForSectors, IsLeast, IsNoSize, IsPages, IsPagesFor, IsShapeFor, cache_of, most_bytes, most_sectors};
 
 use page_layout::geometry::{Geometry, GeometryFault};
 use std::error::Error;
@@ -117,7 +117,7 @@ fn die(pages: u32, blocks: u32, sectors: u32) -> Result<Geometry, GeometryFault>
 
 // Whether a format of so many blocks, all of them good, is not refused for too few.
 fn formats(pages: u32, sectors: u32, blocks: u32) -> bool
-    ensures { IsTrue result ↔ Formats pages sectors blocks }
+    ensures { IsTrue result ↔ HasBlocksForFormat pages sectors blocks }
 {
     match die(pages, blocks, sectors) {
         Ok(geometry) => geometry.need() <= blocks,
@@ -128,7 +128,7 @@ fn formats(pages: u32, sectors: u32, blocks: u32) -> bool
 // The fewest blocks that a format of so many sectors needs, where there is a die of so many.
 fn least_blocks(pages: u32, sectors: u32) -> Option<u32>
     ensures some { IfSome result (IsLeast pages sectors) }
-    ensures none { result ≡ None → (blocks : ℕ) → blocks ≤ 4096 → ¬ Formats pages sectors blocks }
+    ensures none { result ≡ None → (blocks : ℕ) → blocks ≤ 4096 → ¬ HasBlocksForFormat pages sectors blocks }
 {
     for blocks in 0..=MOST_BLOCKS {
         if formats(pages, sectors, blocks) {
@@ -152,7 +152,7 @@ pub fn shape_for(bytes: u64) -> Result<DiskShape, SizeFault>
     ensures within { IsOk result ↔ ((1 ≤ bytes) × (bytes ≤ most_bytes)) }
 
     // For a size that is refused there is no such die.
-    ensures none { IfErr result (λ _. (pages : ℕ) → IsPages pages → (g : Geometry) → ¬ IsDieFor pages (div_ceil bytes 4096) g) }
+    ensures none { IfErr result (λ _. (pages : ℕ) → IsPages pages → (g : Geometry) → ¬ IsDieForSectors pages (div_ceil bytes 4096) g) }
 
     // The disk has at least these bytes, and less than a sector more.
     ensures enough { IfOk result (λ s. bytes ≤ s.geometry.sectors * 4096) }

@@ -1,7 +1,7 @@
 //! A way to make last what a disk writes.
 ghost use Rattle.std.specs.Prelude.{◌≡◌, None};
 ghost use Rattle.disk_commands.specs.Mark.{no_mark};
-ghost use Rattle.disk_commands.specs.MarkFile.{KeepsIfAny, SettlesFiles};
+ghost use Rattle.disk_commands.specs.MarkFile.{KeepsMarkIfAny, SettlesFiles};
 
 use crate::mark::none_found;
 use crate::mark_file::MarkFile;
@@ -24,7 +24,7 @@ fn keep_in<F: ByteFile + Drop>(
     kept: Option<MarkFile<F>>,
     mark: SyncMark,
 ) -> (Option<MarkFile<F>>, bool)
-    ensures { KeepsIfAny F.held F.honest kept mark result.1 result.0 }
+    ensures { KeepsMarkIfAny F.held F.honest kept mark result.1 result.0 }
 {
     let Some(mut file) = kept else {
         return (None, true);

@@ -2,7 +2,7 @@
 ghost use Rattle.std.specs.Prelude.{◌≡◌, ◌++◌};
 ghost use Rattle.std.specs.Fmt.{WritesOnOk};
 ghost use Rattle.request_stream.specs.Frames.{SendsLine};
-ghost use Rattle.disk_commands.specs.Text.{IsTold, told_line};
+ghost use Rattle.disk_commands.specs.Text.{IsDiskFaultTold, told_line};
 
 use crate::shape_text::ShapeFault;
 use crate::shapes::SizeFault;
@@ -217,7 +217,7 @@ fn send_line<E: Write>(
 /// Writes the fault's line to `err`, with a line feed, and answers its exit status. Where a write failed, was interrupted or took nothing, or memory for the line was refused, it
 /// answers 3, and a beginning of the line stands there, or nothing: never all of it. (The lines and the statuses are this project's.)
 pub fn tell<E: Write>(alloc: Global, fault: &DiskCommandFault<'_>, err: &mut E) -> u8
-    ensures { IsTold fault.now (E.contents err.old) (E.contents err.new) result }
+    ensures { IsDiskFaultTold fault.now (E.contents err.old) (E.contents err.new) result }
 {
     match send_line(alloc, fault, err) {
         Ok(()) => fault.status(),

@@ -10,7 +10,7 @@ use Rattle.crash_recovery.specs.Taken.{Recovers}
 use Rattle.disk_server.specs.declared.opened.OpenStoreFault.{OpenStoreFault}
 use Rattle.disk_server.specs.Opened.{HasCome, bytes_of}
 use Rattle.disk_server.specs.Stopped.{IsUnopenedLater}
-use Rattle.disk_recovery.specs.Recovered.{HoldsRecovered, IsLeft, IsRecovered, IsUnrecovered}
+use Rattle.disk_recovery.specs.Recovered.{HoldsRecovered, IsLeftRecovered, IsRecovered, IsUnrecovered}
 
 -- the certificate is that of the store which came back
 pub agrees_again : {S : Type 0} (held : S → Held) (honest : S → Bool) (store mounted : S) (c : Claim) → HasCome held honest store mounted → honest store ≡ true
@@ -30,16 +30,16 @@ recovered_of held honest store mounted left mark changed come h is =
     record { mounted = is.mounted; geometry = is.geometry ∙ come.geometry h; pages = is.pages ∙ come.pages h; recovers = is.recovers }
 
 -- nothing was torn
-pub left_once : (mark : ℕ) (s t : Held) (changed : Bool) → changed ≡ false → IsRecovered mark s changed t → IsLeft mark s t
+pub left_once : (mark : ℕ) (s t : Held) (changed : Bool) → changed ≡ false → IsRecovered mark s changed t → IsLeftRecovered mark s t
 left_once mark s t changed none is = inl (subst (λ b. IsRecovered mark s b t) none is)
 
 -- or it was recovered twice
-pub left_twice : (mark : ℕ) (s mid t : Held) (changed : Bool) → changed ≡ true → IsRecovered mark s changed mid → ((more : Bool) × IsRecovered mark mid more t) → IsLeft mark s t
+pub left_twice : (mark : ℕ) (s mid t : Held) (changed : Bool) → changed ≡ true → IsRecovered mark s changed mid → ((more : Bool) × IsRecovered mark mid more t) → IsLeftRecovered mark s t
 left_twice mark s mid t changed some is again = inr (mid, subst (λ b. IsRecovered mark s b mid) some is, again)
 
 -- ---- the disk of what was left
 
-pub opened_bytes : {D E S : Type 0} (bytes : D → List ℕ) (held : S → Held) (H G : Type 0) (store given : S) (mark : ℕ) (result : Result D E) → (H → G) → (H → IsLeft mark (held store) (held given))
+pub opened_bytes : {D E S : Type 0} (bytes : D → List ℕ) (held : S → Held) (H G : Type 0) (store given : S) (mark : ℕ) (result : Result D E) → (H → G) → (H → IsLeftRecovered mark (held store) (held given))
     → IfOk result (λ d. G → bytes d ≡ bytes_of (held given)) → IfOk result (λ d. H → HoldsRecovered mark (held store) (bytes d))
 opened_bytes bytes held H G store given mark (Ok d) to recovered opened = λ h. record { left = held given; recovered = recovered h; bytes_are = opened (to h) }
 opened_bytes bytes held H G store given mark (Err e) to recovered opened = tt
@@ -49,6 +49,6 @@ opened_honest holds H G (Ok d) to opened = λ h. opened (to h)
 opened_honest holds H G (Err e) to opened = tt
 
 pub opened_fault : {S A : Type 0} (held : S → Held) (honest : S → Bool) (failed : S → ℕ) (store given : S) (capacity mark : ℕ) (result : Result A OpenStoreFault) → honest given ≡ honest store
-    → (honest store ≡ true → IsLeft mark (held store) (held given)) → IfErr result (IsUnopenedLater held honest failed given capacity) → IfErr result (IsUnrecovered held honest failed store capacity mark)
+    → (honest store ≡ true → IsLeftRecovered mark (held store) (held given)) → IfErr result (IsUnopenedLater held honest failed given capacity) → IfErr result (IsUnrecovered held honest failed store capacity mark)
 opened_fault held honest failed store given capacity mark (Ok d) same recovered later = tt
 opened_fault held honest failed store given capacity mark (Err why) same recovered later = inr (inr (given, same, recovered, later))

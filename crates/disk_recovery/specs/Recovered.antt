@@ -16,13 +16,13 @@ pub record IsRecovered (mark : ℕ) (s : Held) (changed : Bool) (t : Held) : Typ
   pub recovers : Recovers mark mounted t changed
 
 -- THE STORE AS IT IS OPENED: nothing was torn; or what was is taken away, and the store was mounted and recovered once more, since a block has no live page only once what was newer is cut
-abbrev pub IsLeft : (mark : ℕ) → (s t : Held) → Type 0
-IsLeft mark s t = IsRecovered mark s false t ⊎ ((mid : Held) × IsRecovered mark s true mid × ((changed : Bool) × IsRecovered mark mid changed t))
+abbrev pub IsLeftRecovered : (mark : ℕ) → (s t : Held) → Type 0
+IsLeftRecovered mark s t = IsRecovered mark s false t ⊎ ((mid : Held) × IsRecovered mark s true mid × ((changed : Bool) × IsRecovered mark mid changed t))
 
 -- THE BYTES OF THE DISK are those of the array of the pages that are left
 pub record HoldsRecovered (mark : ℕ) (s : Held) (bytes : List ℕ) : Type 0 where
   pub left : Held
-  pub recovered : IsLeft mark s left
+  pub recovered : IsLeftRecovered mark s left
   pub bytes_are : bytes ≡ bytes_of left
 
 -- IT WAS NOT RECOVERED ONCE: a growth was refused, or the store failed, and counted it. What was torn may be taken away in part
@@ -42,4 +42,4 @@ abbrev pub IsUnrecovered : {S : Type 0} → (S → Held) → (honest : S → Boo
 IsUnrecovered {S} held honest failed store capacity mark fault =
     ((given : S) × IsNotTaken held honest failed mark store given fault)
     ⊎ (((given : S) × (honest given ≡ honest store) × (honest store ≡ true → IsRecovered mark (held store) true (held given)) × IsNotAgain held honest failed mark given fault)
-    ⊎ ((given : S) × (honest given ≡ honest store) × (honest store ≡ true → IsLeft mark (held store) (held given)) × IsUnopenedLater held honest failed given capacity fault))
+    ⊎ ((given : S) × (honest given ≡ honest store) × (honest store ≡ true → IsLeftRecovered mark (held store) (held given)) × IsUnopenedLater held honest failed given capacity fault))

@@ -13,7 +13,7 @@ use Rattle.nbd_stream.specs.declared.fault.DiskFault.TheVariants as fault
 use Rattle.nbd_stream.specs.declared.reply.RequestError.{RequestError}
 use Rattle.nbd_stream.specs.declared.task.Task.{Task}
 use Rattle.nbd_stream.specs.declared.task.Task.TheVariants.{Write, Flush, Trim}
-use Rattle.nbd_stream.specs.Disk.{Idles, MayAnswer, IsOfChange, Performs, answer_from, count_given, error_for, with_bytes}
+use Rattle.nbd_stream.specs.Disk.{Idles, MayAnswer, IsOfChange, PerformsTask, answer_from, count_given, error_for, with_bytes}
 use Rattle.disk_server.specs.Flat.{AreSectors, flat}
 use Rattle.disk_server.proofs.FlatLemmas.{flat_law}
 use Rattle.collection.specs.declared.fault.WriteFault.{WriteFault}
@@ -215,7 +215,7 @@ module _ {N : Type 0} (flash : N → Flash) (recorded : N → Option Recording) 
         changed : ((r : RequestError) → IsOfChange r → MayAnswer task r) → count_given task ≡ 0
             → (IsSetAt (n * old.engine.geometry.data_bytes) set (bytes flash honest old) result (bytes flash honest new)
             → Sets task body (bytes flash honest old) (answer_from (change_answer result) []) (bytes flash honest new))
-            → Performs (contents_of flash honest) (holds honest) (λ d. false) task body old (answer_from (change_answer result) []) new
+            → PerformsTask (contents_of flash honest) (holds honest) (λ d. false) task body old (answer_from (change_answer result) []) new
         changed may none sets = performs_by (bytes flash honest) (holds honest) task body old (answer_from (change_answer result) []) new
             (sized flash honest old new was (changed_disk device) sized_is)
             (going_on result (kept_here old new result command was its.stays its.refuses its.means))
@@ -231,7 +231,7 @@ module _ {N : Type 0} (flash : N → Flash) (recorded : N → Option Recording) 
     write_keeps = keeps_here n body (step.Write n body) old new result was its within its_long (λ s. s)
 
     pub write_performs : new.engine.geometry ≡ old.engine.geometry → IsDevice flash new
-        → Performs (contents_of flash honest) (holds honest) (λ d. false) (Write (n * old.engine.geometry.data_bytes) old.engine.geometry.data_bytes false) body old
+        → PerformsTask (contents_of flash honest) (holds honest) (λ d. false) (Write (n * old.engine.geometry.data_bytes) old.engine.geometry.data_bytes false) body old
         (answer_from (change_answer result) []) new
     write_performs same device = changed n body (step.Write n body) old new result was its within its_long (λ s. s) same device
         (Write (n * old.engine.geometry.data_bytes) old.engine.geometry.data_bytes false) body (λ r of. of) refl
@@ -244,7 +244,7 @@ module _ {N : Type 0} (flash : N → Flash) (recorded : N → Option Recording) 
     trim_keeps = keeps_here n (zeros old.engine.geometry) (step.Trim n) old new result was its within (zeros_long old.engine.geometry) (λ s. s)
 
     pub trim_performs : new.engine.geometry ≡ old.engine.geometry → IsDevice flash new
-        → Performs (contents_of flash honest) (holds honest) (λ d. false) (Trim (n * old.engine.geometry.data_bytes) old.engine.geometry.data_bytes false) [] old
+        → PerformsTask (contents_of flash honest) (holds honest) (λ d. false) (Trim (n * old.engine.geometry.data_bytes) old.engine.geometry.data_bytes false) [] old
         (answer_from (change_answer result) []) new
     trim_performs same device = changed n (zeros old.engine.geometry) (step.Trim n) old new result was its within (zeros_long old.engine.geometry) (λ s. s) same device
         (Trim (n * old.engine.geometry.data_bytes) old.engine.geometry.data_bytes false) [] (λ r of. of) refl
@@ -276,7 +276,7 @@ module _ {N : Type 0} (flash : N → Flash) (recorded : N → Option Recording) 
     }
 
     flushed : new.engine.geometry ≡ old.engine.geometry → IsDevice flash new
-        → Performs (contents_of flash honest) (holds honest) (λ d. false) Flush [] old (answer_from (flush_answer result) []) new
+        → PerformsTask (contents_of flash honest) (holds honest) (λ d. false) Flush [] old (answer_from (flush_answer result) []) new
     flushed same device = performs_by (bytes flash honest) (holds honest) Flush [] old (answer_from (flush_answer result) []) new
         (sized flash honest old new was (upkept_disk device) same)
         (flush_going result (kept_here old new result command was its.stays its.refuses its.means))
@@ -287,7 +287,7 @@ module _ {N : Type 0} (flash : N → Flash) (recorded : N → Option Recording) 
 
   module _ (old new : Device N) (result : Result (Unit {0}) DeviceFault) (was : IsDisk flash honest old) where
     pub flush_performs : Upkeeps flash recorded honest calm failed step.Flush old result new → new.engine.geometry ≡ old.engine.geometry → IsDevice flash new
-        → Performs (contents_of flash honest) (holds honest) (λ d. false) Flush [] old (answer_from (flush_answer result) []) new
+        → PerformsTask (contents_of flash honest) (holds honest) (λ d. false) Flush [] old (answer_from (flush_answer result) []) new
     flush_performs its = flushed step.Flush old new result was its (steps.quiet old.engine.geometry (state_in flash old) (state_in flash new) (reply_of result)).0
 
     pub flush_disk : Upkeeps flash recorded honest calm failed step.Flush old result new → IsDevice flash new → IsDisk flash honest new

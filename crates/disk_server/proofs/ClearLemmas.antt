@@ -11,7 +11,7 @@ use Rattle.promises.specs.Step as step
 use Rattle.nbd_stream.specs.declared.fault.DiskFault.{DiskFault}
 use Rattle.nbd_stream.specs.declared.fault.DiskFault.TheVariants as fault
 use Rattle.nbd_stream.specs.declared.task.Task.TheVariants.{Read, Trim, Write}
-use Rattle.nbd_stream.specs.Disk.{Contents, Performs, answer_from}
+use Rattle.nbd_stream.specs.Disk.{Contents, PerformsTask, answer_from}
 use Rattle.nbd_stream.proofs.DiskLemmas.{past_it}
 use Rattle.ftl_device.specs.declared.device.Device.{Device}
 use Rattle.ftl_device.specs.declared.fault.DeviceFault.{DeviceFault}
@@ -48,12 +48,12 @@ zeros_range s o n fits zeros =
     range_at s o n k less ∙ zeros (o + k) (omega arith) (omega (arith, less)) ∙ sym (get_or-replicate {A = ℕ} n k 0 0 less)))
 
 module _ {D : Type 0} (contents : D → Contents) (honest calm : D → Bool) where
-  pub zeros_read : (o n : ℕ) (old mid : D) (given : List ℕ) → o + n ≤ length (contents old).bytes → Performs contents honest calm (Read o n) [] old (Ok given) mid → honest mid ≡ true
+  pub zeros_read : (o n : ℕ) (old mid : D) (given : List ℕ) → o + n ≤ length (contents old).bytes → PerformsTask contents honest calm (Read o n) [] old (Ok given) mid → honest mid ≡ true
       → HasZeros o n (contents old).bytes → given ≡ replicate n 0
   zeros_read o n old mid given fits p h zeros = (p.steps h).gave ∙ zeros_range (contents old).bytes o n fits zeros
 
   -- once a front of the range was cleared, the rest of it has zeros
-  pub zeros_left : (o n k m : ℕ) (old mid : D) → k + m ≤ n → o + n ≤ length (contents old).bytes → Performs contents honest calm (Write o k false) (replicate k 0) old (Ok []) mid → honest mid ≡ true
+  pub zeros_left : (o n k m : ℕ) (old mid : D) → k + m ≤ n → o + n ≤ length (contents old).bytes → PerformsTask contents honest calm (Write o k false) (replicate k 0) old (Ok []) mid → honest mid ≡ true
       → HasZeros o n (contents old).bytes → HasZeros (o + k) m (contents mid).bytes
   zeros_left o n k m old mid within fits p h zeros = λ place from to.
       let long : length (replicate {A = ℕ} k 0) ≡ k = length-replicate {A = ℕ} k 0 in
@@ -63,11 +63,11 @@ module _ {D : Type 0} (contents : D → Contents) (honest calm : D → Bool) whe
 
   -- a sector that was read as zeros is as one that was trimmed
   pub zeros_cleared : (n size count : ℕ) (old mid : D) (given : List ℕ) → n < count → length (contents old).bytes ≡ count * size → given ≡ replicate (length given) 0
-      → Performs contents honest calm (Read (n * size) size) [] old (Ok given) mid → Performs contents honest calm (Trim (n * size) size false) [] old (Ok []) mid
+      → PerformsTask contents honest calm (Read (n * size) size) [] old (Ok given) mid → PerformsTask contents honest calm (Trim (n * size) size false) [] old (Ok []) mid
   zeros_cleared n size count old mid given within whole are p =
       let its : given ≡ replicate size 0 = are ∙ ap (λ k. replicate k 0) p.given in
       read_clears contents honest calm (n * size) size old mid (sector_fits n count size (length (contents old).bytes) within whole)
-      (subst (λ l. Performs contents honest calm (Read (n * size) size) [] old (Ok l) mid) its p)
+      (subst (λ l. PerformsTask contents honest calm (Read (n * size) size) [] old (Ok l) mid) its p)
 
 -- ---- a device
 
@@ -103,10 +103,10 @@ module _ {N : Type 0} (flash : N → Flash) (recorded : N → Option Recording) 
   -- a trim that was done of a sector that was read before, whatever came of that
   pub trimmed : (size size' : ℕ) → size' ≡ size → (result : Result (Unit {0}) DiskFault) → honest mid.engine.nand ≡ honest old.engine.nand → (IsSome (stop_of old.engine.fault) → (read ≡ Err fault.Failed) × (mid ≡ old))
       → AsksChange flash recorded honest calm failed n (step.Trim n) mid result new
-      → Performs (contents_of flash honest) (holds honest) (λ d. false) (Read (n * size) size) [] old (answer_from read given) mid
-      → Performs (contents_of flash honest) (holds honest) (λ d. false) (Trim (n * size') size' false) [] mid (answer_from result []) new
-      → Performs (contents_of flash honest) (holds honest) (λ d. false) (Trim (n * size) size false) [] old (answer_from result []) new
+      → PerformsTask (contents_of flash honest) (holds honest) (λ d. false) (Read (n * size) size) [] old (answer_from read given) mid
+      → PerformsTask (contents_of flash honest) (holds honest) (λ d. false) (Trim (n * size') size' false) [] mid (answer_from result []) new
+      → PerformsTask (contents_of flash honest) (holds honest) (λ d. false) (Trim (n * size) size false) [] old (answer_from result []) new
   trimmed size size' size_is result same stopped asks one two =
       read_then (contents_of flash honest) (holds honest) (λ d. false) (n * size) size (n * size) size old mid new (answer_from read given) (answer_from result [])
       (still_by same stopped asks.answer result asks.told asks.changes.refuses.stopped) one
-      (subst (λ k. Performs (contents_of flash honest) (holds honest) (λ d. false) (Trim (n * k) k false) [] mid (answer_from result []) new) size_is two)
+      (subst (λ k. PerformsTask (contents_of flash honest) (holds honest) (λ d. false) (Trim (n * k) k false) [] mid (answer_from result []) new) size_is two)

@@ -11,7 +11,7 @@ use Rattle.nbd_stream.specs.declared.reply.RequestError.{RequestError}
 use Rattle.nbd_stream.specs.declared.reply.RequestError.TheVariants.{InputOutput}
 use Rattle.nbd_stream.specs.declared.task.Task.{Task}
 use Rattle.nbd_stream.specs.declared.task.Task.TheVariants.{Flush, Read}
-use Rattle.nbd_stream.specs.Disk.{Contents, Idles, IsEither, MayAnswer, Performs, answer_from, error_for, Steps, bytes_after, bytes_given, count_given, with_bytes}
+use Rattle.nbd_stream.specs.Disk.{Contents, Idles, IsEither, MayAnswer, PerformsTask, answer_from, error_for, TaskSteps, bytes_after, bytes_given, count_given, with_bytes}
 use Rattle.nbd_stream.proofs.DiskLemmas.{before_it, inside_it, length-with_bytes, past_it}
 use Rattle.disk_server.specs.declared.guarded.GuardedSectors.{GuardedSectors}
 use Rattle.disk_server.specs.Asked.{HasZeros}
@@ -205,7 +205,7 @@ shown_kept size lost s t same p is = elim (cases_lt p (length s)) [
 
 -- of what keeps nothing back: done, the bytes are those that the task leaves; else each is one of two
 steps_shown : (task : Task) (body s : List ℕ) (answer : Answer) (t : List ℕ) → OnOk answer (t ≡ bytes_after task body s) → IfOk answer (λ given. given ≡ bytes_given task s)
-    → OnErr answer ((place : ℕ) → IsEither s (bytes_after task body s) t place) → Steps task body (lasting s) answer (lasting t)
+    → OnErr answer ((place : ℕ) → IsEither s (bytes_after task body s) t place) → TaskSteps task body (lasting s) answer (lasting t)
 steps_shown task body s (Ok given) t done gave torn = record {
   done = done;
   gave = gave;
@@ -221,7 +221,7 @@ either_kept s t p (inr is) = is
 
 -- a read of a sector that is not listed
 pub read_steps : (size n : ℕ) (lost : List Bool) (s t : Contents) (answer : Answer) → n * size + size ≤ length s.bytes → length t.bytes ≡ length s.bytes → get_or lost n false ≡ false
-    → Steps (Read (n * size) size) [] s answer t → Steps (Read (n * size) size) [] (lasting (guarded_from size lost 0 s.bytes)) answer (lasting (guarded_from size lost 0 t.bytes))
+    → TaskSteps (Read (n * size) size) [] s answer t → TaskSteps (Read (n * size) size) [] (lasting (guarded_from size lost 0 s.bytes)) answer (lasting (guarded_from size lost 0 t.bytes))
 read_steps size n lost s t (Ok given) fits same is steps =
     steps_shown (Read (n * size) size) [] (guarded_from size lost 0 s.bytes) (Ok given) (guarded_from size lost 0 t.bytes) (ap (guarded_from size lost 0) steps.done)
     (steps.gave ∙ sym (shown_range size n lost s.bytes fits is)) tt
@@ -231,7 +231,7 @@ read_steps size n lost s t (Err e) fits same is steps =
 
 -- a flush
 pub flush_steps : (size : ℕ) (lost : List Bool) (s t : Contents) (answer : Answer) → length t.bytes ≡ length s.bytes
-    → Steps Flush [] s answer t → Steps Flush [] (lasting (guarded_from size lost 0 s.bytes)) answer (lasting (guarded_from size lost 0 t.bytes))
+    → TaskSteps Flush [] s answer t → TaskSteps Flush [] (lasting (guarded_from size lost 0 s.bytes)) answer (lasting (guarded_from size lost 0 t.bytes))
 flush_steps size lost s t (Ok given) same steps =
     steps_shown Flush [] (guarded_from size lost 0 s.bytes) (Ok given) (guarded_from size lost 0 t.bytes) (ap (guarded_from size lost 0) steps.done) steps.gave tt
 flush_steps size lost s t (Err e) same steps =
@@ -241,23 +241,23 @@ flush_steps size lost s t (Err e) same steps =
 -- a change of a sector: the device has done it, and the sector was taken off the list, or was to be; or the device has failed
 module _ (size n : ℕ) (task : Task) (body set : List ℕ) (leaves : (l : List ℕ) → bytes_after task body l ≡ with_bytes (n * size) set l) (gives : (l : List ℕ) → [] ≡ bytes_given task l)
     (some : 0 < size) (long : length set ≡ size) (lost : List Bool) (s t : Contents) (fits : n * size + size ≤ length s.bytes) where
-  set_steps : (lost' : List Bool) → IsCleared n lost lost' → Steps task body s (Ok []) t
+  set_steps : (lost' : List Bool) → IsCleared n lost lost' → TaskSteps task body s (Ok []) t
       → guarded_from size lost' 0 t.bytes ≡ bytes_after task body (guarded_from size lost 0 s.bytes)
   set_steps lost' cleared steps =
       shown_set size n set s.bytes some long fits lost lost' t.bytes cleared (steps.done ∙ leaves s.bytes) ∙ sym (leaves (guarded_from size lost 0 s.bytes))
 
-  pub healed_steps : (lost' : List Bool) → IsCleared n lost lost' → Steps task body s (Ok []) t
-      → Steps task body (lasting (guarded_from size lost 0 s.bytes)) (Ok []) (lasting (guarded_from size lost' 0 t.bytes))
+  pub healed_steps : (lost' : List Bool) → IsCleared n lost lost' → TaskSteps task body s (Ok []) t
+      → TaskSteps task body (lasting (guarded_from size lost 0 s.bytes)) (Ok []) (lasting (guarded_from size lost' 0 t.bytes))
   healed_steps lost' cleared steps =
       steps_shown task body (guarded_from size lost 0 s.bytes) (Ok []) (guarded_from size lost' 0 t.bytes) (set_steps lost' cleared steps) (gives (guarded_from size lost 0 s.bytes)) tt
 
-  pub unhealed_steps : (lost' : List Bool) (e : RequestError) → IsCleared n lost lost' → Steps task body s (Ok []) t
-      → Steps task body (lasting (guarded_from size lost 0 s.bytes)) (Err e) (lasting (guarded_from size lost' 0 t.bytes))
+  pub unhealed_steps : (lost' : List Bool) (e : RequestError) → IsCleared n lost lost' → TaskSteps task body s (Ok []) t
+      → TaskSteps task body (lasting (guarded_from size lost 0 s.bytes)) (Err e) (lasting (guarded_from size lost' 0 t.bytes))
   unhealed_steps lost' e cleared steps =
       steps_shown task body (guarded_from size lost 0 s.bytes) (Err e) (guarded_from size lost' 0 t.bytes) tt tt (λ p. inr (ap (λ l. slice_index l p) (set_steps lost' cleared steps)))
 
-  pub failed_steps : (e : RequestError) → length t.bytes ≡ length s.bytes → Steps task body s (Err e) t
-      → Steps task body (lasting (guarded_from size lost 0 s.bytes)) (Err e) (lasting (guarded_from size lost 0 t.bytes))
+  pub failed_steps : (e : RequestError) → length t.bytes ≡ length s.bytes → TaskSteps task body s (Err e) t
+      → TaskSteps task body (lasting (guarded_from size lost 0 s.bytes)) (Err e) (lasting (guarded_from size lost 0 t.bytes))
   failed_steps e same steps =
       let shown : List ℕ = guarded_from size lost 0 s.bytes in
       steps_shown task body shown (Err e) (guarded_from size lost 0 t.bytes) tt tt
@@ -273,8 +273,8 @@ module _ {S K : Type 0} (contents : S → Contents) (size : S → ℕ) (honest :
 
   pub call_shown : (task : Task) (body : List ℕ) (old : GuardedSectors S K) (answer : Answer) (new : GuardedSectors S K) → size new.sectors ≡ size old.sectors → length (contents new.sectors).bytes ≡ length (contents old.sectors).bytes
       → OnOk answer (honest new.sectors ≡ honest old.sectors) → (honest new.sectors ≡ true → honest old.sectors ≡ true) → IfErr answer (MayAnswer task) → IfOk answer (λ given. length given ≡ count_given task)
-      → (honest new.sectors ≡ true → Steps task body (lasting (guarded_from (size old.sectors) old.lost.items 0 (contents old.sectors).bytes)) answer (lasting (guarded_from (size old.sectors) new.lost.items 0 (contents new.sectors).bytes)))
-      → Performs (shown contents size) (λ d. honest d.sectors) (λ d. false) task body old answer new
+      → (honest new.sectors ≡ true → TaskSteps task body (lasting (guarded_from (size old.sectors) old.lost.items 0 (contents old.sectors).bytes)) answer (lasting (guarded_from (size old.sectors) new.lost.items 0 (contents new.sectors).bytes)))
+      → PerformsTask (shown contents size) (λ d. honest d.sectors) (λ d. false) task body old answer new
   call_shown task body old answer new same long kept back may given steps = record {
     sized = length-guarded (size new.sectors) new.lost.items 0 (contents new.sectors).bytes ∙ long ∙ sym (length-guarded (size old.sectors) old.lost.items 0 (contents old.sectors).bytes);
     kept = kept;
@@ -283,7 +283,7 @@ module _ {S K : Type 0} (contents : S → Contents) (size : S → ℕ) (honest :
     fault = may;
     given = given;
     calmly = λ never. (let no : ⊥ = cc in absurd no);
-    steps = λ h. subst (λ c. Steps task body (shown contents size old) answer c) (sym (same_size new (size old.sectors) same)) (steps h);
+    steps = λ h. subst (λ c. TaskSteps task body (shown contents size old) answer c) (sym (same_size new (size old.sectors) same)) (steps h);
   }
 
   pub rest_shown : (calm : S → Bool) (old : GuardedSectors S K) (result : Result (Unit {0}) DiskFault) (new : GuardedSectors S K) → size new.sectors ≡ size old.sectors → new.lost.items ≡ old.lost.items
@@ -315,13 +315,13 @@ module _ {S K : Type 0} (contents : S → Contents) (size : S → ℕ) (honest :
   -- a change that the device has done: the sector was taken off the list, or it was to be
   module _ (kept : K → List Bool) (calm : S → Bool) (n : ℕ) (task : Task) (body set : List ℕ) (old : GuardedSectors S K) (leaves : (l : List ℕ) → bytes_after task body l ≡ with_bytes (n * size old.sectors) set l)
       (gives : (l : List ℕ) → [] ≡ bytes_given task l) (may : MayAnswer task InputOutput) (some : 0 < size old.sectors) (long : length set ≡ size old.sectors) (fits : n * size old.sectors + size old.sectors ≤ length (contents old.sectors).bytes)
-      (mid : S) (new : GuardedSectors S K) (same : size mid ≡ size old.sectors) (sectors : new.sectors ≡ mid) (p : Performs contents honest calm task body old.sectors (Ok []) mid) where
-    device_steps : honest new.sectors ≡ true → Steps task body (contents old.sectors) (Ok []) (contents new.sectors)
-    device_steps h = subst (λ s. Steps task body (contents old.sectors) (Ok []) (contents s)) (sym sectors) (p.steps (sym (ap honest sectors) ∙ h))
+      (mid : S) (new : GuardedSectors S K) (same : size mid ≡ size old.sectors) (sectors : new.sectors ≡ mid) (p : PerformsTask contents honest calm task body old.sectors (Ok []) mid) where
+    device_steps : honest new.sectors ≡ true → TaskSteps task body (contents old.sectors) (Ok []) (contents new.sectors)
+    device_steps h = subst (λ s. TaskSteps task body (contents old.sectors) (Ok []) (contents s)) (sym sectors) (p.steps (sym (ap honest sectors) ∙ h))
 
     pub change_shown : (result : Result (Unit {0}) DiskFault) → OnOk result (HealsIfListed kept n (record old { sectors = mid }) new)
         → (is_listed old n ≡ false → (result ≡ Ok tt) × (new ≡ record old { sectors = mid })) → (is_listed old n ≡ true → new.lost.items ≡ slice_set old.lost.items n false) → IfErr result (λ e. e ≡ fault.Failed)
-        → Performs (shown contents size) (λ d. honest d.sectors) (λ d. false) task body old (answer_from result []) new
+        → PerformsTask (shown contents size) (λ d. honest d.sectors) (λ d. false) task body old (answer_from result []) new
     change_shown (Ok done) heals unlisted_so off failed =
         call_shown task body old (Ok []) new (ap size sectors ∙ same) (ap (λ s. length (contents s).bytes) sectors ∙ p.sized) (ap honest sectors ∙ p.kept) (λ h. p.back (sym (ap honest sectors) ∙ h)) tt p.given
         (λ h. healed_steps (size old.sectors) n task body set leaves gives some long old.lost.items (contents old.sectors) (contents new.sectors) fits new.lost.items
@@ -335,11 +335,11 @@ module _ {S K : Type 0} (contents : S → Contents) (size : S → ℕ) (honest :
   -- or it has failed
   pub failed_shown : (calm : S → Bool) (n : ℕ) (task : Task) (body set : List ℕ) (old : GuardedSectors S K) (leaves : (l : List ℕ) → bytes_after task body l ≡ with_bytes (n * size old.sectors) set l)
       (gives : (l : List ℕ) → [] ≡ bytes_given task l) (some : 0 < size old.sectors) (long : length set ≡ size old.sectors) (fits : n * size old.sectors + size old.sectors ≤ length (contents old.sectors).bytes)
-      (new : GuardedSectors S K) (e : RequestError) → size new.sectors ≡ size old.sectors → new.lost.items ≡ old.lost.items → Performs contents honest calm task body old.sectors (Err e) new.sectors
-      → Performs (shown contents size) (λ d. honest d.sectors) (λ d. false) task body old (Err e) new
+      (new : GuardedSectors S K) (e : RequestError) → size new.sectors ≡ size old.sectors → new.lost.items ≡ old.lost.items → PerformsTask contents honest calm task body old.sectors (Err e) new.sectors
+      → PerformsTask (shown contents size) (λ d. honest d.sectors) (λ d. false) task body old (Err e) new
   failed_shown calm n task body set old leaves gives some long fits new e same lost p =
       call_shown task body old (Err e) new same p.sized tt p.back p.fault tt
-      (λ h. subst (λ l. Steps task body (lasting (guarded_from (size old.sectors) old.lost.items 0 (contents old.sectors).bytes)) (Err e) (lasting (guarded_from (size old.sectors) l 0 (contents new.sectors).bytes))) (sym lost)
+      (λ h. subst (λ l. TaskSteps task body (lasting (guarded_from (size old.sectors) old.lost.items 0 (contents old.sectors).bytes)) (Err e) (lasting (guarded_from (size old.sectors) l 0 (contents new.sectors).bytes))) (sym lost)
       (failed_steps (size old.sectors) n task body set leaves gives some long old.lost.items (contents old.sectors) (contents new.sectors) fits e p.sized (p.steps h)))
 
 -- ---- laws of its list

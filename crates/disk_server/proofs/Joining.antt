@@ -6,7 +6,7 @@ use Rattle.std.proofs.lemmas.List.{ext_get_or, length-take-le}
 use Rattle.nbd_stream.specs.declared.reply.RequestError.{RequestError}
 use Rattle.nbd_stream.specs.declared.task.Task.{Task}
 use Rattle.nbd_stream.specs.declared.task.Task.TheVariants.{Read, Write, Trim}
-use Rattle.nbd_stream.specs.Disk.{Contents, IsEither, Performs, Steps, with_bytes}
+use Rattle.nbd_stream.specs.Disk.{Contents, IsEither, PerformsTask, TaskSteps, with_bytes}
 use Rattle.disk_server.proofs.Bytes.{front_either, lent_back, part_read, part_set, place_is, range_more, sector_fits, set_same, with_more}
 use Rattle.disk_server.proofs.ReadingLemmas.{by_answer}
 
@@ -91,8 +91,8 @@ module _ (front piece rest : List ℕ) (o place : ℕ) (s m : Contents) (at : pl
 -- the first is set, and the next one as this answers; what comes after it is let be
 pub steps_more : (front piece rest : List ℕ) (o k n j place : ℕ) (s m t : Contents) (answer : Answer)
     → place ≡ o + length front → o + length ((front ++ piece) ++ rest) ≤ length s.bytes
-    → Steps (Write o k false) front s (Ok []) m → Steps (Write place j false) piece m answer t → OnOk answer (rest ≡ [])
-    → Steps (Write o n false) ((front ++ piece) ++ rest) s answer t
+    → TaskSteps (Write o k false) front s (Ok []) m → TaskSteps (Write place j false) piece m answer t → OnOk answer (rest ≡ [])
+    → TaskSteps (Write o n false) ((front ++ piece) ++ rest) s answer t
 steps_more front piece rest o k n j place s m t answer at fits one two last =
     let due : List ℕ = with_bytes o ((front ++ piece) ++ rest) s.bytes in
     let next : List ℕ = with_bytes place piece m.bytes in
@@ -130,7 +130,7 @@ same_between due next s m same is = record {
 
 steps_part : (part sector : List ℕ) (base start size n offset : ℕ) (s m t : Contents) (answer : Answer)
     → start + length part ≤ size → base + size ≤ length s.bytes → offset ≡ base + start
-    → Steps (Read base size) [] s (Ok sector) m → Steps (Write base size false) (with_bytes start part sector) m answer t → Steps (Write offset n false) part s answer t
+    → TaskSteps (Read base size) [] s (Ok sector) m → TaskSteps (Write base size false) (with_bytes start part sector) m answer t → TaskSteps (Write offset n false) part s answer t
 steps_part part sector base start size n offset s m t answer within fits at one two =
     let due : List ℕ = with_bytes offset part s.bytes in
     let next : List ℕ = with_bytes base (with_bytes start part sector) m.bytes in
@@ -147,12 +147,12 @@ steps_part part sector base start size n offset s m t answer within fits at one 
     }
 
 -- a sector that was read, whatever came of it, is as it was
-same_bytes : (o n : ℕ) (s t : Contents) (answer : Answer) → length t.bytes ≡ length s.bytes → Steps (Read o n) [] s answer t → t.bytes ≡ s.bytes
+same_bytes : (o n : ℕ) (s t : Contents) (answer : Answer) → length t.bytes ≡ length s.bytes → TaskSteps (Read o n) [] s answer t → t.bytes ≡ s.bytes
 same_bytes o n s t answer long steps = ext_get_or 0 t.bytes s.bytes long (λ p within. by_answer o n s t answer steps p)
 
 -- so a trim behind that is one of what was there
 steps_then : (o n o' n' : ℕ) (s m t : Contents) (answer answer' : Answer) → length m.bytes ≡ length s.bytes
-    → Steps (Read o n) [] s answer m → Steps (Trim o' n' false) [] m answer' t → Steps (Trim o' n' false) [] s answer' t
+    → TaskSteps (Read o n) [] s answer m → TaskSteps (Trim o' n' false) [] m answer' t → TaskSteps (Trim o' n' false) [] s answer' t
 steps_then o n o' n' s m t answer answer' long one two =
     let due : List ℕ = with_bytes o' (replicate n' 0) s.bytes in
     let next : List ℕ = with_bytes o' (replicate n' 0) m.bytes in
@@ -176,7 +176,7 @@ done_between due s m is = record {
 -- ---- reads, one behind another
 
 steps_read_more : (front piece : List ℕ) (o k m place : ℕ) (s i t : Contents) → place ≡ o + k
-    → Steps (Read o k) [] s (Ok front) i → Steps (Read place m) [] i (Ok piece) t → Steps (Read o (k + m)) [] s (Ok (front ++ piece)) t
+    → TaskSteps (Read o k) [] s (Ok front) i → TaskSteps (Read place m) [] i (Ok piece) t → TaskSteps (Read o (k + m)) [] s (Ok (front ++ piece)) t
 steps_read_more front piece o k m place s i t at one two =
     let between : Between s.bytes i.bytes s i = done_between s.bytes s i one.done in
     record {
@@ -193,7 +193,7 @@ steps_read_more front piece o k m place s i t at one two =
 
 module _ {D : Type 0} (contents : D → Contents) (honest calm : D → Bool) where
   abbrev Does : Task → List ℕ → D → Answer → D → Type 0
-  Does task body old answer new = Performs contents honest calm task body old answer new
+  Does task body old answer new = PerformsTask contents honest calm task body old answer new
 
   module _ (front piece rest : List ℕ) (o k n j place : ℕ) (old mid new : D) (answer : Answer) (at : place ≡ o + length front)
       (fits : o + length ((front ++ piece) ++ rest) ≤ length (contents old).bytes)

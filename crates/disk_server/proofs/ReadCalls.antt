@@ -11,7 +11,7 @@ use Rattle.promises.specs.Step as step
 use Rattle.promises.specs.Step.{State, ReadStep, ArrayStep}
 use Rattle.promises.proofs.StepLemmas as steps
 use Rattle.nbd_stream.specs.declared.task.Task.TheVariants.{Read}
-use Rattle.nbd_stream.specs.Disk.{MayAnswer, Performs, answer_from}
+use Rattle.nbd_stream.specs.Disk.{MayAnswer, PerformsTask, answer_from}
 use Rattle.disk_server.specs.Flat.{AreSectors, flat}
 use Rattle.disk_server.proofs.FlatLemmas.{flat_law}
 use Rattle.collection.specs.State.{Ram}
@@ -116,7 +116,7 @@ module _ {N : Type 0} (flash : N → Flash) (honest : N → Bool) (n : ℕ) (old
   pub read_performs : n < old.engine.geometry.sectors → length out ≡ old.engine.geometry.data_bytes → IsDisk flash honest new
       → (honest old.engine.nand ≡ true → IsWell flash old → result ≢ Err BusFault
       → ArrayStep old.engine.geometry (state_in flash old) (step.Read n) (read_reply_of out result) (state_in flash new))
-      → Performs (contents_of flash honest) (holds honest) (λ d. false) (Read (n * old.engine.geometry.data_bytes) old.engine.geometry.data_bytes) [] old
+      → PerformsTask (contents_of flash honest) (holds honest) (λ d. false) (Read (n * old.engine.geometry.data_bytes) old.engine.geometry.data_bytes) [] old
       (answer_from (read_answer result) out) new
   read_performs within its_long now step_is = performs_by (bytes flash honest) (holds honest) (Read (n * old.engine.geometry.data_bytes) old.engine.geometry.data_bytes) [] old
       (answer_from (read_answer result) out) new

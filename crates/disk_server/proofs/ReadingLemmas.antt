@@ -5,7 +5,7 @@ use Rattle.nbd_stream.specs.declared.reply.RequestError.{RequestError}
 use Rattle.nbd_stream.specs.declared.task.Task.{Task}
 use Rattle.nbd_stream.specs.declared.fault.DiskFault.{DiskFault}
 use Rattle.nbd_stream.specs.declared.task.Task.TheVariants.{Read, Write, Flush, Trim, WriteZeroes}
-use Rattle.nbd_stream.specs.Disk.{Contents, IsEither, MayAnswer, Performs, Steps}
+use Rattle.nbd_stream.specs.Disk.{Contents, IsEither, MayAnswer, PerformsTask, TaskSteps}
 use Rattle.nbd_stream.specs.Through.{Times, Through}
 use Rattle.nbd_stream.proofs.ThroughLemmas.{joined, none}
 use Rattle.disk_server.specs.Reading.{AllLasts, OnlyAsksReads, OnlyReadsLaw}
@@ -15,7 +15,7 @@ not e = cc
 
 -- a call that was answered an error, and asked nothing
 pub unasked : {D : Type 0} (contents : D → Contents) (honest : D → Bool) (task : Task) (body : List ℕ) (d : D) (e : RequestError) → MayAnswer task e
-    → Performs contents honest (λ _. false) task body d (Err e) d
+    → PerformsTask contents honest (λ _. false) task body d (Err e) d
 unasked contents honest task body d e may = record {
   sized = refl;
   kept = tt;
@@ -35,7 +35,7 @@ unasked contents honest task body d e may = record {
 
 -- a flush of what lasts already
 pub flushed : {D : Type 0} (contents : D → Contents) (honest : D → Bool) (d : D) → (honest d ≡ true → AllLasts (contents d))
-    → Performs contents honest (λ _. false) Flush [] d (Ok []) d
+    → PerformsTask contents honest (λ _. false) Flush [] d (Ok []) d
 flushed contents honest d all = record {
   sized = refl;
   kept = refl;
@@ -59,7 +59,7 @@ unread : (old new durable : List ℕ) (place : ℕ) → IsEither old old new pla
 unread old new durable place (inl is) = is
 unread old new durable place (inr is) = is
 
-pub by_answer : (offset count : ℕ) (s t : Contents) (answer : Result (List ℕ) RequestError) → Steps (Read offset count) [] s answer t
+pub by_answer : (offset count : ℕ) (s t : Contents) (answer : Result (List ℕ) RequestError) → TaskSteps (Read offset count) [] s answer t
     → (place : ℕ) → slice_index t.bytes place ≡ slice_index s.bytes place
 by_answer offset count s t (Ok bytes) steps place = ap (λ all. slice_index all place) steps.done
 by_answer offset count s t (Err e) steps place = unread s.bytes t.bytes [] place (steps.torn place)
@@ -70,20 +70,20 @@ kept : (offset count : ℕ) (s t : Contents) (place : ℕ) → AllLasts s
 kept offset count s t place all (inl same) = same ∙ all place
 kept offset count s t place all (inr either) = unread s.bytes t.durable [] place either
 
-pub still_lasts : (offset count : ℕ) (s t : Contents) (answer : Result (List ℕ) RequestError) → AllLasts s → Steps (Read offset count) [] s answer t → AllLasts t
+pub still_lasts : (offset count : ℕ) (s t : Contents) (answer : Result (List ℕ) RequestError) → AllLasts s → TaskSteps (Read offset count) [] s answer t → AllLasts t
 still_lasts offset count s t answer all steps place =
     kept offset count s t place all (steps.stays place) ∙ sym (by_answer offset count s t answer steps place)
 
 -- a read of a disk whose bytes last
 pub read_lasts : {D : Type 0} (contents : D → Contents) (honest calm : D → Bool) (offset count : ℕ) (old new : D) (answer : Result (List ℕ) RequestError)
-    → (honest old ≡ true → AllLasts (contents old)) → Performs contents honest calm (Read offset count) [] old answer new
+    → (honest old ≡ true → AllLasts (contents old)) → PerformsTask contents honest calm (Read offset count) [] old answer new
     → honest new ≡ true → AllLasts (contents new)
 read_lasts contents honest calm offset count old new answer all performs h =
     still_lasts offset count (contents old) (contents new) answer (all (performs.back h)) (performs.steps h)
 
 -- the same call of a disk that is not calm
 pub uncalm : {D : Type 0} (contents : D → Contents) (honest calm : D → Bool) (task : Task) (body : List ℕ) (old new : D) (answer : Result (List ℕ) RequestError)
-    → Performs contents honest calm task body old answer new → Performs contents honest (λ _. false) task body old answer new
+    → PerformsTask contents honest calm task body old answer new → PerformsTask contents honest (λ _. false) task body old answer new
 uncalm contents honest calm task body old new answer performs = record {
   sized = performs.sized;
   kept = performs.kept;

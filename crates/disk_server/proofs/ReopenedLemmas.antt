@@ -11,12 +11,12 @@ use Rattle.nbd_stream.specs.declared.fault.DiskFault.TheVariants as fault
 use Rattle.nbd_stream.specs.declared.reply.RequestError.{RequestError}
 use Rattle.nbd_stream.specs.declared.reply.RequestError.TheVariants.{InputOutput}
 use Rattle.nbd_stream.specs.declared.task.Task.{Task}
-use Rattle.nbd_stream.specs.Disk.{Contents, Idles, MayAnswer, Performs, Steps, answer_from, error_for}
+use Rattle.nbd_stream.specs.Disk.{Contents, Idles, MayAnswer, PerformsTask, TaskSteps, answer_from, error_for}
 use Rattle.disk_server.specs.Asked.{HasZeros, SparesZeros}
 use Rattle.disk_server.specs.Disk.{contents_of, holds}
 use Rattle.disk_server.specs.Opened.{flash_in, is_honest_in}
 use Rattle.nbd_stream.specs.declared.task.Task.TheVariants.{Read}
-use Rattle.disk_server.specs.Reopened.{AnewLaw, AreParts, GoneLaw, HasDevice, IsAnew, TermsLaw, IsGone, IsOpenedFrom, ReadsDevice, Reopened, Reopens, Settles, Terms, bytes_by, contents_in, holds_by, holds_in, reads_of, terms_of}
+use Rattle.disk_server.specs.Reopened.{AnewLaw, AreParts, GoneLaw, HasDevice, IsAnew, TermsLaw, IsGone, IsOpenedFrom, ReadsDevice, Reopened, Reopens, SettlesCall, Terms, bytes_by, contents_in, holds_by, holds_in, reads_of, terms_of}
 
 both : (a b : Bool) → (a && b) ≡ true → (a ≡ true) × (b ≡ true)
 both true true e = (refl, refl)
@@ -71,8 +71,8 @@ module _ {S : Type 0} (held : S → Held) (honest : S → Bool) where
     same_long : length (at left).bytes ≡ length (at d).bytes → length (contents_in held honest new).bytes ≡ length (contents_in held honest old).bytes
     same_long same = ap (λ (c : Contents). length c.bytes) (shown_as new left there.device_is) ∙ same ∙ sym (ap (λ (c : Contents). length c.bytes) (shown_as old d was))
 
-    pub goes_on : (task : Task) (body : List ℕ) (answer : Result (List ℕ) RequestError) → Performs at going (λ x. false) task body d answer left
-        → Performs (contents_in held honest) (holds_in honest) (λ x. false) task body old answer new
+    pub goes_on : (task : Task) (body : List ℕ) (answer : Result (List ℕ) RequestError) → PerformsTask at going (λ x. false) task body d answer left
+        → PerformsTask (contents_in held honest) (holds_in honest) (λ x. false) task body old answer new
     goes_on task body answer p = record {
       sized = same_long p.sized;
       kept = on_ok answer as_held p.kept;
@@ -81,8 +81,8 @@ module _ {S : Type 0} (held : S → Held) (honest : S → Bool) where
       fault = p.fault;
       given = p.given;
       calmly = λ calm. (let no : ⊥ = cc in absurd no);
-      steps = λ h. subst (λ (c : Contents). Steps task body c answer (contents_in held honest new)) (sym (shown_as old d was))
-          (subst (λ (c : Contents). Steps task body (at d) answer c) (sym (shown_as new left there.device_is)) (p.steps (left_holds h)));
+      steps = λ h. subst (λ (c : Contents). TaskSteps task body c answer (contents_in held honest new)) (sym (shown_as old d was))
+          (subst (λ (c : Contents). TaskSteps task body (at d) answer c) (sym (shown_as new left there.device_is)) (p.steps (left_holds h)));
     }
 
     pub idles_on : (answer : Result (Unit {0}) DiskFault) → Idles at going (λ x. false) d answer left → Idles (contents_in held honest) (holds_in honest) (λ x. false) old answer new
@@ -102,7 +102,7 @@ module _ {S : Type 0} (held : S → Held) (honest : S → Bool) where
 
   -- IT HOLDS NO MORE
   pub ends : (task : Task) (body : List ℕ) (old new : Reopened S) (e : RequestError) → holds_in honest new ≡ false → length (contents_in held honest new).bytes ≡ length (contents_in held honest old).bytes → MayAnswer task e
-      → Performs (contents_in held honest) (holds_in honest) (λ x. false) task body old (Err e) new
+      → PerformsTask (contents_in held honest) (holds_in honest) (λ x. false) task body old (Err e) new
   ends task body old new e over same may = record {
     sized = same;
     kept = tt;
@@ -142,21 +142,21 @@ module _ {S : Type 0} (held : S → Held) (honest : S → Bool) where
 
     -- A CALL AND WHAT IT COMES TO, as a task
     pub performs : (told : DiskFault) (task : Task) (body : List ℕ) (answer result : Result (Unit {0}) DiskFault) → MayAnswer task (error_for told) → MayAnswer task InputOutput
-        → Performs at going (λ x. false) task body d (answer_from answer []) left → Settles held honest full failed told (terms_of old) old.reopened old.next left answer result new
-        → Performs (contents_in held honest) (holds_in honest) (λ x. false) task body old (answer_from result []) new
+        → PerformsTask at going (λ x. false) task body d (answer_from answer []) left → SettlesCall held honest full failed told (terms_of old) old.reopened old.next left answer result new
+        → PerformsTask (contents_in held honest) (holds_in honest) (λ x. false) task body old (answer_from result []) new
     performs told task body (Ok done) result may input p s =
-        subst (λ r. Performs (contents_in held honest) (holds_in honest) (λ x. false) task body old (answer_from r []) new) (sym s.0) (goes_on old new d left was s.1 task body (Ok []) p)
+        subst (λ r. PerformsTask (contents_in held honest) (holds_in honest) (λ x. false) task body old (answer_from r []) new) (sym s.0) (goes_on old new d left was s.1 task body (Ok []) p)
     performs told task body (Err fault.ReadOnly) result may input p s =
-        subst (λ r. Performs (contents_in held honest) (holds_in honest) (λ x. false) task body old (answer_from r []) new) (sym s.0) (goes_on old new d left was s.1 task body (Err (error_for fault.ReadOnly)) p)
+        subst (λ r. PerformsTask (contents_in held honest) (holds_in honest) (λ x. false) task body old (answer_from r []) new) (sym s.0) (goes_on old new d left was s.1 task body (Err (error_for fault.ReadOnly)) p)
     performs told task body (Err fault.NoSpace) result may input p s =
-        subst (λ r. Performs (contents_in held honest) (holds_in honest) (λ x. false) task body old (answer_from r []) new) (sym s.0) (goes_on old new d left was s.1 task body (Err (error_for fault.NoSpace)) p)
+        subst (λ r. PerformsTask (contents_in held honest) (holds_in honest) (λ x. false) task body old (answer_from r []) new) (sym s.0) (goes_on old new d left was s.1 task body (Err (error_for fault.NoSpace)) p)
     performs told task body (Err fault.Failed) result may input p (inl s) =
-        subst (λ r. Performs (contents_in held honest) (holds_in honest) (λ x. false) task body old (answer_from r []) new) (sym s.0) (ends task body old new (error_for told) (anew_no s.1) (anew_long s.1) may)
+        subst (λ r. PerformsTask (contents_in held honest) (holds_in honest) (λ x. false) task body old (answer_from r []) new) (sym s.0) (ends task body old new (error_for told) (anew_no s.1) (anew_long s.1) may)
     performs told task body (Err fault.Failed) result may input p (inr s) =
-        subst (λ r. Performs (contents_in held honest) (holds_in honest) (λ x. false) task body old (answer_from r []) new) (sym s.0) (ends task body old new InputOutput (gone_no s.1) (gone_long s.1) input)
+        subst (λ r. PerformsTask (contents_in held honest) (holds_in honest) (λ x. false) task body old (answer_from r []) new) (sym s.0) (ends task body old new InputOutput (gone_no s.1) (gone_long s.1) input)
 
     -- as a rest
-    pub idles : (answer result : Result (Unit {0}) DiskFault) → Idles at going (λ x. false) d answer left → Settles held honest full failed fault.Failed (terms_of old) old.reopened old.next left answer result new
+    pub idles : (answer result : Result (Unit {0}) DiskFault) → Idles at going (λ x. false) d answer left → SettlesCall held honest full failed fault.Failed (terms_of old) old.reopened old.next left answer result new
         → Idles (contents_in held honest) (holds_in honest) (λ x. false) old result new
     idles (Ok done) result p s = subst (λ r. Idles (contents_in held honest) (holds_in honest) (λ x. false) old r new) (sym s.0) (idles_on old new d left was s.1 (Ok done) p)
     idles (Err fault.ReadOnly) result p s = subst (λ r. Idles (contents_in held honest) (holds_in honest) (λ x. false) old r new) (sym s.0) (idles_on old new d left was s.1 (Err fault.ReadOnly) p)
@@ -176,7 +176,7 @@ module _ {S : Type 0} (held : S → Held) (honest : S → Bool) where
     })
 
     pub spared : (told : DiskFault) (offset count : ℕ) (answer result : Result (Unit {0}) DiskFault) → SparesZeros at going (reads_of held honest) offset count d left
-        → Settles held honest full failed told (terms_of old) old.reopened old.next left answer result new
+        → SettlesCall held honest full failed told (terms_of old) old.reopened old.next left answer result new
         → SparesZeros (contents_in held honest) (holds_in honest) (ReadsDevice (reads_of held honest)) offset count old new
     spared told offset count (Ok done) result spares s = spared_on offset count spares s.1
     spared told offset count (Err fault.ReadOnly) result spares s = spared_on offset count spares s.1
@@ -218,13 +218,13 @@ parts_on size count capacity device d left was parts sizes counts = record {
 
 -- what was given of a sector, by the device that was there
 pub given_of : {S : Type 0} (held : S → Held) (honest : S → Bool) (n size : ℕ) (before after : Option (Device (DriverState (FileState S)))) (d left : Device (DriverState (FileState S))) (answer : Result (List ℕ) RequestError) → before ≡ Some d → after ≡ Some left
-    → Performs (contents_of (flash_in held) (is_honest_in honest)) (holds (is_honest_in honest)) (λ x. false) (Read (n * size) size) [] d answer left
-    → (x : Device (DriverState (FileState S))) → before ≡ Some x → (y : Device (DriverState (FileState S))) × (after ≡ Some y) × Performs (contents_of (flash_in held) (is_honest_in honest)) (holds (is_honest_in honest)) (λ z. false) (Read (n * size) size) [] x answer y
-given_of held honest n size before after d left answer was is p = λ x there. (left, is, subst (λ y. Performs (contents_of (flash_in held) (is_honest_in honest)) (holds (is_honest_in honest)) (λ z. false) (Read (n * size) size) [] y answer left) (some_same d x (sym was ∙ there)) p)
+    → PerformsTask (contents_of (flash_in held) (is_honest_in honest)) (holds (is_honest_in honest)) (λ x. false) (Read (n * size) size) [] d answer left
+    → (x : Device (DriverState (FileState S))) → before ≡ Some x → (y : Device (DriverState (FileState S))) × (after ≡ Some y) × PerformsTask (contents_of (flash_in held) (is_honest_in honest)) (holds (is_honest_in honest)) (λ z. false) (Read (n * size) size) [] x answer y
+given_of held honest n size before after d left answer was is p = λ x there. (left, is, subst (λ y. PerformsTask (contents_of (flash_in held) (is_honest_in honest)) (holds (is_honest_in honest)) (λ z. false) (Read (n * size) size) [] y answer left) (some_same d x (sym was ∙ there)) p)
 
 -- the terms stay
 pub settled_terms : {S : Type 0} (held : S → Held) (honest full : S → Bool) (failed : S → ℕ) (told : DiskFault) (terms : Terms) (reopened : Bool) (next : ℕ) (left : Device (DriverState (FileState S))) (answer result : Result (Unit {0}) DiskFault) (new : Reopened S)
-    → Settles held honest full failed told terms reopened next left answer result new → terms_of new ≡ terms
+    → SettlesCall held honest full failed told terms reopened next left answer result new → terms_of new ≡ terms
 settled_terms held honest full failed told terms reopened next left (Ok done) result new s = s.1.terms_are
 settled_terms held honest full failed told terms reopened next left (Err fault.ReadOnly) result new s = s.1.terms_are
 settled_terms held honest full failed told terms reopened next left (Err fault.NoSpace) result new s = s.1.terms_are
@@ -247,7 +247,7 @@ module _ {S : Type 0} (held : S → Held) (honest full : S → Bool) (failed : S
   not_anew before new has was is = never before was (sym has.reopened_is ∙ is)
 
   settled_anew : (told : DiskFault) (terms : Terms) (before : Bool) (next : ℕ) (left : Device (DriverState (FileState S))) (answer result : Result (Unit {0}) DiskFault) (new : Reopened S)
-      → Settles held honest full failed told terms before next left answer result new → before ≡ false → new.reopened ≡ true → IsAnew held honest full told result new
+      → SettlesCall held honest full failed told terms before next left answer result new → before ≡ false → new.reopened ≡ true → IsAnew held honest full told result new
   settled_anew told terms before next left (Ok done) result new s was is = absurd (not_anew before new s.1 was is)
   settled_anew told terms before next left (Err fault.ReadOnly) result new s was is = absurd (not_anew before new s.1 was is)
   settled_anew told terms before next left (Err fault.NoSpace) result new s was is = absurd (not_anew before new s.1 was is)

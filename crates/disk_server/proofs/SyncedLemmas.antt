@@ -7,11 +7,11 @@ use Rattle.nbd_stream.specs.declared.reply.RequestError.{RequestError}
 use Rattle.nbd_stream.specs.declared.reply.RequestError.TheVariants.{InputOutput}
 use Rattle.nbd_stream.specs.declared.task.Task.{Task}
 use Rattle.nbd_stream.specs.declared.task.Task.TheVariants.{Flush, Read, Trim, Write, WriteZeroes}
-use Rattle.nbd_stream.specs.Disk.{Contents, MayAnswer, Performs, answer_from, error_for, is_in}
+use Rattle.nbd_stream.specs.Disk.{Contents, MayAnswer, PerformsTask, answer_from, error_for, is_in}
 use Rattle.std.proofs.lemmas.Bool.{cases_lt}
 use Rattle.page_layout.specs.Counter.{HasRisen, counted}
 use Rattle.disk_server.specs.declared.mark.SyncMark.{SyncMark}
-use Rattle.disk_server.specs.Synced.{CloseLaw, Closes, Counts, EndsChange, EndsSynced, EndsTask, FlushLaw, HasSynced, IsKnownFlushed, IsLasting, IsOver, KeepsCount, Marks, NoneFailed, Notes, OverLaw, SyncedLaw, SyncsTask, UnflushedLaw, WriteLaw, after_change, after_sync}
+use Rattle.disk_server.specs.Synced.{CloseLaw, Closes, Counts, EndsChange, EndsSynced, EndsTask, FlushLaw, HasSynced, IsKnownFlushed, IsLasting, IsOver, KeepsCount, Marks, NoneFailed, NotesFailedSync, OverLaw, SyncedLaw, SyncsTask, UnflushedLaw, WriteLaw, after_change, after_sync}
 use Rattle.disk_server.proofs.ReadingLemmas.{flushed}
 use Rattle.disk_server.proofs.SyncLemmas.{no_less, none_then, then_failed, unflushed}
 use Rattle.disk_server.specs.declared.synced.SyncedDisk.{SyncedDisk}
@@ -21,7 +21,7 @@ Lasts {D} contents = (d : D) → (contents d).durable ≡ (contents d).bytes
 
 -- a call of the disk, of the joined one
 pub joined_call : {D Y : Type 0} (contents : D → Contents) (honest calm : D → Bool) (task : Task) (body : List ℕ) (old new : SyncedDisk D Y) (answer : Result (List ℕ) RequestError)
-    → Performs contents honest calm task body old.disk answer new.disk → Performs (λ s. contents s.disk) (λ s. honest s.disk) (λ _. false) task body old answer new
+    → PerformsTask contents honest calm task body old.disk answer new.disk → PerformsTask (λ s. contents s.disk) (λ s. honest s.disk) (λ _. false) task body old answer new
 joined_call contents honest calm task body old new answer p = record {
   sized = p.sized;
   kept = p.kept;
@@ -35,7 +35,7 @@ joined_call contents honest calm task body old new answer p = record {
 
 module _ {D : Type 0} (contents : D → Contents) (honest calm : D → Bool) (lasts : Lasts contents) (o n : ℕ) (durable : Bool) (old : D) where
   -- a trim that is done lasts, and one that failed is one that was to last
-  pub lasting_trim : (mid : D) (answer : Result (List ℕ) RequestError) → Performs contents honest calm (Trim o n false) [] old answer mid → Performs contents honest calm (Trim o n durable) [] old answer mid
+  pub lasting_trim : (mid : D) (answer : Result (List ℕ) RequestError) → PerformsTask contents honest calm (Trim o n false) [] old answer mid → PerformsTask contents honest calm (Trim o n durable) [] old answer mid
   lasting_trim mid answer p = record {
     sized = p.sized;
     kept = p.kept;
@@ -53,7 +53,7 @@ module _ {D : Type 0} (contents : D → Contents) (honest calm : D → Bool) (la
 
 -- what was done, and then failed to be synced
 failed_then : {D : Type 0} (contents : D → Contents) (honest calm : D → Bool) (task : Task) (body : List ℕ) (old new : D) (e : DiskFault) → e ≡ fault.Failed → MayAnswer task InputOutput → calm old ≡ false
-    → Performs contents honest calm task body old (Ok []) new → Performs contents honest calm task body old (Err (error_for e)) new
+    → PerformsTask contents honest calm task body old (Ok []) new → PerformsTask contents honest calm task body old (Err (error_for e)) new
 failed_then contents honest calm task body old new e is may never p = record {
   sized = p.sized;
   kept = tt;
@@ -72,12 +72,12 @@ failed_then contents honest calm task body old new e is may never p = record {
 }
 
 pub and_synced : {D : Type 0} (contents : D → Contents) (honest calm : D → Bool) (task : Task) (body : List ℕ) (old new : D) (result : Result (Unit {0}) DiskFault) → IfErr result (λ e. e ≡ fault.Failed)
-    → MayAnswer task InputOutput → calm old ≡ false → Performs contents honest calm task body old (Ok []) new → Performs contents honest calm task body old (answer_from result []) new
+    → MayAnswer task InputOutput → calm old ≡ false → PerformsTask contents honest calm task body old (Ok []) new → PerformsTask contents honest calm task body old (answer_from result []) new
 and_synced contents honest calm task body old new (Ok done) is may never p = p
 and_synced contents honest calm task body old new (Err e) is may never p = failed_then contents honest calm task body old new e is may never p
 
 pub as_disk : {D Y : Type 0} (contents : D → Contents) (honest : D → Bool) (task : Task) (body : List ℕ) (old new : SyncedDisk D Y) (answer : Result (List ℕ) RequestError)
-    → Performs (λ s. contents s.disk) (λ s. honest s.disk) (λ _. false) task body old answer new → Performs contents honest (λ _. false) task body old.disk answer new.disk
+    → PerformsTask (λ s. contents s.disk) (λ s. honest s.disk) (λ _. false) task body old answer new → PerformsTask contents honest (λ _. false) task body old.disk answer new.disk
 as_disk contents honest task body old new answer p = record {
   sized = p.sized;
   kept = p.kept;
@@ -101,7 +101,7 @@ module _ {D Y : Type 0} (does : D → Task → Result (Unit {0}) DiskFault → D
   }
 
   -- and before
-  pub goes : (new : SyncedDisk D Y) (result : Result (Unit {0}) DiskFault) → old.failed ≡ false → EndsTask does synced marked next old task result new → Notes failed old result new
+  pub goes : (new : SyncedDisk D Y) (result : Result (Unit {0}) DiskFault) → old.failed ≡ false → EndsTask does synced marked next old task result new → NotesFailedSync failed old result new
       → SyncsTask does synced failed marked next old task result new
   goes new result going ends notes = record {
     over = λ over. (let no : true ≡ false = sym over ∙ going in (let never : ⊥ = cc in absurd never));
@@ -147,7 +147,7 @@ marked_last marked next durable old new (Ok done) (inl due) = λ lasts. ap (λ m
 marked_last marked next durable old new (Ok done) (inr none) = λ lasts. absurd (none.0 (inl lasts))
 marked_last marked next durable old new (Err e) is = tt
 
-pub notes_then : {D Y : Type 0} (failed : Y → ℕ) (old mid new : SyncedDisk D Y) (result : Result (Unit {0}) DiskFault) → NoneFailed failed old mid → Notes failed mid result new → Notes failed old result new
+pub notes_then : {D Y : Type 0} (failed : Y → ℕ) (old mid new : SyncedDisk D Y) (result : Result (Unit {0}) DiskFault) → NoneFailed failed old mid → NotesFailedSync failed mid result new → NotesFailedSync failed old result new
 notes_then failed old mid new (Ok done) before more = none_then failed old mid new before more
 notes_then failed old mid new (Err e) before more = then_failed failed old mid new before more
 
@@ -193,7 +193,7 @@ module _ {D Y : Type 0} (does : D → Task → Result (Unit {0}) DiskFault → D
   synced_law old new task lasts is = ends_marked old new task lasts (is.ends (was_going old new is.over old.failed refl))
 
   -- a sync that failed is kept
-  kept_of : (old mid : SyncedDisk D Y) (answer : Result (Unit {0}) DiskFault) → failed old.syncs < failed mid.syncs → Notes failed old answer mid → mid.failed ≡ true
+  kept_of : (old mid : SyncedDisk D Y) (answer : Result (Unit {0}) DiskFault) → failed old.syncs < failed mid.syncs → NotesFailedSync failed old answer mid → mid.failed ≡ true
   kept_of old mid (Ok done) less notes = absurd (omega (arith, less, notes.count_same))
   kept_of old mid (Err e) less (inl none) = absurd (omega (arith, less, none.count_same))
   kept_of old mid (Err e) less (inr one) = one.kept

@@ -3,7 +3,7 @@ use Rattle.std.proofs.Common.{◌≡◌, inl, inr, ℕ, Bool, true, false, List,
 use Rattle.std.specs.Prelude.{slice_index, IfOk, IfErr, OnOk, OnErr}
 use Rattle.nbd_stream.specs.declared.reply.RequestError.{RequestError}
 use Rattle.nbd_stream.specs.declared.task.Task.{Task}
-use Rattle.nbd_stream.specs.Disk.{Contents, MayAnswer, Performs, Steps, bytes_after, bytes_given, count_given}
+use Rattle.nbd_stream.specs.Disk.{Contents, MayAnswer, PerformsTask, TaskSteps, bytes_after, bytes_given, count_given}
 
 abbrev pub Answer : Type 0
 Answer = Result (List ℕ) RequestError
@@ -18,7 +18,7 @@ pub record Sets (task : Task) (body s : List ℕ) (answer : Answer) (t : List �
   pub gave : IfOk answer (λ given. given ≡ bytes_given task s)
   pub not_done : OnErr answer (t ≡ s)
 
-pub steps_of : (task : Task) (body s : List ℕ) (answer : Answer) (t : List ℕ) → Sets task body s answer t → Steps task body (lasting s) answer (lasting t)
+pub steps_of : (task : Task) (body s : List ℕ) (answer : Answer) (t : List ℕ) → Sets task body s answer t → TaskSteps task body (lasting s) answer (lasting t)
 steps_of task body s (Ok given) t its = record {
   done = its.done;
   gave = its.gave;
@@ -39,7 +39,7 @@ module _ {D : Type 0} (bytes : D → List ℕ) (honest : D → Bool) (task : Tas
   pub performs_by : length (bytes new) ≡ length (bytes old) → OnOk answer (honest new ≡ honest old) → (honest new ≡ true → honest old ≡ true)
       → IfErr answer (MayAnswer task) → IfOk answer (λ given. length given ≡ count_given task)
       → (honest new ≡ true → Sets task body (bytes old) answer (bytes new))
-      → Performs (λ d. lasting (bytes d)) honest (λ d. false) task body old answer new
+      → PerformsTask (λ d. lasting (bytes d)) honest (λ d. false) task body old answer new
   performs_by sized kept back fault given sets = record {
     sized = sized;
     kept = kept;

@@ -13,7 +13,7 @@ use Rattle.collection.specs.Safe.{ram}
 use Rattle.nbd_stream.specs.declared.fault.DiskFault.{DiskFault}
 use Rattle.nbd_stream.specs.declared.fault.DiskFault.TheVariants as fault
 use Rattle.nbd_stream.specs.declared.task.Task.TheVariants.{Read}
-use Rattle.nbd_stream.specs.Disk.{Contents, Performs, answer_from}
+use Rattle.nbd_stream.specs.Disk.{Contents, PerformsTask, answer_from}
 use Rattle.disk_server.specs.Flat.{flat}
 use Rattle.ftl_device.specs.declared.device.Device.{Device}
 use Rattle.ftl_device.specs.declared.fault.DeviceFault.{DeviceFault}
@@ -104,7 +104,7 @@ pub record AsksClear {N : Type 0} (flash : N → Flash) (recorded : N → Option
   pub mid : Device N
   pub answer : Result (Unit {0}) DiskFault
   pub given : List ℕ
-  pub read : Performs (contents_of flash honest) (holds honest) (λ d. false) (Read (n * old.engine.geometry.data_bytes) old.engine.geometry.data_bytes) [] old (answer_from answer given) mid
+  pub read : PerformsTask (contents_of flash honest) (holds honest) (λ d. false) (Read (n * old.engine.geometry.data_bytes) old.engine.geometry.data_bytes) [] old (answer_from answer given) mid
   pub only_reads : OnlyReads flash honest calm programs erases failed old.engine.nand mid.engine.nand
   pub trims : ((answer ≡ Ok tt) × (given ≡ replicate old.engine.geometry.data_bytes 0) × (result ≡ Ok tt) × (new ≡ mid))
       ⊎ (((answer ≡ Ok tt → given ≢ replicate old.engine.geometry.data_bytes 0) × AsksChange flash recorded honest calm failed n (step.Trim n) mid result new))

@@ -52,8 +52,8 @@ pub record KeepsList {S K : Type 0} (old new : GuardedSectors S K) : Type 0 wher
   pub failed_same : new.failed ≡ old.failed
 
 -- NOTHING IS ASKED of the device, nor of the keeper of its list
-abbrev pub IsRefused : {S K : Type 0} → (old : GuardedSectors S K) → Result (Unit {0}) DiskFault → (new : GuardedSectors S K) → Type 0
-IsRefused old result new = (result ≡ Err fault.Failed) × (new ≡ old)
+abbrev pub IsRefusedUnasked : {S K : Type 0} → (old : GuardedSectors S K) → Result (Unit {0}) DiskFault → (new : GuardedSectors S K) → Type 0
+IsRefusedUnasked old result new = (result ≡ Err fault.Failed) × (new ≡ old)
 
 -- it is read as the device is, or nothing is asked
 abbrev pub ReadsGuarded : {S K : Type 0} → (reads : S → S → Type 0) → (old new : GuardedSectors S K) → Type 0
@@ -62,7 +62,7 @@ ReadsGuarded reads old new = (new ≡ old) ⊎ (reads old.sectors new.sectors ×
 -- A FLUSH AND A REST ARE ONE OF THE DEVICE, as this says of such a one, and the list stays; after a list that was not kept nothing is asked
 abbrev pub PassesOn : {S K : Type 0} → (is : S → Result (Unit {0}) DiskFault → S → Type 0) → GuardedSectors S K → Result (Unit {0}) DiskFault → GuardedSectors S K → Type 0
 PassesOn is old result new =
-    ((old.failed ≡ true) × IsRefused old result new)
+    ((old.failed ≡ true) × IsRefusedUnasked old result new)
     ⊎ ((old.failed ≡ false) × is old.sectors result new.sectors × KeepsList old new)
 
 -- SECTOR n IS TAKEN OFF THE LIST, AND THE REST OF THE LIST LASTS

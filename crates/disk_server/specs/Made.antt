@@ -15,12 +15,12 @@ pub record IsFormattedFrom (s t : Held) (answer : Result ℕ FormatFault) : Type
   pub formats : Formats s.geometry (flash_of s) new answer
 
 -- its pages became those of a formatted die with so many good blocks, and all of them last
-pub record IsMade (s t : Held) (good : ℕ) : Type 0 where
+pub record IsDiskMade (s t : Held) (good : ℕ) : Type 0 where
   pub formatted : IsFormattedFrom s t (Ok good)
   pub lasts : t.durable ≡ t.pages
 
 -- why it was not formatted, or may not last, and what came back
-abbrev pub IsUnmade : {S : Type 0} → (S → Held) → (honest : S → Bool) → (failed : S → ℕ) → S → S → CreateFault → Type 0
-IsUnmade held honest failed store given (why.Open fault) = IsUnopenedAt held honest failed store given fault × ComesBack held honest store fault given
-IsUnmade held honest failed store given (why.Format fault) = honest store ≡ true → IsFormattedFrom (held store) (held given) (Err fault)
-IsUnmade held honest failed store given why.Sync = honest store ≡ true → (good : ℕ) × IsFormattedFrom (held store) (held given) (Ok good)
+abbrev pub IsDiskUnmade : {S : Type 0} → (S → Held) → (honest : S → Bool) → (failed : S → ℕ) → S → S → CreateFault → Type 0
+IsDiskUnmade held honest failed store given (why.Open fault) = IsUnopenedAt held honest failed store given fault × ComesBack held honest store fault given
+IsDiskUnmade held honest failed store given (why.Format fault) = honest store ≡ true → IsFormattedFrom (held store) (held given) (Err fault)
+IsDiskUnmade held honest failed store given why.Sync = honest store ≡ true → (good : ℕ) × IsFormattedFrom (held store) (held given) (Ok good)

@@ -20,19 +20,19 @@ use Rattle.disk_server.specs.declared.opened.OpenStoreFault.{OpenStoreFault}
 use Rattle.disk_server.specs.declared.opened.OpenStoreFault.TheVariants as why
 
 -- the image was not mounted: of an honest die for what is so of it, and it is as it was unless a read failed
-pub record IsRefused {N : Type 0} (flash : N → Flash) (honest : N → Bool) (nand : N) (g : Geometry) (capacity : ℕ) (why : Refusal) (given : N) : Type 0 where
+pub record IsMountRefused {N : Type 0} (flash : N → Flash) (honest : N → Bool) (nand : N) (g : Geometry) (capacity : ℕ) (why : Refusal) (given : N) : Type 0 where
   pub refuses : honest nand ≡ true → Refuses g capacity (flash nand).image why
   pub same : why ≢ Source → honest nand ≡ true → flash given ≡ flash nand
 
 -- it has a certificate, and is as it was, but no memory was left to start a device
-pub record IsUnstarted {N : Type 0} (flash : N → Flash) (honest : N → Bool) (nand : N) (g : Geometry) (capacity : ℕ) (given : N) : Type 0 where
+pub record IsMountedUnstarted {N : Type 0} (flash : N → Flash) (honest : N → Bool) (nand : N) (g : Geometry) (capacity : ℕ) (given : N) : Type 0 where
   pub certificate : Claim
   pub mounted : honest nand ≡ true → IsMounted g capacity (flash nand).image certificate
   pub same : honest nand ≡ true → flash given ≡ flash nand
 
 abbrev pub IsUnmounted : {N : Type 0} → (N → Flash) → (honest : N → Bool) → N → Geometry → (capacity : ℕ) → OpenFault N → Type 0
-IsUnmounted flash honest nand g capacity (Refused why given) = IsRefused flash honest nand g capacity why given
-IsUnmounted flash honest nand g capacity (Start given) = IsUnstarted flash honest nand g capacity given
+IsUnmounted flash honest nand g capacity (Refused why given) = IsMountRefused flash honest nand g capacity why given
+IsUnmounted flash honest nand g capacity (Start given) = IsMountedUnstarted flash honest nand g capacity given
 
 -- how that is told of a store
 abbrev pub why_of : {N : Type 0} → OpenFault N → OpenStoreFault

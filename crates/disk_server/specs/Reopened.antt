@@ -11,7 +11,7 @@ use Rattle.nbd_stream.specs.declared.fault.DiskFault.{DiskFault}
 use Rattle.nbd_stream.specs.declared.fault.DiskFault.TheVariants as fault
 use Rattle.nbd_stream.specs.declared.reply.RequestError.{RequestError}
 use Rattle.nbd_stream.specs.declared.task.Task.TheVariants.{Read}
-use Rattle.nbd_stream.specs.Disk.{Contents, Performs}
+use Rattle.nbd_stream.specs.Disk.{Contents, PerformsTask}
 use Rattle.disk_server.specs.declared.opened.OpenStoreFault.{OpenStoreFault}
 use Rattle.disk_server.specs.Disk.{AsksChange, AsksClear, AsksFlush, AsksTurn, contents_of, holds, takes_changes}
 use Rattle.disk_server.specs.Opened.{IsUnopened, SyncsWhen, always_in, bytes_of, flash_in, flash_of, is_honest_in}
@@ -120,12 +120,12 @@ pub record IsGone {S : Type 0} (held : S → Held) (honest full : S → Bool) (f
   pub none : HasDevice terms reopened left.engine.next None new
 
 -- WHAT A CALL OF THE DEVICE COMES TO, by its answer: it is passed on, and the device is there as the call has left it; or, where the call failed, the store was full and is open anew, which is told so, or the device is gone
-abbrev pub Settles : {S : Type 0} → (S → Held) → (honest full : S → Bool) → (failed : S → ℕ) → (told : DiskFault) → Terms → (reopened : Bool) → (next : ℕ) → (left : Device (DriverState (FileState S)))
+abbrev pub SettlesCall : {S : Type 0} → (S → Held) → (honest full : S → Bool) → (failed : S → ℕ) → (told : DiskFault) → Terms → (reopened : Bool) → (next : ℕ) → (left : Device (DriverState (FileState S)))
     → (answer result : Result (Unit {0}) DiskFault) → (new : Reopened S) → Type 0
-Settles held honest full failed told terms reopened next left (Ok done) result new = (result ≡ Ok done) × HasDevice terms reopened next (Some left) new
-Settles held honest full failed told terms reopened next left (Err fault.ReadOnly) result new = (result ≡ Err fault.ReadOnly) × HasDevice terms reopened next (Some left) new
-Settles held honest full failed told terms reopened next left (Err fault.NoSpace) result new = (result ≡ Err fault.NoSpace) × HasDevice terms reopened next (Some left) new
-Settles held honest full failed told terms reopened next left (Err fault.Failed) result new =
+SettlesCall held honest full failed told terms reopened next left (Ok done) result new = (result ≡ Ok done) × HasDevice terms reopened next (Some left) new
+SettlesCall held honest full failed told terms reopened next left (Err fault.ReadOnly) result new = (result ≡ Err fault.ReadOnly) × HasDevice terms reopened next (Some left) new
+SettlesCall held honest full failed told terms reopened next left (Err fault.NoSpace) result new = (result ≡ Err fault.NoSpace) × HasDevice terms reopened next (Some left) new
+SettlesCall held honest full failed told terms reopened next left (Err fault.Failed) result new =
     ((result ≡ Err told) × Reopens held honest full terms left new)
     ⊎ ((result ≡ Err fault.Failed) × IsGone held honest full failed terms reopened left new)
 
@@ -143,7 +143,7 @@ pub record AsksOne {S : Type 0} (held : S → Held) (honest full : S → Bool) (
   pub left : Device (DriverState (FileState S))
   pub answer : Result (Unit {0}) DiskFault
   pub asked : asks device answer left
-  pub settles : Settles held honest full failed told (terms_of old) old.reopened old.next left answer result new
+  pub settles : SettlesCall held honest full failed told (terms_of old) old.reopened old.next left answer result new
 
 abbrev pub AsksDevice : {S : Type 0} → (S → Held) → (honest full : S → Bool) → (failed : S → ℕ) → (asks : Device (DriverState (FileState S)) → Result (Unit {0}) DiskFault → Device (DriverState (FileState S)) → Type 0)
     → (told : DiskFault) → (old : Reopened S) → (result : Result (Unit {0}) DiskFault) → (new : Reopened S) → Type 0
@@ -161,9 +161,9 @@ abbrev pub ReadsDevice : {S : Type 0} → (reads : Device (DriverState (FileStat
 ReadsDevice reads old new = ((old.device ≡ None) × HasDevice (terms_of old) old.reopened old.next None new) ⊎ ReadsOne reads old new
 
 -- WHAT IS GIVEN OF A SECTOR: by the device that is there, opened anew or not, its bytes as such a one gives them
-abbrev pub GivesSector : {S : Type 0} → (S → Held) → (honest : S → Bool) → (n : ℕ) → (old : Reopened S) → (answer : Result (List ℕ) RequestError) → (new : Reopened S) → Type 0
-GivesSector {S} held honest n old answer new = (d : Device (DriverState (FileState S))) → old.device ≡ Some d → (left : Device (DriverState (FileState S))) × (new.device ≡ Some left)
-    × Performs (contents_of (flash_in held) (is_honest_in honest)) (holds (is_honest_in honest)) (λ x. false) (Read (n * old.size) old.size) [] d answer left
+abbrev pub ReopenedGivesSector : {S : Type 0} → (S → Held) → (honest : S → Bool) → (n : ℕ) → (old : Reopened S) → (answer : Result (List ℕ) RequestError) → (new : Reopened S) → Type 0
+ReopenedGivesSector {S} held honest n old answer new = (d : Device (DriverState (FileState S))) → old.device ≡ Some d → (left : Device (DriverState (FileState S))) × (new.device ≡ Some left)
+    × PerformsTask (contents_of (flash_in held) (is_honest_in honest)) (holds (is_honest_in honest)) (λ x. false) (Read (n * old.size) old.size) [] d answer left
 
 -- ---- the calls of the device over the die of a store
 

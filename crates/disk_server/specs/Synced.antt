@@ -96,9 +96,9 @@ pub record OneFailed {D Y : Type 0} (failed : Y → ℕ) (old new : SyncedDisk D
   pub rose : HasRisen (failed old.syncs) (failed new.syncs)
 
 -- THAT A SYNC FAILED IS KEPT, and nothing else is taken for it; after a call that is done none did
-abbrev pub Notes : {D Y : Type 0} → (failed : Y → ℕ) → (old : SyncedDisk D Y) → Result (Unit {0}) DiskFault → (new : SyncedDisk D Y) → Type 0
-Notes failed old (Ok done) new = NoneFailed failed old new
-Notes failed old (Err e) new = NoneFailed failed old new ⊎ OneFailed failed old new
+abbrev pub NotesFailedSync : {D Y : Type 0} → (failed : Y → ℕ) → (old : SyncedDisk D Y) → Result (Unit {0}) DiskFault → (new : SyncedDisk D Y) → Type 0
+NotesFailedSync failed old (Ok done) new = NoneFailed failed old new
+NotesFailedSync failed old (Err e) new = NoneFailed failed old new ⊎ OneFailed failed old new
 
 -- NOTHING IS ASKED of the disk, nor of its syncs
 abbrev pub IsOver : {D Y : Type 0} → (old : SyncedDisk D Y) → Result (Unit {0}) DiskFault → (new : SyncedDisk D Y) → Type 0
@@ -148,7 +148,7 @@ pub record SyncsTask {D Y : Type 0} (does : D → Task → Result (Unit {0}) Dis
     (old : SyncedDisk D Y) (task : Task) (result : Result (Unit {0}) DiskFault) (new : SyncedDisk D Y) : Type 0 where
   pub over : old.failed ≡ true → IsOver old result new
   pub ends : old.failed ≡ false → EndsTask does synced marked next old task result new
-  pub notes : Notes failed old result new
+  pub notes : NotesFailedSync failed old result new
 
 -- ---- as a session ends
 
@@ -180,7 +180,7 @@ pub record Closes {D Y : Type 0} (does : D → Task → Result (Unit {0}) DiskFa
   pub over : old.failed ≡ true → IsOver old result new
   pub known : old.failed ≡ false → IsKnownFlushed marked next counts old → (result ≡ Ok tt) × (new ≡ old)
   pub flushes : old.failed ≡ false → ¬ IsKnownFlushed marked next counts old → FlushesBy does synced marked next takes old result new
-  pub notes : Notes failed old result new
+  pub notes : NotesFailedSync failed old result new
 
 -- ---- laws
 

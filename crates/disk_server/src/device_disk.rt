@@ -81,7 +81,7 @@ impl<N: Nand> Sectors for DeviceDisk<N> {
     ghost use Rattle.page_layout.specs.OnlyReads.{OnlyReads};
     ghost use Rattle.promises.specs.Step.{Write, Trim};
     ghost use Rattle.ftl_device.specs.Calls.{stop_of};
-    ghost use Rattle.nbd_stream.specs.Disk.{Idles, Performs, answer_from};
+    ghost use Rattle.nbd_stream.specs.Disk.{Idles, PerformsTask, answer_from};
     ghost use Rattle.disk_server.specs.Asked.{SparesZeros};
     ghost use Rattle.disk_server.specs.Disk.{contents_of, holds, takes_changes, AsksChange, AsksClear, AsksFlush, AsksTurn, KeepsOnError};
 
@@ -120,7 +120,7 @@ impl<N: Nand> Sectors for DeviceDisk<N> {
         requires whole { length buffer.old ≡ self.old.engine.geometry.data_bytes }
         ensures size { self.new.engine.geometry.data_bytes ≡ self.old.engine.geometry.data_bytes }
         ensures count { self.new.engine.geometry.sectors ≡ self.old.engine.geometry.sectors }
-        ensures performs { Performs (contents_of N.flash N.honest) (holds N.honest) (λ d. false)
+        ensures performs { PerformsTask (contents_of N.flash N.honest) (holds N.honest) (λ d. false)
             (Task.Read (sector * self.old.engine.geometry.data_bytes) self.old.engine.geometry.data_bytes) [] self.old (answer_from result buffer.new) self.new }
         ensures given { holds N.honest self.new ≡ true → IsOk result }
 
@@ -144,7 +144,7 @@ impl<N: Nand> Sectors for DeviceDisk<N> {
         requires whole { length bytes.now ≡ self.old.engine.geometry.data_bytes }
         ensures size { self.new.engine.geometry.data_bytes ≡ self.old.engine.geometry.data_bytes }
         ensures count { self.new.engine.geometry.sectors ≡ self.old.engine.geometry.sectors }
-        ensures performs { Performs (contents_of N.flash N.honest) (holds N.honest) (λ d. false)
+        ensures performs { PerformsTask (contents_of N.flash N.honest) (holds N.honest) (λ d. false)
             (Task.Write (sector * self.old.engine.geometry.data_bytes) self.old.engine.geometry.data_bytes false) bytes.now self.old (answer_from result []) self.new }
         ensures whole { KeepsOnError N.flash N.honest self.old result self.new }
 
@@ -163,7 +163,7 @@ impl<N: Nand> Sectors for DeviceDisk<N> {
         requires within { sector < self.old.engine.geometry.sectors }
         ensures size { self.new.engine.geometry.data_bytes ≡ self.old.engine.geometry.data_bytes }
         ensures count { self.new.engine.geometry.sectors ≡ self.old.engine.geometry.sectors }
-        ensures performs { Performs (contents_of N.flash N.honest) (holds N.honest) (λ d. false)
+        ensures performs { PerformsTask (contents_of N.flash N.honest) (holds N.honest) (λ d. false)
             (Task.Trim (sector * self.old.engine.geometry.data_bytes) self.old.engine.geometry.data_bytes false) [] self.old (answer_from result []) self.new }
         ensures whole { KeepsOnError N.flash N.honest self.old result self.new }
 
@@ -183,7 +183,7 @@ impl<N: Nand> Sectors for DeviceDisk<N> {
         requires whole { length buffer.old ≡ self.old.engine.geometry.data_bytes }
         ensures size { self.new.engine.geometry.data_bytes ≡ self.old.engine.geometry.data_bytes }
         ensures count { self.new.engine.geometry.sectors ≡ self.old.engine.geometry.sectors }
-        ensures performs { Performs (contents_of N.flash N.honest) (holds N.honest) (λ d. false)
+        ensures performs { PerformsTask (contents_of N.flash N.honest) (holds N.honest) (λ d. false)
             (Task.Trim (sector * self.old.engine.geometry.data_bytes) self.old.engine.geometry.data_bytes false) [] self.old (answer_from result []) self.new }
         ensures spares { SparesZeros (contents_of N.flash N.honest) (holds N.honest) (λ old new. OnlyReads N.flash N.honest N.calm N.programs N.erases N.failed old.engine.nand new.engine.nand)
             (sector * self.old.engine.geometry.data_bytes) self.old.engine.geometry.data_bytes self.old self.new }
@@ -212,7 +212,7 @@ impl<N: Nand> Sectors for DeviceDisk<N> {
     fn flush(&mut self) -> Result<(), DiskFault>
         ensures size { self.new.engine.geometry.data_bytes ≡ self.old.engine.geometry.data_bytes }
         ensures count { self.new.engine.geometry.sectors ≡ self.old.engine.geometry.sectors }
-        ensures performs { Performs (contents_of N.flash N.honest) (holds N.honest) (λ d. false) Task.Flush [] self.old (answer_from result []) self.new }
+        ensures performs { PerformsTask (contents_of N.flash N.honest) (holds N.honest) (λ d. false) Task.Flush [] self.old (answer_from result []) self.new }
 
         // Whatever the die does.
         ensures flushes { AsksFlush N.flash N.recorded N.honest N.calm N.failed self.old result self.new }

@@ -1,6 +1,6 @@
 //! A store of erased pages is formatted.
 ghost use Rattle.std.specs.Prelude.{◌≡◌, true, IfOk, IfErr, MatchResult};
-ghost use Rattle.disk_server.specs.Made.{IsMade, IsUnmade};
+ghost use Rattle.disk_server.specs.Made.{IsDiskMade, IsDiskUnmade};
 
 use crate::opened::{OpenStoreFault, driver_over};
 use file_die::{Store, SyncWhen};
@@ -53,8 +53,8 @@ impl fmt::Display for CreateFault {
 /// With the store: `Open` where a load failed or a growth was refused, and its pages are as they were but where a load failed; `Format` as `mount::format` has it; `Sync` where the last
 /// sync failed: it is formatted, and its pages may not all last.
 pub fn format_store<S: Store + Drop>(alloc: Global, store: S) -> Result<(S, u32), (S, CreateFault)>
-    ensures made { IfOk result (λ made. S.honest store ≡ true → IsMade (S.held store) (S.held made.0) made.1) }
-    ensures unmade { IfErr result (λ e. IsUnmade S.held S.honest S.failed store e.0 e.1) }
+    ensures made { IfOk result (λ made. S.honest store ≡ true → IsDiskMade (S.held store) (S.held made.0) made.1) }
+    ensures unmade { IfErr result (λ e. IsDiskUnmade S.held S.honest S.failed store e.0 e.1) }
     ensures honest { MatchResult result (λ made. S.honest made.0 ≡ S.honest store) (λ e. S.honest e.0 ≡ S.honest store) }
 {
     let geometry = store.geometry();

@@ -122,9 +122,9 @@ impl<S: Sectors, K: KeepsLost> GuardedSectors<S, K> {
 impl<S: Lasting, K: KeepsLost> Sectors for GuardedSectors<S, K> {
     ghost use Rattle.std.specs.Prelude.{◌≡◌, ◌⊎◌, ◌<◌, ◌*◌, false, [], length, true, OnErr, OnOk};
     ghost use Rattle.page_layout.specs.Counter.{HasRisen};
-    ghost use Rattle.nbd_stream.specs.Disk.{Idles, Performs, answer_from};
+    ghost use Rattle.nbd_stream.specs.Disk.{Idles, PerformsTask, answer_from};
     ghost use Rattle.disk_server.specs.Asked.{SparesZeros};
-    ghost use Rattle.disk_server.specs.Guarded.{HealsIfListed, IsRefused, KeepsList, KeepsOrFails, PassesOn, ReadsGuarded, is_listed, shown};
+    ghost use Rattle.disk_server.specs.Guarded.{HealsIfListed, IsRefusedUnasked, KeepsList, KeepsOrFails, PassesOn, ReadsGuarded, is_listed, shown};
 
     ghost contents = { shown S.contents S.size };
 
@@ -159,13 +159,13 @@ impl<S: Lasting, K: KeepsLost> Sectors for GuardedSectors<S, K> {
         requires whole { length buffer.old ≡ S.size self.old.sectors }
         ensures size { S.size self.new.sectors ≡ S.size self.old.sectors }
         ensures count { S.count self.new.sectors ≡ S.count self.old.sectors }
-        ensures performs { Performs (shown S.contents S.size) (λ d. S.honest d.sectors) (λ _. false)
+        ensures performs { PerformsTask (shown S.contents S.size) (λ d. S.honest d.sectors) (λ _. false)
             (Task.Read (sector * S.size self.old.sectors) (S.size self.old.sectors)) [] self.old (answer_from result buffer.new) self.new }
         ensures reads { ReadsGuarded S.reads self.old self.new }
-        ensures refused { is_listed self.old sector ≡ true → IsRefused self.old result self.new }
-        ensures over { self.old.failed ≡ true → IsRefused self.old result self.new }
+        ensures refused { is_listed self.old sector ≡ true → IsRefusedUnasked self.old result self.new }
+        ensures over { self.old.failed ≡ true → IsRefusedUnasked self.old result self.new }
         ensures asked { self.old.failed ≡ false → is_listed self.old sector ≡ false →
-            Performs S.contents S.honest S.calm (Task.Read (sector * S.size self.old.sectors) (S.size self.old.sectors)) [] self.old.sectors (answer_from result buffer.new) self.new.sectors }
+            PerformsTask S.contents S.honest S.calm (Task.Read (sector * S.size self.old.sectors) (S.size self.old.sectors)) [] self.old.sectors (answer_from result buffer.new) self.new.sectors }
     {
         if self.failed || self.is_listed(sector) {
             return Err(DiskFault::Failed);
@@ -184,15 +184,15 @@ impl<S: Lasting, K: KeepsLost> Sectors for GuardedSectors<S, K> {
         requires whole { length bytes.now ≡ S.size self.old.sectors }
         ensures size { S.size self.new.sectors ≡ S.size self.old.sectors }
         ensures count { S.count self.new.sectors ≡ S.count self.old.sectors }
-        ensures performs { Performs (shown S.contents S.size) (λ d. S.honest d.sectors) (λ _. false)
+        ensures performs { PerformsTask (shown S.contents S.size) (λ d. S.honest d.sectors) (λ _. false)
             (Task.Write (sector * S.size self.old.sectors) (S.size self.old.sectors) false) bytes.now self.old (answer_from result []) self.new }
         ensures heals { OnOk result (HealsIfListed K.kept sector self.old self.new) }
         ensures kept { OnErr result (KeepsOrFails K.failed self.old self.new) }
-        ensures over { self.old.failed ≡ true → IsRefused self.old result self.new }
+        ensures over { self.old.failed ≡ true → IsRefusedUnasked self.old result self.new }
         ensures asked { self.old.failed ≡ false → is_listed self.old sector ≡ false →
-            Performs S.contents S.honest S.calm (Task.Write (sector * S.size self.old.sectors) (S.size self.old.sectors) false) bytes.now self.old.sectors (answer_from result []) self.new.sectors }
+            PerformsTask S.contents S.honest S.calm (Task.Write (sector * S.size self.old.sectors) (S.size self.old.sectors) false) bytes.now self.old.sectors (answer_from result []) self.new.sectors }
         ensures listed { self.old.failed ≡ false →
-            Performs S.contents S.honest S.calm (Task.Write (sector * S.size self.old.sectors) (S.size self.old.sectors) false) bytes.now self.old.sectors (answer_from result []) self.new.sectors
+            PerformsTask S.contents S.honest S.calm (Task.Write (sector * S.size self.old.sectors) (S.size self.old.sectors) false) bytes.now self.old.sectors (answer_from result []) self.new.sectors
             ⊎ HasRisen (K.failed self.old.keeper) (K.failed self.new.keeper) }
     {
         if self.failed {
@@ -214,15 +214,15 @@ impl<S: Lasting, K: KeepsLost> Sectors for GuardedSectors<S, K> {
         requires within { sector < S.count self.old.sectors }
         ensures size { S.size self.new.sectors ≡ S.size self.old.sectors }
         ensures count { S.count self.new.sectors ≡ S.count self.old.sectors }
-        ensures performs { Performs (shown S.contents S.size) (λ d. S.honest d.sectors) (λ _. false)
+        ensures performs { PerformsTask (shown S.contents S.size) (λ d. S.honest d.sectors) (λ _. false)
             (Task.Trim (sector * S.size self.old.sectors) (S.size self.old.sectors) false) [] self.old (answer_from result []) self.new }
         ensures heals { OnOk result (HealsIfListed K.kept sector self.old self.new) }
         ensures kept { OnErr result (KeepsOrFails K.failed self.old self.new) }
-        ensures over { self.old.failed ≡ true → IsRefused self.old result self.new }
+        ensures over { self.old.failed ≡ true → IsRefusedUnasked self.old result self.new }
         ensures asked { self.old.failed ≡ false → is_listed self.old sector ≡ false →
-            Performs S.contents S.honest S.calm (Task.Trim (sector * S.size self.old.sectors) (S.size self.old.sectors) false) [] self.old.sectors (answer_from result []) self.new.sectors }
+            PerformsTask S.contents S.honest S.calm (Task.Trim (sector * S.size self.old.sectors) (S.size self.old.sectors) false) [] self.old.sectors (answer_from result []) self.new.sectors }
         ensures listed { self.old.failed ≡ false →
-            Performs S.contents S.honest S.calm (Task.Trim (sector * S.size self.old.sectors) (S.size self.old.sectors) false) [] self.old.sectors (answer_from result []) self.new.sectors
+            PerformsTask S.contents S.honest S.calm (Task.Trim (sector * S.size self.old.sectors) (S.size self.old.sectors) false) [] self.old.sectors (answer_from result []) self.new.sectors
             ⊎ HasRisen (K.failed self.old.keeper) (K.failed self.new.keeper) }
     {
         if self.failed {
@@ -245,12 +245,12 @@ impl<S: Lasting, K: KeepsLost> Sectors for GuardedSectors<S, K> {
         requires whole { length buffer.old ≡ S.size self.old.sectors }
         ensures size { S.size self.new.sectors ≡ S.size self.old.sectors }
         ensures count { S.count self.new.sectors ≡ S.count self.old.sectors }
-        ensures performs { Performs (shown S.contents S.size) (λ d. S.honest d.sectors) (λ _. false)
+        ensures performs { PerformsTask (shown S.contents S.size) (λ d. S.honest d.sectors) (λ _. false)
             (Task.Trim (sector * S.size self.old.sectors) (S.size self.old.sectors) false) [] self.old (answer_from result []) self.new }
         ensures spares { SparesZeros (shown S.contents S.size) (λ d. S.honest d.sectors) (ReadsGuarded S.reads) (sector * S.size self.old.sectors) (S.size self.old.sectors) self.old self.new }
         ensures heals { OnOk result (HealsIfListed K.kept sector self.old self.new) }
         ensures kept { OnErr result (KeepsOrFails K.failed self.old self.new) }
-        ensures over { self.old.failed ≡ true → IsRefused self.old result self.new }
+        ensures over { self.old.failed ≡ true → IsRefusedUnasked self.old result self.new }
     {
         if self.failed {
             return Err(DiskFault::Failed);
@@ -273,9 +273,9 @@ impl<S: Lasting, K: KeepsLost> Sectors for GuardedSectors<S, K> {
     fn flush(&mut self) -> Result<(), DiskFault>
         ensures size { S.size self.new.sectors ≡ S.size self.old.sectors }
         ensures count { S.count self.new.sectors ≡ S.count self.old.sectors }
-        ensures performs { Performs (shown S.contents S.size) (λ d. S.honest d.sectors) (λ _. false) Task.Flush [] self.old (answer_from result []) self.new }
+        ensures performs { PerformsTask (shown S.contents S.size) (λ d. S.honest d.sectors) (λ _. false) Task.Flush [] self.old (answer_from result []) self.new }
         ensures flushes { PassesOn S.flushes self.old result self.new }
-        ensures asked { self.old.failed ≡ false → Performs S.contents S.honest S.calm Task.Flush [] self.old.sectors (answer_from result []) self.new.sectors }
+        ensures asked { self.old.failed ≡ false → PerformsTask S.contents S.honest S.calm Task.Flush [] self.old.sectors (answer_from result []) self.new.sectors }
     {
         if self.failed {
             return Err(DiskFault::Failed);

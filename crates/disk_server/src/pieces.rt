@@ -1,7 +1,7 @@
 //! The bytes of a range that one sector has.
 ghost use Rattle.std.specs.Prelude.{◌≡◌, ◌<◌, ◌≤◌, ◌+◌, ◌%◌, ◌==◌, false, [], length};
 ghost use Rattle.std.specs.List.{list_all};
-ghost use Rattle.nbd_stream.specs.Disk.{Performs, answer_from};
+ghost use Rattle.nbd_stream.specs.Disk.{PerformsTask, answer_from};
 ghost use Rattle.disk_server.specs.Asked.{SparesZeros};
 
 use crate::sectors::Sectors;
@@ -30,7 +30,7 @@ pub(crate) fn read_piece<S: Sectors>(
     requires inside { offset % S.size sectors.old + length out.old ≤ S.size sectors.old }
     requires within { offset + length out.old ≤ length (S.contents sectors.old).bytes }
     ensures size { S.size sectors.new ≡ S.size sectors.old }
-    ensures performs { Performs S.contents S.honest S.calm (Task.Read offset (length out.old)) [] sectors.old (answer_from result out.new) sectors.new }
+    ensures performs { PerformsTask S.contents S.honest S.calm (Task.Read offset (length out.old)) [] sectors.old (answer_from result out.new) sectors.new }
     ensures reads { S.reads sectors.old sectors.new }
 {
     let size = sectors.sector_bytes();
@@ -62,7 +62,7 @@ pub(crate) fn write_piece<S: Sectors>(
     requires inside { offset % S.size sectors.old + length bytes.now ≤ S.size sectors.old }
     requires within { offset + length bytes.now ≤ length (S.contents sectors.old).bytes }
     ensures size { S.size sectors.new ≡ S.size sectors.old }
-    ensures performs { Performs S.contents S.honest S.calm (Task.Write offset (length bytes.now) false) bytes.now sectors.old (answer_from result []) sectors.new }
+    ensures performs { PerformsTask S.contents S.honest S.calm (Task.Write offset (length bytes.now) false) bytes.now sectors.old (answer_from result []) sectors.new }
 {
     let size = sectors.sector_bytes();
     let count = sectors.sector_count();
@@ -100,7 +100,7 @@ pub(crate) fn clear_piece<S: Sectors>(
     requires inside { offset % S.size sectors.old + taken ≤ S.size sectors.old }
     requires within { offset + taken ≤ length (S.contents sectors.old).bytes }
     ensures size { S.size sectors.new ≡ S.size sectors.old }
-    ensures performs { Performs S.contents S.honest S.calm (Task.Trim offset taken false) [] sectors.old (answer_from result []) sectors.new }
+    ensures performs { PerformsTask S.contents S.honest S.calm (Task.Trim offset taken false) [] sectors.old (answer_from result []) sectors.new }
     ensures spares { SparesZeros S.contents S.honest S.reads offset taken sectors.old sectors.new }
 {
     let size = sectors.sector_bytes();

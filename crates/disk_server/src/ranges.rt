@@ -1,6 +1,6 @@
 //! Ranges of bytes, sector by sector.
 ghost use Rattle.std.specs.Prelude.{◌≡◌, ◌≤◌, ◌+◌, false, [], length};
-ghost use Rattle.nbd_stream.specs.Disk.{Performs, answer_from};
+ghost use Rattle.nbd_stream.specs.Disk.{PerformsTask, answer_from};
 ghost use Rattle.nbd_stream.specs.Through.{Through};
 ghost use Rattle.disk_server.specs.Asked.{SparesZeros};
 
@@ -18,7 +18,7 @@ pub(crate) fn read_range<S: Sectors>(
     requires room { length buffer.old ≡ S.size sectors.old }
     requires within { offset + length out.old ≤ length (S.contents sectors.old).bytes }
     ensures size { S.size sectors.new ≡ S.size sectors.old }
-    ensures performs { Performs S.contents S.honest S.calm (Task.Read offset (length out.old)) [] sectors.old (answer_from result out.new) sectors.new }
+    ensures performs { PerformsTask S.contents S.honest S.calm (Task.Read offset (length out.old)) [] sectors.old (answer_from result out.new) sectors.new }
     ensures reads { Through S.reads sectors.old sectors.new }
 {
     let size = sectors.sector_bytes();
@@ -45,7 +45,7 @@ fn write_pieces<S: Sectors>(
     requires room { length buffer.old ≡ S.size sectors.old }
     requires within { offset + length bytes.now ≤ length (S.contents sectors.old).bytes }
     ensures size { S.size sectors.new ≡ S.size sectors.old }
-    ensures performs { Performs S.contents S.honest S.calm (Task.Write offset (length bytes.now) false) bytes.now sectors.old (answer_from result []) sectors.new }
+    ensures performs { PerformsTask S.contents S.honest S.calm (Task.Write offset (length bytes.now) false) bytes.now sectors.old (answer_from result []) sectors.new }
 {
     let size = sectors.sector_bytes();
     let _count = sectors.sector_count();
@@ -71,7 +71,7 @@ fn clear_pieces<S: Sectors>(
     requires room { length buffer.old ≡ S.size sectors.old }
     requires within { offset + count ≤ length (S.contents sectors.old).bytes }
     ensures size { S.size sectors.new ≡ S.size sectors.old }
-    ensures performs { Performs S.contents S.honest S.calm (Task.Trim offset count false) [] sectors.old (answer_from result []) sectors.new }
+    ensures performs { PerformsTask S.contents S.honest S.calm (Task.Trim offset count false) [] sectors.old (answer_from result []) sectors.new }
     ensures spares { SparesZeros S.contents S.honest (Through S.reads) offset count sectors.old sectors.new }
 {
     let size = sectors.sector_bytes();
@@ -99,7 +99,7 @@ pub(crate) fn write_range<S: Sectors>(
     requires room { length buffer.old ≡ S.size sectors.old }
     requires within { offset + length bytes.now ≤ length (S.contents sectors.old).bytes }
     ensures size { S.size sectors.new ≡ S.size sectors.old }
-    ensures performs { Performs S.contents S.honest S.calm (Task.Write offset (length bytes.now) durable) bytes.now sectors.old (answer_from result []) sectors.new }
+    ensures performs { PerformsTask S.contents S.honest S.calm (Task.Write offset (length bytes.now) durable) bytes.now sectors.old (answer_from result []) sectors.new }
 {
     match write_pieces(sectors, buffer, offset, bytes) {
         Ok(()) if durable => sectors.flush(),
@@ -119,7 +119,7 @@ pub(crate) fn clear_range<S: Sectors>(
     requires room { length buffer.old ≡ S.size sectors.old }
     requires within { offset + count ≤ length (S.contents sectors.old).bytes }
     ensures size { S.size sectors.new ≡ S.size sectors.old }
-    ensures performs { Performs S.contents S.honest S.calm (Task.Trim offset count durable) [] sectors.old (answer_from result []) sectors.new }
+    ensures performs { PerformsTask S.contents S.honest S.calm (Task.Trim offset count durable) [] sectors.old (answer_from result []) sectors.new }
     ensures spares { durable ≡ false → SparesZeros S.contents S.honest (Through S.reads) offset count sectors.old sectors.new }
 {
     match clear_pieces(sectors, buffer, offset, count) {

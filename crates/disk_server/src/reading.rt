@@ -44,7 +44,7 @@ impl<S: Sectors> ReadOnlyDisk<S> {
 
 impl<S: Sectors> Disk for ReadOnlyDisk<S> {
     ghost use Rattle.std.specs.Prelude.{◌≡◌, ◌≤◌, ◌+◌, false, [], length, Ok, Err};
-    ghost use Rattle.nbd_stream.specs.Disk.{Performs, answer_from};
+    ghost use Rattle.nbd_stream.specs.Disk.{PerformsTask, answer_from};
     ghost use Rattle.nbd_stream.specs.Through.{Through};
     ghost use Rattle.disk_server.specs.Reading.{OnlyAsksReads, RestsNever};
 
@@ -68,7 +68,7 @@ impl<S: Sectors> Disk for ReadOnlyDisk<S> {
 
     fn write(&mut self, offset: u64, bytes: &[u8], _durable: bool) -> Result<(), DiskFault>
         requires { offset + length bytes.now ≤ length (S.contents self.old).bytes }
-        ensures performs { Performs S.contents S.honest (λ _. false) (Task.Write offset (length bytes.now) _durable) bytes.now self.old (answer_from result []) self.new }
+        ensures performs { PerformsTask S.contents S.honest (λ _. false) (Task.Write offset (length bytes.now) _durable) bytes.now self.old (answer_from result []) self.new }
         ensures does { (result ≡ Err DiskFault.ReadOnly) × (self.new ≡ self.old) }
     {
         Err(DiskFault::ReadOnly)
@@ -76,14 +76,14 @@ impl<S: Sectors> Disk for ReadOnlyDisk<S> {
 
     fn clear(&mut self, offset: u64, count: u32, _durable: bool) -> Result<(), DiskFault>
         requires { offset + count ≤ length (S.contents self.old).bytes }
-        ensures performs { Performs S.contents S.honest (λ _. false) (Task.Trim offset count _durable) [] self.old (answer_from result []) self.new }
+        ensures performs { PerformsTask S.contents S.honest (λ _. false) (Task.Trim offset count _durable) [] self.old (answer_from result []) self.new }
         ensures does { (result ≡ Err DiskFault.ReadOnly) × (self.new ≡ self.old) }
     {
         Err(DiskFault::ReadOnly)
     }
 
     fn flush(&mut self) -> Result<(), DiskFault>
-        ensures performs { Performs S.contents S.honest (λ _. false) Task.Flush [] self.old (answer_from result []) self.new }
+        ensures performs { PerformsTask S.contents S.honest (λ _. false) Task.Flush [] self.old (answer_from result []) self.new }
         ensures leaves { Through S.reads self.old self.new }
         ensures does { (result ≡ Ok tt) × (self.new ≡ self.old) }
     {

@@ -65,7 +65,7 @@ impl<S: Store + TellsFull + Drop> ReopenedDevice<S> {
     ghost use Rattle.onfi_cycles.specs.Driver.{DriverState};
     ghost use Rattle.file_die.specs.Die.{FileState};
     ghost use Rattle.ftl_device.specs.declared.device.Device.{Device};
-    ghost use Rattle.disk_server.specs.Reopened.{HasDevice, IsGone, IsNotReopened, IsOpenedFrom, Reopens, Settles, terms_of};
+    ghost use Rattle.disk_server.specs.Reopened.{HasDevice, IsGone, IsNotReopened, IsOpenedFrom, Reopens, SettlesCall, terms_of};
 
     /// Joins a device to the way in which its store is opened anew. Nothing is asked of it.
     pub fn new(
@@ -146,7 +146,7 @@ impl<S: Store + TellsFull + Drop> ReopenedDevice<S> {
         requires none { self.old.device ≡ None }
         requires sized { device.engine.geometry.data_bytes ≡ self.old.size }
         requires counted { device.engine.geometry.sectors ≡ self.old.count }
-        ensures { Settles S.held S.honest S.full S.failed told (terms_of self.old) self.old.reopened self.old.next device answer result self.new }
+        ensures { SettlesCall S.held S.honest S.full S.failed told (terms_of self.old) self.old.reopened self.old.next device answer result self.new }
     {
         match answer {
             Err(DiskFault::Failed) => {
@@ -168,9 +168,9 @@ impl<S: Store + TellsFull + Drop> Sectors for ReopenedDevice<S> {
     ghost use Rattle.std.specs.Prelude.{◌≡◌, ◌<◌, ◌*◌, false, [], length, true};
     ghost use Rattle.promises.specs.Step.{Write, Trim};
     ghost use Rattle.nbd_stream.specs.declared.fault.DiskFault.TheVariants as fault;
-    ghost use Rattle.nbd_stream.specs.Disk.{Performs, answer_from};
+    ghost use Rattle.nbd_stream.specs.Disk.{PerformsTask, answer_from};
     ghost use Rattle.disk_server.specs.Asked.{SparesZeros};
-    ghost use Rattle.disk_server.specs.Reopened.{AsksDevice, GivesSector, ReadsDevice, changes_of, clears_of, contents_in, flushes_of, holds_in, next_in, reads_of, rests_of, takes_in};
+    ghost use Rattle.disk_server.specs.Reopened.{AsksDevice, ReadsDevice, ReopenedGivesSector, changes_of, clears_of, contents_in, flushes_of, holds_in, next_in, reads_of, rests_of, takes_in};
 
     ghost contents = { contents_in S.held S.honest };
 
@@ -205,9 +205,9 @@ impl<S: Store + TellsFull + Drop> Sectors for ReopenedDevice<S> {
         requires whole { length buffer.old ≡ self.old.size }
         ensures size { self.new.size ≡ self.old.size }
         ensures count { self.new.count ≡ self.old.count }
-        ensures performs { Performs (contents_in S.held S.honest) (holds_in S.honest) (λ _. false) (Task.Read (sector * self.old.size) self.old.size) [] self.old (answer_from result buffer.new) self.new }
+        ensures performs { PerformsTask (contents_in S.held S.honest) (holds_in S.honest) (λ _. false) (Task.Read (sector * self.old.size) self.old.size) [] self.old (answer_from result buffer.new) self.new }
         ensures reads { ReadsDevice (reads_of S.held S.honest) self.old self.new }
-        ensures given { GivesSector S.held S.honest sector self.old (answer_from result buffer.new) self.new }
+        ensures given { ReopenedGivesSector S.held S.honest sector self.old (answer_from result buffer.new) self.new }
     {
         let Some(mut device) = self.device.take() else {
             return Err(DiskFault::Failed);
@@ -228,7 +228,7 @@ impl<S: Store + TellsFull + Drop> Sectors for ReopenedDevice<S> {
         requires whole { length bytes.now ≡ self.old.size }
         ensures size { self.new.size ≡ self.old.size }
         ensures count { self.new.count ≡ self.old.count }
-        ensures performs { Performs (contents_in S.held S.honest) (holds_in S.honest) (λ _. false) (Task.Write (sector * self.old.size) self.old.size false) bytes.now self.old (answer_from result []) self.new }
+        ensures performs { PerformsTask (contents_in S.held S.honest) (holds_in S.honest) (λ _. false) (Task.Write (sector * self.old.size) self.old.size false) bytes.now self.old (answer_from result []) self.new }
         ensures asked { AsksDevice S.held S.honest S.full S.failed (changes_of S.held S.honest sector (Write sector bytes.now)) fault.NoSpace self.old result self.new }
     {
         let Some(mut device) = self.device.take() else {
@@ -248,7 +248,7 @@ impl<S: Store + TellsFull + Drop> Sectors for ReopenedDevice<S> {
         requires within { sector < self.old.count }
         ensures size { self.new.size ≡ self.old.size }
         ensures count { self.new.count ≡ self.old.count }
-        ensures performs { Performs (contents_in S.held S.honest) (holds_in S.honest) (λ _. false) (Task.Trim (sector * self.old.size) self.old.size false) [] self.old (answer_from result []) self.new }
+        ensures performs { PerformsTask (contents_in S.held S.honest) (holds_in S.honest) (λ _. false) (Task.Trim (sector * self.old.size) self.old.size false) [] self.old (answer_from result []) self.new }
         ensures asked { AsksDevice S.held S.honest S.full S.failed (changes_of S.held S.honest sector (Trim sector)) fault.NoSpace self.old result self.new }
     {
         let Some(mut device) = self.device.take() else {
@@ -269,7 +269,7 @@ impl<S: Store + TellsFull + Drop> Sectors for ReopenedDevice<S> {
         requires whole { length buffer.old ≡ self.old.size }
         ensures size { self.new.size ≡ self.old.size }
         ensures count { self.new.count ≡ self.old.count }
-        ensures performs { Performs (contents_in S.held S.honest) (holds_in S.honest) (λ _. false) (Task.Trim (sector * self.old.size) self.old.size false) [] self.old (answer_from result []) self.new }
+        ensures performs { PerformsTask (contents_in S.held S.honest) (holds_in S.honest) (λ _. false) (Task.Trim (sector * self.old.size) self.old.size false) [] self.old (answer_from result []) self.new }
         ensures spares { SparesZeros (contents_in S.held S.honest) (holds_in S.honest) (ReadsDevice (reads_of S.held S.honest)) (sector * self.old.size) self.old.size self.old self.new }
         ensures asked { AsksDevice S.held S.honest S.full S.failed (clears_of S.held S.honest sector) fault.NoSpace self.old result self.new }
     {

@@ -62,7 +62,7 @@ impl<S: Sectors> SectorDisk<S> {
 
 impl<S: Sectors> Disk for SectorDisk<S> {
     ghost use Rattle.std.specs.Prelude.{◌≤◌, ◌+◌, [], length};
-    ghost use Rattle.nbd_stream.specs.Disk.{Performs, answer_from};
+    ghost use Rattle.nbd_stream.specs.Disk.{PerformsTask, answer_from};
     ghost use Rattle.nbd_stream.specs.Through.{Through};
     ghost use Rattle.disk_server.specs.Asked.{AsksSectors};
 
@@ -82,7 +82,7 @@ impl<S: Sectors> Disk for SectorDisk<S> {
     // Nothing is asked of the device but reads.
     fn read(&mut self, offset: u64, buffer: &mut [u8]) -> Result<(), DiskFault>
         requires { offset + length buffer.old ≤ length (S.contents self.old).bytes }
-        ensures performs { Performs S.contents S.honest S.calm (Task.Read offset (length buffer.old)) [] self.old (answer_from result buffer.new) self.new }
+        ensures performs { PerformsTask S.contents S.honest S.calm (Task.Read offset (length buffer.old)) [] self.old (answer_from result buffer.new) self.new }
         ensures does { Through S.reads self.old self.new }
     {
         read_range(&mut self.sectors, &mut self.buffer, offset, buffer)

@@ -3,12 +3,12 @@ use nbd_stream::{DiskFault, Task};
 
 /// A device that is read and written by whole sectors, in the order in which it is asked. (This project's.)
 ///
-/// Each method is one `Performs` of `nbd_stream`, of a task whose range is the sector, or a rest: so its words, `contents`, `honest`, `calm` and `rests`, are
+/// Each method is one `PerformsTask` of `nbd_stream`, of a task whose range is the sector, or a rest: so its words, `contents`, `honest`, `calm` and `rests`, are
 /// those of a `Disk`, and its honesty may end in a call that fails. Its contents are its sectors as one list of bytes, the first sector first.
 pub trait Sectors {
     ghost use Rattle.std.specs.Prelude.{◌≡◌, ◌<◌, ◌+◌, ◌*◌, ◌^◌, ℕ, Bool, false, [], length, Result};
     ghost use Rattle.nbd_stream.specs.declared.fault.DiskFault.{DiskFault};
-    ghost use Rattle.nbd_stream.specs.Disk.{Contents, Idles, Performs, answer_from};
+    ghost use Rattle.nbd_stream.specs.Disk.{Contents, Idles, PerformsTask, answer_from};
     ghost use Rattle.disk_server.specs.Asked.{SparesZeros};
 
     /// The bytes of its sectors, and those that they will have if the power goes now.
@@ -51,7 +51,7 @@ pub trait Sectors {
         requires whole { length buffer.old ≡ size self.old }
         ensures size { size self.new ≡ size self.old }
         ensures count { count self.new ≡ count self.old }
-        ensures performs { Performs contents honest calm (Task.Read (sector * size self.old) (size self.old)) [] self.old (answer_from result buffer.new) self.new }
+        ensures performs { PerformsTask contents honest calm (Task.Read (sector * size self.old) (size self.old)) [] self.old (answer_from result buffer.new) self.new }
         ensures reads { reads self.old self.new };
 
     /// Sets the bytes of a sector.
@@ -65,7 +65,7 @@ pub trait Sectors {
         requires whole { length bytes.now ≡ size self.old }
         ensures size { size self.new ≡ size self.old }
         ensures count { count self.new ≡ count self.old }
-        ensures performs { Performs contents honest calm (Task.Write (sector * size self.old) (size self.old) false) bytes.now self.old (answer_from result []) self.new };
+        ensures performs { PerformsTask contents honest calm (Task.Write (sector * size self.old) (size self.old) false) bytes.now self.old (answer_from result []) self.new };
 
     /// Sets the bytes of a sector to zeros: they are not needed.
     ///
@@ -76,7 +76,7 @@ pub trait Sectors {
         requires within { sector < count self.old }
         ensures size { size self.new ≡ size self.old }
         ensures count { count self.new ≡ count self.old }
-        ensures performs { Performs contents honest calm (Task.Trim (sector * size self.old) (size self.old) false) [] self.old (answer_from result []) self.new };
+        ensures performs { PerformsTask contents honest calm (Task.Trim (sector * size self.old) (size self.old) false) [] self.old (answer_from result []) self.new };
 
     /// Sets the bytes of a sector to zeros, as `trim_sector`. Where it has zeros already nothing is asked but a read, for which the buffer has room.
     ///
@@ -88,7 +88,7 @@ pub trait Sectors {
         requires whole { length buffer.old ≡ size self.old }
         ensures size { size self.new ≡ size self.old }
         ensures count { count self.new ≡ count self.old }
-        ensures performs { Performs contents honest calm (Task.Trim (sector * size self.old) (size self.old) false) [] self.old (answer_from result []) self.new }
+        ensures performs { PerformsTask contents honest calm (Task.Trim (sector * size self.old) (size self.old) false) [] self.old (answer_from result []) self.new }
         ensures spares { SparesZeros contents honest reads (sector * size self.old) (size self.old) self.old self.new };
 
     /// Makes all sectors last. A device that takes no change any more is flushed too: what it was given before is to last.
@@ -99,7 +99,7 @@ pub trait Sectors {
     fn flush(&mut self) -> Result<(), DiskFault>
         ensures size { size self.new ≡ size self.old }
         ensures count { count self.new ≡ count self.old }
-        ensures performs { Performs contents honest calm Task.Flush [] self.old (answer_from result []) self.new }
+        ensures performs { PerformsTask contents honest calm Task.Flush [] self.old (answer_from result []) self.new }
         ensures flushes { flushes self.old result self.new };
 
     /// An idle moment between two requests, in which the device may tidy up. The sectors stay.

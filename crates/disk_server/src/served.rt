@@ -1,18 +1,18 @@
 //! A disk is served to one client.
-ghost use Rattle.std.specs.Prelude.{◌≡◌, ◌≤◌, false, length, true};
+ghost use Rattle.std.specs.Prelude.{◌≡◌, ◌≤◌, IfErr, false, length, true};
 ghost use Rattle.nbd_stream.specs.Transmission.{Serves};
 ghost use Rattle.disk_server.specs.Asked.{AsksSectors};
 ghost use Rattle.disk_server.specs.Synced.{RestsSynced, SyncsTask, export_of};
 ghost use Rattle.disk_server.specs.Reading.{OnlyAsksReads, RestsNever};
+ghost use Rattle.nbd_stream.specs.Streams.{HasStopped};
 ghost use Rattle.nbd_stream.specs.Through.{Through};
 
 use crate::reading::ReadOnlyDisk;
 use crate::sector_disk::SectorDisk;
 use crate::sectors::{Lasting, Sectors};
 use crate::synced::{SyncedDisk, Syncs};
-use nbd_stream::{Export, StreamEnd, serve};
+use nbd_stream::{Export, Incoming, Outgoing, StreamEnd, serve};
 use request_stream::ServeFault;
-use std::io::{Read, Write};
 
 /// What a client is told of a disk, beside its bytes. (This project's.)
 #[derive(Clone, Copy)]
@@ -43,7 +43,7 @@ fn export_of(offer: Offer, size: u64) -> Export
 /// # Errors
 ///
 /// As `nbd_stream::serve`. (The NBD protocol.)
-pub fn serve_synced<S: Lasting, Y: Syncs, R: Read, W: Write>(
+pub fn serve_synced<S: Lasting, Y: Syncs, R: Incoming, W: Outgoing>(
     disk: &mut SyncedDisk<SectorDisk<S>, Y>,
     offer: Offer,
     buffer: &mut [u8],
@@ -51,10 +51,11 @@ pub fn serve_synced<S: Lasting, Y: Syncs, R: Read, W: Write>(
     writer: &mut W,
 ) -> Result<StreamEnd, ServeFault>
     requires room { offer.maximum ≤ length buffer.old }
-    ensures { Serves (λ s. S.contents s.disk) (λ s. S.honest s.disk) (λ _. false)
+    ensures serves { Serves (λ s. S.contents s.disk) (λ s. S.honest s.disk) (λ _. false)
         (SyncsTask (AsksSectors S.contents S.honest S.reads S.flushes) Y.synced Y.failed Y.marked S.next) (RestsSynced S.rests)
         (export_of offer (length (S.contents disk.old.disk).bytes)) (length buffer.new) disk.old disk.new (R.remaining reader.old) (R.remaining reader.new)
         (W.contents writer.old) (W.contents writer.new) result }
+    ensures stops { IfErr result (HasStopped R.fails W.fails (R.remaining reader.old) (R.remaining reader.new) reader.new writer.new) }
 {
     let export = export_of(offer, disk.disk().bytes());
     serve(reader, writer, disk, &export, buffer)
@@ -66,7 +67,7 @@ pub fn serve_synced<S: Lasting, Y: Syncs, R: Read, W: Write>(
 /// # Errors
 ///
 /// As `nbd_stream::serve`. (The NBD protocol.)
-pub fn serve_reading<S: Sectors, R: Read, W: Write>(
+pub fn serve_reading<S: Sectors, R: Incoming, W: Outgoing>(
     disk: &mut ReadOnlyDisk<S>,
     offer: Offer,
     buffer: &mut [u8],
@@ -79,6 +80,7 @@ pub fn serve_reading<S: Sectors, R: Read, W: Write>(
         (export_of offer (length (S.contents disk.old).bytes)) (length buffer.new) disk.old disk.new (R.remaining reader.old) (R.remaining reader.new)
         (W.contents writer.old) (W.contents writer.new) result }
     ensures reads { Through S.reads disk.old disk.new }
+    ensures stops { IfErr result (HasStopped R.fails W.fails (R.remaining reader.old) (R.remaining reader.new) reader.new writer.new) }
 {
     let export = export_of(offer, disk.bytes());
     serve(reader, writer, disk, &export, buffer)

@@ -105,9 +105,9 @@ pub struct SyncedDisk<D: Disk, Y: Syncs> {
 
 impl<D: LastingDisk + Sequenced, Y: Syncs> SyncedDisk<D, Y> {
     ghost use Rattle.std.specs.Prelude.{◌≡◌, ◌≤◌, ◌<◌, ◌+◌, true, false, [], length, OnOk, OnErr, IfErr};
-    ghost use Rattle.nbd_stream.specs.Disk.{Performs, answer_from};
+    ghost use Rattle.nbd_stream.specs.Disk.{PerformsTask, answer_from};
     ghost use Rattle.nbd_stream.specs.Through.{Through};
-    ghost use Rattle.disk_server.specs.Synced.{Asks, ClearsPart, Closes, Counts, HasSynced, IsKnownFlushed, IsUnsynced, KeepsCount, Marks, Notes, Syncs, after_change, after_sync};
+    ghost use Rattle.disk_server.specs.Synced.{Asks, ClearsPart, Closes, Counts, HasSynced, IsKnownFlushed, IsUnsynced, KeepsCount, Marks, NotesFailedSync, Syncs, after_change, after_sync};
 
     /// Joins a disk and its syncs. Nothing is asked of either, and nothing counts as changed.
     pub fn new(disk: D, syncs: Y, pace: SyncPace) -> SyncedDisk<D, Y>
@@ -147,7 +147,7 @@ impl<D: LastingDisk + Sequenced, Y: Syncs> SyncedDisk<D, Y> {
         ensures disk { self.new.disk ≡ self.old.disk }
         ensures synced { OnOk result (Syncs Y.synced self.old self.new) }
         ensures unsynced { OnErr result (IsUnsynced Y.synced self.old self.new) }
-        ensures notes { Notes Y.failed self.old result self.new }
+        ensures notes { NotesFailedSync Y.failed self.old result self.new }
         ensures marked { OnOk result (Y.marked self.new.syncs ≡ after_sync (D.next self.new.disk) flushed (Y.marked self.old.syncs)) }
         ensures unmarked { OnErr result (Y.marked self.new.syncs ≡ Y.marked self.old.syncs) }
         ensures fault { IfErr result (λ e. e ≡ DiskFault.Failed) }
@@ -170,7 +170,7 @@ impl<D: LastingDisk + Sequenced, Y: Syncs> SyncedDisk<D, Y> {
         ensures disk { self.new.disk ≡ self.old.disk }
         ensures synced { OnOk result (HasSynced Y.synced durable self.old self.new) }
         ensures unsynced { OnErr result (IsUnsynced Y.synced self.old self.new) }
-        ensures notes { Notes Y.failed self.old result self.new }
+        ensures notes { NotesFailedSync Y.failed self.old result self.new }
         ensures marks { Marks Y.marked D.next durable self.old result self.new }
         ensures fault { IfErr result (λ e. e ≡ DiskFault.Failed) }
     {
@@ -183,10 +183,10 @@ impl<D: LastingDisk + Sequenced, Y: Syncs> SyncedDisk<D, Y> {
     // Clears a part of a range, and syncs where that is due.
     fn clear_part(&mut self, offset: u64, count: u32) -> Result<(), DiskFault>
         requires { offset + count ≤ length (D.contents self.old.disk).bytes }
-        ensures performs { Performs (λ s. D.contents s.disk) (λ s. D.honest s.disk) (λ _. false) (Task.Trim offset count false) [] self.old (answer_from result []) self.new }
+        ensures performs { PerformsTask (λ s. D.contents s.disk) (λ s. D.honest s.disk) (λ _. false) (Task.Trim offset count false) [] self.old (answer_from result []) self.new }
         ensures synced { OnOk result (HasSynced Y.synced false (after_change offset count self.old) self.new) }
         ensures unsynced { OnErr result (IsUnsynced Y.synced (after_change offset count self.old) self.new) }
-        ensures notes { Notes Y.failed self.old result self.new }
+        ensures notes { NotesFailedSync Y.failed self.old result self.new }
         ensures marks { Marks Y.marked D.next false (after_change offset count self.old) result self.new }
         ensures asked { Asks D.does (Task.Trim offset count false) self.old.disk self.new.disk }
     {
@@ -200,10 +200,10 @@ impl<D: LastingDisk + Sequenced, Y: Syncs> SyncedDisk<D, Y> {
     // Clears a range part by part; as one part where it would end past the last u64, as on no disk.
     fn clear_parts(&mut self, offset: u64, count: u32) -> Result<(), DiskFault>
         requires { offset + count ≤ length (D.contents self.old.disk).bytes }
-        ensures performs { Performs (λ s. D.contents s.disk) (λ s. D.honest s.disk) (λ _. false) (Task.Trim offset count false) [] self.old (answer_from result []) self.new }
+        ensures performs { PerformsTask (λ s. D.contents s.disk) (λ s. D.honest s.disk) (λ _. false) (Task.Trim offset count false) [] self.old (answer_from result []) self.new }
         ensures syncs { KeepsCount Y.synced self.old self.new }
         ensures counts { OnOk result (0 < count → Counts Y.synced offset count self.old self.new) }
-        ensures notes { Notes Y.failed self.old result self.new }
+        ensures notes { NotesFailedSync Y.failed self.old result self.new }
         ensures parts { Through (ClearsPart D.does offset count) self.old.disk self.new.disk }
         ensures unflushed { (Y.marked self.new.syncs).flushed ≡ (Y.marked self.old.syncs).flushed }
     {
@@ -236,7 +236,7 @@ impl<D: LastingDisk + Sequenced, Y: Syncs> SyncedDisk<D, Y> {
     ///
     /// `Failed` where the flush or the sync failed, or a sync before.
     pub fn close(&mut self, counts: bool) -> Result<(), DiskFault>
-        ensures performs { Performs (λ s. D.contents s.disk) (λ s. D.honest s.disk) (λ _. false) Task.Flush [] self.old (answer_from result []) self.new }
+        ensures performs { PerformsTask (λ s. D.contents s.disk) (λ s. D.honest s.disk) (λ _. false) Task.Flush [] self.old (answer_from result []) self.new }
         ensures closes { Closes D.does Y.synced Y.failed Y.marked D.next D.takes counts self.old result self.new }
     {
         if self.failed {
@@ -257,7 +257,7 @@ impl<D: LastingDisk + Sequenced, Y: Syncs> SyncedDisk<D, Y> {
 
 impl<D: LastingDisk + Sequenced, Y: Syncs> Disk for SyncedDisk<D, Y> {
     ghost use Rattle.std.specs.Prelude.{◌≡◌, ◌≤◌, ◌+◌, true, false, [], length, Err, OnErr, OnOk};
-    ghost use Rattle.nbd_stream.specs.Disk.{Performs, answer_from};
+    ghost use Rattle.nbd_stream.specs.Disk.{PerformsTask, answer_from};
     ghost use Rattle.disk_server.specs.Synced.{RestsSynced, SyncsTask};
 
     ghost contents = { λ s. D.contents s.disk };

@@ -8,7 +8,7 @@ use Rattle.page_layout.specs.Page.{Page, Image}
 use Rattle.page_layout.specs.Flash.{no_page}
 use Rattle.file_die.specs.declared.die.SyncWhen.{SyncWhen}
 use Rattle.file_die.specs.Store.{Held, AreImages, page_in, MayBeLeft, LastsOf, Lasts, Puts, Clears, Syncs}
-use Rattle.file_die.specs.Die.{ProgramsIn, ErasesIn}
+use Rattle.file_die.specs.Die.{ProgramsIn, ErasesInStore}
 use Rattle.file_die.proofs.StoreLemmas.{erased_in}
 
 -- one of three
@@ -109,7 +109,7 @@ clears_synced s n block done w clears = record {
 }
 
 -- the clear failed
-pub erases_failed : (s m n : Held) (block : ℕ) → AreImages s → Syncs s true m → m.geometry ≡ s.geometry → Clears m block false n → ErasesIn s block false n
+pub erases_failed : (s m n : Held) (block : ℕ) → AreImages s → Syncs s true m → m.geometry ≡ s.geometry → Clears m block false n → ErasesInStore s block false n
 erases_failed s m n block w syncs e clears =
     let now : Clears (synced s) block false n = subst (λ (h : Held). Clears h block false n) (synced_is s m syncs e) clears in
     record {
@@ -120,7 +120,7 @@ erases_failed s m n block w syncs e clears =
 
 -- the clear was done, and then the store was synced
 pub erases_synced : (s m n t : Held) (block : ℕ) (done : Bool) → AreImages s → block < s.geometry.blocks → Syncs s true m → m.geometry ≡ s.geometry → Clears m block true n → Syncs n done t
-    → ErasesIn s block done t
+    → ErasesInStore s block done t
 erases_synced s m n t block done w lt syncs e clears last =
     let now : Clears (synced s) block true n = subst (λ (h : Held). Clears h block true n) (synced_is s m syncs e) clears in
     let all : Clears s block true n = clears_synced s n block true w now in

@@ -9,7 +9,7 @@ use Rattle.std.proofs.lemmas.Option.{slice_get_past, slice_get-get_or, same_Some
 use Rattle.page_layout.specs.Page.{Page}
 use Rattle.file_die.specs.declared.bytes.ByteFault.{ByteFault}
 use Rattle.file_die.specs.declared.bytes.ByteFault.TheVariants as fault
-use Rattle.file_die.specs.Bytes.{Bytes, over, Mixes, LastsMixed, AreAlike, Writes, Tells, Gives, HasEnded, InARow, IsPatient, OneCall, OneMore, came_by}
+use Rattle.file_die.specs.Bytes.{Bytes, over, Mixes, LastsMixed, AreAlike, WritesBytes, Tells, Gives, HasEnded, InARow, IsPatient, OneCall, OneMore, came_by}
 use Rattle.file_die.specs.Rows.{WritesAll, Going, IsFilled}
 
 -- ---- places
@@ -196,7 +196,7 @@ rest_is done given = ap (λ n. take n (drop done given)) (sym (length-drop done 
 pub going_wants : (u : Bytes) (at : ℕ) (given : List ℕ) (done : ℕ) (s : Bytes) → at ≤ length u.bytes → done ≤ length given → Going u at given done s → over (at + done) (drop done given) s.bytes ≡ over at given u.bytes
 going_wants u at given done s l d g = step_same at done given u.bytes s.bytes l d g.reaches g.mixes g.alike
 
-pub going_on : (u : Bytes) (at : ℕ) (given : List ℕ) (done n : ℕ) (part : List ℕ) (s t : Bytes) → part ≡ drop done given → at ≤ length u.bytes → done + n ≤ length given → Going u at given done s → Writes s (at + done) part (Ok n) t → Going u at given (done + n) t
+pub going_on : (u : Bytes) (at : ℕ) (given : List ℕ) (done n : ℕ) (part : List ℕ) (s t : Bytes) → part ≡ drop done given → at ≤ length u.bytes → done + n ≤ length given → Going u at given done s → WritesBytes s (at + done) part (Ok n) t → Going u at given (done + n) t
 going_on u at given done n part s t p l d g w =
     let is = ap (λ z. over (at + done) z s.bytes) p ∙ going_wants u at given done s l (omega (arith, d)) g in
     let full : List ℕ = over at given u.bytes in
@@ -213,7 +213,7 @@ going_on u at given done n part s t p l d g w =
     }
 
 -- a call that failed, or has written nothing
-pub going_still : (u : Bytes) (at : ℕ) (given : List ℕ) (done : ℕ) (answer : Result ℕ ByteFault) (part : List ℕ) (s t : Bytes) → part ≡ drop done given → at ≤ length u.bytes → done ≤ length given → Going u at given done s → Writes s (at + done) part answer t → Going u at given done t
+pub going_still : (u : Bytes) (at : ℕ) (given : List ℕ) (done : ℕ) (answer : Result ℕ ByteFault) (part : List ℕ) (s t : Bytes) → part ≡ drop done given → at ≤ length u.bytes → done ≤ length given → Going u at given done s → WritesBytes s (at + done) part answer t → Going u at given done t
 going_still u at given done answer part s t p l d g w =
     let is = ap (λ z. over (at + done) z s.bytes) p ∙ going_wants u at given done s l d g in
     let full : List ℕ = over at given u.bytes in
@@ -351,7 +351,7 @@ pub pasted : (at k : ℕ) (xs ys given : List ℕ) → ys ≡ given → k ≡ le
 unfolding over
 pasted at k xs ys given e l = ap (λ zs. take at xs ++ (zs ++ drop k (drop at xs))) e ∙ ap (λ n. take at xs ++ (given ++ drop n (drop at xs))) l
 
-pub all_at_once : (at : ℕ) (given xs : List ℕ) → Writes (standing_bytes xs) at given (Ok (length given)) (standing_bytes (over at given xs))
+pub all_at_once : (at : ℕ) (given xs : List ℕ) → WritesBytes (standing_bytes xs) at given (Ok (length given)) (standing_bytes (over at given xs))
 all_at_once at given xs = record { mixes = λ i. inr refl; moved = λ i lt. refl; lasts = λ i. inr (inr refl); syncs = refl }
 
 pub told_at_once : (size : ℕ) (reads : List ℕ → Page) (xs wanted : List ℕ) → Tells size reads wanted (standing_bytes xs) (standing_bytes wanted)

@@ -9,7 +9,7 @@ use Rattle.page_layout.specs.Flash.{Flash, TurnState, Program, Erase, Steps, IsW
 use Rattle.onfi_cycles.specs.Cycles.{Due, Programs, Erases}
 use Rattle.onfi_cycles.specs.declared.nand.BusFault.{BusFault}
 use Rattle.file_die.specs.Store.{Held, AreImages}
-use Rattle.file_die.specs.Die.{FileState, IsFit, Acts, Leaves, IfDue, Asks, ProgramsIn, ErasesIn, shown, idle, ended}
+use Rattle.file_die.specs.Die.{FileState, IsFit, ActsOverStore, Leaves, IfDue, Asks, ProgramsIn, ErasesInStore, shown, idle, ended}
 use Rattle.file_die.proofs.DieLemmas.{program_steps, erase_steps}
 
 pub whole_fit : {S : Type 0} → (held : S → Held) (honest : S → Bool) (d : FileState S) → IsFit held honest d → honest d.store ≡ true → IsWhole (shown held d).flash
@@ -25,11 +25,11 @@ may_of f row block page t is_block is_page is =
 
 pub acts_failed : {S : Type 0} → (held : S → Held) (honest : S → Bool) (failed : S → ℕ) (due : Due) (d e : FileState S) (fault : BusFault)
     → IsFit held honest d → e ≡ idle e.store d → Asks held honest failed d.store e.store (Err fault) → (honest d.store ≡ true → AreImages (held e.store))
-    → (honest d.store ≡ true → Leaves due (shown held d).flash d.sync_when (held d.store) false (held e.store)) → Acts held honest failed due d e (Err fault)
+    → (honest d.store ≡ true → Leaves due (shown held d).flash d.sync_when (held d.store) false (held e.store)) → ActsOverStore held honest failed due d e (Err fault)
 acts_failed held honest failed due d e fault fit is asks images leaves =
     let m = e.store in
-    subst (λ v. Acts held honest failed due d v (Err fault)) (sym is)
-    (subst (λ f. Acts held honest failed due d (idle m d) (Err f)) (sym asks.device)
+    subst (λ v. ActsOverStore held honest failed due d v (Err fault)) (sym is)
+    (subst (λ f. ActsOverStore held honest failed due d (idle m d) (Err f)) (sym asks.device)
     (record {
       follows = λ h. refl;
       leaves = leaves;
@@ -51,17 +51,17 @@ not_due b P Q e q = subst (λ x. IfDue x P Q) (sym e) q
 
 pub program_failed : {S : Type 0} → (held : S → Held) (honest : S → Bool) (failed : S → ℕ) (d e : FileState S) (row : ℕ) (page : Page) (fault : BusFault)
     → IsFit held honest d → e ≡ idle e.store d → Asks held honest failed d.store e.store (Err fault) → true ≡ may_program (shown held d).flash row
-    → (honest d.store ≡ true → ProgramsIn (held d.store) row page d.sync_when false (held e.store)) → Acts held honest failed (Programs row page) d e (Err fault)
+    → (honest d.store ≡ true → ProgramsIn (held d.store) row page d.sync_when false (held e.store)) → ActsOverStore held honest failed (Programs row page) d e (Err fault)
 program_failed held honest failed d e row page fault fit is asks may programs =
     acts_failed held honest failed (Programs row page) d e fault fit is asks (λ h. (programs h).puts.whole (fit.images h))
     (λ h. if_due _ (ProgramsIn (held d.store) row page d.sync_when false (held e.store)) (held e.store ≡ held d.store) (sym may) (programs h))
 
 pub erase_failed : {S : Type 0} → (held : S → Held) (honest : S → Bool) (failed : S → ℕ) (d e : FileState S) (block : ℕ) (fault : BusFault)
     → IsFit held honest d → e ≡ idle e.store d → Asks held honest failed d.store e.store (Err fault) → true ≡ may_erase (shown held d).flash block
-    → (honest d.store ≡ true → ErasesIn (held d.store) block false (held e.store)) → Acts held honest failed (Erases block) d e (Err fault)
+    → (honest d.store ≡ true → ErasesInStore (held d.store) block false (held e.store)) → ActsOverStore held honest failed (Erases block) d e (Err fault)
 erase_failed held honest failed d e block fault fit is asks may erases =
     acts_failed held honest failed (Erases block) d e fault fit is asks (λ h. (erases h).clears.whole (fit.images h))
-    (λ h. if_due _ (ErasesIn (held d.store) block false (held e.store)) (held e.store ≡ held d.store) (sym may) (erases h))
+    (λ h. if_due _ (ErasesInStore (held d.store) block false (held e.store)) (held e.store ≡ held d.store) (sym may) (erases h))
 
 -- ---- the change was done, or was not due
 
@@ -72,7 +72,7 @@ pub program_done : {S : Type 0} → (held : S → Held) (honest : S → Bool) (f
     → IsFit held honest d → row < row_count (held d.store).geometry → block ≡ row / (held d.store).geometry.pages → legal ≡ may_program (shown held d).flash row → legal ≡ true → passed ≡ (legal && not false)
     → was ≡ get_or d.turns block no_turn → turn ≡ after_program was legal passed → mid ≡ idle mid.store d → e ≡ ended block turn legal passed mid
     → Asks held honest failed d.store mid.store (Ok tt) → (honest d.store ≡ true → ProgramsIn (held d.store) row page d.sync_when true (held mid.store))
-    → Acts held honest failed (Programs row page) d e (Ok tt)
+    → ActsOverStore held honest failed (Programs row page) d e (Ok tt)
 program_done held honest failed d mid e row block page was turn legal passed fit lt is_block due is_legal passes is_was turns_to is to asks programs =
     let may : true ≡ may_program (shown held d).flash row = sym is_legal ∙ due in
     let is_passed : passed ≡ true = passes ∙ ap (λ b. b && not false) is_legal in
@@ -82,7 +82,7 @@ program_done held honest failed d mid e row block page was turn legal passed fit
     let end : e ≡ ended block turn true true (idle m d) = to ∙ (ap (λ b. ended block turn b passed mid) is_legal ∙ (ap (λ b. ended block turn true b mid) is_passed ∙ ap (ended block turn true true) is)) in
     let turns : slice_set d.turns block turn ≡ slice_set d.turns (row / g.pages) (after_program (turn_at (shown held d).flash (row / g.pages)) true true)
     = ap (slice_set d.turns block) (is_turn ∙ ap (λ b. after_program (get_or d.turns b no_turn) true true) is_block) ∙ ap (λ b. slice_set d.turns b (after_program (turn_at (shown held d).flash (row / g.pages)) true true)) is_block in
-    subst (λ v. Acts held honest failed (Programs row page) d v (Ok tt)) (sym end)
+    subst (λ v. ActsOverStore held honest failed (Programs row page) d v (Ok tt)) (sym end)
     (record {
       follows = λ h.
           let images : AreImages (held m) = (programs h).puts.whole (fit.images h) in
@@ -107,7 +107,7 @@ program_done held honest failed d mid e row block page was turn legal passed fit
 
 pub program_refused : {S : Type 0} → (held : S → Held) (honest : S → Bool) (failed : S → ℕ) (d e : FileState S) (row block : ℕ) (page : Page) (was turn : TurnState) (legal passed : Bool)
     → IsFit held honest d → row < row_count (held d.store).geometry → block ≡ row / (held d.store).geometry.pages → legal ≡ may_program (shown held d).flash row → legal ≡ false → passed ≡ (legal && not false)
-    → was ≡ get_or d.turns block no_turn → turn ≡ after_program was legal passed → e ≡ ended block turn legal passed d → Acts held honest failed (Programs row page) d e (Ok tt)
+    → was ≡ get_or d.turns block no_turn → turn ≡ after_program was legal passed → e ≡ ended block turn legal passed d → ActsOverStore held honest failed (Programs row page) d e (Ok tt)
 program_refused held honest failed d e row block page was turn legal passed fit lt is_block due is_legal passes is_was turns_to to =
     let may : false ≡ may_program (shown held d).flash row = sym is_legal ∙ due in
     let is_passed : passed ≡ false = passes ∙ ap (λ b. b && not false) is_legal in
@@ -115,7 +115,7 @@ program_refused held honest failed d e row block page was turn legal passed fit 
     let g : Geometry = (held d.store).geometry in
     let turns : slice_set d.turns block turn ≡ slice_set d.turns (row / g.pages) (after_program (turn_at (shown held d).flash (row / g.pages)) false false)
     = ap (slice_set d.turns block) (is_turn ∙ ap (λ b. after_program (get_or d.turns b no_turn) false false) is_block) ∙ ap (λ b. slice_set d.turns b (after_program (turn_at (shown held d).flash (row / g.pages)) false false)) is_block in
-    subst (λ v. Acts held honest failed (Programs row page) d v (Ok tt)) (sym (to ∙ (ap (λ b. ended block turn b passed d) is_legal ∙ ap (λ b. ended block turn false b d) is_passed)))
+    subst (λ v. ActsOverStore held honest failed (Programs row page) d v (Ok tt)) (sym (to ∙ (ap (λ b. ended block turn b passed d) is_legal ∙ ap (λ b. ended block turn false b d) is_passed)))
     (record {
       follows = λ h. record {
         passed = false;
@@ -138,8 +138,8 @@ program_refused held honest failed d e row block page was turn legal passed fit 
 pub erase_done : {S : Type 0} → (held : S → Held) (honest : S → Bool) (failed : S → ℕ) (d mid e : FileState S) (block : ℕ) (was turn : TurnState) (legal passed : Bool)
     → IsFit held honest d → block < (held d.store).geometry.blocks → legal ≡ may_erase (shown held d).flash block → legal ≡ true → passed ≡ (legal && not false)
     → was ≡ get_or d.turns block no_turn → turn ≡ after_erase was legal passed → mid ≡ idle mid.store d → e ≡ ended block turn legal passed mid
-    → Asks held honest failed d.store mid.store (Ok tt) → (honest d.store ≡ true → ErasesIn (held d.store) block true (held mid.store))
-    → Acts held honest failed (Erases block) d e (Ok tt)
+    → Asks held honest failed d.store mid.store (Ok tt) → (honest d.store ≡ true → ErasesInStore (held d.store) block true (held mid.store))
+    → ActsOverStore held honest failed (Erases block) d e (Ok tt)
 erase_done held honest failed d mid e block was turn legal passed fit lt due is_legal passes is_was turns_to is to asks erases =
     let may : true ≡ may_erase (shown held d).flash block = sym is_legal ∙ due in
     let is_passed : passed ≡ true = passes ∙ ap (λ b. b && not false) is_legal in
@@ -147,7 +147,7 @@ erase_done held honest failed d mid e block was turn legal passed fit lt due is_
     let m = mid.store in
     let g : Geometry = (held d.store).geometry in
     let end : e ≡ ended block turn true true (idle m d) = to ∙ (ap (λ b. ended block turn b passed mid) is_legal ∙ (ap (λ b. ended block turn true b mid) is_passed ∙ ap (ended block turn true true) is)) in
-    subst (λ v. Acts held honest failed (Erases block) d v (Ok tt)) (sym end)
+    subst (λ v. ActsOverStore held honest failed (Erases block) d v (Ok tt)) (sym end)
     (record {
       follows = λ h.
           let images : AreImages (held m) = (erases h).clears.whole (fit.images h) in
@@ -159,7 +159,7 @@ erase_done held honest failed d mid e block was turn legal passed fit lt due is_
             phase = refl;
             status = refl;
           };
-      leaves = λ h. if_due _ (ErasesIn (held d.store) block true (held m)) (held m ≡ held d.store) (sym may) (erases h);
+      leaves = λ h. if_due _ (ErasesInStore (held d.store) block true (held m)) (held m ≡ held d.store) (sym may) (erases h);
       whole = λ h. record { image_whole = ((erases h).clears.whole (fit.images h)).pages_whole; turns_whole = long_set d.turns block _ turn (fit.blocks ∙ ap (λ (g : Geometry). g.blocks) (sym asks.geometry)) };
       geometry = asks.geometry;
       sync_when = refl;
@@ -172,13 +172,13 @@ erase_done held honest failed d mid e block was turn legal passed fit lt due is_
 
 pub erase_refused : {S : Type 0} → (held : S → Held) (honest : S → Bool) (failed : S → ℕ) (d e : FileState S) (block : ℕ) (was turn : TurnState) (legal passed : Bool)
     → IsFit held honest d → block < (held d.store).geometry.blocks → legal ≡ may_erase (shown held d).flash block → legal ≡ false → passed ≡ (legal && not false)
-    → was ≡ get_or d.turns block no_turn → turn ≡ after_erase was legal passed → e ≡ ended block turn legal passed d → Acts held honest failed (Erases block) d e (Ok tt)
+    → was ≡ get_or d.turns block no_turn → turn ≡ after_erase was legal passed → e ≡ ended block turn legal passed d → ActsOverStore held honest failed (Erases block) d e (Ok tt)
 erase_refused held honest failed d e block was turn legal passed fit lt due is_legal passes is_was turns_to to =
     let may : false ≡ may_erase (shown held d).flash block = sym is_legal ∙ due in
     let is_passed : passed ≡ false = passes ∙ ap (λ b. b && not false) is_legal in
     let is_turn : turn ≡ after_erase (get_or d.turns block no_turn) false false = turns_to ∙ (ap (λ b. after_erase was b passed) is_legal ∙ (ap (λ b. after_erase was false b) is_passed ∙ ap (λ t. after_erase t false false) is_was)) in
     let g : Geometry = (held d.store).geometry in
-    subst (λ v. Acts held honest failed (Erases block) d v (Ok tt)) (sym (to ∙ (ap (λ b. ended block turn b passed d) is_legal ∙ ap (λ b. ended block turn false b d) is_passed)))
+    subst (λ v. ActsOverStore held honest failed (Erases block) d v (Ok tt)) (sym (to ∙ (ap (λ b. ended block turn b passed d) is_legal ∙ ap (λ b. ended block turn false b d) is_passed)))
     (record {
       follows = λ h. record {
         passed = false;
@@ -187,7 +187,7 @@ erase_refused held honest failed d e block was turn legal passed fit lt due is_l
         phase = refl;
         status = refl;
       };
-      leaves = λ h. not_due _ (ErasesIn (held d.store) block true (held d.store)) (held d.store ≡ held d.store) (sym may) refl;
+      leaves = λ h. not_due _ (ErasesInStore (held d.store) block true (held d.store)) (held d.store ≡ held d.store) (sym may) refl;
       whole = λ h. record { image_whole = (fit.images h).pages_whole; turns_whole = long_set d.turns block _ turn fit.blocks };
       geometry = refl;
       sync_when = refl;

@@ -10,7 +10,7 @@ use Rattle.onfi_cycles.specs.Cycles.{Due, Moves, Resets, Programs, Erases, Refus
 use Rattle.file_die.specs.declared.die.SyncWhen.{SyncWhen}
 use Rattle.file_die.specs.declared.die.SyncWhen.TheVariants.{Always}
 use Rattle.file_die.specs.Store.{Held, AreImages, LastsOf, Puts, page_in}
-use Rattle.file_die.specs.Die.{Leaves, IfDue, ProgramsIn, ErasesIn}
+use Rattle.file_die.specs.Die.{Leaves, IfDue, ProgramsIn, ErasesInStore}
 use Rattle.file_die.specs.DieLaws.{AddsAlone, DueSpares, AllSpare, GoesAdding, Lands, LandsLaw, LastsSince, Turn, Wipes, WipesLaw, CopiesLaw, AddingGoesLaw, AlwaysLaw, ImagesLaw, KeepsLaw, SinceSyncLaw}
 use Rattle.file_die.proofs.AskLemmas.{of_three}
 use Rattle.file_die.proofs.StoreLemmas.{erased_in}
@@ -36,7 +36,7 @@ lands sync_when s t flash row page done w lt takes = by_due (may_program flash r
     }) takes.leaves
 
 pub wipes : WipesLaw
-wipes sync_when s t flash block done w lt takes = by_due (may_erase flash block) (ErasesIn s block done t) (t ≡ s) (Wipes s flash block done t)
+wipes sync_when s t flash block done w lt takes = by_due (may_erase flash block) (ErasesInStore s block done t) (t ≡ s) (Wipes s flash block done t)
     (λ may e. record {
       others = e.clears.others;
       wiped = λ d m row is.
@@ -51,7 +51,7 @@ wipes sync_when s t flash block done w lt takes = by_due (may_erase flash block)
     }) takes.leaves
 
 pub copies : CopiesLaw
-copies sync_when s t flash block done takes row other ne out = by_due (may_erase flash block) (ErasesIn s block done t) (t ≡ s) (page_in t.durable other ≡ page_in s.pages other)
+copies sync_when s t flash block done takes row other ne out = by_due (may_erase flash block) (ErasesInStore s block done t) (t ≡ s) (page_in t.durable other ≡ page_in s.pages other)
     (λ may e. elim e.before [
       | inl same ↦ absurd (ne (ap (λ (image : Image). page_in image row) same))
       | inr last ↦ last other out
@@ -64,7 +64,7 @@ same_lasts s t same e = ap (λ (h : Held). h.durable) same ∙ (e ∙ sym (ap (�
 
 one_always : (s t : Held) (due : Due) (flash : Flash) (done : Bool) → Leaves due flash Always s done t → done ≡ true → s.durable ≡ s.pages → t.durable ≡ t.pages
 one_always s t (Programs row page) flash done h d e = by_due (may_program flash row) (ProgramsIn s row page Always done t) (t ≡ s) (t.durable ≡ t.pages) (λ may p. p.synced refl d) (λ may same. same_lasts s t same e) h
-one_always s t (Erases block) flash done h d e = by_due (may_erase flash block) (ErasesIn s block done t) (t ≡ s) (t.durable ≡ t.pages) (λ may p. p.after d) (λ may same. same_lasts s t same e) h
+one_always s t (Erases block) flash done h d e = by_due (may_erase flash block) (ErasesInStore s block done t) (t ≡ s) (t.durable ≡ t.pages) (λ may p. p.after d) (λ may same. same_lasts s t same e) h
 one_always s t (Moves phase) flash done h d e = same_lasts s t h e
 one_always s t Resets flash done h d e = same_lasts s t h e
 one_always s t (Refuses fault) flash done h d e = same_lasts s t h e
@@ -84,7 +84,7 @@ kept_same s t row same = record { stays = ap (λ (h : Held). page_in h.pages row
 one_keeps : (sync_when : SyncWhen) (s t : Held) (due : Due) (flash : Flash) (done : Bool) (row : ℕ) → Leaves due flash sync_when s done t → DueSpares s.geometry row due → Kept s t row
 one_keeps sync_when s t (Programs r page) flash done row h n = by_due (may_program flash r) (ProgramsIn s r page sync_when done t) (t ≡ s) (Kept s t row)
     (λ may p. record { stays = p.puts.others row n; lasts = λ e. (p.puts.lasts row).kept e (p.puts.others row n) }) (λ may same. kept_same s t row same) h
-one_keeps sync_when s t (Erases block) flash done row h n = by_due (may_erase flash block) (ErasesIn s block done t) (t ≡ s) (Kept s t row)
+one_keeps sync_when s t (Erases block) flash done row h n = by_due (may_erase flash block) (ErasesInStore s block done t) (t ≡ s) (Kept s t row)
     (λ may p. record { stays = p.clears.others row n; lasts = λ e. (p.clears.lasts row).kept e (p.clears.others row n) }) (λ may same. kept_same s t row same) h
 one_keeps sync_when s t (Moves phase) flash done row h n = kept_same s t row h
 one_keeps sync_when s t Resets flash done row h n = kept_same s t row h
@@ -101,7 +101,7 @@ keeps sync_when s t (turn ∷ turns) row run spare =
 
 one_whole : (sync_when : SyncWhen) (s t : Held) (due : Due) (flash : Flash) (done : Bool) → Leaves due flash sync_when s done t → AreImages s → AreImages t
 one_whole sync_when s t (Programs row page) flash done h w = by_due (may_program flash row) (ProgramsIn s row page sync_when done t) (t ≡ s) (AreImages t) (λ may p. p.puts.whole w) (λ may same. subst AreImages (sym same) w) h
-one_whole sync_when s t (Erases block) flash done h w = by_due (may_erase flash block) (ErasesIn s block done t) (t ≡ s) (AreImages t) (λ may p. p.clears.whole w) (λ may same. subst AreImages (sym same) w) h
+one_whole sync_when s t (Erases block) flash done h w = by_due (may_erase flash block) (ErasesInStore s block done t) (t ≡ s) (AreImages t) (λ may p. p.clears.whole w) (λ may same. subst AreImages (sym same) w) h
 one_whole sync_when s t (Moves phase) flash done h w = subst AreImages (sym h) w
 one_whole sync_when s t Resets flash done h w = subst AreImages (sym h) w
 one_whole sync_when s t (Refuses fault) flash done h w = subst AreImages (sym h) w
@@ -176,7 +176,7 @@ since_put stored s t row page done since none puts =
 one_since : (sync_when : SyncWhen) (stored : Image) (s t : Held) (due : Due) (flash : Flash) (done : Bool) → Leaves due flash sync_when s done t → AddsAlone s flash due → LastsSince stored s → LastsSince stored t
 one_since sync_when stored s t (Programs row page) flash done h adds since = by_due (may_program flash row) (ProgramsIn s row page sync_when done t) (t ≡ s) (LastsSince stored t)
     (λ may p. since_put stored s t row page done since (adds may) p.puts) (λ may same. subst (LastsSince stored) (sym same) since) h
-one_since sync_when stored s t (Erases block) flash done h adds since = by_due (may_erase flash block) (ErasesIn s block done t) (t ≡ s) (LastsSince stored t)
+one_since sync_when stored s t (Erases block) flash done h adds since = by_due (may_erase flash block) (ErasesInStore s block done t) (t ≡ s) (LastsSince stored t)
     (λ may p. absurd (both_ways (may_erase flash block) adds may)) (λ may same. subst (LastsSince stored) (sym same) since) h
 one_since sync_when stored s t (Moves phase) flash done h adds since = subst (LastsSince stored) (sym h) since
 one_since sync_when stored s t Resets flash done h adds since = subst (LastsSince stored) (sym h) since

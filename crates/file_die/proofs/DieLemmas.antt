@@ -16,7 +16,7 @@ use Rattle.file_die.specs.declared.die.SyncWhen.{SyncWhen}
 use Rattle.file_die.specs.Store.{Held, AreImages}
 use Rattle.nand_die.specs.declared.change.BlockTurn.{BlockTurn}
 use Rattle.nand_die.specs.Turns.{turn_of}
-use Rattle.file_die.specs.Die.{FileState, IsFit, Acts, ended}
+use Rattle.file_die.specs.Die.{FileState, IsFit, ActsOverStore, ended}
 
 -- a die of these parts
 abbrev of_parts : {S : Type 0} → S → List TurnState → ℕ → Phase → List ℕ → ℕ → SyncWhen → FileState S
@@ -40,12 +40,12 @@ fit_of held honest store turns abuse phase register status sync_when d g is same
 -- a cycle that moves on, with another register or the same
 pub acts_moves : {S : Type 0} → (held : S → Held) (honest : S → Bool) (failed : S → ℕ) (due : Geometry → Phase → Due) (store : S) (turns : List TurnState) (abuse : ℕ) (phase : Phase) (register : List ℕ) (status : ℕ) (sync_when : SyncWhen)
     → (d : FileState S) (g : Geometry) (phase' : Phase) (register' : List ℕ) → of_parts store turns abuse phase register status sync_when ≡ d → (held store).geometry ≡ g → due g phase ≡ Moves phase'
-    → (honest store ≡ true → AreImages (held store)) → length turns ≡ g.blocks → Acts held honest failed (due (held d.store).geometry d.phase) d (of_parts store turns abuse phase' register' status sync_when) (Ok tt)
+    → (honest store ≡ true → AreImages (held store)) → length turns ≡ g.blocks → ActsOverStore held honest failed (due (held d.store).geometry d.phase) d (of_parts store turns abuse phase' register' status sync_when) (Ok tt)
 acts_moves held honest failed due store turns abuse phase register status sync_when d g phase' register' is same to images blocks =
     let old = of_parts store turns abuse phase register status sync_when in
     let new = of_parts store turns abuse phase' register' status sync_when in
-    subst (λ v. Acts held honest failed (due (held v.store).geometry v.phase) v new (Ok tt)) is
-    (subst (λ u. Acts held honest failed u old new (Ok tt)) (sym (ap (λ x. due x phase) same ∙ to))
+    subst (λ v. ActsOverStore held honest failed (due (held v.store).geometry v.phase) v new (Ok tt)) is
+    (subst (λ u. ActsOverStore held honest failed u old new (Ok tt)) (sym (ap (λ x. due x phase) same ∙ to))
     (record {
       follows = λ h. refl;
       leaves = λ h. refl;

@@ -18,7 +18,7 @@ use Rattle.page_layout.specs.Flash.{no_page, with_block}
 use Rattle.page_layout.proofs.FlashLemmas.{inside, with_block-inside}
 use Rattle.onfi_cycles.specs.Cycles.{page_of}
 use Rattle.nand_die.proofs.PagesLemmas.{block_within, page_of_blank}
-use Rattle.file_die.specs.Bytes.{Bytes, AreBytes, FailsBy, Gives, HasEnded, Settles, over, piece, IsTold}
+use Rattle.file_die.specs.Bytes.{Bytes, AreBytes, FailsBy, Gives, HasEnded, SyncsBytes, over, piece, IsTold}
 use Rattle.file_die.specs.declared.bytes.ByteFault.{ByteFault}
 use Rattle.file_die.specs.declared.store.StoreFault.{StoreFault}
 use Rattle.file_die.specs.Rows.{Rows, AreRows, Remembers, TellsEnd, TellsFull, WritesAll, IsReading, lacks_room, read_rows, held_in, is_kept, syncs_lost}
@@ -180,7 +180,7 @@ length_block pages block left image e l =
     let a : ℕ = block * pages in
     omega (arith, length-append (take a image) (left ++ drop (a + pages) image), length-append left (drop (a + pages) image), length-take a image, length-drop (a + pages) image, e, l)
 
-pub settled_rows : (g : Geometry) (size : ℕ) (done : Bool) (s t : Bytes) → IsOfRows g size s → Settles s done t → IsOfRows g size t
+pub settled_rows : (g : Geometry) (size : ℕ) (done : Bool) (s t : Bytes) → IsOfRows g size s → SyncsBytes s done t → IsOfRows g size t
 settled_rows g size done s t is settles =
     let n : ℕ = row_count g * size in
     let whole : length t.bytes ≡ n = ap length settles.same ∙ is.whole in
@@ -331,7 +331,7 @@ clears reads g size block at given done s t r is lt a e w tells =
         same_row reads size (row_count g) row t.bytes s.bytes (rows_stay size (block * g.pages) g.pages at row given done s t a (ap length e ∙ length-replicate (g.pages * size) 255) start out w)
         ∙ sym (other_row g.pages block row (replicate g.pages (erased_page g)) (read_rows reads size (row_count g) s.bytes) (length-replicate g.pages (erased_page g)) (omega (arith, rows_length reads size (row_count g) s.bytes, in_die)) out)
 
-pub syncs : (reads : List ℕ → Page) (g : Geometry) (size : ℕ) (done : Bool) (s t : Bytes) → IsReading g size reads → IsOfRows g size s → s.failed_syncs ≡ 0 → Settles s done t → (IsTold size reads s s.bytes s → IsTold size reads s s.bytes t)
+pub syncs : (reads : List ℕ → Page) (g : Geometry) (size : ℕ) (done : Bool) (s t : Bytes) → IsReading g size reads → IsOfRows g size s → s.failed_syncs ≡ 0 → SyncsBytes s done t → (IsTold size reads s s.bytes s → IsTold size reads s s.bytes t)
     → Syncs (rows_held reads g size s) done (rows_held reads g size t)
 syncs reads g size done s t r is none settles tells =
     let told = tells (told_first size reads s.bytes s) in
@@ -449,7 +449,7 @@ none_before n true m lost e f held broke = sym e ∙ (f ∙ ap syncs_lost (held 
 none_before n false m lost e f held broke = let is : m ≡ 1 = f ∙ ap syncs_lost (broke refl) in omega (arith, e, is)
 
 -- and after a sync that was asked for, where none had failed
-pub parts_settled : (a b : Bool) (s t : Bytes) (g : Geometry) (size : ℕ) (erased : List ℕ) (done : Bool) (failures : ℕ) (fault : Option ByteFault) (lost : Bool) → b ≡ a → AreRows a s g size erased failures fault false → (a ≡ true → Settles s done t)
+pub parts_settled : (a b : Bool) (s t : Bytes) (g : Geometry) (size : ℕ) (erased : List ℕ) (done : Bool) (failures : ℕ) (fault : Option ByteFault) (lost : Bool) → b ≡ a → AreRows a s g size erased failures fault false → (a ≡ true → SyncsBytes s done t)
     → (done ≡ true → lost ≡ false) → (done ≡ false → lost ≡ true) → AreRows b t g size erased failures fault lost
 parts_settled a b s t g size erased done failures fault lost e parts settles held broke = record {
   whole = λ h. let h' = sym e ∙ h in ap length (settles h').same ∙ parts.whole h';
@@ -492,7 +492,7 @@ gives_at gave old at other bytes file new a f g = subst (λ z. Gives gave old ot
 
 -- the parts of a file as it was taken: what stands in it was made to last
 pub parts_taken : (a b m : Bool) (u s t : Bytes) (g : Geometry) (size found : ℕ) (erased : List ℕ) → m ≡ a → b ≡ m → (a ≡ true → s ≡ u) → (a ≡ true → found ≡ length u.bytes) → (a ≡ true → AreBytes u) → found ≡ row_count g * size
-    → (m ≡ true → Settles s true t) → erased ≡ replicate (g.pages * size) 255 → AreRows b t g size erased 0 None false
+    → (m ≡ true → SyncsBytes s true t) → erased ≡ replicate (g.pages * size) 255 → AreRows b t g size erased 0 None false
 parts_taken a b m u s t g size found erased e f same long fits n settles blank = record {
   whole = λ h. let m' = sym f ∙ h in let h' = sym e ∙ m' in ap length (settles m').same ∙ (ap (λ (x : Bytes). length x.bytes) (same h') ∙ (sym (long h') ∙ n));
   lasts = λ h k. let m' = sym f ∙ h in let h' = sym e ∙ m' in

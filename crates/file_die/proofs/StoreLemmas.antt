@@ -9,23 +9,23 @@ use Rattle.page_layout.specs.Flash.{no_page, with_block}
 use Rattle.page_layout.proofs.FlashLemmas.{inside, with_block-inside}
 use Rattle.nand_die.proofs.PagesLemmas.{block_within}
 use Rattle.file_die.specs.Store.{Held, AreImages, page_in}
-use Rattle.file_die.specs.Laws.{Call, Load, Put, Clear, Sync, Calls, Run, Spares, SpareAll, StaysLaw, ReadBackLaw, ClearedLaw, LoadLaw, SyncLaw, WholeLaw}
+use Rattle.file_die.specs.Laws.{Call, Load, Put, Clear, Sync, CallsStore, StoreRun, Spares, SpareAll, StaysLaw, ReadBackLaw, ClearedLaw, LoadLaw, SyncLaw, WholeLaw}
 
 -- one call spares the row: its page stays
-spared : (s t : Held) (call : Call) (done : Bool) (row : ℕ) → Calls s call done t → Spares s.geometry row call → page_in t.pages row ≡ page_in s.pages row
+spared : (s t : Held) (call : Call) (done : Bool) (row : ℕ) → CallsStore s call done t → Spares s.geometry row call → page_in t.pages row ≡ page_in s.pages row
 spared s t (Load r page) done row c n = ap (λ (h : Held). page_in h.pages row) c.does.same
 spared s t (Put r page) done row c n = c.does.others row n
 spared s t (Clear block) done row c n = c.does.others row n
 spared s t Sync done row c n = ap (λ (image : Image). page_in image row) c.does.same
 
 -- and it lasts where it lasted
-outlasts : (s t : Held) (call : Call) (done : Bool) (row : ℕ) → Calls s call done t → Spares s.geometry row call → page_in s.durable row ≡ page_in s.pages row → page_in t.durable row ≡ page_in s.pages row
+outlasts : (s t : Held) (call : Call) (done : Bool) (row : ℕ) → CallsStore s call done t → Spares s.geometry row call → page_in s.durable row ≡ page_in s.pages row → page_in t.durable row ≡ page_in s.pages row
 outlasts s t (Load r page) done row c n e = ap (λ (h : Held). page_in h.durable row) c.does.same ∙ e
 outlasts s t (Put r page) done row c n e = (c.does.lasts row).kept e (c.does.others row n)
 outlasts s t (Clear block) done row c n e = (c.does.lasts row).kept e (c.does.others row n)
 outlasts s t Sync done row c n e = (c.does.lasts row).kept e (ap (λ (image : Image). page_in image row) c.does.same)
 
-whole_call : (s t : Held) (call : Call) (done : Bool) → AreImages s → Calls s call done t → AreImages t
+whole_call : (s t : Held) (call : Call) (done : Bool) → AreImages s → CallsStore s call done t → AreImages t
 whole_call s t (Load r page) done w c = subst AreImages (sym c.does.same) w
 whole_call s t (Put r page) done w c = c.does.whole w
 whole_call s t (Clear block) done w c = c.does.whole w
@@ -36,7 +36,7 @@ stays s t [] row r a = ap (λ (h : Held). page_in h.pages row) r
 stays s t (call ∷ calls) row r a =
     stays r.0 t calls row r.3 (subst (λ g. SpareAll g row calls) (sym r.2.geometry) a.1) ∙ spared s r.0 call r.1 row r.2 a.0
 
-lasts_on : (s t : Held) (calls : List Call) (row : ℕ) → Run s calls t → SpareAll s.geometry row calls → page_in s.durable row ≡ page_in s.pages row → page_in t.durable row ≡ page_in s.pages row
+lasts_on : (s t : Held) (calls : List Call) (row : ℕ) → StoreRun s calls t → SpareAll s.geometry row calls → page_in s.durable row ≡ page_in s.pages row → page_in t.durable row ≡ page_in s.pages row
 lasts_on s t [] row r a e = ap (λ (h : Held). page_in h.durable row) r ∙ e
 lasts_on s t (call ∷ calls) row r a e =
     let now = spared s r.0 call r.1 row r.2 a.0 in

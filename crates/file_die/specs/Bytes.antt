@@ -46,19 +46,19 @@ AreAlike n xs ys = (i : ℕ) → i < n → slice_get xs i ≡ slice_get ys i
 -- ---- one call
 
 -- A READ changes nothing. One that is done gives bytes from the place on
-pub record Reads (s : Bytes) (at : ℕ) (answer : Result ℕ ByteFault) (given : List ℕ) (t : Bytes) : Type 0 where
+pub record ReadsBytes (s : Bytes) (at : ℕ) (answer : Result ℕ ByteFault) (given : List ℕ) (t : Bytes) : Type 0 where
   pub same : t ≡ s
   pub gave : IfOk answer (λ n. (i : ℕ) → i < n → slice_get given i ≡ slice_get s.bytes (at + i))
 
 -- A WRITE of bytes at a place, done or failed, leaves each place as it was or as it was to be; one that is done has written the first n of them
-pub record Writes (s : Bytes) (at : ℕ) (given : List ℕ) (answer : Result ℕ ByteFault) (t : Bytes) : Type 0 where
+pub record WritesBytes (s : Bytes) (at : ℕ) (given : List ℕ) (answer : Result ℕ ByteFault) (t : Bytes) : Type 0 where
   pub mixes : Mixes s.bytes (over at given s.bytes) t.bytes
   pub moved : IfOk answer (λ n. AreAlike (at + n) t.bytes (over at given s.bytes))
   pub lasts : LastsMixed s.durable s.bytes t.bytes t.durable
   pub syncs : t.failed_syncs ≡ s.failed_syncs
 
 -- A SYNC changes no byte. One that is done, where none before it failed, makes all last
-pub record Settles (s : Bytes) (done : Bool) (t : Bytes) : Type 0 where
+pub record SyncsBytes (s : Bytes) (done : Bool) (t : Bytes) : Type 0 where
   pub same : t.bytes ≡ s.bytes
   pub synced : done ≡ true → s.failed_syncs ≡ 0 → t.durable ≡ s.bytes
   pub lasts : LastsMixed s.durable s.bytes t.bytes t.durable

@@ -96,7 +96,7 @@ pub record ProgramsIn (s : Held) (row : ℕ) (page : Page) (sync_when : SyncWhen
 
 -- AN ERASE IN A STORE, done or failed: the block is cleared between two syncs. Either no page was changed, or the pages of all other blocks
 -- last, as what was copied out of this one; and where it was done all pages last, so that none of its old ones does
-pub record ErasesIn (s : Held) (block : ℕ) (done : Bool) (t : Held) : Type 0 where
+pub record ErasesInStore (s : Held) (block : ℕ) (done : Bool) (t : Held) : Type 0 where
   pub clears : Clears s block done t
   pub before : (t.pages ≡ s.pages) ⊎ ((row : ℕ) → row / s.geometry.pages ≢ block → page_in t.durable row ≡ page_in s.pages row)
   pub after : done ≡ true → t.durable ≡ t.pages
@@ -110,7 +110,7 @@ IfDue false change none = none
 -- changes a page or what lasts
 abbrev pub Leaves : Due → Flash → SyncWhen → Held → Bool → Held → Type 0
 Leaves (Programs row page) flash sync_when s done t = IfDue (may_program flash row) (ProgramsIn s row page sync_when done t) (t ≡ s)
-Leaves (Erases block) flash sync_when s done t = IfDue (may_erase flash block) (ErasesIn s block done t) (t ≡ s)
+Leaves (Erases block) flash sync_when s done t = IfDue (may_erase flash block) (ErasesInStore s block done t) (t ≡ s)
 Leaves (Moves phase) flash sync_when s done t = t ≡ s
 Leaves Resets flash sync_when s done t = t ≡ s
 Leaves (Refuses fault) flash sync_when s done t = t ≡ s
@@ -128,7 +128,7 @@ pub record Asks {S : Type 0} (held : S → Held) (honest : S → Bool) (failed :
 
 -- WHAT A CYCLE COMES TO, by what was due. Over an honest store it is a step of the protocol, and the store has what that leaves. Over any
 -- store the device's faults are the store's failures: one comes just where a call of the store failed, and is counted
-pub record Acts {S : Type 0} (held : S → Held) (honest : S → Bool) (failed : S → ℕ) (due : Due) (old new : FileState S) (result : Result (Unit {0}) BusFault) : Type 0 where
+pub record ActsOverStore {S : Type 0} (held : S → Held) (honest : S → Bool) (failed : S → ℕ) (due : Due) (old new : FileState S) (result : Result (Unit {0}) BusFault) : Type 0 where
   pub follows : honest old.store ≡ true → Follows due (shown held old) (shown held new) result
   pub leaves : honest old.store ≡ true → Leaves due (shown held old).flash old.sync_when (held old.store) (is_ok result) (held new.store)
   pub whole : honest old.store ≡ true → IsWhole (shown held new).flash

@@ -3,7 +3,7 @@ ghost use Rattle.std.specs.Prelude.{◌≡◌, ◌<◌, true, length, is_ok};
 ghost use Rattle.page_layout.specs.Geometry.{row_count, page_bytes};
 ghost use Rattle.onfi_cycles.specs.Cycles.{page_of};
 ghost use Rattle.file_die.specs.Store.{AreImages, Loads, Syncs};
-ghost use Rattle.file_die.specs.Die.{Asks, ProgramsIn, ErasesIn};
+ghost use Rattle.file_die.specs.Die.{Asks, ProgramsIn, ErasesInStore};
 
 use crate::die::SyncWhen;
 use crate::store::Store;
@@ -61,7 +61,7 @@ pub fn erase<S: Store>(store: &mut S, block: u32) -> Result<(), BusFault>
     requires in_range { block < (S.held store.old).geometry.blocks }
     requires images { S.honest store.old ≡ true → AreImages (S.held store.old) }
     ensures asks { Asks S.held S.honest S.failed store.old store.new result }
-    ensures erases { S.honest store.old ≡ true → ErasesIn (S.held store.old) block (is_ok result) (S.held store.new) }
+    ensures erases { S.honest store.old ≡ true → ErasesInStore (S.held store.old) block (is_ok result) (S.held store.new) }
 {
     sync(store)?;
     if store.clear(block).is_err() {

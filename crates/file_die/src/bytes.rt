@@ -49,7 +49,7 @@ pub trait ByteFile {
     ghost use Rattle.std.specs.Prelude.{◌≡◌, ◌≤◌, ℕ, Bool, true, List, length, Result, IfErr, IfOk, is_ok};
     ghost use Rattle.page_layout.specs.Page.{Page};
     ghost use Rattle.file_die.specs.declared.bytes.ByteFault.{ByteFault};
-    ghost use Rattle.file_die.specs.Bytes.{Bytes, AreBytes, Reads, Writes, Settles, Tells, over, given_by};
+    ghost use Rattle.file_die.specs.Bytes.{Bytes, AreBytes, ReadsBytes, WritesBytes, SyncsBytes, Tells, over, given_by};
 
     /// What it holds.
     ghost held: { Self → Bytes };
@@ -79,7 +79,7 @@ pub trait ByteFile {
     fn read_at(&mut self, to: &mut [u8], at: u64) -> Result<usize, ByteFault>
         ensures bound { IfOk result (λ n. n ≤ length to.new) }
         ensures gave { gave self.old at (length to.old) (given_by result to.new) self.new }
-        ensures reads { honest self.old ≡ true → Reads (held self.old) at result to.new (held self.new) }
+        ensures reads { honest self.old ≡ true → ReadsBytes (held self.old) at result to.new (held self.new) }
         ensures honest { honest self.new ≡ honest self.old }
         ensures tells { (size : ℕ) (reads : List ℕ → Page) → tells self.new size reads ≡ tells self.old size reads };
 
@@ -91,7 +91,7 @@ pub trait ByteFile {
     fn write_at(&mut self, bytes: &[u8], at: u64) -> Result<usize, ByteFault>
         ensures bound { IfOk result (λ n. n ≤ length bytes.now) }
         ensures wrote { wrote self.old at bytes.now result self.new }
-        ensures writes { honest self.old ≡ true → at ≤ length (held self.old).bytes → Writes (held self.old) at bytes.now result (held self.new) }
+        ensures writes { honest self.old ≡ true → at ≤ length (held self.old).bytes → WritesBytes (held self.old) at bytes.now result (held self.new) }
         ensures told { honest self.old ≡ true → at ≤ length (held self.old).bytes → (size : ℕ) (reads : List ℕ → Page) → tells self.old size reads ≡ true →
             Tells size reads (over at bytes.now (held self.old).bytes) (held self.old) (held self.new) }
         ensures honest { honest self.new ≡ honest self.old }
@@ -104,7 +104,7 @@ pub trait ByteFile {
     /// The file's own: the bytes are as they were, and may not all last, whatever a later sync says.
     fn sync(&mut self) -> Result<(), ByteFault>
         ensures refused { IfErr result (λ why. refused self.old why self.new) }
-        ensures settles { honest self.old ≡ true → Settles (held self.old) (is_ok result) (held self.new) }
+        ensures settles { honest self.old ≡ true → SyncsBytes (held self.old) (is_ok result) (held self.new) }
         ensures told { honest self.old ≡ true → (size : ℕ) (reads : List ℕ → Page) → tells self.old size reads ≡ true →
             Tells size reads (held self.old).bytes (held self.old) (held self.new) }
         ensures honest { honest self.new ≡ honest self.old }

@@ -71,7 +71,7 @@ impl<S: Store> Model for FileDie<S> {
 
 impl<S: Store> FileDie<S> {
     ghost use Rattle.file_die.specs.Store.{Syncs};
-    ghost use Rattle.file_die.specs.Die.{Acts, IsFit, Asks, ProgramsIn, ErasesIn, ended, idle, shown, with_store};
+    ghost use Rattle.file_die.specs.Die.{ActsOverStore, IsFit, Asks, ProgramsIn, ErasesInStore, ended, idle, shown, with_store};
 
     /// A die of the pages that a store holds, not yet reset. Of each block the next page is one past the last that is not erased: the store is
     /// read once, each block from its last page down to that one. The blocks named are bad, and nothing was asked of any of them.
@@ -124,7 +124,7 @@ impl<S: Store> FileDie<S> {
     // Gives up the unfinished command.
     fn refuse(&mut self, fault: BusFault) -> Result<(), BusFault>
         requires { IsProtocolFault fault }
-        ensures { Acts S.held S.honest S.failed (Refuses fault) self.old self.new result }
+        ensures { ActsOverStore S.held S.honest S.failed (Refuses fault) self.old self.new result }
     {
         self.bus_state = self.bus_state.given_up();
         Err(fault)
@@ -133,7 +133,7 @@ impl<S: Store> FileDie<S> {
     // Loads the page of a row, where the buffer has another one, and puts it out.
     fn show(&mut self, row: u32, column: u32) -> Result<(), BusFault>
         requires { IsWithin (S.held self.old.store).geometry (BusState.Ready (OutputSource.Page row column)) }
-        ensures { Acts S.held S.honest S.failed (Moves (phase_of self.old.register (BusState.Ready (OutputSource.Page row column)))) self.old self.new result }
+        ensures { ActsOverStore S.held S.honest S.failed (Moves (phase_of self.old.register (BusState.Ready (OutputSource.Page row column)))) self.old self.new result }
     {
         if self.page_row != Some(row) {
             self.page_row = None;
@@ -148,7 +148,7 @@ impl<S: Store> FileDie<S> {
     // Goes on to where a cycle leads.
     fn go_on(&mut self, to: BusState) -> Result<(), BusFault>
         requires { IsWithin (S.held self.old.store).geometry to }
-        ensures { Acts S.held S.honest S.failed (Moves (phase_of self.old.register to)) self.old self.new result }
+        ensures { ActsOverStore S.held S.honest S.failed (Moves (phase_of self.old.register to)) self.old self.new result }
     {
         if let BusState::Ready(OutputSource::Page { row, column }) = to {
             return self.show(row, column);
@@ -196,7 +196,7 @@ impl<S: Store> FileDie<S> {
         requires { block < (S.held self.old.store).geometry.blocks }
         ensures others { self.new ≡ idle self.new.store self.old }
         ensures asks { Asks S.held S.honest S.failed self.old.store self.new.store result }
-        ensures erases { S.honest self.old.store ≡ true → ErasesIn (S.held self.old.store) block (is_ok result) (S.held self.new.store) }
+        ensures erases { S.honest self.old.store ≡ true → ErasesInStore (S.held self.old.store) block (is_ok result) (S.held self.new.store) }
     {
         self.page_row = None;
         self.bus_state = self.bus_state.given_up();
@@ -206,7 +206,7 @@ impl<S: Store> FileDie<S> {
     // The program that a confirm cycle asks for.
     fn program(&mut self, row: u32) -> Result<(), BusFault>
         requires in_range { row < row_count (S.held self.old.store).geometry }
-        ensures { Acts S.held S.honest S.failed (Programs row (page_of (S.held self.old.store).geometry self.old.register)) self.old self.new result }
+        ensures { ActsOverStore S.held S.honest S.failed (Programs row (page_of (S.held self.old.store).geometry self.old.register)) self.old self.new result }
     {
         let block = row / self.geometry.pages();
         let turn = self.turn(block);
@@ -221,7 +221,7 @@ impl<S: Store> FileDie<S> {
     // The erase that a confirm cycle asks for.
     fn erase(&mut self, block: u32) -> Result<(), BusFault>
         requires in_range { block < (S.held self.old.store).geometry.blocks }
-        ensures { Acts S.held S.honest S.failed (Erases block) self.old self.new result }
+        ensures { ActsOverStore S.held S.honest S.failed (Erases block) self.old self.new result }
     {
         let turn = self.turn(block);
         let change = change_of(!turn.barred, false);
@@ -234,7 +234,7 @@ impl<S: Store> FileDie<S> {
 
     // What a command asks for.
     fn take_command(&mut self, code: u8) -> Result<(), BusFault>
-        ensures { Acts S.held S.honest S.failed (command_due (S.held self.old.store).geometry self.old.phase code) self.old self.new result }
+        ensures { ActsOverStore S.held S.honest S.failed (command_due (S.held self.old.store).geometry self.old.phase code) self.old self.new result }
     {
         match command_step(&self.geometry, self.bus_state, code) {
             CommandStep::Moves(to) => self.go_on(to),
@@ -251,7 +251,7 @@ impl<S: Store> FileDie<S> {
 
     // What an address cycle asks for.
     fn take_address(&mut self, byte: u8) -> Result<(), BusFault>
-        ensures { Acts S.held S.honest S.failed (address_due (S.held self.old.store).geometry self.old.phase byte) self.old self.new result }
+        ensures { ActsOverStore S.held S.honest S.failed (address_due (S.held self.old.store).geometry self.old.phase byte) self.old self.new result }
     {
         match address_step(&self.geometry, self.bus_state, byte) {
             AddressStep::Moves(to) => self.go_on(to),
@@ -266,7 +266,7 @@ impl<S: Store> FileDie<S> {
 
     // Takes bytes into the page register.
     fn take_data(&mut self, bytes: &[u8]) -> Result<(), BusFault>
-        ensures { Acts S.held S.honest S.failed (data_in_due (S.held self.old.store).geometry self.old.phase bytes.now) self.old self.new result }
+        ensures { ActsOverStore S.held S.honest S.failed (data_in_due (S.held self.old.store).geometry self.old.phase bytes.now) self.old self.new result }
     {
         match data_place(&self.geometry, self.bus_state, bytes.len()) {
             Ok((row, column)) => {
@@ -284,7 +284,7 @@ impl<S: Store> FileDie<S> {
 
     // Gives bytes of what is put out.
     fn give_data(&mut self, bytes: &mut [u8]) -> Result<(), BusFault>
-        ensures acts { Acts S.held S.honest S.failed (data_out_due (S.held self.old.store).geometry self.old.phase (length bytes.old)) self.old self.new result }
+        ensures acts { ActsOverStore S.held S.honest S.failed (data_out_due (S.held self.old.store).geometry self.old.phase (length bytes.old)) self.old self.new result }
         ensures out { OnOk result (S.honest self.old.store ≡ true → bytes.new ≡ bytes_out (shown S.held self.old) self.old.phase (length bytes.old)) }
         ensures kept { OnErr result (bytes.new ≡ bytes.old) }
     {
@@ -334,7 +334,7 @@ impl<S: Store> FileDie<S> {
 
 impl<S: Store> Bus for FileDie<S> {
     ghost use Rattle.onfi_cycles.specs.Cycles.{due_of};
-    ghost use Rattle.file_die.specs.Die.{Acts, shown, syncs_always};
+    ghost use Rattle.file_die.specs.Die.{ActsOverStore, shown, syncs_always};
 
     ghost die = { λ d. shown S.held d };
 
@@ -346,7 +346,7 @@ impl<S: Store> Bus for FileDie<S> {
     ghost calm = { λ d. syncs_always d.sync_when };
 
     /// Each call is what was due: over any store, honest or not, its faults are counted, and over an honest one its pages are told.
-    ghost called = { λ old cycle answer out new. Acts S.held S.honest S.failed (due_of (S.held old.store).geometry old.phase cycle) old new answer };
+    ghost called = { λ old cycle answer out new. ActsOverStore S.held S.honest S.failed (due_of (S.held old.store).geometry old.phase cycle) old new answer };
 
     fn command(&mut self, code: u8) -> Result<(), BusFault> {
         self.take_command(code)

@@ -14,6 +14,6 @@ room_or_disk p None = uninit_at disk_row p
 room_or_disk p (Some d) = lies_at disk_row full_share p d
 
 -- AN OPEN: 0 and a disk of this shape, over these descriptors; or the number of the first limit that the shape breaks, and the room
-abbrev pub IsOpened : Shape → (input output : ℤ) → (number : ℕ) → Option FtlDisk → Type 0
-IsOpened shape input output number None = IsUnplanned shape number
-IsOpened shape input output number (Some d) = (number ≡ 0) × Opens shape input output d
+abbrev pub IsDiskOpened : Shape → (input output : ℤ) → (number : ℕ) → Option FtlDisk → Type 0
+IsDiskOpened shape input output number None = IsUnplanned shape number
+IsDiskOpened shape input output number (Some d) = (number ≡ 0) × Opens shape input output d

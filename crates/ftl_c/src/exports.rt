@@ -1,9 +1,9 @@
 //! What C calls. The header looks for NULL first.
 ghost use Rattle.std.specs.Prelude.{◌≡◌, None};
 ghost use Rattle.std.specs.Mem.{type_size};
-ghost use Rattle.ftl_c.specs.Room.{IsOpened};
+ghost use Rattle.ftl_c.specs.Room.{IsDiskOpened};
 ghost use Rattle.ftl_disk.specs.contracts.disk.FtlDisk.{the_row as disk_row};
-ghost use Rattle.ftl_disk.specs.Disk.{Certifies, Flushes, Formats, Reads, Starts, StartsCertified, Stops, Trims, Turns, Writes};
+ghost use Rattle.ftl_disk.specs.Disk.{Certifies, Flushes, FormatsDisk, ReadsDiskSector, Starts, StartsCertified, StopsDisk, Trims, Turns, WritesDiskSector};
 ghost use Rattle.ftl_disk.specs.Look.{Looks};
 ghost use Rattle.ftl_disk.specs.Measures as measured;
 
@@ -51,7 +51,7 @@ pub extern "C" fn ftl_entry_open(
     room: &mut Room,
 ) -> u32
     requires { room.old.disk ≡ None }
-    ensures { IsOpened shape.now input output result room.new.disk }
+    ensures { IsDiskOpened shape.now input output result room.new.disk }
 {
     match disk::open(alloc, shape, input, output) {
         Ok(disk) => {
@@ -65,7 +65,7 @@ pub extern "C" fn ftl_entry_open(
 /// Makes the die ready, once in its life. (This project's.)
 #[unsafe(no_mangle)]
 pub extern "C" fn ftl_entry_format(handle: &mut Handle) -> u32
-    ensures { Formats handle.old.disk result handle.new.disk }
+    ensures { FormatsDisk handle.old.disk result handle.new.disk }
 {
     disk::format_die(handle.disk())
 }
@@ -97,7 +97,7 @@ pub extern "C" fn ftl_entry_certify(handle: &mut Handle, certificate: &mut [u8])
 /// Power goes: the device is given up, with no flush, and its memory given back. The handle stays. (This project's.)
 #[unsafe(no_mangle)]
 pub extern "C" fn ftl_entry_stop(handle: &mut Handle) -> u32
-    ensures { Stops handle.old.disk result handle.new.disk }
+    ensures { StopsDisk handle.old.disk result handle.new.disk }
 {
     disk::stop(handle.disk())
 }
@@ -105,7 +105,7 @@ pub extern "C" fn ftl_entry_stop(handle: &mut Handle) -> u32
 /// Reads a sector. (This project's.)
 #[unsafe(no_mangle)]
 pub extern "C" fn ftl_entry_read(handle: &mut Handle, sector: u32, out: &mut [u8]) -> u32
-    ensures { Reads handle.old.disk sector out.old result out.new handle.new.disk }
+    ensures { ReadsDiskSector handle.old.disk sector out.old result out.new handle.new.disk }
 {
     disk::read(handle.disk(), sector, out)
 }
@@ -113,7 +113,7 @@ pub extern "C" fn ftl_entry_read(handle: &mut Handle, sector: u32, out: &mut [u8
 /// Writes a sector. (This project's.)
 #[unsafe(no_mangle)]
 pub extern "C" fn ftl_entry_write(handle: &mut Handle, sector: u32, body: &[u8]) -> u32
-    ensures { Writes handle.old.disk sector body.now result handle.new.disk }
+    ensures { WritesDiskSector handle.old.disk sector body.now result handle.new.disk }
 {
     disk::write(handle.disk(), sector, body)
 }

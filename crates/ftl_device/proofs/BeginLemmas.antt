@@ -31,7 +31,7 @@ use Rattle.image_check.specs.Stale.{is_stale, stale_sectors, same_row}
 use Rattle.image_check.specs.Agrees.{Agrees}
 use Rattle.image_check.proofs.StateLemmas.{pointer_most}
 use Rattle.image_check.proofs.TablesLemmas.{table_is}
-use Rattle.collection.specs.Pages.{newest_row, place_of}
+use Rattle.collection.specs.Pages.{directory_place, newest_row}
 use Rattle.collection.specs.Truth.{IsTrue, AreFilled, AreWorn, HasTable}
 use Rattle.ftl_device.specs.Begin.{stale_entry, begun_mapping, begun_ram}
 use Rattle.ftl_device.proofs.WearLemmas.{begun_wear_most, told_begun}
@@ -188,7 +188,7 @@ module _ (g : Geometry) (capacity : ℕ) (image : Image) (c : Claim) (whole : Is
         formed = subst (IsWellFormed (entries g) g.blocks u) (table_is image u newest_table.row newest_table.newest_is) (agrees.tables.formed u lt);
       }
 
-  directory : (key : Key) (at : ℕ) → IsKeyOf g key → place_of g key ≡ Some at → slice_get c.directory at ≡ Some (newest_row image key)
+  directory : (key : Key) (at : ℕ) → IsKeyOf g key → directory_place g key ≡ Some at → slice_get c.directory at ≡ Some (newest_row image key)
   directory (Sector n) at within e = absurd (let clash : None ≡ Some at = e in cc)
   directory (Translation t) at within e = let same : t ≡ at = cc in ap (slice_get c.directory) (sym same) ∙ agrees.directory.translation t within
   directory (Table u) at within e = let same : translation_pages g + u ≡ at = cc in ap (slice_get c.directory) (sym same) ∙ agrees.directory.table u within

@@ -30,7 +30,7 @@ use Rattle.ftl_device.specs.Device.{IsDevice}
 use Rattle.ftl_device.specs.Calls.{Knows, IsWell, state_in, reply_of, stop_of, Says, CallTells, CallRefused, HoldsSector, standing_after, answer_of, MayChange, MayNot, IsBeyond, IsShortOf, IsMostRecent, HasCost, HasPageOf, IsLastOf, order_after}
 use Rattle.ftl_device.specs.Shortage.{HasFunds, CallShort}
 use Rattle.ftl_device.specs.Stopped.{changes_sector}
-use Rattle.ftl_device.specs.Changes.{Ends, PinsNone, MayPin, Readies, HasLookedUp, Stays, Refuses, RefusesSector, ProgramsSector, Logs, Means, Changes}
+use Rattle.ftl_device.specs.Changes.{EndsCall, PinsNone, MayPin, Readies, HasLookedUp, Stays, Refuses, RefusesSector, ProgramsSector, Logs, Means, Changes}
 use Rattle.ftl_device.proofs.CallLemmas.{well_ram, well_device, memory_only, mountable_after, went_after, done_too}
 use Rattle.ftl_device.proofs.PinLemmas.{knows_well, unpinned_moved}
 use Rattle.ftl_device.proofs.CostLemmas.{closed_is, spent_is, never_memory}
@@ -163,7 +163,7 @@ module _ {N : Type 0} (flash : N → Flash) (recorded : N → Option Recording) 
   abbrev Newest : Engine N → Result (Unit {0}) CallFault → Type 0
   Newest e answer = honest old.engine.nand ≡ true → Knows (ram old.engine) (image_in flash old.engine) → OnOk answer (HasPageOf old.engine.geometry command (ram e) (image_in flash e))
 
-  module _ (answer : Result (Unit {0}) CallFault) (ends : Ends flash recorded honest calm failed old.engine answer new.engine) (readies : Readies flash honest n 2 old.engine answer new.engine) (cost : OnOk answer (HasCost n (ram old.engine) (ram new.engine)))
+  module _ (answer : Result (Unit {0}) CallFault) (ends : EndsCall flash recorded honest calm failed old.engine answer new.engine) (readies : Readies flash honest n 2 old.engine answer new.engine) (cost : OnOk answer (HasCost n (ram old.engine) (ram new.engine)))
       (checked : OnOk answer (HasLookedUp n (ram old.engine) (ram new.engine) (page_in new.engine.scratch))) (page : Pages new.engine answer) (newest : Newest new.engine answer) (truth : Holds new.engine answer) where
     abbrev replied : Result (Unit {0}) DeviceFault
     replied = answer_of (ram new.engine) good_then answer
@@ -230,10 +230,10 @@ module _ {N : Type 0} (flash : N → Flash) (recorded : N → Option Recording) 
     }
 
   -- the device noted nothing else
-  pub changed_by : (mid : Engine N) (good : ℕ) (answer : Result (Unit {0}) CallFault) (result : Result (Unit {0}) DeviceFault) → new.engine ≡ mid → good ≡ good_then → result ≡ answer_of (ram new.engine) good answer → Ends flash recorded honest calm failed old.engine answer mid → Readies flash honest n 2 old.engine answer mid
+  pub changed_by : (mid : Engine N) (good : ℕ) (answer : Result (Unit {0}) CallFault) (result : Result (Unit {0}) DeviceFault) → new.engine ≡ mid → good ≡ good_then → result ≡ answer_of (ram new.engine) good answer → EndsCall flash recorded honest calm failed old.engine answer mid → Readies flash honest n 2 old.engine answer mid
       → OnOk answer (HasCost n (ram old.engine) (ram mid)) → OnOk answer (HasLookedUp n (ram old.engine) (ram mid) (page_in mid.scratch)) → Pages mid answer → Newest mid answer → Holds mid answer → Changes flash recorded honest calm failed n command old result new
   changed_by mid good answer result same many is ends readies cost checked page newest truth =
-      let E : Engine N → Type 0 = λ e. Ends flash recorded honest calm failed old.engine answer e in
+      let E : Engine N → Type 0 = λ e. EndsCall flash recorded honest calm failed old.engine answer e in
       let R : Engine N → Type 0 = λ e. Readies flash honest n 2 old.engine answer e in
       let C : Engine N → Type 0 = λ e. OnOk answer (HasCost n (ram old.engine) (ram e)) in
       let L : Engine N → Type 0 = λ e. OnOk answer (HasLookedUp n (ram old.engine) (ram e) (page_in e.scratch)) in

@@ -23,7 +23,7 @@ use Rattle.ftl_device.specs.Device.{IsDevice}
 use Rattle.ftl_device.specs.Calls.{Knows, KeepsArray, CallRefused}
 use Rattle.ftl_device.specs.Flush.{MayFlush}
 use Rattle.ftl_device.specs.Shortage.{HasFunds, CallShort}
-use Rattle.ftl_device.specs.Changes.{Leaves, Ends}
+use Rattle.ftl_device.specs.Changes.{EngineLeaves, EndsCall}
 use Rattle.ftl_device.specs.Migrate.{FindsFrom}
 use Rattle.ftl_device.proofs.LeaveLemmas.{leaves_by}
 use Rattle.ftl_device.proofs.MigrateLemmas.{look_tells}
@@ -79,11 +79,11 @@ goes_on cursor row image ge due (Some next) (inr behind) = absurd (due_or_none r
 module _ {N : Type 0} (flash : N → Flash) (recorded : N → Option Recording) (honest calm : N → Bool) (failed : N → ℕ) where
   -- a look leaves the engine as a call that wants no room does
   pub leaves_look : {A : Type 0} (old new : Engine N) (result : Result A WriteFault) → old.fault ≡ None → Stands flash recorded honest calm failed old new result → ram new ≡ record (ram old) { fault = new.fault } → IfErr result IsReadFault
-      → (honest old.nand ≡ true → Knows (ram old) (image_in flash old) → result ≢ Err Bus → StopsSafely flash recorded old new) → Leaves flash recorded honest calm failed old result new
+      → (honest old.nand ≡ true → Knows (ram old) (image_in flash old) → result ≢ Err Bus → StopsSafely flash recorded old new) → EngineLeaves flash recorded honest calm failed old result new
   leaves_look old new result none stands still faults stops = leaves_by flash recorded honest calm failed old new result none stands (ap (λ (r : Ram). r.geometry) still) (look_tells result (ram old) (ram new) (ap (λ (r : Ram). r.blocks) still) faults) stops
 
   -- what is known of a turn, or of a page brought forward, as the part ends that asks the die
-  pub kept_ready : (old : Device N) (mid : Engine N) (answer : Result (Unit {0}) CallFault) → IsDevice flash old → MayFlush (ram old.engine) old.read_only → Ends flash recorded honest calm failed old.engine answer mid → answer ≢ Err call.OutOfMemory
+  pub kept_ready : (old : Device N) (mid : Engine N) (answer : Result (Unit {0}) CallFault) → IsDevice flash old → MayFlush (ram old.engine) old.read_only → EndsCall flash recorded honest calm failed old.engine answer mid → answer ≢ Err call.OutOfMemory
       → (honest old.engine.nand ≡ true → Knows (ram old.engine) (image_in flash old.engine) → MatchResult answer (λ _. KeepsArray old.engine.geometry (image_in flash old.engine) (ram mid) (image_in flash mid)) (CallRefused old.engine.geometry (image_in flash old.engine) (ram mid) (image_in flash mid)))
       → (HasFunds (honest old.engine.nand) (ram old.engine) (image_in flash old.engine) → 5 ≤ free_count (ram old.engine).blocks → CallShort (ram old.engine) (ram mid) answer)
       → IsUpkept flash recorded honest calm failed step.Turn old answer mid

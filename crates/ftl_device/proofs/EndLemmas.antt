@@ -27,7 +27,7 @@ use Rattle.ftl_device.specs.Calls.{Tells, CallTells, IsReady, standing_after, Kn
 use Rattle.collection.specs.Settle.{HasSettled}
 use Rattle.ftl_device.specs.Read.{IsLookedUp}
 use Rattle.ftl_device.specs.Shortage.{HasFunds}
-use Rattle.ftl_device.specs.Changes.{Ends, Readies, HasLookedUp}
+use Rattle.ftl_device.specs.Changes.{EndsCall, Readies, HasLookedUp}
 use Rattle.ftl_device.proofs.ReadyLemmas.{recent_kept}
 use Rattle.collection.proofs.Lefts.{calm_law}
 use Rattle.ftl_device.proofs.PrepareLemmas.{beside_now, limits_loaded, went_loaded}
@@ -57,7 +57,7 @@ module _ {N : Type 0} (flash : N → Flash) (recorded : N → Option Recording) 
   pub ends_refused : (old new : Engine N) (fault : WriteFault) → IsSafe flash new → new.fault ≡ Some fault → new.geometry ≡ old.geometry → honest new.nand ≡ honest old.nand → calm new.nand ≡ calm old.nand → failed old.nand ≤ failed new.nand
       → (fault ≡ Bus → HasRisen (failed old.nand) (failed new.nand)) → HasLimitsOf old.mapping new.mapping → Tells {A = Option ℕ} (ram old) (ram new) (Err fault)
       → (honest old.nand ≡ true → fault ≢ Bus → Went (ram old) (flash old.nand) (recorded old.nand) (ram new) (flash new.nand) (recorded new.nand))
-      → (honest old.nand ≡ true → Knows (ram old) (image_in flash old) → fault ≢ Bus → StopsSafely flash recorded old new) → Ends flash recorded honest calm failed old (Err (call.Engine fault)) new
+      → (honest old.nand ≡ true → Knows (ram old) (image_in flash old) → fault ≢ Bus → StopsSafely flash recorded old new) → EndsCall flash recorded honest calm failed old (Err (call.Engine fault)) new
   ends_refused old new fault safe stands geometry as_honest as_calm more rose limits tells went stops = record {
     safe = safe;
     fault = stands;
@@ -79,8 +79,8 @@ module _ {N : Type 0} (flash : N → Flash) (recorded : N → Option Recording) 
       (more : failed old.nand ≤ failed mid.nand) (limits : HasLimitsOf old.mapping mid.mapping) (calm_mid : IsCalm (ram mid)) (fewer : good_count (ram mid).blocks.table ≤ good_count (ram old).blocks.table)
       (went : honest old.nand ≡ true → Went (ram old) (flash old.nand) (recorded old.nand) (ram mid) (flash mid.nand) (recorded mid.nand))
       (stops : honest old.nand ≡ true → Knows (ram old) (image_in flash old) → StopsSafely flash recorded old mid) where
-    pub ends_memory : (new : Engine N) → new ≡ mid → Ends flash recorded honest calm failed old (Err call.OutOfMemory) new
-    ends_memory new same = subst (λ e. Ends flash recorded honest calm failed old (Err call.OutOfMemory) e) (sym same) (record {
+    pub ends_memory : (new : Engine N) → new ≡ mid → EndsCall flash recorded honest calm failed old (Err call.OutOfMemory) new
+    ends_memory new same = subst (λ e. EndsCall flash recorded honest calm failed old (Err call.OutOfMemory) e) (sym same) (record {
       safe = safe;
       fault = going;
       geometry = geometry;
@@ -95,7 +95,7 @@ module _ {N : Type 0} (flash : N → Flash) (recorded : N → Option Recording) 
       stops = λ is_honest k ne. stops is_honest k;
     })
 
-    pub ends_loaded : (new : Engine N) (n : ℕ) (row : Option ℕ) → new ≡ record mid { mapping = loaded mid.mapping n row } → IsSafe flash new → Ends flash recorded honest calm failed old (Ok tt) new
+    pub ends_loaded : (new : Engine N) (n : ℕ) (row : Option ℕ) → new ≡ record mid { mapping = loaded mid.mapping n row } → IsSafe flash new → EndsCall flash recorded honest calm failed old (Ok tt) new
     ends_loaded new n row is safe' = record {
       safe = safe';
       fault = ap (λ (e : Engine N). e.fault) is ∙ going;
@@ -113,7 +113,7 @@ module _ {N : Type 0} (flash : N → Flash) (recorded : N → Option Recording) 
 
   -- ---- a page of it comes after
 
-  module _ (old mid new : Engine N) (made : Unit {0}) (before : Ends flash recorded honest calm failed old (Ok made) mid) (safe : IsSafe flash new) (goes : Goes (ram mid) (ram new)) (as_honest : honest new.nand ≡ honest mid.nand) (as_calm : calm new.nand ≡ calm mid.nand)
+  module _ (old mid new : Engine N) (made : Unit {0}) (before : EndsCall flash recorded honest calm failed old (Ok made) mid) (safe : IsSafe flash new) (goes : Goes (ram mid) (ram new)) (as_honest : honest new.nand ≡ honest mid.nand) (as_calm : calm new.nand ≡ calm mid.nand)
       (more : failed mid.nand ≤ failed new.nand) (beside : LeavesPin (ram mid) (ram new)) (no_more : HasNoMore mid.mapping new.mapping) where
     ended_fault : (answer : Result (Unit {0}) WriteFault) → new.fault ≡ fault_after mid.fault answer → new.fault ≡ standing_after (call_of answer)
     ended_fault (Ok done) is = is ∙ before.fault
@@ -133,7 +133,7 @@ module _ {N : Type 0} (flash : N → Flash) (recorded : N → Option Recording) 
 
     pub ends_page : (answer : Result (Unit {0}) WriteFault) → new.fault ≡ fault_after mid.fault answer → (mid.fault ≡ None → answer ≡ Err Bus → HasRisen (failed mid.nand) (failed new.nand)) → (mid.fault ≡ None → PageCosts Data (ram mid) (ram new) answer)
         → (honest mid.nand ≡ true → answer ≢ Err Bus → Went (ram mid) (flash mid.nand) (recorded mid.nand) (ram new) (flash new.nand) (recorded new.nand)) → KeepsOn flash honest old mid
-        → (honest mid.nand ≡ true → mid.fault ≡ None → IsTrue None (ram mid) (image_in flash mid) → answer ≢ Err Bus → StopsSafely flash recorded mid new) → Ends flash recorded honest calm failed old (call_of answer) new
+        → (honest mid.nand ≡ true → mid.fault ≡ None → IsTrue None (ram mid) (image_in flash mid) → answer ≢ Err Bus → StopsSafely flash recorded mid new) → EndsCall flash recorded honest calm failed old (call_of answer) new
     ends_page answer fault rose cost went keeps stops = record {
       safe = safe;
       fault = ended_fault answer fault;

@@ -24,7 +24,7 @@ use Rattle.ftl_device.specs.declared.fault.CallFault.TheVariants as call
 use Rattle.ftl_device.specs.declared.fault.DeviceFault.{DeviceFault}
 use Rattle.ftl_device.specs.declared.fault.DeviceFault.TheVariants.{OutOfRange, ReadOnly, SequenceSpent, OutOfMemory, Damaged, BusFault}
 use Rattle.ftl_device.specs.Calls.{stop_of, PinIsTrue, KeepsArray, CallRefused, CallTells, standing_after, answer_of}
-use Rattle.ftl_device.specs.Counts.{is_bad_by, IsShown, IsLeft}
+use Rattle.ftl_device.specs.Counts.{is_bad_by, IsShown, IsLeftReadOnly}
 use Rattle.ftl_device.specs.Shortage.{CallShort, FlushShort}
 use Rattle.ftl_device.specs.Flush.{IsFlushed, HasNewTables, MayNotFlush, ShowsBad, first_of, IsFlushedOut}
 use Rattle.ftl_device.proofs.CallLemmas.{well_ram, pin_at}
@@ -52,7 +52,7 @@ flush_refused r s w ro OutOfMemory safe truth going not = tt
 flush_refused r s w ro Damaged safe truth going not = (let no : ⊥ = cc in no)
 flush_refused r s w ro BusFault safe truth going not = (let no : ⊥ = cc in no)
 
-pub flush_left_refused : (command : Command) (r : Ram) (log : List Operation) (ro : Bool) (fault : DeviceFault) → MayNotFlush r ro fault → IsLeft command r.geometry (is_bad_by r) [] log ro (Err fault)
+pub flush_left_refused : (command : Command) (r : Ram) (log : List Operation) (ro : Bool) (fault : DeviceFault) → MayNotFlush r ro fault → IsLeftReadOnly command r.geometry (is_bad_by r) [] log ro (Err fault)
 flush_left_refused command r log ro OutOfRange not = absurd not
 flush_left_refused command r log ro (ReadOnly good wanted failed) not = tt
 flush_left_refused command r log ro SequenceSpent not = tt

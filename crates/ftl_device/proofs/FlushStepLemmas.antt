@@ -30,7 +30,7 @@ use Rattle.collection.specs.Results.{Goes, IsLastPage, IsWritten, IsWrittenBack,
 use Rattle.ftl_device.specs.declared.fault.CallFault.{CallFault}
 use Rattle.ftl_device.specs.declared.fault.DeviceFault.{DeviceFault}
 use Rattle.ftl_device.specs.Calls.{Knows, KeepsArray, HasMadeRoom, HasPage, OneKindLaw, WriteOrTrimLaw, answer_of}
-use Rattle.ftl_device.specs.Changes.{Leaves}
+use Rattle.ftl_device.specs.Changes.{EngineLeaves}
 use Rattle.ftl_device.specs.Flush.{IsClean}
 use Rattle.ftl_device.specs.FlushSteps.{HasCleared, WritesBack, BringsUp, FlushesPage, FlushesPages, WritesTable, WritesFirst, HasRound, Repeats, WritesRounds, HasFlushed, CleanFlushLaw, FailedFlushLaw, LackingPageLaw}
 use Rattle.ftl_device.proofs.CallLemmas.{done_too}
@@ -56,7 +56,7 @@ module _ {N : Type 0} (flash : N → Flash) (recorded : N → Option Recording) 
   page_clean t e is = record { clean = λ also. refl; lacking = λ lacks. absurd (lacks is) }
 
   -- room was made
-  pub cleared_by : (old mid : Engine N) (done : Unit {0}) → Leaves flash recorded honest calm failed old (Ok done) mid → HasMadeRoom true (ram old) (ram mid)
+  pub cleared_by : (old mid : Engine N) (done : Unit {0}) → EngineLeaves flash recorded honest calm failed old (Ok done) mid → HasMadeRoom true (ram old) (ram mid)
       → (honest old.nand ≡ true → Knows (ram old) (image_in flash old) → KeepsArray old.geometry (image_in flash old) (ram mid) (image_in flash mid))
       → HasCleared flash recorded honest old mid
   cleared_by old mid done leaves room keeps = record {

@@ -19,7 +19,7 @@ use Rattle.collection.proofs.Costs.{risen_over}
 use Rattle.collection.proofs.Logs.{went_same, went_then}
 use Rattle.ftl_device.specs.declared.fault.CallFault.TheVariants as call
 use Rattle.ftl_device.specs.Calls.{Tells, CallTells, standing_after, Knows}
-use Rattle.ftl_device.specs.Changes.{Leaves, Ends}
+use Rattle.ftl_device.specs.Changes.{EngineLeaves, EndsCall}
 use Rattle.ftl_device.proofs.EndLemmas.{call_of}
 use Rattle.ftl_device.proofs.StoppedLemmas.{KeepsOn, stops_same, stops_on}
 
@@ -58,7 +58,7 @@ refused_tells A B Bus a b h = tt
 module _ {N : Type 0} (flash : N → Flash) (recorded : N → Option Recording) (honest calm : N → Bool) (failed : N → ℕ) where
   -- a call that the engine's standing fault would have stopped
   pub leaves_by : {A : Type 0} (old new : Engine N) (result : Result A WriteFault) → old.fault ≡ None → Stands flash recorded honest calm failed old new result → new.geometry ≡ old.geometry → Tells (ram old) (ram new) result
-      → (honest old.nand ≡ true → Knows (ram old) (image_in flash old) → result ≢ Err Bus → StopsSafely flash recorded old new) → Leaves flash recorded honest calm failed old result new
+      → (honest old.nand ≡ true → Knows (ram old) (image_in flash old) → result ≢ Err Bus → StopsSafely flash recorded old new) → EngineLeaves flash recorded honest calm failed old result new
   leaves_by old new result none s same tells stops = record {
     safe = s.safe;
     fault = fault_noted result (ram old) (ram new) none s.fault;
@@ -73,7 +73,7 @@ module _ {N : Type 0} (flash : N → Flash) (recorded : N → Option Recording) 
   }
 
   -- nothing was asked
-  pub leaves_same : (e : Engine N) → IsSafe flash e → e.fault ≡ None → Leaves {A = Unit {0}} flash recorded honest calm failed e (Ok tt) e
+  pub leaves_same : (e : Engine N) → IsSafe flash e → e.fault ≡ None → EngineLeaves {A = Unit {0}} flash recorded honest calm failed e (Ok tt) e
   leaves_same e safe none = record {
     safe = safe;
     fault = none;
@@ -88,7 +88,7 @@ module _ {N : Type 0} (flash : N → Flash) (recorded : N → Option Recording) 
   }
 
   -- one after another, the first done
-  pub leaves_then : {A B : Type 0} (old mid new : Engine N) (done : A) (result : Result B WriteFault) → KeepsOn flash honest old mid → HasLimitsOf old.mapping mid.mapping → Leaves flash recorded honest calm failed old (Ok done) mid → Leaves flash recorded honest calm failed mid result new → Leaves flash recorded honest calm failed old result new
+  pub leaves_then : {A B : Type 0} (old mid new : Engine N) (done : A) (result : Result B WriteFault) → KeepsOn flash honest old mid → HasLimitsOf old.mapping mid.mapping → EngineLeaves flash recorded honest calm failed old (Ok done) mid → EngineLeaves flash recorded honest calm failed mid result new → EngineLeaves flash recorded honest calm failed old result new
   leaves_then old mid new done result keeps limits first next = record {
     safe = next.safe;
     fault = next.fault;
@@ -105,7 +105,7 @@ module _ {N : Type 0} (flash : N → Flash) (recorded : N → Option Recording) 
   }
 
   -- a refusal, whatever the call would have given
-  pub leaves_refused : (A B : Type 0) (old new : Engine N) (fault : WriteFault) → Leaves {A = A} flash recorded honest calm failed old (Err fault) new → Leaves {A = B} flash recorded honest calm failed old (Err fault) new
+  pub leaves_refused : (A B : Type 0) (old new : Engine N) (fault : WriteFault) → EngineLeaves {A = A} flash recorded honest calm failed old (Err fault) new → EngineLeaves {A = B} flash recorded honest calm failed old (Err fault) new
   leaves_refused A B old new fault l = record {
     safe = l.safe;
     fault = l.fault;
@@ -120,7 +120,7 @@ module _ {N : Type 0} (flash : N → Flash) (recorded : N → Option Recording) 
   }
 
   -- and as the end of the part of a device's call that asks the die
-  pub leaves_ends : (old new : Engine N) (result : Result (Unit {0}) WriteFault) → Leaves flash recorded honest calm failed old result new → HasLimitsOf old.mapping new.mapping → (new.fault ≡ None → IsCalm (ram new)) → Ends flash recorded honest calm failed old (call_of result) new
+  pub leaves_ends : (old new : Engine N) (result : Result (Unit {0}) WriteFault) → EngineLeaves flash recorded honest calm failed old result new → HasLimitsOf old.mapping new.mapping → (new.fault ≡ None → IsCalm (ram new)) → EndsCall flash recorded honest calm failed old (call_of result) new
   leaves_ends old new result l limits calm_now = record {
     safe = l.safe;
     fault = call_fault result (ram new) l.fault;
@@ -137,11 +137,11 @@ module _ {N : Type 0} (flash : N → Flash) (recorded : N → Option Recording) 
   }
 
   -- where it was refused the fault stands, and nothing more is said of what waits in memory
-  pub leaves_stuck : {A : Type 0} (old new : Engine N) (fault : WriteFault) → Leaves {A = A} flash recorded honest calm failed old (Err fault) new → HasLimitsOf old.mapping new.mapping → Ends flash recorded honest calm failed old (Err (call.Engine fault)) new
+  pub leaves_stuck : {A : Type 0} (old new : Engine N) (fault : WriteFault) → EngineLeaves {A = A} flash recorded honest calm failed old (Err fault) new → HasLimitsOf old.mapping new.mapping → EndsCall flash recorded honest calm failed old (Err (call.Engine fault)) new
   leaves_stuck old new fault l limits = leaves_ends old new (Err fault) (leaves_refused _ _ old new fault l) limits (λ none. (let stands : new.fault ≡ Some fault = l.fault in let no : ⊥ = cc in absurd no))
 
   -- what was done gives what it likes
-  pub leaves_done : {A B : Type 0} (old new : Engine N) (a : A) (b : B) → Leaves flash recorded honest calm failed old (Ok a) new → Leaves flash recorded honest calm failed old (Ok b) new
+  pub leaves_done : {A B : Type 0} (old new : Engine N) (a : A) (b : B) → EngineLeaves flash recorded honest calm failed old (Ok a) new → EngineLeaves flash recorded honest calm failed old (Ok b) new
   leaves_done old new a b l = record {
     safe = l.safe;
     fault = l.fault;

@@ -31,7 +31,7 @@ use Rattle.ftl_device.specs.declared.fault.CallFault.{CallFault}
 use Rattle.ftl_device.specs.declared.fault.CallFault.TheVariants as call
 use Rattle.ftl_device.specs.Calls.{Tells, CallTells, KeepsArray, CallRefused}
 use Rattle.ftl_device.specs.Shortage.{CallShort}
-use Rattle.ftl_device.specs.Changes.{Leaves, Ends}
+use Rattle.ftl_device.specs.Changes.{EngineLeaves, EndsCall}
 use Rattle.ftl_device.proofs.FlushLoops.{keeps_same, limits_then}
 use Rattle.ftl_device.proofs.StoppedLemmas.{KeepsOn, stops_on}
 use Rattle.ftl_device.specs.Migrate.{Renews, Migrates}
@@ -125,7 +125,7 @@ module _ {N : Type 0} (flash : N → Flash) (recorded : N → Option Recording) 
   keeps_look old mid same still = λ is_honest k. over (λ r i. KeepsArray old.geometry (image_in flash old) r i) (ram mid) (ram old) (image_in flash mid) (image_in flash old) (sym same) (ap (λ f. f.image) (sym (still is_honest))) (keeps_same (ram old) (image_in flash old) k)
 
   -- the rest of the call after it
-  pub ends_after : {A : Type 0} (old mid new : Engine N) (x : A) (result : Result (Unit {0}) CallFault) → ram mid ≡ ram old → (honest old.nand ≡ true → flash mid.nand ≡ flash old.nand) → Leaves flash recorded honest calm failed old (Ok x) mid → Ends flash recorded honest calm failed mid result new → Ends flash recorded honest calm failed old result new
+  pub ends_after : {A : Type 0} (old mid new : Engine N) (x : A) (result : Result (Unit {0}) CallFault) → ram mid ≡ ram old → (honest old.nand ≡ true → flash mid.nand ≡ flash old.nand) → EngineLeaves flash recorded honest calm failed old (Ok x) mid → EndsCall flash recorded honest calm failed mid result new → EndsCall flash recorded honest calm failed old result new
   ends_after old mid new x result same still first next = record {
     safe = next.safe;
     fault = next.fault;

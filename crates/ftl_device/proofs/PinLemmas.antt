@@ -8,7 +8,7 @@ use Rattle.collection.specs.declared.fault.WriteFault.TheVariants.{ReadOnly, Seq
 use Rattle.collection.specs.State.{Ram}
 use Rattle.collection.specs.Safe.{IsRam, ram, image_in}
 use Rattle.collection.specs.Truth.{IsTrue}
-use Rattle.collection.specs.Results.{Leaves, IsSame, Goes, Refused}
+use Rattle.collection.specs.Results.{LeavesNewest, IsSame, Goes, Refused}
 use Rattle.collection.specs.Left.{IsCalm, IsHalfDone, LeavesPin, PinIsFew}
 use Rattle.collection.proofs.Memory.{goes_same}
 use Rattle.collection.proofs.Beside.{beside_same, beside_written}
@@ -38,7 +38,7 @@ pub beside_mapping : (a b : Ram) → b.pin ≡ a.pin → Goes a b → b.mapping 
 beside_mapping a b pin goes same = beside_written a b pin goes 0 (inl same)
 
 module _ (a b : Ram) (x y : Image) (s : IsRam a) (t : IsRam b) (l : LeavesPin a b) (k : Knows a x) where
-  pub knows_beside : IsTrue None b y → Leaves a x y → Knows b y
+  pub knows_beside : IsTrue None b y → LeavesNewest a x y → Knows b y
   knows_beside truth leaves = record {
     truth = truth;
     calm = calm_law a b l k.calm;
@@ -46,7 +46,7 @@ module _ (a b : Ram) (x y : Image) (s : IsRam a) (t : IsRam b) (l : LeavesPin a 
     few = few_law 0 a b x y s t k.truth truth k.calm l leaves k.few;
   }
 
-  pub few_beside : IsTrue None b y → Leaves a x y → PinIsFew 1 b
+  pub few_beside : IsTrue None b y → LeavesNewest a x y → PinIsFew 1 b
   few_beside truth leaves = few_more b (few_law 0 a b x y s t k.truth truth k.calm l leaves k.few)
 
   pub keeps_beside : IsSame a x b y → KeepsArray a.geometry x b y

@@ -14,7 +14,7 @@ use Rattle.collection.specs.State.{Ram}
 use Rattle.collection.specs.Safe.{IsRam}
 use Rattle.ftl_device.specs.declared.fault.CallFault.TheVariants as call
 use Rattle.ftl_device.specs.declared.fault.CallFault.TheVariants.{Engine}
-use Rattle.ftl_device.specs.Shortage.{HasUsed, HasFailed, LeavesFiveLaw, TablesLeaveLaw}
+use Rattle.ftl_device.specs.Shortage.{HasUsed, HasFoundNoBlock, LeavesFiveLaw, TablesLeaveLaw}
 
 pub used_from : (most : ℕ) (old new : Ram) → IsRam old → (u : HasUsed most old new) → Spending old.geometry.pages (counts_of old.blocks) (counts_of new.blocks) u.data_pages u.meta_pages
 used_from most old new s u =
@@ -30,7 +30,7 @@ leaves most old new two s nine u =
     let opened = few_openings old.geometry.pages u.data_pages u.meta_pages (counts_of old.blocks) (counts_of new.blocks) (used_from most old new s u) few in
     elim (cases_lt (free_count new.blocks) 5) [ inl less ↦ inr (omega arith) | inr more ↦ inl more ]
 
-pub out : (old new : Ram) → IsRam old → 9 ≤ free_count old.blocks → HasFailed 1 old new → 3 + good_count new.blocks.table ≤ good_count old.blocks.table
+pub out : (old new : Ram) → IsRam old → 9 ≤ free_count old.blocks → HasFoundNoBlock 1 old new → 3 + good_count new.blocks.table ≤ good_count old.blocks.table
 out old new s nine h =
     let few : h.used.data_pages + h.used.meta_pages + 2 ≤ old.geometry.pages = omega (arith, h.used.few, old.geometry.limits.page_count.least) in
     let gone = stuck h.stream old.geometry.pages h.out.failures h.used.data_pages h.used.meta_pages (counts_of old.blocks) (counts_of h.mid.blocks) (counts_of new.blocks) (used_from 1 old h.mid s h.used) few h.out.found in

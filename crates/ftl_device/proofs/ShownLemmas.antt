@@ -21,7 +21,7 @@ use Rattle.ftl_device.specs.declared.fault.CallFault.TheVariants as call
 use Rattle.ftl_device.specs.declared.fault.DeviceFault.{DeviceFault}
 use Rattle.ftl_device.specs.declared.fault.DeviceFault.TheVariants.{OutOfRange, ReadOnly, SequenceSpent, OutOfMemory, Damaged, BusFault}
 use Rattle.ftl_device.specs.Calls.{stop_of, HoldsSector, CallTells, CallRefused, MayNot, answer_of}
-use Rattle.ftl_device.specs.Counts.{is_bad_by, IsShown, IsLeft, is_flush}
+use Rattle.ftl_device.specs.Counts.{is_bad_by, IsShown, IsLeftReadOnly, is_flush}
 use Rattle.ftl_device.specs.Shortage.{LacksGood, CallShort, FlushShort}
 use Rattle.ftl_device.specs.Begin.{is_scarce}
 use Rattle.ftl_device.proofs.CountLemmas.{short_law, lacks_short, failed_counted}
@@ -67,7 +67,7 @@ module _ (command : Command) (old r : Ram) (s t : Flash) {told told' : Option Re
   lacks_now (inl lacks) = lacks
   lacks_now (inr five) = absurd (not_scarce (free_count r.blocks) five scarce)
 
-  pub left_at : (good : ℕ) (answer : Result (Unit {0}) CallFault) → CallShort old r answer → IsLeft command old.geometry (is_bad_by old) [] w.log ro (answer_of r good answer)
+  pub left_at : (good : ℕ) (answer : Result (Unit {0}) CallFault) → CallShort old r answer → IsLeftReadOnly command old.geometry (is_bad_by old) [] w.log ro (answer_of r good answer)
   left_at good (Ok done) h = inl (lacks_short old r w.log safe safe' same w.follows ro (lacks_now h))
   left_at good (Err (call.Engine engine_fault.ReadOnly)) h = tt
   left_at good (Err (call.Engine engine_fault.SequenceSpent)) h = tt
@@ -78,7 +78,7 @@ module _ (command : Command) (old r : Ram) (s t : Flash) {told told' : Option Re
   two_failed : 2 + good_count r.blocks.table ≤ good_count old.blocks.table → 1 < failed_count old.geometry w.log
   two_failed two = omega (arith, failed_counted old r w.log safe safe' same w.follows)
 
-  pub flush_left_at : is_flush command ≡ true → (good : ℕ) (answer : Result (Unit {0}) CallFault) → FlushShort old r answer → IsLeft command old.geometry (is_bad_by old) [] w.log ro (answer_of r good answer)
+  pub flush_left_at : is_flush command ≡ true → (good : ℕ) (answer : Result (Unit {0}) CallFault) → FlushShort old r answer → IsLeftReadOnly command old.geometry (is_bad_by old) [] w.log ro (answer_of r good answer)
   flush_left_at its good (Ok done) (inl lacks) = inl (lacks_short old r w.log safe safe' same w.follows ro lacks)
   flush_left_at its good (Ok done) (inr (inl two)) = inr (its, two_failed two)
   flush_left_at its good (Ok done) (inr (inr five)) = absurd (not_scarce (free_count r.blocks) five scarce)
@@ -91,19 +91,19 @@ module _ (command : Command) (old r : Ram) (s t : Flash) {told told' : Option Re
 module _ {N : Type 0} (flash : N → Flash) (recorded : N → Option Recording) (command : Command) (old e last : Engine N) (w : Went (ram old) (flash old.nand) (recorded old.nand) (ram last) (flash last.nand) (recorded last.nand)) (ro after : Bool) (answer : Result (Unit {0}) CallFault) (result : Result (Unit {0}) DeviceFault) (good : ℕ)
     (same : last ≡ e) (is : result ≡ answer_of (ram last) good answer) (safe : IsRam (ram old)) (safe' : IsRam (ram last)) (sized : e.geometry ≡ old.geometry) (flag : after ≡ is_scarce (free_count (ram last).blocks)) (on : after ≡ true) where
   abbrev Left : Result (Unit {0}) DeviceFault → Type 0
-  Left x = IsLeft command old.geometry (is_bad_by (ram old)) [] w.log ro x
+  Left x = IsLeftReadOnly command old.geometry (is_bad_by (ram old)) [] w.log ro x
 
   here : last.geometry ≡ old.geometry
   here = ap (λ (x : Engine N). x.geometry) same ∙ sized
 
-  pub left_after : CallShort (ram old) (ram e) answer → IsLeft command old.geometry (is_bad_by (ram old)) [] w.log ro result
+  pub left_after : CallShort (ram old) (ram e) answer → IsLeftReadOnly command old.geometry (is_bad_by (ram old)) [] w.log ro result
   left_after lacks = subst Left (sym is) (left_at command (ram old) (ram last) (flash old.nand) (flash last.nand) w ro safe safe' here (sym flag ∙ on) good answer (subst (λ (x : Engine N). CallShort (ram old) (ram x) answer) (sym same) lacks))
 
-  pub flush_left_after : is_flush command ≡ true → FlushShort (ram old) (ram e) answer → IsLeft command old.geometry (is_bad_by (ram old)) [] w.log ro result
+  pub flush_left_after : is_flush command ≡ true → FlushShort (ram old) (ram e) answer → IsLeftReadOnly command old.geometry (is_bad_by (ram old)) [] w.log ro result
   flush_left_after its lacks = subst Left (sym is) (flush_left_at command (ram old) (ram last) (flash old.nand) (flash last.nand) w ro safe safe' here (sym flag ∙ on) its good answer (subst (λ (x : Engine N). FlushShort (ram old) (ram x) answer) (sym same) lacks))
 
 -- where it was not to begin
-pub left_refused : (command : Command) (r : Ram) (log : List Operation) (ro : Bool) (n : ℕ) (fault : DeviceFault) → MayNot r ro n fault → IsLeft command r.geometry (is_bad_by r) [] log ro (Err fault)
+pub left_refused : (command : Command) (r : Ram) (log : List Operation) (ro : Bool) (n : ℕ) (fault : DeviceFault) → MayNot r ro n fault → IsLeftReadOnly command r.geometry (is_bad_by r) [] log ro (Err fault)
 left_refused command r log ro n OutOfRange not = tt
 left_refused command r log ro n (ReadOnly good wanted failed) not = tt
 left_refused command r log ro n SequenceSpent not = tt

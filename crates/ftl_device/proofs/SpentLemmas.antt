@@ -28,7 +28,7 @@ use Rattle.ftl_device.specs.declared.fault.CallFault.TheVariants.{Engine}
 use Rattle.ftl_device.specs.Begin.{is_scarce}
 use Rattle.ftl_device.specs.Calls.{Tells, HasMadeRoom}
 use Rattle.ftl_device.specs.Flush.{WritesTables, RunsOut}
-use Rattle.ftl_device.specs.Shortage.{HasUsed, HasFailed, LacksGood, AfterRoom, UsesRoom, FailsRoom, PlaceCosts, RoomCosts, CallRoomCosts, CallShort}
+use Rattle.ftl_device.specs.Shortage.{HasUsed, HasFoundNoBlock, LacksGood, AfterRoom, UsesRoom, FailsRoom, PlaceCosts, RoomCosts, CallRoomCosts, CallShort}
 use Rattle.ftl_device.specs.Shortage.{FlushFunded, FlushCounts, FlushShort}
 use Rattle.ftl_device.proofs.RoomLemmas.{good_fewer, goes_on}
 use Rattle.ftl_device.proofs.FlushLoops.{free_most}
@@ -81,7 +81,7 @@ used_after most a b c is u = record {
   account = λ first d m acc. subst (λ (s : State). Spending a.geometry.pages first (counts_of s) (d + u.data_pages) (m + u.meta_pages)) (sym is) (u.account first d m acc);
 }
 
-pub failed_at : (most : ℕ) (stream : Stream) (a c : Ram) → HasRunOut stream a c → HasFailed most a c
+pub failed_at : (most : ℕ) (stream : Stream) (a c : Ram) → HasRunOut stream a c → HasFoundNoBlock most a c
 failed_at most stream a c h = record { mid = a; geometry = refl; used = used_none most a; stream = stream; out = h }
 
 -- ---- a place for an entry

@@ -43,7 +43,7 @@ use Rattle.ftl_device.specs.declared.fault.CallFault.{CallFault}
 use Rattle.ftl_device.specs.Calls.{HasMadeRoom, HasRescued}
 use Rattle.ftl_device.specs.Shortage.{LacksGood, CallShort}
 use Rattle.ftl_device.proofs.ShortageLemmas.{leaves_five}
-use Rattle.ftl_device.specs.Changes.{Leaves, CollectsOn}
+use Rattle.ftl_device.specs.Changes.{EngineLeaves, CollectsOn}
 use Rattle.ftl_device.proofs.LeaveLemmas.{leaves_same, leaves_then}
 use Rattle.ftl_device.proofs.StoppedLemmas.{stops_same}
 use Rattle.ftl_device.proofs.RoomLemmas.{not_ailing, good_fewer, rescue_worked}
@@ -147,10 +147,10 @@ module _ (p : Pinned) (a b : Ram) (x y : Image) (s : IsRam a) (t : IsRam b) (sam
   pub step_keeps : (step : Step) → IsCalm b → StepsOn false p a x b y step → KeepsArray a.geometry x b y
   step_keeps step calm on = record { truth = record { truth = on.same.truth; calm = calm; passed = on.passed; few = on.few (k.few p at) }; array = on.same.array; versions = on.same.leaves.versions }
 
-  pub step_bad : IsTrue None b y → Rattle.collection.specs.Results.Leaves a x y → KeepsBad a b
+  pub step_bad : IsTrue None b y → Rattle.collection.specs.Results.LeavesNewest a x y → KeepsBad a b
   step_bad truth leaves = λ j within bad. shut_fewer a b x y j s t same k.truth truth leaves within (bad_shut a.blocks j bad)
 
-  few_refused : b.pin.block ≡ a.pin.block → b.mapping ≡ a.mapping → IsTrue None b y → Rattle.collection.specs.Results.Leaves a x y → PinIsFew 1 b
+  few_refused : b.pin.block ≡ a.pin.block → b.mapping ≡ a.mapping → IsTrue None b y → Rattle.collection.specs.Results.LeavesNewest a x y → PinIsFew 1 b
   few_refused pin mapping truth leaves q is =
       let was : a.pin.block ≡ Some q = sym pin ∙ is in
       let half = pinned_half a q k.calm was in
@@ -225,8 +225,8 @@ module _ {N : Type 0} (flash : N → Flash) (e f : Engine N) (block : ℕ) (is :
   worked_pinned erases new h = (let P : Engine N → Type 0 = λ z. HasWorked (ram z) (ram new) (erases z.nand) (erases new.nand) in subst P is h)
 
   module _ (recorded : N → Option Recording) (honest calm : N → Bool) (erases failed : N → ℕ) where
-    leaves_pinned : IsSafe flash e → IsSafe flash f → e.fault ≡ None → Leaves {A = Unit {0}} flash recorded honest calm failed e (Ok tt) f
-    leaves_pinned was safe none = (let P : Engine N → Type 0 = λ z. IsSafe flash z → Leaves {A = Unit {0}} flash recorded honest calm failed e (Ok tt) z in subst P (sym is) (λ s. record {
+    leaves_pinned : IsSafe flash e → IsSafe flash f → e.fault ≡ None → EngineLeaves {A = Unit {0}} flash recorded honest calm failed e (Ok tt) f
+    leaves_pinned was safe none = (let P : Engine N → Type 0 = λ z. IsSafe flash z → EngineLeaves {A = Unit {0}} flash recorded honest calm failed e (Ok tt) z in subst P (sym is) (λ s. record {
       safe = s;
       fault = none;
       geometry = refl;
@@ -367,7 +367,7 @@ moved_less r x k = at r.pin.block refl
     at (Some p) is = (let few = k.few p is in omega (arith, few.moved, vmax_less r.geometry))
 
 module _ (b c : Ram) (y z : Image) (s : IsRam b) (t : IsRam c) (goes : Goes b c) (pin : c.pin ≡ b.pin) (more : length c.mapping.moved ≤ length b.mapping.moved + 1) (k : Knows b y) where
-  few_rescued : IsTrue None c z → Rattle.collection.specs.Results.Leaves b y z → PinIsFew 1 c
+  few_rescued : IsTrue None c z → Rattle.collection.specs.Results.LeavesNewest b y z → PinIsFew 1 c
   few_rescued truth leaves q is =
       let was : b.pin.block ≡ Some q = sym (ap (λ (x : Pin). x.block) pin) ∙ is in
       let half = pinned_half b q k.calm was in

@@ -16,7 +16,7 @@ use Rattle.image_check.proofs.MountableLemmas.{mountable}
 use Rattle.collection.specs.declared.engine.Engine.{Engine}
 use Rattle.collection.specs.Safe.{IsSafe, ram, image_in}
 use Rattle.collection.specs.Truth.{IsTrue}
-use Rattle.collection.specs.Stops.{IsLeft, StopsSafely}
+use Rattle.collection.specs.Stops.{IsLeftByStop, StopsSafely}
 use Rattle.collection.proofs.Stops.{one_gain, same_left, stops_then}
 use Rattle.ftl_device.specs.declared.fault.DeviceFault.{DeviceFault}
 use Rattle.ftl_device.specs.Calls.{Knows, KeepsArray, reply_of}
@@ -34,7 +34,7 @@ module _ {N : Type 0} (flash : N → Flash) (recorded : N → Option Recording) 
   -- of the die nothing was asked after it
   pub stops_still : (old mid new : Engine N) → flash new.nand ≡ flash mid.nand → recorded new.nand ≡ recorded mid.nand → StopsSafely flash recorded old mid → StopsSafely flash recorded old new
   stops_still old mid new same still stops =
-      let P : Flash → Option Recording → Type 0 = λ s t. LeavesOnly (flash old.nand) s (recorded old.nand) t (IsLeft (ram old) (flash old.nand).image s.image) in
+      let P : Flash → Option Recording → Type 0 = λ s t. LeavesOnly (flash old.nand) s (recorded old.nand) t (IsLeftByStop (ram old) (flash old.nand).image s.image) in
       subst (λ s. P s (recorded new.nand)) (sym same) (subst (λ t. P (flash mid.nand) t) (sym still) stops)
 
   -- one after another, of which the first keeps the array
@@ -45,7 +45,7 @@ module _ {N : Type 0} (flash : N → Flash) (recorded : N → Option Recording) 
 
   module _ (old new : Engine N) (command : Command) (result : Result (Unit {0}) DeviceFault) (log : List Operation) (safe : IsSafe flash old) (records : Records (recorded old.nand) log (recorded new.nand)) (stops : StopsSafely flash recorded old new)
       (changes : (array_of old.geometry (image_in flash new) ≡ array_of old.geometry (image_in flash old)) ⊎ ((changes_sector command ≡ true) × (result ≡ Ok tt))) where
-    left_by : (left : Image) → IsSome (recorded new.nand) → MayLeave old.geometry (image_in flash old) log left → IsLeft (ram old) (image_in flash old) (image_in flash new) left
+    left_by : (left : Image) → IsSome (recorded new.nand) → MayLeave old.geometry (image_in flash old) log left → IsLeftByStop (ram old) (image_in flash old) (image_in flash new) left
     left_by left some may =
         let one : log ≡ stops.log = one_gain (recorded old.nand) (recorded new.nand) log stops.log some records stops.records in
         stops.left left (subst (λ (g : Geometry). MayLeave g (image_in flash old) stops.log left) (sym safe.geometry) (subst (λ l. MayLeave old.geometry (image_in flash old) l left) one may))

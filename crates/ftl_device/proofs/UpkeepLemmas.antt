@@ -26,10 +26,10 @@ use Rattle.ftl_device.specs.declared.fault.DeviceFault.TheVariants.{OutOfRange, 
 use Rattle.ftl_device.specs.Begin.{is_scarce}
 use Rattle.ftl_device.specs.Device.{IsDevice}
 use Rattle.ftl_device.specs.Calls.{Knows, IsWell, state_in, reply_of, stop_of, CallTells, CallRefused, KeepsArray, answer_of}
-use Rattle.ftl_device.specs.Counts.{is_bad_by, is_flush, IsLeft}
+use Rattle.ftl_device.specs.Counts.{is_bad_by, is_flush, IsLeftReadOnly}
 use Rattle.ftl_device.specs.Flush.{MayFlush, MayNotFlush, first_of, IsFlushedOut}
 use Rattle.ftl_device.specs.Shortage.{CallShort}
-use Rattle.ftl_device.specs.Changes.{Ends, PinsNone, MayPin, Logs, Means, Upkeeps}
+use Rattle.ftl_device.specs.Changes.{EndsCall, PinsNone, MayPin, Logs, Means, Upkeeps}
 use Rattle.ftl_device.proofs.CallLemmas.{well_device, memory_only, mountable_after, went_after}
 use Rattle.ftl_device.proofs.ChangeLemmas.{pins_of, Why, refuses_made, refuses_at_once, stays_same, not_past}
 use Rattle.ftl_device.proofs.PinLemmas.{knows_well}
@@ -93,12 +93,12 @@ module _ {N : Type 0} (flash : N → Flash) (recorded : N → Option Recording) 
   -- what is known of the engine as the part ends that asks the die: what a refusal lacks, what leaves the device read-only, and, of a flush,
   -- what the image is worth
   pub record IsUpkept (answer : Result (Unit {0}) CallFault) (e : Engine N) : Type 0 where
-    pub ends : Ends flash recorded honest calm failed old.engine answer e
+    pub ends : EndsCall flash recorded honest calm failed old.engine answer e
     pub no_memory : answer ≢ Err call.OutOfMemory
     pub truth : honest old.engine.nand ≡ true → Knows (ram old.engine) (image_in flash old.engine) → MatchResult answer (λ _. KeepsArray old.engine.geometry (image_in flash old.engine) (ram e) (image_in flash e)) (CallRefused old.engine.geometry (image_in flash old.engine) (ram e) (image_in flash e))
     pub lacks : honest old.engine.nand ≡ true → Knows (ram old.engine) (image_in flash old.engine) → (fault : CallFault) → answer ≡ Err fault → CallShort (ram old.engine) (ram e) answer
     pub left : honest old.engine.nand ≡ true → Knows (ram old.engine) (image_in flash old.engine) → (w : Went (ram old.engine) (flash old.engine.nand) (recorded old.engine.nand) (ram e) (flash e.nand) (recorded e.nand)) → (ro : Bool) → ro ≡ is_scarce (free_count (ram e).blocks) → ro ≡ true
-        → IsLeft command old.engine.geometry (is_bad_by (ram old.engine)) [] w.log old.read_only (answer_of (ram e) good_then answer)
+        → IsLeftReadOnly command old.engine.geometry (is_bad_by (ram old.engine)) [] w.log old.read_only (answer_of (ram e) good_then answer)
     pub worth : honest old.engine.nand ≡ true → Knows (ram old.engine) (image_in flash old.engine) → (w : Went (ram old.engine) (flash old.engine.nand) (recorded old.engine.nand) (ram e) (flash e.nand) (recorded e.nand)) → is_flush command ≡ true → OnOk answer (IsFlushedOut (first_of (ram old.engine)) w.log (image_in flash e))
 
   module _ (new : Device N) (device : IsDevice flash old) (device' : IsDevice flash new) (may : MayFlush (ram old.engine) old.read_only)

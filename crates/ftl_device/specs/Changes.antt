@@ -32,7 +32,7 @@ use Rattle.ftl_device.specs.declared.fault.CallFault.TheVariants as call
 use Rattle.ftl_device.specs.declared.fault.DeviceFault.{DeviceFault}
 use Rattle.ftl_device.specs.declared.fault.DeviceFault.TheVariants.{OutOfRange, ReadOnly, SequenceSpent, OutOfMemory, Damaged, BusFault}
 use Rattle.ftl_device.specs.Calls.{state_in, reply_of, stop_of, IsWell, Says, Tells, CallTells, standing_after, IsMostRecent, IsReady, HasCost, HasPageOf, IsLastOf, order_after, Knows, KeepsArray, KeepsBad, CallRefused}
-use Rattle.ftl_device.specs.Counts.{is_bad_by, is_flush, IsShown, IsLeft}
+use Rattle.ftl_device.specs.Counts.{is_bad_by, is_flush, IsShown, IsLeftReadOnly}
 use Rattle.ftl_device.specs.Read.{IsLookedUp}
 use Rattle.ftl_device.specs.Flush.{first_of, IsFlushedOut}
 use Rattle.ftl_device.specs.Shortage.{HasFunds, CallRoomCosts, StepCounts}
@@ -41,7 +41,7 @@ use Rattle.ftl_device.specs.Stopped.{SurvivesStops}
 -- ---- inside the device
 
 -- WHAT A CALL OF THE ENGINE LEAVES where no fault stood, whatever it answers: the fault that it answers stands from then on
-pub record Leaves {A N : Type 0} (flash : N → Flash) (recorded : N → Option Recording) (honest calm : N → Bool) (failed : N → ℕ) (old : Engine N)
+pub record EngineLeaves {A N : Type 0} (flash : N → Flash) (recorded : N → Option Recording) (honest calm : N → Bool) (failed : N → ℕ) (old : Engine N)
     (result : Result A WriteFault) (new : Engine N) : Type 0 where
   pub safe : IsSafe flash new
   pub fault : new.fault ≡ fault_after None result
@@ -55,7 +55,7 @@ pub record Leaves {A N : Type 0} (flash : N → Flash) (recorded : N → Option 
   pub stops : honest old.nand ≡ true → Knows (ram old) (image_in flash old) → result ≢ Err Bus → StopsSafely flash recorded old new
 
 -- AND WHERE THE CALL MAY WANT MEMORY TOO: how the part of a device's call ends that asks the die
-pub record Ends {N : Type 0} (flash : N → Flash) (recorded : N → Option Recording) (honest calm : N → Bool) (failed : N → ℕ) (old : Engine N)
+pub record EndsCall {N : Type 0} (flash : N → Flash) (recorded : N → Option Recording) (honest calm : N → Bool) (failed : N → ℕ) (old : Engine N)
     (result : Result (Unit {0}) CallFault) (new : Engine N) : Type 0 where
   pub safe : IsSafe flash new
   pub fault : new.fault ≡ standing_after result
@@ -89,7 +89,7 @@ pub record Readies {N : Type 0} (flash : N → Flash) (honest : N → Bool) (n p
 -- and of a step of a collection that a turn takes: bad blocks get no page; where the die is honest the array stays
 pub record CollectsOn {N : Type 0} (flash : N → Flash) (recorded : N → Option Recording) (honest calm : N → Bool) (erases failed : N → ℕ)
     (old : Engine N) (result : Result (Unit {0}) WriteFault) (new : Engine N) : Type 0 where
-  pub leaves : Leaves flash recorded honest calm failed old result new
+  pub leaves : EngineLeaves flash recorded honest calm failed old result new
   pub limits : HasLimitsOf old.mapping new.mapping
   pub calm_memory : new.fault ≡ None → IsCalm (ram new)
   pub goes : GoesOn (ram old) (ram new)
@@ -176,7 +176,7 @@ LeavesUnpinned old result new = old.engine.pinned ≡ None → IsSome new.engine
 pub record Logs {N : Type 0} (flash : N → Flash) (recorded : N → Option Recording) (command : Command) (old : Device N) (result : Result (Unit {0}) DeviceFault) (new : Device N) : Type 0 where
   pub went : Went (ram old.engine) (flash old.engine.nand) (recorded old.engine.nand) (ram new.engine) (flash new.engine.nand) (recorded new.engine.nand)
   pub shown : IsWell flash old → IfErr result (IsShown old.engine.geometry (is_bad_by (ram old.engine)) old.engine.next [] went.log old.read_only (image_in flash new.engine))
-  pub left : IsWell flash old → new.read_only ≡ true → IsLeft command old.engine.geometry (is_bad_by (ram old.engine)) [] went.log old.read_only result
+  pub left : IsWell flash old → new.read_only ≡ true → IsLeftReadOnly command old.engine.geometry (is_bad_by (ram old.engine)) [] went.log old.read_only result
   pub flushed : IsWell flash old → is_flush command ≡ true → result ≡ Ok tt → IsFlushedOut (first_of (ram old.engine)) went.log (image_in flash new.engine)
   pub stopped : IsWell flash old
       → SurvivesStops old.engine.geometry old.engine.mapping.capacity command result (image_in flash old.engine) (image_in flash new.engine) (recorded new.engine.nand) went.log

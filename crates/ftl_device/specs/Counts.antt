@@ -55,14 +55,14 @@ is_flush Flush = true
 is_flush Turn = false
 
 -- WHEN A CALL LEAVES THE DEVICE READ-ONLY that isn't refused for it: in a shortage, or where it is a flush in which two blocks failed.
-abbrev pub IsLeft : Command → Geometry → (ℕ → Bool) → (before call : List Operation) → Bool → Result (Unit {0}) DeviceFault → Type 0
-IsLeft command g bad before call ro (Ok done) = IsShort g bad before call ro ⊎ ((is_flush command ≡ true) × (1 < failed_count g call))
-IsLeft command g bad before call ro (Err OutOfRange) = Unit {0}
-IsLeft command g bad before call ro (Err (ReadOnly good wanted failed)) = Unit {0}
-IsLeft command g bad before call ro (Err SequenceSpent) = Unit {0}
-IsLeft command g bad before call ro (Err OutOfMemory) = IsShort g bad before call ro
-IsLeft command g bad before call ro (Err Damaged) = Unit {0}
-IsLeft command g bad before call ro (Err BusFault) = Unit {0}
+abbrev pub IsLeftReadOnly : Command → Geometry → (ℕ → Bool) → (before call : List Operation) → Bool → Result (Unit {0}) DeviceFault → Type 0
+IsLeftReadOnly command g bad before call ro (Ok done) = IsShort g bad before call ro ⊎ ((is_flush command ≡ true) × (1 < failed_count g call))
+IsLeftReadOnly command g bad before call ro (Err OutOfRange) = Unit {0}
+IsLeftReadOnly command g bad before call ro (Err (ReadOnly good wanted failed)) = Unit {0}
+IsLeftReadOnly command g bad before call ro (Err SequenceSpent) = Unit {0}
+IsLeftReadOnly command g bad before call ro (Err OutOfMemory) = IsShort g bad before call ro
+IsLeftReadOnly command g bad before call ro (Err Damaged) = Unit {0}
+IsLeftReadOnly command g bad before call ro (Err BusFault) = Unit {0}
 
 -- ---- laws
 

@@ -28,7 +28,7 @@ pub record HasUsed (most : ℕ) (old new : Ram) : Type 0 where
   pub account : (first : Counts) (d m : ℕ) → Spending old.geometry.pages first (counts_of old.blocks) d m → Spending old.geometry.pages first (counts_of new.blocks) (d + data_pages) (m + meta_pages)
 
 -- and then a page found no block
-pub record HasFailed (most : ℕ) (old new : Ram) : Type 0 where
+pub record HasFoundNoBlock (most : ℕ) (old new : Ram) : Type 0 where
   pub mid : Ram
   pub geometry : mid.geometry ≡ old.geometry
   pub used : HasUsed most old mid
@@ -38,7 +38,7 @@ pub record HasFailed (most : ℕ) (old new : Ram) : Type 0 where
 -- what a call that changes a sector costs once there is room for it: a translation page and a page of the sector, at most
 abbrev pub CallCosts : Ram → Ram → Result (Unit {0}) CallFault → Type 0
 CallCosts old new (Ok done) = HasUsed 2 old new
-CallCosts old new (Err (Engine engine_fault.ReadOnly)) = HasFailed 1 old new
+CallCosts old new (Err (Engine engine_fault.ReadOnly)) = HasFoundNoBlock 1 old new
 CallCosts old new (Err (Engine engine_fault.SequenceSpent)) = Unit {0}
 CallCosts old new (Err (Engine engine_fault.Damaged)) = Unit {0}
 CallCosts old new (Err (Engine engine_fault.Bus)) = Unit {0}
@@ -79,7 +79,7 @@ pub record UsesRoom (known : Type 0) (most : ℕ) (old new : Ram) : Type 0 where
 pub record FailsRoom (known : Type 0) (old new : Ram) : Type 0 where
   pub mid : Ram
   pub after : AfterRoom known old mid
-  pub failed : HasFailed 1 mid new
+  pub failed : HasFoundNoBlock 1 mid new
 
 -- no room was to be made
 pub record LacksRoom (known : Type 0) (old new : Ram) : Type 0 where
@@ -89,7 +89,7 @@ pub record LacksRoom (known : Type 0) (old new : Ram) : Type 0 where
 -- what a place for a sector's entry costs
 abbrev pub PlaceCosts : Ram → Ram → Result (Unit {0}) WriteFault → Type 0
 PlaceCosts old new (Ok done) = HasUsed 1 old new
-PlaceCosts old new (Err engine_fault.ReadOnly) = HasFailed 0 old new
+PlaceCosts old new (Err engine_fault.ReadOnly) = HasFoundNoBlock 0 old new
 PlaceCosts old new (Err engine_fault.SequenceSpent) = HasSpent Meta old new
 PlaceCosts old new (Err engine_fault.Damaged) = Unit {0}
 PlaceCosts old new (Err engine_fault.Bus) = Unit {0}
@@ -125,7 +125,7 @@ CallShort old new (Err call.OutOfMemory) = LacksGood old new ⊎ (5 ≤ free_cou
 -- it takes one page at most, in either stream, or gives a block back, or loses one
 abbrev pub StepCounts : Ram → Ram → Result (Unit {0}) WriteFault → Type 0
 StepCounts old new (Ok done) = HasUsed 1 old new ⊎ (free_count old.blocks + good_count new.blocks.table ≤ free_count new.blocks + good_count old.blocks.table)
-StepCounts old new (Err engine_fault.ReadOnly) = HasFailed 0 old new
+StepCounts old new (Err engine_fault.ReadOnly) = HasFoundNoBlock 0 old new
 StepCounts old new (Err engine_fault.SequenceSpent) = Unit {0}
 StepCounts old new (Err engine_fault.Damaged) = Unit {0}
 StepCounts old new (Err engine_fault.Bus) = Unit {0}

@@ -10,7 +10,7 @@ ghost use Rattle.collection.specs.Looks.{IsReadFault};
 ghost use Rattle.allocation.specs.State.{free_count};
 ghost use Rattle.ftl_device.specs.Device.{IsDevice};
 ghost use Rattle.ftl_device.specs.Calls.{IsWell, Knows, KeepsArray, CallRefused};
-ghost use Rattle.ftl_device.specs.Changes.{Leaves, Ends, Upkeeps};
+ghost use Rattle.ftl_device.specs.Changes.{EngineLeaves, EndsCall, Upkeeps};
 ghost use Rattle.ftl_device.specs.Shortage.{HasFunds, CallShort};
 ghost use Rattle.ftl_device.specs.Migrate.{ended, Renews, Migrates, FindsFrom, HasMovedOn};
 ghost use Rattle.ftl_device.specs.Brings.{BringsOne, BringsPage, HasBrought};
@@ -30,7 +30,7 @@ fn renew_ready<N: Nand>(engine: &mut Engine<N>, row: u32) -> Result<(), CallFaul
     requires going { engine.old.fault ≡ None }
     requires calm { IsCalm (ram engine.old) }
     requires row { row < row_count engine.old.geometry }
-    ensures ends { Ends N.flash N.recorded N.honest N.calm N.failed engine.old result engine.new }
+    ensures ends { EndsCall N.flash N.recorded N.honest N.calm N.failed engine.old result engine.new }
     ensures memory { result ≢ Err CallFault.OutOfMemory }
     ensures count { HasFunds (N.honest engine.old.nand) (ram engine.old) (image_in N.flash engine.old) →
         5 ≤ free_count (ram engine.old).blocks → CallShort (ram engine.old) (ram engine.new) result }
@@ -54,7 +54,7 @@ fn renew_ready<N: Nand>(engine: &mut Engine<N>, row: u32) -> Result<(), CallFaul
 fn next_from<N: Nand>(engine: &mut Engine<N>, cursor: u32) -> Result<Option<u32>, WriteFault>
     requires safe { IsSafe N.flash engine.old }
     requires going { engine.old.fault ≡ None }
-    ensures leaves { Leaves N.flash N.recorded N.honest N.calm N.failed engine.old result engine.new }
+    ensures leaves { EngineLeaves N.flash N.recorded N.honest N.calm N.failed engine.old result engine.new }
     ensures only_reads { OnlyReads N.flash N.honest N.calm N.programs N.erases N.failed engine.old.nand engine.new.nand }
     ensures still { ram engine.new ≡ record (ram engine.old) { fault = engine.new.fault } }
     ensures same { N.honest engine.old.nand ≡ true → OnOk result (N.flash engine.new.nand ≡ N.flash engine.old.nand) }
@@ -82,7 +82,7 @@ fn migrate_ready<N: Nand>(
     requires safe { IsSafe N.flash engine.old }
     requires going { engine.old.fault ≡ None }
     requires calm { IsCalm (ram engine.old) }
-    ensures ends { Ends N.flash N.recorded N.honest N.calm N.failed engine.old result engine.new }
+    ensures ends { EndsCall N.flash N.recorded N.honest N.calm N.failed engine.old result engine.new }
     ensures memory { result ≢ Err CallFault.OutOfMemory }
     ensures count { HasFunds (N.honest engine.old.nand) (ram engine.old) (image_in N.flash engine.old) →
         5 ≤ free_count (ram engine.old).blocks → CallShort (ram engine.old) (ram engine.new) result }

@@ -25,7 +25,7 @@ ghost use Rattle.allocation.specs.Counts.{counts_of};
 ghost use Rattle.ftl_device.specs.Flush.{KeepsClean};
 ghost use Rattle.ftl_device.specs.Read.{HasWrittenBack, IsPrepared, IsLookedUp};
 ghost use Rattle.ftl_device.specs.Shortage.{HasFunds, PlaceCosts, RoomCosts};
-ghost use Rattle.ftl_device.specs.Changes.{Leaves, Ends, Readies, HasLookedUp};
+ghost use Rattle.ftl_device.specs.Changes.{EngineLeaves, EndsCall, Readies, HasLookedUp};
 
 use crate::fault::CallFault;
 use collection::{Engine, WriteFault};
@@ -36,7 +36,7 @@ pub(crate) fn make_room<N: Nand>(engine: &mut Engine<N>, flushing: bool) -> Resu
     requires safe { IsSafe N.flash engine.old }
     requires going { engine.old.fault ≡ None }
     requires calm { IsCalm (ram engine.old) }
-    ensures leaves { Leaves N.flash N.recorded N.honest N.calm N.failed engine.old result engine.new }
+    ensures leaves { EngineLeaves N.flash N.recorded N.honest N.calm N.failed engine.old result engine.new }
     ensures made { OnOk result (HasMadeRoom flushing (ram engine.old) (ram engine.new)) }
     ensures rests { 9 ≤ free_count (ram engine.old).blocks → IsOk result × (engine.new ≡ engine.old) }
     ensures erases { OnOk result (RestsOrErases N.erases engine.old engine.new) }
@@ -62,7 +62,7 @@ pub(crate) fn make_room<N: Nand>(engine: &mut Engine<N>, flushing: bool) -> Resu
 fn make_place<N: Nand>(engine: &mut Engine<N>, sector: u32) -> Result<(), WriteFault>
     requires safe { IsSafe N.flash engine.old }
     requires going { engine.old.fault ≡ None }
-    ensures leaves { Leaves N.flash N.recorded N.honest N.calm N.failed engine.old result engine.new }
+    ensures leaves { EngineLeaves N.flash N.recorded N.honest N.calm N.failed engine.old result engine.new }
     ensures place { OnOk result (CanLoad engine.new.mapping sector) }
     ensures keys { keys_of engine.new.mapping.cached ≡ keys_of engine.old.mapping.cached }
     ensures beside { LeavesPin (ram engine.old) (ram engine.new) }
@@ -125,7 +125,7 @@ fn prepare<N: Nand>(engine: &mut Engine<N>, sector: u32) -> Result<Option<u32>, 
     requires going { engine.old.fault ≡ None }
     requires calm { IsCalm (ram engine.old) }
     requires sector { sector < engine.old.geometry.sectors }
-    ensures leaves { Leaves N.flash N.recorded N.honest N.calm N.failed engine.old result engine.new }
+    ensures leaves { EngineLeaves N.flash N.recorded N.honest N.calm N.failed engine.old result engine.new }
     ensures place { OnOk result (CanLoad engine.new.mapping sector) }
     ensures row { IfOk result (λ row. ForSome row (λ r. r < row_count engine.old.geometry)) }
     ensures checked { IfOk result (FindsRow (ram engine.new) sector (page_in engine.new.scratch)) }
@@ -153,7 +153,7 @@ fn make_ready<N: Nand>(engine: &mut Engine<N>, sector: u32) -> Result<(), CallFa
     requires going { engine.old.fault ≡ None }
     requires calm { IsCalm (ram engine.old) }
     requires sector { sector < engine.old.geometry.sectors }
-    ensures ends { Ends N.flash N.recorded N.honest N.calm N.failed engine.old result engine.new }
+    ensures ends { EndsCall N.flash N.recorded N.honest N.calm N.failed engine.old result engine.new }
     ensures readies { Readies N.flash N.honest sector 1 engine.old result engine.new }
     ensures holds { OnOk result (IsSome (slot_of engine.new.mapping sector)) }
     ensures checked { OnOk result (IsLookedUp sector (ram engine.old) (ram engine.new) (page_in engine.new.scratch)) }
@@ -179,7 +179,7 @@ pub(crate) fn write_ready<N: Nand>(
     requires calm { IsCalm (ram engine.old) }
     requires sector { sector < engine.old.geometry.sectors }
     requires body { length body.now ≡ engine.old.geometry.data_bytes }
-    ensures ends { Ends N.flash N.recorded N.honest N.calm N.failed engine.old result engine.new }
+    ensures ends { EndsCall N.flash N.recorded N.honest N.calm N.failed engine.old result engine.new }
     ensures readies { Readies N.flash N.honest sector 2 engine.old result engine.new }
     ensures cost { OnOk result (HasCost sector (ram engine.old) (ram engine.new)) }
     ensures checked { OnOk result (HasLookedUp sector (ram engine.old) (ram engine.new) (page_in engine.new.scratch)) }
@@ -202,7 +202,7 @@ pub(crate) fn trim_ready<N: Nand>(engine: &mut Engine<N>, sector: u32) -> Result
     requires going { engine.old.fault ≡ None }
     requires calm { IsCalm (ram engine.old) }
     requires sector { sector < engine.old.geometry.sectors }
-    ensures ends { Ends N.flash N.recorded N.honest N.calm N.failed engine.old result engine.new }
+    ensures ends { EndsCall N.flash N.recorded N.honest N.calm N.failed engine.old result engine.new }
     ensures readies { Readies N.flash N.honest sector 2 engine.old result engine.new }
     ensures cost { OnOk result (HasCost sector (ram engine.old) (ram engine.new)) }
     ensures checked { OnOk result (HasLookedUp sector (ram engine.old) (ram engine.new) (page_in engine.new.scratch)) }

@@ -10,7 +10,7 @@ ghost use Rattle.ftl_device.specs.Calls.{IsWell, Knows, KeepsArray, CallRefused,
 ghost use Rattle.ftl_device.specs.Calls.{HasWorked, HasLess, HasFallen, IsQuiet};
 ghost use Rattle.ftl_device.specs.Turn.{HasGoneOn, HasNoneToCollect, HasTurned};
 ghost use Rattle.ftl_device.specs.Brings.{RescuesLowest};
-ghost use Rattle.ftl_device.specs.Changes.{CollectsOn, Ends, Upkeeps};
+ghost use Rattle.ftl_device.specs.Changes.{CollectsOn, EndsCall, Upkeeps};
 ghost use Rattle.allocation.specs.State.{free_count, live_at};
 ghost use Rattle.ftl_device.specs.Shortage.{HasFunds, CallShort};
 
@@ -67,7 +67,7 @@ fn turn_ready<N: Nand>(engine: &mut Engine<N>) -> Result<(), CallFault>
     requires safe { IsSafe N.flash engine.old }
     requires going { engine.old.fault ≡ None }
     requires calm { IsCalm (ram engine.old) }
-    ensures ends { Ends N.flash N.recorded N.honest N.calm N.failed engine.old result engine.new }
+    ensures ends { EndsCall N.flash N.recorded N.honest N.calm N.failed engine.old result engine.new }
     ensures memory { result ≢ Err CallFault.OutOfMemory }
     ensures turned { OnOk result (HasTurned (ram engine.old) (ram engine.new)) }
     ensures count { HasFunds (N.honest engine.old.nand) (ram engine.old) (image_in N.flash engine.old) →

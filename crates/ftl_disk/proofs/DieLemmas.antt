@@ -11,15 +11,15 @@ use Rattle.certificate.specs.Claim.{Claim}
 use Rattle.ftl_device.specs.declared.device.Device.{Device}
 use Rattle.ftl_device.specs.Calls.{array_in}
 use Rattle.device_slot.specs.declared.power.PowerFault.{PowerFault}
-use Rattle.device_slot.specs.Begun.{IsBegun, IsKept}
-use Rattle.device_slot.specs.Power.{IsBrought, IsUnaccepted, IsUnsettled}
+use Rattle.device_slot.specs.Begun.{IsDeviceBegun, IsDeviceKept}
+use Rattle.device_slot.specs.Power.{IsBrought, IsCertificateUnaccepted, IsUnsettled}
 use Rattle.device_slot.specs.Slot.{SlotState}
 use Rattle.ftl_disk.specs.declared.descriptors.Descriptors.{Descriptors}
 use Rattle.ftl_disk.specs.declared.plan.Plan.{Plan}
 use Rattle.ftl_disk.specs.Dies.{CertifiesBy, IsCertifiedBy, IsPut, StartsBy, StartsByClaim}
 use Rattle.ftl_disk.specs.Die.{Die, ReachesDie, stays, way_of}
 use Rattle.ftl_disk.specs.Either.{LeadsTo, Reaches}
-use Rattle.ftl_disk.specs.Measures.{certificate_bytes}
+use Rattle.ftl_disk.specs.Measures.{certificate_length}
 use Rattle.ftl_disk.specs.NoLaw.{no_law}
 
 -- descriptors are never honest
@@ -33,12 +33,12 @@ pub reached : (p : Plan) (way link : Descriptors) (number : ℕ) (Stays : Type 0
 reached p way link number Stays Comes is reaches = subst (λ (l : Descriptors). Reaches stays p l number Stays Comes) is reaches
 
 -- a device that was begun is kept
-pub begun_kept : {N : Type 0} (flash : N → Flash) (honest : N → Bool) (r : Result (Device N) (PowerFault N)) → IfOk r (IsBegun flash honest) → IfOk r (IsKept flash honest)
+pub begun_kept : {N : Type 0} (flash : N → Flash) (honest : N → Bool) (r : Result (Device N) (PowerFault N)) → IfOk r (IsDeviceBegun flash honest) → IfOk r (IsDeviceKept flash honest)
 begun_kept flash honest (Ok device) begun = begun.kept
 begun_kept flash honest (Err why) begun = tt
 
 pub brought_kept : {N : Type 0} (flash : N → Flash) (honest : N → Bool) (failed : N → ℕ) (die : N) (g : Geometry) (cache : ℕ) (r : Result (Device N) (PowerFault N))
-    → IfOk r (IsBrought flash honest failed die g cache) → IfOk r (IsKept flash honest)
+    → IfOk r (IsBrought flash honest failed die g cache) → IfOk r (IsDeviceKept flash honest)
 brought_kept flash honest failed die g cache (Ok device) brings = brings.begun.kept
 brought_kept flash honest failed die g cache (Err why) brings = tt
 
@@ -53,7 +53,7 @@ filled flash honest failed g cache die given out bytes number its same other = e
   })
   | inr ne ↦ (let so = other ne in record {
     kept = λ some. so.1;
-    why = λ some. inl (so.0, λ (e : length given ≡ certificate_bytes g). ne (its.sized ∙ sym e));
+    why = λ some. inl (so.0, λ (e : length given ≡ certificate_length g). ne (its.sized ∙ sym e));
     made = λ done. (let no : 18 ≡ 0 = sym so.0 ∙ done in absurd (cc));
   })
 ]
@@ -64,9 +64,9 @@ module _ {N : Type 0} (flash : N → Flash) (honest : N → Bool) (failed : N �
   starts (Ok device) brings fault put = inl (put.0, record { device = device; stands = put.1; brings = brings })
   starts (Err why) brings fault put = inr (put.1, record { fault = why; number_is = put.0; unsettled = fault })
 
-  pub starts_by : (c : Claim) (r : Result (Device N) (PowerFault N)) → IfOk r (IsBegun flash honest) → IfOk r (λ d. d.engine.geometry ≡ g) → IfOk r (λ d. d.engine.mapping.capacity ≡ cache)
+  pub starts_by : (c : Claim) (r : Result (Device N) (PowerFault N)) → IfOk r (IsDeviceBegun flash honest) → IfOk r (λ d. d.engine.geometry ≡ g) → IfOk r (λ d. d.engine.mapping.capacity ≡ cache)
       → IfOk r (λ d. honest die ≡ true → array_in flash d ≡ array_of g (flash die).image) → IfOk r (λ d. honest die ≡ true → flash d.engine.nand ≡ flash die)
-      → IfErr r (IsUnaccepted flash honest failed die g cache c) → IsPut r was number is → StartsByClaim flash honest failed g cache c die was number is
+      → IfErr r (IsCertificateUnaccepted flash honest failed die g cache c) → IsPut r was number is → StartsByClaim flash honest failed g cache c die was number is
   starts_by c (Ok device) begun sized capacity array pages fault put =
       inl (put.0, record { device = device; stands = put.1; brings = record { begun = begun; sized = sized; cache_is = capacity; array = array; pages = pages } })
   starts_by c (Err why) begun sized capacity array pages fault put = inr (put.1, record { fault = why; number_is = put.0; unaccepted = fault })

@@ -7,10 +7,10 @@ use Rattle.certificate.specs.Spelling as spelling
 use Rattle.certificate.proofs.FaultLemmas.{whole_again}
 use Rattle.certificate.proofs.LawLemmas.{claim_is}
 use Rattle.image_check.specs.Agrees.{IsAsked}
-use Rattle.ftl_disk.specs.Measures.{certificate_bytes}
+use Rattle.ftl_disk.specs.Measures.{certificate_length}
 
 -- those of one of a die of this geometry
-pub certificate_sized : (g : Geometry) (cache : ℕ) (c : Claim) (bytes : List ℕ) → bytes ≡ spelling.certificate_bytes c → spelling.Fits c → IsAsked g cache c → length bytes ≡ certificate_bytes g
+pub certificate_sized : (g : Geometry) (cache : ℕ) (c : Claim) (bytes : List ℕ) → bytes ≡ spelling.certificate_bytes c → spelling.Fits c → IsAsked g cache c → length bytes ≡ certificate_length g
 unfolding claim_at
 certificate_sized g cache c bytes is fits asked =
     let sizes : sizes_in (spelling.certificate_bytes c) ≡ c.sizes = ap (λ (d : Claim). d.sizes) (claim_is c fits) in

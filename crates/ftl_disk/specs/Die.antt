@@ -26,11 +26,11 @@ recorded_in d = recorded_of (λ link. None) d
 abbrev pub failed_in : Die → ℕ
 failed_in d = failed_of d
 
-abbrev pub programs_in : Die → ℕ
-programs_in d = programs_of d
+abbrev pub programs_in_die : Die → ℕ
+programs_in_die d = programs_of d
 
-abbrev pub erases_in : Die → ℕ
-erases_in d = erases_of d
+abbrev pub erases_in_die : Die → ℕ
+erases_in_die d = erases_of d
 
 -- an exchange leaves the descriptors
 abbrev pub stays : Descriptors → List ℕ → List ℕ → ℕ → List ℕ → Descriptors → Type 0

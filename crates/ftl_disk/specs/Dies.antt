@@ -16,10 +16,10 @@ use Rattle.mount.specs.declared.format_fault.FormatFault.TheVariants.{Bus}
 use Rattle.ftl_device.specs.declared.device.Device.{Device}
 use Rattle.ftl_device.specs.Calls.{array_in}
 use Rattle.device_slot.specs.declared.power.PowerFault.{PowerFault}
-use Rattle.device_slot.specs.Begun.{IsBegun}
-use Rattle.device_slot.specs.Power.{IsBrought, IsUnaccepted, IsUnsettled}
+use Rattle.device_slot.specs.Begun.{IsDeviceBegun}
+use Rattle.device_slot.specs.Power.{IsBrought, IsCertificateUnaccepted, IsUnsettled}
 use Rattle.device_slot.specs.Slot.{SlotState}
-use Rattle.ftl_disk.specs.Measures.{certificate_bytes}
+use Rattle.ftl_disk.specs.Measures.{certificate_length}
 use Rattle.ftl_disk.specs.Numbers.{of_formatting, of_power, of_refusal}
 
 -- A FORMAT: its number is that of what the format answered, which an honest die shows, and a failed bus was counted
@@ -59,7 +59,7 @@ StartsBy flash honest failed g cache die was number is =
 
 -- A DEVICE WAS BROUGHT BY A CERTIFICATE: of an honest die it holds the array that the image holds, and nothing was written
 pub record IsBroughtBy {N : Type 0} (flash : N → Flash) (honest : N → Bool) (die : N) (g : Geometry) (cache : ℕ) (d : Device N) : Type 0 where
-  pub begun : IsBegun flash honest d
+  pub begun : IsDeviceBegun flash honest d
   pub sized : d.engine.geometry ≡ g
   pub cache_is : d.engine.mapping.capacity ≡ cache
   pub array : honest die ≡ true → array_in flash d ≡ array_of g (flash die).image
@@ -74,7 +74,7 @@ pub record IsPutByClaim {N : Type 0} (flash : N → Flash) (honest : N → Bool)
 pub record IsUncheckedBy {N : Type 0} (flash : N → Flash) (honest : N → Bool) (failed : N → ℕ) (g : Geometry) (cache : ℕ) (c : Claim) (die : N) (number : ℕ) : Type 0 where
   pub fault : PowerFault N
   pub number_is : number ≡ of_power fault
-  pub unaccepted : IsUnaccepted flash honest failed die g cache c fault
+  pub unaccepted : IsCertificateUnaccepted flash honest failed die g cache c fault
 
 abbrev pub StartsByClaim : {N : Type 0} → (N → Flash) → (N → Bool) → (N → ℕ) → Geometry → (cache : ℕ) → Claim → N → SlotState N → (number : ℕ) → SlotState N → Type 0
 StartsByClaim flash honest failed g cache c die was number is =
@@ -85,7 +85,7 @@ pub record IsCertifiedBy {N : Type 0} (flash : N → Flash) (honest : N → Bool
   pub claim : Claim
   pub fits : spelling.Fits claim
   pub spelled : bytes ≡ spelling.certificate_bytes claim
-  pub sized : length bytes ≡ certificate_bytes g
+  pub sized : length bytes ≡ certificate_length g
   pub asked : IsAsked g cache claim
   pub mounted : honest die ≡ true → IsMounted g cache (flash die).image claim
 
@@ -104,5 +104,5 @@ IsUncertifiedBy flash honest failed g cache die number given = (number ≡ 4) �
 -- A CERTIFICATE IS MADE over a die, or the number says why not, and the bytes stay: 18 where they are not as many
 pub record CertifiesBy {N : Type 0} (flash : N → Flash) (honest : N → Bool) (failed : N → ℕ) (g : Geometry) (cache : ℕ) (die : N) (given : List ℕ) (number : ℕ) (out : List ℕ) : Type 0 where
   pub kept : number ≢ 0 → out ≡ given
-  pub why : number ≢ 0 → ((number ≡ 18) × (length given ≢ certificate_bytes g)) ⊎ ((after : N) × IsUncertifiedBy flash honest failed g cache die number after)
+  pub why : number ≢ 0 → ((number ≡ 18) × (length given ≢ certificate_length g)) ⊎ ((after : N) × IsUncertifiedBy flash honest failed g cache die number after)
   pub made : number ≡ 0 → IsCertifiedBy flash honest g cache die out

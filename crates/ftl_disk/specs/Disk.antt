@@ -6,10 +6,10 @@ use Rattle.certificate.specs.Spelling as spelling
 use Rattle.certificate.specs.declared.fault.CertFault.{CertFault}
 use Rattle.certificate.specs.Faults.{IsFirstFault}
 use Rattle.device_slot.specs.declared.slot.CallFault.{CallFault}
-use Rattle.device_slot.specs.Calls.{IsCall, Told, ToldSized}
-use Rattle.ftl_disk.specs.Die.{Die, ReachesDie, flash_in, recorded_in, honest_in, failed_in, programs_in, erases_in}
+use Rattle.device_slot.specs.Calls.{IsSlotCall, ToldCommand, ToldSized}
+use Rattle.ftl_disk.specs.Die.{Die, ReachesDie, flash_in, recorded_in, honest_in, failed_in, programs_in_die, erases_in_die}
 use Rattle.ftl_disk.specs.Dies.{CertifiesBy, IsFormattedBy, StartsBy, StartsByClaim}
-use Rattle.ftl_disk.specs.Measures.{certificate_bytes}
+use Rattle.ftl_disk.specs.Measures.{certificate_length}
 use Rattle.ftl_disk.specs.Numbers.{of_call, of_certificate}
 use Rattle.ftl_disk.specs.Plans.{IsPlanOf}
 use Rattle.ftl_disk.specs.declared.shape.Shape.{Shape}
@@ -41,10 +41,10 @@ pub record IsForStopped (was : FtlDisk) (number : ℕ) (is : FtlDisk) (Then : Ty
 -- A FORMAT leaves the disk as it was: with no device
 pub record IsFormatting (was : FtlDisk) (number : ℕ) (is : FtlDisk) : Type 0 where
   pub same : is ≡ was
-  pub formats : ReachesDie was.plan was.link number ⊤ (λ die. IsFormattedBy flash_in honest_in programs_in failed_in was.plan.geometry die number)
+  pub formats : ReachesDie was.plan was.link number ⊤ (λ die. IsFormattedBy flash_in honest_in programs_in_die failed_in was.plan.geometry die number)
 
-abbrev pub Formats : FtlDisk → ℕ → FtlDisk → Type 0
-Formats was number is = IsForStopped was number is (IsFormatting was number is)
+abbrev pub FormatsDisk : FtlDisk → ℕ → FtlDisk → Type 0
+FormatsDisk was number is = IsForStopped was number is (IsFormatting was number is)
 
 -- A START: 0 with a device that power brought over the die, of the disk's geometry and with at least its cache; or the number of what kept it from one, and the slot as it was
 pub record IsStarting (was : FtlDisk) (number : ℕ) (is : FtlDisk) : Type 0 where
@@ -75,8 +75,8 @@ pub record StartsByOne (was : FtlDisk) (bytes : List ℕ) (number : ℕ) (is : F
 
 -- A START BY A CERTIFICATE, which is held against the die: 18 just where the bytes are not as many as one of this disk has
 pub record StartsByBytes (was : FtlDisk) (bytes : List ℕ) (number : ℕ) (is : FtlDisk) : Type 0 where
-  pub sized : length bytes ≢ certificate_bytes was.plan.geometry → (number ≡ 18) × (is ≡ was)
-  pub starts : length bytes ≡ certificate_bytes was.plan.geometry → IsNoCertificate was bytes number is ⊎ StartsByOne was bytes number is
+  pub sized : length bytes ≢ certificate_length was.plan.geometry → (number ≡ 18) × (is ≡ was)
+  pub starts : length bytes ≡ certificate_length was.plan.geometry → IsNoCertificate was bytes number is ⊎ StartsByOne was bytes number is
 
 abbrev pub StartsCertified : FtlDisk → List ℕ → ℕ → FtlDisk → Type 0
 StartsCertified was bytes number is = IsForStopped was number is (StartsByBytes was bytes number is)
@@ -89,15 +89,15 @@ CertifiesDisk was given number out =
 -- A CERTIFICATE IS MADE, or the number says why not, and the bytes stay: 18 just where they are not as many as one of this disk has
 pub record IsCertifying (was : FtlDisk) (given : List ℕ) (number : ℕ) (out : List ℕ) (is : FtlDisk) : Type 0 where
   pub same : is ≡ was
-  pub sized : length given ≢ certificate_bytes was.plan.geometry → (number ≡ 18) × (out ≡ given)
-  pub certifies : length given ≡ certificate_bytes was.plan.geometry → CertifiesDisk was given number out
+  pub sized : length given ≢ certificate_length was.plan.geometry → (number ≡ 18) × (out ≡ given)
+  pub certifies : length given ≡ certificate_length was.plan.geometry → CertifiesDisk was given number out
 
 abbrev pub Certifies : FtlDisk → (given : List ℕ) → ℕ → (out : List ℕ) → FtlDisk → Type 0
 Certifies was given number out is =
     (is_started was ≡ true → (number ≡ 17) × (is ≡ was) × (out ≡ given)) × (is_started was ≡ false → IsCertifying was given number out is)
 
 -- A STOP: no device stands there afterwards
-pub record Stops (was : FtlDisk) (number : ℕ) (is : FtlDisk) : Type 0 where
+pub record StopsDisk (was : FtlDisk) (number : ℕ) (is : FtlDisk) : Type 0 where
   pub done : number ≡ 0
   pub same : IsSame was is
   pub empty : is.slot ≡ record { device = None; shortage = None }
@@ -105,7 +105,7 @@ pub record Stops (was : FtlDisk) (number : ℕ) (is : FtlDisk) : Type 0 where
 -- ---- calls
 
 -- A CALL OF THE SLOT, and its answer's number
-pub record Answers (was : FtlDisk) (number : ℕ) (is : FtlDisk) (Comes : Result (Unit {0}) CallFault → Type 0) : Type 0 where
+pub record AnswersByNumber (was : FtlDisk) (number : ℕ) (is : FtlDisk) (Comes : Result (Unit {0}) CallFault → Type 0) : Type 0 where
   pub answer : Result (Unit {0}) CallFault
   pub calls : Comes answer
   pub number_is : number ≡ of_call answer
@@ -113,16 +113,16 @@ pub record Answers (was : FtlDisk) (number : ℕ) (is : FtlDisk) (Comes : Result
 
 -- the device was told a command without bytes
 abbrev pub Tells : FtlDisk → step.Command → ℕ → FtlDisk → Type 0
-Tells was command number is = Answers was number is (λ answer.
-    IsCall was.slot (λ d now. Told flash_in recorded_in honest_in failed_in erases_in d command [] answer [] now is.slot.shortage) [] answer [] is.slot)
+Tells was command number is = AnswersByNumber was number is (λ answer.
+    IsSlotCall was.slot (λ d now. ToldCommand flash_in recorded_in honest_in failed_in erases_in_die d command [] answer [] now is.slot.shortage) [] answer [] is.slot)
 
-abbrev pub Reads : FtlDisk → (sector : ℕ) → (given : List ℕ) → ℕ → (out : List ℕ) → FtlDisk → Type 0
-Reads was sector given number out is = Answers was number is (λ answer.
-    IsCall was.slot (λ d now. ToldSized flash_in recorded_in honest_in failed_in erases_in d was.slot.shortage (step.Read sector) (length given) given answer out now is.slot.shortage) given answer out is.slot)
+abbrev pub ReadsDiskSector : FtlDisk → (sector : ℕ) → (given : List ℕ) → ℕ → (out : List ℕ) → FtlDisk → Type 0
+ReadsDiskSector was sector given number out is = AnswersByNumber was number is (λ answer.
+    IsSlotCall was.slot (λ d now. ToldSized flash_in recorded_in honest_in failed_in erases_in_die d was.slot.shortage (step.Read sector) (length given) given answer out now is.slot.shortage) given answer out is.slot)
 
-abbrev pub Writes : FtlDisk → (sector : ℕ) → (body : List ℕ) → ℕ → FtlDisk → Type 0
-Writes was sector body number is = Answers was number is (λ answer.
-    IsCall was.slot (λ d now. ToldSized flash_in recorded_in honest_in failed_in erases_in d was.slot.shortage (step.Write sector body) (length body) [] answer [] now is.slot.shortage) [] answer [] is.slot)
+abbrev pub WritesDiskSector : FtlDisk → (sector : ℕ) → (body : List ℕ) → ℕ → FtlDisk → Type 0
+WritesDiskSector was sector body number is = AnswersByNumber was number is (λ answer.
+    IsSlotCall was.slot (λ d now. ToldSized flash_in recorded_in honest_in failed_in erases_in_die d was.slot.shortage (step.Write sector body) (length body) [] answer [] now is.slot.shortage) [] answer [] is.slot)
 
 abbrev pub Trims : FtlDisk → (sector : ℕ) → ℕ → FtlDisk → Type 0
 Trims was sector number is = Tells was (step.Trim sector) number is

@@ -13,7 +13,7 @@ use Rattle.corrected_nand.specs.ChipBus.{ChipDriverState}
 use Rattle.corrected_nand.specs.Corrected.{CorrectedState}
 use Rattle.corrected_nand.specs.Shown.{clean_flash}
 use Rattle.stream_bus.specs.Behind.{Behind}
-use Rattle.stream_bus.specs.Carried.{Sent}
+use Rattle.stream_bus.specs.Carried.{SentAsFrame}
 use Rattle.ftl_disk.specs.declared.either.EitherDie.{EitherDie}
 use Rattle.ftl_disk.specs.declared.either.EitherDie.TheVariants.{Plain, Coded}
 use Rattle.ftl_disk.specs.declared.plan.Plan.{Plan}
@@ -68,14 +68,14 @@ pub record LeadsTo {L : Type 0} (die : L → DieState) (chip : L → Flash) (hon
 -- a die whose pages read back as they were programmed: its link took Reset, and it has counted nothing
 pub record IsPlainFor {L : Type 0} (called : Asked L) (p : Plan) (link : L) (die : PlainDie L) : Type 0 where
   pub none : p.chip ≡ None
-  pub reset : Sent called link (Command 0xFF) done [] die.bus.link
+  pub reset : SentAsFrame called link (Command 0xFF) done [] die.bus.link
   pub geometry : die.geometry ≡ p.geometry
   pub fresh : die.failures ≡ 0
 
 -- one over a chip of this geometry: the same
 pub record IsCodedFor {L : Type 0} (called : Asked L) (p : Plan) (link : L) (die : CodedDie L) : Type 0 where
   pub chip : p.chip ≡ Some (record { raw = die.nand.driver.geometry })
-  pub reset : Sent called link (Command 0xFF) done [] die.nand.driver.bus.link
+  pub reset : SentAsFrame called link (Command 0xFF) done [] die.nand.driver.bus.link
   pub geometry : die.nand.geometry ≡ p.geometry
   pub fresh : die.failures ≡ 0
   pub errors : die.errors ≡ no_errors p.geometry.blocks
@@ -89,7 +89,7 @@ IsDieFor called p link (Coded die) = IsCodedFor called p link die
 pub record IsLinkLost {L : Type 0} (called : Asked L) (link : L) : Type 0 where
   pub fault : BusFault
   pub after : Behind L
-  pub reset : Sent called link (Command 0xFF) (refused fault) [] after.link
+  pub reset : SentAsFrame called link (Command 0xFF) (refused fault) [] after.link
   pub counted : IsCounted 0 after.failures fault
 
 -- why there is none: 6, where the link failed; or 4, where of a chip with codes memory was refused

@@ -13,8 +13,8 @@ abbrev pub keys : Geometry → ℕ
 keys g = g.sectors + translation_pages g + table_pages g
 
 -- the bytes of a certificate
-abbrev pub certificate_bytes : Geometry → ℕ
-certificate_bytes g = 40 + 9 * g.blocks + 4 * keys g
+abbrev pub certificate_length : Geometry → ℕ
+certificate_length g = 40 + 9 * g.blocks + 4 * keys g
 
 -- the bytes that a look at all pages takes beside its certificate: a sequence and a row for each page, the newest row and sequence of each key, what
 -- each block shows, and the table pages, which have four bytes for each block
@@ -49,7 +49,7 @@ pub record Measures (p : Plan) (s : Sizes) : Type 0 where
   pub sector_bytes : s.sector_bytes ≡ p.geometry.data_bytes
   pub sectors : s.sectors ≡ p.geometry.sectors
   pub needs : s.need ≡ need p.geometry
-  pub certificate : s.certificate_bytes ≡ min (certificate_bytes p.geometry) 4294967295
+  pub certificate : s.certificate_bytes ≡ min (certificate_length p.geometry) 4294967295
   pub bytes : s.memory_bytes ≡ min (memory_bytes p.geometry p.cache p.chip) 4294967295
   pub blocks : s.memory_blocks ≡ memory_blocks p.geometry p.cache
   pub spare : s.chip_spare_bytes ≡ chip_spare p.geometry p.chip

@@ -1,6 +1,6 @@
 //! What the calls of a disk come to, over any die.
 ghost use Rattle.std.specs.Prelude.{◌≡◌, ◌≢◌, length, IfOk, IfErr};
-ghost use Rattle.device_slot.specs.Begun.{IsKept};
+ghost use Rattle.device_slot.specs.Begun.{IsDeviceKept};
 ghost use Rattle.ftl_disk.specs.Dies.{CertifiesBy, IsCertifiedBy, IsFormattedBy, IsPut, IsUncertifiedBy, StartsBy, StartsByClaim};
 
 use crate::number::{DONE, WRONG_SIZE, of_certificate, of_format, of_power, of_refusal};
@@ -26,7 +26,7 @@ pub(crate) fn format_over<N: Nand + Drop>(alloc: Global, mut die: N, geometry: &
 
 // The device that power brought stands in the slot; or the number of why there is none comes.
 fn put<N: Nand + Drop>(brought: Result<Device<N>, PowerFault<N>>, slot: &mut DeviceSlot<N>) -> u32
-    requires { IfOk brought (IsKept N.flash N.honest) }
+    requires { IfOk brought (IsDeviceKept N.flash N.honest) }
     ensures { IsPut brought slot.old result slot.new }
 {
     match brought {

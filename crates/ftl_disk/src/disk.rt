@@ -2,7 +2,7 @@
 ghost use Rattle.std.specs.Prelude.{◌≡◌, None, MatchResult};
 ghost use Rattle.ftl_disk.specs.Die.{way_of};
 ghost use Rattle.ftl_disk.specs.Plans.{IsUnplanned};
-ghost use Rattle.ftl_disk.specs.Disk.{Flushes, Formats, IsFormatting, IsStarting, Opens, Reads, Starts, Stops, Trims, Turns, Writes};
+ghost use Rattle.ftl_disk.specs.Disk.{Flushes, FormatsDisk, IsFormatting, IsStarting, Opens, ReadsDiskSector, Starts, StopsDisk, Trims, Turns, WritesDiskSector};
 
 use crate::behind::{format_behind, start_behind};
 use crate::descriptors::Descriptors;
@@ -86,7 +86,7 @@ fn begin(disk: &mut FtlDisk) -> u32
 
 /// Makes the die ready, once in its life.
 pub fn format_die(disk: &mut FtlDisk) -> u32
-    ensures { Formats disk.old result disk.new }
+    ensures { FormatsDisk disk.old result disk.new }
 {
     if disk.slot.is_started() {
         return STARTED;
@@ -106,7 +106,7 @@ pub fn start(disk: &mut FtlDisk) -> u32
 
 /// Power goes: the device is given up, with no flush.
 pub fn stop(disk: &mut FtlDisk) -> u32
-    ensures { Stops disk.old result disk.new }
+    ensures { StopsDisk disk.old result disk.new }
 {
     disk.slot.clear();
     DONE
@@ -114,14 +114,14 @@ pub fn stop(disk: &mut FtlDisk) -> u32
 
 /// Reads a sector.
 pub fn read(disk: &mut FtlDisk, sector: u32, out: &mut [u8]) -> u32
-    ensures { Reads disk.old sector out.old result out.new disk.new }
+    ensures { ReadsDiskSector disk.old sector out.old result out.new disk.new }
 {
     of_call(disk.slot.read(sector, out))
 }
 
 /// Writes a sector.
 pub fn write(disk: &mut FtlDisk, sector: u32, body: &[u8]) -> u32
-    ensures { Writes disk.old sector body.now result disk.new }
+    ensures { WritesDiskSector disk.old sector body.now result disk.new }
 {
     of_call(disk.slot.write(sector, body))
 }

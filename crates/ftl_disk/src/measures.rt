@@ -1,6 +1,6 @@
 //! What follows from a shape: how large a disk is, and how much memory it takes.
 ghost use Rattle.std.specs.Prelude.{◌≡◌, ◌≤◌, min};
-ghost use Rattle.ftl_disk.specs.Measures.{Measures, Tells, certificate_bytes, chip_spare, device_bytes, error_bytes, keys, memory_bytes, scan_bytes};
+ghost use Rattle.ftl_disk.specs.Measures.{Measures, Tells, certificate_length, chip_spare, device_bytes, error_bytes, keys, memory_bytes, scan_bytes};
 
 use crate::number::DONE;
 use crate::plan::Plan;
@@ -40,7 +40,7 @@ fn keys(geometry: &Geometry) -> u64
 
 /// The bytes of a certificate.
 pub(crate) fn certificate_bytes(geometry: &Geometry) -> u64
-    ensures { result ≡ certificate_bytes geometry.now }
+    ensures { result ≡ certificate_length geometry.now }
 {
     40 + 9 * u64::from(geometry.blocks()) + 4 * keys(geometry)
 }

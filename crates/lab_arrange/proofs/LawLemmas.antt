@@ -3,7 +3,7 @@ use Rattle.std.proofs.Common.{◌≡◌, ◌⊎◌, ℕ, ◌+◌, ◌*◌, ◌/�
 use Rattle.std.specs.Prelude.{◌||◌, is_some}
 use Rattle.std.proofs.lemmas.Nat.{div-mul-add, mod-mul-add}
 use Rattle.std.proofs.lemmas.Bool.{cases_lt}
-use Rattle.lab_arrange.specs.Place.{in_run, place_of, run_place, turn_of}
+use Rattle.lab_arrange.specs.Place.{in_run, place_in_dump, row_in_turns, run_place}
 use Rattle.lab_arrange.specs.declared.arrangement.Arrangement.{Arrangement}
 use Rattle.lab_arrange.specs.declared.words.Told.{Told}
 use Rattle.lab_arrange.specs.declared.words.Told.TheVariants as told
@@ -15,7 +15,7 @@ use Rattle.lab_arrange.proofs.ReadLemmas.{missing_at, pair_first, pair_second}
 -- ---- numbers
 
 pub header_law : HeaderLaw
-unfolding place_of
+unfolding place_in_dump
 header_law g a bytes row column = omega arith
 
 pub length_law : LengthLaw
@@ -84,7 +84,7 @@ one_page d s row column = at_run 1 d s row 0 row column false quotient rest ∙ 
 
 -- with nothing told
 pub order_law : OrderLaw
-unfolding place_of
+unfolding place_in_dump
 order_law g = record {
   places = λ row column l. (let plain : 0 + run_place 1 g.data_bytes g.spare_bytes false row column ≡ run_place 1 g.data_bytes g.spare_bytes false row column = omega arith in plain ∙ one_page g.data_bytes g.spare_bytes row column);
   length_is = omega arith;
@@ -134,7 +134,7 @@ stacked_law n d s some wide = record {
 
 -- ---- two planes
 
-turn_at : (pages block p : ℕ) → p < pages → turn_of pages true (block * pages + p) ≡ block / 2 * (2 * pages) + (2 * p + block % 2)
+turn_at : (pages block p : ℕ) → p < pages → row_in_turns pages true (block * pages + p) ≡ block / 2 * (2 * pages) + (2 * p + block % 2)
 turn_at pages block p l =
     let quotient = div-mul-add block pages p l in
     let rest = mod-mul-add block pages p l in
@@ -143,13 +143,13 @@ turn_at pages block p l =
 pub turns_law : TurnsLaw
 turns_law pages k p l = record { even = even; odd = odd }
   where
-    even : turn_of pages true (2 * k * pages + p) ≡ 2 * k * pages + 2 * p
+    even : row_in_turns pages true (2 * k * pages + p) ≡ 2 * k * pages + 2 * p
     even =
         let half : 2 * k / 2 ≡ k = omega arith in
         let none : 2 * k % 2 ≡ 0 = omega arith in
         turn_at pages (2 * k) p l ∙ (ap (λ h. h * (2 * pages) + (2 * p + 2 * k % 2)) half ∙ (ap (λ r. k * (2 * pages) + (2 * p + r)) none ∙ omega arith))
 
-    odd : turn_of pages true ((2 * k + 1) * pages + p) ≡ 2 * k * pages + 2 * p + 1
+    odd : row_in_turns pages true ((2 * k + 1) * pages + p) ≡ 2 * k * pages + 2 * p + 1
     odd =
         let half : (2 * k + 1) / 2 ≡ k = omega arith in
         let one : (2 * k + 1) % 2 ≡ 1 = omega arith in

@@ -11,7 +11,7 @@ use Rattle.page_layout.specs.Geometry.{row_count, page_bytes}
 use Rattle.page_layout.specs.Limits.{IsPageCount}
 use Rattle.lab_dump.specs.Scan.{image_bytes}
 use Rattle.lab_arrange.specs.declared.arrangement.Arrangement.{Arrangement}
-use Rattle.lab_arrange.specs.Place.{IsFitting, body_place, header_of, in_run, pair_of, place_of, run_of, run_place, swapped_place, turn_of}
+use Rattle.lab_arrange.specs.Place.{IsFitting, body_place, header_of, in_run, pair_of, place_in_dump, row_in_turns, run_of, run_place, swapped_place}
 use Rattle.lab_arrange.specs.Laws.{IsOfPages, IsOnDie, OnceLaw, Spot, row_back, run_spot, spot, spot_in, spot_of}
 use Rattle.lab_arrange.proofs.PlaceLemmas.{body_lt, in_data, in_run_lt, in_spare, runs_of, runs_whole, some_pages, some_run}
 use Rattle.lab_arrange.proofs.ReadLemmas.{even_or_odd, pair_first, pair_second}
@@ -156,7 +156,7 @@ run_back n m d s place first some wide narrow below =
 
 -- ---- in turns
 
-turn_there : (pages row : ℕ) (planes : Bool) → 0 < pages → row_back pages planes (turn_of pages planes row) ≡ row
+turn_there : (pages row : ℕ) (planes : Bool) → 0 < pages → row_back pages planes (row_in_turns pages planes row) ≡ row
 turn_there pages row false some = refl
 turn_there pages row true some =
     let p = mod_below row pages some in
@@ -180,7 +180,7 @@ turn_there pages row true some =
 -- the row whose page stands in the place of a row
 pub record IsTurned (pages blocks : ℕ) (planes : Bool) (row found : ℕ) : Type 0 where
   pub row_in : found < blocks * pages
-  pub turn_is : turn_of pages planes found ≡ row
+  pub turn_is : row_in_turns pages planes found ≡ row
 
 turn_back : (pages blocks row : ℕ) (planes : Bool) → 0 < pages → row < blocks * pages → (planes ≡ true → blocks % 2 ≡ 0) → IsTurned pages blocks planes row (row_back pages planes row)
 turn_back pages blocks row false some below even = record { row_in = below; turn_is = refl }
@@ -270,8 +270,8 @@ wide g = (let l = g.limits.data_size.least in omega arith)
 narrow : (g : Geometry) → 0 < g.spare_bytes
 narrow g = (let l = g.limits.spare_size.least in omega arith)
 
-there : (g : Geometry) (a : Arrangement) (x : Spot) → IsFitting g a → IsOnDie g x → IsOfPages g a (place_of g a x.row x.column) × (spot_of g a (place_of g a x.row x.column) ≡ x)
-unfolding place_of spot_of
+there : (g : Geometry) (a : Arrangement) (x : Spot) → IsFitting g a → IsOnDie g x → IsOfPages g a (place_in_dump g a x.row x.column) × (spot_of g a (place_in_dump g a x.row x.column) ≡ x)
+unfolding place_in_dump spot_of
 there g a x fits on =
     let b : ℕ = body_place g a x.row x.column in
     let inside : b < image_bytes g = body_lt g a x.row x.column fits on.row_in on.column_in in
@@ -283,12 +283,12 @@ there g a x fits on =
       record { behind = omega arith; before = omega arith },
       ap (λ y. to_spot (swapped_place a.swapped y)) back
           ∙ (ap to_spot (swapped_twice a.swapped b)
-          ∙ (ap (λ y. spot (row_back g.pages a.planes y.row) y.column) (run_there n g.data_bytes g.spare_bytes (turn_of g.pages a.planes x.row) x.column a.spare_first (some_run g a.spares) on.column_in)
+          ∙ (ap (λ y. spot (row_back g.pages a.planes y.row) y.column) (run_there n g.data_bytes g.spare_bytes (row_in_turns g.pages a.planes x.row) x.column a.spare_first (some_run g a.spares) on.column_in)
           ∙ ap (λ r. spot r x.column) (turn_there g.pages x.row a.planes (some_pages g)))),
     )
 
-back : (g : Geometry) (a : Arrangement) (place : ℕ) → IsFitting g a → IsOfPages g a place → IsOnDie g (spot_of g a place) × (place_of g a (spot_of g a place).row (spot_of g a place).column ≡ place)
-unfolding place_of spot_of
+back : (g : Geometry) (a : Arrangement) (place : ℕ) → IsFitting g a → IsOfPages g a place → IsOnDie g (spot_of g a place) × (place_in_dump g a (spot_of g a place).row (spot_of g a place).column ≡ place)
+unfolding place_in_dump spot_of
 back g a place fits of_pages =
     let k : ℕ = place - header_of a in
     let behind = of_pages.behind in

@@ -9,7 +9,7 @@ use Rattle.lab_dump.specs.Scan.{image_bytes}
 use Rattle.lab_arrange.specs.declared.arrangement.Arrangement.{Arrangement}
 use Rattle.lab_arrange.specs.declared.arrangement.Spares.{Spares}
 use Rattle.lab_arrange.specs.declared.arrangement.Spares.TheVariants.{Block, Die}
-use Rattle.lab_arrange.specs.Place.{IsFitting, body_place, in_run, run_of, run_place, turn_of}
+use Rattle.lab_arrange.specs.Place.{IsFitting, body_place, in_run, row_in_turns, run_of, run_place}
 
 -- ---- in a run
 
@@ -87,7 +87,7 @@ page_fits i d few size =
 
 -- ---- in turns
 
-pub turn_lt : (pages blocks row : ℕ) (planes : Bool) → 0 < pages → row < blocks * pages → (planes ≡ true → blocks % 2 ≡ 0) → turn_of pages planes row < blocks * pages
+pub turn_lt : (pages blocks row : ℕ) (planes : Bool) → 0 < pages → row < blocks * pages → (planes ≡ true → blocks % 2 ≡ 0) → row_in_turns pages planes row < blocks * pages
 turn_lt pages blocks row false some below even = below
 turn_lt pages blocks row true some below even =
     let pairs : blocks ≡ 2 * (blocks / 2) = (let e = even refl in omega arith) in
@@ -99,7 +99,7 @@ turn_lt pages blocks row true some below even =
     let halves : 2 * pages * (blocks / 2) ≡ pages * (2 * (blocks / 2)) = omega arith in
     let all : pages * (2 * (blocks / 2)) ≡ pages * blocks = ap (λ n. pages * n) (sym pairs) in
     let same : 2 * pages * (blocks / 2) ≡ blocks * pages = omega (arith, halves, all) in
-    subst (λ n. turn_of pages true row < n) same whole
+    subst (λ n. row_in_turns pages true row < n) same whole
 
 -- ---- the whole
 
@@ -137,17 +137,17 @@ body_lt g a row column fits below within =
     let n = run_of g a.spares in
     let m = runs_of g a.spares in
     let whole = runs_whole g a.spares in
-    let turned : turn_of g.pages a.planes row < row_count g = turn_lt g.pages g.blocks row a.planes (some_pages g) below fits.even in
-    let P : ℕ → Type 0 = λ k. turn_of g.pages a.planes row < k in
-    let lt = run_place_lt n m g.data_bytes g.spare_bytes (turn_of g.pages a.planes row) column a.spare_first (some_run g a.spares) (subst P whole turned) within in
+    let turned : row_in_turns g.pages a.planes row < row_count g = turn_lt g.pages g.blocks row a.planes (some_pages g) below fits.even in
+    let P : ℕ → Type 0 = λ k. row_in_turns g.pages a.planes row < k in
+    let lt = run_place_lt n m g.data_bytes g.spare_bytes (row_in_turns g.pages a.planes row) column a.spare_first (some_run g a.spares) (subst P whole turned) within in
     let Q : ℕ → Type 0 = λ k. body_place g a row column < k * page_bytes g in
     subst Q (sym whole) lt
 
 pub body_data : (g : Geometry) (a : Arrangement) (row c : ℕ) → c < g.data_bytes → body_place g a row c ≡ body_place g a row 0 + c
-body_data g a row c l = data_next (run_of g a.spares) g.data_bytes g.spare_bytes (turn_of g.pages a.planes row) c a.spare_first l
+body_data g a row c l = data_next (run_of g a.spares) g.data_bytes g.spare_bytes (row_in_turns g.pages a.planes row) c a.spare_first l
 
 pub body_spare : (g : Geometry) (a : Arrangement) (row c : ℕ) → body_place g a row (g.data_bytes + c) ≡ body_place g a row g.data_bytes + c
-body_spare g a row c = spare_next (run_of g a.spares) g.data_bytes g.spare_bytes (turn_of g.pages a.planes row) c a.spare_first
+body_spare g a row c = spare_next (run_of g a.spares) g.data_bytes g.spare_bytes (row_in_turns g.pages a.planes row) c a.spare_first
 
 -- ---- numbers of a die
 

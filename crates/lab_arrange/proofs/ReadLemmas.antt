@@ -10,7 +10,7 @@ use Rattle.std.proofs.lemmas.List.{ext_get_or, get_or-map, get_or-take, get_or-d
 use Rattle.std.proofs.lemmas.List.FromFn.{get_or-map-range_with_len, length-map-range_with_len}
 use Rattle.page_layout.specs.declared.geometry.Geometry.{Geometry}
 use Rattle.lab_arrange.specs.declared.arrangement.Arrangement.{Arrangement}
-use Rattle.lab_arrange.specs.Place.{body_place, byte_at, header_of, pair_of, place_of, swapped_place, value_of}
+use Rattle.lab_arrange.specs.Place.{body_place, byte_at, header_of, pair_of, place_in_dump, swapped_place, value_of}
 use Rattle.lab_arrange.specs.Reading.{area_from, bytes_from, taken_from}
 use Rattle.lab_arrange.specs.Arranged.{piece_at, spare_at}
 use Rattle.lab_arrange.proofs.PlaceLemmas.{body_data, body_spare}
@@ -144,7 +144,7 @@ area_is swapped inverted all header at n lead first count raw area lead_is first
 -- its two areas, each read from where it begins
 pub page_is : (g : Geometry) (a : Arrangement) (all : List ℕ) (row here there : ℕ) (body tail : List ℕ) → here ≡ body_place g a row 0 → there ≡ body_place g a row g.data_bytes
     → body ≡ area_from (header_of a) a.swapped a.inverted all here g.data_bytes → tail ≡ area_from (header_of a) a.swapped a.inverted all there g.spare_bytes → body ++ tail ≡ piece_at g a all row
-unfolding piece_at place_of area_from
+unfolding piece_at place_in_dump area_from
 page_is g a all row here there body tail here_is there_is first second = by_places f (d + s) (body ++ tail) whole each
   where
     d : ℕ

@@ -13,7 +13,7 @@ use Rattle.page_layout.specs.declared.geometry.Geometry.{Geometry}
 use Rattle.page_layout.specs.Geometry.{row_count, page_bytes}
 use Rattle.lab_dump.specs.Scan.{image_bytes}
 use Rattle.lab_arrange.specs.declared.arrangement.Arrangement.{Arrangement}
-use Rattle.lab_arrange.specs.Place.{IsFitting, byte_at, header_of, length_of, place_of, value_of}
+use Rattle.lab_arrange.specs.Place.{IsFitting, byte_at, header_of, length_of, place_in_dump, value_of}
 use Rattle.lab_arrange.specs.Arranged.{piece_at, pieces_below}
 use Rattle.lab_arrange.specs.Laws.{IsOfPages, RoundTripLaw, put_byte, put_in, spot, spot_of}
 use Rattle.lab_arrange.proofs.OnceLemmas.{once_law}
@@ -44,11 +44,11 @@ in_pieces f n a (suc m) (suc r) c sized row column =
 
 piece_size : (g : Geometry) (a : Arrangement) (all : List ℕ) (row : ℕ) → length (piece_at g a all row) ≡ page_bytes g
 unfolding piece_at
-piece_size g a all row = length-map-range_with_len (λ column. byte_at a.inverted all (place_of g a row column)) 0 (page_bytes g)
+piece_size g a all row = length-map-range_with_len (λ column. byte_at a.inverted all (place_in_dump g a row column)) 0 (page_bytes g)
 
-piece_byte : (g : Geometry) (a : Arrangement) (all : List ℕ) (row column : ℕ) → column < page_bytes g → get_or (piece_at g a all row) column 0 ≡ byte_at a.inverted all (place_of g a row column)
+piece_byte : (g : Geometry) (a : Arrangement) (all : List ℕ) (row column : ℕ) → column < page_bytes g → get_or (piece_at g a all row) column 0 ≡ byte_at a.inverted all (place_in_dump g a row column)
 unfolding piece_at
-piece_byte g a all row column l = get_or-map-range_with_len (λ k. byte_at a.inverted all (place_of g a row k)) 0 (page_bytes g) column column 0 l (omega arith)
+piece_byte g a all row column l = get_or-map-range_with_len (λ k. byte_at a.inverted all (place_in_dump g a row k)) 0 (page_bytes g) column column 0 l (omega arith)
 
 twice : (inverted : Bool) (byte : ℕ) → byte ≤ 255 → value_of inverted (value_of inverted byte) ≡ byte
 twice false byte l = refl
@@ -56,10 +56,10 @@ twice true byte l = omega arith
 
 -- a byte that was put is found where it was put
 put_byte_at : (g : Geometry) (a : Arrangement) (other : ℕ → ℕ) (raw : List ℕ) (row column : ℕ) → IsFitting g a → row < row_count g → column < page_bytes g → get_or raw (row * page_bytes g + column) 0 ≤ 255
-    → byte_at a.inverted (put_in g a other raw) (place_of g a row column) ≡ get_or raw (row * page_bytes g + column) 0
+    → byte_at a.inverted (put_in g a other raw) (place_in_dump g a row column) ≡ get_or raw (row * page_bytes g + column) 0
 unfolding put_in
 put_byte_at g a other raw row column fits below within byte =
-    let place : ℕ = place_of g a row column in
+    let place : ℕ = place_in_dump g a row column in
     let found = (once_law g a fits).there (spot row column) (record { row_in = below; column_in = within }) in
     let of_pages : IsOfPages g a place = found.0 in
     let behind = of_pages.behind in

@@ -6,11 +6,11 @@ use Rattle.page_layout.specs.Geometry.{row_count, page_bytes}
 use Rattle.lab_arrange.specs.declared.arrangement.Arrangement.{Arrangement}
 use Rattle.lab_arrange.specs.declared.arrange.ArrangeFault.{ArrangeFault}
 use Rattle.lab_arrange.specs.declared.arrange.ArrangeFault.TheVariants as fault
-use Rattle.lab_arrange.specs.Place.{byte_at, length_of, place_of}
+use Rattle.lab_arrange.specs.Place.{byte_at, length_of, place_in_dump}
 
 -- THE PAGE OF A ROW: each of its bytes is the byte of the dump at its place
 unfoldable pub piece_at : Geometry → Arrangement → List ℕ → ℕ → List ℕ
-piece_at g a all row = map (λ column. byte_at a.inverted all (place_of g a row column)) (range_with_len 0 (page_bytes g))
+piece_at g a all row = map (λ column. byte_at a.inverted all (place_in_dump g a row column)) (range_with_len 0 (page_bytes g))
 
 -- its spare area
 abbrev pub spare_at : Geometry → Arrangement → List ℕ → ℕ → List ℕ

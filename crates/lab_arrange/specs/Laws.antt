@@ -8,7 +8,7 @@ use Rattle.lab_dump.specs.Scan.{image_bytes}
 use Rattle.lab_arrange.specs.declared.arrangement.Arrangement.{Arrangement}
 use Rattle.lab_arrange.specs.declared.words.Told.{Told}
 use Rattle.lab_arrange.specs.declared.words.Told.TheVariants as told
-use Rattle.lab_arrange.specs.Place.{IsFitting, byte_at, header_of, length_of, pair_of, place_of, run_of, run_place, swapped_place, turn_of, value_of}
+use Rattle.lab_arrange.specs.Place.{IsFitting, byte_at, header_of, length_of, pair_of, place_in_dump, row_in_turns, run_of, run_place, swapped_place, value_of}
 use Rattle.lab_arrange.specs.Arranged.{pieces_below}
 use Rattle.lab_arrange.specs.Words.{in_order, set_told, with_told}
 
@@ -16,7 +16,7 @@ use Rattle.lab_arrange.specs.Words.{in_order, set_told, with_told}
 
 -- WITH NOTHING TOLD each byte stands in its place, and there are no others.
 pub record IsInOrder (g : Geometry) : Type 0 where
-  pub places : (row column : ℕ) → column < page_bytes g → place_of g in_order row column ≡ row * page_bytes g + column
+  pub places : (row column : ℕ) → column < page_bytes g → place_in_dump g in_order row column ≡ row * page_bytes g + column
   pub length_is : length_of g in_order ≡ image_bytes g
 
 abbrev pub OrderLaw : Type 0
@@ -24,7 +24,7 @@ OrderLaw = (g : Geometry) → IsInOrder g
 
 -- A header moves all bytes by its size.
 abbrev pub HeaderLaw : Type 0
-HeaderLaw = (g : Geometry) (a : Arrangement) (bytes row column : ℕ) → place_of g (set_told a (told.Header bytes)) row column ≡ bytes + place_of g (set_told a (told.Header 0)) row column
+HeaderLaw = (g : Geometry) (a : Arrangement) (bytes row column : ℕ) → place_in_dump g (set_told a (told.Header bytes)) row column ≡ bytes + place_in_dump g (set_told a (told.Header 0)) row column
 
 -- A header and a tail make a dump longer by their bytes, a cut shorter.
 pub record AreLengths (g : Geometry) (a : Arrangement) (n : ℕ) : Type 0 where
@@ -60,8 +60,8 @@ StackedLaw = (n d s : ℕ) → 0 < n → 0 < d → AreStacked n d s
 
 -- With two planes page p of block 2k stands right before page p of block 2k + 1.
 pub record AreTurns (pages k p : ℕ) : Type 0 where
-  pub even : turn_of pages true (2 * k * pages + p) ≡ 2 * k * pages + 2 * p
-  pub odd : turn_of pages true ((2 * k + 1) * pages + p) ≡ 2 * k * pages + 2 * p + 1
+  pub even : row_in_turns pages true (2 * k * pages + p) ≡ 2 * k * pages + 2 * p
+  pub odd : row_in_turns pages true ((2 * k + 1) * pages + p) ≡ 2 * k * pages + 2 * p + 1
 
 abbrev pub TurnsLaw : Type 0
 TurnsLaw = (pages k p : ℕ) → p < pages → AreTurns pages k p
@@ -122,8 +122,8 @@ pub record IsOfPages (g : Geometry) (a : Arrangement) (place : ℕ) : Type 0 whe
 
 -- EACH BYTE OF THE PAGES STANDS ONCE: two maps, there and back, between the bytes of a die and those of the dump's pages. So nothing is lost or doubled.
 pub record IsOnce (g : Geometry) (a : Arrangement) : Type 0 where
-  pub there : (x : Spot) → IsOnDie g x → IsOfPages g a (place_of g a x.row x.column) × (spot_of g a (place_of g a x.row x.column) ≡ x)
-  pub back : (place : ℕ) → IsOfPages g a place → IsOnDie g (spot_of g a place) × (place_of g a (spot_of g a place).row (spot_of g a place).column ≡ place)
+  pub there : (x : Spot) → IsOnDie g x → IsOfPages g a (place_in_dump g a x.row x.column) × (spot_of g a (place_in_dump g a x.row x.column) ≡ x)
+  pub back : (place : ℕ) → IsOfPages g a place → IsOnDie g (spot_of g a place) × (place_in_dump g a (spot_of g a place).row (spot_of g a place).column ≡ place)
 
 abbrev pub OnceLaw : Type 0
 OnceLaw = (g : Geometry) (a : Arrangement) → IsFitting g a → IsOnce g a
@@ -140,9 +140,9 @@ unfoldable pub put_in : Geometry → Arrangement → (other : ℕ → ℕ) → L
 put_in g a other raw = map (put_byte g a other raw) (range_with_len 0 (header_of a + image_bytes g + unwrap_or a.tail 0))
 
 -- PAGES THAT ARE PUT INTO AN ARRANGEMENT ARE TAKEN OUT AGAIN AS THEY WERE, where nothing was cut off.
-pub record ComesBack (g : Geometry) (a : Arrangement) (other : ℕ → ℕ) (raw : List ℕ) : Type 0 where
+pub record ComesOutAgain (g : Geometry) (a : Arrangement) (other : ℕ → ℕ) (raw : List ℕ) : Type 0 where
   pub whole : length (put_in g a other raw) ≡ length_of g a
   pub same : concat (pieces_below g a (put_in g a other raw) (row_count g)) ≡ raw
 
 abbrev pub RoundTripLaw : Type 0
-RoundTripLaw = (g : Geometry) (a : Arrangement) (other : ℕ → ℕ) (raw : List ℕ) → IsFitting g a → a.cut ≡ None → length raw ≡ image_bytes g → All (λ b. b ≤ 255) raw → ComesBack g a other raw
+RoundTripLaw = (g : Geometry) (a : Arrangement) (other : ℕ → ℕ) (raw : List ℕ) → IsFitting g a → a.cut ≡ None → length raw ≡ image_bytes g → All (λ b. b ≤ 255) raw → ComesOutAgain g a other raw

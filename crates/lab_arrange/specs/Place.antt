@@ -13,8 +13,8 @@ use Rattle.lab_arrange.specs.declared.arrangement.Spares.TheVariants.{Block, Die
 -- ---- two planes
 
 -- The row in whose place the page of a row stands: with two planes the pages of blocks 2k and 2k + 1 stand in turns, page by page.
-abbrev pub turn_of : ℕ → Bool → ℕ → ℕ
-turn_of pages planes row = if planes then row / pages / 2 * (2 * pages) + (2 * (row % pages) + row / pages % 2) else row
+abbrev pub row_in_turns : ℕ → Bool → ℕ → ℕ
+row_in_turns pages planes row = if planes then row / pages / 2 * (2 * pages) + (2 * (row % pages) + row / pages % 2) else row
 
 -- ---- the areas
 
@@ -50,11 +50,11 @@ header_of a = unwrap_or a.header 0
 
 -- where among the pages of the dump a byte of a page stands, whose areas are in order in their run
 abbrev pub body_place : Geometry → Arrangement → (row column : ℕ) → ℕ
-body_place g a row column = run_place (run_of g a.spares) g.data_bytes g.spare_bytes a.spare_first (turn_of g.pages a.planes row) column
+body_place g a row column = run_place (run_of g a.spares) g.data_bytes g.spare_bytes a.spare_first (row_in_turns g.pages a.planes row) column
 
 -- THE BYTE OF THE DUMP that byte `column` of the page of a row is, its data area first
-unfoldable pub place_of : Geometry → Arrangement → (row column : ℕ) → ℕ
-place_of g a row column = header_of a + swapped_place a.swapped (body_place g a row column)
+unfoldable pub place_in_dump : Geometry → Arrangement → (row column : ℕ) → ℕ
+place_in_dump g a row column = header_of a + swapped_place a.swapped (body_place g a row column)
 
 -- how many bytes a dump has of such a die
 abbrev pub length_of : Geometry → Arrangement → ℕ

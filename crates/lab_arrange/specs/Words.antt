@@ -85,12 +85,12 @@ abbrev pub LacksComma : List ℕ → Type 0
 LacksComma text = (i : ℕ) → i < length text → get_or text i 0 ≢ 44
 
 -- these words come to an arrangement, and the next one, up to a comma or the end, to none
-abbrev pub Stops : Arrangement → (words : List (List ℕ)) → (text bad : List ℕ) → Type 0
-Stops a [] text bad = LacksComma bad × ((text ≡ bad) ⊎ ((rest : List ℕ) × (text ≡ bad ++ (44 ∷ rest)))) × IsBadWord a bad
-Stops a (word ∷ words) text bad = (rest : List ℕ) × (c : Arrangement) × (text ≡ word ++ (44 ∷ rest)) × IsToldBy a word c × Stops c words rest bad
+abbrev pub StopsAtWord : Arrangement → (words : List (List ℕ)) → (text bad : List ℕ) → Type 0
+StopsAtWord a [] text bad = LacksComma bad × ((text ≡ bad) ⊎ ((rest : List ℕ) × (text ≡ bad ++ (44 ∷ rest)))) × IsBadWord a bad
+StopsAtWord a (word ∷ words) text bad = (rest : List ℕ) × (c : Arrangement) × (text ≡ word ++ (44 ∷ rest)) × IsToldBy a word c × StopsAtWord c words rest bad
 
 abbrev pub IsBadFrom : Arrangement → (text bad : List ℕ) → Type 0
-IsBadFrom a text bad = (words : List (List ℕ)) × Stops a words text bad
+IsBadFrom a text bad = (words : List (List ℕ)) × StopsAtWord a words text bad
 
 -- THE TEXT SAYS THIS ARRANGEMENT
 abbrev pub IsArrangementAt : List ℕ → Arrangement → Type 0

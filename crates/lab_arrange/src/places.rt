@@ -3,7 +3,7 @@ ghost use Rattle.std.specs.Prelude.{◌≡◌, ◌+◌, ◌*◌, ◌<◌, ◌≤
 ghost use Rattle.std.specs.Option.{unwrap_or};
 ghost use Rattle.page_layout.specs.Geometry.{row_count};
 ghost use Rattle.lab_dump.specs.Scan.{image_bytes};
-ghost use Rattle.lab_arrange.specs.Place.{IsFitting, body_place, length_of, pair_of, run_of, run_place, swapped_place, turn_of};
+ghost use Rattle.lab_arrange.specs.Place.{IsFitting, body_place, length_of, pair_of, row_in_turns, run_of, run_place, swapped_place};
 
 use crate::arrangement::{Arrangement, Spares};
 use page_layout::geometry::Geometry;
@@ -40,7 +40,7 @@ fn turn_of(pages: u64, planes: bool, row: u64) -> u64
     requires some { 0 < pages }
     requires few_pages { pages ≤ 256 }
     requires few { row ≤ 1048576 }
-    ensures { result ≡ turn_of pages planes row }
+    ensures { result ≡ row_in_turns pages planes row }
 {
     if planes {
         let block = row / pages;

@@ -9,7 +9,7 @@ use Rattle.lab_commands.specs.declared.files.Standing.{Standing}
 use Rattle.lab_commands.specs.declared.files.Standing.TheVariants as standing
 use Rattle.lab_commands.specs.declared.text.LabFault.{LabFault}
 use Rattle.lab_commands.specs.declared.text.LabFault.TheVariants as fault
-use Rattle.lab_commands.specs.Files.{Answers, AnswersNoMore, Store}
+use Rattle.lab_commands.specs.Files.{AnswersNoMore, Store, StoreAnswers}
 use Rattle.lab_commands.specs.Numbers.{IsLastAt, IsNoLast}
 use Rattle.lab_commands.specs.Undone.{IsGeometryAt, IsNoGeometry, IsKeptThere, IsMapUnplaced, IsUnread, IsUnwritten}
 use Rattle.lab_commands.specs.Array.{AreAllowed, AreNotAllowed, IsArrayFault, IsMapNotAllowed, IsUnmapped, IsUnput, as_map}
@@ -17,24 +17,24 @@ use Rattle.lab_commands.proofs.UndoneLemmas.{left_all, map_unplaced_before}
 
 -- ---- whether FILE may be written
 
-pub map_unasked_out : (a : Answers) (words : ArrayWords) (file : List ℕ) (told : LabFault) → IsUnwritten a words.out.now told → IsMapNotAllowed a words file told
+pub map_unasked_out : (a : StoreAnswers) (words : ArrayWords) (file : List ℕ) (told : LabFault) → IsUnwritten a words.out.now told → IsMapNotAllowed a words file told
 map_unasked_out a words file fault.OutOfMemory k = inl k
 map_unasked_out a words file (fault.Write word) k = inl k
 map_unasked_out a words file _ k = absurd k
 
-pub map_unasked_file : (a : Answers) (words : ArrayWords) (file : List ℕ) (told : LabFault) → IsUnwritten a file told → IsMapNotAllowed a words file told
+pub map_unasked_file : (a : StoreAnswers) (words : ArrayWords) (file : List ℕ) (told : LabFault) → IsUnwritten a file told → IsMapNotAllowed a words file told
 map_unasked_file a words file fault.OutOfMemory k = inr (inl k)
 map_unasked_file a words file (fault.Write word) k = inr (inl k)
 map_unasked_file a words file _ k = absurd k
 
-pub map_unasked_dump : (a : Answers) (words : ArrayWords) (file : List ℕ) (told : LabFault) → IsUnread a words.dump.now told → IsMapNotAllowed a words file told
+pub map_unasked_dump : (a : StoreAnswers) (words : ArrayWords) (file : List ℕ) (told : LabFault) → IsUnread a words.dump.now told → IsMapNotAllowed a words file told
 map_unasked_dump a words file fault.OutOfMemory k = inr (inr k)
 map_unasked_dump a words file (fault.Read word) k = inr (inr k)
 map_unasked_dump a words file _ k = absurd k
 
 -- ---- the map
 
-pub unmapped_before : (a b : Answers) (words : ArrayWords) (told : LabFault) → AnswersNoMore a b → IsUnmapped b words told → IsUnmapped a words told
+pub unmapped_before : (a b : StoreAnswers) (words : ArrayWords) (told : LabFault) → AnswersNoMore a b → IsUnmapped b words told → IsUnmapped a words told
 unmapped_before a b words told more h = over words.map h
   where
     over : (m : Option (Bor (List ℕ))) → IsSomeAnd m (λ file. IsMapUnplaced b file.now words.force told) → IsSomeAnd m (λ file. IsMapUnplaced a file.now words.force told)
@@ -42,7 +42,7 @@ unmapped_before a b words told more h = over words.map h
     over (Some file) k = map_unplaced_before a b file.now words.force told more k
 
 -- what stands at FILE is not replaced
-pub map_kept_there : (a : Answers) (words : ArrayWords) (file : List ℕ) (what : Standing) (told : LabFault) → a.says file what → what ≢ standing.Nothing → a.says_same words.dump.now file false → IsKeptThere what words.force told
+pub map_kept_there : (a : StoreAnswers) (words : ArrayWords) (file : List ℕ) (what : Standing) (told : LabFault) → a.says file what → what ≢ standing.Nothing → a.says_same words.dump.now file false → IsKeptThere what words.force told
     → IsMapNotAllowed a words file (as_map told)
 map_kept_there a words file what fault.Exists said some other k = ((what, some, said), other, k)
 map_kept_there a words file what fault.NoFile said some other k = (subst (λ w. a.says file w) k.0 said, other, k.1)
@@ -50,18 +50,18 @@ map_kept_there a words file what _ said some other k = absurd k
 
 -- ---- the command
 
-pub no_geometry : (a : Answers) (words : UntilWords) (k : Option Store) (opens opened : Option ℕ) (broke : Bool) (out : Option (List ℕ)) (told : LabFault) → IsNoGeometry words.array.geometry.now told → IsArrayFault a words k k opens opened broke out out told
+pub no_geometry : (a : StoreAnswers) (words : UntilWords) (k : Option Store) (opens opened : Option ℕ) (broke : Bool) (out : Option (List ℕ)) (told : LabFault) → IsNoGeometry words.array.geometry.now told → IsArrayFault a words k k opens opened broke out out told
 no_geometry a words k opens opened broke out told h = inl (left_all k k out refl, inl h)
 
-pub no_last : (a : Answers) (words : UntilWords) (g : Geometry) (k : Option Store) (opens opened : Option ℕ) (broke : Bool) (out : Option (List ℕ)) (told : LabFault) → IsGeometryAt words.array.geometry.now g → IsNoLast words.until told
+pub no_last : (a : StoreAnswers) (words : UntilWords) (g : Geometry) (k : Option Store) (opens opened : Option ℕ) (broke : Bool) (out : Option (List ℕ)) (told : LabFault) → IsGeometryAt words.array.geometry.now g → IsNoLast words.until told
     → IsArrayFault a words k k opens opened broke out out told
 no_last a words g k opens opened broke out told is h = inl (left_all k k out refl, inr (g, is, inl h))
 
-pub not_allowed : (a : Answers) (words : UntilWords) (g : Geometry) (last : Option ℕ) (k after : Option Store) (opens opened : Option ℕ) (broke : Bool) (out : Option (List ℕ)) (told : LabFault) → IsGeometryAt words.array.geometry.now g → IsLastAt words.until last → after ≡ k → AreNotAllowed a words.array told
+pub not_allowed : (a : StoreAnswers) (words : UntilWords) (g : Geometry) (last : Option ℕ) (k after : Option Store) (opens opened : Option ℕ) (broke : Bool) (out : Option (List ℕ)) (told : LabFault) → IsGeometryAt words.array.geometry.now g → IsLastAt words.until last → after ≡ k → AreNotAllowed a words.array told
     → IsArrayFault a words k after opens opened broke out out told
 not_allowed a words g last k after opens opened broke out told is at same h = inl (left_all k after out same, inr (g, is, inr (last, at, inl h)))
 
-pub not_put : (a : Answers) (words : UntilWords) (g : Geometry) (last : Option ℕ) (k after : Option Store) (opens opened : Option ℕ) (broke : Bool) (out : Option (List ℕ)) (told : LabFault) → IsGeometryAt words.array.geometry.now g → IsLastAt words.until last → AreAllowed a words.array → after ≡ k
+pub not_put : (a : StoreAnswers) (words : UntilWords) (g : Geometry) (last : Option ℕ) (k after : Option Store) (opens opened : Option ℕ) (broke : Bool) (out : Option (List ℕ)) (told : LabFault) → IsGeometryAt words.array.geometry.now g → IsLastAt words.until last → AreAllowed a words.array → after ≡ k
     → IsUnput a g words.array opens opened told
     → IsArrayFault a words k after opens opened broke out out told
 not_put a words g last k after opens opened broke out told is at allowed same h = inl (left_all k after out same, inr (g, is, inr (last, at, inr (allowed, h))))

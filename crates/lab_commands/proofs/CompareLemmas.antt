@@ -9,9 +9,9 @@ use Rattle.certificate.specs.Spelling.{certificate_bytes}
 use Rattle.lab_commands.specs.declared.words.CompareWords.{CompareWords}
 use Rattle.lab_commands.specs.declared.text.LabFault.{LabFault}
 use Rattle.lab_commands.specs.declared.text.LabFault.TheVariants as fault
-use Rattle.lab_commands.specs.Files.{Answers, AnswersNoMore, Store}
+use Rattle.lab_commands.specs.Files.{AnswersNoMore, Store, StoreAnswers}
 use Rattle.lab_commands.specs.Undone.{IsGeometryAt, IsNoGeometry, IsUnroomed}
-use Rattle.lab_commands.specs.Compare.{HasNone, IsBroken, IsCertificateAt, IsCompareFault, IsUnheld, looked_at}
+use Rattle.lab_commands.specs.Compare.{HasNone, IsBroken, IsCertificateAt, IsCompareFault, IsDumpUnheld, looked_at}
 use Rattle.lab_dump.specs.declared.compare.Compared.{Compared}
 use Rattle.lab_commands.specs.Compare.{IsCompared}
 use Rattle.lab_commands.proofs.UndoneLemmas.{left_all, opened_before, opens_before, unread_before, untaken_before}
@@ -51,23 +51,23 @@ pub broken_by : (known : Option (List ℕ)) (f : CertFault) (items : List ℕ) �
 broken_by None f items read is = tt
 broken_by (Some bytes) f items read is = subst (λ xs. IsFirstFault xs f) read is
 
-pub no_geometry : (a : Answers) (words : CompareWords) (k : Option Store) (opens opened : Option ℕ) (broke : Bool) (out : Option (List ℕ)) (told : LabFault) → IsNoGeometry words.geometry.now told → IsCompareFault a words k k opens opened broke out out told
+pub no_geometry : (a : StoreAnswers) (words : CompareWords) (k : Option Store) (opens opened : Option ℕ) (broke : Bool) (out : Option (List ℕ)) (told : LabFault) → IsNoGeometry words.geometry.now told → IsCompareFault a words k k opens opened broke out out told
 no_geometry a words k opens opened broke out told h = inl (left_all k k out refl, inl h)
 
-pub no_certificate : (a : Answers) (words : CompareWords) (g : Geometry) (k after : Option Store) (opens opened : Option ℕ) (broke : Bool) (out : Option (List ℕ)) (told : LabFault) → IsGeometryAt words.geometry.now g → after ≡ k → IsUnroomed opens opened told ⊎ (HasNone a words.certificate.now told × (opened ≡ option_map suc opens)) → IsCompareFault a words k after opens opened broke out out told
+pub no_certificate : (a : StoreAnswers) (words : CompareWords) (g : Geometry) (k after : Option Store) (opens opened : Option ℕ) (broke : Bool) (out : Option (List ℕ)) (told : LabFault) → IsGeometryAt words.geometry.now g → after ≡ k → IsUnroomed opens opened told ⊎ (HasNone a words.certificate.now told × (opened ≡ option_map suc opens)) → IsCompareFault a words k after opens opened broke out out told
 no_certificate a words g k after opens opened broke out told is same (inl unroomed) = inl (left_all k after out same, inr (g, is, inl unroomed))
 no_certificate a words g k after opens opened broke out told is same (inr none) = inl (left_all k after out same, inr (g, is, inr (inl none)))
 
-pub not_held : (a : Answers) (words : CompareWords) (g : Geometry) (c : Claim) (k after : Option Store) (opens opened : Option ℕ) (broke : Bool) (out : Option (List ℕ)) (told : LabFault) → IsGeometryAt words.geometry.now g → IsCertificateAt a words.certificate.now c → after ≡ k → IsUnheld a g c words.dump.now told
+pub not_held : (a : StoreAnswers) (words : CompareWords) (g : Geometry) (c : Claim) (k after : Option Store) (opens opened : Option ℕ) (broke : Bool) (out : Option (List ℕ)) (told : LabFault) → IsGeometryAt words.geometry.now g → IsCertificateAt a words.certificate.now c → after ≡ k → IsDumpUnheld a g c words.dump.now told
     → IsCompareFault a words k after opens opened broke out out told
 not_held a words g c k after opens opened broke out told is has same h = inl (left_all k after out same, inr (g, is, inr (inr (c, has, h))))
 
 -- ---- the files between
 
-pub compared_before : (a b : Answers) (path : List ℕ) (g : Geometry) (c : Claim) (told : Compared) → AnswersNoMore a b → IsCompared b path g c told → IsCompared a path g c told
+pub compared_before : (a b : StoreAnswers) (path : List ℕ) (g : Geometry) (c : Claim) (told : Compared) → AnswersNoMore a b → IsCompared b path g c told → IsCompared a path g c told
 compared_before a b path g c told h k = record { known = k.known; opened = opened_before a b path k.known h k.opened; compared = k.compared }
 
-pub unheld_before : (a b : Answers) (g : Geometry) (c : Claim) (path : List ℕ) (told : LabFault) → AnswersNoMore a b → IsUnheld b g c path told → IsUnheld a g c path told
+pub unheld_before : (a b : StoreAnswers) (g : Geometry) (c : Claim) (path : List ℕ) (told : LabFault) → AnswersNoMore a b → IsDumpUnheld b g c path told → IsDumpUnheld a g c path told
 unheld_before a b g c path told h k = elim k [
   | inl unread ↦ inl (unread_before a b path told h unread)
   | inr (inl untaken) ↦ inr (inl (untaken_before a b g path told h untaken))

@@ -14,7 +14,7 @@ use Rattle.lab_commands.specs.declared.files.Standing.{Standing}
 use Rattle.lab_commands.specs.declared.files.Standing.TheVariants as standing
 use Rattle.lab_commands.specs.declared.text.LabFault.{LabFault}
 use Rattle.lab_commands.specs.declared.text.LabFault.TheVariants as fault
-use Rattle.lab_commands.specs.Files.{Answers, AnswersNoMore, IsOpened, Stands, Store}
+use Rattle.lab_commands.specs.Files.{AnswersNoMore, IsFileOpened, StandsAtPath, Store, StoreAnswers}
 use Rattle.lab_commands.specs.Undone.{IsGeometryAt, IsKeptThere, IsNoGeometry, IsUnplaced, IsUnread, IsUnroomed, IsUnwritten}
 use Rattle.lab_commands.specs.Merge.{AreOpened, AreOpenedBelow, AreOthersBelow, HasSame, IsMergeFault, IsSomeUnread, IsUnjoined, IsUnmergedTo, MayMerge, MayNotMerge, TellsFault, dumps_of}
 use Rattle.lab_commands.proofs.UndoneLemmas.{left_all, opened_before, unread_before}
@@ -29,25 +29,25 @@ paths_count ds = length-map ds (λ (w : Bor (List ℕ)). w.now)
 
 -- ---- the readers
 
-added : (a : Answers) (paths : List (List ℕ)) (known : List (Option (List ℕ))) (n : ℕ) (one : Option (List ℕ)) → AreOpenedBelow a paths known n → IsOpened a (get_or paths n []) one → AreOpenedBelow a paths (known ++ one ∷ []) (n + 1)
+added : (a : StoreAnswers) (paths : List (List ℕ)) (known : List (Option (List ℕ))) (n : ℕ) (one : Option (List ℕ)) → AreOpenedBelow a paths known n → IsFileOpened a (get_or paths n []) one → AreOpenedBelow a paths (known ++ one ∷ []) (n + 1)
 added a paths known n one h opened = record {
   count = length_push known one ∙ ap (λ k. k + 1) h.count;
   each = λ i l. elim (cases_eq i n) [
-    | inl same ↦ subst (λ k. IsOpened a (get_or paths k []) (get_or (known ++ one ∷ []) k None)) (sym same)
-        (subst (IsOpened a (get_or paths n [])) (sym (get_or_push known one None n h.count)) opened)
-    | inr ne ↦ subst (IsOpened a (get_or paths i [])) (sym (get_or_append_left known (one ∷ []) None i (let size = h.count in omega arith))) (h.each i (omega arith))
+    | inl same ↦ subst (λ k. IsFileOpened a (get_or paths k []) (get_or (known ++ one ∷ []) k None)) (sym same)
+        (subst (IsFileOpened a (get_or paths n [])) (sym (get_or_push known one None n h.count)) opened)
+    | inr ne ↦ subst (IsFileOpened a (get_or paths i [])) (sym (get_or_append_left known (one ∷ []) None i (let size = h.count in omega arith))) (h.each i (omega arith))
   ];
 }
 
 -- one reader more
-pub opened_more : {R : Type 0} (f : R → Option (List ℕ)) (a b : Answers) (ds : List (Bor (List ℕ))) (rs more : List R) (r : R) (n : ℕ) (d : Bor (List ℕ)) → n < length ds → AnswersNoMore a b → AreOpenedBelow a (texts ds) (map f rs) n → IsOpened b (get_or ds n d).now (f r)
+pub opened_more : {R : Type 0} (f : R → Option (List ℕ)) (a b : StoreAnswers) (ds : List (Bor (List ℕ))) (rs more : List R) (r : R) (n : ℕ) (d : Bor (List ℕ)) → n < length ds → AnswersNoMore a b → AreOpenedBelow a (texts ds) (map f rs) n → IsFileOpened b (get_or ds n d).now (f r)
     → more ≡ rs ++ r ∷ [] → AreOpenedBelow a (texts ds) (map f more) (n + 1)
 opened_more f a b ds rs more r n d l no_more h opened are =
-    let before : IsOpened a (get_or (texts ds) n []) (f r) = subst (λ (path : List ℕ). IsOpened a path (f r)) (sym (path_at ds n d l)) (opened_before a b (get_or ds n d).now (f r) no_more opened) in
+    let before : IsFileOpened a (get_or (texts ds) n []) (f r) = subst (λ (path : List ℕ). IsFileOpened a path (f r)) (sym (path_at ds n d l)) (opened_before a b (get_or ds n d).now (f r) no_more opened) in
     let pushed : map f more ≡ map f rs ++ f r ∷ [] = ap (map f) are ∙ map-append f rs (r ∷ []) in
     subst (λ (known : List (Option (List ℕ))). AreOpenedBelow a (texts ds) known (n + 1)) (sym pushed) (added a (texts ds) (map f rs) n (f r) h before)
 
-pub unopened_at : (a b : Answers) (ds : List (Bor (List ℕ))) (n : ℕ) (d : Bor (List ℕ)) (told : LabFault) → n < length ds → AnswersNoMore a b → IsUnread b (get_or ds n d).now told → IsSomeUnread a (texts ds) told
+pub unopened_at : (a b : StoreAnswers) (ds : List (Bor (List ℕ))) (n : ℕ) (d : Bor (List ℕ)) (told : LabFault) → n < length ds → AnswersNoMore a b → IsUnread b (get_or ds n d).now told → IsSomeUnread a (texts ds) told
 unopened_at a b ds n d told l more k =
     let before : IsUnread a (get_or (texts ds) n []) told = subst (λ (path : List ℕ). IsUnread a path told) (sym (path_at ds n d l)) (unread_before a b (get_or ds n d).now told more k) in
     (n, (let count = paths_count ds in omega arith), before)
@@ -64,7 +64,7 @@ failed_one f (r ∷ rs) (suc i) is = failed_one f rs i is
 
 -- ---- whether OUT may be written
 
-pub others_more : (a : Answers) (ds : List (Bor (List ℕ))) (out : List ℕ) (n : ℕ) (d : Bor (List ℕ)) (answer : Bool) → n < length ds → AreOthersBelow a (texts ds) out n → a.says_same (get_or ds n d).now out answer → answer ≡ false → AreOthersBelow a (texts ds) out (n + 1)
+pub others_more : (a : StoreAnswers) (ds : List (Bor (List ℕ))) (out : List ℕ) (n : ℕ) (d : Bor (List ℕ)) (answer : Bool) → n < length ds → AreOthersBelow a (texts ds) out n → a.says_same (get_or ds n d).now out answer → answer ≡ false → AreOthersBelow a (texts ds) out (n + 1)
 others_more a ds out n d answer within h said is =
     let last : a.says_same (get_or (texts ds) n []) out false = subst (λ (path : List ℕ). a.says_same path out false) (sym (path_at ds n d within)) (subst (λ (b : Bool). a.says_same (get_or ds n d).now out b) is said) in
     λ i l. elim (cases_eq i n) [
@@ -72,25 +72,25 @@ others_more a ds out n d answer within h said is =
       | inr ne ↦ h i (omega arith)
     ]
 
-pub unasked_out : (a : Answers) (words : MergeWords) (told : LabFault) → IsUnwritten a words.out.now told → MayNotMerge a words told
+pub unasked_out : (a : StoreAnswers) (words : MergeWords) (told : LabFault) → IsUnwritten a words.out.now told → MayNotMerge a words told
 unasked_out a words fault.OutOfMemory k = inl k
 unasked_out a words (fault.Write word) k = inl k
 unasked_out a words _ k = absurd k
 
-pub unasked_dumps : (a : Answers) (words : MergeWords) (told : LabFault) → Stands a words.out.now → IsSomeUnread a (dumps_of words) told → MayNotMerge a words told
+pub unasked_dumps : (a : StoreAnswers) (words : MergeWords) (told : LabFault) → StandsAtPath a words.out.now → IsSomeUnread a (dumps_of words) told → MayNotMerge a words told
 unasked_dumps a words fault.OutOfMemory stands k = inr (stands, k)
 unasked_dumps a words (fault.Read word) stands k = inr (stands, k)
 unasked_dumps a words _ stands k = absurd k.2
 
 -- what stands at OUT, and is no dump, is not replaced
-pub merge_kept_there : (a : Answers) (words : MergeWords) (what : Standing) (told : LabFault) → a.says words.out.now what → what ≢ standing.Nothing → HasSame a (dumps_of words) words.out.now false → IsKeptThere what words.force told → MayNotMerge a words told
+pub merge_kept_there : (a : StoreAnswers) (words : MergeWords) (what : Standing) (told : LabFault) → a.says words.out.now what → what ≢ standing.Nothing → HasSame a (dumps_of words) words.out.now false → IsKeptThere what words.force told → MayNotMerge a words told
 merge_kept_there a words what fault.Exists said some other k = ((what, some, said), other, k)
 merge_kept_there a words what fault.NoFile said some other k = (subst (λ w. a.says words.out.now w) k.0 said, other, k.1)
 merge_kept_there a words what _ said some other k = absurd k
 
 -- ---- the dumps and OUT
 
-pub unmerged_as : (a : Answers) (paths : List (List ℕ)) (g : Geometry) (out : List ℕ) (known : List (Option (List ℕ))) (f : MergeFault) (told : LabFault) → AreOpened a paths known → IsOfReading (length paths) f
+pub unmerged_as : (a : StoreAnswers) (paths : List (List ℕ)) (g : Geometry) (out : List ℕ) (known : List (Option (List ℕ))) (f : MergeFault) (told : LabFault) → AreOpened a paths known → IsOfReading (length paths) f
     → ((files : List (List ℕ)) → Tell known files → IsUnmerged g files f) → ((i : ℕ) → f ≡ merge.Source i → a.reads_fail) → (f ≡ merge.Target → a.writes_fail) → TellsFault f paths out told → IsUnmergedTo a paths g out told
 unmerged_as a paths g out known (merge.WrongLength i) (fault.DumpLength word) opened of h reads writes is = record { known = known; opened = opened; place = i; within = of; named = sym is; odd = λ files tell. (h files tell).1 }
 unmerged_as a paths g out known (merge.Source i) (fault.Read word) opened of h reads writes is = ((i, of, sym is), (known, opened), reads i refl)
@@ -99,12 +99,12 @@ unmerged_as a paths g out known _ _ opened of h reads writes is = absurd is
 
 -- ---- the command
 
-pub no_geometry : (a : Answers) (words : MergeWords) (k : Option Store) (opens opened : Option ℕ) (broke : Bool) (out : Option (List ℕ)) (told : LabFault) → IsNoGeometry words.geometry.now told → IsMergeFault a words k k opens opened broke out out told
+pub no_geometry : (a : StoreAnswers) (words : MergeWords) (k : Option Store) (opens opened : Option ℕ) (broke : Bool) (out : Option (List ℕ)) (told : LabFault) → IsNoGeometry words.geometry.now told → IsMergeFault a words k k opens opened broke out out told
 no_geometry a words k opens opened broke out told h = inl (left_all k k out refl, inl h)
 
-pub not_allowed : (a : Answers) (words : MergeWords) (g : Geometry) (k after : Option Store) (opens opened : Option ℕ) (broke : Bool) (out : Option (List ℕ)) (told : LabFault) → IsGeometryAt words.geometry.now g → after ≡ k → MayNotMerge a words told → IsMergeFault a words k after opens opened broke out out told
+pub not_allowed : (a : StoreAnswers) (words : MergeWords) (g : Geometry) (k after : Option Store) (opens opened : Option ℕ) (broke : Bool) (out : Option (List ℕ)) (told : LabFault) → IsGeometryAt words.geometry.now g → after ≡ k → MayNotMerge a words told → IsMergeFault a words k after opens opened broke out out told
 not_allowed a words g k after opens opened broke out told is same h = inl (left_all k after out same, inr (g, is, inl h))
 
-pub not_put : (a : Answers) (words : MergeWords) (g : Geometry) (k after : Option Store) (opens opened : Option ℕ) (broke : Bool) (out : Option (List ℕ)) (told : LabFault) → IsGeometryAt words.geometry.now g → MayMerge a words → after ≡ k
+pub not_put : (a : StoreAnswers) (words : MergeWords) (g : Geometry) (k after : Option Store) (opens opened : Option ℕ) (broke : Bool) (out : Option (List ℕ)) (told : LabFault) → IsGeometryAt words.geometry.now g → MayMerge a words → after ≡ k
     → IsUnroomed opens opened told ⊎ IsUnjoined a (dumps_of words) g words.out.now told ⊎ IsUnplaced a words.out.now words.force told → IsMergeFault a words k after opens opened broke out out told
 not_put a words g k after opens opened broke out told is allowed same h = inl (left_all k after out same, inr (g, is, inr (allowed, h)))

@@ -10,7 +10,7 @@ use Rattle.lab_commands.specs.declared.files.Standing.{Standing}
 use Rattle.lab_commands.specs.declared.files.Standing.TheVariants as standing
 use Rattle.lab_commands.specs.declared.text.LabFault.{LabFault}
 use Rattle.lab_commands.specs.declared.text.LabFault.TheVariants as fault
-use Rattle.lab_commands.specs.Files.{Answers, AnswersNoMore, IsOpened, Stands, Store}
+use Rattle.lab_commands.specs.Files.{AnswersNoMore, IsFileOpened, StandsAtPath, Store, StoreAnswers}
 use Rattle.lab_commands.specs.Merge.{AreOpened, HasSame, IsSomeUnread}
 use Rattle.lab_commands.specs.Numbers.{IsLastAt, IsNoLast}
 use Rattle.lab_commands.specs.Undone.{IsGeometryAt, IsKeptThere, IsMapUnplaced, IsNoGeometry, IsUnplaced, IsUnread, IsUnwritten}
@@ -19,23 +19,23 @@ use Rattle.lab_commands.proofs.UndoneLemmas.{left_all, opened_before, unread_bef
 
 -- ---- whether OUT may be written
 
-pub origin_unasked_out : (a : Answers) (words : OriginWords) (told : LabFault) → IsUnwritten a words.out.now told → MayNotMap a words told
+pub origin_unasked_out : (a : StoreAnswers) (words : OriginWords) (told : LabFault) → IsUnwritten a words.out.now told → MayNotMap a words told
 origin_unasked_out a words fault.OutOfMemory k = inl k
 origin_unasked_out a words (fault.Write word) k = inl k
 origin_unasked_out a words _ k = absurd k
 
-pub origin_unasked_dump : (a : Answers) (words : OriginWords) (told : LabFault) → Stands a words.out.now → IsUnread a words.dump.now told → MayNotMap a words told
+pub origin_unasked_dump : (a : StoreAnswers) (words : OriginWords) (told : LabFault) → StandsAtPath a words.out.now → IsUnread a words.dump.now told → MayNotMap a words told
 origin_unasked_dump a words fault.OutOfMemory stands k = inr (stands, inl k)
 origin_unasked_dump a words (fault.Read word) stands k = inr (stands, inl k)
 origin_unasked_dump a words _ stands k = absurd k
 
-pub origin_unasked_readings : (a : Answers) (words : OriginWords) (told : LabFault) → Stands a words.out.now → IsSomeUnread a (readings_of words) told → MayNotMap a words told
+pub origin_unasked_readings : (a : StoreAnswers) (words : OriginWords) (told : LabFault) → StandsAtPath a words.out.now → IsSomeUnread a (readings_of words) told → MayNotMap a words told
 origin_unasked_readings a words fault.OutOfMemory stands k = inr (stands, inr k)
 origin_unasked_readings a words (fault.Read word) stands k = inr (stands, inr k)
 origin_unasked_readings a words _ stands k = absurd k.2
 
 -- what stands at OUT, and is neither the dump nor a reading, is not replaced
-pub origin_kept_there : (a : Answers) (words : OriginWords) (what : Standing) (told : LabFault) → a.says words.out.now what → what ≢ standing.Nothing → a.says_same words.dump.now words.out.now false → HasSame a (readings_of words) words.out.now false
+pub origin_kept_there : (a : StoreAnswers) (words : OriginWords) (what : Standing) (told : LabFault) → a.says words.out.now what → what ≢ standing.Nothing → a.says_same words.dump.now words.out.now false → HasSame a (readings_of words) words.out.now false
     → IsKeptThere what words.force told → MayNotMap a words told
 origin_kept_there a words what fault.Exists said some dump other k = ((what, some, said), dump, other, k)
 origin_kept_there a words what fault.NoFile said some dump other k = (subst (λ w. a.says words.out.now w) k.0 said, dump, other, k.1)
@@ -43,7 +43,7 @@ origin_kept_there a words what _ said some dump other k = absurd k
 
 -- ---- the dump and the readings
 
-pub untraced_as : (a : Answers) (words : OriginWords) (g : Geometry) (known : Option (List ℕ)) (readings : List (Option (List ℕ))) (f : OriginFault) (told : LabFault) → IsOpened a words.dump.now known → AreOpened a (readings_of words) readings
+pub untraced_as : (a : StoreAnswers) (words : OriginWords) (g : Geometry) (known : Option (List ℕ)) (readings : List (Option (List ℕ))) (f : OriginFault) (told : LabFault) → IsFileOpened a words.dump.now known → AreOpened a (readings_of words) readings
     → IsOfSome (length (readings_of words)) f → IsUntraced g known readings f → (f ≡ origin.Source → a.reads_fail) → ((i : ℕ) → f ≡ origin.Reading (reading.Source i) → a.reads_fail) → TellsOrigin f words told → IsUntracedTo a words g told
 untraced_as a words g known readings origin.WrongLength told opened each of h reads one is = subst (IsUntracedTo a words g) (sym is) (record { known = known; opened = opened; other = h })
 untraced_as a words g known readings origin.Source told opened each of h reads one is = subst (IsUntracedTo a words g) (sym is) (inl refl, record { known = known; opened = opened }, (readings, each), reads refl)
@@ -52,36 +52,36 @@ untraced_as a words g known readings (origin.Reading (reading.Source i)) (fault.
 untraced_as a words g known readings (origin.Reading why) _ opened each of h reads one is = absurd is
 
 -- what was said of the readings once the dump was opened
-pub each_opened_before : (a b : Answers) (paths : List (List ℕ)) (known : List (Option (List ℕ))) → AnswersNoMore a b → AreOpened b paths known → AreOpened a paths known
+pub each_opened_before : (a b : StoreAnswers) (paths : List (List ℕ)) (known : List (Option (List ℕ))) → AnswersNoMore a b → AreOpened b paths known → AreOpened a paths known
 each_opened_before a b paths known more h = record { count = h.count; each = λ i l. opened_before a b (get_or paths i []) (get_or known i None) more (h.each i l) }
 
-pub some_unread_before : (a b : Answers) (paths : List (List ℕ)) (told : LabFault) → AnswersNoMore a b → IsSomeUnread b paths told → IsSomeUnread a paths told
+pub some_unread_before : (a b : StoreAnswers) (paths : List (List ℕ)) (told : LabFault) → AnswersNoMore a b → IsSomeUnread b paths told → IsSomeUnread a paths told
 some_unread_before a b paths told more h = (h.0, h.1, unread_before a b (get_or paths h.0 []) told more h.2)
 
 -- ---- the map
 
-pub as_out : (a : Answers) (path : List ℕ) (force : Bool) (told : LabFault) → IsMapUnplaced a path force told → told ≢ fault.MapExists → IsUnplaced a path force told
+pub as_out : (a : StoreAnswers) (path : List ℕ) (force : Bool) (told : LabFault) → IsMapUnplaced a path force told → told ≢ fault.MapExists → IsUnplaced a path force told
 as_out a path force fault.MapExists k ne = absurd (ne refl)
 as_out a path force fault.OutOfMemory k ne = k
 as_out a path force (fault.Write word) k ne = k
 as_out a path force _ k ne = absurd k
 
-pub as_taken : (a : Answers) (path : List ℕ) (force : Bool) → IsMapUnplaced a path force fault.MapExists → IsUnplaced a path force fault.Exists
+pub as_taken : (a : StoreAnswers) (path : List ℕ) (force : Bool) → IsMapUnplaced a path force fault.MapExists → IsUnplaced a path force fault.Exists
 as_taken a path force k = k
 
 -- ---- the command
 
-pub origin_no_geometry : (a : Answers) (words : OriginWords) (k : Option Store) (opens opened : Option ℕ) (broke : Bool) (out : Option (List ℕ)) (told : LabFault) → IsNoGeometry words.geometry.now told → IsOriginFault a words k k opens opened broke out out told
+pub origin_no_geometry : (a : StoreAnswers) (words : OriginWords) (k : Option Store) (opens opened : Option ℕ) (broke : Bool) (out : Option (List ℕ)) (told : LabFault) → IsNoGeometry words.geometry.now told → IsOriginFault a words k k opens opened broke out out told
 origin_no_geometry a words k opens opened broke out told h = inl (left_all k k out refl, inl h)
 
-pub origin_no_last : (a : Answers) (words : OriginWords) (g : Geometry) (k : Option Store) (opens opened : Option ℕ) (broke : Bool) (out : Option (List ℕ)) (told : LabFault) → IsGeometryAt words.geometry.now g → IsNoLast words.until told
+pub origin_no_last : (a : StoreAnswers) (words : OriginWords) (g : Geometry) (k : Option Store) (opens opened : Option ℕ) (broke : Bool) (out : Option (List ℕ)) (told : LabFault) → IsGeometryAt words.geometry.now g → IsNoLast words.until told
     → IsOriginFault a words k k opens opened broke out out told
 origin_no_last a words g k opens opened broke out told is h = inl (left_all k k out refl, inr (g, is, inl h))
 
-pub origin_not_allowed : (a : Answers) (words : OriginWords) (g : Geometry) (last : Option ℕ) (k after : Option Store) (opens opened : Option ℕ) (broke : Bool) (out : Option (List ℕ)) (told : LabFault) → IsGeometryAt words.geometry.now g
+pub origin_not_allowed : (a : StoreAnswers) (words : OriginWords) (g : Geometry) (last : Option ℕ) (k after : Option Store) (opens opened : Option ℕ) (broke : Bool) (out : Option (List ℕ)) (told : LabFault) → IsGeometryAt words.geometry.now g
     → IsLastAt words.until last → after ≡ k → MayNotMap a words told → IsOriginFault a words k after opens opened broke out out told
 origin_not_allowed a words g last k after opens opened broke out told is at same h = inl (left_all k after out same, inr (g, is, inr (last, at, inl h)))
 
-pub origin_not_put : (a : Answers) (words : OriginWords) (g : Geometry) (last : Option ℕ) (k after : Option Store) (opens opened : Option ℕ) (broke : Bool) (out : Option (List ℕ)) (told : LabFault) → IsGeometryAt words.geometry.now g
+pub origin_not_put : (a : StoreAnswers) (words : OriginWords) (g : Geometry) (last : Option ℕ) (k after : Option Store) (opens opened : Option ℕ) (broke : Bool) (out : Option (List ℕ)) (told : LabFault) → IsGeometryAt words.geometry.now g
     → IsLastAt words.until last → MayMap a words → after ≡ k → IsUnput a words g opens opened told → IsOriginFault a words k after opens opened broke out out told
 origin_not_put a words g last k after opens opened broke out told is at allowed same h = inl (left_all k after out same, inr (g, is, inr (last, at, inr (allowed, h))))

@@ -12,7 +12,7 @@ use Rattle.lab_dump.specs.Doubts.{most_older}
 use Rattle.lab_commands.specs.Lines.{age_words, first_words, fit_words, found_words, moved_words, says_words, whole_words}
 use Rattle.lab_commands.specs.declared.output.OutputFault.{OutputFault}
 use Rattle.lab_commands.specs.declared.pieces.Piece.{Piece}
-use Rattle.lab_commands.specs.Document.{Stops}
+use Rattle.lab_commands.specs.Document.{StopsPrinting}
 use Rattle.lab_commands.specs.Pieces.{piece_text, pieces_text}
 use Rattle.lab_commands.proofs.PrintLemmas.{stops_after, stops_more}
 
@@ -41,11 +41,11 @@ whole : (ps : List Piece) (n : ℕ) → pieces_text ps ≡ pieces_text (take n p
 whole ps n = ap pieces_text (sym (Rattle.std.proofs.Common.take-append-drop n ps)) ∙ pieces_both (take n ps) (drop n ps)
 
 -- where it stopped in one of them, behind those before it
-pub stopped_put : (f : OutputFault) (broke : Bool) (ps : List Piece) (n : ℕ) (d : Piece) (a b e : Option (List ℕ)) → n < length ps → Appends a b (pieces_text (take n ps)) → Stops f broke b e (piece_text (get_or ps n d)) → Stops f broke a e (pieces_text ps)
+pub stopped_put : (f : OutputFault) (broke : Bool) (ps : List Piece) (n : ℕ) (d : Piece) (a b e : Option (List ℕ)) → n < length ps → Appends a b (pieces_text (take n ps)) → StopsPrinting f broke b e (piece_text (get_or ps n d)) → StopsPrinting f broke a e (pieces_text ps)
 stopped_put f broke ps n d a b e l first last =
     let front = stops_after f broke a b e (pieces_text (take n ps)) (piece_text (get_or ps n d)) first last in
-    subst (λ t. Stops f broke a e t) (sym (whole ps (n + 1)))
-    (stops_more f broke a e (pieces_text (take (n + 1) ps)) (pieces_text (drop (n + 1) ps)) (subst (λ t. Stops f broke a e t) (sym (next_piece ps n d l)) front))
+    subst (λ t. StopsPrinting f broke a e t) (sym (whole ps (n + 1)))
+    (stops_more f broke a e (pieces_text (take (n + 1) ps)) (pieces_text (drop (n + 1) ps)) (subst (λ t. StopsPrinting f broke a e t) (sym (next_piece ps n d l)) front))
 
 -- ---- lines that are told of in parts
 

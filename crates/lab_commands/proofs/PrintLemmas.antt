@@ -12,14 +12,14 @@ use Rattle.lab_commands.specs.Undone.{IsHalfPrinted, TellsPrint}
 use Rattle.lab_commands.specs.declared.lines.Line.{Line}
 use Rattle.lab_commands.specs.declared.document.ReportForm.{ReportForm}
 use Rattle.lab_commands.specs.declared.output.OutputFault.{OutputFault}
-use Rattle.lab_commands.specs.Document.{Prints, Stops, if_text, text_below}
+use Rattle.lab_commands.specs.Document.{Prints, StopsPrinting, if_text, text_below}
 
 -- where it stopped in a part of what was due, it stopped in that with more behind it
-pub stops_more : (e : OutputFault) (broke : Bool) (a b : Option (List ℕ)) (xs ys : List ℕ) → Stops e broke a b xs → Stops e broke a b (xs ++ ys)
+pub stops_more : (e : OutputFault) (broke : Bool) (a b : Option (List ℕ)) (xs ys : List ℕ) → StopsPrinting e broke a b xs → StopsPrinting e broke a b (xs ++ ys)
 stops_more e broke a b xs ys (is, part) = (is, part_stop a b xs ys (xs ++ ys) refl part)
 
 -- and with more before it
-pub stops_after : (e : OutputFault) (broke : Bool) (a b d : Option (List ℕ)) (xs ys : List ℕ) → Appends a b xs → Stops e broke b d ys → Stops e broke a d (xs ++ ys)
+pub stops_after : (e : OutputFault) (broke : Bool) (a b d : Option (List ℕ)) (xs ys : List ℕ) → Appends a b xs → StopsPrinting e broke b d ys → StopsPrinting e broke a d (xs ++ ys)
 stops_after e broke a b d xs ys first (is, part) = (is, part_more a b d xs ys (xs ++ ys) refl first part)
 
 -- what was printed after something else
@@ -28,7 +28,7 @@ prints_after broke a b d xs ys (Ok x) first last = Appends-trans a b d xs ys fir
 prints_after broke a b d xs ys (Err e) first last = stops_after e broke a b d xs ys first last
 
 -- how it is told that not all was printed
-pub half_printed : (e : OutputFault) (told : LabFault) (broke : Bool) (a b : Option (List ℕ)) (due : List ℕ) → TellsPrint e told → Stops e broke a b due → IsHalfPrinted broke a b due told
+pub half_printed : (e : OutputFault) (told : LabFault) (broke : Bool) (a b : Option (List ℕ)) (due : List ℕ) → TellsPrint e told → StopsPrinting e broke a b due → IsHalfPrinted broke a b due told
 half_printed e (fault.Write word) broke a b due tells (is, part) = (tells, is, part)
 half_printed e _ broke a b due tells stops = absurd tells
 
@@ -49,10 +49,10 @@ below_split form f n zero l = absurd (omega arith)
 below_split form f n (suc k) l = below_last form f n k (λ below. below_split form f n k below) (eq-or-lt_of_le (omega arith))
 
 -- where it stopped in the line of one of them, behind those before it
-pub stops_below : (e : OutputFault) (broke : Bool) (form : ReportForm) (f : ℕ → Option Line) (n k : ℕ) (a b d : Option (List ℕ)) → n < k → Appends a b (text_below form f n) → Stops e broke b d (if_text form (f n)) → Stops e broke a d (text_below form f k)
+pub stops_below : (e : OutputFault) (broke : Bool) (form : ReportForm) (f : ℕ → Option Line) (n k : ℕ) (a b d : Option (List ℕ)) → n < k → Appends a b (text_below form f n) → StopsPrinting e broke b d (if_text form (f n)) → StopsPrinting e broke a d (text_below form f k)
 stops_below e broke form f n k a b d l first last =
     let split = below_split form f n k l in
-    subst (λ t. Stops e broke a d t) split.1 (stops_after e broke a b d (text_below form f n) (if_text form (f n) ++ split.0) first (stops_more e broke b d (if_text form (f n)) split.0 last))
+    subst (λ t. StopsPrinting e broke a d t) split.1 (stops_after e broke a b d (text_below form f n) (if_text form (f n) ++ split.0) first (stops_more e broke b d (if_text form (f n)) split.0 last))
 
 pub none_below : (form : ReportForm) (f : ℕ → Option Line) (a : Option (List ℕ)) → Appends a a (text_below form f 0)
 unfolding text_below
@@ -67,6 +67,6 @@ one_more form f n a b d first last =
 
 -- ---- where printing failed
 
-pub failed : {T : Type 0} (e : OutputFault) (r : Result T OutputFault) (broke : Bool) (a b : Option (List ℕ)) (due : List ℕ) → IsErrAnd r (λ x. x ≡ e) → Stops e broke a b due → Prints broke a b due r
+pub failed : {T : Type 0} (e : OutputFault) (r : Result T OutputFault) (broke : Bool) (a b : Option (List ℕ)) (due : List ℕ) → IsErrAnd r (λ x. x ≡ e) → StopsPrinting e broke a b due → Prints broke a b due r
 failed e (Ok x) broke a b due h stops = absurd h
-failed e (Err x) broke a b due h stops = subst (λ y. Stops y broke a b due) (sym h) stops
+failed e (Err x) broke a b due h stops = subst (λ y. StopsPrinting y broke a b due) (sym h) stops

@@ -14,8 +14,8 @@ use Rattle.lab_commands.specs.Reports.{arrange_text}
 use Rattle.lab_commands.specs.declared.arrange_words.ArrangeWords.{ArrangeWords}
 use Rattle.lab_commands.specs.declared.text.LabFault.{LabFault}
 use Rattle.lab_commands.specs.declared.text.LabFault.TheVariants as fault
-use Rattle.lab_commands.specs.Files.{Answers, IsOpened, Store, with_kept}
-use Rattle.lab_commands.specs.Undone.{IsGeometryAt, IsHalfPrinted, IsNoGeometry, IsUnfilled, IsUnplaced, IsUnread, IsUnroomed, IsUnwritten, LeavesAll, MayNotWrite, MayWrite, Opens, form_of}
+use Rattle.lab_commands.specs.Files.{IsFileOpened, Store, StoreAnswers, with_kept}
+use Rattle.lab_commands.specs.Undone.{IsGeometryAt, IsHalfPrinted, IsNoGeometry, IsUnfilled, IsUnplaced, IsUnread, IsUnroomed, IsUnwritten, LeavesAll, MayNotWrite, MayWrite, OpensForReading, form_of}
 
 -- ---- what the words say
 
@@ -50,14 +50,14 @@ AreUnsaid words told =
 
 -- The pieces are made of a dump that reads so: where its bytes are known each byte of them is the byte of the dump at its place. Whatever it gave,
 -- there is a page for each row.
-pub record IsInOrder (s : Answers) (path : List ℕ) (g : Geometry) (a : Arrangement) (pieces : Option (List (List ℕ))) : Type 0 where
+pub record IsInOrder (s : StoreAnswers) (path : List ℕ) (g : Geometry) (a : Arrangement) (pieces : Option (List (List ℕ))) : Type 0 where
   pub known : Option (List ℕ)
-  pub opened : IsOpened s path known
+  pub opened : IsFileOpened s path known
   pub arranged : (all : List ℕ) → known ≡ Some all → IsArranged g a pieces all
   pub sized : IfSome pieces (AreSized g)
 
 -- the dump in order was put in the place of OUT
-pub record PutArranged (s : Answers) (words : ArrangeWords) (before after : Option Store) (g : Geometry) : Type 0 where
+pub record PutArranged (s : StoreAnswers) (words : ArrangeWords) (before after : Option Store) (g : Geometry) : Type 0 where
   pub a : Arrangement
   pub pieces : Option (List (List ℕ))
   pub said : AreSaid words g a
@@ -66,7 +66,7 @@ pub record PutArranged (s : Answers) (words : ArrangeWords) (before after : Opti
   pub put : after ≡ with_kept before words.out.now pieces words.force
 
 -- and the report printed
-pub record WroteArranged (s : Answers) (words : ArrangeWords) (before after : Option Store) (out printed : Option (List ℕ)) : Type 0 where
+pub record WroteArranged (s : StoreAnswers) (words : ArrangeWords) (before after : Option Store) (out printed : Option (List ℕ)) : Type 0 where
   pub g : Geometry
   pub put : PutArranged s words before after g
   pub told : Appends out printed (arrange_text (form_of words.showing) (row_count g))
@@ -80,30 +80,30 @@ unordered_as arrange.Source dump out = fault.Read dump
 unordered_as arrange.Target dump out = fault.Write out
 
 -- the dump was opened, and has, as far as that is known, not as many bytes as the words say: so many were wanted, and so many found
-pub record HasOtherLength (s : Answers) (path : List ℕ) (g : Geometry) (a : Arrangement) (wanted found : ℕ) : Type 0 where
+pub record HasOtherLength (s : StoreAnswers) (path : List ℕ) (g : Geometry) (a : Arrangement) (wanted found : ℕ) : Type 0 where
   pub known : Option (List ℕ)
-  pub opened : IsOpened s path known
+  pub opened : IsFileOpened s path known
   pub lengths : IsUnarranged g a known (arrange.WrongLength wanted found)
 
 -- Why a dump that was opened was not taken as a whole: it has another length, or a read failed. No want of memory is one.
-abbrev pub IsUntaken : Answers → List ℕ → Geometry → Arrangement → LabFault → Type 0
+abbrev pub IsUntaken : StoreAnswers → List ℕ → Geometry → Arrangement → LabFault → Type 0
 IsUntaken s path g a (fault.ArrangedLength wanted found) = HasOtherLength s path g a wanted found
-IsUntaken s path g a (fault.Read told) = (told.now ≡ path) × Opens s path × s.reads_fail
+IsUntaken s path g a (fault.Read told) = (told.now ≡ path) × OpensForReading s path × s.reads_fail
 IsUntaken s path g a _ = ⊥
 
 -- the dump was not opened or not taken as a whole, or the file beside OUT was not made or not written whole
-abbrev pub IsUnordered : Answers → Geometry → Arrangement → (dump out : List ℕ) → LabFault → Type 0
+abbrev pub IsUnordered : StoreAnswers → Geometry → Arrangement → (dump out : List ℕ) → LabFault → Type 0
 IsUnordered s g a dump out told = IsUnread s dump told ⊎ IsUntaken s dump g a told ⊎ IsUnwritten s out told ⊎ IsUnfilled s dump out told
 
 -- The first of this order: the words; whether OUT may be written; memory; the dump and OUT.
-abbrev pub IsUnarrangedBy : Answers → ArrangeWords → (opens opened : Option ℕ) → LabFault → Type 0
+abbrev pub IsUnarrangedBy : StoreAnswers → ArrangeWords → (opens opened : Option ℕ) → LabFault → Type 0
 IsUnarrangedBy s words opens opened told =
     AreUnsaid words told
     ⊎ ((g : Geometry) × (a : Arrangement) × AreSaid words g a × (MayNotWrite s words.dump.now words.out.now words.force told
     ⊎ (MayWrite s words.dump.now words.out.now words.force × (IsUnroomed opens opened told ⊎ IsUnordered s g a words.dump.now words.out.now told ⊎ IsUnplaced s words.out.now words.force told))))
 
 -- No dump was put in place and nothing printed, for one of these reasons; or it was put in place, and a beginning of the report printed.
-abbrev pub IsArrangeFault : Answers → ArrangeWords → Option Store → Option Store → (opens opened : Option ℕ) → (broke : Bool) → Option (List ℕ) → Option (List ℕ) → LabFault → Type 0
+abbrev pub IsArrangeFault : StoreAnswers → ArrangeWords → Option Store → Option Store → (opens opened : Option ℕ) → (broke : Bool) → Option (List ℕ) → Option (List ℕ) → LabFault → Type 0
 IsArrangeFault s words before after opens opened broke out printed told =
     (LeavesAll before after out printed × IsUnarrangedBy s words opens opened told)
     ⊎ ((g : Geometry) × PutArranged s words before after g × IsHalfPrinted broke out printed (arrange_text (form_of words.showing) (row_count g)) told)

@@ -14,49 +14,49 @@ use Rattle.lab_commands.specs.declared.words.ArrayWords.{ArrayWords}
 use Rattle.lab_commands.specs.declared.words.UntilWords.{UntilWords}
 use Rattle.lab_commands.specs.declared.text.LabFault.{LabFault}
 use Rattle.lab_commands.specs.declared.text.LabFault.TheVariants as fault
-use Rattle.lab_commands.specs.Files.{Answers, IsOpened, Store, with_kept}
+use Rattle.lab_commands.specs.Files.{IsFileOpened, Store, StoreAnswers, with_kept}
 use Rattle.lab_commands.specs.Numbers.{IsLastAt, IsNoLast}
-use Rattle.lab_commands.specs.Undone.{IsGeometryAt, IsHalfPrinted, IsNoGeometry, IsMapUnplaced, IsUnmade, IsUnplaced, IsUnread, IsUnroomed, IsUnwritten, LeavesAll, MayNotWrite, MayWrite, form_of}
+use Rattle.lab_commands.specs.Undone.{IsGeometryAt, IsHalfPrinted, IsNoGeometry, IsMapUnplaced, IsFileUnmade, IsUnplaced, IsUnread, IsUnroomed, IsUnwritten, LeavesAll, MayNotWrite, MayWrite, form_of}
 
 -- ---- done
 
 -- OUT may be written, by what the files answered
-abbrev pub IsAllowed : Answers → ArrayWords → Type 0
+abbrev pub IsAllowed : StoreAnswers → ArrayWords → Type 0
 IsAllowed a words = MayWrite a words.dump.now words.out.now words.force
 
 -- and FILE, where a map is wanted: it is not OUT
-abbrev pub AllowsMap : Answers → ArrayWords → Type 0
+abbrev pub AllowsMap : StoreAnswers → ArrayWords → Type 0
 AllowsMap a words = IfSome words.map (λ file. a.says_same words.out.now file.now false × MayWrite a words.dump.now file.now words.force)
 
-abbrev pub AreAllowed : Answers → ArrayWords → Type 0
+abbrev pub AreAllowed : StoreAnswers → ArrayWords → Type 0
 AreAllowed a words = IsAllowed a words × AllowsMap a words
 
 -- the pieces are made of a dump that reads so: where its bytes are known the pieces and the states are those of the image that they are, as of a
 -- sequence where one is said, with pages shown that are not sound where that is asked for, and what is left open is that image's
-pub record IsMade (a : Answers) (path : List ℕ) (g : Geometry) (last : Option ℕ) (damaged : Bool) (pieces : Option (List (List ℕ))) (held : List Held) (left : Unsettled) : Type 0 where
+pub record IsArrayMade (a : StoreAnswers) (path : List ℕ) (g : Geometry) (last : Option ℕ) (damaged : Bool) (pieces : Option (List (List ℕ))) (held : List Held) (left : Unsettled) : Type 0 where
   pub known : Option (List ℕ)
-  pub opened : IsOpened a path known
+  pub opened : IsFileOpened a path known
   pub made : IfSome known (IsWritten g last damaged pieces held left)
 
 -- the array was made beside OUT, with these states and what is left open
-pub record MadeArray (a : Answers) (words : UntilWords) (g : Geometry) (last : Option ℕ) (pieces : Option (List (List ℕ))) (held : List Held) (left : Unsettled) : Type 0 where
+pub record MadeArray (a : StoreAnswers) (words : UntilWords) (g : Geometry) (last : Option ℕ) (pieces : Option (List (List ℕ))) (held : List Held) (left : Unsettled) : Type 0 where
   pub geometry_is : IsGeometryAt words.array.geometry.now g
   pub last_is : IsLastAt words.until last
   pub allowed : AreAllowed a words.array
-  pub made : IsMade a words.array.dump.now g last words.damaged pieces held left
+  pub made : IsArrayMade a words.array.dump.now g last words.damaged pieces held left
 
 -- the files once a map was put in the place of FILE, where one is wanted
 abbrev pub with_map : Option Store → ArrayWords → List ℕ → Option Store
 with_map kept words text = option_map_or (λ file. with_kept kept file.now (Some (text ∷ [])) words.force) words.map kept
 
 -- it was put in the place of OUT, and its map in that of FILE, where one is wanted
-pub record PutArray (a : Answers) (words : UntilWords) (before after : Option Store) (g : Geometry) (last : Option ℕ) (held : List Held) (left : Unsettled) : Type 0 where
+pub record PutArray (a : StoreAnswers) (words : UntilWords) (before after : Option Store) (g : Geometry) (last : Option ℕ) (held : List Held) (left : Unsettled) : Type 0 where
   pub pieces : Option (List (List ℕ))
   pub made : MadeArray a words g last pieces held left
   pub put : after ≡ with_map (with_kept before words.array.out.now pieces words.array.force) words.array (map_text remark.Array g (map mark_in held))
 
 -- and the report printed
-pub record WroteArray (a : Answers) (words : UntilWords) (before after : Option Store) (out printed : Option (List ℕ)) : Type 0 where
+pub record WroteArray (a : StoreAnswers) (words : UntilWords) (before after : Option Store) (out printed : Option (List ℕ)) : Type 0 where
   pub g : Geometry
   pub last : Option ℕ
   pub held : List Held
@@ -73,11 +73,11 @@ as_map fault.NoFile = fault.MapNoFile
 as_map told = told
 
 -- OUT may not be written
-abbrev pub IsNotAllowed : Answers → ArrayWords → LabFault → Type 0
+abbrev pub IsNotAllowed : StoreAnswers → ArrayWords → LabFault → Type 0
 IsNotAllowed a words told = MayNotWrite a words.dump.now words.out.now words.force told
 
 -- FILE is OUT, or the dump, or may not be replaced; or they could not be asked
-abbrev pub IsMapNotAllowed : Answers → ArrayWords → List ℕ → LabFault → Type 0
+abbrev pub IsMapNotAllowed : StoreAnswers → ArrayWords → List ℕ → LabFault → Type 0
 IsMapNotAllowed a words file fault.MapIsOut = a.says_same words.out.now file true
 IsMapNotAllowed a words file fault.MapIsDump = MayNotWrite a words.dump.now file words.force fault.IsDump
 IsMapNotAllowed a words file fault.MapExists = MayNotWrite a words.dump.now file words.force fault.Exists
@@ -85,30 +85,30 @@ IsMapNotAllowed a words file fault.MapNoFile = MayNotWrite a words.dump.now file
 IsMapNotAllowed a words file told = IsUnwritten a words.out.now told ⊎ IsUnwritten a file told ⊎ IsUnread a words.dump.now told
 
 -- a map is wanted, and FILE may not be written
-abbrev pub HasMapFault : Answers → ArrayWords → LabFault → Type 0
+abbrev pub HasMapFault : StoreAnswers → ArrayWords → LabFault → Type 0
 HasMapFault a words told = IsSomeAnd words.map (λ file. IsMapNotAllowed a words file.now told)
 
 -- OUT may not be written, or FILE
-abbrev pub AreNotAllowed : Answers → ArrayWords → LabFault → Type 0
+abbrev pub AreNotAllowed : StoreAnswers → ArrayWords → LabFault → Type 0
 AreNotAllowed a words told = IsNotAllowed a words told ⊎ (IsAllowed a words × HasMapFault a words told)
 
 -- a map is wanted, and FILE was not written or not put in its place, or another file has its name meanwhile
-abbrev pub IsUnmapped : Answers → ArrayWords → LabFault → Type 0
+abbrev pub IsUnmapped : StoreAnswers → ArrayWords → LabFault → Type 0
 IsUnmapped a words told = IsSomeAnd words.map (λ file. IsMapUnplaced a file.now words.force told)
 
 -- memory was refused, or no array was made, or it did not get its name
-abbrev pub IsUnput : Answers → Geometry → ArrayWords → (opens opened : Option ℕ) → LabFault → Type 0
-IsUnput a g words opens opened told = IsUnroomed opens opened told ⊎ IsUnmade a g words.dump.now words.out.now told ⊎ IsUnplaced a words.out.now words.force told
+abbrev pub IsUnput : StoreAnswers → Geometry → ArrayWords → (opens opened : Option ℕ) → LabFault → Type 0
+IsUnput a g words opens opened told = IsUnroomed opens opened told ⊎ IsFileUnmade a g words.dump.now words.out.now told ⊎ IsUnplaced a words.out.now words.force told
 
 -- The first of this order: the geometry; the sequence; whether OUT may be written, and FILE; memory; the dump and OUT.
-abbrev pub IsUndone : Answers → UntilWords → (opens opened : Option ℕ) → LabFault → Type 0
+abbrev pub IsUndone : StoreAnswers → UntilWords → (opens opened : Option ℕ) → LabFault → Type 0
 IsUndone a words opens opened told =
     IsNoGeometry words.array.geometry.now told
     ⊎ ((g : Geometry) × IsGeometryAt words.array.geometry.now g × (IsNoLast words.until told
     ⊎ ((last : Option ℕ) × IsLastAt words.until last × (AreNotAllowed a words.array told ⊎ (AreAllowed a words.array × IsUnput a g words.array opens opened told)))))
 
 -- The array was put in place and nothing printed, but its map was not put in its.
-pub record PutUnmapped (a : Answers) (words : UntilWords) (before after : Option Store) (out printed : Option (List ℕ)) (told : LabFault) : Type 0 where
+pub record PutUnmapped (a : StoreAnswers) (words : UntilWords) (before after : Option Store) (out printed : Option (List ℕ)) (told : LabFault) : Type 0 where
   pub g : Geometry
   pub last : Option ℕ
   pub pieces : Option (List (List ℕ))
@@ -121,7 +121,7 @@ pub record PutUnmapped (a : Answers) (words : UntilWords) (before after : Option
 
 -- No array was put in place and nothing printed, for one of these reasons; or it was, and no map; or both were, and a
 -- beginning of the report printed.
-abbrev pub IsArrayFault : Answers → UntilWords → Option Store → Option Store → (opens opened : Option ℕ) → (broke : Bool) → Option (List ℕ) → Option (List ℕ) → LabFault → Type 0
+abbrev pub IsArrayFault : StoreAnswers → UntilWords → Option Store → Option Store → (opens opened : Option ℕ) → (broke : Bool) → Option (List ℕ) → Option (List ℕ) → LabFault → Type 0
 IsArrayFault a words before after opens opened broke out printed told =
     (LeavesAll before after out printed × IsUndone a words opens opened told)
     ⊎ PutUnmapped a words before after out printed told

@@ -11,8 +11,8 @@ use Rattle.lab_commands.specs.Reports.{compare_text}
 use Rattle.lab_commands.specs.declared.words.CompareWords.{CompareWords}
 use Rattle.lab_commands.specs.declared.text.LabFault.{LabFault}
 use Rattle.lab_commands.specs.declared.text.LabFault.TheVariants as fault
-use Rattle.lab_commands.specs.Files.{Answers, IsOpened, Store}
-use Rattle.lab_commands.specs.Undone.{IsGeometryAt, IsHalfPrinted, IsNoGeometry, IsUnread, IsUnroomed, IsUntaken, LeavesAll, Opens, form_of}
+use Rattle.lab_commands.specs.Files.{IsFileOpened, Store, StoreAnswers}
+use Rattle.lab_commands.specs.Undone.{IsGeometryAt, IsHalfPrinted, IsNoGeometry, IsUnread, IsUnroomed, IsUntaken, LeavesAll, OpensForReading, form_of}
 
 -- ---- the certificate
 
@@ -24,9 +24,9 @@ abbrev pub looked_at : List ℕ → List ℕ
 looked_at bytes = take most_bytes bytes
 
 -- the file's bytes, as far as they are known, spell this claim
-pub record IsCertificateAt (a : Answers) (path : List ℕ) (c : Claim) : Type 0 where
+pub record IsCertificateAt (a : StoreAnswers) (path : List ℕ) (c : Claim) : Type 0 where
   pub known : Option (List ℕ)
-  pub opened : IsOpened a path known
+  pub opened : IsFileOpened a path known
   pub fits : Fits c
   pub spelled : IfSome known (λ bytes. certificate_bytes c ≡ looked_at bytes)
 
@@ -36,26 +36,26 @@ IsBroken bytes (fault.Certificate broken) = IsFirstFault (looked_at bytes) broke
 IsBroken bytes _ = ⊥
 
 -- the file was opened, and its bytes, as far as they are known, have this fault
-pub record OpensBroken (a : Answers) (path : List ℕ) (told : LabFault) : Type 0 where
+pub record OpensBroken (a : StoreAnswers) (path : List ℕ) (told : LabFault) : Type 0 where
   pub known : Option (List ℕ)
-  pub opened : IsOpened a path known
+  pub opened : IsFileOpened a path known
   pub broken : IfSome known (λ bytes. IsBroken bytes told)
 
 -- Why there is no certificate: its file was not read, or its bytes are none.
-abbrev pub HasNone : Answers → List ℕ → LabFault → Type 0
+abbrev pub HasNone : StoreAnswers → List ℕ → LabFault → Type 0
 HasNone a path (fault.Certificate broken) = OpensBroken a path (fault.Certificate broken)
 HasNone a path told = IsUnread a path told
 
 -- ---- done
 
 -- what the dump comes to beside this claim: where its bytes are known that is of the image that they are
-pub record IsCompared (a : Answers) (path : List ℕ) (g : Geometry) (c : Claim) (told : Compared) : Type 0 where
+pub record IsCompared (a : StoreAnswers) (path : List ℕ) (g : Geometry) (c : Claim) (told : Compared) : Type 0 where
   pub known : Option (List ℕ)
-  pub opened : IsOpened a path known
+  pub opened : IsFileOpened a path known
   pub compared : IfSome known (IsComparedTo g c told)
 
 -- the words name a geometry and a certificate of it, and this is what the dump comes to
-pub record HasCompared (a : Answers) (words : CompareWords) (g : Geometry) (told : Compared) : Type 0 where
+pub record HasCompared (a : StoreAnswers) (words : CompareWords) (g : Geometry) (told : Compared) : Type 0 where
   pub claim : Claim
   pub geometry_is : IsGeometryAt words.geometry.now g
   pub certificate : IsCertificateAt a words.certificate.now claim
@@ -63,7 +63,7 @@ pub record HasCompared (a : Answers) (words : CompareWords) (g : Geometry) (told
   pub compared : IsCompared a words.dump.now g claim told
 
 -- and that was printed
-pub record ToldCompared (a : Answers) (words : CompareWords) (out printed : Option (List ℕ)) : Type 0 where
+pub record ToldCompared (a : StoreAnswers) (words : CompareWords) (out printed : Option (List ℕ)) : Type 0 where
   pub g : Geometry
   pub compared : Compared
   pub has : HasCompared a words g compared
@@ -77,18 +77,18 @@ IsOther c g fault.GeometryDiffers = c.sizes ≢ sizes_of g
 IsOther c g _ = ⊥
 
 -- why a dump was not held beside this claim
-abbrev pub IsUnheld : Answers → Geometry → Claim → List ℕ → LabFault → Type 0
-IsUnheld a g c path told = IsUnread a path told ⊎ IsUntaken a g path told ⊎ (Opens a path × IsOther c g told)
+abbrev pub IsDumpUnheld : StoreAnswers → Geometry → Claim → List ℕ → LabFault → Type 0
+IsDumpUnheld a g c path told = IsUnread a path told ⊎ IsUntaken a g path told ⊎ (OpensForReading a path × IsOther c g told)
 
 -- The first of this order: the geometry; memory; the certificate, before another file is opened; the dump.
-abbrev pub IsUncompared : Answers → CompareWords → (opens opened : Option ℕ) → LabFault → Type 0
+abbrev pub IsUncompared : StoreAnswers → CompareWords → (opens opened : Option ℕ) → LabFault → Type 0
 IsUncompared a words opens opened told =
     IsNoGeometry words.geometry.now told
     ⊎ ((g : Geometry) × IsGeometryAt words.geometry.now g × (IsUnroomed opens opened told ⊎ (HasNone a words.certificate.now told × (opened ≡ option_map suc opens))
-    ⊎ ((c : Claim) × IsCertificateAt a words.certificate.now c × IsUnheld a g c words.dump.now told)))
+    ⊎ ((c : Claim) × IsCertificateAt a words.certificate.now c × IsDumpUnheld a g c words.dump.now told)))
 
 -- nothing was printed, for one of these reasons, or a beginning of what the dump comes to was
-abbrev pub IsCompareFault : Answers → CompareWords → Option Store → Option Store → (opens opened : Option ℕ) → (broke : Bool) → Option (List ℕ) → Option (List ℕ) → LabFault → Type 0
+abbrev pub IsCompareFault : StoreAnswers → CompareWords → Option Store → Option Store → (opens opened : Option ℕ) → (broke : Bool) → Option (List ℕ) → Option (List ℕ) → LabFault → Type 0
 IsCompareFault a words before after opens opened broke out printed told =
     (LeavesAll before after out printed × IsUncompared a words opens opened told)
     ⊎ ((after ≡ before) × ((g : Geometry) × (compared : Compared) × HasCompared a words g compared × IsHalfPrinted broke out printed (compare_text (form_of words.showing) g compared) told))

@@ -52,10 +52,10 @@ text_below form f zero = []
 text_below form f (suc n) = text_below form f n ++ if_text form (f n)
 
 -- Why it was not: a write failed, and a part of it was printed and never all.
-abbrev pub Stops : OutputFault → (broke : Bool) → Option (List ℕ) → Option (List ℕ) → List ℕ → Type 0
-Stops fault broke before after due = (broke ≡ true) × AppendsPart before after due
+abbrev pub StopsPrinting : OutputFault → (broke : Bool) → Option (List ℕ) → Option (List ℕ) → List ℕ → Type 0
+StopsPrinting fault broke before after due = (broke ≡ true) × AppendsPart before after due
 
 -- What was due was printed; or it was not, for that reason. It takes no memory.
 abbrev pub Prints : {T : Type 0} → (broke : Bool) → Option (List ℕ) → Option (List ℕ) → List ℕ → Result T OutputFault → Type 0
 Prints broke before after due (Ok done) = Appends before after due
-Prints broke before after due (Err fault) = Stops fault broke before after due
+Prints broke before after due (Err fault) = StopsPrinting fault broke before after due

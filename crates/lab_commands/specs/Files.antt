@@ -9,7 +9,7 @@ use Rattle.lab_commands.specs.declared.files.Standing.{Standing}
 use Rattle.lab_commands.specs.declared.files.Standing.TheVariants.{Nothing}
 
 -- what a store of files may answer, by the paths as written
-pub record Answers : Type 1 where
+pub record StoreAnswers : Type 1 where
   -- the bytes that a reader of a path may tell
   pub gives : List ℕ → List ℕ → Type 0
   -- each reader that it opens tells its bytes: those of the system's files don't, those of files in memory may
@@ -28,7 +28,7 @@ pub record Answers : Type 1 where
   pub taken : List ℕ → Type 0
 
 -- a store of which nothing is known
-abbrev pub unknown : Answers
+abbrev pub unknown : StoreAnswers
 unknown = record {
   gives = λ path bytes. Unit {0};
   tells = false;
@@ -41,7 +41,7 @@ unknown = record {
 }
 
 -- the store may answer nothing new
-pub record AnswersNoMore (old new : Answers) : Type 0 where
+pub record AnswersNoMore (old new : StoreAnswers) : Type 0 where
   pub gives_same : (at bytes : List ℕ) → new.gives at bytes → old.gives at bytes
   pub tells_same : new.tells ≡ old.tells
   pub fails_same : (at : List ℕ) (fault : LabFileFault) → new.fails at fault → old.fails at fault
@@ -51,29 +51,29 @@ pub record AnswersNoMore (old new : Answers) : Type 0 where
   pub says_same : (at : List ℕ) (what : Standing) → new.says at what → old.says at what
 
 -- what is known of the bytes of a reader of this path: they are some that the file gives, and they are known where the store tells them
-pub record IsOpened (a : Answers) (path : List ℕ) (known : Option (List ℕ)) : Type 0 where
+pub record IsFileOpened (a : StoreAnswers) (path : List ℕ) (known : Option (List ℕ)) : Type 0 where
   pub given : IfSome known (a.gives path)
   pub told : a.tells ≡ true → IsSome known
 
 -- These are the first bytes of a file, at most so many, where they are known.
-pub record IsLoaded (a : Answers) (path : List ℕ) (most : ℕ) (bytes : List ℕ) : Type 0 where
+pub record IsLoaded (a : StoreAnswers) (path : List ℕ) (most : ℕ) (bytes : List ℕ) : Type 0 where
   pub known : Option (List ℕ)
-  pub opened : IsOpened a path known
+  pub opened : IsFileOpened a path known
   pub taken : IfSome known (λ all. bytes ≡ take most all)
 
 -- something stands at this path
-abbrev pub Stands : Answers → List ℕ → Type 0
-Stands a path = (what : Standing) × (what ≢ Nothing) × a.says path what
+abbrev pub StandsAtPath : StoreAnswers → List ℕ → Type 0
+StandsAtPath a path = (what : Standing) × (what ≢ Nothing) × a.says path what
 
 -- a file of this path, with these pieces one behind another, where they are known; and whether it could replace another one
-pub record Kept : Type 0 where
+pub record KeptFile : Type 0 where
   pub path : List ℕ
   pub pieces : Option (List (List ℕ))
   pub over : Bool
 
 -- what was done to the files: those that were put in their places, in order, and how many more that were made stand beside theirs
 pub record Store : Type 0 where
-  pub put : List Kept
+  pub put : List KeptFile
   pub beside : ℕ
 
 abbrev pub with_kept : Option Store → List ℕ → Option (List (List ℕ)) → Bool → Option Store
@@ -101,10 +101,10 @@ kept_after store path pieces over (Err fault) = store
 -- a file that was put in its place tells what was put there last, where that is known
 abbrev pub IsAsPut : Option Store → List ℕ → Option (List ℕ) → Type 0
 IsAsPut store path known =
-    IfSome store (λ s. (front back : List Kept) (last : Kept) → s.put ≡ front ++ last ∷ back → last.path ≡ path → All (λ other. other.path ≢ path) back
+    IfSome store (λ s. (front back : List KeptFile) (last : KeptFile) → s.put ≡ front ++ last ∷ back → last.path ≡ path → All (λ other. other.path ≢ path) back
     → IfSome last.pieces (λ pieces. known ≡ Some (concat pieces)))
 
 -- why a file does not get its name: a call failed, or another file has it meanwhile, and may not be replaced
-abbrev pub IsUnkept : Answers → List ℕ → Bool → KeepFault → Type 0
+abbrev pub IsUnkept : StoreAnswers → List ℕ → Bool → KeepFault → Type 0
 IsUnkept a path over (keep.Fails fault) = a.fails path fault
 IsUnkept a path over keep.Taken = (over ≡ false) × a.taken path

@@ -15,7 +15,7 @@ use Rattle.lab_commands.specs.declared.files.Standing.TheVariants as standing
 use Rattle.program_words.specs.Met.{texts}
 use Rattle.lab_commands.specs.declared.text.LabFault.{LabFault}
 use Rattle.lab_commands.specs.declared.text.LabFault.TheVariants as fault
-use Rattle.lab_commands.specs.Files.{Answers, IsOpened, Stands, Store, with_kept}
+use Rattle.lab_commands.specs.Files.{IsFileOpened, StandsAtPath, Store, StoreAnswers, with_kept}
 use Rattle.lab_commands.specs.Undone.{IsGeometryAt, IsHalfPrinted, IsNoGeometry, IsUnplaced, IsUnread, IsUnroomed, IsUnwritten, LeavesAll, form_of}
 
 -- ---- the dumps
@@ -25,53 +25,53 @@ abbrev pub dumps_of : MergeWords → List (List ℕ)
 dumps_of words = texts words.dumps.items
 
 -- readers of the first files of these paths, of which so much is known
-pub record AreOpenedBelow (a : Answers) (paths : List (List ℕ)) (known : List (Option (List ℕ))) (n : ℕ) : Type 0 where
+pub record AreOpenedBelow (a : StoreAnswers) (paths : List (List ℕ)) (known : List (Option (List ℕ))) (n : ℕ) : Type 0 where
   pub count : length known ≡ n
-  pub each : (i : ℕ) → i < n → IsOpened a (get_or paths i []) (get_or known i None)
+  pub each : (i : ℕ) → i < n → IsFileOpened a (get_or paths i []) (get_or known i None)
 
 -- of all of them
-abbrev pub AreOpened : Answers → List (List ℕ) → List (Option (List ℕ)) → Type 0
+abbrev pub AreOpened : StoreAnswers → List (List ℕ) → List (Option (List ℕ)) → Type 0
 AreOpened a paths known = AreOpenedBelow a paths known (length paths)
 
 -- a call that names one of them failed
-abbrev pub IsSomeUnread : Answers → List (List ℕ) → LabFault → Type 0
+abbrev pub IsSomeUnread : StoreAnswers → List (List ℕ) → LabFault → Type 0
 IsSomeUnread a paths told = (i : ℕ) × (i < length paths) × IsUnread a (get_or paths i []) told
 
 -- ---- whether OUT may be written
 
 -- by what the files answered, none of the first paths is this one, or one is
-abbrev pub AreOthersBelow : Answers → List (List ℕ) → List ℕ → ℕ → Type 0
+abbrev pub AreOthersBelow : StoreAnswers → List (List ℕ) → List ℕ → ℕ → Type 0
 AreOthersBelow a paths out n = (i : ℕ) → i < n → a.says_same (get_or paths i []) out false
 
-abbrev pub HasSame : Answers → List (List ℕ) → List ℕ → Bool → Type 0
+abbrev pub HasSame : StoreAnswers → List (List ℕ) → List ℕ → Bool → Type 0
 HasSame a paths out true = (i : ℕ) × (i < length paths) × a.says_same (get_or paths i []) out true
 HasSame a paths out false = AreOthersBelow a paths out (length paths)
 
 -- nothing stands at OUT, or a file that is none of the dumps and may be replaced
-abbrev pub MayMerge : Answers → MergeWords → Type 0
+abbrev pub MayMerge : StoreAnswers → MergeWords → Type 0
 MayMerge a words =
     a.says words.out.now standing.Nothing ⊎ (a.says words.out.now standing.File × HasSame a (dumps_of words) words.out.now false × (words.force ≡ true))
 
 -- something stands there: it is one of the dumps, or is not to be replaced, or is no file; or they could not be asked
-abbrev pub MayNotMerge : Answers → MergeWords → LabFault → Type 0
-MayNotMerge a words fault.IsDump = Stands a words.out.now × HasSame a (dumps_of words) words.out.now true
-MayNotMerge a words fault.Exists = Stands a words.out.now × HasSame a (dumps_of words) words.out.now false × (words.force ≡ false)
+abbrev pub MayNotMerge : StoreAnswers → MergeWords → LabFault → Type 0
+MayNotMerge a words fault.IsDump = StandsAtPath a words.out.now × HasSame a (dumps_of words) words.out.now true
+MayNotMerge a words fault.Exists = StandsAtPath a words.out.now × HasSame a (dumps_of words) words.out.now false × (words.force ≡ false)
 MayNotMerge a words fault.NoFile = a.says words.out.now standing.Other × HasSame a (dumps_of words) words.out.now false × (words.force ≡ true)
-MayNotMerge a words told = IsUnwritten a words.out.now told ⊎ (Stands a words.out.now × IsSomeUnread a (dumps_of words) told)
+MayNotMerge a words told = IsUnwritten a words.out.now told ⊎ (StandsAtPath a words.out.now × IsSomeUnread a (dumps_of words) told)
 
 -- ---- done
 
 -- The pieces are made of dumps that read so: where the bytes of all are known, the pieces, the rows that differ, those that are unsound, those of
 -- which pages were tried and the counts are those of the images that they are. Whatever the dumps gave, the rows are named once each, by rising row, and 00h bytes stand for those
 -- that differ.
-pub record IsJoined (a : Answers) (paths : List (List ℕ)) (g : Geometry) (pieces : Option (List (List ℕ))) (conflicts unsound : List ℕ) (tried : List TriedRow) (tally : RowTally) : Type 0 where
+pub record IsJoined (a : StoreAnswers) (paths : List (List ℕ)) (g : Geometry) (pieces : Option (List (List ℕ))) (conflicts unsound : List ℕ) (tried : List TriedRow) (tally : RowTally) : Type 0 where
   pub known : List (Option (List ℕ))
   pub opened : AreOpened a paths known
   pub merged : (files : List (List ℕ)) → Tell known files → IsMerged g files conflicts unsound tried tally pieces
   pub own : IsOwnMerge g conflicts unsound tried pieces
 
 -- the one dump was put in the place of OUT
-pub record PutMerge (a : Answers) (words : MergeWords) (before after : Option Store) (conflicts unsound : List ℕ) (tried : List TriedRow) (tally : RowTally) : Type 0 where
+pub record PutMerge (a : StoreAnswers) (words : MergeWords) (before after : Option Store) (conflicts unsound : List ℕ) (tried : List TriedRow) (tally : RowTally) : Type 0 where
   pub g : Geometry
   pub pieces : Option (List (List ℕ))
   pub geometry_is : IsGeometryAt words.geometry.now g
@@ -80,7 +80,7 @@ pub record PutMerge (a : Answers) (words : MergeWords) (before after : Option St
   pub put : after ≡ with_kept before words.out.now pieces words.force
 
 -- and the rows that differ or are unsound, those of which pages were tried and the counts were printed
-pub record WroteMerge (a : Answers) (words : MergeWords) (before after : Option Store) (out printed : Option (List ℕ)) : Type 0 where
+pub record WroteMerge (a : StoreAnswers) (words : MergeWords) (before after : Option Store) (out printed : Option (List ℕ)) : Type 0 where
   pub conflicts : List ℕ
   pub unsound : List ℕ
   pub tried : List TriedRow
@@ -91,7 +91,7 @@ pub record WroteMerge (a : Answers) (words : MergeWords) (before after : Option 
 -- ---- not done
 
 -- all dumps were opened
-abbrev pub OpensEach : Answers → List (List ℕ) → Type 0
+abbrev pub OpensEach : StoreAnswers → List (List ℕ) → Type 0
 OpensEach a paths = (known : List (Option (List ℕ))) × AreOpened a paths known
 
 -- one of them is of this path
@@ -99,7 +99,7 @@ abbrev pub IsOneOf : List (List ℕ) → List ℕ → Type 0
 IsOneOf paths path = (i : ℕ) × (i < length paths) × (get_or paths i [] ≡ path)
 
 -- all were opened, and where their bytes are known those of one, of this path, are not as many as an image has
-pub record HasOddLength (a : Answers) (paths : List (List ℕ)) (g : Geometry) (path : List ℕ) : Type 0 where
+pub record HasOddLength (a : StoreAnswers) (paths : List (List ℕ)) (g : Geometry) (path : List ℕ) : Type 0 where
   pub known : List (Option (List ℕ))
   pub opened : AreOpened a paths known
   pub place : ℕ
@@ -108,7 +108,7 @@ pub record HasOddLength (a : Answers) (paths : List (List ℕ)) (g : Geometry) (
   pub odd : (files : List (List ℕ)) → Tell known files → ¬ (length (get_or files place []) ≡ image_bytes g)
 
 -- why dumps that were opened were not merged: a read or a write failed
-abbrev pub IsUnmergedTo : Answers → List (List ℕ) → Geometry → List ℕ → LabFault → Type 0
+abbrev pub IsUnmergedTo : StoreAnswers → List (List ℕ) → Geometry → List ℕ → LabFault → Type 0
 IsUnmergedTo a paths g out (fault.DumpLength told) = HasOddLength a paths g told.now
 IsUnmergedTo a paths g out (fault.Read told) = IsOneOf paths told.now × OpensEach a paths × a.reads_fail
 IsUnmergedTo a paths g out (fault.Write told) = (told.now ≡ out) × OpensEach a paths × a.writes_fail
@@ -122,18 +122,18 @@ TellsFault merge.Target paths out (fault.Write told) = told.now ≡ out
 TellsFault _ paths out _ = ⊥
 
 -- the dumps were not opened or not merged, or the file beside OUT was not made or not put in its place
-abbrev pub IsUnjoined : Answers → List (List ℕ) → Geometry → List ℕ → LabFault → Type 0
+abbrev pub IsUnjoined : StoreAnswers → List (List ℕ) → Geometry → List ℕ → LabFault → Type 0
 IsUnjoined a paths g out told = IsSomeUnread a paths told ⊎ IsUnwritten a out told ⊎ IsUnmergedTo a paths g out told
 
 -- The first of this order: the geometry; whether OUT may be written; memory; the dumps and OUT.
-abbrev pub IsUnmergedBy : Answers → MergeWords → (opens opened : Option ℕ) → LabFault → Type 0
+abbrev pub IsUnmergedBy : StoreAnswers → MergeWords → (opens opened : Option ℕ) → LabFault → Type 0
 IsUnmergedBy a words opens opened told =
     IsNoGeometry words.geometry.now told
     ⊎ ((g : Geometry) × IsGeometryAt words.geometry.now g × (MayNotMerge a words told
     ⊎ (MayMerge a words × (IsUnroomed opens opened told ⊎ IsUnjoined a (dumps_of words) g words.out.now told ⊎ IsUnplaced a words.out.now words.force told))))
 
 -- No dump was put in place and nothing printed, for one of these reasons; or it was put in place, and a beginning of the list printed.
-abbrev pub IsMergeFault : Answers → MergeWords → Option Store → Option Store → (opens opened : Option ℕ) → (broke : Bool) → Option (List ℕ) → Option (List ℕ) → LabFault → Type 0
+abbrev pub IsMergeFault : StoreAnswers → MergeWords → Option Store → Option Store → (opens opened : Option ℕ) → (broke : Bool) → Option (List ℕ) → Option (List ℕ) → LabFault → Type 0
 IsMergeFault a words before after opens opened broke out printed told =
     (LeavesAll before after out printed × IsUnmergedBy a words opens opened told)
     ⊎ ((conflicts : List ℕ) × (unsound : List ℕ) × (tried : List TriedRow) × (tally : RowTally) × PutMerge a words before after conflicts unsound tried tally

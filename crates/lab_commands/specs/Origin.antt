@@ -18,10 +18,10 @@ use Rattle.lab_commands.specs.declared.origin_words.OriginWords.{OriginWords}
 use Rattle.lab_commands.specs.declared.files.Standing.TheVariants as standing
 use Rattle.lab_commands.specs.declared.text.LabFault.{LabFault}
 use Rattle.lab_commands.specs.declared.text.LabFault.TheVariants as fault
-use Rattle.lab_commands.specs.Files.{Answers, IsOpened, Stands, Store, with_kept}
+use Rattle.lab_commands.specs.Files.{IsFileOpened, StandsAtPath, Store, StoreAnswers, with_kept}
 use Rattle.lab_commands.specs.Merge.{AreOpened, HasSame, IsOneOf, IsSomeUnread, OpensEach}
 use Rattle.lab_commands.specs.Numbers.{IsLastAt, IsNoLast}
-use Rattle.lab_commands.specs.Undone.{IsGeometryAt, IsHalfPrinted, IsNoGeometry, IsUnplaced, IsUnread, IsUnroomed, IsUnwritten, LeavesAll, Opens, OpensOther, form_of}
+use Rattle.lab_commands.specs.Undone.{IsGeometryAt, IsHalfPrinted, IsNoGeometry, IsUnplaced, IsUnread, IsUnroomed, IsUnwritten, LeavesAll, OpensForReading, OpensOther, form_of}
 
 -- the paths of the readings
 abbrev pub readings_of : OriginWords → List (List ℕ)
@@ -30,31 +30,31 @@ readings_of words = texts words.readings.items
 -- ---- whether OUT may be written
 
 -- by what the files answered nothing stands at OUT, or a file that is neither the dump nor a reading and may be replaced
-abbrev pub MayMap : Answers → OriginWords → Type 0
+abbrev pub MayMap : StoreAnswers → OriginWords → Type 0
 MayMap a words =
     a.says words.out.now standing.Nothing
     ⊎ (a.says words.out.now standing.File × a.says_same words.dump.now words.out.now false × HasSame a (readings_of words) words.out.now false × (words.force ≡ true))
 
 -- something stands there: it is the dump or a reading, or is not to be replaced, or is no file; or they could not be asked
-abbrev pub MayNotMap : Answers → OriginWords → LabFault → Type 0
-MayNotMap a words fault.IsDump = Stands a words.out.now × (a.says_same words.dump.now words.out.now true ⊎ HasSame a (readings_of words) words.out.now true)
-MayNotMap a words fault.Exists = Stands a words.out.now × a.says_same words.dump.now words.out.now false × HasSame a (readings_of words) words.out.now false × (words.force ≡ false)
+abbrev pub MayNotMap : StoreAnswers → OriginWords → LabFault → Type 0
+MayNotMap a words fault.IsDump = StandsAtPath a words.out.now × (a.says_same words.dump.now words.out.now true ⊎ HasSame a (readings_of words) words.out.now true)
+MayNotMap a words fault.Exists = StandsAtPath a words.out.now × a.says_same words.dump.now words.out.now false × HasSame a (readings_of words) words.out.now false × (words.force ≡ false)
 MayNotMap a words fault.NoFile = a.says words.out.now standing.Other × a.says_same words.dump.now words.out.now false × HasSame a (readings_of words) words.out.now false × (words.force ≡ true)
-MayNotMap a words told = IsUnwritten a words.out.now told ⊎ (Stands a words.out.now × (IsUnread a words.dump.now told ⊎ IsSomeUnread a (readings_of words) told))
+MayNotMap a words told = IsUnwritten a words.out.now told ⊎ (StandsAtPath a words.out.now × (IsUnread a words.dump.now told ⊎ IsSomeUnread a (readings_of words) told))
 
 -- ---- done
 
 -- the marks are made of a dump and readings that read so: where the bytes of all are known, they are those of the sectors of the dump that they are, as of a
 -- sequence where one is said
-pub record IsFollowed (a : Answers) (words : OriginWords) (g : Geometry) (last : Option ℕ) (marks : List MapMark) : Type 0 where
+pub record IsFollowed (a : StoreAnswers) (words : OriginWords) (g : Geometry) (last : Option ℕ) (marks : List MapMark) : Type 0 where
   pub known : Option (List ℕ)
   pub readings : List (Option (List ℕ))
-  pub opened : IsOpened a words.dump.now known
+  pub opened : IsFileOpened a words.dump.now known
   pub each_opened : AreOpened a (readings_of words) readings
   pub traced : (all : List ℕ) (files : List (List ℕ)) → known ≡ Some all → Tell readings files → IsTraced g last all files marks
 
 -- the map of these marks was put in the place of OUT
-pub record PutOrigin (a : Answers) (words : OriginWords) (before after : Option Store) (g : Geometry) (last : Option ℕ) (marks : List MapMark) : Type 0 where
+pub record PutOrigin (a : StoreAnswers) (words : OriginWords) (before after : Option Store) (g : Geometry) (last : Option ℕ) (marks : List MapMark) : Type 0 where
   pub geometry_is : IsGeometryAt words.geometry.now g
   pub last_is : IsLastAt words.until last
   pub allowed : MayMap a words
@@ -62,7 +62,7 @@ pub record PutOrigin (a : Answers) (words : OriginWords) (before after : Option 
   pub put : after ≡ with_kept before words.out.now (Some (map_text remark.Readings g marks ∷ [])) words.force
 
 -- and it was printed how many sectors no reading has the page of
-pub record WroteOrigin (a : Answers) (words : OriginWords) (before after : Option Store) (out printed : Option (List ℕ)) : Type 0 where
+pub record WroteOrigin (a : StoreAnswers) (words : OriginWords) (before after : Option Store) (out printed : Option (List ℕ)) : Type 0 where
   pub g : Geometry
   pub last : Option ℕ
   pub marks : List MapMark
@@ -72,7 +72,7 @@ pub record WroteOrigin (a : Answers) (words : OriginWords) (before after : Optio
 -- ---- not done
 
 -- all readings were opened, and the bytes of one, of this path, are not as many as an image has, where they are known
-pub record HasOddReading (a : Answers) (paths : List (List ℕ)) (g : Geometry) (path : List ℕ) : Type 0 where
+pub record HasOddReading (a : StoreAnswers) (paths : List (List ℕ)) (g : Geometry) (path : List ℕ) : Type 0 where
   pub readings : List (Option (List ℕ))
   pub opened : AreOpened a paths readings
   pub place : ℕ
@@ -81,10 +81,10 @@ pub record HasOddReading (a : Answers) (paths : List (List ℕ)) (g : Geometry) 
   pub odd : IfSome (get_or readings place None) (λ bytes. ¬ (length bytes ≡ image_bytes g))
 
 -- why a dump and readings that were opened were not held side by side: one has another length, or a read failed
-abbrev pub IsUntracedTo : Answers → OriginWords → Geometry → LabFault → Type 0
+abbrev pub IsUntracedTo : StoreAnswers → OriginWords → Geometry → LabFault → Type 0
 IsUntracedTo a words g fault.WrongLength = OpensOther a g words.dump.now
 IsUntracedTo a words g (fault.ReadingLength told) = HasOddReading a (readings_of words) g told.now
-IsUntracedTo a words g (fault.Read told) = ((told.now ≡ words.dump.now) ⊎ IsOneOf (readings_of words) told.now) × Opens a words.dump.now × OpensEach a (readings_of words) × a.reads_fail
+IsUntracedTo a words g (fault.Read told) = ((told.now ≡ words.dump.now) ⊎ IsOneOf (readings_of words) told.now) × OpensForReading a words.dump.now × OpensEach a (readings_of words) × a.reads_fail
 IsUntracedTo a words g _ = ⊥
 
 -- how it is told
@@ -99,22 +99,22 @@ TellsOrigin origin.Source words told = told ≡ fault.Read words.dump
 TellsOrigin (origin.Reading why) words told = TellsReading why (readings_of words) told
 
 -- the dump or a reading was not opened, or they were not held side by side
-abbrev pub IsUnfollowed : Answers → OriginWords → Geometry → LabFault → Type 0
+abbrev pub IsUnfollowed : StoreAnswers → OriginWords → Geometry → LabFault → Type 0
 IsUnfollowed a words g told = IsUnread a words.dump.now told ⊎ IsSomeUnread a (readings_of words) told ⊎ IsUntracedTo a words g told
 
 -- memory was refused, or the pages were not followed, or the map did not get its name
-abbrev pub IsUnput : Answers → OriginWords → Geometry → (opens opened : Option ℕ) → LabFault → Type 0
+abbrev pub IsUnput : StoreAnswers → OriginWords → Geometry → (opens opened : Option ℕ) → LabFault → Type 0
 IsUnput a words g opens opened told = IsUnroomed opens opened told ⊎ IsUnfollowed a words g told ⊎ IsUnplaced a words.out.now words.force told
 
 -- The first of this order: the geometry; the sequence; whether OUT may be written; memory; the dump and the readings; OUT.
-abbrev pub IsUndone : Answers → OriginWords → (opens opened : Option ℕ) → LabFault → Type 0
+abbrev pub IsUndone : StoreAnswers → OriginWords → (opens opened : Option ℕ) → LabFault → Type 0
 IsUndone a words opens opened told =
     IsNoGeometry words.geometry.now told
     ⊎ ((g : Geometry) × IsGeometryAt words.geometry.now g × (IsNoLast words.until told
     ⊎ ((last : Option ℕ) × IsLastAt words.until last × (MayNotMap a words told ⊎ (MayMap a words × IsUnput a words g opens opened told)))))
 
 -- No map was put in place and nothing printed, for one of these reasons; or it was, and a beginning of the report printed.
-abbrev pub IsOriginFault : Answers → OriginWords → Option Store → Option Store → (opens opened : Option ℕ) → (broke : Bool) → Option (List ℕ) → Option (List ℕ) → LabFault → Type 0
+abbrev pub IsOriginFault : StoreAnswers → OriginWords → Option Store → Option Store → (opens opened : Option ℕ) → (broke : Bool) → Option (List ℕ) → Option (List ℕ) → LabFault → Type 0
 IsOriginFault a words before after opens opened broke out printed told =
     (LeavesAll before after out printed × IsUndone a words opens opened told)
     ⊎ ((g : Geometry) × (last : Option ℕ) × (marks : List MapMark) × PutOrigin a words before after g last marks × IsHalfPrinted broke out printed (origin_text (form_of words.showing) marks) told)

@@ -6,8 +6,8 @@ use Rattle.lab_commands.specs.declared.words.Asked.TheVariants as asked
 use Rattle.lab_commands.specs.Words.{IsAsked, IsNoCommand}
 use Rattle.lab_commands.specs.declared.text.LabFault.{LabFault}
 use Rattle.lab_commands.specs.declared.text.LabFault.TheVariants.{NoSuchCommand, OutOfMemory}
-use Rattle.lab_commands.specs.Files.{Answers, Store}
-use Rattle.lab_commands.specs.Text.{IsTold}
+use Rattle.lab_commands.specs.Files.{Store, StoreAnswers}
+use Rattle.lab_commands.specs.Text.{IsLabFaultTold}
 use Rattle.lab_commands.specs.Array.{WroteArray, IsArrayFault}
 use Rattle.lab_commands.specs.History.{ToldHistory, IsHistoryFault}
 use Rattle.lab_commands.specs.Survey.{ToldSurvey, IsSurveyFault}
@@ -23,7 +23,7 @@ use Rattle.lab_commands.specs.Undone.{IsHalfPrinted, LeavesAll}
 -- ---- done
 
 -- the words asked for an array, a merge, a repair, a correction, a dump in order or a map, which was written, or for geometries, a survey, a history, a comparison or a text, which was printed
-abbrev pub DoesAsked : Answers → Asked → Option Store → Option Store → Option (List ℕ) → Option (List ℕ) → Type 0
+abbrev pub DoesAsked : StoreAnswers → Asked → Option Store → Option Store → Option (List ℕ) → Option (List ℕ) → Type 0
 DoesAsked a (asked.Geometry read) before after out printed = (after ≡ before) × ToldFits a read out printed
 DoesAsked a (asked.Array read) before after out printed = WroteArray a read before after out printed
 DoesAsked a (asked.History read) before after out printed = (after ≡ before) × ToldHistory a read out printed
@@ -36,13 +36,13 @@ DoesAsked a (asked.Arrange read) before after out printed = WroteArranged a read
 DoesAsked a (asked.Origin read) before after out printed = WroteOrigin a read before after out printed
 DoesAsked a (asked.Text text) before after out printed = (after ≡ before) × Appends out printed (string_bytes text)
 
-abbrev pub Obeyed : Answers → List (List ℕ) → Option Store → Option Store → Option (List ℕ) → Option (List ℕ) → Type 0
+abbrev pub Obeyed : StoreAnswers → List (List ℕ) → Option Store → Option Store → Option (List ℕ) → Option (List ℕ) → Type 0
 Obeyed a words before after out printed = (found : Asked) × IsAsked words found × DoesAsked a found before after out printed
 
 -- ---- not done
 
 -- why what was asked for was not done
-abbrev pub IsFaultOf : Answers → Asked → Option Store → Option Store → (opens opened : Option ℕ) → (broke : Bool) → Option (List ℕ) → Option (List ℕ) → LabFault → Type 0
+abbrev pub IsFaultOf : StoreAnswers → Asked → Option Store → Option Store → (opens opened : Option ℕ) → (broke : Bool) → Option (List ℕ) → Option (List ℕ) → LabFault → Type 0
 IsFaultOf a (asked.Geometry read) before after opens opened broke out printed told = IsGeometryFault a read before after opens opened broke out printed told
 IsFaultOf a (asked.Array read) before after opens opened broke out printed told = IsArrayFault a read before after opens opened broke out printed told
 IsFaultOf a (asked.History read) before after opens opened broke out printed told = IsHistoryFault a read before after opens opened broke out printed told
@@ -56,15 +56,15 @@ IsFaultOf a (asked.Origin read) before after opens opened broke out printed told
 IsFaultOf a (asked.Text text) before after opens opened broke out printed told = (after ≡ before) × IsHalfPrinted broke out printed (string_bytes text) told
 
 -- the words are no command, or memory for them was refused, before any file was opened
-abbrev pub IsUnasked : List (List ℕ) → (opens opened : Option ℕ) → LabFault → Type 0
-IsUnasked words opens opened NoSuchCommand = IsNoCommand words
-IsUnasked words opens opened OutOfMemory = opened ≡ opens
-IsUnasked words opens opened _ = ⊥
+abbrev pub IsNoCommandAsked : List (List ℕ) → (opens opened : Option ℕ) → LabFault → Type 0
+IsNoCommandAsked words opens opened NoSuchCommand = IsNoCommand words
+IsNoCommandAsked words opens opened OutOfMemory = opened ≡ opens
+IsNoCommandAsked words opens opened _ = ⊥
 
 -- Why the words were not obeyed, and what was left then.
-abbrev pub IsRefused : Answers → List (List ℕ) → Option Store → Option Store → (opens opened : Option ℕ) → (broke : Bool) → Option (List ℕ) → Option (List ℕ) → LabFault → Type 0
-IsRefused a words before after opens opened broke out printed told =
-    (LeavesAll before after out printed × IsUnasked words opens opened told)
+abbrev pub IsUnobeyed : StoreAnswers → List (List ℕ) → Option Store → Option Store → (opens opened : Option ℕ) → (broke : Bool) → Option (List ℕ) → Option (List ℕ) → LabFault → Type 0
+IsUnobeyed a words before after opens opened broke out printed told =
+    (LeavesAll before after out printed × IsNoCommandAsked words opens opened told)
     ⊎ ((found : Asked) × IsAsked words found × IsFaultOf a found before after opens opened broke out printed told)
 
 -- ---- both
@@ -76,7 +76,7 @@ pub record Written : Type 0 where
   pub broke : Bool
 
 -- status 0 where all was done, with nothing on standard error; else the fault's line there, and its status
-abbrev pub Runs : Answers → List (List ℕ) → Option Store → Option Store → (opens opened : Option ℕ) → (out err : Written) → ℕ → Type 0
-Runs a words before after opens opened out err status =
+abbrev pub LabCommandRuns : StoreAnswers → List (List ℕ) → Option Store → Option Store → (opens opened : Option ℕ) → (out err : Written) → ℕ → Type 0
+LabCommandRuns a words before after opens opened out err status =
     (Obeyed a words before after out.before out.after × (status ≡ 0) × Keeps err.before err.after)
-    ⊎ ((fault : LabFault) × IsRefused a words before after opens opened out.broke out.before out.after fault × IsTold fault err.broke err.before err.after status)
+    ⊎ ((fault : LabFault) × IsUnobeyed a words before after opens opened out.broke out.before out.after fault × IsLabFaultTold fault err.broke err.before err.after status)

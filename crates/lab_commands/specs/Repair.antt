@@ -11,18 +11,18 @@ use Rattle.lab_mend.specs.Repaired.{IsOwnRepair, IsRepaired}
 use Rattle.lab_commands.specs.Reports.{repair_text}
 use Rattle.lab_commands.specs.declared.words.RepairWords.{RepairWords}
 use Rattle.lab_commands.specs.declared.text.LabFault.{LabFault}
-use Rattle.lab_commands.specs.Files.{Answers, IsOpened, Store, with_kept}
+use Rattle.lab_commands.specs.Files.{IsFileOpened, Store, StoreAnswers, with_kept}
 use Rattle.lab_commands.specs.Bits.{AreBitsAt, AreNoBits}
 use Rattle.lab_commands.specs.Rows.{AreNoRows, AreRowsAt}
-use Rattle.lab_commands.specs.Undone.{IsGeometryAt, IsNoGeometry, IsHalfPrinted, IsUnmade, IsUnplaced, IsUnroomed, LeavesAll, MayNotWrite, MayWrite, form_of}
+use Rattle.lab_commands.specs.Undone.{IsGeometryAt, IsNoGeometry, IsHalfPrinted, IsFileUnmade, IsUnplaced, IsUnroomed, LeavesAll, MayNotWrite, MayWrite, form_of}
 
 -- ---- done
 
 -- The pieces are made of a dump that reads so: where its bytes are known the pieces and the list are those of the image that they are.
 -- Whatever it gave, each piece is what is written of a page by what the list names of its row.
-pub record IsMended (a : Answers) (path : List ℕ) (g : Geometry) (asked : RepairAsked) (pieces : Option (List (List ℕ))) (mends : List Mend) : Type 0 where
+pub record IsMended (a : StoreAnswers) (path : List ℕ) (g : Geometry) (asked : RepairAsked) (pieces : Option (List (List ℕ))) (mends : List Mend) : Type 0 where
   pub known : Option (List ℕ)
-  pub opened : IsOpened a path known
+  pub opened : IsFileOpened a path known
   pub mended : IfSome known (IsRepaired g asked pieces mends)
   pub own : IsOwnRepair g asked pieces mends
 
@@ -35,7 +35,7 @@ abbrev pub asked_of : Option Rows → ℕ → RepairAsked
 asked_of rows bits = record { rows = rows; bits = bits }
 
 -- the mended dump was put in the place of OUT
-pub record PutRepair (a : Answers) (words : RepairWords) (before after : Option Store) (mends : List Mend) : Type 0 where
+pub record PutRepair (a : StoreAnswers) (words : RepairWords) (before after : Option Store) (mends : List Mend) : Type 0 where
   pub g : Geometry
   pub rows : Option Rows
   pub bits : ℕ
@@ -48,7 +48,7 @@ pub record PutRepair (a : Answers) (words : RepairWords) (before after : Option 
   pub put : after ≡ with_kept before words.out.now pieces words.force
 
 -- and what was mended was printed
-pub record WroteRepair (a : Answers) (words : RepairWords) (before after : Option Store) (out printed : Option (List ℕ)) : Type 0 where
+pub record WroteRepair (a : StoreAnswers) (words : RepairWords) (before after : Option Store) (out printed : Option (List ℕ)) : Type 0 where
   pub mends : List Mend
   pub put : PutRepair a words before after mends
   pub told : Appends out printed (repair_text (form_of words.showing) (told_tries put.bits put.g mends) mends)
@@ -56,16 +56,16 @@ pub record WroteRepair (a : Answers) (words : RepairWords) (before after : Optio
 -- ---- not done
 
 -- The first of this order: the geometry; the rows; how many bits; whether OUT may be written; memory; the dump and OUT.
-abbrev pub IsUnrepairedBy : Answers → RepairWords → (opens opened : Option ℕ) → LabFault → Type 0
+abbrev pub IsUnrepairedBy : StoreAnswers → RepairWords → (opens opened : Option ℕ) → LabFault → Type 0
 IsUnrepairedBy a words opens opened told =
     IsNoGeometry words.geometry.now told
     ⊎ ((g : Geometry) × IsGeometryAt words.geometry.now g × (AreNoRows words.rows g told
     ⊎ ((rows : Option Rows) × AreRowsAt words.rows g rows × (AreNoBits words.bits g told
     ⊎ ((bits : ℕ) × AreBitsAt words.bits g bits × (MayNotWrite a words.dump.now words.out.now words.force told
-    ⊎ (MayWrite a words.dump.now words.out.now words.force × (IsUnroomed opens opened told ⊎ IsUnmade a g words.dump.now words.out.now told ⊎ IsUnplaced a words.out.now words.force told))))))))
+    ⊎ (MayWrite a words.dump.now words.out.now words.force × (IsUnroomed opens opened told ⊎ IsFileUnmade a g words.dump.now words.out.now told ⊎ IsUnplaced a words.out.now words.force told))))))))
 
 -- No dump was put in place and nothing printed, for one of these reasons; or it was put in place, and a beginning of the list printed.
-abbrev pub IsRepairFault : Answers → RepairWords → Option Store → Option Store → (opens opened : Option ℕ) → (broke : Bool) → Option (List ℕ) → Option (List ℕ) → LabFault → Type 0
+abbrev pub IsRepairFault : StoreAnswers → RepairWords → Option Store → Option Store → (opens opened : Option ℕ) → (broke : Bool) → Option (List ℕ) → Option (List ℕ) → LabFault → Type 0
 IsRepairFault a words before after opens opened broke out printed told =
     (LeavesAll before after out printed × IsUnrepairedBy a words opens opened told)
     ⊎ ((mends : List Mend) × (put : PutRepair a words before after mends) × IsHalfPrinted broke out printed (repair_text (form_of words.showing) (told_tries put.bits put.g mends) mends) told)

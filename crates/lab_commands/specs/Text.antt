@@ -123,7 +123,7 @@ told_line fault = line_of fault ++ (10 ∷ [])
 
 -- The fault's line was written, and the status is the fault's. Or a write failed: the status is 3, and a beginning of the line
 -- stands there, or nothing, and never all of it.
-abbrev pub IsTold : LabFault → (broke : Bool) → Option (List ℕ) → Option (List ℕ) → ℕ → Type 0
-IsTold fault broke before after status =
+abbrev pub IsLabFaultTold : LabFault → (broke : Bool) → Option (List ℕ) → Option (List ℕ) → ℕ → Type 0
+IsLabFaultTold fault broke before after status =
     ((status ≡ status_of fault) × Appends before after (told_line fault))
     ⊎ ((status ≡ 3) × (broke ≡ true) × AppendsPart before after (told_line fault))

@@ -19,7 +19,7 @@ use Rattle.lab_commands.specs.declared.files.Standing.TheVariants as standing
 use Rattle.lab_commands.specs.declared.output.OutputFault.{OutputFault}
 use Rattle.lab_commands.specs.declared.text.LabFault.{LabFault}
 use Rattle.lab_commands.specs.declared.text.LabFault.TheVariants as fault
-use Rattle.lab_commands.specs.Files.{Answers, IsOpened, Stands, Store}
+use Rattle.lab_commands.specs.Files.{IsFileOpened, StandsAtPath, Store, StoreAnswers}
 
 -- ---- the geometry
 
@@ -39,13 +39,13 @@ IsNoGeometry word _ = ⊥
 -- ---- the files
 
 -- a call that names this path failed, for itself or for want of memory, and this is told where the file was to be read
-abbrev pub IsUnread : Answers → List ℕ → LabFault → Type 0
+abbrev pub IsUnread : StoreAnswers → List ℕ → LabFault → Type 0
 IsUnread a path (fault.Read told) = (told.now ≡ path) × a.fails path file.Failed
 IsUnread a path fault.OutOfMemory = a.fails path file.OutOfMemory
 IsUnread a path _ = ⊥
 
 -- the same where it was to be written
-abbrev pub IsUnwritten : Answers → List ℕ → LabFault → Type 0
+abbrev pub IsUnwritten : StoreAnswers → List ℕ → LabFault → Type 0
 IsUnwritten a path (fault.Write told) = (told.now ≡ path) × a.fails path file.Failed
 IsUnwritten a path fault.OutOfMemory = a.fails path file.OutOfMemory
 IsUnwritten a path _ = ⊥
@@ -61,35 +61,35 @@ IsKeptThere what force fault.NoFile = (what ≡ standing.Other) × (force ≡ tr
 IsKeptThere what force _ = ⊥
 
 -- by what the files answered nothing stands at a path that is made of this dump, or a file that is not the dump and may be replaced
-abbrev pub MayWrite : Answers → List ℕ → List ℕ → Bool → Type 0
+abbrev pub MayWrite : StoreAnswers → List ℕ → List ℕ → Bool → Type 0
 MayWrite a dump path force = a.says path standing.Nothing ⊎ (a.says path standing.File × a.says_same dump path false × (force ≡ true))
 
 -- something stands there: it is the dump, or is not to be replaced, or is no file; or they could not be asked
-abbrev pub MayNotWrite : Answers → List ℕ → List ℕ → Bool → LabFault → Type 0
-MayNotWrite a dump path force fault.IsDump = Stands a path × a.says_same dump path true
-MayNotWrite a dump path force fault.Exists = Stands a path × a.says_same dump path false × (force ≡ false)
+abbrev pub MayNotWrite : StoreAnswers → List ℕ → List ℕ → Bool → LabFault → Type 0
+MayNotWrite a dump path force fault.IsDump = StandsAtPath a path × a.says_same dump path true
+MayNotWrite a dump path force fault.Exists = StandsAtPath a path × a.says_same dump path false × (force ≡ false)
 MayNotWrite a dump path force fault.NoFile = a.says path standing.Other × a.says_same dump path false × (force ≡ true)
-MayNotWrite a dump path force told = IsUnwritten a path told ⊎ (Stands a path × IsUnread a dump told)
+MayNotWrite a dump path force told = IsUnwritten a path told ⊎ (StandsAtPath a path × IsUnread a dump told)
 
 -- a file that was made did not get this name: a call failed, or another file has it meanwhile, and may not be replaced
-abbrev pub IsUnplaced : Answers → List ℕ → Bool → LabFault → Type 0
+abbrev pub IsUnplaced : StoreAnswers → List ℕ → Bool → LabFault → Type 0
 IsUnplaced a path force fault.Exists = (force ≡ false) × a.taken path
 IsUnplaced a path force told = IsUnwritten a path told
 
 -- the same of a map
-abbrev pub IsMapUnplaced : Answers → List ℕ → Bool → LabFault → Type 0
+abbrev pub IsMapUnplaced : StoreAnswers → List ℕ → Bool → LabFault → Type 0
 IsMapUnplaced a path force fault.MapExists = (force ≡ false) × a.taken path
 IsMapUnplaced a path force told = IsUnwritten a path told
 
 -- the file was opened for reading
-pub record Opens (a : Answers) (path : List ℕ) : Type 0 where
+pub record OpensForReading (a : StoreAnswers) (path : List ℕ) : Type 0 where
   pub known : Option (List ℕ)
-  pub opened : IsOpened a path known
+  pub opened : IsFileOpened a path known
 
 -- and its bytes, as far as they are known, are not as many as an image has
-pub record OpensOther (a : Answers) (g : Geometry) (path : List ℕ) : Type 0 where
+pub record OpensOther (a : StoreAnswers) (g : Geometry) (path : List ℕ) : Type 0 where
   pub known : Option (List ℕ)
-  pub opened : IsOpened a path known
+  pub opened : IsFileOpened a path known
   pub other : IfSome known (λ bytes. ¬ (length bytes ≡ image_bytes g))
 
 -- MEMORY WAS REFUSED BEFORE ANY FILE WAS OPENED to be read: how many were before, and how many in the end
@@ -97,19 +97,19 @@ abbrev pub IsUnroomed : (opens opened : Option ℕ) → LabFault → Type 0
 IsUnroomed opens opened told = (told ≡ fault.OutOfMemory) × (opened ≡ opens)
 
 -- Why a dump that was opened was not taken as a whole: a read failed, or it has another length. No want of memory is one.
-abbrev pub IsUntaken : Answers → Geometry → List ℕ → LabFault → Type 0
+abbrev pub IsUntaken : StoreAnswers → Geometry → List ℕ → LabFault → Type 0
 IsUntaken a g path fault.WrongLength = OpensOther a g path
-IsUntaken a g path (fault.Read told) = (told.now ≡ path) × Opens a path × a.reads_fail
+IsUntaken a g path (fault.Read told) = (told.now ≡ path) × OpensForReading a path × a.reads_fail
 IsUntaken a g path _ = ⊥
 
 -- a file beside that of a path was not made or not written whole, of a dump that was opened
-abbrev pub IsUnfilled : Answers → List ℕ → List ℕ → LabFault → Type 0
-IsUnfilled a dump path (fault.Write told) = (told.now ≡ path) × Opens a dump × a.writes_fail
+abbrev pub IsUnfilled : StoreAnswers → List ℕ → List ℕ → LabFault → Type 0
+IsUnfilled a dump path (fault.Write told) = (told.now ≡ path) × OpensForReading a dump × a.writes_fail
 IsUnfilled a dump path _ = ⊥
 
 -- the dump was not opened or not taken as a whole, or the file beside the path was not written or not put in its place
-abbrev pub IsUnmade : Answers → Geometry → List ℕ → List ℕ → LabFault → Type 0
-IsUnmade a g dump path told = IsUnread a dump told ⊎ IsUntaken a g dump told ⊎ IsUnwritten a path told ⊎ IsUnfilled a dump path told
+abbrev pub IsFileUnmade : StoreAnswers → Geometry → List ℕ → List ℕ → LabFault → Type 0
+IsFileUnmade a g dump path told = IsUnread a dump told ⊎ IsUntaken a g dump told ⊎ IsUnwritten a path told ⊎ IsUnfilled a dump path told
 
 -- how it is told that no file was made of a dump
 abbrev pub unmade_as : MakeFault → Bor (List ℕ) → Bor (List ℕ) → LabFault

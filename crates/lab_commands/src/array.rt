@@ -8,8 +8,8 @@ ghost use Rattle.lab_dump.specs.Rooms.{IsArrayRoom};
 ghost use Rattle.lab_dump.specs.Unmade as made;
 ghost use Rattle.lab_dump.specs.Written.{IsWritten};
 ghost use Rattle.lab_commands.specs.Files.{AnswersNoMore, without_part};
-ghost use Rattle.lab_commands.specs.Undone.{IsUnmade, MayWrite};
-ghost use Rattle.lab_commands.specs.Array.{AreAllowed, AreNotAllowed, IsArrayFault, IsMade, IsMapNotAllowed, IsUnmapped, WroteArray, as_map, with_map};
+ghost use Rattle.lab_commands.specs.Undone.{IsFileUnmade, MayWrite};
+ghost use Rattle.lab_commands.specs.Array.{AreAllowed, AreNotAllowed, IsArrayFault, IsArrayMade, IsMapNotAllowed, IsUnmapped, WroteArray, as_map, with_map};
 
 use crate::files::{LabFiles, Standing};
 use crate::maps::ArrayMap;
@@ -133,9 +133,9 @@ fn make<'a, F: LabFiles>(
     files: &mut F,
 ) -> Result<ArrayWritten<F::Target>, LabFault<'a>>
     requires { IsArrayRoom geometry.now room }
-    ensures made { IfOk result (λ written. IsMade (F.answers files.old) words.now.dump.now geometry.now last damaged (F.Target.pieces written.target) written.held.items written.left) }
+    ensures made { IfOk result (λ written. IsArrayMade (F.answers files.old) words.now.dump.now geometry.now last damaged (F.Target.pieces written.target) written.held.items written.left) }
     ensures sized { IfOk result (λ written. length written.held.items ≡ geometry.now.sectors) }
-    ensures fault { IfErr result (IsUnmade (F.answers files.old) geometry.now words.now.dump.now words.now.out.now) }
+    ensures fault { IfErr result (IsFileUnmade (F.answers files.old) geometry.now words.now.dump.now words.now.out.now) }
     ensures no_more { AnswersNoMore (F.answers files.old) (F.answers files.new) }
     ensures beside { OnOk result (without_part (F.kept files.new) ≡ F.kept files.old) }
     ensures kept { OnErr result (F.kept files.new ≡ F.kept files.old) }

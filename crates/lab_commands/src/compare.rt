@@ -3,7 +3,7 @@ ghost use Rattle.std.specs.Prelude.{◌≡◌, suc, option_map, OnOk, IfOk, IfEr
 ghost use Rattle.certificate.specs.Claim.{sizes_of};
 ghost use Rattle.lab_dump.specs.Rooms.{IsCompareRoom};
 ghost use Rattle.lab_commands.specs.Files.{AnswersNoMore};
-ghost use Rattle.lab_commands.specs.Compare.{HasNone, IsCertificateAt, IsCompareFault, IsCompared, IsUnheld, ToldCompared};
+ghost use Rattle.lab_commands.specs.Compare.{HasNone, IsCertificateAt, IsCompareFault, IsCompared, IsDumpUnheld, ToldCompared};
 
 use crate::files::{LabFileFault, LabFiles};
 use crate::opening::{geometry_at, open_file, progress_of};
@@ -55,7 +55,7 @@ fn compare_with<'a, F: LabFiles>(
     requires { IsCompareRoom geometry.now room }
     ensures ok { IfOk result (IsCompared (F.answers files.old) dump.now geometry.now certificate.now) }
     ensures sizes { OnOk result (certificate.now.sizes ≡ sizes_of geometry.now) }
-    ensures fault { IfErr result (IsUnheld (F.answers files.old) geometry.now certificate.now dump.now) }
+    ensures fault { IfErr result (IsDumpUnheld (F.answers files.old) geometry.now certificate.now dump.now) }
     ensures kept { F.kept files.new ≡ F.kept files.old }
 {
     let mut reader = open_file(files, dump, progress_of(showing))?;

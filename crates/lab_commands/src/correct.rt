@@ -1,10 +1,10 @@
 //! The command `correct GEOM DUMP OUT [--map FILE]`.
 ghost use Rattle.std.specs.Prelude.{◌≡◌, OnOk, OnErr, IfOk, IfErr};
 ghost use Rattle.page_code.specs.Chip.{IsChipOf};
-ghost use Rattle.lab_correct.specs.Map.{map_text};
+ghost use Rattle.lab_correct.specs.Map.{loss_map_text};
 ghost use Rattle.lab_correct.specs.Rooms.{IsCorrectRoom};
 ghost use Rattle.lab_commands.specs.Files.{AnswersNoMore, without_part};
-ghost use Rattle.lab_commands.specs.Undone.{IsUnmade};
+ghost use Rattle.lab_commands.specs.Undone.{IsFileUnmade};
 ghost use Rattle.lab_commands.specs.Array.{IsUnmapped, with_map};
 ghost use Rattle.lab_commands.specs.Correct.{IsCorrectFault, IsNoChip, IsPutRight, WroteCorrected};
 
@@ -42,7 +42,7 @@ fn put_map<'a, F: LabFiles>(
     losses: &[Loss],
     files: &mut F,
 ) -> Result<(), LabFault<'a>>
-    ensures ok { OnOk result (F.kept files.new ≡ with_map (F.kept files.old) words.now (map_text geometry.now losses.now)) }
+    ensures ok { OnOk result (F.kept files.new ≡ with_map (F.kept files.old) words.now (loss_map_text geometry.now losses.now)) }
     ensures fault { IfErr result (IsUnmapped (F.answers files.old) words.now) }
     ensures kept { OnErr result (F.kept files.new ≡ F.kept files.old) }
 {
@@ -63,7 +63,7 @@ fn put_right<'a, F: LabFiles>(
     requires chip { IsChipOf geometry.now chip.now.raw }
     requires room { IsCorrectRoom geometry.now chip.now.raw room }
     ensures made { IfOk result (λ told. IsPutRight (F.answers files.old) words.now.dump.now geometry.now chip.now.raw (F.Target.pieces told.target) (record { turned = told.turned; touched = told.touched; losses = told.losses.items })) }
-    ensures fault { IfErr result (IsUnmade (F.answers files.old) chip.now.raw words.now.dump.now words.now.out.now) }
+    ensures fault { IfErr result (IsFileUnmade (F.answers files.old) chip.now.raw words.now.dump.now words.now.out.now) }
     ensures no_more { AnswersNoMore (F.answers files.old) (F.answers files.new) }
     ensures beside { OnOk result (without_part (F.kept files.new) ≡ F.kept files.old) }
     ensures kept { OnErr result (F.kept files.new ≡ F.kept files.old) }

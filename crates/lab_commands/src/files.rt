@@ -72,7 +72,7 @@ pub trait MapText {
 /// The files that the words name, by their paths as written: those of the system, or some in memory.
 pub trait LabFiles {
     ghost use Rattle.std.specs.Prelude.{◌≡◌, List, [], ◌∷◌, ℕ, suc, Option, Some, true, Result, IfOk, IfErr, IfSome, option_map, replicate};
-    ghost use Rattle.lab_commands.specs.Files.{Answers, AnswersNoMore, IsAsPut, IsLoaded, IsOpened, IsUnkept, Store, kept_after, made_after, without_part};
+    ghost use Rattle.lab_commands.specs.Files.{AnswersNoMore, IsAsPut, IsFileOpened, IsLoaded, IsUnkept, Store, StoreAnswers, kept_after, made_after, without_part};
 
     /// What reads a file piece by piece.
     type Reader: DumpReader + Drop;
@@ -87,7 +87,7 @@ pub trait LabFiles {
     type Watch: Watch + Drop;
 
     /// What it may answer. Of the system's files it may be anything.
-    ghost answers: { Self → Answers };
+    ghost answers: { Self → StoreAnswers };
 
     /// The files that were put in their places so far, in order, and how many more that were made stand beside theirs. Of the system's files it
     /// isn't known.
@@ -110,7 +110,7 @@ pub trait LabFiles {
 
     /// A reader of a file, from its first byte on: of one that was put in its place, of what was put there last. No file is changed.
     fn open(&mut self, path: &str, progress: Progress) -> Result<Self::Reader, LabFileFault>
-        ensures bytes { IfOk result (λ reader. IsOpened (answers self.old) path.now (Self.Reader.remaining reader)) }
+        ensures bytes { IfOk result (λ reader. IsFileOpened (answers self.old) path.now (Self.Reader.remaining reader)) }
         ensures as_put { IfOk result (λ reader. IsAsPut (kept self.old) path.now (Self.Reader.remaining reader)) }
         ensures fails { (reader : Self.Reader) → Self.Reader.failed reader ≡ true → (answers self.old).reads_fail }
         ensures failed { IfErr result ((answers self.old).fails path.now) }
@@ -128,7 +128,7 @@ pub trait LabFiles {
 
     /// A dump of a file, to be read at whatever place. No file is changed.
     fn open_dump(&mut self, path: &str, progress: Progress) -> Result<Self::Dump, LabFileFault>
-        ensures bytes { IfOk result (λ dump. IsOpened (answers self.old) path.now (Self.Dump.bytes dump)) }
+        ensures bytes { IfOk result (λ dump. IsFileOpened (answers self.old) path.now (Self.Dump.bytes dump)) }
         ensures fails { (dump : Self.Dump) → Self.Dump.failed dump ≡ true → (answers self.old).reads_fail }
         ensures failed { IfErr result ((answers self.old).fails path.now) }
         ensures no_more { AnswersNoMore (answers self.old) (answers self.new) }

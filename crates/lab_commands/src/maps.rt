@@ -55,9 +55,9 @@ pub(crate) struct LossMap<'a> {
 }
 
 impl MapText for LossMap<'_> {
-    ghost use Rattle.lab_correct.specs.Map.{map_text};
+    ghost use Rattle.lab_correct.specs.Map.{loss_map_text};
 
-    ghost text = { λ m. map_text m.geometry.now m.losses.now };
+    ghost text = { λ m. loss_map_text m.geometry.now m.losses.now };
 
     ghost whole = { λ _. Unit {0} };
 

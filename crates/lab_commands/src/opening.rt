@@ -1,7 +1,7 @@
 //! The words and the files that each command begins with.
 ghost use Rattle.std.specs.Prelude.{◌≡◌, ◌≢◌, [], ◌∷◌, Some, true, IfOk, IfErr, IfSome, OnOk, OnErr, replicate};
 ghost use Rattle.lab_commands.specs.declared.files.Standing.TheVariants.{Nothing};
-ghost use Rattle.lab_commands.specs.Files.{AnswersNoMore, IsOpened, with_kept, without_part};
+ghost use Rattle.lab_commands.specs.Files.{AnswersNoMore, IsFileOpened, with_kept, without_part};
 ghost use Rattle.lab_commands.specs.Undone.{IsGeometryAt, IsKeptThere, IsMapUnplaced, IsNoGeometry, IsReplaceable, IsUnplaced, IsUnread, IsUnwritten, MayNotWrite, MayWrite, unmade_as};
 
 use crate::files::{KeepFault, LabFileFault, LabFiles, MapText, Progress, Standing};
@@ -46,7 +46,7 @@ pub(crate) fn open_file<'a, F: LabFiles>(
     path: &'a str,
     progress: Progress,
 ) -> Result<F::Reader, LabFault<'a>>
-    ensures bytes { IfOk result (λ reader. IsOpened (F.answers files.old) path.now (F.Reader.remaining reader)) }
+    ensures bytes { IfOk result (λ reader. IsFileOpened (F.answers files.old) path.now (F.Reader.remaining reader)) }
     ensures fails { (reader : F.Reader) → F.Reader.failed reader ≡ true → (F.answers files.old).reads_fail }
     ensures fault { IfErr result (IsUnread (F.answers files.old) path.now) }
     ensures no_more { AnswersNoMore (F.answers files.old) (F.answers files.new) }
@@ -65,7 +65,7 @@ pub(crate) fn open_dump<'a, F: LabFiles>(
     path: &'a str,
     progress: Progress,
 ) -> Result<F::Dump, LabFault<'a>>
-    ensures bytes { IfOk result (λ dump. IsOpened (F.answers files.old) path.now (F.Dump.bytes dump)) }
+    ensures bytes { IfOk result (λ dump. IsFileOpened (F.answers files.old) path.now (F.Dump.bytes dump)) }
     ensures fails { (dump : F.Dump) → F.Dump.failed dump ≡ true → (F.answers files.old).reads_fail }
     ensures fault { IfErr result (IsUnread (F.answers files.old) path.now) }
     ensures no_more { AnswersNoMore (F.answers files.old) (F.answers files.new) }

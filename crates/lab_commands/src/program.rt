@@ -3,7 +3,7 @@ ghost use Rattle.std.specs.Prelude.{◌≡◌, OnOk, IfErr};
 ghost use Rattle.program_words.specs.Grammar.{program_app};
 ghost use Rattle.program_words.specs.Met.{texts};
 ghost use Rattle.lab_commands.specs.Words as told;
-ghost use Rattle.lab_commands.specs.Program.{IsRefused, Obeyed, Runs, Written};
+ghost use Rattle.lab_commands.specs.Program.{IsUnobeyed, LabCommandRuns, Obeyed, Written};
 
 use crate::arrange::arrange_command;
 use crate::array::array_command;
@@ -38,7 +38,7 @@ fn obey<'a, F: LabFiles, W: Output>(
     out: &mut W,
 ) -> Result<(), LabFault<'a>>
     ensures ok { OnOk result (Obeyed (F.answers files.old) (texts words.now) (F.kept files.old) (F.kept files.new) (W.contents out.old) (W.contents out.new)) }
-    ensures err { IfErr result (IsRefused (F.answers files.old) (texts words.now) (F.kept files.old) (F.kept files.new) (F.opened files.old) (F.opened files.new) (W.failed out.new) (W.contents out.old) (W.contents out.new)) }
+    ensures err { IfErr result (IsUnobeyed (F.answers files.old) (texts words.now) (F.kept files.old) (F.kept files.new) (F.opened files.old) (F.opened files.new) (W.failed out.new) (W.contents out.old) (W.contents out.new)) }
 {
     match parse(alloc, words) {
         Ok(Asked::Geometry(read)) => geometry_command(alloc, read, files, out),
@@ -72,7 +72,7 @@ pub fn run<F: LabFiles, W: Output, E: Output>(
     out: &mut W,
     err: &mut E,
 ) -> u8
-    ensures { Runs (F.answers files.old) (texts words.now) (F.kept files.old) (F.kept files.new) (F.opened files.old) (F.opened files.new)
+    ensures { LabCommandRuns (F.answers files.old) (texts words.now) (F.kept files.old) (F.kept files.new) (F.opened files.old) (F.opened files.new)
         (record { before = W.contents out.old; after = W.contents out.new; broke = W.failed out.new })
         (record { before = E.contents err.old; after = E.contents err.new; broke = E.failed err.new }) result }
 {

@@ -1,7 +1,7 @@
 //! What the program says when a command ends before it is done: one line, and the exit status.
 ghost use Rattle.std.specs.Prelude.{◌≡◌, ◌∷◌, [], ◌++◌, true, OnErr};
 ghost use Rattle.lab_commands.specs.Output.{Puts};
-ghost use Rattle.lab_commands.specs.Text.{IsTold, lengths_words, line_of, nearest_words, rest_words, status_of, told_line};
+ghost use Rattle.lab_commands.specs.Text.{IsLabFaultTold, lengths_words, line_of, nearest_words, rest_words, status_of, told_line};
 
 use crate::lines::kind_text;
 use crate::names::put_name;
@@ -299,7 +299,7 @@ fn send_line<E: Output>(alloc: Global, fault: &LabFault<'_>, err: &mut E) -> Res
 /// answers 3, and a beginning of the line stands there, or nothing: never all of it. Of a path, and of a word that is no number, each byte of a
 /// control character and each backslash is written as `\xNN`. (The lines and the statuses are this project's.)
 pub fn tell<E: Output>(alloc: Global, fault: &LabFault<'_>, err: &mut E) -> u8
-    ensures { IsTold fault.now (E.failed err.new) (E.contents err.old) (E.contents err.new) result }
+    ensures { IsLabFaultTold fault.now (E.failed err.new) (E.contents err.old) (E.contents err.new) result }
 {
     match send_line(alloc, fault, err) {
         Ok(()) => fault.status(),

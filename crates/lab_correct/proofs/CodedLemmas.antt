@@ -8,7 +8,7 @@ use Rattle.lab_dump.specs.declared.fit.Fit.{Fit}
 use Rattle.lab_dump.specs.declared.sample.Sample.{Sample}
 use Rattle.lab_dump.specs.declared.told.PagesTold.{PagesTold}
 use Rattle.lab_dump.specs.Sample.{sample_of}
-use Rattle.lab_dump.specs.Told.{told_of}
+use Rattle.lab_dump.specs.Told.{pages_told_of}
 use Rattle.lab_dump.specs.Fits.{area_fits}
 use Rattle.lab_dump.proofs.FitLemmas.{IsAsOf}
 use Rattle.lab_correct.specs.Decoded.{decoded_bytes, raw_size}
@@ -45,8 +45,8 @@ sample_of_areas g d s all x e f rows h =
     ∙ ap (sample_of g.data_bytes g.spare_bytes (row_count g)) (ap (λ k. decoded_bytes k g.spare_bytes all) e ∙ ap (λ k. decoded_bytes d k all) f)
 
 pub told_of_areas : (g : Geometry) (d s : ℕ) (all : List ℕ) (x : PagesTold) → g.data_bytes ≡ d → g.spare_bytes ≡ s → row_count g ≡ length all / raw_size d s
-    → (row_count g ≡ length all / raw_size g.data_bytes g.spare_bytes → x ≡ told_of g.data_bytes g.spare_bytes (row_count g) (decoded_bytes g.data_bytes g.spare_bytes all))
-    → x ≡ told_of g.data_bytes g.spare_bytes (row_count g) (decoded_bytes d s all)
+    → (row_count g ≡ length all / raw_size g.data_bytes g.spare_bytes → x ≡ pages_told_of g.data_bytes g.spare_bytes (row_count g) (decoded_bytes g.data_bytes g.spare_bytes all))
+    → x ≡ pages_told_of g.data_bytes g.spare_bytes (row_count g) (decoded_bytes d s all)
 told_of_areas g d s all x e f rows h =
     h (rows ∙ sym (ap (λ k. length all / raw_size k g.spare_bytes) e ∙ ap (λ k. length all / raw_size d k) f))
-    ∙ ap (told_of g.data_bytes g.spare_bytes (row_count g)) (ap (λ k. decoded_bytes k g.spare_bytes all) e ∙ ap (λ k. decoded_bytes d k all) f)
+    ∙ ap (pages_told_of g.data_bytes g.spare_bytes (row_count g)) (ap (λ k. decoded_bytes k g.spare_bytes all) e ∙ ap (λ k. decoded_bytes d k all) f)

@@ -14,7 +14,7 @@ use Rattle.page_code.specs.Corrected.{lost_chunks, IsPutRight, AreBytesOf}
 use Rattle.page_code.proofs.Puts.{put_right_law}
 use Rattle.lab_dump.specs.Scan.{IsTaken}
 use Rattle.lab_correct.specs.declared.correcting.Loss.{Loss}
-use Rattle.lab_correct.specs.Correcting.{piece_of, loss_at, losses_from, Shows, Stands}
+use Rattle.lab_correct.specs.Correcting.{piece_of, loss_at, losses_from, Shows, CorrectingStands}
 use Rattle.lab_correct.proofs.ChipLemmas.{rows_same}
 use Rattle.lab_correct.specs.Corrected.{IsCorrectedOf, IsCorrected, IsOwnCorrected, CorrectedLaw}
 
@@ -30,7 +30,7 @@ all_of g all seen pieces turned touched losses size h = record {
   losses_are = h.losses_are;
 }
 
-pub own_done : (g chip : Geometry) (scratch : List ℕ) (turned touched : ℕ) (losses : List Loss) (capacity : ℕ) (pieces : Option (List (List ℕ))) → Stands g chip (row_count chip) scratch turned touched losses capacity pieces
+pub own_done : (g chip : Geometry) (scratch : List ℕ) (turned touched : ℕ) (losses : List Loss) (capacity : ℕ) (pieces : Option (List (List ℕ))) → CorrectingStands g chip (row_count chip) scratch turned touched losses capacity pieces
     → IsOwnCorrected g pieces turned touched losses
 own_done g chip scratch turned touched losses capacity pieces h = record {
   pages = h.has.seen;
@@ -39,7 +39,7 @@ own_done g chip scratch turned touched losses capacity pieces h = record {
   are = all_of g (row_count chip) h.has.seen pieces turned touched losses h.sized h.has.shows;
 }
 
-pub done : (g chip : Geometry) (scratch : List ℕ) (turned touched : ℕ) (losses : List Loss) (capacity : ℕ) (pieces : Option (List (List ℕ))) (bytes : List ℕ) → Stands g chip (row_count chip) scratch turned touched losses capacity pieces
+pub done : (g chip : Geometry) (scratch : List ℕ) (turned touched : ℕ) (losses : List Loss) (capacity : ℕ) (pieces : Option (List (List ℕ))) (bytes : List ℕ) → CorrectingStands g chip (row_count chip) scratch turned touched losses capacity pieces
     → IsTaken chip (λ image. Shows g (row_count chip) (take (row_count chip) image) pieces turned touched losses) bytes → IsCorrected g chip pieces turned touched losses bytes
 done g chip scratch turned touched losses capacity pieces bytes h taken = record {
   whole = taken.whole;

@@ -13,7 +13,7 @@ use Rattle.page_code.specs.Chip.{IsChipOf}
 use Rattle.page_code.specs.Near.{HasChipSizes}
 use Rattle.page_code.specs.Corrected.{turned_bits, lost_chunks}
 use Rattle.lab_correct.specs.declared.correcting.Loss.{Loss}
-use Rattle.lab_correct.specs.Correcting.{IsMade, piece_of, touches, loss_at, losses_from, noted, Shows, Stands}
+use Rattle.lab_correct.specs.Correcting.{IsPieceMade, piece_of, touches, loss_at, losses_from, noted, Shows, CorrectingStands}
 
 -- ---- lists
 
@@ -89,7 +89,7 @@ one_all g r h = All-cons (HasChipSizes g) r [] h (All-nil (HasChipSizes g))
 
 pub stands_more : (g chip : Geometry) (rows : ℕ) (r : Page) (scratch scratch' : List ℕ) (turned touched : ℕ) (losses : List Loss) (turned' touched' : ℕ) (losses' : List Loss) (capacity capacity' : ℕ) (pieces : Option (List (List ℕ)))
     → rows < row_count chip → HasChipSizes g r → scratch' ≡ piece_of g r → length scratch' ≡ page_bytes g → turned_bits g r ≤ 32 → capacity' ≡ capacity → IsNoted g rows r turned touched losses turned' touched' losses'
-    → Stands g chip rows scratch turned touched losses capacity pieces → Stands g chip (rows + 1) scratch' turned' touched' losses' capacity' (option_map (λ ps. set ps rows scratch') pieces)
+    → CorrectingStands g chip rows scratch turned touched losses capacity pieces → CorrectingStands g chip (rows + 1) scratch' turned' touched' losses' capacity' (option_map (λ ps. set ps rows scratch') pieces)
 stands_more g chip rows r scratch scratch' turned touched losses turned' touched' losses' capacity capacity' pieces l sizes is size few same counted h = record {
   of = h.of;
   scratch_size = size;
@@ -116,7 +116,7 @@ pub shows_none : (g : Geometry) (pieces : Option (List (List ℕ))) (losses : Li
 shows_none g pieces losses e = record { pieces_are = none_pieces g pieces; turned_is = refl; touched_is = refl; losses_are = e }
 
 pub stands_none : (g chip : Geometry) (scratch : List ℕ) (losses : List Loss) (capacity : ℕ) (pieces : Option (List (List ℕ))) → IsChipOf g chip → length scratch ≡ page_bytes g → losses ≡ [] → row_count chip ≤ capacity
-    → IfSome pieces (λ ps. length ps ≡ row_count chip) → Stands g chip 0 scratch 0 0 losses capacity pieces
+    → IfSome pieces (λ ps. length ps ≡ row_count chip) → CorrectingStands g chip 0 scratch 0 0 losses capacity pieces
 stands_none g chip scratch losses capacity pieces of size none room sized = record {
   of = of;
   scratch_size = size;
@@ -130,7 +130,7 @@ stands_none g chip scratch losses capacity pieces of size none room sized = reco
 
 -- ---- as a taker has it
 
-noted_as : (g : Geometry) (row : ℕ) (r : Page) (scratch : List ℕ) (here lost turned touched : ℕ) (losses : List Loss) (turned' touched' : ℕ) (losses' : List Loss) → IsMade g r here lost scratch → turned' ≡ turned + here → touched' ≡ touched + touches here
+noted_as : (g : Geometry) (row : ℕ) (r : Page) (scratch : List ℕ) (here lost turned touched : ℕ) (losses : List Loss) (turned' touched' : ℕ) (losses' : List Loss) → IsPieceMade g r here lost scratch → turned' ≡ turned + here → touched' ≡ touched + touches here
     → losses' ≡ noted losses row lost → IsNoted g row r turned touched losses turned' touched' losses'
 noted_as g row r scratch here lost turned touched losses turned' touched' losses' made e f h = record {
   turned_is = e ∙ ap (λ n. turned + n) made.turned_is;
@@ -140,17 +140,17 @@ noted_as g row r scratch here lost turned touched losses turned' touched' losses
 
 pub stands_put : (g g' chip : Geometry) (row : ℕ) (r : Page) (scratch scratch' bytes : List ℕ) (turned touched : ℕ) (losses : List Loss) (turned' touched' : ℕ) (losses' : List Loss) (capacity : ℕ) (capacity' here lost : ℕ) (pieces pieces' : Option (List (List ℕ)))
     → g' ≡ g → scratch' ≡ scratch → pieces' ≡ option_map (λ ps. set ps row bytes) pieces → bytes ≡ scratch' → row < row_count chip → here ≤ 32 → HasChipSizes g r → capacity' ≡ capacity → turned' ≡ turned + here → touched' ≡ touched + touches here
-    → losses' ≡ noted losses row lost → IsMade g r here lost scratch → Stands g chip row scratch turned touched losses capacity pieces → Stands g' chip (row + 1) scratch' turned' touched' losses' capacity' pieces'
+    → losses' ≡ noted losses row lost → IsPieceMade g r here lost scratch → CorrectingStands g chip row scratch turned touched losses capacity pieces → CorrectingStands g' chip (row + 1) scratch' turned' touched' losses' capacity' pieces'
 stands_put g g' chip row r scratch scratch' bytes turned touched losses turned' touched' losses' capacity capacity' here lost pieces pieces' same kept put is l few sizes room e f h made stands =
     let counted = noted_as g row r scratch here lost turned touched losses turned' touched' losses' made e f h in
     let after = stands_more g chip row r scratch scratch turned touched losses turned' touched' losses' capacity capacity' pieces l sizes made.piece stands.scratch_size (let t = made.turned_is in omega arith) room counted stands in
     let file : pieces' ≡ option_map (λ ps. set ps row scratch) pieces = put ∙ ap (λ b. option_map (λ ps. set ps row b) pieces) (is ∙ kept) in
-    subst (λ (k : Geometry). Stands k chip (row + 1) scratch' turned' touched' losses' capacity' pieces') (sym same)
-    (subst (λ x. Stands g chip (row + 1) x turned' touched' losses' capacity' pieces') (sym kept) (subst (λ x. Stands g chip (row + 1) scratch turned' touched' losses' capacity' x) (sym file) after))
+    subst (λ (k : Geometry). CorrectingStands k chip (row + 1) scratch' turned' touched' losses' capacity' pieces') (sym same)
+    (subst (λ x. CorrectingStands g chip (row + 1) x turned' touched' losses' capacity' pieces') (sym kept) (subst (λ x. CorrectingStands g chip (row + 1) scratch turned' touched' losses' capacity' x) (sym file) after))
 
 pub shows_put : (g g' chip : Geometry) (row : ℕ) (image : Image) (r : Page) (scratch scratch' bytes : List ℕ) (turned touched : ℕ) (losses : List Loss) (turned' touched' : ℕ) (losses' : List Loss) (here lost : ℕ) (pieces pieces' : Option (List (List ℕ)))
     → g' ≡ g → scratch' ≡ scratch → pieces' ≡ option_map (λ ps. set ps row bytes) pieces → bytes ≡ scratch' → row < row_count chip → IfSome pieces (λ ps. length ps ≡ row_count chip) → turned' ≡ turned + here → touched' ≡ touched + touches here
-    → losses' ≡ noted losses row lost → IsMade g r here lost scratch → Shows g row (take row image) pieces turned touched losses → slice_get image row ≡ Some r → Shows g' (row + 1) (take (row + 1) image) pieces' turned' touched' losses'
+    → losses' ≡ noted losses row lost → IsPieceMade g r here lost scratch → Shows g row (take row image) pieces turned touched losses → slice_get image row ≡ Some r → Shows g' (row + 1) (take (row + 1) image) pieces' turned' touched' losses'
 shows_put g g' chip row image r scratch scratch' bytes turned touched losses turned' touched' losses' here lost pieces pieces' same kept put is l size e f h made shown at =
     let counted = noted_as g row r scratch here lost turned touched losses turned' touched' losses' made e f h in
     let after = shows_next g row (row_count chip) image r pieces scratch turned touched losses turned' touched' losses' l size made.piece counted shown at in
@@ -158,7 +158,7 @@ shows_put g g' chip row image r scratch scratch' bytes turned touched losses tur
     subst (λ (k : Geometry). Shows k (row + 1) (take (row + 1) image) pieces' turned' touched' losses') (sym same)
     (subst (λ x. Shows g (row + 1) (take (row + 1) image) x turned' touched' losses') (sym file) after)
 
-pub made_by : (g : Geometry) (body spare : List ℕ) (turned lost : ℕ) (scratch : List ℕ) → scratch ≡ piece_of g (page body spare) → turned ≡ turned_bits g (page body spare) → lost ≡ lost_chunks g (page body spare) → IsMade g (page body spare) turned lost scratch
+pub made_by : (g : Geometry) (body spare : List ℕ) (turned lost : ℕ) (scratch : List ℕ) → scratch ≡ piece_of g (page body spare) → turned ≡ turned_bits g (page body spare) → lost ≡ lost_chunks g (page body spare) → IsPieceMade g (page body spare) turned lost scratch
 made_by g body spare turned lost scratch e f h = record { piece = e; turned_is = f; lost_is = h }
 
 pub sizes_by : (g chip : Geometry) (body spare : List ℕ) → IsChipOf g chip → length body ≡ chip.data_bytes → length spare ≡ chip.spare_bytes → HasChipSizes g (page body spare)

@@ -31,8 +31,8 @@ abbrev pub found_as : Bool → Fit → FoundFit
 found_as coded fit = record { fit = fit; coded = coded }
 
 -- ALL GEOMETRIES THAT FIT, as the dump stands and with codes
-unfoldable pub found_of : List ℕ → List FoundFit
-found_of all = map (found_as false) (fits_of all) ++ map (found_as true) (coded_fits all)
+unfoldable pub found_fits_of : List ℕ → List FoundFit
+found_fits_of all = map (found_as false) (fits_of all) ++ map (found_as true) (coded_fits all)
 
 -- which of two comes first: by what the dump says for them, and of two for which it says the same the one without codes
 abbrev pub found_rank : FoundFit → FoundFit → Ordering

@@ -25,7 +25,7 @@ abbrev pub loss_at : ℕ → ℕ → Option Loss
 loss_at row chunks = if chunks == 0 then None else Some (record { row = row; chunks = chunks })
 
 -- these bytes and counts are those of a page
-pub record IsMade (g : Geometry) (r : Page) (turned lost : ℕ) (scratch : List ℕ) : Type 0 where
+pub record IsPieceMade (g : Geometry) (r : Page) (turned lost : ℕ) (scratch : List ℕ) : Type 0 where
   pub piece : scratch ≡ piece_of g r
   pub turned_is : turned ≡ turned_bits g r
   pub lost_is : lost ≡ lost_chunks g r
@@ -64,7 +64,7 @@ pub record HasSeen (g : Geometry) (rows : ℕ) (pieces : Option (List (List ℕ)
   pub sized : All (HasChipSizes g) seen
   pub shows : Shows g rows seen pieces turned touched losses
 
-pub record Stands (g chip : Geometry) (rows : ℕ) (scratch : List ℕ) (turned touched : ℕ) (losses : List Loss) (capacity : ℕ) (pieces : Option (List (List ℕ))) : Type 0 where
+pub record CorrectingStands (g chip : Geometry) (rows : ℕ) (scratch : List ℕ) (turned touched : ℕ) (losses : List Loss) (capacity : ℕ) (pieces : Option (List (List ℕ))) : Type 0 where
   pub of : IsChipOf g chip
   pub scratch_size : length scratch ≡ page_bytes g
   pub few_turned : turned ≤ 32 * rows

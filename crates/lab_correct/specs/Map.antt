@@ -30,6 +30,6 @@ parts_below size losses zero = []
 parts_below size losses (suc n) = parts_below size losses n ++ loss_text size (next_row losses n) (row_at losses n)
 
 -- THE MAP of a dump with these losses
-abbrev pub map_text : Geometry → List Loss → List ℕ
-map_text g losses =
+abbrev pub loss_map_text : Geometry → List Loss → List ℕ
+loss_map_text g losses =
     map_head Dump ++ (parts_below (page_bytes g) losses (length losses) ++ part_text (page_bytes g) (next_row losses (length losses)) (row_count g) Finished)

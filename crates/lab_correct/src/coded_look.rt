@@ -2,7 +2,7 @@
 ghost use Rattle.std.specs.Prelude.{◌≡◌, ◌+◌, ◌≤◌, ◌/◌, List, ℕ, length, IfOk, OnErr, Some, true};
 ghost use Rattle.page_layout.specs.Geometry.{page_bytes, row_count};
 ghost use Rattle.lab_dump.specs.Sample.{sample_of};
-ghost use Rattle.lab_dump.specs.Told.{told_of};
+ghost use Rattle.lab_dump.specs.Told.{pages_told_of};
 ghost use Rattle.lab_correct.specs.Decoded.{decoded_bytes, raw_size};
 
 use crate::coded_page::read_decoded;
@@ -49,7 +49,7 @@ pub(crate) fn told_decoded<D: Dump>(
     requires raw_whole { length raw.old ≡ raw_size geometry.now.data_bytes geometry.now.spare_bytes }
     requires page_whole { length page.old ≡ page_bytes geometry.now }
     ensures told { IfOk result (λ told. (all : List ℕ) → D.bytes dump.old ≡ Some all → row_count geometry.now ≡ length all / raw_size geometry.now.data_bytes geometry.now.spare_bytes
-        → told ≡ told_of geometry.now.data_bytes geometry.now.spare_bytes (row_count geometry.now) (decoded_bytes geometry.now.data_bytes geometry.now.spare_bytes all)) }
+        → told ≡ pages_told_of geometry.now.data_bytes geometry.now.spare_bytes (row_count geometry.now) (decoded_bytes geometry.now.data_bytes geometry.now.spare_bytes all)) }
     ensures failed { OnErr result (D.failed dump.new ≡ true) }
     ensures same { D.bytes dump.new ≡ D.bytes dump.old }
 {

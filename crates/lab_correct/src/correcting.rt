@@ -3,7 +3,7 @@ ghost use Rattle.std.specs.Prelude.{◌≡◌, ◌<◌, ◌≤◌, ◌+◌, ◌^
 ghost use Rattle.page_layout.specs.Geometry.{row_count};
 ghost use Rattle.page_layout.specs.Page.{Page, Image};
 ghost use Rattle.page_code.specs.Near.{HasChipSizes};
-ghost use Rattle.lab_correct.specs.Correcting.{IsMade, Shows, Stands, noted, touches};
+ghost use Rattle.lab_correct.specs.Correcting.{CorrectingStands, IsPieceMade, Shows, noted, touches};
 
 use lab_dump::{PageTarget, Stopped, Taker};
 use page_code::{Tally, correct_page};
@@ -68,12 +68,12 @@ impl<T: PageTarget> Correcting<T> {
     fn put(&mut self, chip: &Geometry, row: u32, tally: Tally) -> Result<(), Stopped>
         requires row_in { row < row_count chip.now }
         requires few { tally.turned ≤ 32 }
-        requires stands { Stands self.old.geometry chip.now row self.old.scratch.items self.old.turned self.old.touched self.old.losses.items (vec_capacity self.old.losses) (T.pieces self.old.target) }
+        requires stands { CorrectingStands self.old.geometry chip.now row self.old.scratch.items self.old.turned self.old.touched self.old.losses.items (vec_capacity self.old.losses) (T.pieces self.old.target) }
         ensures failed { OnErr result (T.failed self.new.target ≡ true) }
-        ensures stands { OnOk result ((r : Page) → HasChipSizes self.old.geometry r → IsMade self.old.geometry r tally.turned tally.lost self.old.scratch.items
-            → Stands self.new.geometry chip.now (row + 1) self.new.scratch.items self.new.turned self.new.touched self.new.losses.items (vec_capacity self.new.losses) (T.pieces self.new.target)) }
+        ensures stands { OnOk result ((r : Page) → HasChipSizes self.old.geometry r → IsPieceMade self.old.geometry r tally.turned tally.lost self.old.scratch.items
+            → CorrectingStands self.new.geometry chip.now (row + 1) self.new.scratch.items self.new.turned self.new.touched self.new.losses.items (vec_capacity self.new.losses) (T.pieces self.new.target)) }
         ensures shows { OnOk result ((image : Image) (r : Page) → Shows self.old.geometry row (take row image) (T.pieces self.old.target) self.old.turned self.old.touched self.old.losses.items → slice_get image row ≡ Some r
-            → IsMade self.old.geometry r tally.turned tally.lost self.old.scratch.items
+            → IsPieceMade self.old.geometry r tally.turned tally.lost self.old.scratch.items
             → Shows self.new.geometry (row + 1) (take (row + 1) image) (T.pieces self.new.target) self.new.turned self.new.touched self.new.losses.items) }
     {
         self.note(row, tally);
@@ -88,9 +88,9 @@ impl<T: PageTarget> Taker for Correcting<T> {
     ghost use Rattle.std.specs.Prelude.{◌≡◌, ◌<◌, ◌+◌, ℕ, length, slice_get, take, true, vec_capacity, OnOk, OnErr, Some};
     ghost use Rattle.page_layout.specs.Geometry.{row_count};
     ghost use Rattle.page_layout.specs.Page.{Image, page};
-    ghost use Rattle.lab_correct.specs.Correcting.{Stands, Shows};
+    ghost use Rattle.lab_correct.specs.Correcting.{CorrectingStands, Shows};
 
-    ghost stands = { λ s chip rows. Stands s.geometry chip rows s.scratch.items s.turned s.touched s.losses.items (vec_capacity s.losses) (T.pieces s.target) };
+    ghost stands = { λ s chip rows. CorrectingStands s.geometry chip rows s.scratch.items s.turned s.touched s.losses.items (vec_capacity s.losses) (T.pieces s.target) };
 
     ghost shows = { λ s chip rows image. Shows s.geometry rows (take rows image) (T.pieces s.target) s.turned s.touched s.losses.items };
 

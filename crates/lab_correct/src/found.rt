@@ -2,7 +2,7 @@
 ghost use Rattle.std.specs.Prelude.{◌≡◌, ◌++◌, ◌+◌, ◌≤◌, List, ℕ, length, map, vec_capacity, IfOk, OnErr, Some, IsPermutation, true};
 ghost use Rattle.std.specs.List.Sorted.{IsSorted};
 ghost use Rattle.lab_dump.specs.declared.fit.Fit.{Fit};
-ghost use Rattle.lab_correct.specs.Coded.{ArePossible, found_as, found_of, found_rank};
+ghost use Rattle.lab_correct.specs.Coded.{ArePossible, found_as, found_fits_of, found_rank};
 ghost use Rattle.lab_correct.specs.FoundRoom.{IsFoundRoom};
 
 use crate::coded::add_coded;
@@ -80,7 +80,7 @@ pub fn find_all_geometries<D: Dump>(
     dump: &mut D,
 ) -> Result<Vec<FoundFit>, DumpFault>
     requires { IsFoundRoom room }
-    ensures found { IfOk result (λ found. (all : List ℕ) → D.bytes dump.old ≡ Some all → IsPermutation (found_of all) found.items) }
+    ensures found { IfOk result (λ found. (all : List ℕ) → D.bytes dump.old ≡ Some all → IsPermutation (found_fits_of all) found.items) }
     ensures ranked { IfOk result (λ found. IsSorted found_rank found.items) }
     ensures possible { IfOk result (λ found. ArePossible found.items) }
     ensures source { OnErr result (D.failed dump.new ≡ true) }

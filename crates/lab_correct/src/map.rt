@@ -2,7 +2,7 @@
 ghost use Rattle.std.specs.Prelude.{◌≡◌, ◌+◌, ◌*◌, ◌<◌, ◌≤◌, true, OnOk, OnErr, length};
 ghost use Rattle.std.specs.Io.KnownBytes.{Appends};
 ghost use Rattle.page_layout.specs.Geometry.{page_bytes};
-ghost use Rattle.lab_correct.specs.Map.{map_text, next_row, part_text, parts_below, row_at, loss_text};
+ghost use Rattle.lab_correct.specs.Map.{loss_map_text, next_row, part_text, parts_below, row_at, loss_text};
 
 use crate::correcting::Loss;
 use lab_dump::{Area, LineFault, MapMark, MapWriter, Remark, print_map_head};
@@ -103,7 +103,7 @@ pub fn print_losses<W: MapWriter>(
     geometry: &Geometry,
     losses: &[Loss],
 ) -> Result<(), LineFault>
-    ensures printed { OnOk result (Appends (W.contents out.old) (W.contents out.new) (map_text geometry.now losses.now)) }
+    ensures printed { OnOk result (Appends (W.contents out.old) (W.contents out.new) (loss_map_text geometry.now losses.now)) }
     ensures failed { OnErr result (W.failed out.new ≡ true) }
 {
     print_map_head(out, Remark::Dump)?;

@@ -5,7 +5,7 @@ use Rattle.std.proofs.lemmas.List.{map-append, take_more}
 use Rattle.std.proofs.lemmas.List.Elements.{All-append, All-cons, All-nil, All-weaker}
 use Rattle.lab_commands.specs.declared.files.Standing.TheVariants as standing
 use Rattle.lab_commands.specs.declared.document.ReportForm.{ReportForm}
-use Rattle.lab_commands.specs.Files.{Answers, AnswersNoMore, IsLoaded}
+use Rattle.lab_commands.specs.Files.{AnswersNoMore, IsLoaded, StoreAnswers}
 use Rattle.lab_commands.proofs.UndoneLemmas.{opened_before}
 use Rattle.lab_report.specs.declared.note.FileNote.{FileNote}
 use Rattle.lab_report.specs.Note.{Note, Told, note_of}
@@ -17,30 +17,30 @@ use Rattle.lab_custody.specs.declared.checks.Verdict.TheVariants as verdict
 use Rattle.lab_custody.specs.Verified.{AreAllChecked, OpensNone, looked_at}
 use Rattle.lab_custody.specs.Verify.{AreChecked, IsChecked, IsUnread, IsVerdict, ReadsNot, noted_in}
 
-not_read_before : (a b : Answers) (path : List ℕ) → AnswersNoMore a b → ReadsNot b path → ReadsNot a path
+not_read_before : (a b : StoreAnswers) (path : List ℕ) → AnswersNoMore a b → ReadsNot b path → ReadsNot a path
 not_read_before a b path h k = record {
   known = k.known;
   opened = opened_before a b path k.known h k.opened;
   cut = elim k.cut [ inl failed ↦ inl (h.reads_same failed) | inr long ↦ inr long ];
 }
 
-pub unread_before : (a b : Answers) (path : List ℕ) → AnswersNoMore a b → IsUnread b path → IsUnread a path
+pub unread_before : (a b : StoreAnswers) (path : List ℕ) → AnswersNoMore a b → IsUnread b path → IsUnread a path
 unread_before a b path h (inl (fault, fails)) = inl (fault, h.fails_same path fault fails)
 unread_before a b path h (inr (inl says)) = inr (inl (h.says_same path standing.Other says))
 unread_before a b path h (inr (inr not)) = inr (inr (not_read_before a b path h not))
 
 -- what is said of a file later is so before
-pub verdict_before : (a b : Answers) (note : Note) (v : Verdict) → AnswersNoMore a b → IsVerdict b note v → IsVerdict a note v
+pub verdict_before : (a b : StoreAnswers) (note : Note) (v : Verdict) → AnswersNoMore a b → IsVerdict b note v → IsVerdict a note v
 verdict_before a b note verdict.Same h k = record { known = k.known; opened = opened_before a b note.name k.known h k.opened; same = k.same }
 verdict_before a b note verdict.Differs h k = record { known = k.known; opened = opened_before a b note.name k.known h k.opened; other = k.other }
 verdict_before a b note verdict.Missing h k = h.says_same note.name standing.Nothing k
 verdict_before a b note verdict.Unread h k = unread_before a b note.name h k
 
-pub none_checked : (a : Answers) (before : List Checked) → AreChecked a [] before before
+pub none_checked : (a : StoreAnswers) (before : List Checked) → AreChecked a [] before before
 none_checked a before = record { more = []; longer = sym (append-nil before); each = All-nil (IsChecked a); noted = refl }
 
 -- one more
-pub one_checked : (a b : Answers) (notes : List FileNote) (i : ℕ) (note : FileNote) (before after longer : List Checked) (check : Checked) → i < length notes → note ≡ get_or notes i note
+pub one_checked : (a b : StoreAnswers) (notes : List FileNote) (i : ℕ) (note : FileNote) (before after longer : List Checked) (check : Checked) → i < length notes → note ≡ get_or notes i note
     → AnswersNoMore a b → AreChecked a (map note_of (take i notes)) before after → noted_in check ≡ note_of note → IsVerdict b (noted_in check) check.verdict → longer ≡ after ++ check ∷ []
     → AreChecked a (map note_of (take (i + 1) notes)) before longer
 one_checked a b notes i note before after longer check within at h k is said pushed = record {
@@ -53,7 +53,7 @@ one_checked a b notes i note before after longer check within at h k is said pus
 }
 
 -- those that were read, and those that were written
-pub all_checked : (a b : Answers) (told : Told) (none between checks : List Checked) → none ≡ [] → AnswersNoMore a b → AreChecked a told.read none between → AreChecked b told.wrote between checks → AreAllChecked a told checks
+pub all_checked : (a b : StoreAnswers) (told : Told) (none between checks : List Checked) → none ≡ [] → AnswersNoMore a b → AreChecked a told.read none between → AreChecked b told.wrote between checks → AreAllChecked a told checks
 all_checked a b told none between checks empty h first last =
     let front : between ≡ first.more = first.longer ∙ ap (λ l. l ++ first.more) empty in
     let all : checks ≡ first.more ++ last.more = last.longer ∙ ap (λ l. l ++ last.more) front in
@@ -63,14 +63,14 @@ all_checked a b told none between checks empty h first last =
     }
 
 -- what is said of all files later is so before
-pub all_before : (a b : Answers) (told : Told) (checks : List Checked) → AnswersNoMore a b → AreAllChecked b told checks → AreAllChecked a told checks
+pub all_before : (a b : StoreAnswers) (told : Told) (checks : List Checked) → AnswersNoMore a b → AreAllChecked b told checks → AreAllChecked a told checks
 all_before a b told checks h k = record {
   each = All-weaker (IsChecked b) (IsChecked a) (λ check s. verdict_before a b (noted_in check) check.verdict h s) checks k.each;
   noted = k.noted;
 }
 
 -- a file that was looked at is no report
-pub opens_none : (a : Answers) (path bytes given : List ℕ) → IsLoaded a path (2 ^ 26) bytes → given ≡ bytes → IsNoReport given → OpensNone a path
+pub opens_none : (a : StoreAnswers) (path bytes given : List ℕ) → IsLoaded a path (2 ^ 26) bytes → given ≡ bytes → IsNoReport given → OpensNone a path
 opens_none a path bytes given loaded same not = record { known = loaded.known; opened = loaded.opened; none = of_known loaded.known loaded.taken }
   where
     of_known : (known : Option (List ℕ)) → IfSome known (λ all. bytes ≡ take (2 ^ 26) all) → IfSome known (λ all. IsNoReport (looked_at all))

@@ -3,7 +3,7 @@ use Rattle.std.proofs.Common.{◌≡◌, ◌≢◌, ◌∙◌, ◌+◌, sym, ℕ
 use Rattle.std.specs.Prelude.{All, cond}
 use Rattle.std.proofs.lemmas.List.Elements.{All-cons, All-head, All-nil, All-tail}
 use Rattle.std.proofs.lemmas.List.Sums.{sum_by-cons}
-use Rattle.lab_commands.specs.Files.{Kept}
+use Rattle.lab_commands.specs.Files.{KeptFile}
 use Rattle.lab_custody.specs.declared.checks.Checked.{Checked}
 use Rattle.lab_custody.specs.declared.checks.Verdict.{Verdict}
 use Rattle.lab_custody.specs.declared.checks.Verdict.TheVariants as verdict
@@ -48,4 +48,4 @@ pub none_changed : NoneChanged
 none_changed checks = (each_same checks, none_changed_of checks)
 
 pub put_reads_back : PutReadsBack
-put_reads_back s path pieces over known h = h s.put [] (record { path = path; pieces = Some pieces; over = over }) refl refl (All-nil (λ (other : Kept). other.path ≢ path))
+put_reads_back s path pieces over known h = h s.put [] (record { path = path; pieces = Some pieces; over = over }) refl refl (All-nil (λ (other : KeptFile). other.path ≢ path))

@@ -8,7 +8,7 @@ use Rattle.json.specs.Print.{escape, escape_byte}
 use Rattle.lab_commands.specs.declared.document.ReportForm.{ReportForm}
 use Rattle.lab_commands.specs.declared.document.ReportForm.TheVariants.{Text, Json}
 use Rattle.lab_commands.specs.declared.output.OutputFault.{OutputFault}
-use Rattle.lab_commands.specs.Document.{Prints, Stops}
+use Rattle.lab_commands.specs.Document.{Prints, StopsPrinting}
 use Rattle.lab_commands.proofs.PrintLemmas.{prints_after, stops_after, stops_more}
 use Rattle.lab_custody.specs.declared.checks.Checked.{Checked}
 use Rattle.lab_custody.specs.declared.checks.Verdict.{Verdict}
@@ -27,13 +27,13 @@ one_put t one both single xs n d a b e within first last =
 
 -- where it stopped in one of them
 pub stopped_put : {X : Type 0} (t : List X → List ℕ) (one : X → List ℕ) → ((xs ys : List X) → t (xs ++ ys) ≡ t xs ++ t ys) → ((x : X) → t (x ∷ []) ≡ one x)
-    → (f : OutputFault) (broke : Bool) (xs : List X) (n : ℕ) (d : X) (a b e : Option (List ℕ)) → n < length xs → Appends a b (t (take n xs)) → Stops f broke b e (one (get_or xs n d)) → Stops f broke a e (t xs)
+    → (f : OutputFault) (broke : Bool) (xs : List X) (n : ℕ) (d : X) (a b e : Option (List ℕ)) → n < length xs → Appends a b (t (take n xs)) → StopsPrinting f broke b e (one (get_or xs n d)) → StopsPrinting f broke a e (t xs)
 stopped_put t one both single f broke xs n d a b e within first last =
     let is : t (take (n + 1) xs) ≡ t (take n xs) ++ one (get_or xs n d) =
     ap t (take_more xs n d within) ∙ (both (take n xs) (get_or xs n d ∷ []) ∙ ap (λ s. t (take n xs) ++ s) (single (get_or xs n d))) in
     let whole : t xs ≡ t (take (n + 1) xs) ++ t (drop (n + 1) xs) = ap t (sym (take-append-drop (n + 1) xs)) ∙ both (take (n + 1) xs) (drop (n + 1) xs) in
     let front = stops_after f broke a b e (t (take n xs)) (one (get_or xs n d)) first last in
-    subst (λ s. Stops f broke a e s) (sym whole) (stops_more f broke a e (t (take (n + 1) xs)) (t (drop (n + 1) xs)) (subst (λ s. Stops f broke a e s) (sym is) front))
+    subst (λ s. StopsPrinting f broke a e s) (sym whole) (stops_more f broke a e (t (take (n + 1) xs)) (t (drop (n + 1) xs)) (subst (λ s. StopsPrinting f broke a e s) (sym is) front))
 
 -- ---- the bytes of a name
 
@@ -66,12 +66,12 @@ parts_of_line Json verdict.Unread name = simp append_assoc
 
 -- ---- three parts, printed one after another
 
-pub first_of_three : (e : OutputFault) (broke : Bool) (a b : Option (List ℕ)) (x y z due front : List ℕ) → x ++ (y ++ z) ≡ due → front ≡ x → Stops e broke a b front → Stops e broke a b due
-first_of_three e broke a b x y z due front is begun stops = subst (λ t. Stops e broke a b t) is (stops_more e broke a b x (y ++ z) (subst (λ t. Stops e broke a b t) begun stops))
+pub first_of_three : (e : OutputFault) (broke : Bool) (a b : Option (List ℕ)) (x y z due front : List ℕ) → x ++ (y ++ z) ≡ due → front ≡ x → StopsPrinting e broke a b front → StopsPrinting e broke a b due
+first_of_three e broke a b x y z due front is begun stops = subst (λ t. StopsPrinting e broke a b t) is (stops_more e broke a b x (y ++ z) (subst (λ t. StopsPrinting e broke a b t) begun stops))
 
-pub second_of_three : (e : OutputFault) (broke : Bool) (a b d : Option (List ℕ)) (x y z due front : List ℕ) → x ++ (y ++ z) ≡ due → front ≡ x → Appends a b front → Stops e broke b d y → Stops e broke a d due
+pub second_of_three : (e : OutputFault) (broke : Bool) (a b d : Option (List ℕ)) (x y z due front : List ℕ) → x ++ (y ++ z) ≡ due → front ≡ x → Appends a b front → StopsPrinting e broke b d y → StopsPrinting e broke a d due
 second_of_three e broke a b d x y z due front is begun first stops =
-    subst (λ t. Stops e broke a d t) is (stops_after e broke a b d x (y ++ z) (subst (λ t. Appends a b t) begun first) (stops_more e broke b d y z stops))
+    subst (λ t. StopsPrinting e broke a d t) is (stops_after e broke a b d x (y ++ z) (subst (λ t. Appends a b t) begun first) (stops_more e broke b d y z stops))
 
 pub all_of_three : {T : Type 0} (broke : Bool) (a b d f : Option (List ℕ)) (x y z due front last : List ℕ) (r : Result T OutputFault) → x ++ (y ++ z) ≡ due → front ≡ x → last ≡ z → Appends a b front → Appends b d y
     → Prints broke d f last r → Prints broke a f due r

@@ -6,16 +6,16 @@ use Rattle.program_words.specs.Met.{texts}
 use Rattle.lab_commands.specs.declared.files.LabFileFault.TheVariants as file
 use Rattle.lab_commands.specs.declared.text.LabFault.{LabFault}
 use Rattle.lab_commands.specs.declared.text.LabFault.TheVariants as lab
-use Rattle.lab_commands.specs.Files.{Answers, AnswersNoMore, Store}
+use Rattle.lab_commands.specs.Files.{AnswersNoMore, Store, StoreAnswers}
 use Rattle.lab_commands.proofs.UndoneLemmas.{opened_before}
 use Rattle.lab_report.specs.declared.note.Noted.{Noted}
 use Rattle.lab_report.specs.Note.{Note, noted_of}
 use Rattle.lab_custody.specs.declared.fault.CustodyFault.{CustodyFault}
 use Rattle.lab_custody.specs.declared.fault.CustodyFault.TheVariants as fault
-use Rattle.lab_custody.specs.Reported.{AreNoted, IsNoted, IsSomeUnnoted, IsUnnoted, IsUnstored}
+use Rattle.lab_custody.specs.Reported.{AreNoted, IsFileNoted, IsSomeUnnoted, IsUnnoted, IsUnstored}
 use Rattle.lab_custody.proofs.CheckLemmas.{unread_before}
 
-noted_before : (a b : Answers) (kept : Option Store) (path : List ℕ) (note : Note) → AnswersNoMore a b → IsNoted b kept path note → IsNoted a kept path note
+noted_before : (a b : StoreAnswers) (kept : Option Store) (path : List ℕ) (note : Note) → AnswersNoMore a b → IsFileNoted b kept path note → IsFileNoted a kept path note
 noted_before a b kept path note h k = record {
   name_is = k.name_is;
   known = k.known;
@@ -24,26 +24,26 @@ noted_before a b kept path note h k = record {
   content = k.content;
 }
 
-are_noted_more : (a : Answers) (kept : Option Store) (paths : List (List ℕ)) (notes : List Note) (path : List ℕ) (note : Note) → AreNoted a kept paths notes → IsNoted a kept path note → AreNoted a kept (paths ++ path ∷ []) (notes ++ note ∷ [])
+are_noted_more : (a : StoreAnswers) (kept : Option Store) (paths : List (List ℕ)) (notes : List Note) (path : List ℕ) (note : Note) → AreNoted a kept paths notes → IsFileNoted a kept path note → AreNoted a kept (paths ++ path ∷ []) (notes ++ note ∷ [])
 are_noted_more a kept [] [] path note are is = (is, tt)
 are_noted_more a kept [] (n ∷ ns) path note are is = absurd are
 are_noted_more a kept (p ∷ ps) [] path note are is = absurd are
 are_noted_more a kept (p ∷ ps) (n ∷ ns) path note are is = (are.0, are_noted_more a kept ps ns path note are.1 is)
 
 -- one more file
-pub one_noted : (a b : Answers) (kept later : Option Store) (paths : List (Bor (List ℕ))) (i : ℕ) (d : Bor (List ℕ)) (notes longer : List Noted) (note : Noted) → i < length paths
-    → AnswersNoMore a b → later ≡ kept → AreNoted a kept (texts (take i paths)) (map noted_of notes) → IsNoted b later (get_or paths i d).now (noted_of note) → longer ≡ notes ++ note ∷ []
+pub one_noted : (a b : StoreAnswers) (kept later : Option Store) (paths : List (Bor (List ℕ))) (i : ℕ) (d : Bor (List ℕ)) (notes longer : List Noted) (note : Noted) → i < length paths
+    → AnswersNoMore a b → later ≡ kept → AreNoted a kept (texts (take i paths)) (map noted_of notes) → IsFileNoted b later (get_or paths i d).now (noted_of note) → longer ≡ notes ++ note ∷ []
     → AreNoted a kept (texts (take (i + 1) paths)) (map noted_of longer)
 one_noted a b kept later paths i d notes longer note within h same are is pushed =
     let at : texts (take (i + 1) paths) ≡ texts (take i paths) ++ (get_or paths i d).now ∷ [] =
     ap texts (take_more paths i d within) ∙ map-append (λ (w : Bor (List ℕ)). w.now) (take i paths) (get_or paths i d ∷ []) in
     let noted : map noted_of longer ≡ map noted_of notes ++ noted_of note ∷ [] = ap (map noted_of) pushed ∙ map-append noted_of notes (note ∷ []) in
-    let here : IsNoted a kept (get_or paths i d).now (noted_of note) =
-    noted_before a b kept (get_or paths i d).now (noted_of note) h (subst (λ k. IsNoted b k (get_or paths i d).now (noted_of note)) same is) in
+    let here : IsFileNoted a kept (get_or paths i d).now (noted_of note) =
+    noted_before a b kept (get_or paths i d).now (noted_of note) h (subst (λ k. IsFileNoted b k (get_or paths i d).now (noted_of note)) same is) in
     subst (λ ps. AreNoted a kept ps (map noted_of longer)) (sym at) (subst (λ ns. AreNoted a kept (texts (take i paths) ++ (get_or paths i d).now ∷ []) ns) (sym noted)
     (are_noted_more a kept (texts (take i paths)) (map noted_of notes) (get_or paths i d).now (noted_of note) are here))
 
-unnoted_before : (a b : Answers) (path : List ℕ) (told : CustodyFault) → AnswersNoMore a b → IsUnnoted b path told → IsUnnoted a path told
+unnoted_before : (a b : StoreAnswers) (path : List ℕ) (told : CustodyFault) → AnswersNoMore a b → IsUnnoted b path told → IsUnnoted a path told
 unnoted_before a b path (fault.Lab (lab.Read word)) h k = (k.0, unread_before a b path h k.1)
 unnoted_before a b path (fault.Lab lab.OutOfMemory) h k = h.fails_same path file.OutOfMemory k
 unnoted_before a b path _ h k = absurd k
@@ -55,7 +55,7 @@ path_in (p ∷ ps) zero d within = refl
 path_in (p ∷ ps) (suc i) d within = path_in ps i d (omega arith)
 
 -- one that is not noted
-pub some_unnoted : (a b : Answers) (paths : List (Bor (List ℕ))) (i : ℕ) (d : Bor (List ℕ)) (told : CustodyFault) → i < length paths → AnswersNoMore a b → IsUnnoted b (get_or paths i d).now told → IsSomeUnnoted a (texts paths) told
+pub some_unnoted : (a b : StoreAnswers) (paths : List (Bor (List ℕ))) (i : ℕ) (d : Bor (List ℕ)) (told : CustodyFault) → i < length paths → AnswersNoMore a b → IsUnnoted b (get_or paths i d).now told → IsSomeUnnoted a (texts paths) told
 some_unnoted a b paths i d told within h k =
     let size : length (texts paths) ≡ length paths = length-map paths (λ (w : Bor (List ℕ)). w.now) in
     let inside : i < length (texts paths) = omega arith in (
@@ -64,14 +64,14 @@ some_unnoted a b paths i d told within h k =
       subst (λ path. IsUnnoted a path told) (sym (path_in paths i d within)) (unnoted_before a b (get_or paths i d).now told h k),
     )
 
-pub unstored_before : (a b : Answers) (path : List ℕ) (told : CustodyFault) → AnswersNoMore a b → IsUnstored b path told → IsUnstored a path told
+pub unstored_before : (a b : StoreAnswers) (path : List ℕ) (told : CustodyFault) → AnswersNoMore a b → IsUnstored b path told → IsUnstored a path told
 unstored_before a b path fault.ReportExists h k = h.taken_same path k
 unstored_before a b path (fault.Lab (lab.Write word)) h k = (k.0, h.fails_same path file.Failed k.1)
 unstored_before a b path (fault.Lab lab.OutOfMemory) h k = tt
 unstored_before a b path _ h k = absurd k
 
 -- one more file that is not that of the report
-pub others_more : {F : Type 0} (answers : F → Answers) (old now : F) (paths : List (Bor (List ℕ))) (i : ℕ) (d : Bor (List ℕ)) (file : List ℕ) (b : Bool) → now ≡ old → i < length paths → d ≡ get_or paths i d → b ≡ false
+pub others_more : {F : Type 0} (answers : F → StoreAnswers) (old now : F) (paths : List (Bor (List ℕ))) (i : ℕ) (d : Bor (List ℕ)) (file : List ℕ) (b : Bool) → now ≡ old → i < length paths → d ≡ get_or paths i d → b ≡ false
     → (answers now).says_same d.now file b → ((k : ℕ) → k < i → (answers old).says_same (get_or (texts paths) k []) file false) → (k : ℕ) → k < i + 1 → (answers old).says_same (get_or (texts paths) k []) file false
 others_more answers old now paths i d file b same within at is said before =
     let there : get_or (texts paths) i [] ≡ d.now = path_in paths i d within ∙ ap (λ (w : Bor (List ℕ)). w.now) (sym at) in

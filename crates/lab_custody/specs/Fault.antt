@@ -10,9 +10,9 @@ use Rattle.lab_custody.specs.declared.fault.CustodyFault.TheVariants as fault
 abbrev pub TellsLine : List ℕ → (broke : Bool) → Option (List ℕ) → Option (List ℕ) → ℕ → Type 0
 TellsLine line broke before after status = ((status ≡ 1) × Appends before after line) ⊎ ((status ≡ 3) × (broke ≡ true) × AppendsPart before after line)
 
-abbrev pub IsTold : CustodyFault → (broke : Bool) → Option (List ℕ) → Option (List ℕ) → ℕ → Type 0
-IsTold fault.NotReport broke before after status = TellsLine (codes "refused verify 1 NotReport\n") broke before after status
-IsTold fault.Changed broke before after status = TellsLine (codes "refused verify 2 Changed\n") broke before after status
-IsTold fault.ReportExists broke before after status = TellsLine (codes "refused report 1 Exists\n") broke before after status
-IsTold fault.ReportIsOut broke before after status = TellsLine (codes "refused report 2 IsOut\n") broke before after status
-IsTold (fault.Lab told) broke before after status = lab.IsTold told broke before after status
+abbrev pub IsCustodyFaultTold : CustodyFault → (broke : Bool) → Option (List ℕ) → Option (List ℕ) → ℕ → Type 0
+IsCustodyFaultTold fault.NotReport broke before after status = TellsLine (codes "refused verify 1 NotReport\n") broke before after status
+IsCustodyFaultTold fault.Changed broke before after status = TellsLine (codes "refused verify 2 Changed\n") broke before after status
+IsCustodyFaultTold fault.ReportExists broke before after status = TellsLine (codes "refused report 1 Exists\n") broke before after status
+IsCustodyFaultTold fault.ReportIsOut broke before after status = TellsLine (codes "refused report 2 IsOut\n") broke before after status
+IsCustodyFaultTold (fault.Lab told) broke before after status = lab.IsLabFaultTold told broke before after status

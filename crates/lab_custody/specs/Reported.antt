@@ -4,7 +4,7 @@ use Rattle.program_words.specs.Grammar.{version_text}
 use Rattle.lab_commands.specs.declared.files.LabFileFault.TheVariants as file
 use Rattle.lab_commands.specs.declared.files.Standing.TheVariants as standing
 use Rattle.lab_commands.specs.declared.text.LabFault.TheVariants as lab
-use Rattle.lab_commands.specs.Files.{Answers, IsAsPut, IsOpened, Stands, Store}
+use Rattle.lab_commands.specs.Files.{IsAsPut, IsFileOpened, StandsAtPath, Store, StoreAnswers}
 use Rattle.lab_report.specs.Note.{Note, Told}
 use Rattle.lab_custody.specs.declared.fault.CustodyFault.{CustodyFault}
 use Rattle.lab_custody.specs.declared.fault.CustodyFault.TheVariants as fault
@@ -13,47 +13,47 @@ use Rattle.lab_custody.specs.Verify.{IsStill, IsUnread}
 -- ---- whether it may be written
 
 -- a file that is to be written was asked about, and that failed
-abbrev pub IsUnasked : Answers → List ℕ → CustodyFault → Type 0
-IsUnasked a path (fault.Lab (lab.Write told)) = (told.now ≡ path) × a.fails path file.Failed
-IsUnasked a path (fault.Lab lab.OutOfMemory) = a.fails path file.OutOfMemory
-IsUnasked a path _ = ⊥
+abbrev pub HasAskingFailed : StoreAnswers → List ℕ → CustodyFault → Type 0
+HasAskingFailed a path (fault.Lab (lab.Write told)) = (told.now ≡ path) × a.fails path file.Failed
+HasAskingFailed a path (fault.Lab lab.OutOfMemory) = a.fails path file.OutOfMemory
+HasAskingFailed a path _ = ⊥
 
 -- nothing stands at its path, and it is none of the files that the command writes
-pub record MayReport (a : Answers) (path : List ℕ) (wrote : List (List ℕ)) : Type 0 where
+pub record MayReport (a : StoreAnswers) (path : List ℕ) (wrote : List (List ℕ)) : Type 0 where
   pub free : a.says path standing.Nothing
   pub others : (i : ℕ) → i < length wrote → a.says_same (get_or wrote i []) path false
 
 -- something stands there, or it is one of them, or they could not be asked
-abbrev pub MayNotReport : Answers → List ℕ → List (List ℕ) → CustodyFault → Type 0
-MayNotReport a path wrote fault.ReportExists = Stands a path
+abbrev pub MayNotReport : StoreAnswers → List ℕ → List (List ℕ) → CustodyFault → Type 0
+MayNotReport a path wrote fault.ReportExists = StandsAtPath a path
 MayNotReport a path wrote fault.ReportIsOut = (i : ℕ) × (i < length wrote) × a.says_same (get_or wrote i []) path true
-MayNotReport a path wrote told = IsUnasked a path told ⊎ ((i : ℕ) × (i < length wrote) × IsUnasked a (get_or wrote i []) told)
+MayNotReport a path wrote told = HasAskingFailed a path told ⊎ ((i : ℕ) × (i < length wrote) × HasAskingFailed a (get_or wrote i []) told)
 
 -- ---- what it says of files
 
 -- A FILE OF THIS PATH WAS READ WHOLE, and where its bytes are known the note is of these: its name, how many they are and their SHA-256. Of a file that was put
 -- in its place before these are the bytes that were put there
-pub record IsNoted (a : Answers) (kept : Option Store) (path : List ℕ) (note : Note) : Type 0 where
+pub record IsFileNoted (a : StoreAnswers) (kept : Option Store) (path : List ℕ) (note : Note) : Type 0 where
   pub name_is : note.name ≡ path
   pub known : Option (List ℕ)
-  pub opened : IsOpened a path known
+  pub opened : IsFileOpened a path known
   pub as_put : IsAsPut kept path known
   pub content : IfSome known (IsStill note)
 
 -- each of these files, one after another
-abbrev pub AreNoted : Answers → Option Store → List (List ℕ) → List Note → Type 0
+abbrev pub AreNoted : StoreAnswers → Option Store → List (List ℕ) → List Note → Type 0
 AreNoted a kept [] [] = Unit {0}
 AreNoted a kept [] (note ∷ notes) = ⊥
 AreNoted a kept (path ∷ paths) [] = ⊥
-AreNoted a kept (path ∷ paths) (note ∷ notes) = IsNoted a kept path note × AreNoted a kept paths notes
+AreNoted a kept (path ∷ paths) (note ∷ notes) = IsFileNoted a kept path note × AreNoted a kept paths notes
 
 -- one was not read whole, or the files had no memory to open it
-abbrev pub IsUnnoted : Answers → List ℕ → CustodyFault → Type 0
+abbrev pub IsUnnoted : StoreAnswers → List ℕ → CustodyFault → Type 0
 IsUnnoted a path (fault.Lab (lab.Read told)) = (told.now ≡ path) × IsUnread a path
 IsUnnoted a path (fault.Lab lab.OutOfMemory) = a.fails path file.OutOfMemory
 IsUnnoted a path _ = ⊥
 
-abbrev pub IsSomeUnnoted : Answers → List (List ℕ) → CustodyFault → Type 0
+abbrev pub IsSomeUnnoted : StoreAnswers → List (List ℕ) → CustodyFault → Type 0
 IsSomeUnnoted a paths told = (i : ℕ) × (i < length paths) × IsUnnoted a (get_or paths i []) told
 
 -- ---- the report
@@ -63,7 +63,7 @@ abbrev pub told_of_run : List (List ℕ) → List Note → List Note → Told
 told_of_run words read wrote = record { program = codes "nandlab"; version = version_text; words = words; read = read; wrote = wrote }
 
 -- it was not put in its place: a call failed, memory was refused, or another file has its name meanwhile
-abbrev pub IsUnstored : Answers → List ℕ → CustodyFault → Type 0
+abbrev pub IsUnstored : StoreAnswers → List ℕ → CustodyFault → Type 0
 IsUnstored a path fault.ReportExists = a.taken path
 IsUnstored a path (fault.Lab (lab.Write told)) = (told.now ≡ path) × a.fails path file.Failed
 IsUnstored a path (fault.Lab lab.OutOfMemory) = Unit {0}

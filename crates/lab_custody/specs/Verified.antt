@@ -5,7 +5,7 @@ use Rattle.request_stream.specs.Frames.{AppendsPart}
 use Rattle.lab_commands.specs.declared.document.ReportForm.{ReportForm}
 use Rattle.lab_commands.specs.declared.document.ReportForm.TheVariants.{Text, Json}
 use Rattle.lab_commands.specs.declared.text.LabFault.TheVariants as lab
-use Rattle.lab_commands.specs.Files.{Answers, IsOpened}
+use Rattle.lab_commands.specs.Files.{IsFileOpened, StoreAnswers}
 use Rattle.lab_commands.specs.Undone.{IsUnread}
 use Rattle.lab_report.specs.Note.{Told}
 use Rattle.lab_report.specs.Reading.{IsNoReport, report_in}
@@ -23,19 +23,19 @@ abbrev pub looked_at : List ℕ → List ℕ
 looked_at bytes = take (2 ^ 26) bytes
 
 -- the file's bytes, as far as they are known, say this report
-pub record IsReportAt (a : Answers) (path : List ℕ) (told : Told) : Type 0 where
+pub record IsReportAt (a : StoreAnswers) (path : List ℕ) (told : Told) : Type 0 where
   pub known : Option (List ℕ)
-  pub opened : IsOpened a path known
+  pub opened : IsFileOpened a path known
   pub says : IfSome known (λ bytes. report_in (looked_at bytes) ≡ Some told)
 
 -- they say none
-pub record OpensNone (a : Answers) (path : List ℕ) : Type 0 where
+pub record OpensNone (a : StoreAnswers) (path : List ℕ) : Type 0 where
   pub known : Option (List ℕ)
-  pub opened : IsOpened a path known
+  pub opened : IsFileOpened a path known
   pub none : IfSome known (λ bytes. IsNoReport (looked_at bytes))
 
 -- there is none, or memory for it was refused
-abbrev pub IsNoReportAt : Answers → List ℕ → CustodyFault → Type 0
+abbrev pub IsNoReportAt : StoreAnswers → List ℕ → CustodyFault → Type 0
 IsNoReportAt a path fault.NotReport = OpensNone a path
 IsNoReportAt a path (fault.Lab (lab.Read told)) = IsUnread a path (lab.Read told)
 IsNoReportAt a path (fault.Lab lab.OutOfMemory) = Unit {0}
@@ -44,7 +44,7 @@ IsNoReportAt a path _ = ⊥
 -- ---- done
 
 -- this is said of the files of a report, one after another
-pub record AreAllChecked (a : Answers) (told : Told) (checks : List Checked) : Type 0 where
+pub record AreAllChecked (a : StoreAnswers) (told : Told) (checks : List Checked) : Type 0 where
   pub each : All (IsChecked a) checks
   pub noted : map noted_in checks ≡ told.read ++ told.wrote
 
@@ -52,13 +52,13 @@ abbrev pub form_of : VerifyWords → ReportForm
 form_of words = if words.json then Json else Text
 
 -- the file is a report, and this is said of its files
-pub record HasVerified (a : Answers) (words : VerifyWords) (checks : List Checked) : Type 0 where
+pub record HasVerified (a : StoreAnswers) (words : VerifyWords) (checks : List Checked) : Type 0 where
   pub report : Told
   pub report_is : IsReportAt a words.report.now report
   pub checked : AreAllChecked a report checks
 
 -- and was printed; all are the same
-pub record ToldVerified (a : Answers) (words : VerifyWords) (out printed : Option (List ℕ)) : Type 0 where
+pub record ToldVerified (a : StoreAnswers) (words : VerifyWords) (out printed : Option (List ℕ)) : Type 0 where
   pub checks : List Checked
   pub has : HasVerified a words checks
   pub same : changed_count checks ≡ 0
@@ -73,7 +73,7 @@ IsHalfTold broke out printed due changed (fault.Lab (lab.Write told)) = (told.no
 IsHalfTold broke out printed due changed _ = ⊥
 
 -- there is no report, or memory was refused: before another file was opened, and nothing was printed; or the files were checked
-abbrev pub IsVerifyFault : Answers → VerifyWords → (opens opened : Option ℕ) → (broke : Bool) → Option (List ℕ) → Option (List ℕ) → CustodyFault → Type 0
+abbrev pub IsVerifyFault : StoreAnswers → VerifyWords → (opens opened : Option ℕ) → (broke : Bool) → Option (List ℕ) → Option (List ℕ) → CustodyFault → Type 0
 IsVerifyFault a words opens opened broke out printed told =
     (Keeps out printed × (opened ≡ option_map suc opens) × IsNoReportAt a words.report.now told)
     ⊎ ((checks : List Checked) × HasVerified a words checks × IsHalfTold broke out printed (verify_text (form_of words) checks) (changed_count checks) told)

@@ -1,5 +1,5 @@
 //! What the program says when a report was not written, or when files of one are not the same: one line, and the exit status.
-ghost use Rattle.lab_custody.specs.Fault.{IsTold, TellsLine};
+ghost use Rattle.lab_custody.specs.Fault.{IsCustodyFaultTold, TellsLine};
 
 use lab_commands::{LabFault, Output, tell as tell_lab};
 use std::alloc::{AllocError, Global};
@@ -48,7 +48,7 @@ fn tell_line<E: Output>(line: &str, err: &mut E) -> u8
 /// Writes the fault's line to `err`, with a line feed, and answers its exit status: 3 where a write failed, and a beginning of the line stands there
 /// then, or nothing. (The lines and the statuses are this project's.)
 pub(crate) fn tell<E: Output>(alloc: Global, fault: &CustodyFault<'_>, err: &mut E) -> u8
-    ensures { IsTold fault.now (E.failed err.new) (E.contents err.old) (E.contents err.new) result }
+    ensures { IsCustodyFaultTold fault.now (E.failed err.new) (E.contents err.old) (E.contents err.new) result }
 {
     match fault {
         CustodyFault::NotReport => tell_line("refused verify 1 NotReport\n", err),

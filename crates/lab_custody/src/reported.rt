@@ -4,7 +4,7 @@ ghost use Rattle.program_words.specs.Met.{texts};
 ghost use Rattle.lab_commands.specs.Files.{AnswersNoMore, with_kept};
 ghost use Rattle.lab_report.specs.Note.{named_as, noted_of};
 ghost use Rattle.lab_report.specs.Written.{report_text};
-ghost use Rattle.lab_custody.specs.Reported.{AreNoted, IsNoted, IsSomeUnnoted, IsUnasked, IsUnnoted, IsUnstored, MayNotReport, MayReport, told_of_run};
+ghost use Rattle.lab_custody.specs.Reported.{AreNoted, HasAskingFailed, IsFileNoted, IsSomeUnnoted, IsUnnoted, IsUnstored, MayNotReport, MayReport, told_of_run};
 
 use crate::fault::CustodyFault;
 use crate::hashing::read_content;
@@ -43,7 +43,7 @@ fn is_report<'a, F: LabFiles>(
     file: &str,
 ) -> Result<bool, CustodyFault<'a>>
     ensures said { IfOk result ((F.answers files.old).says_same out.now file.now) }
-    ensures fault { IfErr result (IsUnasked (F.answers files.old) out.now) }
+    ensures fault { IfErr result (HasAskingFailed (F.answers files.old) out.now) }
     ensures same { files.new ≡ files.old }
 {
     match files.is_same(out, file) {
@@ -117,7 +117,7 @@ fn note_file<'a, F: LabFiles>(
     buffer: &mut [u8],
 ) -> Result<Content, CustodyFault<'a>>
     requires { 0 < length buffer.old }
-    ensures noted { IfOk result (λ content. IsNoted (F.answers files.old) (F.kept files.old) path.now (named_as path.now content)) }
+    ensures noted { IfOk result (λ content. IsFileNoted (F.answers files.old) (F.kept files.old) path.now (named_as path.now content)) }
     ensures fault { IfErr result (IsUnnoted (F.answers files.old) path.now) }
     ensures no_more { AnswersNoMore (F.answers files.old) (F.answers files.new) }
     ensures kept { F.kept files.new ≡ F.kept files.old }

@@ -18,7 +18,7 @@ use Rattle.certificate.specs.Claim.{Claim}
 use Rattle.lab_dump.specs.declared.trace.Trace.{Trace}
 use Rattle.lab_dump.specs.declared.trace.Trace.TheVariants.{Never, Once, Tied}
 use Rattle.lab_dump.specs.Doubting.{HasTraces}
-use Rattle.lab_dump.specs.Lost.{is_there, is_lost_by, said_row, is_lost, lost_of}
+use Rattle.lab_dump.specs.Lost.{is_there, is_lost_by, said_row, is_lost, lost_sectors_of}
 use Rattle.lab_dump.specs.Trace.{Tells, lost_in}
 
 -- ---- in the end
@@ -47,8 +47,8 @@ told_more c traces n lost x h within is = record {
     below i n l ne = elim (cases_order i n) [ inl same ↦ absurd (ne same) | inr (inl less) ↦ less | inr (inr more) ↦ absurd (omega arith) ]
 
 pub lost_told : (g : Geometry) (c : Claim) (image : Image) (traces : List Trace) (lost : List Bool) → length image ≡ row_count g → length lost ≡ g.sectors
-    → ((n : ℕ) → n < length lost → get_or lost n false ≡ lost_in (said_row c n) c.next (get_or traces n Never)) → HasTraces g (marks image) (row_count g) traces → lost ≡ lost_of c g.sectors image
-unfolding lost_of is_lost
+    → ((n : ℕ) → n < length lost → get_or lost n false ≡ lost_in (said_row c n) c.next (get_or traces n Never)) → HasTraces g (marks image) (row_count g) traces → lost ≡ lost_sectors_of c g.sectors image
+unfolding lost_sectors_of is_lost
 lost_told g c image traces lost size few each told =
     let f : ℕ → Bool = is_lost c image in
     same_lists lost (map f (range_with_len 0 g.sectors)) (few ∙ sym (length-map-range_with_len f 0 g.sectors)) (λ n d l.

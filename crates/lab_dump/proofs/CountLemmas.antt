@@ -17,7 +17,7 @@ use Rattle.page_layout.specs.Sound.{record_of, is_erased_page, code_of}
 use Rattle.page_layout.proofs.RecordLemmas.{erased_no_record}
 use Rattle.page_layout.specs.Block.{is_broken}
 use Rattle.lab_dump.specs.declared.counts.PageCounts.{PageCounts}
-use Rattle.lab_dump.specs.Count.{AreFew, HasUnsound, SortsLaw, no_counts, one, counts_of, counted, is_of_kind, is_outside, is_last, is_broken_page, is_unsound_in, unsound_below}
+use Rattle.lab_dump.specs.Count.{AreFew, HasUnsound, SortsLaw, no_counts, one, page_counts_of, counted, is_of_kind, is_outside, is_last, is_broken_page, is_unsound_in, unsound_below}
 
 -- ---- counts
 
@@ -34,8 +34,8 @@ count_more test image row p is = by_test (test p) refl
 pub counted_more : (test : Page → Bool) (image : Image) (row : ℕ) (p : Page) (old more : ℕ) → slice_get image row ≡ Some p → old ≡ count_by test (take row image) → more ≡ one (test p) → old + more ≡ count_by test (take (row + 1) image)
 counted_more test image row p old more is before now = ap (λ k. k + more) before ∙ (ap (λ k. count_by test (take row image) + k) now ∙ sym (count_more test image row p is))
 
-pub counts_more : (g : Geometry) (image : Image) (row : ℕ) (p : Page) (c new : PageCounts) → slice_get image row ≡ Some p → c ≡ counts_of g (take row image) → new ≡ counted g c (record_of p) (is_erased_page p) → new ≡ counts_of g (take (row + 1) image)
-unfolding counts_of
+pub counts_more : (g : Geometry) (image : Image) (row : ℕ) (p : Page) (c new : PageCounts) → slice_get image row ≡ Some p → c ≡ page_counts_of g (take row image) → new ≡ counted g c (record_of p) (is_erased_page p) → new ≡ page_counts_of g (take (row + 1) image)
+unfolding page_counts_of
 counts_more g image row p c new is old e =
     let a1 = count_more (λ q. is_of_kind kind.Sector (record_of q)) image row p is in
     let a2 = count_more (λ q. is_of_kind kind.Trim (record_of q)) image row p is in
@@ -47,12 +47,12 @@ counts_more g image row p c new is old e =
     let a8 = count_more (λ q. is_last (record_of q)) image row p is in
     e ∙ (ap (λ k. counted g k (record_of p) (is_erased_page p)) old ∙ rw (a1, a2, a3, a4, a5, a6, a7, a8) refl)
 
-pub counts_none : (g : Geometry) (image : Image) (c : PageCounts) → c ≡ no_counts → c ≡ counts_of g (take 0 image)
-unfolding counts_of
+pub counts_none : (g : Geometry) (image : Image) (c : PageCounts) → c ≡ no_counts → c ≡ page_counts_of g (take 0 image)
+unfolding page_counts_of
 counts_none g image c e = e
 
-pub counts_whole : (g : Geometry) (image : Image) (rows : ℕ) (c : PageCounts) → length image ≡ rows → c ≡ counts_of g (take rows image) → c ≡ counts_of g image
-counts_whole g image rows c size e = e ∙ ap (counts_of g) (ap (λ n. take n image) (sym size) ∙ take-length image)
+pub counts_whole : (g : Geometry) (image : Image) (rows : ℕ) (c : PageCounts) → length image ≡ rows → c ≡ page_counts_of g (take rows image) → c ≡ page_counts_of g image
+counts_whole g image rows c size e = e ∙ ap (page_counts_of g) (ap (λ n. take n image) (sym size) ∙ take-length image)
 
 one_le : (b : Bool) → one b ≤ 1
 one_le true = omega arith
@@ -182,7 +182,7 @@ sort_one (Some r) true h = absurd (let clash : Some r ≡ None = h refl in cc)
 sort_one (Some r) false h = let k = kind_one r.kind in omega arith
 
 pub sorts : SortsLaw
-unfolding counts_of
+unfolding page_counts_of
 sorts g image c e = rw e (sum image)
   where
     sum : (ps : List Page) → count_by (λ p. is_of_kind kind.Sector (record_of p)) ps + count_by (λ p. is_of_kind kind.Trim (record_of p)) ps + count_by (λ p. is_of_kind kind.Translation (record_of p)) ps + count_by (λ p. is_of_kind kind.Table (record_of p)) ps + count_by is_erased_page ps + count_by is_broken ps ≡ length ps

@@ -27,7 +27,7 @@ use Rattle.lab_dump.specs.declared.look.Look.{Look}
 use Rattle.lab_dump.specs.declared.look.Look.TheVariants.{Sound, Erased, Unsound}
 use Rattle.lab_dump.specs.Pages.{page_at}
 use Rattle.lab_dump.specs.Sample.{look_at}
-use Rattle.lab_dump.specs.Told.{blocks_of, sectors_of, blocks_by, sectors_by, blocks_at, sectors_at, greatest, told_of}
+use Rattle.lab_dump.specs.Told.{blocks_of, sectors_of, blocks_by, sectors_by, blocks_at, sectors_at, greatest, pages_told_of}
 use Rattle.lab_dump.specs.declared.told.PagesTold.{PagesTold}
 use Rattle.lab_dump.specs.FitLaws.{IsWithin, WithinLaw, PageLaw, LookedLaw, LookedRiseLaw, LookedAllLaw, GreatestLaw, LowerLaw, TableLaw, ShortLaw, FewerLaw}
 use Rattle.lab_dump.specs.declared.fit.TableSays.TheVariants.{Agrees, Short, Silent, Differs}
@@ -152,11 +152,11 @@ kind_within kind.Translation n entries body t size blocks sectors = omega arith
 kind_within kind.Table n entries body t size blocks sectors = let place : n * (length body / 4) ≡ n * entries = ap (λ k. n * k) size in omega arith
 
 pub within_law : WithinLaw
-unfolding told_of
+unfolding pages_told_of
 within_law d s rows all row r whole l e =
     let blocks = no_greater (blocks_at d s all) rows row l in
     let sectors = no_greater (sectors_at d s all) rows row l in
-    kind_within r.kind r.number (d / 4) (page_at d s all row).body (told_of d s rows all) (ap (λ n. n / 4) (body_size d s rows row all whole l))
+    kind_within r.kind r.number (d / 4) (page_at d s all row).body (pages_told_of d s rows all) (ap (λ n. n / 4) (body_size d s rows row all whole l))
     (subst (λ look. blocks_by look (page_at d s all row).body ≤ greatest (blocks_at d s all) rows) e blocks)
     (subst (λ look. sectors_by look (d / 4) ≤ greatest (sectors_at d s all) rows) e sectors)
 
@@ -180,7 +180,7 @@ look_lower g Erased keys = omega arith
 look_lower g Unsound keys = omega arith
 
 pub lower_law : LowerLaw
-unfolding told_of
+unfolding pages_told_of
 lower_law g all keys = elim (some_greatest (sectors_at g.data_bytes g.spare_bytes all) (row_count g)) [
   | inl none ↦ omega (arith, none)
   | inr found ↦

@@ -11,7 +11,7 @@ use Rattle.lab_dump.specs.declared.sample.Sample.{Sample}
 use Rattle.lab_dump.specs.declared.told.PagesTold.{PagesTold}
 use Rattle.page_layout.specs.Geometry.{row_count}
 use Rattle.lab_dump.specs.Sample.{sample_of}
-use Rattle.lab_dump.specs.Told.{told_of}
+use Rattle.lab_dump.specs.Told.{pages_told_of}
 use Rattle.lab_dump.specs.Shape.{page_counts, rows_of, has_shape}
 use Rattle.lab_dump.specs.Fits.{fit_of, sectors_from, shape_fits, area_fits, IsPossible, Adds}
 use Rattle.lab_dump.proofs.SampleLemmas.{range_last}
@@ -70,10 +70,10 @@ positive zero h = absurd (h refl)
 positive (suc n) h = grind arith
 
 pub area_when : (all : List ℕ) (d s : ℕ) (shaped sounds : Bool) → has_shape (length all) d s ≡ shaped → nat_lt 0 (sample_of d s (rows_of (length all) d s) all).sound ≡ sounds
-    → area_fits all d s ≡ (if shaped && sounds then flat_map (shape_fits (length all) d s (sample_of d s (rows_of (length all) d s) all) (told_of d s (rows_of (length all) d s) all)) page_counts else [])
+    → area_fits all d s ≡ (if shaped && sounds then flat_map (shape_fits (length all) d s (sample_of d s (rows_of (length all) d s) all) (pages_told_of d s (rows_of (length all) d s) all)) page_counts else [])
 unfolding area_fits
 area_when all d s shaped sounds a b =
-    let fits : List Fit = flat_map (shape_fits (length all) d s (sample_of d s (rows_of (length all) d s) all) (told_of d s (rows_of (length all) d s) all)) page_counts in
+    let fits : List Fit = flat_map (shape_fits (length all) d s (sample_of d s (rows_of (length all) d s) all) (pages_told_of d s (rows_of (length all) d s) all)) page_counts in
     ap (λ x. if x && nat_lt 0 (sample_of d s (rows_of (length all) d s) all).sound then fits else []) a ∙ ap (λ x. if shaped && x then fits else []) b
 
 no_right : (a : Bool) → (a && false) ≡ false
@@ -97,9 +97,9 @@ sample_here : (g : Geometry) (size d s : ℕ) (all : List ℕ) (x : Sample) → 
 sample_here g size d s all x like size_is e =
     e ∙ (ap (λ k. sample_of k g.spare_bytes (row_count g) all) like.data_is ∙ (ap (λ k. sample_of d k (row_count g) all) like.spare_is ∙ ap (λ k. sample_of d s k all) (like.rows_is ∙ ap (λ n. rows_of n d s) size_is)))
 
-told_here : (g : Geometry) (size d s : ℕ) (all : List ℕ) (x : PagesTold) → IsAsOf g size d s → size ≡ length all → x ≡ told_of g.data_bytes g.spare_bytes (row_count g) all → x ≡ told_of d s (rows_of (length all) d s) all
+told_here : (g : Geometry) (size d s : ℕ) (all : List ℕ) (x : PagesTold) → IsAsOf g size d s → size ≡ length all → x ≡ pages_told_of g.data_bytes g.spare_bytes (row_count g) all → x ≡ pages_told_of d s (rows_of (length all) d s) all
 told_here g size d s all x like size_is e =
-    e ∙ (ap (λ k. told_of k g.spare_bytes (row_count g) all) like.data_is ∙ (ap (λ k. told_of d k (row_count g) all) like.spare_is ∙ ap (λ k. told_of d s k all) (like.rows_is ∙ ap (λ n. rows_of n d s) size_is)))
+    e ∙ (ap (λ k. pages_told_of k g.spare_bytes (row_count g) all) like.data_is ∙ (ap (λ k. pages_told_of d k (row_count g) all) like.spare_is ∙ ap (λ k. pages_told_of d s k all) (like.rows_is ∙ ap (λ n. rows_of n d s) size_is)))
 
 pub area_unsound : (g : Geometry) (size d s : ℕ) (all : List ℕ) (sample : Sample) (items : List Fit) → IsAsOf g size d s → size ≡ length all → has_shape size d s ≡ true
     → sample ≡ sample_of g.data_bytes g.spare_bytes (row_count g) all → sample.sound ≡ 0 → items ≡ items ++ area_fits all d s
@@ -108,7 +108,7 @@ area_unsound g size d s all sample items like size_is shaped is none =
     nothing_more items (area_fits all d s) (area_when all d s true false (ap (λ n. has_shape n d s) (sym size_is) ∙ shaped) (ap (nat_lt 0) (ap (λ x. x.sound) (sym here) ∙ none)))
 
 pub area_is : (g : Geometry) (size d s : ℕ) (all : List ℕ) (sample : Sample) (told : PagesTold) (items new : List Fit) → IsAsOf g size d s → size ≡ length all → has_shape size d s ≡ true
-    → sample ≡ sample_of g.data_bytes g.spare_bytes (row_count g) all → told ≡ told_of g.data_bytes g.spare_bytes (row_count g) all → ¬ (sample.sound ≡ 0)
+    → sample ≡ sample_of g.data_bytes g.spare_bytes (row_count g) all → told ≡ pages_told_of g.data_bytes g.spare_bytes (row_count g) all → ¬ (sample.sound ≡ 0)
     → new ≡ items ++ flat_map (shape_fits size d s sample told) page_counts → new ≡ items ++ area_fits all d s
 area_is g size d s all sample told items new like size_is shaped is told_is some e =
     let here = sample_here g size d s all sample like size_is is in

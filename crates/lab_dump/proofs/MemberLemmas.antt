@@ -14,10 +14,10 @@ use Rattle.lab_dump.specs.declared.fit.Fit.{Fit}
 use Rattle.lab_dump.specs.declared.sample.Sample.{Sample}
 use Rattle.lab_dump.specs.declared.told.PagesTold.{PagesTold}
 use Rattle.lab_dump.specs.Sample.{looked_count, looked_row, look_at, is_sound, looked_by, sample_of}
-use Rattle.lab_dump.specs.Told.{told_of}
+use Rattle.lab_dump.specs.Told.{pages_told_of}
 use Rattle.lab_dump.specs.Shape.{data_sizes, page_counts, rows_of, are_blocks, is_shape, has_shape}
 use Rattle.lab_dump.specs.Fits.{fit_of, shape_fits, area_fits, data_fits, fits_of}
-use Rattle.lab_dump.specs.FitLaws.{IsFit, FitLaw, OwnLaw}
+use Rattle.lab_dump.specs.FitLaws.{IsFit, FitLaw, OwnGeometryLaw}
 use Rattle.lab_dump.proofs.SampleLemmas.{one, count_last}
 use Rattle.lab_dump.proofs.ShapeLemmas.{all_sizes, all_counts, size_among, count_among, contains_head, contains_more}
 use Rattle.lab_dump.proofs.FitLemmas.{area_when, within}
@@ -106,11 +106,11 @@ is_shaped size d s p b some_d some_p blocks e =
 
 -- the fit of these numbers, by the rows that they come to
 abbrev pub fit_at : List ℕ → ℕ → ℕ → ℕ → ℕ → Fit
-fit_at all d s p b = fit_of d s p b (sample_of d s (b * p) all) (told_of d s (b * p) all)
+fit_at all d s p b = fit_of d s p b (sample_of d s (b * p) all) (pages_told_of d s (b * p) all)
 
 is_fit : (all : List ℕ) (d s p b : ℕ) (f : Fit) → IsDataSize d → IsSpareSize s → IsPageCount p → IsBlockCount d p b → length all ≡ b * p * (d + s) → 0 < (sample_of d s (b * p) all).sound → f ≡ fit_at all d s p b → IsFit all f
 is_fit all d s p b f sized spare pages blocks size some e = subst (IsFit all) (sym e) (record {
-  limits = record { data_size = sized; spare_size = spare; page_count = pages; block_count = blocks; sector_count = within (told_of d s (b * p) all).sectors };
+  limits = record { data_size = sized; spare_size = spare; page_count = pages; block_count = blocks; sector_count = within (pages_told_of d s (b * p) all).sectors };
   whole = size;
   evidence = refl;
   some_sound = some;
@@ -127,7 +127,7 @@ from_fits all f h =
     let n : ℕ = length all in
     let rows : ℕ = rows_of n d s in
     let sample : Sample = sample_of d s rows all in
-    let told : PagesTold = told_of d s rows all in
+    let told : PagesTold = pages_told_of d s rows all in
     let chosen = from_choice (has_shape n d s && nat_lt 0 sample.sound) (flat_map (shape_fits n d s sample told) page_counts) f
     (subst (λ l. Contains l f) (area_when all d s (has_shape n d s) (nat_lt 0 sample.sound) refl refl) by_spare.2) in
     let tests = and_parts (has_shape n d s) (nat_lt 0 sample.sound) chosen.0 in
@@ -138,7 +138,7 @@ from_fits all f h =
     let is : f ≡ fit_of d s p (rows / p) sample told = only_one (fit_of d s p (rows / p) sample told) f one.1 in
     is_fit all d s p (rows / p) f (All-contains IsDataSize data_sizes d all_sizes by_data.1) (record { least = spare.0; most = omega (arith, spare.1) }) (All-contains IsPageCount page_counts p all_counts by_pages.1) numbers.blocks
     (numbers.whole ∙ ap (λ k. k * (d + s)) numbers.rows_is) (subst (λ k. 0 < (sample_of d s k all).sound) numbers.rows_is (ltb-true 0 sample.sound tests.1))
-    (is ∙ ap (λ k. fit_of d s p (rows / p) (sample_of d s k all) (told_of d s k all)) numbers.rows_is)
+    (is ∙ ap (λ k. fit_of d s p (rows / p) (sample_of d s k all) (pages_told_of d s k all)) numbers.rows_is)
 
 into_fits : (all : List ℕ) (f : Fit) → IsFit all f → Contains (fits_of all) f
 unfolding fits_of data_fits
@@ -152,12 +152,12 @@ into_fits all f h =
     let rows_is : rows ≡ b * p = rows_are n b p (d + s) (let least = h.limits.data_size.least in omega arith) h.whole in
     let count : rows / p ≡ b = ap (λ k. k / p) rows_is ∙ mul-div_cancel b (let least = h.limits.page_count.least in omega arith) in
     let sample : Sample = sample_of d s rows all in
-    let told : PagesTold = told_of d s rows all in
+    let told : PagesTold = pages_told_of d s rows all in
     let shape : is_shape n d s p ≡ true = is_shaped n d s p b (let least = h.limits.data_size.least in omega arith) (let least = h.limits.page_count.least in omega arith) h.limits.block_count h.whole in
     let among = count_among p h.limits.page_count in
     let sound_is : f.sound.0 ≡ sample.sound = ap (λ x. x.sound.0) h.evidence ∙ ap (λ k. (sample_of d s k all).sound) (sym rows_is) in
     let some : 0 < sample.sound = subst (λ k. 0 < k) sound_is h.some_sound in
-    let is : f ≡ fit_of d s p (rows / p) sample told = h.evidence ∙ (ap (λ k. fit_of d s p b (sample_of d s k all) (told_of d s k all)) (sym rows_is) ∙ ap (λ k. fit_of d s p k sample told) (sym count)) in
+    let is : f ≡ fit_of d s p (rows / p) sample told = h.evidence ∙ (ap (λ k. fit_of d s p b (sample_of d s k all) (pages_told_of d s k all)) (sym rows_is) ∙ ap (λ k. fit_of d s p k sample told) (sym count)) in
     let one : Contains (shape_fits n d s sample told p) f = into_choice (is_shape n d s p) (fit_of d s p (rows / p) sample told ∷ []) f shape (subst (λ g. Contains (g ∷ []) f) is (contains_head f [])) in
     let pieces : Contains (flat_map (shape_fits n d s sample told) page_counts) f = into_piece (shape_fits n d s sample told) page_counts p f among one in
     let chosen = into_choice (has_shape n d s && nat_lt 0 sample.sound) (flat_map (shape_fits n d s sample told) page_counts) f
@@ -184,7 +184,7 @@ sound_some : (d s rows place : ℕ) (all : List ℕ) → place < looked_count ro
 unfolding sample_of looked_by
 sound_some d s rows place all l e = count_some (λ k. is_sound (look_at d s all (looked_row rows k))) (looked_count rows) place l e
 
-pub own_law : OwnLaw
+pub own_law : OwnGeometryLaw
 own_law g all place size l sound =
     let f : Fit = fit_at all g.data_bytes g.spare_bytes g.pages g.blocks in
     let fit = is_fit all g.data_bytes g.spare_bytes g.pages g.blocks f g.limits.data_size g.limits.spare_size g.limits.page_count g.limits.block_count size

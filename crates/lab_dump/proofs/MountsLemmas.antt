@@ -23,7 +23,7 @@ use Rattle.image_check.proofs.PartLemmas.{mark_within}
 use Rattle.image_check.proofs.MountableLemmas.{mountable}
 use Rattle.lab_dump.specs.declared.counts.PageCounts.{PageCounts}
 use Rattle.lab_dump.specs.declared.survey.DieSurvey.{DieSurvey}
-use Rattle.lab_dump.specs.Count.{counts_of, is_in_range, is_outside, is_last}
+use Rattle.lab_dump.specs.Count.{page_counts_of, is_in_range, is_outside, is_last}
 use Rattle.lab_dump.specs.Surveyed.{HasNoReason, IsSurveyed, MountsLaw, RepeatsAs}
 use Rattle.lab_dump.proofs.KeyLemmas.{found_of, place_found}
 
@@ -108,12 +108,12 @@ last_none image h = none_all (λ p. is_last (record_of p)) image (λ row p is. b
 
 -- ---- the counts of a survey
 
-pub outside_is : (g : Geometry) (image : Image) (c : PageCounts) → c ≡ counts_of g image → c.outside ≡ count_by (λ p. is_outside g (record_of p)) image
-unfolding counts_of
+pub outside_is : (g : Geometry) (image : Image) (c : PageCounts) → c ≡ page_counts_of g image → c.outside ≡ count_by (λ p. is_outside g (record_of p)) image
+unfolding page_counts_of
 outside_is g image c e = ap (λ x. x.outside) e
 
-pub last_is : (g : Geometry) (image : Image) (c : PageCounts) → c ≡ counts_of g image → c.last ≡ count_by (λ p. is_last (record_of p)) image
-unfolding counts_of
+pub last_is : (g : Geometry) (image : Image) (c : PageCounts) → c ≡ page_counts_of g image → c.last ≡ count_by (λ p. is_last (record_of p)) image
+unfolding page_counts_of
 last_is g image c e = ap (λ x. x.last) e
 
 apart : (image : Image) (o : Option (ℕ × ℕ)) → RepeatsAs (marks image) o → AreDistinct (marks image) → o ≡ None

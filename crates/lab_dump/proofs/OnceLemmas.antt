@@ -8,7 +8,7 @@ use Rattle.lab_dump.specs.declared.fit.Fit.{Fit}
 use Rattle.lab_dump.specs.declared.sample.Sample.{Sample}
 use Rattle.lab_dump.specs.declared.told.PagesTold.{PagesTold}
 use Rattle.lab_dump.specs.Sample.{sample_of}
-use Rattle.lab_dump.specs.Told.{told_of}
+use Rattle.lab_dump.specs.Told.{pages_told_of}
 use Rattle.lab_dump.specs.Shape.{data_sizes, page_counts, rows_of, is_shape, has_shape}
 use Rattle.lab_dump.specs.Fits.{fit_of, shape_fits, area_fits, data_fits, fits_of}
 use Rattle.lab_dump.specs.FitLaws.{has_numbers, OnceLaw}
@@ -130,7 +130,7 @@ area_none : (all : List ℕ) (d s p x y : ℕ) → (x ≢ d) ⊎ (y ≢ s) → c
 area_none all d s p x y ne =
     let n : ℕ = length all in
     let sample : Sample = sample_of x y (rows_of n x y) all in
-    let told : PagesTold = told_of x y (rows_of n x y) all in
+    let told : PagesTold = pages_told_of x y (rows_of n x y) all in
     let pieces = no_pieces (has_numbers d s p) (shape_fits n x y sample told) page_counts (λ z. shape_none d s p n x y z sample told (wider z ne)) in
     ap (count_by (has_numbers d s p)) (area_when all x y (has_shape n x y) (nat_lt 0 sample.sound) refl refl)
     ∙ choice_none (has_numbers d s p) (has_shape n x y && nat_lt 0 sample.sound) (flat_map (shape_fits n x y sample told) page_counts) pieces
@@ -143,7 +143,7 @@ area_one : (all : List ℕ) (d s p : ℕ) → count_by (has_numbers d s p) (area
 area_one all d s p =
     let n : ℕ = length all in
     let sample : Sample = sample_of d s (rows_of n d s) all in
-    let told : PagesTold = told_of d s (rows_of n d s) all in
+    let told : PagesTold = pages_told_of d s (rows_of n d s) all in
     let pieces = one_piece (has_numbers d s p) (shape_fits n d s sample told) p 0 page_counts counts_rise (λ z ne. shape_none d s p n d s z sample told (inr (inr ne))) (shape_one d s p n d s p sample told) in
     subst (λ l. count_by (has_numbers d s p) l ≤ 1) (sym (area_when all d s (has_shape n d s) (nat_lt 0 sample.sound) refl refl))
     (choice_one (has_numbers d s p) (has_shape n d s && nat_lt 0 sample.sound) (flat_map (shape_fits n d s sample told) page_counts) pieces)

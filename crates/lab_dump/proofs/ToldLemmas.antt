@@ -17,7 +17,7 @@ use Rattle.lab_dump.specs.declared.look.Look.{Look}
 use Rattle.lab_dump.specs.declared.told.PagesTold.{PagesTold}
 use Rattle.lab_dump.specs.Pages.{page_at}
 use Rattle.lab_dump.specs.Sample.{look_at}
-use Rattle.lab_dump.specs.Told.{words_used, blocks_of, sectors_of, blocks_by, sectors_by, blocks_at, sectors_at, greatest, told_of, raised, most_by}
+use Rattle.lab_dump.specs.Told.{words_used, blocks_of, sectors_of, blocks_by, sectors_by, blocks_at, sectors_at, greatest, pages_told_of, raised, most_by}
 use Rattle.lab_dump.proofs.SampleLemmas.{one, count_last}
 
 -- ---- words
@@ -39,17 +39,17 @@ greatest_more : (f : ℕ → ℕ) (n : ℕ) → greatest f (n + 1) ≡ max (grea
 unfolding greatest
 greatest_more f n = let next : n + 1 ≡ suc n = omega arith in ap (greatest f) next
 
-pub told_none : (d s : ℕ) (all : List ℕ) (t : PagesTold) → t ≡ record { blocks = 0; sectors = 0 } → t ≡ told_of d s 0 all
-unfolding told_of greatest
+pub told_none : (d s : ℕ) (all : List ℕ) (t : PagesTold) → t ≡ record { blocks = 0; sectors = 0 } → t ≡ pages_told_of d s 0 all
+unfolding pages_told_of greatest
 told_none d s all t e = e
 
-pub told_more : (d s row : ℕ) (all body : List ℕ) (t new : PagesTold) (look : Look) → t ≡ told_of d s row all → look ≡ look_at d s all row → body ≡ (page_at d s all row).body → length body ≡ d
-    → new ≡ raised t look body → new ≡ told_of d s (row + 1) all
-unfolding told_of
+pub told_more : (d s row : ℕ) (all body : List ℕ) (t new : PagesTold) (look : Look) → t ≡ pages_told_of d s row all → look ≡ look_at d s all row → body ≡ (page_at d s all row).body → length body ≡ d
+    → new ≡ raised t look body → new ≡ pages_told_of d s (row + 1) all
+unfolding pages_told_of
 told_more d s row all body t new look old is there size e =
     let a = greatest_more (blocks_at d s all) row in
     let b = greatest_more (sectors_at d s all) row in
-    e ∙ (ap (λ k. raised k look body) old ∙ (ap (λ k. raised (told_of d s row all) k body) is ∙ (rw (a, b) (
+    e ∙ (ap (λ k. raised k look body) old ∙ (ap (λ k. raised (pages_told_of d s row all) k body) is ∙ (rw (a, b) (
     ap (λ n. record { blocks = max (greatest (blocks_at d s all) row) (blocks_by (look_at d s all row) body); sectors = max (greatest (sectors_at d s all) row) (sectors_by (look_at d s all row) (n / 4)) }) size
     ∙ ap (λ x. record { blocks = max (greatest (blocks_at d s all) row) (blocks_by (look_at d s all row) x); sectors = max (greatest (sectors_at d s all) row) (sectors_at d s all row) }) there))))
 

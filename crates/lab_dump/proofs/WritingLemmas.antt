@@ -29,7 +29,7 @@ use Rattle.lab_dump.specs.declared.held.Held.TheVariants.{Never}
 use Rattle.lab_dump.specs.declared.held.Change.{Change}
 use Rattle.lab_dump.specs.declared.held.Change.TheVariants.{Stays, Newest, Tie}
 use Rattle.lab_dump.specs.Held.{Tells, Moves, pieces_after}
-use Rattle.lab_dump.specs.Writing.{content_below, AreSized, HoldsSector, ReadBelow, Stands, Shows, sector_in, sector_within}
+use Rattle.lab_dump.specs.Writing.{content_below, AreSized, HoldsSector, ReadBelow, WritingStands, Shows, sector_in, sector_within}
 use Rattle.lab_dump.specs.Damaged.{Place, Whole, Broken, SaysSector, content_in, place_by}
 
 -- ---- what a page is
@@ -286,7 +286,7 @@ nothing_yet g image said reads pieces blank = record {
       ∙ ap (λ l. content_in g image reads (place_by latest.Never l)) (latest_start said (key.Sector n)))));
 }
 
-pub stands_first : (g : Geometry) (pieces : Option (List (List ℕ))) → IfSome pieces (λ ps. ps ≡ replicate g.sectors (zeros g)) → Stands g (replicate g.sectors Never) (zeros g) pieces
+pub stands_first : (g : Geometry) (pieces : Option (List (List ℕ))) → IfSome pieces (λ ps. ps ≡ replicate g.sectors (zeros g)) → WritingStands g (replicate g.sectors Never) (zeros g) pieces
 stands_first g pieces blank = record {
   size = length-replicate g.sectors Never;
   blank_is = refl;

@@ -30,9 +30,9 @@ use Rattle.lab_dump.specs.declared.doubting.Doubting.{Doubting}
 use Rattle.lab_dump.specs.declared.doubts.Unsettled.{Unsettled}
 use Rattle.lab_dump.specs.Doubting.{IsDoubting}
 use Rattle.lab_dump.specs.Until.{until}
-use Rattle.lab_dump.specs.Writing.{content_below, AreSized, ReadBelow, Stands, ShowsDamaged, ShowsSound}
+use Rattle.lab_dump.specs.Writing.{content_below, AreSized, ReadBelow, WritingStands, ShowsDamaged, ShowsSound}
 use Rattle.lab_dump.specs.Damaged.{content_in, damaged_array, damaged_sector, over, place_by, placed, said_marks, said_reads, shown_place}
-use Rattle.lab_dump.specs.Written.{IsLeft, IsWritten, TiedLaw, UnmarkedLaw, damaged_state, damaged_states, state_of, states_of}
+use Rattle.lab_dump.specs.Written.{IsLeftUnsettled, IsWritten, TiedLaw, UnmarkedLaw, damaged_state, damaged_states, state_of, states_of}
 use Rattle.lab_dump.proofs.UntilLemmas.{until_size}
 
 -- ---- the pieces
@@ -120,8 +120,8 @@ states_damaged g last image hs size few told = all_told g (damaged_state g last 
 
 -- ---- all of it
 
-pub written_sound : (g : Geometry) (last : Option ℕ) (hs : List Held) (blank : List ℕ) (d : Doubting) (left : Unsettled) (pieces : Option (List (List ℕ))) (bytes : List ℕ) → Stands g hs blank pieces
-    → ((image : Image) → length image ≡ row_count g → IsDoubting g (row_count g) image d → IsLeft g image left)
+pub written_sound : (g : Geometry) (last : Option ℕ) (hs : List Held) (blank : List ℕ) (d : Doubting) (left : Unsettled) (pieces : Option (List (List ℕ))) (bytes : List ℕ) → WritingStands g hs blank pieces
+    → ((image : Image) → length image ≡ row_count g → IsDoubting g (row_count g) image d → IsLeftUnsettled g image left)
     → IsTaken g (λ image. ShowsSound g (row_count g) (until g last image) hs pieces × IsDoubting g (row_count g) image d) bytes → IsWritten g last false pieces hs left bytes
 written_sound g last hs blank d left pieces bytes stands concluded taken =
     let raw : Image = raw_image g bytes in
@@ -136,8 +136,8 @@ written_sound g last hs blank d left pieces bytes stands concluded taken =
       left_is = concluded raw whole taken.shown.1;
     }
 
-pub written_damaged : (g : Geometry) (last : Option ℕ) (hs : List Held) (blank : List ℕ) (d : Doubting) (left : Unsettled) (pieces : Option (List (List ℕ))) (bytes : List ℕ) → Stands g hs blank pieces
-    → ((image : Image) → length image ≡ row_count g → IsDoubting g (row_count g) image d → IsLeft g image left)
+pub written_damaged : (g : Geometry) (last : Option ℕ) (hs : List Held) (blank : List ℕ) (d : Doubting) (left : Unsettled) (pieces : Option (List (List ℕ))) (bytes : List ℕ) → WritingStands g hs blank pieces
+    → ((image : Image) → length image ≡ row_count g → IsDoubting g (row_count g) image d → IsLeftUnsettled g image left)
     → IsTaken g (λ image. ShowsDamaged g (row_count g) last image hs pieces × IsDoubting g (row_count g) image d) bytes → IsWritten g last true pieces hs left bytes
 written_damaged g last hs blank d left pieces bytes stands concluded taken =
     let raw : Image = raw_image g bytes in

@@ -11,12 +11,12 @@ use Rattle.lab_dump.specs.Said.{said_of}
 use Rattle.lab_dump.specs.declared.compare.Compared.{Compared}
 use Rattle.lab_dump.specs.declared.compare.CompareFault.{CompareFault}
 use Rattle.lab_dump.specs.declared.compare.CompareFault.TheVariants as fault
-use Rattle.lab_dump.specs.Lost.{lost_of}
+use Rattle.lab_dump.specs.Lost.{lost_sectors_of}
 
 -- The bytes are as many as an image has. Of the image that they are, the sectors that have lost a page are told, what pages say, and its doubts.
 pub record IsComparedTo (g : Geometry) (c : Claim) (told : Compared) (bytes : List ℕ) : Type 0 where
   pub whole : length bytes ≡ image_bytes g
-  pub lost_are : told.lost.items ≡ lost_of c g.sectors (raw_image g bytes)
+  pub lost_are : told.lost.items ≡ lost_sectors_of c g.sectors (raw_image g bytes)
   pub said_is : told.left.said.items ≡ said_of g (raw_image g bytes)
   pub legible_is : told.left.legible ≡ legible_of g (raw_image g bytes)
   pub doubts_is : told.left.doubts ≡ doubts_of g (raw_image g bytes)

@@ -41,8 +41,8 @@ is_last (Some r) = not (nat_lt r.sequence (2 ^ 64 - 1))
 
 -- how many pages are sound and of each kind, how many erased, how many neither, and of the sound ones how many have a number out of range and
 -- how many the last sequence
-unfoldable pub counts_of : Geometry → Image → PageCounts
-counts_of g image = record {
+unfoldable pub page_counts_of : Geometry → Image → PageCounts
+page_counts_of g image = record {
   sectors = count_by (λ p. is_of_kind kind.Sector (record_of p)) image;
   trims = count_by (λ p. is_of_kind kind.Trim (record_of p)) image;
   translations = count_by (λ p. is_of_kind kind.Translation (record_of p)) image;
@@ -111,4 +111,4 @@ unsound_in g image block = unsound_below g image (length image) block
 
 -- each page is of one sort, and one alone
 abbrev pub SortsLaw : Type 0
-SortsLaw = (g : Geometry) (image : Image) → (c : PageCounts) → c ≡ counts_of g image → c.sectors + c.trims + c.translations + c.tables + c.erased + c.unsound ≡ length image
+SortsLaw = (g : Geometry) (image : Image) → (c : PageCounts) → c ≡ page_counts_of g image → c.sectors + c.trims + c.translations + c.tables + c.erased + c.unsound ≡ length image

@@ -51,7 +51,7 @@ pub record HasHoles (g : Geometry) (image : Image) (rows : ℕ) (items : List �
 -- ---- together
 
 -- its parts have the sizes of the geometry, and no count is past the rows, whatever the pages were
-pub record Stands (g : Geometry) (rows : ℕ) (d : Doubting) : Type 0 where
+pub record DoubtingStands (g : Geometry) (rows : ℕ) (d : Doubting) : Type 0 where
   pub traces : length d.traces.items ≡ key_count g
   pub tables : length d.tables.items ≡ table_pages g * g.data_bytes
   pub unsound : length d.unsound.items ≡ g.blocks

@@ -17,7 +17,7 @@ use Rattle.lab_dump.specs.declared.fit.Fit.{Fit}
 use Rattle.lab_dump.specs.declared.told.PagesTold.{PagesTold}
 use Rattle.lab_dump.specs.Pages.{page_at}
 use Rattle.lab_dump.specs.Sample.{looked_count, looked_row, look_at, is_sound, sample_of}
-use Rattle.lab_dump.specs.Told.{blocks_of, greatest, told_of}
+use Rattle.lab_dump.specs.Told.{blocks_of, greatest, pages_told_of}
 use Rattle.std.specs.declared.cmp.Ordering.TheVariants.{Less}
 use Rattle.lab_dump.specs.declared.fit.TableSays.TheVariants.{Short}
 use Rattle.lab_dump.specs.Fits.{fit_of, fits_of, missing_pages, rank, table_says}
@@ -29,7 +29,7 @@ use Rattle.lab_dump.specs.Fits.{fit_of, fits_of, missing_pages, rank, table_says
 pub record IsFit (all : List ℕ) (f : Fit) : Type 0 where
   pub limits : IsWithinLimits f.data_bytes f.spare_bytes f.pages f.blocks f.sectors
   pub whole : length all ≡ f.blocks * f.pages * (f.data_bytes + f.spare_bytes)
-  pub evidence : f ≡ fit_of f.data_bytes f.spare_bytes f.pages f.blocks (sample_of f.data_bytes f.spare_bytes (f.blocks * f.pages) all) (told_of f.data_bytes f.spare_bytes (f.blocks * f.pages) all)
+  pub evidence : f ≡ fit_of f.data_bytes f.spare_bytes f.pages f.blocks (sample_of f.data_bytes f.spare_bytes (f.blocks * f.pages) all) (pages_told_of f.data_bytes f.spare_bytes (f.blocks * f.pages) all)
   pub some_sound : 0 < f.sound.0
 
 -- those that fit are just these: none whose every page that was looked at is unsound
@@ -52,8 +52,8 @@ pub record IsShapedAs (g : Geometry) (f : Fit) : Type 0 where
   pub blocks_is : f.blocks ≡ g.blocks
 
 -- a die's own geometry fits its dump where a page of it that is looked at is sound
-abbrev pub OwnLaw : Type 0
-OwnLaw = (g : Geometry) (all : List ℕ) (place : ℕ) → length all ≡ row_count g * page_bytes g → place < looked_count (row_count g)
+abbrev pub OwnGeometryLaw : Type 0
+OwnGeometryLaw = (g : Geometry) (all : List ℕ) (place : ℕ) → length all ≡ row_count g * page_bytes g → place < looked_count (row_count g)
     → is_sound (look_at g.data_bytes g.spare_bytes all (looked_row (row_count g) place)) ≡ true → (f : Fit) × Contains (fits_of all) f × IsShapedAs g f
 
 -- ---- a cut dump
@@ -100,12 +100,12 @@ IsWithin (Table u) entries t = u * entries ≤ t.blocks
 -- what so many rows tell has room for each sound page of them
 abbrev pub WithinLaw : Type 0
 WithinLaw = (data_bytes spare_bytes rows : ℕ) (all : List ℕ) (row : ℕ) (r : Record) → rows * (data_bytes + spare_bytes) ≤ length all → row < rows
-    → look_at data_bytes spare_bytes all row ≡ Sound r → IsWithin (key_of r) (data_bytes / 4) (told_of data_bytes spare_bytes rows all)
+    → look_at data_bytes spare_bytes all row ≡ Sound r → IsWithin (key_of r) (data_bytes / 4) (pages_told_of data_bytes spare_bytes rows all)
 
 -- a die has at least the sectors that are told, where each sound page is of a sector, a translation page or a table page that it has
 abbrev pub LowerLaw : Type 0
 LowerLaw = (g : Geometry) (all : List ℕ) → ((row : ℕ) (r : Record) → row < row_count g → look_at g.data_bytes g.spare_bytes all row ≡ Sound r → IsKeyOf g (key_of r))
-    → (told_of g.data_bytes g.spare_bytes (row_count g) all).sectors ≤ g.sectors
+    → (pages_told_of g.data_bytes g.spare_bytes (row_count g) all).sectors ≤ g.sectors
 
 -- a table page that is well formed for so many blocks tells of those up to its last entry, so the last table page tells all of them
 abbrev pub TableLaw : Type 0

@@ -10,7 +10,7 @@ use Rattle.lab_dump.specs.declared.fit.TableSays.TheVariants.{Agrees, Short, Sil
 use Rattle.lab_dump.specs.declared.sample.Sample.{Sample}
 use Rattle.lab_dump.specs.declared.told.PagesTold.{PagesTold}
 use Rattle.lab_dump.specs.Sample.{sample_of}
-use Rattle.lab_dump.specs.Told.{told_of}
+use Rattle.lab_dump.specs.Told.{pages_told_of}
 use Rattle.lab_dump.specs.Shape.{data_sizes, page_counts, rows_of, is_shape, has_shape}
 
 -- ---- one geometry
@@ -57,7 +57,7 @@ unfoldable pub area_fits : List ℕ → ℕ → ℕ → List Fit
 area_fits all data_bytes spare_bytes =
     let rows = rows_of (length all) data_bytes spare_bytes in
     let sample = sample_of data_bytes spare_bytes rows all in
-    let told = told_of data_bytes spare_bytes rows all in
+    let told = pages_told_of data_bytes spare_bytes rows all in
     if has_shape (length all) data_bytes spare_bytes && nat_lt 0 sample.sound then flat_map (shape_fits (length all) data_bytes spare_bytes sample told) page_counts else []
 
 -- those with a data area of so many bytes: a spare area has 32 to 256

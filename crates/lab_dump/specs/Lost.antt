@@ -55,8 +55,8 @@ unfoldable pub is_lost : Claim → Image → ℕ → Bool
 is_lost c image n = is_lost_by (said_row c n) c.next (latest_below (marks image) (Sector n) (length image))
 
 -- the sectors in order
-unfoldable pub lost_of : Claim → ℕ → Image → List Bool
-lost_of c sectors image = map (is_lost c image) (range_with_len 0 sectors)
+unfoldable pub lost_sectors_of : Claim → ℕ → Image → List Bool
+lost_sectors_of c sectors image = map (is_lost c image) (range_with_len 0 sectors)
 
 -- A sector has lost none just where its newest page stands where the certificate says, or has a sequence from the certificate's next one on.
 abbrev pub LostLaw : Type 0

@@ -24,7 +24,7 @@ pub record HasPage (g : Geometry) (body spare : List ℕ) : Type 0 where
 -- nothing was seen yet of a die of this geometry
 pub record IsSurveyRoom (g : Geometry) (room : SurveyRoom) : Type 0 where
   pub page : HasPage g room.body.items room.spare.items
-  pub stands : noted.Stands g 0 room.seeing
+  pub stands : noted.SeeingStands g 0 room.seeing
   pub shows : (image : Image) → noted.Shows g 0 image room.seeing
 
 -- no sector is held yet
@@ -32,7 +32,7 @@ pub record IsArrayRoom (g : Geometry) (room : ArrayRoom) : Type 0 where
   pub page : HasPage g room.body.items room.spare.items
   pub held : room.held.items ≡ replicate g.sectors Never
   pub blank : room.zeros.items ≡ zeros g
-  pub stands : doubting.Stands g 0 room.doubting
+  pub stands : doubting.DoubtingStands g 0 room.doubting
   pub shows : (image : Image) → IsDoubting g 0 image room.doubting
 
 -- no page is listed, and each row has room in the list
@@ -44,7 +44,7 @@ pub record IsHistoryRoom (g : Geometry) (room : HistoryRoom) : Type 0 where
 -- no page has passed, and there is a place for each sector
 pub record IsCompareRoom (g : Geometry) (room : CompareRoom) : Type 0 where
   pub page : HasPage g room.body.items room.spare.items
-  pub stands : doubting.Stands g 0 room.doubting
+  pub stands : doubting.DoubtingStands g 0 room.doubting
   pub shows : (image : Image) → IsDoubting g 0 image room.doubting
   pub lost : length room.lost.items ≡ g.sectors
 

@@ -27,7 +27,7 @@ use Rattle.lab_dump.specs.declared.held.KeyState.TheVariants as state
 use Rattle.lab_dump.specs.declared.survey.SurveyFault.{SurveyFault}
 use Rattle.lab_dump.specs.declared.survey.SurveyFault.TheVariants as fault
 use Rattle.lab_dump.specs.declared.survey.DieSurvey.{DieSurvey}
-use Rattle.lab_dump.specs.Count.{counts_of, unsound_in}
+use Rattle.lab_dump.specs.Count.{page_counts_of, unsound_in}
 use Rattle.lab_dump.specs.Said.{said_of}
 use Rattle.lab_dump.specs.Doubts.{doubts_of, legible_of}
 use Rattle.lab_dump.specs.Keys.{key_state}
@@ -58,7 +58,7 @@ FormedAs g image formed = (u : ℕ) → u < table_pages g → key_state image (T
 
 -- the survey says of the image what is so
 pub record IsSurveyed (g : Geometry) (image : Image) (s : DieSurvey) : Type 0 where
-  pub counts : s.counts ≡ counts_of g image
+  pub counts : s.counts ≡ page_counts_of g image
   pub repeated : RepeatsAs (marks image) s.repeated
   pub keys : (key : Key) → IsKeyOf g key → get_or s.keys.items (index_of g key) state.Absent ≡ key_state image key
   pub formed : FormedAs g image s.formed.items

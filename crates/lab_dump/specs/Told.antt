@@ -54,8 +54,8 @@ greatest f zero = 0
 greatest f (suc rows) = max (greatest f rows) (f rows)
 
 -- what the pages of so many rows tell together
-unfoldable pub told_of : ℕ → ℕ → ℕ → List ℕ → PagesTold
-told_of data_bytes spare_bytes rows all = record {
+unfoldable pub pages_told_of : ℕ → ℕ → ℕ → List ℕ → PagesTold
+pages_told_of data_bytes spare_bytes rows all = record {
   blocks = greatest (blocks_at data_bytes spare_bytes all) rows;
   sectors = greatest (sectors_at data_bytes spare_bytes all) rows;
 }

@@ -41,7 +41,7 @@ abbrev pub sector_in : Geometry → Record → Option ℕ
 sector_in g r = sector_within g (key_of r)
 
 -- whatever the pages were
-pub record Stands (g : Geometry) (held : List Held) (blank : List ℕ) (pieces : Option (List (List ℕ))) : Type 0 where
+pub record WritingStands (g : Geometry) (held : List Held) (blank : List ℕ) (pieces : Option (List (List ℕ))) : Type 0 where
   pub size : length held ≡ g.sectors
   pub blank_is : blank ≡ zeros g
   pub sized : IfSome pieces (AreSized g)

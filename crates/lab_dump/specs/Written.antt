@@ -42,7 +42,7 @@ states_with g last true image = damaged_states g last image
 states_with g last false image = states_of g (until g last image)
 
 -- what pages say and the doubts are those of the image
-pub record IsLeft (g : Geometry) (image : Image) (left : Unsettled) : Type 0 where
+pub record IsLeftUnsettled (g : Geometry) (image : Image) (left : Unsettled) : Type 0 where
   pub said_is : left.said.items ≡ said_of g image
   pub legible_is : left.legible ≡ legible_of g image
   pub doubts_is : left.doubts ≡ doubts_of g image
@@ -53,7 +53,7 @@ pub record IsWritten (g : Geometry) (last : Option ℕ) (damaged : Bool) (pieces
   pub whole : length bytes ≡ image_bytes g
   pub array : IfSome pieces (λ ps. ps ≡ array_with g last damaged (raw_image g bytes))
   pub states : map shown_in held ≡ states_with g last damaged (raw_image g bytes)
-  pub left_is : IsLeft g (raw_image g bytes) left
+  pub left_is : IsLeftUnsettled g (raw_image g bytes) left
 
 -- a sector is tied just where two of its pages share its greatest sequence
 abbrev pub TiedLaw : Type 0

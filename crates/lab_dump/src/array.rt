@@ -3,10 +3,10 @@ ghost use Rattle.std.specs.Prelude.{◌≡◌, length, replicate, true, false, I
 ghost use Rattle.page_layout.specs.Geometry.{row_count};
 ghost use Rattle.page_layout.specs.Page.{Image};
 ghost use Rattle.page_layout.specs.Array.{zeros};
-ghost use Rattle.lab_dump.specs.Doubting.{IsDoubting, Stands};
+ghost use Rattle.lab_dump.specs.Doubting.{DoubtingStands, IsDoubting};
 ghost use Rattle.lab_dump.specs.Rooms.{IsArrayRoom};
 ghost use Rattle.lab_dump.specs.Unmade.{IsUnmade};
-ghost use Rattle.lab_dump.specs.Written.{IsLeft, IsWritten, TiedLaw};
+ghost use Rattle.lab_dump.specs.Written.{IsLeftUnsettled, IsWritten, TiedLaw};
 
 use crate::damaged::DamagedWriting;
 use crate::doubting::Doubting;
@@ -83,10 +83,10 @@ pub fn tied_law()
 
 // What is to be told once all pages were taken.
 fn conclude<T>(geometry: &Geometry, writing: Writing<T>) -> ArrayWritten<T>
-    requires { Stands geometry.now (row_count geometry.now) writing.doubting }
+    requires { DoubtingStands geometry.now (row_count geometry.now) writing.doubting }
     ensures held { result.held.items ≡ writing.held.items }
     ensures target { result.target ≡ writing.target }
-    ensures left { (image : Image) → length image ≡ row_count geometry.now → IsDoubting geometry.now (row_count geometry.now) image writing.doubting → IsLeft geometry.now image result.left }
+    ensures left { (image : Image) → length image ≡ row_count geometry.now → IsDoubting geometry.now (row_count geometry.now) image writing.doubting → IsLeftUnsettled geometry.now image result.left }
 {
     let mut doubting = writing.doubting;
     let doubts = doubting.conclude(geometry);

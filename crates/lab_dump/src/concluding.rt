@@ -7,7 +7,7 @@ ghost use Rattle.page_layout.specs.Array.{marks};
 ghost use Rattle.image_check.specs.Blocks.{table_class};
 ghost use Rattle.image_check.specs.Survey.{HasTableBytes};
 ghost use Rattle.lab_dump.specs.Doubts.{doubts_of, legible_of};
-ghost use Rattle.lab_dump.specs.Doubting.{HasTraces, IsDoubting, Stands};
+ghost use Rattle.lab_dump.specs.Doubting.{DoubtingStands, HasTraces, IsDoubting};
 ghost use Rattle.lab_dump.specs.Said.{said_below, said_of};
 ghost use Rattle.lab_dump.specs.Concluding;
 ghost use Rattle.lab_dump.specs.Concluding.{IsSeen, IsSized, excuse_of, keeps_in, ties_in};
@@ -202,7 +202,7 @@ fn sum_blocks(geometry: &Geometry, doubting: &Doubting, plain: bool) -> Doubts
 impl Doubting {
     // What is left open in the end; and of each page that says something whether that is newer.
     pub(crate) fn conclude(&mut self, geometry: &Geometry) -> Doubts
-        requires stands { Stands geometry.now (row_count geometry.now) self.old }
+        requires stands { DoubtingStands geometry.now (row_count geometry.now) self.old }
         ensures is { (image : Image) → length image ≡ row_count geometry.now → IsDoubting geometry.now (row_count geometry.now) image self.old → result ≡ doubts_of geometry.now image }
         ensures legible { (image : Image) → length image ≡ row_count geometry.now → IsDoubting geometry.now (row_count geometry.now) image self.old → self.new.legible ≡ legible_of geometry.now image }
         ensures said { (image : Image) → length image ≡ row_count geometry.now → IsDoubting geometry.now (row_count geometry.now) image self.old → self.new.said.items ≡ said_of geometry.now image }

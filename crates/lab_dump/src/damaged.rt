@@ -10,7 +10,7 @@ ghost use Rattle.page_layout.specs.Block.{is_broken};
 ghost use Rattle.lab_dump.specs.Damaged.{DamagedLaw, OtherwiseLaw, SaysSector};
 ghost use Rattle.lab_dump.specs.Held.{pieces_after};
 ghost use Rattle.lab_dump.specs.Said.{says};
-ghost use Rattle.lab_dump.specs.Writing.{Stands, Shows};
+ghost use Rattle.lab_dump.specs.Writing.{WritingStands, Shows};
 ghost use Rattle.lab_dump.specs.Written.{MarkedLaw, UnmarkedLaw};
 
 use crate::held::Change;
@@ -87,8 +87,8 @@ impl<T: DamagedTarget> Writing<T> {
         requires row_in { row < row_count geometry.now }
         requires broken { is_broken (page body.now spare.now) ≡ true }
         requires spelled { spelled spare.now ≡ Some says.now }
-        requires stands { Stands geometry.now self.old.held.items self.old.zeros.items (T.pieces self.old.target) }
-        ensures stands { OnOk result (Stands geometry.now self.new.held.items self.new.zeros.items (T.pieces self.new.target)) }
+        requires stands { WritingStands geometry.now self.old.held.items self.old.zeros.items (T.pieces self.old.target) }
+        ensures stands { OnOk result (WritingStands geometry.now self.new.held.items self.new.zeros.items (T.pieces self.new.target)) }
         ensures shows { OnOk result ((image : Image) (said : List (Option Record)) (reads : ℕ → List ℕ) → Shows geometry.now row image said reads self.old.held.items (T.pieces self.old.target)
             → get_or (marks image) row None ≡ None → get_or said row None ≡ Some says.now → reads row ≡ content_of_kind geometry.now says.now.kind body.now
             → Shows geometry.now (row + 1) image said reads self.new.held.items (T.pieces self.new.target)) }
@@ -122,9 +122,9 @@ impl<T: DamagedTarget> Taker for DamagedWriting<T> {
     ghost use Rattle.page_layout.specs.Page.{Image, page};
     ghost use Rattle.lab_dump.specs.Doubting as doubting;
     ghost use Rattle.lab_dump.specs.Doubting.{IsDoubting};
-    ghost use Rattle.lab_dump.specs.Writing.{Stands, ShowsDamaged};
+    ghost use Rattle.lab_dump.specs.Writing.{WritingStands, ShowsDamaged};
 
-    ghost stands = { λ s g rows. Stands g s.writing.held.items s.writing.zeros.items (T.pieces s.writing.target) × doubting.Stands g rows s.writing.doubting };
+    ghost stands = { λ s g rows. WritingStands g s.writing.held.items s.writing.zeros.items (T.pieces s.writing.target) × doubting.DoubtingStands g rows s.writing.doubting };
 
     ghost fixed = { λ s. s.writing.until };
 

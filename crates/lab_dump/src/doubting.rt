@@ -8,7 +8,7 @@ ghost use Rattle.page_layout.specs.Array.{marks};
 ghost use Rattle.image_check.specs.Survey.{HasTableBytes};
 ghost use Rattle.lab_dump.specs.Count.{HasUnsound, one};
 ghost use Rattle.lab_dump.specs.Doubts.{is_outside};
-ghost use Rattle.lab_dump.specs.Doubting.{HasHoles, HasTraces, IsDoubting, Stands};
+ghost use Rattle.lab_dump.specs.Doubting.{DoubtingStands, HasHoles, HasTraces, IsDoubting};
 ghost use Rattle.lab_dump.specs.Trace.{place_in};
 
 use crate::counts::{note_unsound, one_strange};
@@ -152,7 +152,7 @@ fn note_table(
 impl Doubting {
     // No page has passed. All its memory is taken here.
     pub(crate) fn new(alloc: Global, geometry: &Geometry) -> Result<Doubting, AllocError>
-        ensures stands { IfOk result (Stands geometry.now 0) }
+        ensures stands { IfOk result (DoubtingStands geometry.now 0) }
         ensures is { IfOk result (λ d. (image : Image) → IsDoubting geometry.now 0 image d) }
     {
         let table_pages = geometry.table_pages();
@@ -186,8 +186,8 @@ impl Doubting {
         requires body_whole { length body.now ≡ geometry.now.data_bytes }
         requires spare_whole { length spare.now ≡ geometry.now.spare_bytes }
         requires found { found ≡ record_of (page body.now spare.now) }
-        requires stands { Stands geometry.now row self.old }
-        ensures stands { Stands geometry.now (row + 1) self.new }
+        requires stands { DoubtingStands geometry.now row self.old }
+        ensures stands { DoubtingStands geometry.now (row + 1) self.new }
         ensures is { (image : Image) → IsDoubting geometry.now row image self.old → slice_get image row ≡ Some (page body.now spare.now) → IsDoubting geometry.now (row + 1) image self.new }
     {
         let erased = is_erased(body, spare);
@@ -205,9 +205,9 @@ impl Taker for Doubting {
     ghost use Rattle.std.specs.Prelude.{◌≡◌, ◌<◌, ◌+◌, ℕ, length, slice_get, OnOk, OnErr, Some};
     ghost use Rattle.page_layout.specs.Geometry.{row_count};
     ghost use Rattle.page_layout.specs.Page.{Image, page};
-    ghost use Rattle.lab_dump.specs.Doubting.{IsDoubting, Stands};
+    ghost use Rattle.lab_dump.specs.Doubting.{DoubtingStands, IsDoubting};
 
-    ghost stands = { λ d g rows. Stands g rows d };
+    ghost stands = { λ d g rows. DoubtingStands g rows d };
 
     ghost shows = { λ d g rows image. IsDoubting g rows image d };
 

@@ -5,7 +5,7 @@ ghost use Rattle.lab_dump.specs.Doubts.{HoleLaw, ToldOnceLaw};
 ghost use Rattle.lab_dump.specs.Lost.{LostLaw, NoneLostLaw};
 ghost use Rattle.lab_dump.specs.Named.{OthersLaw};
 ghost use Rattle.lab_dump.specs.Map.{AreasLaw};
-ghost use Rattle.lab_dump.specs.FitLaws.{FewerLaw, FitLaw, OnceLaw, OwnLaw, ShortLaw, PageLaw, LookedLaw, LookedRiseLaw, LookedAllLaw, GreatestLaw, WithinLaw, LowerLaw, TableLaw};
+ghost use Rattle.lab_dump.specs.FitLaws.{FewerLaw, FitLaw, OnceLaw, OwnGeometryLaw, ShortLaw, PageLaw, LookedLaw, LookedRiseLaw, LookedAllLaw, GreatestLaw, WithinLaw, LowerLaw, TableLaw};
 
 /// The areas of a map have each sector once, each begins where the one before it has ended, and neighbours differ.
 pub fn areas_law()
@@ -59,7 +59,7 @@ pub fn bound_laws()
 pub fn fit_laws()
     ensures fit { FitLaw }
     ensures once { OnceLaw }
-    ensures own { OwnLaw }
+    ensures own { OwnGeometryLaw }
 {}
 
 /// A geometry is too short just where the table of blocks has words for more blocks, and then pages are missing; of two such ones with as many sound

@@ -6,7 +6,7 @@ ghost use Rattle.image_check.specs.Room.{IsDesk};
 ghost use Rattle.image_check.specs.Surveyed.{IsSized, Surveys};
 ghost use Rattle.lab_dump.specs.declared.held.KeyState.TheVariants.{Absent};
 ghost use Rattle.lab_dump.specs.declared.trace.Trace.TheVariants.{Never};
-ghost use Rattle.lab_dump.specs.Noted.{Stands, Shows};
+ghost use Rattle.lab_dump.specs.Noted.{SeeingStands, Shows};
 ghost use Rattle.lab_dump.specs.Rooms.{IsSurveyRoom};
 ghost use Rattle.lab_dump.specs.Surveyed.{BlocksAs, IsSurveyed, IsSurveyOf, IsWhole, IsUnsurveyed, MountsLaw};
 ghost use Rattle.lab_dump.specs.Trace.{state_in};
@@ -103,7 +103,7 @@ fn blocks_of(survey: &mut Survey, mut desk: Desk) -> Option<Vec<BlockState>>
 
 // What was seen in the end. It takes no memory.
 fn conclude(geometry: &Geometry, seeing: Seeing) -> DieSurvey
-    requires { Stands geometry.now (row_count geometry.now) seeing }
+    requires { SeeingStands geometry.now (row_count geometry.now) seeing }
     ensures whole { IsWhole geometry.now result }
     ensures survey { (image : Image) → length image ≡ row_count geometry.now → Shows geometry.now (row_count geometry.now) image seeing → IsSurveyed geometry.now image result }
 {

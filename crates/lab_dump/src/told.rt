@@ -3,7 +3,7 @@ ghost use Rattle.std.specs.Prelude.{◌≡◌, ◌+◌, ◌*◌, ◌/◌, ◌<�
 ghost use Rattle.page_layout.specs.Geometry.{page_bytes, row_count};
 ghost use Rattle.lab_dump.specs.Look.{look_of};
 ghost use Rattle.lab_dump.specs.Pages.{page_in};
-ghost use Rattle.lab_dump.specs.Told.{words_used, blocks_by, sectors_by, most_by, raised, told_of};
+ghost use Rattle.lab_dump.specs.Told.{words_used, blocks_by, sectors_by, most_by, raised, pages_told_of};
 
 use crate::dump::{Dump, DumpFault};
 use crate::look::{Look, look_at};
@@ -127,7 +127,7 @@ pub(crate) fn read_told<D: Dump>(
     page: &mut [u8],
 ) -> Result<PagesTold, DumpFault>
     requires { length page.old ≡ page_bytes geometry.now }
-    ensures told { IfOk result (λ told. (all : List ℕ) → D.bytes dump.old ≡ Some all → told ≡ told_of geometry.now.data_bytes geometry.now.spare_bytes (row_count geometry.now) all) }
+    ensures told { IfOk result (λ told. (all : List ℕ) → D.bytes dump.old ≡ Some all → told ≡ pages_told_of geometry.now.data_bytes geometry.now.spare_bytes (row_count geometry.now) all) }
     ensures failed { OnErr result (D.failed dump.new ≡ true) }
     ensures same { D.bytes dump.new ≡ D.bytes dump.old }
 {

@@ -7,7 +7,7 @@ ghost use Rattle.page_layout.specs.Array.{content_of_kind, zeros};
 ghost use Rattle.page_layout.specs.Sound.{record_of};
 ghost use Rattle.lab_dump.specs.Held.{pieces_after};
 ghost use Rattle.page_layout.specs.declared.record.Kind.TheVariants as kinds;
-ghost use Rattle.lab_dump.specs.Writing.{HoldsSector, Stands, Shows, sector_in};
+ghost use Rattle.lab_dump.specs.Writing.{HoldsSector, WritingStands, Shows, sector_in};
 
 use crate::doubting::Doubting;
 use crate::held::{Change, Held};
@@ -73,8 +73,8 @@ impl<T: Target> Writing<T> {
     ) -> Result<(), Stopped>
         requires row_in { row < row_count geometry.now }
         requires looked { record_of (page body.now spare.now) ≡ Some found.now }
-        requires stands { Stands geometry.now self.old.held.items self.old.zeros.items (T.pieces self.old.target) }
-        ensures stands { OnOk result (Stands geometry.now self.new.held.items self.new.zeros.items (T.pieces self.new.target)) }
+        requires stands { WritingStands geometry.now self.old.held.items self.old.zeros.items (T.pieces self.old.target) }
+        ensures stands { OnOk result (WritingStands geometry.now self.new.held.items self.new.zeros.items (T.pieces self.new.target)) }
         ensures shows { OnOk result ((image : Image) (said : List (Option Record)) (reads : ℕ → List ℕ) (p : Page) → Shows geometry.now row image said reads self.old.held.items (T.pieces self.old.target)
             → slice_get image row ≡ Some p → body.now ≡ p.body → record_of p ≡ Some found.now → get_or said row None ≡ None
             → Shows geometry.now (row + 1) image said reads self.new.held.items (T.pieces self.new.target)) }
@@ -109,9 +109,9 @@ impl<T: Target> Taker for Writing<T> {
     ghost use Rattle.lab_dump.specs.Doubting as doubting;
     ghost use Rattle.lab_dump.specs.Doubting.{IsDoubting};
     ghost use Rattle.lab_dump.specs.Until.{until};
-    ghost use Rattle.lab_dump.specs.Writing.{Stands, ShowsSound};
+    ghost use Rattle.lab_dump.specs.Writing.{WritingStands, ShowsSound};
 
-    ghost stands = { λ s g rows. Stands g s.held.items s.zeros.items (T.pieces s.target) × doubting.Stands g rows s.doubting };
+    ghost stands = { λ s g rows. WritingStands g s.held.items s.zeros.items (T.pieces s.target) × doubting.DoubtingStands g rows s.doubting };
 
     ghost fixed = { λ s. s.until };
 

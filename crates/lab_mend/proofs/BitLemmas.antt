@@ -9,7 +9,7 @@ use Rattle.page_layout.specs.Page.{Page}
 use Rattle.page_layout.specs.Raw.{bytes_of_page}
 use Rattle.lab_dump.specs.PageBytes.{bits_of, bit_in, page_of, bit_count, page_bit}
 use Rattle.lab_dump.proofs.PageLemmas.{page_again, bytes_again}
-use Rattle.lab_mend.specs.Bits.{turned_bytes, turned, TurnedLaw}
+use Rattle.lab_mend.specs.Bits.{turned_bytes, with_bit_turned, TurnedLaw}
 
 -- ---- bytes
 
@@ -82,30 +82,30 @@ others_of bytes k l j = (
 -- ---- pages
 
 -- the same page, where the first so many bytes are its data area
-pub turned_page : (size : ℕ) (bytes : List ℕ) (k : ℕ) → size ≤ length bytes → turned (page_of size bytes) k ≡ page_of size (turned_bytes bytes k)
+pub turned_page : (size : ℕ) (bytes : List ℕ) (k : ℕ) → size ≤ length bytes → with_bit_turned (page_of size bytes) k ≡ page_of size (turned_bytes bytes k)
 turned_page size bytes k l =
     ap (λ n. page_of n (turned_bytes (bytes_of_page (page_of size bytes)) k)) (length-take-le size bytes l) ∙ ap (λ b. page_of size (turned_bytes b k)) (bytes_again size bytes)
 
 pub count_page : (size : ℕ) (bytes : List ℕ) → bit_count (page_of size bytes) ≡ bits_of bytes
 count_page size bytes = ap bits_of (bytes_again size bytes)
 
-pub bytes_turned : (p : Page) (k : ℕ) → bytes_of_page (turned p k) ≡ turned_bytes (bytes_of_page p) k
+pub bytes_turned : (p : Page) (k : ℕ) → bytes_of_page (with_bit_turned p k) ≡ turned_bytes (bytes_of_page p) k
 bytes_turned p k = bytes_again (length p.body) (turned_bytes (bytes_of_page p) k)
 
-pub body_turned : (p : Page) (k : ℕ) → length (turned p k).body ≡ length p.body
+pub body_turned : (p : Page) (k : ℕ) → length (with_bit_turned p k).body ≡ length p.body
 body_turned p k = length-take-le (length p.body) (turned_bytes (bytes_of_page p) k) (omega (arith, length-turned (bytes_of_page p) k, length-append p.body p.spare))
 
-pub spare_turned : (p : Page) (k : ℕ) → length (turned p k).spare ≡ length p.spare
+pub spare_turned : (p : Page) (k : ℕ) → length (with_bit_turned p k).spare ≡ length p.spare
 spare_turned p k = omega (arith, length-drop (length p.body) (turned_bytes (bytes_of_page p) k), length-turned (bytes_of_page p) k, length-append p.body p.spare)
 
 -- turned twice it is as it was
-pub turned_twice : (p : Page) (k : ℕ) → k < bit_count p → turned (turned p k) k ≡ p
+pub turned_twice : (p : Page) (k : ℕ) → k < bit_count p → with_bit_turned (with_bit_turned p k) k ≡ p
 turned_twice p k l =
-    ap (λ n. page_of n (turned_bytes (bytes_of_page (turned p k)) k)) (body_turned p k)
+    ap (λ n. page_of n (turned_bytes (bytes_of_page (with_bit_turned p k)) k)) (body_turned p k)
     ∙ (ap (λ b. page_of (length p.body) (turned_bytes b k)) (bytes_turned p k)
     ∙ (ap (page_of (length p.body)) (turned_back (bytes_of_page p) k l) ∙ page_again p))
 
-pub count_turned : (p : Page) (k : ℕ) → bit_count (turned p k) ≡ bit_count p
+pub count_turned : (p : Page) (k : ℕ) → bit_count (with_bit_turned p k) ≡ bit_count p
 count_turned p k = ap bits_of (bytes_turned p k) ∙ ap (λ n. 8 * n) (length-turned (bytes_of_page p) k)
 
 pub turned_law : TurnedLaw

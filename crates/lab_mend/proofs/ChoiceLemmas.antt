@@ -27,7 +27,7 @@ use Rattle.lab_mend.specs.Majority.{majority, majority_byte, column}
 use Rattle.lab_mend.proofs.MajorityLemmas.{majority_set}
 use Rattle.lab_mend.specs.Trial.{bits_apart, with_turned, is_tried}
 use Rattle.lab_mend.proofs.TrialLemmas.{IsTurned, HasApart, turned_in, bits_once, bit_apart, other_bits}
-use Rattle.lab_mend.specs.Choice.{Choice, is_same, zero_page, chosen, by_found, by_turns, by_trial, by_programmed, by_majority, by_sound, choice, NoneSound, AllErased, IsFirstProgrammed, IsTrial, IsFound, Means, AreSized, ChoiceLaw, ErasedLaw, AreAmong, OrderLaw, ZeroLaw}
+use Rattle.lab_mend.specs.Choice.{Choice, is_same, zero_page, chosen, by_found, by_turns, by_trial, by_programmed, by_majority, by_sound, choice, NoneSound, AllErased, IsFirstProgrammed, IsTrial, IsFound, OriginMeans, AreSized, ChoiceLaw, ErasedLaw, AreAmong, OrderLaw, ZeroLaw}
 
 -- ---- pages of a list
 
@@ -191,8 +191,8 @@ turned_found pages p q more n e kept =
 
 -- one of the sound pages with so many bits turned, or what comes next
 found_means : (g : Geometry) (pages : List Page) (p : Page) (more : List Page) (n : ℕ) → filter is_programmed pages ≡ p ∷ more → IsTrial pages p (length (bits_apart p (p ∷ more)))
-    → (sound : List Page) → filter is_sound (with_turned p (bits_apart p (p ∷ more)) n) ≡ sound → (next : Choice) → Means g pages next.its next.origin
-    → Means g pages (by_found p n (length (bits_apart p (p ∷ more))) sound next).its (by_found p n (length (bits_apart p (p ∷ more))) sound next).origin
+    → (sound : List Page) → filter is_sound (with_turned p (bits_apart p (p ∷ more)) n) ≡ sound → (next : Choice) → OriginMeans g pages next.its next.origin
+    → OriginMeans g pages (by_found p n (length (bits_apart p (p ∷ more))) sound next).its (by_found p n (length (bits_apart p (p ∷ more))) sound next).origin
 found_means g pages p more n e trial [] is next means = means
 found_means g pages p more n e trial (q ∷ others) is next means = by (list_all (is_same q) others) refl
   where
@@ -202,7 +202,7 @@ found_means g pages p more n e trial (q ∷ others) is next means = by (list_all
     first : IsFound pages p q n
     first = turned_found pages p q more n e (first_kept is_sound (with_turned p (bits_apart p (p ∷ more)) n) q others is)
 
-    by : (b : Bool) → list_all (is_same q) others ≡ b → Means g pages (cond b (chosen q (Tried (Taken n d))) (chosen p (Tried (Tied n d)))).its (cond b (chosen q (Tried (Taken n d))) (chosen p (Tried (Tied n d)))).origin
+    by : (b : Bool) → list_all (is_same q) others ≡ b → OriginMeans g pages (cond b (chosen q (Tried (Taken n d))) (chosen p (Tried (Tied n d)))).its (cond b (chosen q (Tried (Taken n d))) (chosen p (Tried (Tied n d)))).origin
     by true all = (p, trial, first)
     by false apart =
         let o = other_of q others apart in
@@ -210,21 +210,21 @@ found_means g pages p more n e trial (q ∷ others) is next means = by (list_all
         (trial, q, o.its, first, second, λ same. true≢false (sym (same_to_itself q) ∙ (ap (is_same q) same ∙ o.apart)))
 
 turns_means : (g : Geometry) (pages : List Page) (p : Page) (more : List Page) → filter is_programmed pages ≡ p ∷ more → IsTrial pages p (length (bits_apart p (p ∷ more))) → (numbers : List ℕ)
-    → Means g pages (by_turns p (bits_apart p (p ∷ more)) numbers).its (by_turns p (bits_apart p (p ∷ more)) numbers).origin
+    → OriginMeans g pages (by_turns p (bits_apart p (p ∷ more)) numbers).its (by_turns p (bits_apart p (p ∷ more)) numbers).origin
 unfolding by_turns
 turns_means g pages p more e trial [] = trial
 turns_means g pages p more e trial (n ∷ ns) =
     found_means g pages p more n e trial (filter is_sound (with_turned p (bits_apart p (p ∷ more)) n)) refl (by_turns p (bits_apart p (p ∷ more)) ns) (turns_means g pages p more e trial ns)
 
 trial_means : (g : Geometry) (pages : List Page) → NoneSound pages → (p : Page) (more : List Page) → filter is_programmed pages ≡ p ∷ more
-    → Means g pages (by_trial p (bits_apart p (p ∷ more))).its (by_trial p (bits_apart p (p ∷ more))).origin
+    → OriginMeans g pages (by_trial p (bits_apart p (p ∷ more))).its (by_trial p (bits_apart p (p ∷ more))).origin
 unfolding by_trial
 trial_means g pages none p more e = by (is_tried (length bits)) refl
   where
     bits : List ℕ
     bits = bits_apart p (p ∷ more)
 
-    by : (b : Bool) → is_tried (length bits) ≡ b → Means g pages (cond b (by_turns p bits (range_with_len 1 (length bits))) (chosen p Unsound)).its (cond b (by_turns p bits (range_with_len 1 (length bits))) (chosen p Unsound)).origin
+    by : (b : Bool) → is_tried (length bits) ≡ b → OriginMeans g pages (cond b (by_turns p bits (range_with_len 1 (length bits))) (chosen p Unsound)).its (cond b (by_turns p bits (range_with_len 1 (length bits))) (chosen p Unsound)).origin
     by true is =
         let both = and_parts (nat_le 1 (length bits)) (nat_le (length bits) 16) is in
         turns_means g pages p more e (record {
@@ -236,21 +236,21 @@ trial_means g pages none p more e = by (is_tried (length bits)) refl
         }) (range_with_len 1 (length bits))
     by false is = (none, first_programmed pages p more e)
 
-programmed_means : (g : Geometry) (ps : List Page) → NoneSound ps → (programmed : List Page) → filter is_programmed ps ≡ programmed → Means g ps (by_programmed g ps programmed).its (by_programmed g ps programmed).origin
+programmed_means : (g : Geometry) (ps : List Page) → NoneSound ps → (programmed : List Page) → filter is_programmed ps ≡ programmed → OriginMeans g ps (by_programmed g ps programmed).its (by_programmed g ps programmed).origin
 programmed_means g ps none [] e = (all_erased ps (none_kept is_programmed ps e), refl)
 programmed_means g ps none (p ∷ more) e = trial_means g ps none p more e
 
-majority_means : (g : Geometry) (ps : List Page) → NoneSound ps → Means g ps (by_majority g ps).its (by_majority g ps).origin
+majority_means : (g : Geometry) (ps : List Page) → NoneSound ps → OriginMeans g ps (by_majority g ps).its (by_majority g ps).origin
 unfolding by_majority
 majority_means g ps none = by (nat_le 3 (length ps) && is_sound (majority g ps)) refl
   where
-    by : (b : Bool) → (nat_le 3 (length ps) && is_sound (majority g ps)) ≡ b → Means g ps (cond b (chosen (majority g ps) Majority) (by_programmed g ps (filter is_programmed ps))).its (cond b (chosen (majority g ps) Majority) (by_programmed g ps (filter is_programmed ps))).origin
+    by : (b : Bool) → (nat_le 3 (length ps) && is_sound (majority g ps)) ≡ b → OriginMeans g ps (cond b (chosen (majority g ps) Majority) (by_programmed g ps (filter is_programmed ps))).its (cond b (chosen (majority g ps) Majority) (by_programmed g ps (filter is_programmed ps))).origin
     by true is =
         let both = and_parts (nat_le 3 (length ps)) (is_sound (majority g ps)) is in
         (none, leb-true 3 (length ps) both.0, refl, both.1)
     by false is = programmed_means g ps none (filter is_programmed ps) refl
 
-sound_means : (g : Geometry) (ps : List Page) → AreSized g ps → (sound : List Page) → filter is_sound ps ≡ sound → Means g ps (by_sound g ps sound).its (by_sound g ps sound).origin
+sound_means : (g : Geometry) (ps : List Page) → AreSized g ps → (sound : List Page) → filter is_sound ps ≡ sound → OriginMeans g ps (by_sound g ps sound).its (by_sound g ps sound).origin
 sound_means g ps sized [] e = majority_means g ps (none_sound ps (none_kept is_sound ps e))
 sound_means g ps sized (p ∷ more) e = by (list_all (is_same p) more) refl
   where
@@ -263,7 +263,7 @@ sound_means g ps sized (p ∷ more) e = by (list_all (is_same p) more) refl
       | inr later ↦ sym (same_page p q (same_size g ps p q sized first.in_list at) (all_same p q more all later))
     ]
 
-    by : (b : Bool) → list_all (is_same p) more ≡ b → Means g ps (cond b (chosen p Sound) (chosen (zero_page g) Conflict)).its (cond b (chosen p Sound) (chosen (zero_page g) Conflict)).origin
+    by : (b : Bool) → list_all (is_same p) more ≡ b → OriginMeans g ps (cond b (chosen p Sound) (chosen (zero_page g) Conflict)).its (cond b (chosen p Sound) (chosen (zero_page g) Conflict)).origin
     by true all = (first.in_list, first.passes, same all)
     by false apart =
         let o = other_of p more apart in
@@ -290,12 +290,12 @@ erased_there ps p all at sound = true≢false (sym sound ∙ ap is_some (erased_
 sound_there : (ps : List Page) (p : Page) → NoneSound ps → Contains ps p → IsSome (record_of p) → ⊥
 sound_there ps p none at sound = true≢false (sym sound ∙ ap is_some (All-contains (λ q. record_of q ≡ None) ps p none at))
 
-trial_none : (g : Geometry) (ps : List Page) (p : Page) (t : Trial) → Means g ps p (Tried t) → NoneSound ps
+trial_none : (g : Geometry) (ps : List Page) (p : Page) (t : Trial) → OriginMeans g ps p (Tried t) → NoneSound ps
 trial_none g ps p (Taken n d) h = h.1.none
 trial_none g ps p (Tied n d) h = h.0.none
 trial_none g ps p (Nothing d) h = h.none
 
-ordered : (g : Geometry) (ps qs : List Page) (p x y : Page) (a b : Origin) → AreAmong ps qs → AreAmong qs ps → Contains ps p → IsSome (record_of p) → Means g ps x a → Means g qs y b → chosen x a ≡ chosen y b
+ordered : (g : Geometry) (ps qs : List Page) (p x y : Page) (a b : Origin) → AreAmong ps qs → AreAmong qs ps → Contains ps p → IsSome (record_of p) → OriginMeans g ps x a → OriginMeans g qs y b → chosen x a ≡ chosen y b
 ordered g ps qs p x y Majority b to from at sound h k = absurd (sound_there ps p h.0 at sound)
 ordered g ps qs p x y Erased b to from at sound h k = absurd (erased_there ps p h.0 at sound)
 ordered g ps qs p x y (Tried t) b to from at sound h k = absurd (sound_there ps p (trial_none g ps x t h) at sound)
@@ -391,7 +391,7 @@ blank_in g ps sized all q at =
 pub erased_law : ErasedLaw
 erased_law g [] sized some = absurd (omega arith)
 erased_law g (p ∷ ps) sized some = (
-  λ e. let means : Means g (p ∷ ps) (choice g (p ∷ ps)).its Erased = subst (Means g (p ∷ ps) (choice g (p ∷ ps)).its) e (choice_law g (p ∷ ps) sized) in means.0,
+  λ e. let means : OriginMeans g (p ∷ ps) (choice g (p ∷ ps)).its Erased = subst (OriginMeans g (p ∷ ps) (choice g (p ∷ ps)).its) e (choice_law g (p ∷ ps) sized) in means.0,
   λ all. erased_origin g p ps (blank_in g (p ∷ ps) sized all),
 )
 

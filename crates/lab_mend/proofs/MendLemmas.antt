@@ -13,11 +13,11 @@ use Rattle.page_layout.specs.Page.{Page}
 use Rattle.page_layout.specs.Sound.{record_of, is_erased_page}
 use Rattle.page_layout.specs.Block.{is_broken}
 use Rattle.lab_dump.specs.PageBytes.{is_sound, page_of, bits_of, bit_count}
-use Rattle.lab_mend.specs.Bits.{turned, turned_bytes}
+use Rattle.lab_mend.specs.Bits.{turned_bytes, with_bit_turned}
 use Rattle.lab_mend.specs.declared.mending.Made.{Made}
 use Rattle.lab_mend.specs.declared.mending.Made.TheVariants.{Sound, Erased}
 use Rattle.lab_mend.specs.declared.mending.Turned.{Turned}
-use Rattle.lab_mend.specs.Mend.{lowest_bit, erased_bit, first_turn, mend_of, Makes, IsMend, IsMade, MendLaw}
+use Rattle.lab_mend.specs.Mend.{lowest_bit, erased_bit, first_turn, mend_of, Makes, IsMend, IsMendedAs, MendLaw}
 use Rattle.lab_mend.proofs.BitLemmas.{count_page, turned_page}
 
 -- ---- the first number that passes
@@ -72,35 +72,35 @@ none_from f n e j l = by_steps n (omega arith) j l
 
 -- ---- the lowest bit
 
-pub lowest_is : (p : Page) (k : ℕ) → k < bit_count p → is_sound (turned p k) ≡ true → ((j : ℕ) → j < k → is_sound (turned p j) ≡ false) → lowest_bit p ≡ Some k
+pub lowest_is : (p : Page) (k : ℕ) → k < bit_count p → is_sound (with_bit_turned p k) ≡ true → ((j : ℕ) → j < k → is_sound (with_bit_turned p j) ≡ false) → lowest_bit p ≡ Some k
 unfolding lowest_bit
-lowest_is p k within here before = first_is (λ j. is_sound (turned p j)) (bit_count p) k within here before
+lowest_is p k within here before = first_is (λ j. is_sound (with_bit_turned p j)) (bit_count p) k within here before
 
-pub lowest_none : (p : Page) → ((j : ℕ) → j < bit_count p → is_sound (turned p j) ≡ false) → lowest_bit p ≡ None
+pub lowest_none : (p : Page) → ((j : ℕ) → j < bit_count p → is_sound (with_bit_turned p j) ≡ false) → lowest_bit p ≡ None
 unfolding lowest_bit
-lowest_none p none = first_none (λ j. is_sound (turned p j)) (bit_count p) none
+lowest_none p none = first_none (λ j. is_sound (with_bit_turned p j)) (bit_count p) none
 
-pub lowest_from : (p : Page) (k : ℕ) → lowest_bit p ≡ Some k → IsFirst (λ j. is_sound (turned p j)) (bit_count p) k
+pub lowest_from : (p : Page) (k : ℕ) → lowest_bit p ≡ Some k → IsFirst (λ j. is_sound (with_bit_turned p j)) (bit_count p) k
 unfolding lowest_bit
-lowest_from p k e = first_from (λ j. is_sound (turned p j)) (bit_count p) k e
+lowest_from p k e = first_from (λ j. is_sound (with_bit_turned p j)) (bit_count p) k e
 
-pub lowest_nowhere : (p : Page) → lowest_bit p ≡ None → (j : ℕ) → j < bit_count p → is_sound (turned p j) ≡ false
+pub lowest_nowhere : (p : Page) → lowest_bit p ≡ None → (j : ℕ) → j < bit_count p → is_sound (with_bit_turned p j) ≡ false
 unfolding lowest_bit
-lowest_nowhere p e = none_from (λ j. is_sound (turned p j)) (bit_count p) e
+lowest_nowhere p e = none_from (λ j. is_sound (with_bit_turned p j)) (bit_count p) e
 
 -- ---- the bit that leaves a page erased
 
-pub erased_is : (p : Page) (k : ℕ) → k < bit_count p → is_erased_page (turned p k) ≡ true → ((j : ℕ) → j < k → is_erased_page (turned p j) ≡ false) → erased_bit p ≡ Some k
+pub erased_is : (p : Page) (k : ℕ) → k < bit_count p → is_erased_page (with_bit_turned p k) ≡ true → ((j : ℕ) → j < k → is_erased_page (with_bit_turned p j) ≡ false) → erased_bit p ≡ Some k
 unfolding erased_bit
-erased_is p k within here before = first_is (λ j. is_erased_page (turned p j)) (bit_count p) k within here before
+erased_is p k within here before = first_is (λ j. is_erased_page (with_bit_turned p j)) (bit_count p) k within here before
 
-pub erased_none : (p : Page) → ((j : ℕ) → j < bit_count p → is_erased_page (turned p j) ≡ false) → erased_bit p ≡ None
+pub erased_none : (p : Page) → ((j : ℕ) → j < bit_count p → is_erased_page (with_bit_turned p j) ≡ false) → erased_bit p ≡ None
 unfolding erased_bit
-erased_none p none = first_none (λ j. is_erased_page (turned p j)) (bit_count p) none
+erased_none p none = first_none (λ j. is_erased_page (with_bit_turned p j)) (bit_count p) none
 
-pub erased_from : (p : Page) (k : ℕ) → erased_bit p ≡ Some k → IsFirst (λ j. is_erased_page (turned p j)) (bit_count p) k
+pub erased_from : (p : Page) (k : ℕ) → erased_bit p ≡ Some k → IsFirst (λ j. is_erased_page (with_bit_turned p j)) (bit_count p) k
 unfolding erased_bit
-erased_from p k e = first_from (λ j. is_erased_page (turned p j)) (bit_count p) k e
+erased_from p k e = first_from (λ j. is_erased_page (with_bit_turned p j)) (bit_count p) k e
 
 -- ---- tests of pages
 
@@ -156,7 +156,7 @@ no_first (Some k) out e = absurd (cc)
 no_first None out e = refl
 
 -- of a broken page that is not mended no single bit makes it sound
-pub unmended : (p : Page) → is_broken p ≡ true → mend_of p ≡ None → (j : ℕ) → j < bit_count p → is_sound (turned p j) ≡ false
+pub unmended : (p : Page) → is_broken p ≡ true → mend_of p ≡ None → (j : ℕ) → j < bit_count p → is_sound (with_bit_turned p j) ≡ false
 unmended p is e j l = lowest_nowhere p (no_first (lowest_bit p) (erased_bit p) (sym (mend_broken p is) ∙ e)) j l
 
 -- what is turned first is a mend of a broken page
@@ -168,7 +168,7 @@ first_mends p t broken (Some k) out low_is out_is e =
       unsound = broken.unsound;
       unerased = broken.unerased;
       within = first.within;
-      makes = (first.here, λ j l. none_of (record_of (turned p j)) (first.before j l));
+      makes = (first.here, λ j l. none_of (record_of (with_bit_turned p j)) (first.before j l));
     })
 first_mends p t broken None (Some k) low_is out_is e =
     let first = erased_from p k out_is in
@@ -177,7 +177,7 @@ first_mends p t broken None (Some k) low_is out_is e =
       unsound = broken.unsound;
       unerased = broken.unerased;
       within = first.within;
-      makes = (λ j l. none_of (record_of (turned p j)) (lowest_nowhere p low_is j l), first.here, first.before);
+      makes = (λ j l. none_of (record_of (with_bit_turned p j)) (lowest_nowhere p low_is j l), first.here, first.before);
     })
 first_mends p t broken None None low_is out_is e = absurd (cc)
 
@@ -190,9 +190,9 @@ mend_from p t e = by (is_broken p) refl
 
 -- a mend is what is turned first
 turn_is : (p : Page) (k : ℕ) (m : Made) → k < bit_count p → Makes p m k → first_turn (lowest_bit p) (erased_bit p) ≡ Some (record { bit = k; made = m })
-turn_is p k Sound within makes = ap (λ o. first_turn o (erased_bit p)) (lowest_is p k within makes.0 (λ j l. none_is (record_of (turned p j)) (makes.1 j l)))
+turn_is p k Sound within makes = ap (λ o. first_turn o (erased_bit p)) (lowest_is p k within makes.0 (λ j l. none_is (record_of (with_bit_turned p j)) (makes.1 j l)))
 turn_is p k Erased within makes =
-    ap (λ o. first_turn o (erased_bit p)) (lowest_none p (λ j l. none_is (record_of (turned p j)) (makes.0 j l))) ∙ ap (first_turn None) (erased_is p k within makes.1 makes.2)
+    ap (λ o. first_turn o (erased_bit p)) (lowest_none p (λ j l. none_is (record_of (with_bit_turned p j)) (makes.0 j l))) ∙ ap (first_turn None) (erased_is p k within makes.1 makes.2)
 
 mend_is : (p : Page) (t : Turned) → IsMend p t → mend_of p ≡ Some t
 mend_is p t h = mend_broken p (broken_is p h.unsound h.unerased) ∙ turn_is p t.bit t.made h.within h.makes
@@ -203,11 +203,11 @@ mend_law p t = (mend_from p t, mend_is p t)
 -- ---- the mended page
 
 -- what the word says of the page with the bit turned
-pub made_by : (p : Page) (k : ℕ) (m : Made) → Makes p m k → IsMade m (turned p k)
+pub made_by : (p : Page) (k : ℕ) (m : Made) → Makes p m k → IsMendedAs m (with_bit_turned p k)
 made_by p k Sound h = h.0
 made_by p k Erased h = h.1
 
-pub made_whole : (m : Made) (q : Page) → IsMade m q → is_broken q ≡ false
+pub made_whole : (m : Made) (q : Page) → IsMendedAs m q → is_broken q ≡ false
 made_whole Sound q h = sound_whole q h
 made_whole Erased q h = erased_whole q h
 

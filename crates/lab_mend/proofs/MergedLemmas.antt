@@ -22,7 +22,7 @@ use Rattle.lab_mend.specs.declared.merge.MergeFault.{MergeFault}
 use Rattle.lab_mend.specs.declared.merge.MergeFault.TheVariants as fault
 use Rattle.lab_mend.specs.Pages.{page_in, pages_in}
 use Rattle.lab_mend.specs.InStep.{AreAt, AreRead, CutAt, LongAt, HaveEnded}
-use Rattle.lab_mend.specs.Merging.{unsound_below, tried_below, piece_of, Shows, AreOwn, Stands}
+use Rattle.lab_mend.specs.Merging.{unsound_below, tried_below, piece_of, Shows, AreOwn, MergingStands}
 use Rattle.lab_mend.specs.Merged.{row_of, IsMerged, IsUnmerged, fault_of_cut, fault_of_end, IsPinned}
 
 -- ---- the pages of a row
@@ -63,7 +63,7 @@ row_next g known files row size pieces one h =
 
 -- ---- all of them
 
-pub merged : (g : Geometry) (files : List (List ℕ)) (conflicts unsound : List ℕ) (tried : List TriedRow) (tally : RowTally) (scratch : List ℕ) (pieces : Option (List (List ℕ))) → Stands g (row_count g) conflicts tally scratch pieces
+pub merged : (g : Geometry) (files : List (List ℕ)) (conflicts unsound : List ℕ) (tried : List TriedRow) (tally : RowTally) (scratch : List ℕ) (pieces : Option (List (List ℕ))) → MergingStands g (row_count g) conflicts tally scratch pieces
     → Shows g (row_of g files) (row_count g) conflicts tally pieces → unsound ≡ unsound_below g (row_of g files) (row_count g) → tried ≡ tried_below g (row_of g files) (row_count g) → HaveEnded files (image_bytes g)
     → IsMerged g files conflicts unsound tried tally pieces
 merged g files conflicts unsound tried tally scratch pieces stands h are tried_are ended = record {

@@ -23,12 +23,12 @@ use Rattle.lab_mend.specs.Majority.{majority}
 use Rattle.lab_mend.specs.Trial.{bits_apart, with_turned, is_tried}
 use Rattle.lab_mend.specs.Choice.{Choice, is_same, zero_page, chosen, by_found, by_turns, by_trial, by_programmed, by_majority, by_sound, choice}
 use Rattle.lab_mend.specs.Found.{WritesChoice}
-use Rattle.lab_mend.specs.Merging.{named, counted, place_of, is_from, is_turned, with_unsound, as_tried, tried_row, with_tried, conflicts_below, unsound_below, tried_below, tally_below, piece_of, Shows, AreOwn, AreListed, AreTried, AreFew, HasRoom, HasTriedRoom, Stands}
+use Rattle.lab_mend.specs.Merging.{named, counted, origin_place, is_from, is_turned, with_unsound, as_tried, tried_row, with_tried, conflicts_below, unsound_below, tried_below, tally_below, piece_of, Shows, AreOwn, AreListed, AreTried, AreFew, HasRoom, HasTriedRoom, MergingStands}
 use Rattle.lab_mend.proofs.MajorityLemmas.{range_more}
 
 -- ---- the rows that are named
 
-named_is : (rows : List ℕ) (n : ℕ) (o : Origin) → rows ++ cond (eqb (place_of o) 1) (n ∷ []) [] ≡ named rows n o
+named_is : (rows : List ℕ) (n : ℕ) (o : Origin) → rows ++ cond (eqb (origin_place o) 1) (n ∷ []) [] ≡ named rows n o
 named_is rows n Sound = append-nil rows
 named_is rows n Conflict = refl
 named_is rows n Majority = append-nil rows
@@ -44,7 +44,7 @@ conflicts_more g rows n =
     ap (filter (is_from g rows Conflict)) (range_more n)
     ∙ (filter-append (is_from g rows Conflict) (range_with_len 0 n) (n ∷ []) ∙ named_is (filter (is_from g rows Conflict) (range_with_len 0 n)) n (choice g (rows n)).origin)
 
-unsound_is : (rows : List ℕ) (n : ℕ) (o : Origin) → rows ++ cond (eqb (place_of o) 4) (n ∷ []) [] ≡ with_unsound rows n o
+unsound_is : (rows : List ℕ) (n : ℕ) (o : Origin) → rows ++ cond (eqb (origin_place o) 4) (n ∷ []) [] ≡ with_unsound rows n o
 unsound_is rows n Sound = append-nil rows
 unsound_is rows n Conflict = append-nil rows
 unsound_is rows n Majority = append-nil rows
@@ -139,8 +139,8 @@ tally_same : (s a k b c w x v y z : ℕ) → s ≡ w → a ≡ x → k ≡ v →
 tally_same s a k b c w x v y z d e i f h =
     ap (λ n. the_tally n a k b c) d ∙ (ap (λ n. the_tally w n k b c) e ∙ (ap (λ n. the_tally w x n b c) i ∙ (ap (λ n. the_tally w x v n c) f ∙ ap (the_tally w x v y) h)))
 
-counted_is : (t : RowTally) (o : Origin) → the_tally (t.sound + cond (eqb (place_of o) 0) 1 0) (t.majority + cond (eqb (place_of o) 2) 1 0) (t.turned + cond (eqb (place_of o) 5) 1 0) (t.erased + cond (eqb (place_of o) 3) 1 0)
-    (t.unsound + cond (eqb (place_of o) 4) 1 0) ≡ counted t o
+counted_is : (t : RowTally) (o : Origin) → the_tally (t.sound + cond (eqb (origin_place o) 0) 1 0) (t.majority + cond (eqb (origin_place o) 2) 1 0) (t.turned + cond (eqb (origin_place o) 5) 1 0) (t.erased + cond (eqb (origin_place o) 3) 1 0)
+    (t.unsound + cond (eqb (origin_place o) 4) 1 0) ≡ counted t o
 counted_is t Sound = tally_same (t.sound + 1) (t.majority + 0) (t.turned + 0) (t.erased + 0) (t.unsound + 0) (t.sound + 1) t.majority t.turned t.erased t.unsound refl (add-zero t.majority) (add-zero t.turned) (add-zero t.erased) (add-zero t.unsound)
 counted_is t Conflict = tally_same (t.sound + 0) (t.majority + 0) (t.turned + 0) (t.erased + 0) (t.unsound + 0) t.sound t.majority t.turned t.erased t.unsound (add-zero t.sound) (add-zero t.majority) (add-zero t.turned) (add-zero t.erased) (add-zero t.unsound)
 counted_is t Majority = tally_same (t.sound + 0) (t.majority + 1) (t.turned + 0) (t.erased + 0) (t.unsound + 0) t.sound (t.majority + 1) t.turned t.erased t.unsound (add-zero t.sound) refl (add-zero t.turned) (add-zero t.erased) (add-zero t.unsound)
@@ -162,7 +162,7 @@ tally_more g rows n =
     let e : ℕ = count_by (is_from g rows Erased) (range_with_len 0 n) in
     let u : ℕ = count_by (is_from g rows Unsound) (range_with_len 0 n) in
     let k : ℕ = count_by (is_turned g rows) (range_with_len 0 n) in
-    tally_same _ _ _ _ _ (s + cond (eqb (place_of o) 0) 1 0) (m + cond (eqb (place_of o) 2) 1 0) (k + cond (eqb (place_of o) 5) 1 0) (e + cond (eqb (place_of o) 3) 1 0) (u + cond (eqb (place_of o) 4) 1 0)
+    tally_same _ _ _ _ _ (s + cond (eqb (origin_place o) 0) 1 0) (m + cond (eqb (origin_place o) 2) 1 0) (k + cond (eqb (origin_place o) 5) 1 0) (e + cond (eqb (origin_place o) 3) 1 0) (u + cond (eqb (origin_place o) 4) 1 0)
     (count_more (is_from g rows Sound) n) (count_more (is_from g rows Majority) n) (count_more (is_turned g rows) n) (count_more (is_from g rows Erased) n) (count_more (is_from g rows Unsound) n)
     ∙ counted_is (the_tally s m k e u) o
 
@@ -287,8 +287,8 @@ both_set : (pieces : Option (List (List ℕ))) (P Q R : List (List ℕ) → Type
 both_set None P Q R n piece p q more = tt
 both_set (Some ps) P Q R n piece p q more = more ps p q
 
-pub stands_more : (g : Geometry) (n : ℕ) (rows : List ℕ) (t : RowTally) (o : Origin) (old scratch : List ℕ) (pieces : Option (List (List ℕ))) → n < row_count g → Stands g n rows t old pieces → length scratch ≡ page_bytes g
-    → (o ≡ Conflict → scratch ≡ replicate (page_bytes g) 0) → Stands g (n + 1) (named rows n o) (counted t o) scratch (option_map (λ ps. set ps n scratch) pieces)
+pub stands_more : (g : Geometry) (n : ℕ) (rows : List ℕ) (t : RowTally) (o : Origin) (old scratch : List ℕ) (pieces : Option (List (List ℕ))) → n < row_count g → MergingStands g n rows t old pieces → length scratch ≡ page_bytes g
+    → (o ≡ Conflict → scratch ≡ replicate (page_bytes g) 0) → MergingStands g (n + 1) (named rows n o) (counted t o) scratch (option_map (λ ps. set ps n scratch) pieces)
 stands_more g n rows t o old scratch pieces within h size zero = record {
   scratch_size = size;
   few = few_more n t o h.few;
@@ -303,7 +303,7 @@ written_more g of n piece ps inside is h row l = elim (cases_eq row n) [
   | inr ne ↦ get_or-set_other ps n row piece [] ne ∙ h row (omega arith)
 ]
 
-pub shows_more : (g : Geometry) (of : ℕ → List Page) (n : ℕ) (rows : List ℕ) (t : RowTally) (pages : List Page) (o : Origin) (old scratch : List ℕ) (pieces : Option (List (List ℕ))) → n < row_count g → Stands g n rows t old pieces
+pub shows_more : (g : Geometry) (of : ℕ → List Page) (n : ℕ) (rows : List ℕ) (t : RowTally) (pages : List Page) (o : Origin) (old scratch : List ℕ) (pieces : Option (List (List ℕ))) → n < row_count g → MergingStands g n rows t old pieces
     → Shows g of n rows t pieces → of n ≡ pages → WritesChoice (choice g pages) o scratch → Shows g of (n + 1) (named rows n o) (counted t o) (option_map (λ ps. set ps n scratch) pieces)
 shows_more g of n rows t pages o old scratch pieces within stands h are written =
     let origin : o ≡ (choice g (of n)).origin = written.origin_is ∙ ap (λ ps. (choice g ps).origin) (sym are) in
@@ -366,20 +366,20 @@ pub conflict_zero : (g : Geometry) (pages : List Page) (o : Origin) (scratch : L
 conflict_zero g pages o scratch h e = h.bytes_are ∙ (ap bytes_of_page (conflict_page g pages (sym h.origin_is ∙ e)) ∙ replicate-append-replicate g.data_bytes g.spare_bytes 0)
 
 -- the same, of what the code holds after it
-pub stands_next : (g : Geometry) (n : ℕ) (rows : List ℕ) (t : RowTally) (pages : List Page) (o : Origin) (old out : List ℕ) (pieces : Option (List (List ℕ))) → n < row_count g → Stands g n rows t old pieces → length out ≡ page_bytes g
+pub stands_next : (g : Geometry) (n : ℕ) (rows : List ℕ) (t : RowTally) (pages : List Page) (o : Origin) (old out : List ℕ) (pieces : Option (List (List ℕ))) → n < row_count g → MergingStands g n rows t old pieces → length out ≡ page_bytes g
     → WritesChoice (choice g pages) o out → (rows' : List ℕ) (t' : RowTally) (scratch : List ℕ) (pieces' : Option (List (List ℕ))) → rows' ≡ named rows n o → t' ≡ counted t o → scratch ≡ out
-    → pieces' ≡ option_map (λ ps. set ps n scratch) pieces → Stands g (n + 1) rows' t' scratch pieces'
+    → pieces' ≡ option_map (λ ps. set ps n scratch) pieces → MergingStands g (n + 1) rows' t' scratch pieces'
 stands_next g n rows t pages o old out pieces within h size written rows' t' scratch pieces' a b c d =
     let whole : length scratch ≡ page_bytes g = ap length c ∙ size in
     let zero : o ≡ Conflict → scratch ≡ replicate (page_bytes g) 0 = λ e. c ∙ conflict_zero g pages o out written e in
-    let next : Stands g (n + 1) (named rows n o) (counted t o) scratch (option_map (λ ps. set ps n scratch) pieces) = stands_more g n rows t o old scratch pieces within h whole zero in
-    let first : Stands g (n + 1) rows' (counted t o) scratch (option_map (λ ps. set ps n scratch) pieces) =
-    subst (λ (x : List ℕ). Stands g (n + 1) x (counted t o) scratch (option_map (λ ps. set ps n scratch) pieces)) (sym a) next in
-    let second : Stands g (n + 1) rows' t' scratch (option_map (λ ps. set ps n scratch) pieces) =
-    subst (λ (x : RowTally). Stands g (n + 1) rows' x scratch (option_map (λ ps. set ps n scratch) pieces)) (sym b) first in
-    subst (λ (x : Option (List (List ℕ))). Stands g (n + 1) rows' t' scratch x) (sym d) second
+    let next : MergingStands g (n + 1) (named rows n o) (counted t o) scratch (option_map (λ ps. set ps n scratch) pieces) = stands_more g n rows t o old scratch pieces within h whole zero in
+    let first : MergingStands g (n + 1) rows' (counted t o) scratch (option_map (λ ps. set ps n scratch) pieces) =
+    subst (λ (x : List ℕ). MergingStands g (n + 1) x (counted t o) scratch (option_map (λ ps. set ps n scratch) pieces)) (sym a) next in
+    let second : MergingStands g (n + 1) rows' t' scratch (option_map (λ ps. set ps n scratch) pieces) =
+    subst (λ (x : RowTally). MergingStands g (n + 1) rows' x scratch (option_map (λ ps. set ps n scratch) pieces)) (sym b) first in
+    subst (λ (x : Option (List (List ℕ))). MergingStands g (n + 1) rows' t' scratch x) (sym d) second
 
-pub shows_next : (g : Geometry) (of : ℕ → List Page) (n : ℕ) (rows : List ℕ) (t : RowTally) (pages : List Page) (o : Origin) (old out : List ℕ) (pieces : Option (List (List ℕ))) → n < row_count g → Stands g n rows t old pieces
+pub shows_next : (g : Geometry) (of : ℕ → List Page) (n : ℕ) (rows : List ℕ) (t : RowTally) (pages : List Page) (o : Origin) (old out : List ℕ) (pieces : Option (List (List ℕ))) → n < row_count g → MergingStands g n rows t old pieces
     → Shows g of n rows t pieces → of n ≡ pages → WritesChoice (choice g pages) o out → (rows' : List ℕ) (t' : RowTally) (scratch : List ℕ) (pieces' : Option (List (List ℕ))) → rows' ≡ named rows n o → t' ≡ counted t o → scratch ≡ out
     → pieces' ≡ option_map (λ ps. set ps n scratch) pieces → Shows g of (n + 1) rows' t' pieces'
 shows_next g of n rows t pages o old out pieces within stands h are written rows' t' scratch pieces' a b c d =
@@ -393,7 +393,7 @@ shows_next g of n rows t pages o old out pieces within stands h are written rows
 
 -- ---- before the first row
 
-pub stands_first : (g : Geometry) (scratch : List ℕ) (pieces : Option (List (List ℕ))) → length scratch ≡ page_bytes g → IfSome pieces (λ ps. length ps ≡ row_count g) → Stands g 0 [] (the_tally 0 0 0 0 0) scratch pieces
+pub stands_first : (g : Geometry) (scratch : List ℕ) (pieces : Option (List (List ℕ))) → length scratch ≡ page_bytes g → IfSome pieces (λ ps. length ps ≡ row_count g) → MergingStands g 0 [] (the_tally 0 0 0 0 0) scratch pieces
 stands_first g scratch pieces size whole = record {
   scratch_size = size;
   few = record { sound = omega arith; majority = omega arith; turned = omega arith; erased = omega arith; unsound = omega arith };

@@ -12,11 +12,11 @@ use Rattle.lab_mend.specs.declared.mending.Turned.{Turned}
 use Rattle.lab_mend.specs.declared.pairs.BitPair.{BitPair}
 use Rattle.lab_mend.specs.declared.pairs.Turn.{Turn}
 use Rattle.lab_mend.specs.declared.pairs.Turn.TheVariants.{One, Two, Tied, Nothing}
-use Rattle.lab_mend.specs.Bits.{turned, DiffersAt}
+use Rattle.lab_mend.specs.Bits.{with_bit_turned, DiffersAt}
 use Rattle.lab_mend.specs.Mend.{erased_bit, first_turn, lowest_bit, mend_of}
-use Rattle.lab_mend.specs.Repairing.{IsLeft}
+use Rattle.lab_mend.specs.Repairing.{IsTurnTold}
 use Rattle.lab_mend.specs.Trial.{bits_apart, turned_count, with_turned, HasBytes}
-use Rattle.lab_mend.specs.Pairs.{second_bits, pairs_with, sound_pairs, by_pairs, one_or_two, turn_of, turned_by, turned_back, repaired, MakeSound, HasTwoPairs, Tells, TurnLaw, DiffersInTwo, IsOneBitOff, AreTwoBitsOff, RepairedLaw, OnlyLaw, KeptLaw, AgainLaw}
+use Rattle.lab_mend.specs.Pairs.{second_bits, pairs_with, sound_pairs, by_pairs, one_or_two, page_turn_of, turned_by, turned_back, repaired, MakeSound, HasTwoPairs, Tells, TurnLaw, DiffersInTwo, IsOneBitOff, AreTwoBitsOff, RepairedLaw, OnlyLaw, KeptLaw, AgainLaw}
 use Rattle.lab_mend.proofs.BitLemmas.{count_turned, turned_law, turned_twice}
 use Rattle.lab_mend.proofs.MendLemmas.{broken_from, made_by, made_whole, mend_broken, mend_law, sound_whole, unmended}
 use Rattle.lab_mend.proofs.TrialLemmas.{alone, AreBits, bit_together, bits_once, either_in, in_turned, passes_from, passes_in, passing_bits}
@@ -25,11 +25,11 @@ use Rattle.lab_mend.proofs.TrialLemmas.{alone, AreBits, bit_together, bits_once,
 
 -- of the bits from this one on those whose turning makes the page sound
 abbrev pub bits_from : Page → ℕ → ℕ → List ℕ
-bits_from p k size = filter (λ l. is_sound (turned p l)) (range_with_len k size)
+bits_from p k size = filter (λ l. is_sound (with_bit_turned p l)) (range_with_len k size)
 
 -- the pairs from this lower bit on
 abbrev pub pairs_from : Page → ℕ → ℕ → List BitPair
-pairs_from p k size = flat_map (λ j. pairs_with j (second_bits (turned p j) j)) (range_with_len k size)
+pairs_from p k size = flat_map (λ j. pairs_with j (second_bits (with_bit_turned p j) j)) (range_with_len k size)
 
 pub second_is : (p : Page) (k : ℕ) → bits_from p (k + 1) (bit_count p - (k + 1)) ≡ second_bits p k
 unfolding second_bits
@@ -39,12 +39,12 @@ pub pairs_are : (p : Page) → pairs_from p 0 (bit_count p) ≡ sound_pairs p
 unfolding sound_pairs
 pairs_are p = refl
 
-pub bits_found : (p : Page) (k n : ℕ) → k < n → is_sound (turned p k) ≡ true → bits_from p k (n - k) ≡ k ∷ bits_from p (k + 1) (n - (k + 1))
+pub bits_found : (p : Page) (k n : ℕ) → k < n → is_sound (with_bit_turned p k) ≡ true → bits_from p k (n - k) ≡ k ∷ bits_from p (k + 1) (n - (k + 1))
 bits_found p k n l is =
     let more : n - k ≡ suc (n - (k + 1)) = omega arith in
     ap (bits_from p k) more ∙ ap (λ b. cond b (k ∷ bits_from p (k + 1) (n - (k + 1))) (bits_from p (k + 1) (n - (k + 1)))) is
 
-pub bits_passed : (p : Page) (k n : ℕ) → k < n → is_sound (turned p k) ≡ false → bits_from p k (n - k) ≡ bits_from p (k + 1) (n - (k + 1))
+pub bits_passed : (p : Page) (k n : ℕ) → k < n → is_sound (with_bit_turned p k) ≡ false → bits_from p k (n - k) ≡ bits_from p (k + 1) (n - (k + 1))
 bits_passed p k n l is =
     let more : n - k ≡ suc (n - (k + 1)) = omega arith in
     ap (bits_from p k) more ∙ ap (λ b. cond b (k ∷ bits_from p (k + 1) (n - (k + 1))) (bits_from p (k + 1) (n - (k + 1)))) is
@@ -52,7 +52,7 @@ bits_passed p k n l is =
 pub bits_ended : (p : Page) (k n : ℕ) → n ≤ k → bits_from p k (n - k) ≡ []
 bits_ended p k n l = let none : n - k ≡ 0 = omega arith in ap (bits_from p k) none
 
-pub pairs_step : (p : Page) (k n : ℕ) → k < n → pairs_from p k (n - k) ≡ pairs_with k (second_bits (turned p k) k) ++ pairs_from p (k + 1) (n - (k + 1))
+pub pairs_step : (p : Page) (k n : ℕ) → k < n → pairs_from p k (n - k) ≡ pairs_with k (second_bits (with_bit_turned p k) k) ++ pairs_from p (k + 1) (n - (k + 1))
 pairs_step p k n l = let more : n - k ≡ suc (n - (k + 1)) = omega arith in ap (pairs_from p k) more
 
 pub pairs_ended : (p : Page) (k n : ℕ) → n ≤ k → pairs_from p k (n - k) ≡ []
@@ -82,18 +82,18 @@ with_in k l (x ∷ xs) at = elim (either_in x l xs at) [
   | inr later ↦ let h = with_in k l xs later in (suc h.0, (let m = h.1 in omega arith), h.2)
 ]
 
-second_from : (p : Page) (k l : ℕ) → k < bit_count p → Contains (second_bits (turned p k) k) l → MakeSound p k l
+second_from : (p : Page) (k l : ℕ) → k < bit_count p → Contains (second_bits (with_bit_turned p k) k) l → MakeSound p k l
 unfolding second_bits
 second_from p k l within at =
-    let h = passes_from (λ j. is_sound (turned (turned p k) j)) (k + 1) (bit_count (turned p k) - (k + 1)) l at in
-    let same : bit_count (turned p k) ≡ bit_count p = count_turned p k in
+    let h = passes_from (λ j. is_sound (with_bit_turned (with_bit_turned p k) j)) (k + 1) (bit_count (with_bit_turned p k) - (k + 1)) l at in
+    let same : bit_count (with_bit_turned p k) ≡ bit_count p = count_turned p k in
     record { rising = (let low = h.low in omega arith); within = (let high = h.high in omega arith); sound = h.passes }
 
-second_in : (p : Page) (k l : ℕ) → MakeSound p k l → Contains (second_bits (turned p k) k) l
+second_in : (p : Page) (k l : ℕ) → MakeSound p k l → Contains (second_bits (with_bit_turned p k) k) l
 unfolding second_bits
 second_in p k l h =
-    let same : bit_count (turned p k) ≡ bit_count p = count_turned p k in
-    passes_in (λ j. is_sound (turned (turned p k) j)) (k + 1) (bit_count (turned p k) - (k + 1)) l
+    let same : bit_count (with_bit_turned p k) ≡ bit_count p = count_turned p k in
+    passes_in (λ j. is_sound (with_bit_turned (with_bit_turned p k) j)) (k + 1) (bit_count (with_bit_turned p k) - (k + 1)) l
     (record { low = (let up = h.rising in omega arith); high = (let up = h.rising in let within = h.within in omega arith); passes = h.sound })
 
 -- the pair makes the page sound, and its lower bit is this one or a later one
@@ -103,9 +103,9 @@ record IsFrom (p : Page) (from : ℕ) (b : BitPair) : Type 0 where
 
 pairs_out : (p : Page) (from size : ℕ) (b : BitPair) → from + size ≤ bit_count p → Contains (pairs_from p from size) b → IsFrom p from b
 pairs_out p from zero b le at = absurd (let l = at.1 in omega arith)
-pairs_out p from (suc size) b le at = elim (Contains-append_cases (pairs_with from (second_bits (turned p from) from)) (pairs_from p (from + 1) size) b at) [
+pairs_out p from (suc size) b le at = elim (Contains-append_cases (pairs_with from (second_bits (with_bit_turned p from) from)) (pairs_from p (from + 1) size) b at) [
   | inl here ↦
-      let h = with_from from (second_bits (turned p from) from) b here in
+      let h = with_from from (second_bits (with_bit_turned p from) from) b here in
       record { late = (let e = h.low_is in omega arith); makes = subst (λ k. MakeSound p k b.high) (sym h.low_is) (second_from p from b.high (omega arith) h.high_in) }
   | inr later ↦ let h = pairs_out p (from + 1) size b (omega arith) later in record { late = (let l = h.late in omega arith); makes = h.makes }
 ]
@@ -114,10 +114,10 @@ pairs_in : (p : Page) (from size k l : ℕ) → from ≤ k → k < from + size �
 pairs_in p from zero k l low high h = absurd (omega arith)
 pairs_in p from (suc size) k l low high h = elim (cases_eq from k) [
   | inl same ↦
-      Contains-append_left (pairs_with from (second_bits (turned p from) from)) (pairs_from p (from + 1) size) (pair_of k l)
-      (subst (λ x. Contains (pairs_with x (second_bits (turned p x) x)) (pair_of k l)) (sym same) (with_in k l (second_bits (turned p k) k) (second_in p k l h)))
+      Contains-append_left (pairs_with from (second_bits (with_bit_turned p from) from)) (pairs_from p (from + 1) size) (pair_of k l)
+      (subst (λ x. Contains (pairs_with x (second_bits (with_bit_turned p x) x)) (pair_of k l)) (sym same) (with_in k l (second_bits (with_bit_turned p k) k) (second_in p k l h)))
   | inr ne ↦
-      Contains-append_right (pairs_with from (second_bits (turned p from) from)) (pairs_from p (from + 1) size) (pair_of k l)
+      Contains-append_right (pairs_with from (second_bits (with_bit_turned p from) from)) (pairs_from p (from + 1) size) (pair_of k l)
       (pairs_in p (from + 1) size k l (omega arith) (omega arith) h)
 ]
 
@@ -147,17 +147,17 @@ once_append (x ∷ xs) ys left right apart = (
 
 second_once : (p : Page) (k : ℕ) → k < bit_count p → AreBits (bit_count p) (second_bits p k)
 unfolding second_bits
-second_once p k l = passing_bits (λ j. is_sound (turned p j)) (bit_count p) (k + 1) (bit_count p - (k + 1)) (omega arith)
+second_once p k l = passing_bits (λ j. is_sound (with_bit_turned p j)) (bit_count p) (k + 1) (bit_count p - (k + 1)) (omega arith)
 
 pairs_once : (p : Page) (from size : ℕ) → from + size ≤ bit_count p → AreOnce (pairs_from p from size)
 pairs_once p from zero le = tt
 pairs_once p from (suc size) le =
-    let same : bit_count (turned p from) ≡ bit_count p = count_turned p from in
-    once_append (pairs_with from (second_bits (turned p from) from)) (pairs_from p (from + 1) size)
-    (once_with (bit_count (turned p from)) from (second_bits (turned p from) from) (second_once (turned p from) from (omega arith)))
+    let same : bit_count (with_bit_turned p from) ≡ bit_count p = count_turned p from in
+    once_append (pairs_with from (second_bits (with_bit_turned p from) from)) (pairs_from p (from + 1) size)
+    (once_with (bit_count (with_bit_turned p from)) from (second_bits (with_bit_turned p from) from) (second_once (with_bit_turned p from) from (omega arith)))
     (pairs_once p (from + 1) size (omega arith))
     (λ b here later.
-    let first = (with_from from (second_bits (turned p from) from) b here).low_is in
+    let first = (with_from from (second_bits (with_bit_turned p from) from) b here).low_is in
     let late = (pairs_out p (from + 1) size b (omega arith) later).late in
     (omega arith))
 
@@ -214,24 +214,24 @@ told_by : (bits : ℕ) (p : Page) (t : Turn) (o : Option Turned) → mend_of p �
 told_by bits p t (Some one) is e = subst (Tells p) (same_turn e) is
 told_by bits p t None is e = told_two p t is (nat_le 2 bits) e
 
-pub turn_broken : (bits : ℕ) (p : Page) → is_broken p ≡ true → turn_of bits p ≡ one_or_two bits p (mend_of p)
-unfolding turn_of
+pub turn_broken : (bits : ℕ) (p : Page) → is_broken p ≡ true → page_turn_of bits p ≡ one_or_two bits p (mend_of p)
+unfolding page_turn_of
 turn_broken bits p is = ap (λ b. cond b (one_or_two bits p (mend_of p)) None) is
 
-pub turn_whole : (bits : ℕ) (p : Page) → is_broken p ≡ false → turn_of bits p ≡ None
-unfolding turn_of
+pub turn_whole : (bits : ℕ) (p : Page) → is_broken p ≡ false → page_turn_of bits p ≡ None
+unfolding page_turn_of
 turn_whole bits p is = ap (λ b. cond b (one_or_two bits p (mend_of p)) None) is
 
 -- what is turned of a broken page, by the bit that is turned first
-pub turn_one : (bits : ℕ) (p : Page) (t : Turned) → is_broken p ≡ true → Some t ≡ first_turn (lowest_bit p) (erased_bit p) → Some (One t) ≡ turn_of bits p
+pub turn_one : (bits : ℕ) (p : Page) (t : Turned) → is_broken p ≡ true → Some t ≡ first_turn (lowest_bit p) (erased_bit p) → Some (One t) ≡ page_turn_of bits p
 turn_one bits p t is e = sym (turn_broken bits p is ∙ ap (one_or_two bits p) (mend_broken p is ∙ sym e))
 
-pub turn_two : (bits : ℕ) (p : Page) → 2 ≤ bits → is_broken p ≡ true → None ≡ first_turn (lowest_bit p) (erased_bit p) → Some (by_pairs (sound_pairs p)) ≡ turn_of bits p
+pub turn_two : (bits : ℕ) (p : Page) → 2 ≤ bits → is_broken p ≡ true → None ≡ first_turn (lowest_bit p) (erased_bit p) → Some (by_pairs (sound_pairs p)) ≡ page_turn_of bits p
 turn_two bits p some is e =
     let test : nat_le 2 bits ≡ true = grind (arith, nat_tests) in
     sym (turn_broken bits p is ∙ (ap (one_or_two bits p) (mend_broken p is ∙ sym e) ∙ ap (λ b. cond b (Some (by_pairs (sound_pairs p))) None) test))
 
-pub turn_none : (bits : ℕ) (p : Page) → bits < 2 → is_broken p ≡ true → None ≡ first_turn (lowest_bit p) (erased_bit p) → None ≡ turn_of bits p
+pub turn_none : (bits : ℕ) (p : Page) → bits < 2 → is_broken p ≡ true → None ≡ first_turn (lowest_bit p) (erased_bit p) → None ≡ page_turn_of bits p
 turn_none bits p few is e =
     let test : nat_le 2 bits ≡ false = grind (arith, nat_tests) in
     sym (turn_broken bits p is ∙ (ap (one_or_two bits p) (mend_broken p is ∙ sym e) ∙ ap (λ b. cond b (Some (by_pairs (sound_pairs p))) None) test))
@@ -257,72 +257,72 @@ turn_law bits p t e = by (is_broken p) refl
 
 -- ---- the repaired page
 
-pub repaired_by : (bits : ℕ) (p : Page) (o : Option Turn) → turn_of bits p ≡ o → repaired bits p ≡ turned_by p o
+pub repaired_by : (bits : ℕ) (p : Page) (o : Option Turn) → page_turn_of bits p ≡ o → repaired bits p ≡ turned_by p o
 unfolding repaired
 repaired_by bits p o e = ap (turned_by p) e
 
 -- with what was turned turned back it is as it was
-back_by : (bits : ℕ) (p : Page) (t : Turn) → turn_of bits p ≡ Some t → Tells p t → turned_back (turned_by p (Some t)) (Some t) ≡ p
+back_by : (bits : ℕ) (p : Page) (t : Turn) → page_turn_of bits p ≡ Some t → Tells p t → turned_back (turned_by p (Some t)) (Some t) ≡ p
 back_by bits p (One t) e tells = turned_twice p t.bit ((mend_law p t).0 tells).within
 back_by bits p (Two b) e tells =
     let makes = tells.1 in
-    ap (λ q. turned q b.low) (turned_twice (turned p b.low) b.high (let same = count_turned p b.low in let within = makes.within in omega arith))
+    ap (λ q. with_bit_turned q b.low) (turned_twice (with_bit_turned p b.low) b.high (let same = count_turned p b.low in let within = makes.within in omega arith))
     ∙ turned_twice p b.low (let up = makes.rising in let within = makes.within in omega arith)
 back_by bits p Tied e tells = refl
 back_by bits p Nothing e tells = refl
 
-pub back_again : (bits : ℕ) (p : Page) → turned_back (repaired bits p) (turn_of bits p) ≡ p
-back_again bits p = by (turn_of bits p) refl
+pub back_again : (bits : ℕ) (p : Page) → turned_back (repaired bits p) (page_turn_of bits p) ≡ p
+back_again bits p = by (page_turn_of bits p) refl
   where
-    by : (o : Option Turn) → turn_of bits p ≡ o → turned_back (repaired bits p) o ≡ p
+    by : (o : Option Turn) → page_turn_of bits p ≡ o → turned_back (repaired bits p) o ≡ p
     by None e = repaired_by bits p None e
     by (Some t) e = ap (λ q. turned_back q (Some t)) (repaired_by bits p (Some t) e) ∙ back_by bits p t e (turn_law bits p t e).1
 
 -- what is told of a page is so of what is left of it
-left_by : (p : Page) (t : Turn) → is_broken p ≡ true → Tells p t → IsLeft t (turned_by p (Some t))
+left_by : (p : Page) (t : Turn) → is_broken p ≡ true → Tells p t → IsTurnTold t (turned_by p (Some t))
 left_by p (One t) is tells =
     let mend = (mend_law p t).0 tells in
     (made_by p t.bit t.made mend.makes, subst (λ n. t.bit < n) (sym (count_turned p t.bit)) mend.within)
 left_by p (Two b) is tells =
     let makes = tells.1 in
-    (makes.sound, makes.rising, subst (λ n. b.high < n) (sym (count_turned (turned p b.low) b.high ∙ count_turned p b.low)) makes.within)
+    (makes.sound, makes.rising, subst (λ n. b.high < n) (sym (count_turned (with_bit_turned p b.low) b.high ∙ count_turned p b.low)) makes.within)
 left_by p Tied is tells = is
 left_by p Nothing is tells = is
 
 -- the page whose bits turned back are this one's is this one
 again_by : (q : Page) (t : Turn) → Tells (turned_back q (Some t)) t → turned_by (turned_back q (Some t)) (Some t) ≡ q
 again_by q (One t) tells =
-    let within = ((mend_law (turned q t.bit) t).0 tells).within in
+    let within = ((mend_law (with_bit_turned q t.bit) t).0 tells).within in
     turned_twice q t.bit (subst (λ n. t.bit < n) (count_turned q t.bit) within)
 again_by q (Two b) tells =
     let makes = tells.1 in
-    let same : bit_count (turned (turned q b.high) b.low) ≡ bit_count q = count_turned (turned q b.high) b.low ∙ count_turned q b.high in
-    let once : bit_count (turned q b.high) ≡ bit_count q = count_turned q b.high in
-    ap (λ r. turned r b.high) (turned_twice (turned q b.high) b.low (let up = makes.rising in let within = makes.within in omega arith))
+    let same : bit_count (with_bit_turned (with_bit_turned q b.high) b.low) ≡ bit_count q = count_turned (with_bit_turned q b.high) b.low ∙ count_turned q b.high in
+    let once : bit_count (with_bit_turned q b.high) ≡ bit_count q = count_turned q b.high in
+    ap (λ r. with_bit_turned r b.high) (turned_twice (with_bit_turned q b.high) b.low (let up = makes.rising in let within = makes.within in omega arith))
     ∙ turned_twice q b.high (let within = makes.within in omega arith)
 again_by q Tied tells = refl
 again_by q Nothing tells = refl
 
-pub left_so : (bits : ℕ) (q : Page) (t : Turn) → turn_of bits (turned_back q (Some t)) ≡ Some t → IsLeft t q
+pub left_so : (bits : ℕ) (q : Page) (t : Turn) → page_turn_of bits (turned_back q (Some t)) ≡ Some t → IsTurnTold t q
 left_so bits q t e =
     let told = turn_law bits (turned_back q (Some t)) t e in
-    subst (IsLeft t) (again_by q t told.1) (left_by (turned_back q (Some t)) t told.0 told.1)
+    subst (IsTurnTold t) (again_by q t told.1) (left_by (turned_back q (Some t)) t told.0 told.1)
 
 pub again_law : AgainLaw
-again_law bits p = by (turn_of bits p) refl
+again_law bits p = by (page_turn_of bits p) refl
   where
     -- a page that is sound or erased stays as it is
     whole : (q : Page) → is_broken q ≡ false → repaired bits p ≡ q → repaired bits (repaired bits p) ≡ repaired bits p
     whole q is e = ap (repaired bits) e ∙ (repaired_by bits q None (turn_whole bits q is) ∙ sym e)
 
-    by : (o : Option Turn) → turn_of bits p ≡ o → repaired bits (repaired bits p) ≡ repaired bits p
+    by : (o : Option Turn) → page_turn_of bits p ≡ o → repaired bits (repaired bits p) ≡ repaired bits p
     by None e = ap (repaired bits) (repaired_by bits p None e)
     by (Some (One t)) e =
         let tells = (turn_law bits p (One t) e).1 in
-        whole (turned p t.bit) (made_whole t.made (turned p t.bit) (made_by p t.bit t.made ((mend_law p t).0 tells).makes)) (repaired_by bits p (Some (One t)) e)
+        whole (with_bit_turned p t.bit) (made_whole t.made (with_bit_turned p t.bit) (made_by p t.bit t.made ((mend_law p t).0 tells).makes)) (repaired_by bits p (Some (One t)) e)
     by (Some (Two b)) e =
         let tells = (turn_law bits p (Two b) e).1 in
-        whole (turned (turned p b.low) b.high) (sound_whole (turned (turned p b.low) b.high) tells.1.sound) (repaired_by bits p (Some (Two b)) e)
+        whole (with_bit_turned (with_bit_turned p b.low) b.high) (sound_whole (with_bit_turned (with_bit_turned p b.low) b.high) tells.1.sound) (repaired_by bits p (Some (Two b)) e)
     by (Some Tied) e = ap (repaired bits) (repaired_by bits p (Some Tied) e)
     by (Some Nothing) e = ap (repaired bits) (repaired_by bits p (Some Nothing) e)
 
@@ -350,30 +350,30 @@ differs_twice p q r b up within one two = record {
         (two.others j).0 (same ∙ sym kept) e
 
 -- two bits away, where two were turned
-two_off : (bits : ℕ) (p : Page) (b : BitPair) → turn_of bits p ≡ Some (Two b) → AreTwoBitsOff bits p (repaired bits p)
+two_off : (bits : ℕ) (p : Page) (b : BitPair) → page_turn_of bits p ≡ Some (Two b) → AreTwoBitsOff bits p (repaired bits p)
 two_off bits p b e =
     let makes = (turn_law bits p (Two b) e).1.1 in
-    let is : turned (turned p b.low) b.high ≡ repaired bits p = sym (repaired_by bits p (Some (Two b)) e) in
-    let same : bit_count (turned p b.low) ≡ bit_count p = count_turned p b.low in
+    let is : with_bit_turned (with_bit_turned p b.low) b.high ≡ repaired bits p = sym (repaired_by bits p (Some (Two b)) e) in
+    let same : bit_count (with_bit_turned p b.low) ≡ bit_count p = count_turned p b.low in
     let up = makes.rising in
     let within = makes.within in
     subst (AreTwoBitsOff bits p) is (record {
       pair = b;
       turn_is = e;
       sound = makes.sound;
-      differs = differs_twice p (turned p b.low) (turned (turned p b.low) b.high) b up within (turned_law p b.low (omega arith)) (turned_law (turned p b.low) b.high (omega arith));
+      differs = differs_twice p (with_bit_turned p b.low) (with_bit_turned (with_bit_turned p b.low) b.high) b up within (turned_law p b.low (omega arith)) (turned_law (with_bit_turned p b.low) b.high (omega arith));
     })
 
-one_off : (bits : ℕ) (p : Page) (t : Turned) → turn_of bits p ≡ Some (One t) → IsOneBitOff p (repaired bits p)
+one_off : (bits : ℕ) (p : Page) (t : Turned) → page_turn_of bits p ≡ Some (One t) → IsOneBitOff p (repaired bits p)
 one_off bits p t e =
     let tells = (turn_law bits p (One t) e).1 in
     let mend = (mend_law p t).0 tells in
     subst (IsOneBitOff p) (sym (repaired_by bits p (Some (One t)) e)) (record { turn = t; mend_is = tells; made = made_by p t.bit t.made mend.makes; differs = turned_law p t.bit mend.within })
 
 pub repaired_law : RepairedLaw
-repaired_law bits p = by (turn_of bits p) refl
+repaired_law bits p = by (page_turn_of bits p) refl
   where
-    by : (o : Option Turn) → turn_of bits p ≡ o → (repaired bits p ≡ p) ⊎ IsOneBitOff p (repaired bits p) ⊎ AreTwoBitsOff bits p (repaired bits p)
+    by : (o : Option Turn) → page_turn_of bits p ≡ o → (repaired bits p ≡ p) ⊎ IsOneBitOff p (repaired bits p) ⊎ AreTwoBitsOff bits p (repaired bits p)
     by None e = inl (repaired_by bits p None e)
     by (Some (One t)) e = inr (inl (one_off bits p t e))
     by (Some (Two b)) e = inr (inr (two_off bits p b e))
@@ -390,7 +390,7 @@ record HasOne (p : Page) (from size : ℕ) (q : Page) : Type 0 where
   bit : ℕ
   low : from ≤ bit
   high : bit < from + size
-  is : turned p bit ≡ q
+  is : with_bit_turned p bit ≡ q
 
 one_later : (p q : Page) (from size : ℕ) → HasOne p (from + 1) size q → HasOne p from (suc size) q
 one_later p q from size h = record { bit = h.bit; low = (let l = h.low in omega arith); high = (let l = h.high in omega arith); is = h.is }
@@ -400,10 +400,10 @@ unfolding with_turned
 zero_turned p q [] at = alone p q at
 zero_turned p q (k ∷ ks) at = alone p q at
 
-one_step : (p q : Page) (k : ℕ) (ks : List ℕ) → Contains (with_turned p (k ∷ ks) 1) q → (turned p k ≡ q) ⊎ Contains (with_turned p ks 1) q
+one_step : (p q : Page) (k : ℕ) (ks : List ℕ) → Contains (with_turned p (k ∷ ks) 1) q → (with_bit_turned p k ≡ q) ⊎ Contains (with_turned p ks 1) q
 unfolding with_turned
-one_step p q k ks at = elim (Contains-append_cases (with_turned (turned p k) ks 0) (with_turned p ks 1) q at) [
-  | inl here ↦ inl (zero_turned (turned p k) q ks here)
+one_step p q k ks at = elim (Contains-append_cases (with_turned (with_bit_turned p k) ks 0) (with_turned p ks 1) q at) [
+  | inl here ↦ inl (zero_turned (with_bit_turned p k) q ks here)
   | inr later ↦ inr later
 ]
 
@@ -430,20 +430,20 @@ record HasBoth (p : Page) (from size : ℕ) (q : Page) : Type 0 where
   low : from ≤ first
   up : first < second
   high : second < from + size
-  is : turned (turned p first) second ≡ q
+  is : with_bit_turned (with_bit_turned p first) second ≡ q
 
 two_later : (p q : Page) (from size : ℕ) → HasBoth p (from + 1) size q → HasBoth p from (suc size) q
 two_later p q from size h = record { first = h.first; second = h.second; low = (let l = h.low in omega arith); up = h.up; high = (let l = h.high in omega arith); is = h.is }
 
-two_step : (p q : Page) (k : ℕ) (ks : List ℕ) → Contains (with_turned p (k ∷ ks) 2) q → Contains (with_turned (turned p k) ks 1) q ⊎ Contains (with_turned p ks 2) q
+two_step : (p q : Page) (k : ℕ) (ks : List ℕ) → Contains (with_turned p (k ∷ ks) 2) q → Contains (with_turned (with_bit_turned p k) ks 1) q ⊎ Contains (with_turned p ks 2) q
 unfolding with_turned
-two_step p q k ks at = Contains-append_cases (with_turned (turned p k) ks 1) (with_turned p ks 2) q at
+two_step p q k ks at = Contains-append_cases (with_turned (with_bit_turned p k) ks 1) (with_turned p ks 2) q at
 
 two_by : (p q : Page) (f : ℕ → Bool) (from size : ℕ) → (Contains (with_turned p (filter f (range_with_len (from + 1) size)) 2) q → HasBoth p (from + 1) size q) → (b : Bool)
     → Contains (with_turned p (cond b (from ∷ filter f (range_with_len (from + 1) size)) (filter f (range_with_len (from + 1) size))) 2) q → HasBoth p from (suc size) q
 two_by p q f from size rest true at = elim (two_step p q from (filter f (range_with_len (from + 1) size)) at) [
   | inl here ↦
-      let h = one_turned (turned p from) q f (from + 1) size here in
+      let h = one_turned (with_bit_turned p from) q f (from + 1) size here in
       record { first = from; second = h.bit; low = omega arith; up = (let l = h.low in omega arith); high = (let l = h.high in omega arith); is = h.is }
   | inr later ↦ two_later p q from size (rest later)
 ]
@@ -484,7 +484,7 @@ only_law bits p q b e left right body spare sound few = elim (few_cases (turned_
     | inr two ↦
         let h = two_here p q left right body spare two in
         let same = told.1.2 h.first h.second (record { rising = h.up; within = (let high = h.high in omega arith); sound = ap is_sound h.is ∙ sound }) in
-        sym h.is ∙ (ap (λ k. turned (turned p k) h.second) same.0 ∙ (ap (turned (turned p b.low)) same.1 ∙ sym (repaired_by bits p (Some (Two b)) e)))
+        sym h.is ∙ (ap (λ k. with_bit_turned (with_bit_turned p k) h.second) same.0 ∙ (ap (with_bit_turned (with_bit_turned p b.low)) same.1 ∙ sym (repaired_by bits p (Some (Two b)) e)))
   ]
 ]
   where

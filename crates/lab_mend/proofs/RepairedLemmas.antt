@@ -21,8 +21,8 @@ use Rattle.lab_mend.specs.declared.pairs.Turn.{Turn}
 use Rattle.lab_mend.specs.declared.repairing.Mend.{Mend}
 use Rattle.lab_mend.specs.declared.repairing.RepairAsked.{RepairAsked}
 use Rattle.lab_mend.specs.Pairs as Pairs
-use Rattle.lab_mend.specs.Pairs.{turn_of, turned_back}
-use Rattle.lab_mend.specs.Repairing.{as_mend, turn_at, mend_in, mends_below, piece_of, piece_at, AreMendedBelow, IsLeft, IsOwn, AreOwn, OwnLaw, Shows, Stands}
+use Rattle.lab_mend.specs.Pairs.{page_turn_of, turned_back}
+use Rattle.lab_mend.specs.Repairing.{as_mend, turn_at, mend_in, mends_below, piece_of, piece_at, AreMendedBelow, IsTurnTold, IsOwn, AreOwn, OwnRepairLaw, Shows, RepairingStands}
 use Rattle.lab_mend.specs.Repaired.{pieces_of, IsRepaired, RowsLaw}
 use Rattle.lab_mend.proofs.PairLemmas.{back_again, left_so}
 
@@ -35,29 +35,29 @@ same_asked a b rows bits =
 
 -- ---- one page
 
-asked_turn : (asked : RepairAsked) (row : ℕ) (p : Page) → is_asked asked.rows row ≡ true → turn_at asked row p ≡ turn_of asked.bits p
-asked_turn asked row p is = ap (λ b. cond b (turn_of asked.bits p) None) is
+asked_turn : (asked : RepairAsked) (row : ℕ) (p : Page) → is_asked asked.rows row ≡ true → turn_at asked row p ≡ page_turn_of asked.bits p
+asked_turn asked row p is = ap (λ b. cond b (page_turn_of asked.bits p) None) is
 
 unasked_turn : (asked : RepairAsked) (row : ℕ) (p : Page) → is_asked asked.rows row ≡ false → turn_at asked row p ≡ None
-unasked_turn asked row p is = ap (λ b. cond b (turn_of asked.bits p) None) is
+unasked_turn asked row p is = ap (λ b. cond b (page_turn_of asked.bits p) None) is
 
 -- a page of these bytes was repaired, by that, and its bytes are these now
-pub repaired_own : (g : Geometry) (asked : RepairAsked) (row : ℕ) (was now : List ℕ) (turn : Option Turn) → is_asked asked.rows row ≡ true → turn ≡ turn_of asked.bits (page_of g.data_bytes was)
+pub repaired_own : (g : Geometry) (asked : RepairAsked) (row : ℕ) (was now : List ℕ) (turn : Option Turn) → is_asked asked.rows row ≡ true → turn ≡ page_turn_of asked.bits (page_of g.data_bytes was)
     → page_of g.data_bytes now ≡ Pairs.repaired asked.bits (page_of g.data_bytes was) → length now ≡ page_bytes g → IsOwn g asked row turn now
 repaired_own g asked row was now turn is named after size = record {
   size = size;
   turn_is =
       let p : Page = page_of g.data_bytes was in
       asked_turn asked row (turned_back (page_of g.data_bytes now) turn) is
-      ∙ (ap (λ q. turn_of asked.bits (turned_back q turn)) after
-      ∙ (ap (λ o. turn_of asked.bits (turned_back (Pairs.repaired asked.bits p) o)) named ∙ (ap (turn_of asked.bits) (back_again asked.bits p) ∙ sym named)));
+      ∙ (ap (λ q. page_turn_of asked.bits (turned_back q turn)) after
+      ∙ (ap (λ o. page_turn_of asked.bits (turned_back (Pairs.repaired asked.bits p) o)) named ∙ (ap (page_turn_of asked.bits) (back_again asked.bits p) ∙ sym named)));
 }
 
 -- the row wasn't asked for
 pub unasked_own : (g : Geometry) (asked : RepairAsked) (row : ℕ) (now : List ℕ) → is_asked asked.rows row ≡ false → length now ≡ page_bytes g → IsOwn g asked row None now
 unasked_own g asked row now is size = record { size = size; turn_is = unasked_turn asked row (page_of g.data_bytes now) is }
 
-pub asked_same : (asked : RepairAsked) (row : ℕ) (p : Page) (turn : Option Turn) → is_asked asked.rows row ≡ true → turn ≡ turn_of asked.bits p → turn ≡ turn_at asked row p
+pub asked_same : (asked : RepairAsked) (row : ℕ) (p : Page) (turn : Option Turn) → is_asked asked.rows row ≡ true → turn ≡ page_turn_of asked.bits p → turn ≡ turn_at asked row p
 asked_same asked row p turn is e = e ∙ sym (asked_turn asked row p is)
 
 pub unasked_same : (asked : RepairAsked) (row : ℕ) (p : Page) → is_asked asked.rows row ≡ false → None ≡ turn_at asked row p
@@ -73,13 +73,13 @@ pub repaired_piece : (g : Geometry) (bits : ℕ) (was now : List ℕ) → page_o
 repaired_piece g bits was now after = sym (bytes_again g.data_bytes now) ∙ ap bytes_of_page after
 
 -- a named row's page, whatever it was
-pub own_law : OwnLaw
+pub own_law : OwnRepairLaw
 own_law g asked row piece t h = by (is_asked asked.rows row) refl
   where
     q : Page
     q = page_of g.data_bytes piece
 
-    by : (b : Bool) → is_asked asked.rows row ≡ b → (is_asked asked.rows row ≡ true) × IsLeft t q
+    by : (b : Bool) → is_asked asked.rows row ≡ b → (is_asked asked.rows row ≡ true) × IsTurnTold t q
     by false e = absurd (let none : None ≡ Some t = sym (unasked_turn asked row (turned_back q (Some t)) e) ∙ h.turn_is in cc)
     by true e = (e, left_so asked.bits q t (sym (asked_turn asked row (turned_back q (Some t)) e) ∙ h.turn_is))
 
@@ -99,7 +99,7 @@ pieces_read g asked image ps rows size each = same_lists ps (pieces_of asked ima
     let there : slice_get (pieces_of asked image) k ≡ Some (piece_at asked k p) = pieces_get asked image k ∙ ap (option_map (piece_at asked k)) at in
     get_or_default ps k d [] l ∙ (each k p (omega arith) at ∙ sym (get_or_from_slice_get (pieces_of asked image) k (piece_at asked k p) d there)))
 
-pub repaired : (g : Geometry) (asked : RepairAsked) (ms : List Mend) (scratch : List ℕ) (pieces : Option (List (List ℕ))) (bytes : List ℕ) → Stands g asked (row_count g) ms scratch pieces
+pub repaired : (g : Geometry) (asked : RepairAsked) (ms : List Mend) (scratch : List ℕ) (pieces : Option (List (List ℕ))) (bytes : List ℕ) → RepairingStands g asked (row_count g) ms scratch pieces
     → IsTaken g (λ image. Shows asked (row_count g) image ms pieces) bytes → IsRepaired g asked pieces ms bytes
 repaired g asked ms scratch pieces bytes stands taken =
     let image : Image = raw_image g bytes in
@@ -128,7 +128,7 @@ listed_all asked image (row ∷ rows) = by (slice_get image row) (listed_all ask
 
     by : (o : Option Page) → All (λ m. is_asked asked.rows m.row ≡ true) rest → All (λ m. is_asked asked.rows m.row ≡ true) (cons_option (mend_in asked row o) rest)
     by None h = h
-    by (Some p) h = of_turn (turn_of asked.bits p) (is_asked asked.rows row) refl h
+    by (Some p) h = of_turn (page_turn_of asked.bits p) (is_asked asked.rows row) refl h
 
 pub rows_law : RowsLaw
 unfolding mends_below

@@ -16,7 +16,7 @@ use Rattle.lab_dump.proofs.ScanLemmas.{if_more}
 use Rattle.lab_mend.specs.declared.pairs.Turn.{Turn}
 use Rattle.lab_mend.specs.declared.repairing.Mend.{Mend}
 use Rattle.lab_mend.specs.declared.repairing.RepairAsked.{RepairAsked}
-use Rattle.lab_mend.specs.Repairing.{as_mend, turn_at, mend_in, noted, mends_below, piece_at, AreMendedBelow, Shows, named_turn, IsOwn, AreOwn, AreListed, HasRoom, Stands}
+use Rattle.lab_mend.specs.Repairing.{as_mend, turn_at, mend_in, noted, mends_below, piece_at, AreMendedBelow, Shows, named_turn, IsOwn, AreOwn, AreListed, HasRoom, RepairingStands}
 
 -- ---- the list of an image
 
@@ -126,8 +126,8 @@ if_set : (pieces : Option (List (List ℕ))) (P Q : List (List ℕ) → Type 0) 
 if_set None P Q row piece h more = tt
 if_set (Some ps) P Q row piece h more = more ps h
 
-pub stands_more : (g : Geometry) (asked : RepairAsked) (row : ℕ) (ms : List Mend) (o : Option Turn) (scratch : List ℕ) (pieces : Option (List (List ℕ))) → row < row_count g → Stands g asked row ms scratch pieces → IsOwn g asked row o scratch
-    → Stands g asked (row + 1) (noted ms row o) scratch (option_map (λ ps. set ps row scratch) pieces)
+pub stands_more : (g : Geometry) (asked : RepairAsked) (row : ℕ) (ms : List Mend) (o : Option Turn) (scratch : List ℕ) (pieces : Option (List (List ℕ))) → row < row_count g → RepairingStands g asked row ms scratch pieces → IsOwn g asked row o scratch
+    → RepairingStands g asked (row + 1) (noted ms row o) scratch (option_map (λ ps. set ps row scratch) pieces)
 stands_more g asked row ms o scratch pieces within h own = record {
   scratch_size = h.scratch_size;
   listed = listed_noted ms row o h.listed;
@@ -138,7 +138,7 @@ both_set : (pieces : Option (List (List ℕ))) (P Q R : List (List ℕ) → Type
 both_set None P Q R row piece p q more = tt
 both_set (Some ps) P Q R row piece p q more = more ps p q
 
-pub shows_more : (g : Geometry) (asked : RepairAsked) (row : ℕ) (image : Image) (p : Page) (ms : List Mend) (scratch : List ℕ) (pieces : Option (List (List ℕ))) → row < row_count g → Stands g asked row ms scratch pieces → Shows asked row image ms pieces
+pub shows_more : (g : Geometry) (asked : RepairAsked) (row : ℕ) (image : Image) (p : Page) (ms : List Mend) (scratch : List ℕ) (pieces : Option (List (List ℕ))) → row < row_count g → RepairingStands g asked row ms scratch pieces → Shows asked row image ms pieces
     → slice_get image row ≡ Some p → scratch ≡ piece_at asked row p → Shows asked (row + 1) image (noted ms row (turn_at asked row p)) (option_map (λ ps. set ps row scratch) pieces)
 shows_more g asked row image p ms scratch pieces within stands h at is = record {
   mends_are = ap (λ xs. noted xs row (turn_at asked row p)) h.mends_are ∙ sym (mends_more asked image row p at);
@@ -155,7 +155,7 @@ room_more all rows ms new o capacity after h is same = record { few = (let size 
 
 -- ---- before the first page
 
-pub stands_first : (g : Geometry) (asked : RepairAsked) (scratch : List ℕ) (pieces : Option (List (List ℕ))) → length scratch ≡ page_bytes g → IfSome pieces (λ ps. length ps ≡ row_count g) → Stands g asked 0 [] scratch pieces
+pub stands_first : (g : Geometry) (asked : RepairAsked) (scratch : List ℕ) (pieces : Option (List (List ℕ))) → length scratch ≡ page_bytes g → IfSome pieces (λ ps. length ps ≡ row_count g) → RepairingStands g asked 0 [] scratch pieces
 stands_first g asked scratch pieces size whole = record {
   scratch_size = size;
   listed = record { within = All-nil (λ (m : Mend). m.row < 0); rising = λ i j d l k. absurd (omega arith) };

@@ -13,7 +13,7 @@ use Rattle.page_layout.specs.Page.{Page}
 use Rattle.page_layout.specs.Raw.{bytes_of_page}
 use Rattle.lab_dump.specs.PageBytes.{bit_in, page_of, bit_count, page_bit}
 use Rattle.lab_dump.proofs.PageLemmas.{page_again}
-use Rattle.lab_mend.specs.Bits.{turned_bytes, turned}
+use Rattle.lab_mend.specs.Bits.{turned_bytes, with_bit_turned}
 use Rattle.lab_mend.specs.Trial.{differ_in, bits_apart, with_turned, turned_count, HasBytes}
 use Rattle.lab_mend.proofs.BitLemmas.{turned_bit, kept_bit, bytes_turned, body_turned, spare_turned, count_turned}
 
@@ -133,10 +133,10 @@ other_bits p q k e = eqb-false (page_bit q k) (page_bit p k) (not-true (eqb (pag
 bit_low : (p : Page) (k : ℕ) → page_bit p k < 2
 bit_low p k = bit_at-lt (get_or (bytes_of_page p) (k / 8) 0) (k % 8)
 
-turned_here : (p : Page) (k : ℕ) → k < bit_count p → page_bit (turned p k) k ≡ (page_bit p k + 1) % 2
+turned_here : (p : Page) (k : ℕ) → k < bit_count p → page_bit (with_bit_turned p k) k ≡ (page_bit p k + 1) % 2
 turned_here p k l = ap (λ b. bit_in b k) (bytes_turned p k) ∙ turned_bit (bytes_of_page p) k l
 
-turned_there : (p : Page) (k j : ℕ) → k < bit_count p → j ≢ k → page_bit (turned p k) j ≡ page_bit p j
+turned_there : (p : Page) (k j : ℕ) → k < bit_count p → j ≢ k → page_bit (with_bit_turned p k) j ≡ page_bit p j
 turned_there p k j l ne = ap (λ b. bit_in b j) (bytes_turned p k) ∙ kept_bit (bytes_of_page p) k j l ne
 
 one_apart : (a b : ℕ) → a < 2 → b < 2 → a ≢ b → a ≡ (b + 1) % 2
@@ -146,12 +146,12 @@ apart_again : (a b : ℕ) → b < 2 → a ≡ (b + 1) % 2 → a ≢ b
 apart_again a b l e same = omega arith
 
 -- one bit fewer is apart once a bit that is apart is turned
-count_turn : (p q : Page) (k : ℕ) → k < bit_count p → page_bit q k ≢ page_bit p k → turned_count p q ≡ turned_count (turned p k) q + 1
+count_turn : (p q : Page) (k : ℕ) → k < bit_count p → page_bit q k ≢ page_bit p k → turned_count p q ≡ turned_count (with_bit_turned p k) q + 1
 count_turn p q k l ne =
-    count_flip (differ_in p q) (differ_in (turned p k) q) k 0 (bit_count p) (omega arith) (omega arith) (bits_other p q k ne)
-    (bits_same (turned p k) q k (one_apart (page_bit q k) (page_bit p k) (bit_low q k) (bit_low p k) ne ∙ sym (turned_here p k l)))
+    count_flip (differ_in p q) (differ_in (with_bit_turned p k) q) k 0 (bit_count p) (omega arith) (omega arith) (bits_other p q k ne)
+    (bits_same (with_bit_turned p k) q k (one_apart (page_bit q k) (page_bit p k) (bit_low q k) (bit_low p k) ne ∙ sym (turned_here p k l)))
     (λ j other. ap (λ b. not (eqb (page_bit q j) b)) (sym (turned_there p k j l other)))
-    ∙ ap (λ n. count_by (differ_in (turned p k) q) (range_with_len 0 n) + 1) (sym (count_turned p k))
+    ∙ ap (λ n. count_by (differ_in (with_bit_turned p k) q) (range_with_len 0 n) + 1) (sym (count_turned p k))
 
 count_itself : (p : Page) → turned_count p p ≡ 0
 count_itself p = count_none (differ_in p p) 0 (bit_count p) (λ j l. bits_same p p j refl)
@@ -168,7 +168,7 @@ pub record IsTurned (p : Page) (bits : List ℕ) (n : ℕ) (q : Page) : Type 0 w
 turned_none : (p q : Page) (bits : List ℕ) → p ≡ q → IsTurned p bits 0 q
 turned_none p q bits same = subst (IsTurned p bits 0) same (record { body_size = refl; spare_size = refl; agrees = λ k out. refl; count = count_itself p })
 
-turned_one : (p q : Page) (k : ℕ) (ks : List ℕ) (n : ℕ) → k < bit_count p → (Contains ks k → ⊥) → IsTurned (turned p k) ks n q → IsTurned p (k ∷ ks) (suc n) q
+turned_one : (p q : Page) (k : ℕ) (ks : List ℕ) (n : ℕ) → k < bit_count p → (Contains ks k → ⊥) → IsTurned (with_bit_turned p k) ks n q → IsTurned p (k ∷ ks) (suc n) q
 turned_one p q k ks n l out h = record {
   body_size = h.body_size ∙ body_turned p k;
   spare_size = h.spare_size ∙ spare_turned p k;
@@ -182,15 +182,15 @@ turned_more p q k ks n h = record { body_size = h.body_size; spare_size = h.spar
 pub alone : (p q : Page) → Contains (p ∷ []) q → p ≡ q
 alone p q at = elim (either_in p q [] at) [ inl same ↦ same | inr none ↦ absurd (let l = none.1 in omega arith) ]
 
-bits_turned : (p : Page) (k : ℕ) (ks : List ℕ) → AreBits (bit_count p) ks → AreBits (bit_count (turned p k)) ks
+bits_turned : (p : Page) (k : ℕ) (ks : List ℕ) → AreBits (bit_count p) ks → AreBits (bit_count (with_bit_turned p k)) ks
 bits_turned p k ks h = subst (λ n. AreBits n ks) (sym (count_turned p k)) h
 
 pub turned_in : (bits : List ℕ) (p q : Page) (n : ℕ) → AreBits (bit_count p) bits → Contains (with_turned p bits n) q → IsTurned p bits n q
 unfolding with_turned
 turned_in bits p q zero are at = turned_none p q bits (alone p q at)
 turned_in [] p q (suc n) are at = absurd (let l = at.1 in omega arith)
-turned_in (k ∷ ks) p q (suc n) are at = elim (Contains-append_cases (with_turned (turned p k) ks n) (with_turned p ks (suc n)) q at) [
-  | inl with ↦ turned_one p q k ks n are.0 are.1 (turned_in ks (turned p k) q n (bits_turned p k ks are.2) with)
+turned_in (k ∷ ks) p q (suc n) are at = elim (Contains-append_cases (with_turned (with_bit_turned p k) ks n) (with_turned p ks (suc n)) q at) [
+  | inl with ↦ turned_one p q k ks n are.0 are.1 (turned_in ks (with_bit_turned p k) q n (bits_turned p k ks are.2) with)
   | inr without ↦ turned_more p q k ks (suc n) (turned_in ks p q (suc n) are.2 without)
 ]
 
@@ -215,7 +215,7 @@ same_by_bits p q body spare left right same =
 power_low : (n : ℕ) → n < 8 → 2 ^ n < 2 ^ 8
 power_low n l = pow_below n 8 l
 
-bytes_stay : (p : Page) (k : ℕ) → k < bit_count p → HasBytes p → HasBytes (turned p k)
+bytes_stay : (p : Page) (k : ℕ) → k < bit_count p → HasBytes p → HasBytes (with_bit_turned p k)
 unfolding turned_bytes
 bytes_stay p k l h =
     let b : ℕ = get_or (bytes_of_page p) (k / 8) 0 in
@@ -233,11 +233,11 @@ wider p q k ks zero at = by ks at
     by : (xs : List ℕ) → Contains (with_turned p xs zero) q → Contains (p ∷ []) q
     by [] h = h
     by (x ∷ xs) h = h
-wider p q k ks (suc n) at = Contains-append_right (with_turned (turned p k) ks n) (with_turned p ks (suc n)) q at
+wider p q k ks (suc n) at = Contains-append_right (with_turned (with_bit_turned p k) ks n) (with_turned p ks (suc n)) q at
 
-wider_turned : (p q : Page) (k : ℕ) (ks : List ℕ) (n : ℕ) → Contains (with_turned (turned p k) ks n) q → Contains (with_turned p (k ∷ ks) (suc n)) q
+wider_turned : (p q : Page) (k : ℕ) (ks : List ℕ) (n : ℕ) → Contains (with_turned (with_bit_turned p k) ks n) q → Contains (with_turned p (k ∷ ks) (suc n)) q
 unfolding with_turned
-wider_turned p q k ks n at = Contains-append_left (with_turned (turned p k) ks n) (with_turned p ks (suc n)) q at
+wider_turned p q k ks n at = Contains-append_left (with_turned (with_bit_turned p k) ks n) (with_turned p ks (suc n)) q at
 
 itself_in : (p q : Page) (n : ℕ) → p ≡ q → n ≡ 0 → Contains (with_turned p [] n) q
 unfolding with_turned
@@ -255,7 +255,7 @@ in_turned (k ∷ ks) p q n are body spare left right agrees count = elim (cases_
     | inr ne ↦ agrees j l (λ at. elim (either_in k j ks at) [ inl e ↦ ne (sym e) | inr later ↦ away later ])
   ]) count)
   | inr ne ↦
-      let t : Page = turned p k in
+      let t : Page = with_bit_turned p k in
       let turns : turned_count p q ≡ turned_count t q + 1 = count_turn p q k are.0 ne in
       let here : page_bit q k ≡ page_bit t k = one_apart (page_bit q k) (page_bit p k) (bit_low q k) (bit_low p k) ne ∙ sym (turned_here p k are.0) in
       let rest : Contains (with_turned t ks (turned_count t q)) q =
@@ -271,8 +271,8 @@ pub few_turned : (bits : List ℕ) (p q : Page) (n : ℕ) → Contains (with_tur
 unfolding with_turned
 few_turned bits p q zero at = omega arith
 few_turned [] p q (suc n) at = absurd (let l = at.1 in omega arith)
-few_turned (k ∷ ks) p q (suc n) at = elim (Contains-append_cases (with_turned (turned p k) ks n) (with_turned p ks (suc n)) q at) [
-  | inl with ↦ (let l = few_turned ks (turned p k) q n with in omega arith)
+few_turned (k ∷ ks) p q (suc n) at = elim (Contains-append_cases (with_turned (with_bit_turned p k) ks n) (with_turned p ks (suc n)) q at) [
+  | inl with ↦ (let l = few_turned ks (with_bit_turned p k) q n with in omega arith)
   | inr without ↦ (let l = few_turned ks p q (suc n) without in omega arith)
 ]
 

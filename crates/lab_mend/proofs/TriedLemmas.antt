@@ -14,7 +14,7 @@ use Rattle.lab_dump.specs.PageBytes.{bits_of, bit_count, is_sound, page_bit, pag
 use Rattle.lab_mend.specs.declared.choice.Origin.TheVariants.{Tried, Unsound}
 use Rattle.lab_mend.specs.declared.trial.Trial.TheVariants.{Taken, Tied, Nothing}
 use Rattle.lab_mend.specs.declared.trial.Met.{Met}
-use Rattle.lab_mend.specs.Bits.{turned, turned_bytes}
+use Rattle.lab_mend.specs.Bits.{turned_bytes, with_bit_turned}
 use Rattle.lab_mend.specs.Pages.{piece_at, page_in}
 use Rattle.lab_mend.specs.Trial.{differ_in, bits_apart, with_turned}
 use Rattle.lab_mend.specs.Choice.{chosen, by_found, by_turns, by_trial, by_programmed}
@@ -62,7 +62,7 @@ both_turned size bytes k ks bits n m room are e =
     let one : n ≡ suc m = omega arith in
     ap (λ xs. filter is_sound (with_turned p xs n)) are
     ∙ (ap (λ j. filter is_sound (with_turned p (k ∷ ks) j)) one
-    ∙ (filter-append is_sound (with_turned (turned p k) ks m) (with_turned p ks (suc m))
+    ∙ (filter-append is_sound (with_turned (with_bit_turned p k) ks m) (with_turned p ks (suc m))
     ∙ (ap (λ q. filter is_sound (with_turned q ks m) ++ filter is_sound (with_turned p ks (suc m))) (turned_page size bytes k room)
     ∙ ap (λ j. filter is_sound (with_turned (page_of size (turned_bytes bytes k)) ks m) ++ filter is_sound (with_turned p ks j)) (sym one))))
 

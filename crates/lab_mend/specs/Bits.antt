@@ -9,8 +9,8 @@ unfoldable pub turned_bytes : List ℕ → ℕ → List ℕ
 turned_bytes bytes k = slice_set bytes (k / 8) (bit_xor (slice_index bytes (k / 8)) (2 ^ (k % 8)))
 
 -- a page with bit k turned
-abbrev pub turned : Page → ℕ → Page
-turned p k = page_of (length p.body) (turned_bytes (bytes_of_page p) k)
+abbrev pub with_bit_turned : Page → ℕ → Page
+with_bit_turned p k = page_of (length p.body) (turned_bytes (bytes_of_page p) k)
 
 -- the other page has areas of the same lengths, and differs in this bit and in no other
 pub record DiffersAt (p q : Page) (k : ℕ) : Type 0 where
@@ -21,4 +21,4 @@ pub record DiffersAt (p q : Page) (k : ℕ) : Type 0 where
 
 -- A page with a bit turned differs in that bit and in no other.
 abbrev pub TurnedLaw : Type 0
-TurnedLaw = (p : Page) (k : ℕ) → k < bit_count p → DiffersAt p (turned p k) k
+TurnedLaw = (p : Page) (k : ℕ) → k < bit_count p → DiffersAt p (with_bit_turned p k) k

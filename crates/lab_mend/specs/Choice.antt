@@ -92,15 +92,15 @@ pub record IsFound (pages : List Page) (first q : Page) (n : ℕ) : Type 0 where
   pub turns : turned_count first q ≡ n
 
 -- what each origin says of a page that is written
-abbrev pub Means : Geometry → List Page → Page → Origin → Type 0
-Means g pages p Sound = Contains pages p × IsSome (record_of p) × ((q : Page) → Contains pages q → IsSome (record_of q) → q ≡ p)
-Means g pages p Conflict = (p ≡ zero_page g) × (a : Page) × (b : Page) × Contains pages a × Contains pages b × IsSome (record_of a) × IsSome (record_of b) × (a ≢ b)
-Means g pages p Majority = NoneSound pages × (3 ≤ length pages) × (p ≡ majority g pages) × IsSome (record_of p)
-Means g pages p (Tried (Taken n d)) = (first : Page) × IsTrial pages first d × IsFound pages first p n
-Means g pages p (Tried (Tied n d)) = IsTrial pages p d × (a : Page) × (b : Page) × IsFound pages p a n × IsFound pages p b n × (a ≢ b)
-Means g pages p (Tried (Nothing d)) = IsTrial pages p d
-Means g pages p Erased = AllErased pages × (p ≡ get_or pages 0 (zero_page g))
-Means g pages p Unsound = NoneSound pages × IsFirstProgrammed pages p
+abbrev pub OriginMeans : Geometry → List Page → Page → Origin → Type 0
+OriginMeans g pages p Sound = Contains pages p × IsSome (record_of p) × ((q : Page) → Contains pages q → IsSome (record_of q) → q ≡ p)
+OriginMeans g pages p Conflict = (p ≡ zero_page g) × (a : Page) × (b : Page) × Contains pages a × Contains pages b × IsSome (record_of a) × IsSome (record_of b) × (a ≢ b)
+OriginMeans g pages p Majority = NoneSound pages × (3 ≤ length pages) × (p ≡ majority g pages) × IsSome (record_of p)
+OriginMeans g pages p (Tried (Taken n d)) = (first : Page) × IsTrial pages first d × IsFound pages first p n
+OriginMeans g pages p (Tried (Tied n d)) = IsTrial pages p d × (a : Page) × (b : Page) × IsFound pages p a n × IsFound pages p b n × (a ≢ b)
+OriginMeans g pages p (Tried (Nothing d)) = IsTrial pages p d
+OriginMeans g pages p Erased = AllErased pages × (p ≡ get_or pages 0 (zero_page g))
+OriginMeans g pages p Unsound = NoneSound pages × IsFirstProgrammed pages p
 
 -- the areas of these pages have the die's lengths
 abbrev pub AreSized : Geometry → List Page → Type 0
@@ -108,7 +108,7 @@ AreSized g pages = All (λ p. (length p.body ≡ g.data_bytes) × (length p.spar
 
 -- Of any pages of the die the origin that is told is true.
 abbrev pub ChoiceLaw : Type 0
-ChoiceLaw = (g : Geometry) (pages : List Page) → AreSized g pages → Means g pages (choice g pages).its (choice g pages).origin
+ChoiceLaw = (g : Geometry) (pages : List Page) → AreSized g pages → OriginMeans g pages (choice g pages).its (choice g pages).origin
 
 -- what a trial says of every other page
 abbrev pub IsLeast : List Page → Page → Origin → Type 0

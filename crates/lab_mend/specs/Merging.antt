@@ -66,19 +66,19 @@ counted t Unsound = record { sound = t.sound; majority = t.majority; turned = t.
 -- ---- of rows whose pages are known
 
 -- the place of an origin among the six, where one of a trial that took nothing is as the unsound ones
-abbrev pub place_of : Origin → ℕ
-place_of Sound = 0
-place_of Conflict = 1
-place_of Majority = 2
-place_of Erased = 3
-place_of Unsound = 4
-place_of (Tried (Taken n d)) = 5
-place_of (Tried (Tied n d)) = 4
-place_of (Tried (Nothing d)) = 4
+abbrev pub origin_place : Origin → ℕ
+origin_place Sound = 0
+origin_place Conflict = 1
+origin_place Majority = 2
+origin_place Erased = 3
+origin_place Unsound = 4
+origin_place (Tried (Taken n d)) = 5
+origin_place (Tried (Tied n d)) = 4
+origin_place (Tried (Nothing d)) = 4
 
 -- whether a row's page is of this origin
 abbrev pub is_from : Geometry → (ℕ → List Page) → Origin → ℕ → Bool
-is_from g rows origin row = place_of (choice g (rows row)).origin == place_of origin
+is_from g rows origin row = origin_place (choice g (rows row)).origin == origin_place origin
 
 -- the first rows of which two sound pages differ
 unfoldable pub conflicts_below : Geometry → (ℕ → List Page) → ℕ → List ℕ
@@ -90,7 +90,7 @@ unsound_below g rows n = filter (is_from g rows Unsound) (range_with_len 0 n)
 
 -- whether bits were turned of a row's page
 abbrev pub is_turned : Geometry → (ℕ → List Page) → ℕ → Bool
-is_turned g rows row = place_of (choice g (rows row)).origin == 5
+is_turned g rows row = origin_place (choice g (rows row)).origin == 5
 
 -- the first rows of which pages were tried, and what came of them
 unfoldable pub tried_below : Geometry → (ℕ → List Page) → ℕ → List TriedRow
@@ -150,7 +150,7 @@ pub record AreFew (n : ℕ) (tally : RowTally) : Type 0 where
   pub erased : tally.erased ≤ n
   pub unsound : tally.unsound ≤ n
 
-pub record Stands (g : Geometry) (n : ℕ) (conflicts : List ℕ) (tally : RowTally) (scratch : List ℕ) (pieces : Option (List (List ℕ))) : Type 0 where
+pub record MergingStands (g : Geometry) (n : ℕ) (conflicts : List ℕ) (tally : RowTally) (scratch : List ℕ) (pieces : Option (List (List ℕ))) : Type 0 where
   pub scratch_size : length scratch ≡ page_bytes g
   pub few : AreFew n tally
   pub listed : AreListed n conflicts

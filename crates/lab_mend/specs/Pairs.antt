@@ -12,13 +12,13 @@ use Rattle.lab_mend.specs.declared.pairs.Turn.{Turn}
 use Rattle.lab_mend.specs.declared.pairs.Turn.TheVariants.{One, Two, Tied, Nothing}
 use Rattle.lab_mend.specs.declared.pairs.Seen.{Seen}
 use Rattle.lab_mend.specs.declared.pairs.Seen.TheVariants.{Never, Once, Twice}
-use Rattle.lab_mend.specs.Bits.{turned, DiffersAt}
-use Rattle.lab_mend.specs.Mend.{mend_of, IsMade}
+use Rattle.lab_mend.specs.Bits.{with_bit_turned, DiffersAt}
+use Rattle.lab_mend.specs.Mend.{mend_of, IsMendedAs}
 use Rattle.lab_mend.specs.Trial.{turned_count, HasBytes}
 
 -- the bits behind bit k whose turning makes the page sound, by rising bit
 unfoldable pub second_bits : Page → ℕ → List ℕ
-second_bits p k = filter (λ l. is_sound (turned p l)) (range_with_len (k + 1) (bit_count p - (k + 1)))
+second_bits p k = filter (λ l. is_sound (with_bit_turned p l)) (range_with_len (k + 1) (bit_count p - (k + 1)))
 
 -- these bits, each with bit k
 abbrev pub pairs_with : ℕ → List ℕ → List BitPair
@@ -26,7 +26,7 @@ pairs_with k bits = map (λ l. record { low = k; high = l }) bits
 
 -- the pairs of bits whose turning makes the page sound, by rising lower bit
 unfoldable pub sound_pairs : Page → List BitPair
-sound_pairs p = flat_map (λ k. pairs_with k (second_bits (turned p k) k)) (range_with_len 0 (bit_count p))
+sound_pairs p = flat_map (λ k. pairs_with k (second_bits (with_bit_turned p k) k)) (range_with_len 0 (bit_count p))
 
 -- what these pairs come to: the one, where there is just one
 abbrev pub by_pairs : List BitPair → Turn
@@ -40,28 +40,28 @@ one_or_two bits p (Some t) = Some (One t)
 one_or_two bits p None = if nat_le 2 bits then Some (by_pairs (sound_pairs p)) else None
 
 -- what is turned of a page of which so many bits may be turned
-unfoldable pub turn_of : ℕ → Page → Option Turn
-turn_of bits p = if is_broken p then one_or_two bits p (mend_of p) else None
+unfoldable pub page_turn_of : ℕ → Page → Option Turn
+page_turn_of bits p = if is_broken p then one_or_two bits p (mend_of p) else None
 
 -- the page with that turned
 abbrev pub turned_by : Page → Option Turn → Page
 turned_by p None = p
-turned_by p (Some (One t)) = turned p t.bit
-turned_by p (Some (Two b)) = turned (turned p b.low) b.high
+turned_by p (Some (One t)) = with_bit_turned p t.bit
+turned_by p (Some (Two b)) = with_bit_turned (with_bit_turned p b.low) b.high
 turned_by p (Some Tied) = p
 turned_by p (Some Nothing) = p
 
 -- the page with that turned back
 abbrev pub turned_back : Page → Option Turn → Page
 turned_back p None = p
-turned_back p (Some (One t)) = turned p t.bit
-turned_back p (Some (Two b)) = turned (turned p b.high) b.low
+turned_back p (Some (One t)) = with_bit_turned p t.bit
+turned_back p (Some (Two b)) = with_bit_turned (with_bit_turned p b.high) b.low
 turned_back p (Some Tied) = p
 turned_back p (Some Nothing) = p
 
 -- the repaired page
 unfoldable pub repaired : ℕ → Page → Page
-repaired bits p = turned_by p (turn_of bits p)
+repaired bits p = turned_by p (page_turn_of bits p)
 
 -- ---- while pairs are tried
 
@@ -77,7 +77,7 @@ seen_with Twice more = Tied
 pub record MakeSound (p : Page) (k l : ℕ) : Type 0 where
   pub rising : k < l
   pub within : l < bit_count p
-  pub sound : IsSome (record_of (turned (turned p k) l))
+  pub sound : IsSome (record_of (with_bit_turned (with_bit_turned p k) l))
 
 -- two pairs of bits make it sound
 pub record HasTwoPairs (p : Page) : Type 0 where
@@ -96,7 +96,7 @@ Tells p Nothing = (mend_of p ≡ None) × ((k l : ℕ) → ¬ MakeSound p k l)
 
 -- What is told is so: one bit goes before two, two are turned where they alone make the page sound, and where several do none is.
 abbrev pub TurnLaw : Type 0
-TurnLaw = (bits : ℕ) (p : Page) (t : Turn) → turn_of bits p ≡ Some t → (is_broken p ≡ true) × Tells p t
+TurnLaw = (bits : ℕ) (p : Page) (t : Turn) → page_turn_of bits p ≡ Some t → (is_broken p ≡ true) × Tells p t
 
 -- the other page has areas of the same lengths, and differs in these two bits and in no other
 pub record DiffersInTwo (p q : Page) (b : BitPair) : Type 0 where
@@ -110,13 +110,13 @@ pub record DiffersInTwo (p q : Page) (b : BitPair) : Type 0 where
 pub record IsOneBitOff (p q : Page) : Type 0 where
   pub turn : Turned
   pub mend_is : mend_of p ≡ Some turn
-  pub made : IsMade turn.made q
+  pub made : IsMendedAs turn.made q
   pub differs : DiffersAt p q turn.bit
 
 -- the other page is sound, and two bits away
 pub record AreTwoBitsOff (bits : ℕ) (p q : Page) : Type 0 where
   pub pair : BitPair
-  pub turn_is : turn_of bits p ≡ Some (Two pair)
+  pub turn_is : page_turn_of bits p ≡ Some (Two pair)
   pub sound : IsSome (record_of q)
   pub differs : DiffersInTwo p q pair
 
@@ -126,7 +126,7 @@ RepairedLaw = (bits : ℕ) (p : Page) → (repaired bits p ≡ p) ⊎ IsOneBitOf
 
 -- No other sound page differs in two bits or in fewer from one of which two are turned.
 abbrev pub OnlyLaw : Type 0
-OnlyLaw = (bits : ℕ) (p q : Page) (b : BitPair) → turn_of bits p ≡ Some (Two b) → HasBytes p → HasBytes q → length q.body ≡ length p.body → length q.spare ≡ length p.spare
+OnlyLaw = (bits : ℕ) (p q : Page) (b : BitPair) → page_turn_of bits p ≡ Some (Two b) → HasBytes p → HasBytes q → length q.body ≡ length p.body → length q.spare ≡ length p.spare
     → IsSome (record_of q) → turned_count p q ≤ 2 → q ≡ repaired bits p
 
 -- A sound page and an erased one stay as they are.

@@ -13,14 +13,14 @@ use Rattle.lab_mend.specs.declared.repairing.Mend.{Mend}
 use Rattle.lab_mend.specs.declared.repairing.RepairAsked.{RepairAsked}
 use Rattle.lab_mend.specs.declared.pairs.Turn.{Turn}
 use Rattle.lab_mend.specs.declared.pairs.Turn.TheVariants.{One, Two, Tied, Nothing}
-use Rattle.lab_mend.specs.Mend.{IsMade}
-use Rattle.lab_mend.specs.Pairs.{turn_of, turned_back, repaired}
+use Rattle.lab_mend.specs.Mend.{IsMendedAs}
+use Rattle.lab_mend.specs.Pairs.{page_turn_of, turned_back, repaired}
 
 -- ---- of a row
 
 -- what is turned of a row's page: of a row that isn't asked for nothing
 abbrev pub turn_at : RepairAsked → ℕ → Page → Option Turn
-turn_at asked row p = if is_asked asked.rows row then turn_of asked.bits p else None
+turn_at asked row p = if is_asked asked.rows row then page_turn_of asked.bits p else None
 
 -- the bytes of the repaired page, of which so many bits may be turned
 abbrev pub piece_of : ℕ → Page → List ℕ
@@ -93,7 +93,7 @@ pub record AreListed (rows : ℕ) (mends : List Mend) : Type 0 where
   pub within : All (λ m. m.row < rows) mends
   pub rising : AllPairs (λ a b. a.row < b.row) mends
 
-pub record Stands (g : Geometry) (asked : RepairAsked) (rows : ℕ) (mends : List Mend) (scratch : List ℕ) (pieces : Option (List (List ℕ))) : Type 0 where
+pub record RepairingStands (g : Geometry) (asked : RepairAsked) (rows : ℕ) (mends : List Mend) (scratch : List ℕ) (pieces : Option (List (List ℕ))) : Type 0 where
   pub scratch_size : length scratch ≡ page_bytes g
   pub listed : AreListed rows mends
   pub own : IfSome pieces (AreOwn g asked rows mends)
@@ -106,13 +106,13 @@ pub record HasRoom (all rows : ℕ) (mends : List Mend) (capacity : ℕ) : Type 
 -- ---- law
 
 -- what is told of a page that was written: its bits that were turned are bits of it, and it is sound or erased; or it is neither
-abbrev pub IsLeft : Turn → Page → Type 0
-IsLeft (One t) q = IsMade t.made q × (t.bit < bit_count q)
-IsLeft (Two b) q = IsSome (record_of q) × (b.low < b.high) × (b.high < bit_count q)
-IsLeft Tied q = is_broken q ≡ true
-IsLeft Nothing q = is_broken q ≡ true
+abbrev pub IsTurnTold : Turn → Page → Type 0
+IsTurnTold (One t) q = IsMendedAs t.made q × (t.bit < bit_count q)
+IsTurnTold (Two b) q = IsSome (record_of q) × (b.low < b.high) × (b.high < bit_count q)
+IsTurnTold Tied q = is_broken q ≡ true
+IsTurnTold Nothing q = is_broken q ≡ true
 
 -- Whatever the reader gave, a row that the list names was asked for, and what is told of its page is so.
-abbrev pub OwnLaw : Type 0
-OwnLaw = (g : Geometry) (asked : RepairAsked) (row : ℕ) (piece : List ℕ) (t : Turn) → IsOwn g asked row (Some t) piece
-    → (is_asked asked.rows row ≡ true) × IsLeft t (page_of g.data_bytes piece)
+abbrev pub OwnRepairLaw : Type 0
+OwnRepairLaw = (g : Geometry) (asked : RepairAsked) (row : ℕ) (piece : List ℕ) (t : Turn) → IsOwn g asked row (Some t) piece
+    → (is_asked asked.rows row ≡ true) × IsTurnTold t (page_of g.data_bytes piece)

@@ -5,7 +5,7 @@ use Rattle.page_layout.specs.Page.{Page}
 use Rattle.page_layout.specs.Raw.{bytes_of_page}
 use Rattle.page_layout.specs.Sound.{is_erased_page}
 use Rattle.lab_dump.specs.PageBytes.{bit_count, page_bit}
-use Rattle.lab_mend.specs.Bits.{turned}
+use Rattle.lab_mend.specs.Bits.{with_bit_turned}
 
 -- whether the two pages differ in bit k
 abbrev pub differ_in : Page → Page → ℕ → Bool
@@ -19,7 +19,7 @@ bits_apart p ps = filter (λ k. list_any (λ q. differ_in p q k) ps) (range_with
 unfoldable pub with_turned : Page → List ℕ → ℕ → List Page
 with_turned p bits zero = p ∷ []
 with_turned p [] (suc n) = []
-with_turned p (k ∷ ks) (suc n) = with_turned (turned p k) ks n ++ with_turned p ks (suc n)
+with_turned p (k ∷ ks) (suc n) = with_turned (with_bit_turned p k) ks n ++ with_turned p ks (suc n)
 
 -- whether pages are tried where so many bits differ: up to sixteen
 abbrev pub is_tried : ℕ → Bool

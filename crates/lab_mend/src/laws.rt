@@ -5,7 +5,7 @@ ghost use Rattle.lab_mend.specs.Majority.{MajorityLaw};
 ghost use Rattle.lab_mend.specs.Mend.{MendLaw};
 ghost use Rattle.lab_mend.specs.Pairs.{AgainLaw, KeptLaw, OnlyLaw, RepairedLaw, TurnLaw};
 ghost use Rattle.lab_mend.specs.Repaired.{RowsLaw};
-ghost use Rattle.lab_mend.specs.Repairing.{OwnLaw};
+ghost use Rattle.lab_mend.specs.Repairing.{OwnRepairLaw};
 
 /// A page with a bit turned differs in that bit and in no other.
 pub fn turned_law()
@@ -44,7 +44,7 @@ pub fn again_law()
 
 /// Whatever the reader gave, a row that the list names was asked for, and what it says of the row's page is so.
 pub fn own_law()
-    ensures { OwnLaw }
+    ensures { OwnRepairLaw }
 {}
 
 /// Each row that is asked for gets the mended page, each other one its own page byte for byte, and only rows that are asked for are listed.

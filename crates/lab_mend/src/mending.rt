@@ -7,7 +7,7 @@ ghost use Rattle.lab_dump.specs.PageBytes.{bits_of, page_of};
 ghost use Rattle.page_layout.specs.Block.{is_broken};
 ghost use Rattle.lab_mend.specs.Mend.{erased_bit, first_turn, lowest_bit, mend_of, turned_at, turned_if};
 ghost use Rattle.lab_mend.specs.declared.pairs.Turn.TheVariants.{Two};
-ghost use Rattle.lab_mend.specs.Pairs.{by_pairs, repaired, sound_pairs, turn_of, turned_by};
+ghost use Rattle.lab_mend.specs.Pairs.{by_pairs, page_turn_of, repaired, sound_pairs, turned_by};
 ghost use Rattle.lab_mend.specs.Repairing.{IsOwn, piece_at, turn_at};
 
 use crate::bits::turn;
@@ -137,7 +137,7 @@ fn turn_broken<W: Watch>(
 ) -> Option<Turn>
     requires whole { length bytes.old ≡ page_bytes geometry.now }
     requires broken { is_broken (page_of geometry.now.data_bytes bytes.old) ≡ true }
-    ensures turn { result ≡ turn_of bits (page_of geometry.now.data_bytes bytes.old) }
+    ensures turn { result ≡ page_turn_of bits (page_of geometry.now.data_bytes bytes.old) }
     ensures after { page_of geometry.now.data_bytes bytes.new ≡ repaired bits (page_of geometry.now.data_bytes bytes.old) }
 {
     match turn_first(geometry, bytes) {
@@ -161,7 +161,7 @@ fn repair_page<W: Watch>(
     watch: &mut W,
 ) -> Option<Turn>
     requires { length bytes.old ≡ page_bytes geometry.now }
-    ensures turn { result ≡ turn_of bits (page_of geometry.now.data_bytes bytes.old) }
+    ensures turn { result ≡ page_turn_of bits (page_of geometry.now.data_bytes bytes.old) }
     ensures after { page_of geometry.now.data_bytes bytes.new ≡ repaired bits (page_of geometry.now.data_bytes bytes.old) }
 {
     if is_broken(geometry, bytes) {

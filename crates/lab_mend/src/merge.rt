@@ -4,7 +4,7 @@ ghost use Rattle.page_layout.specs.Geometry.{page_bytes, row_count};
 ghost use Rattle.page_layout.specs.Page.{Page};
 ghost use Rattle.lab_dump.specs.Scan.{image_bytes};
 ghost use Rattle.lab_mend.specs.InStep.{AreAt, Tell};
-ghost use Rattle.lab_mend.specs.Merging.{AreListed, AreTried, HasRoom, HasTriedRoom, Shows, Stands, tried_below, unsound_below};
+ghost use Rattle.lab_mend.specs.Merging.{AreListed, AreTried, HasRoom, HasTriedRoom, MergingStands, Shows, tried_below, unsound_below};
 ghost use Rattle.lab_mend.specs.Tried.{IsTrialRoom};
 ghost use Rattle.lab_mend.specs.Merged.{IsMerged, IsOfReading, IsOwnMerge, IsPinned, IsUnmerged, row_of};
 ghost use Rattle.lab_mend.specs.Rooms.{IsMergeRoom};
@@ -101,7 +101,7 @@ fn merge_rows<R: DumpReader, T: PageTarget>(
 ) -> Result<(), MergeFault>
     requires some { 0 < length readers.old }
     requires whole { length pages.old ≡ length readers.old * page_bytes geometry.now }
-    requires stands { Stands geometry.now 0 merging.old.conflicts.items merging.old.tally merging.old.scratch.items (T.pieces merging.old.target) }
+    requires stands { MergingStands geometry.now 0 merging.old.conflicts.items merging.old.tally merging.old.scratch.items (T.pieces merging.old.target) }
     requires none { merging.old.unsound.items ≡ [] }
     requires none_tried { merging.old.tried.items ≡ [] }
     requires room { IsTrialRoom geometry.now (length readers.old) merging.old.room }
@@ -109,7 +109,7 @@ fn merge_rows<R: DumpReader, T: PageTarget>(
     requires unsound_room { HasRoom (row_count geometry.now) 0 merging.old.unsound.items (vec_capacity merging.old.unsound) }
     requires tried_room { HasTriedRoom (row_count geometry.now) 0 merging.old.tried.items (vec_capacity merging.old.tried) }
     requires shows { (rows : ℕ → List Page) → Shows geometry.now rows 0 merging.old.conflicts.items merging.old.tally (T.pieces merging.old.target) }
-    ensures stands { OnOk result (Stands geometry.now (row_count geometry.now) merging.new.conflicts.items merging.new.tally merging.new.scratch.items (T.pieces merging.new.target)) }
+    ensures stands { OnOk result (MergingStands geometry.now (row_count geometry.now) merging.new.conflicts.items merging.new.tally merging.new.scratch.items (T.pieces merging.new.target)) }
     ensures shows { OnOk result ((files : List (List ℕ)) → AreAt (map R.remaining readers.old) files 0
         → Shows geometry.now (row_of geometry.now files) (row_count geometry.now) merging.new.conflicts.items merging.new.tally (T.pieces merging.new.target)) }
     ensures unsound { OnOk result ((files : List (List ℕ)) → AreAt (map R.remaining readers.old) files 0
@@ -141,7 +141,7 @@ fn merge_all<R: DumpReader, T: PageTarget>(
 ) -> Result<(), MergeFault>
     requires some { 0 < length readers.old }
     requires whole { length pages.old ≡ length readers.old * page_bytes geometry.now }
-    requires stands { Stands geometry.now 0 merging.old.conflicts.items merging.old.tally merging.old.scratch.items (T.pieces merging.old.target) }
+    requires stands { MergingStands geometry.now 0 merging.old.conflicts.items merging.old.tally merging.old.scratch.items (T.pieces merging.old.target) }
     requires none { merging.old.unsound.items ≡ [] }
     requires none_tried { merging.old.tried.items ≡ [] }
     requires room { IsTrialRoom geometry.now (length readers.old) merging.old.room }

@@ -2,7 +2,7 @@
 ghost use Rattle.std.specs.Prelude.{◌≡◌, ◌<◌, ◌+◌, length, true, vec_capacity, OnOk, OnErr, slice_get, Some};
 ghost use Rattle.page_layout.specs.Geometry.{row_count};
 ghost use Rattle.page_layout.specs.Page.{Page, Image};
-ghost use Rattle.lab_mend.specs.Repairing.{HasRoom, IsOwn, is_mended, mended_count, noted, piece_at, Shows, Stands, turn_at};
+ghost use Rattle.lab_mend.specs.Repairing.{HasRoom, IsOwn, is_mended, mended_count, noted, piece_at, Shows, RepairingStands, turn_at};
 
 use crate::mending::write_page;
 use crate::pairs::{Turn, Watch};
@@ -68,12 +68,12 @@ impl<T: PageTarget, W: Watch> Repairing<T, W> {
     fn write(&mut self, geometry: &Geometry, row: u32, turn: Option<Turn>) -> Result<(), Stopped>
         requires row_in { row < row_count geometry.now }
         requires room { HasRoom (row_count geometry.now) row self.old.mends.items (vec_capacity self.old.mends) }
-        requires stands { Stands geometry.now self.old.asked row self.old.mends.items self.old.scratch.items (T.pieces self.old.target) }
+        requires stands { RepairingStands geometry.now self.old.asked row self.old.mends.items self.old.scratch.items (T.pieces self.old.target) }
         requires own { IsOwn geometry.now self.old.asked row turn self.old.scratch.items }
         ensures asked { self.new.asked ≡ self.old.asked }
         ensures room { HasRoom (row_count geometry.now) (row + 1) self.new.mends.items (vec_capacity self.new.mends) }
         ensures failed { OnErr result (T.failed self.new.target ≡ true) }
-        ensures stands { OnOk result (Stands geometry.now self.old.asked (row + 1) self.new.mends.items self.new.scratch.items (T.pieces self.new.target)) }
+        ensures stands { OnOk result (RepairingStands geometry.now self.old.asked (row + 1) self.new.mends.items self.new.scratch.items (T.pieces self.new.target)) }
         ensures shows { OnOk result ((image : Image) (p : Page) → Shows self.old.asked row image self.old.mends.items (T.pieces self.old.target) → slice_get image row ≡ Some p
             → turn ≡ turn_at self.old.asked row p → self.old.scratch.items ≡ piece_at self.old.asked row p → Shows self.old.asked (row + 1) image self.new.mends.items (T.pieces self.new.target)) }
     {
@@ -89,13 +89,13 @@ impl<T: PageTarget, W: Watch> Taker for Repairing<T, W> {
     ghost use Rattle.std.specs.Prelude.{◌≡◌, ◌<◌, ◌+◌, ℕ, length, slice_get, true, vec_capacity, OnOk, OnErr, Some};
     ghost use Rattle.page_layout.specs.Geometry.{row_count};
     ghost use Rattle.page_layout.specs.Page.{Image, page};
-    ghost use Rattle.lab_mend.specs.Repairing.{HasRoom, Stands, Shows};
+    ghost use Rattle.lab_mend.specs.Repairing.{HasRoom, RepairingStands, Shows};
 
     ghost asked = { λ s. s.asked.rows };
 
     ghost fixed = { λ s. Some s.asked.bits };
 
-    ghost stands = { λ s g rows. Stands g s.asked rows s.mends.items s.scratch.items (T.pieces s.target) × HasRoom (row_count g) rows s.mends.items (vec_capacity s.mends) };
+    ghost stands = { λ s g rows. RepairingStands g s.asked rows s.mends.items s.scratch.items (T.pieces s.target) × HasRoom (row_count g) rows s.mends.items (vec_capacity s.mends) };
 
     ghost shows = { λ s g rows image. Shows s.asked rows image s.mends.items (T.pieces s.target) };
 

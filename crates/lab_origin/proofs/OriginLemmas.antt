@@ -22,7 +22,7 @@ use Rattle.lab_dump.specs.Held.{shown_by}
 use Rattle.lab_dump.specs.Written.{state_of}
 use Rattle.lab_dump.specs.declared.mark.MapMark.{MapMark}
 use Rattle.lab_dump.specs.declared.mark.MapMark.TheVariants as mark
-use Rattle.lab_origin.specs.Origin.{AlikeLaw, FinishedLaw, MendedLaw, IsOf, IsOfNone, has_at, image_of, is_read, mark_by, mark_of, plain, read_mark, row_bytes}
+use Rattle.lab_origin.specs.Origin.{AlikeLaw, FinishedLaw, MendedLaw, IsOriginOf, IsOfNone, has_at, image_of, is_read, mark_by, mark_of, plain, read_mark, row_bytes}
 
 -- ---- the page of a row
 
@@ -108,7 +108,7 @@ mended_law g last dump readings n = (from (known g last dump n) refl, to)
 pub finished_law : FinishedLaw
 finished_law g last dump readings n = (from (known g last dump n) refl, to)
   where
-    from : (l : Latest) → known g last dump n ≡ l → mark_of g last dump readings n ≡ mark.Finished → (row : ℕ) × IsOf g last dump readings n row
+    from : (l : Latest) → known g last dump n ≡ l → mark_of g last dump readings n ≡ mark.Finished → (row : ℕ) × IsOriginOf g last dump readings n row
     from latest.Never e is = absurd (let at = mark_is g last dump readings n latest.Never e in cc)
     from (latest.Tied a b s) e is = absurd (let at = mark_is g last dump readings n (latest.Tied a b s) e in cc)
     from (latest.Once row s) e is =
@@ -116,7 +116,7 @@ finished_law g last dump readings n = (from (known g last dump n) refl, to)
         let one = has_one g dump readings row ((by_read (is_read g dump readings row) _ (sym at)).1 is) in
         (row, record { newest = newest_at g last dump n row s e; i = one.0; among = one.1; same = one.2 })
 
-    to : (row : ℕ) × IsOf g last dump readings n row → mark_of g last dump readings n ≡ mark.Finished
+    to : (row : ℕ) × IsOriginOf g last dump readings n row → mark_of g last dump readings n ≡ mark.Finished
     to h =
         let once = once_at g last dump n h.0 h.1.newest in
         mark_is g last dump readings n _ once.is ∙ ap read_mark (is_one g dump readings h.0 (h.1.i, h.1.among, h.1.same))

@@ -34,7 +34,7 @@ use Rattle.lab_dump.specs.declared.mark.MapMark.TheVariants as mark
 use Rattle.lab_origin.specs.declared.newest.Change.{Change}
 use Rattle.lab_origin.specs.declared.newest.Change.TheVariants as change
 use Rattle.lab_origin.specs.Origin.{image_of, is_read, mark_by, mark_of, marks_of, read_mark, row_bytes}
-use Rattle.lab_origin.specs.Tracing.{AreSized, Does, Shows}
+use Rattle.lab_origin.specs.Tracing.{AreSized, PageChanges, Shows}
 
 -- ---- what a page does
 
@@ -72,7 +72,7 @@ MarkIs change.Stays read was new = new ≡ was
 MarkIs change.Newest read was new = new ≡ read_mark read
 MarkIs change.Tie read was new = new ≡ mark.Bad
 
-pub marked : (read : ℕ → Bool) (row : ℕ) (c : Change) (before after : Latest) (was new : MapMark) → Does c row before after → was ≡ mark_by read before → MarkIs c (read row) was new → new ≡ mark_by read after
+pub marked : (read : ℕ → Bool) (row : ℕ) (c : Change) (before after : Latest) (was new : MapMark) → PageChanges c row before after → was ≡ mark_by read before → MarkIs c (read row) was new → new ≡ mark_by read after
 marked read row change.Stays before after was new does held is = is ∙ (held ∙ ap (mark_by read) (sym does))
 marked read row change.Newest before after was new does held is = is ∙ sym (ap (mark_by read) does.1)
 marked read row change.Tie before after was new does held is = is ∙ sym (ap (mark_by read) does.3)
@@ -96,7 +96,7 @@ here records row n r at same =
 
 -- one of a sound page of sector n, which makes this of what is held
 pub taken : (g : Geometry) (records : List (Option Record)) (read : ℕ → Bool) (row n : ℕ) (r : Record) (ls : List Latest) (ms : List MapMark) (old next : Latest) (new : MapMark) (c : Change) → Shows g records read row ls ms → AreSized g ls ms
-    → sector_in g r ≡ Some n → get_or records row None ≡ Some r → old ≡ get_or ls n old → next ≡ step old row (Some r.sequence) → Does c row old next → MarkIs c (read row) (get_or ms n mark.Untried) new
+    → sector_in g r ≡ Some n → get_or records row None ≡ Some r → old ≡ get_or ls n old → next ≡ step old row (Some r.sequence) → PageChanges c row old next → MarkIs c (read row) (get_or ms n mark.Untried) new
     → Shows g records read (row + 1) (set ls n next) (set ms n new)
 taken g records read row n r ls ms old next new c h sized in_die at old_is next_is does is =
     let its = within_is g r n in_die in

@@ -75,7 +75,7 @@ abbrev pub MendedLaw : Type 0
 MendedLaw = (g : Geometry) (last : Option ℕ) (dump : List ℕ) (readings : List (List ℕ)) (n : ℕ) → (mark_of g last dump readings n ≡ mark.Mended) ↔ ((row : ℕ) × IsOfNone g last dump readings n row)
 
 -- This row has the newest page of sector n, and one of the readings has it too.
-pub record IsOf (g : Geometry) (last : Option ℕ) (dump : List ℕ) (readings : List (List ℕ)) (n row : ℕ) : Type 0 where
+pub record IsOriginOf (g : Geometry) (last : Option ℕ) (dump : List ℕ) (readings : List (List ℕ)) (n row : ℕ) : Type 0 where
   pub newest : IsNewest (marks (image_of g last dump)) (Sector n) row
   pub i : ℕ
   pub among : i < length readings
@@ -83,7 +83,7 @@ pub record IsOf (g : Geometry) (last : Option ℕ) (dump : List ℕ) (readings :
 
 -- It is finished just where a reading has its newest page.
 abbrev pub FinishedLaw : Type 0
-FinishedLaw = (g : Geometry) (last : Option ℕ) (dump : List ℕ) (readings : List (List ℕ)) (n : ℕ) → (mark_of g last dump readings n ≡ mark.Finished) ↔ ((row : ℕ) × IsOf g last dump readings n row)
+FinishedLaw = (g : Geometry) (last : Option ℕ) (dump : List ℕ) (readings : List (List ℕ)) (n : ℕ) → (mark_of g last dump readings n ≡ mark.Finished) ↔ ((row : ℕ) × IsOriginOf g last dump readings n row)
 
 -- how the array's own map has it, which knows of no reading
 abbrev pub plain : MapMark → SectorShown

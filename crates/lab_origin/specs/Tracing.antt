@@ -16,10 +16,10 @@ use Rattle.lab_origin.specs.declared.room.OriginRoom.{OriginRoom}
 use Rattle.lab_origin.specs.Origin.{has_at, mark_by}
 
 -- what a page of this row does to what was known
-abbrev pub Does : Change → ℕ → Latest → Latest → Type 0
-Does change.Stays row before after = after ≡ before
-Does change.Newest row before after = (s : ℕ) × (after ≡ Once row s)
-Does change.Tie row before after = (a b s : ℕ) × (after ≡ Tied a b s)
+abbrev pub PageChanges : Change → ℕ → Latest → Latest → Type 0
+PageChanges change.Stays row before after = after ≡ before
+PageChanges change.Newest row before after = (s : ℕ) × (after ≡ Once row s)
+PageChanges change.Tie row before after = (a b s : ℕ) × (after ≡ Tied a b s)
 
 -- the readings have these files
 abbrev pub Tell : List (Option (List ℕ)) → List (List ℕ) → Type 0

@@ -3,7 +3,7 @@ ghost use Rattle.std.specs.Prelude.{◌≡◌, Some};
 ghost use Rattle.page_layout.specs.Greatest.{step};
 ghost use Rattle.lab_dump.specs.Until.{counted};
 ghost use Rattle.lab_dump.specs.Writing.{sector_in};
-ghost use Rattle.lab_origin.specs.Tracing.{Does};
+ghost use Rattle.lab_origin.specs.Tracing.{PageChanges};
 
 use page_layout::geometry::Geometry;
 use page_layout::newest::Latest;
@@ -23,7 +23,7 @@ pub(crate) enum Change {
 // What is known with the page of a row more, of this sequence, and what that page does.
 pub(crate) fn step(latest: Latest, row: u32, sequence: u64) -> (Latest, Change)
     ensures latest { result.0 ≡ step latest row (Some sequence) }
-    ensures does { Does result.1 row latest result.0 }
+    ensures does { PageChanges result.1 row latest result.0 }
 {
     let next = latest.step(row, Some(sequence));
     let change = match next {

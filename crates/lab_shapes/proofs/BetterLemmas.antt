@@ -10,8 +10,8 @@ use Rattle.std.proofs.lemmas.List.{take_more}
 use Rattle.std.proofs.lemmas.List.Elements.{Contains-append_left, Contains-append_right, Contains-append_cases}
 use Rattle.lab_shapes.specs.declared.find.ArrangedFit.{ArrangedFit}
 use Rattle.lab_shapes.specs.Arranged.{FitsArranged, IsBest, IsNotAfter, arranged_rank}
-use Rattle.lab_shapes.specs.Better.{Improves, IsMatched, KeepsPossible}
-use Rattle.lab_shapes.proofs.RankLemmas.{before_not_after, not_after_itself, not_after_then, not_before}
+use Rattle.lab_shapes.specs.Better.{Improves, IsMatched, KeepsPossible, least_turns}
+use Rattle.lab_shapes.proofs.RankLemmas.{before_not_after, fewer_not_after, not_after_itself, not_after_then, not_before}
 
 some_in : (x y : ArrangedFit) → Some x ≡ Some y → x ≡ y
 some_in x y e = ap (λ o. unwrap_or o x) e
@@ -26,6 +26,19 @@ improves_none Q old none = record {
   among = inl refl;
   kept = matched_itself old;
   best = λ y q. absurd (none y q);
+}
+
+-- ---- those that are tried have fewer pages in their turn
+
+fewer_matched : (old : Option ArrangedFit) (y : ArrangedFit) → y.in_turn.0 < least_turns old → IsMatched old y
+fewer_matched None y l = absurd (omega arith)
+fewer_matched (Some x) y l = fewer_not_after x y l
+
+pub improves_fewer : (Q : ArrangedFit → Type 0) (old : Option ArrangedFit) → ((y : ArrangedFit) → Q y → y.in_turn.0 < least_turns old) → Improves Q old old
+improves_fewer Q old fewer = record {
+  among = inl refl;
+  kept = matched_itself old;
+  best = λ y q. fewer_matched old y (fewer y q);
 }
 
 -- ---- one after another

@@ -1,5 +1,6 @@
 -- What is counted of the pages that are looked at.
 use Rattle.std.proofs.Common.{◌≡◌, ℕ, zero, suc, ◌+◌, ◌*◌, ◌-◌, ◌/◌, ◌%◌, inl, inr, ◌<◌, ◌≤◌, Bool, true, false, cond, List, count_by, refl, sym, ap, ◌∙◌, subst, arith}
+use mir.Val.{bool_byte}
 use Rattle.std.proofs.lemmas.Nat.{div-add-mod', mul-add-lt}
 use Rattle.std.specs.Prelude.{◌⊎◌, ◌&&◌, min, max, slice_index, Option, Some, None, option_map, is_some}
 use Rattle.std.specs.List.{range_with_len}
@@ -144,3 +145,7 @@ turns_all g all places count size is = is ∙ ap (turns_below g all) size
 pub one_few : (b : Bool) → one b ≤ 1
 one_few true = omega arith
 one_few false = omega arith
+
+pub one_byte : (b : Bool) → bool_byte b ≡ one b
+one_byte true = refl
+one_byte false = refl

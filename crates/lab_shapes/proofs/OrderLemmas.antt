@@ -10,7 +10,7 @@ use Rattle.page_layout.specs.Geometry.{page_bytes, row_count}
 use Rattle.lab_dump.specs.Pages.{page_in, page_at}
 use Rattle.lab_dump.specs.Scan.{image_bytes}
 use Rattle.lab_arrange.specs.declared.arrangement.Arrangement.{Arrangement}
-use Rattle.lab_arrange.specs.Place.{byte_at, place_of}
+use Rattle.lab_arrange.specs.Place.{byte_at, place_in_dump}
 use Rattle.lab_arrange.specs.Arranged.{piece_at}
 use Rattle.lab_shapes.specs.Ordered.{ordered}
 
@@ -52,7 +52,7 @@ pieces_size f n a (suc m) sized =
 
 pub piece_size : (g : Geometry) (a : Arrangement) (all : List ℕ) (row : ℕ) → length (piece_at g a all row) ≡ page_bytes g
 unfolding piece_at
-piece_size g a all row = length-map-range_with_len (λ column. byte_at a.inverted all (place_of g a row column)) 0 (page_bytes g)
+piece_size g a all row = length-map-range_with_len (λ column. byte_at a.inverted all (place_in_dump g a row column)) 0 (page_bytes g)
 
 -- it has as many bytes as the die's pages
 pub ordered_size : (g : Geometry) (a : Arrangement) (all : List ℕ) → length (ordered g a all) ≡ image_bytes g

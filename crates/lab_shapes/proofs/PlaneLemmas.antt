@@ -1,5 +1,5 @@
 -- A geometry of two planes, by its numbers.
-use Rattle.std.proofs.Common.{◌≡◌, List, ℕ, Option, subst}
+use Rattle.std.proofs.Common.{List, ℕ, Option, subst}
 use Rattle.std.specs.Prelude.{Result, Ok, Err, IfOk}
 use Rattle.page_layout.specs.declared.geometry.Geometry.{Geometry}
 use Rattle.page_layout.specs.Faults.{HasNumbers}

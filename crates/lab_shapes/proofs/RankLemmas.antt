@@ -1,10 +1,10 @@
 -- The order of geometries in arrangements, as it is derived, is that of the words.
-use Rattle.std.proofs.Common.{◌≡◌, refl, ap, ◌∙◌, subst, true, false, Option, Some, None}
+use Rattle.std.proofs.Common.{◌≡◌, ◌<◌, refl, sym, ap, ◌∙◌, subst, true, false, Option, Some, None}
 use Rattle.std.specs.declared.cmp.Ordering.{Ordering}
 use Rattle.std.specs.declared.cmp.Ordering.TheVariants.{Less, Equal, Greater}
 use Rattle.std.specs.Ordering.{bool_cmp, is_gt, is_lt, nat_cmp, ordering_reverse, ordering_then}
 use Rattle.std.specs.Option.{option_cmp}
-use Rattle.std.specs.Cmp.{IsTotalOrder, tied_itself, upto}
+use Rattle.std.specs.Cmp.{IsTotalOrder, nat_cmp_is, tied_itself, upto}
 use Rattle.lab_dump.proofs.RankLemmas.{same_rank}
 use Rattle.lab_dump.specs.Fits.{rank}
 use Rattle.lab_arrange.specs.declared.arrangement.Spares.{Spares}
@@ -65,3 +65,7 @@ not_before x y e = ap is_gt (rank_total.antisymm y x) ∙ by (arranged_rank x y)
 
 pub not_after_then : (x y z : ArrangedFit) → IsNotAfter x y → IsNotAfter y z → IsNotAfter x z
 not_after_then x y z a b = upto rank_total x y z a b
+
+-- one with fewer pages in their turn comes behind
+pub fewer_not_after : (x y : ArrangedFit) → y.in_turn.0 < x.in_turn.0 → IsNotAfter x y
+fewer_not_after x y l = ap (λ o. is_gt (ordering_then o (ordering_then (rank x.fit y.fit) (arrangement_rank x.arrangement y.arrangement)))) (sym (nat_cmp_is y.in_turn.0 x.in_turn.0 Less l))

@@ -1,5 +1,5 @@
 -- The geometry that is tried is the one that fits, if one does.
-use Rattle.std.proofs.Common.{◌≡◌, ◌⊎◌, ℕ, ◌+◌, ◌*◌, ◌-◌, ◌/◌, ◌%◌, ◌<◌, ◌≤◌, true, false, cond, List, length, Option, Some, None, inl, inr, refl, sym, ap, ◌∙◌, subst, mul_assoc, add-mul, one-mul, arith}
+use Rattle.std.proofs.Common.{◌≡◌, ◌⊎◌, ℕ, ◌+◌, ◌*◌, ◌-◌, ◌/◌, ◌%◌, ◌<◌, ◌≤◌, cond, List, length, Option, Some, None, inl, inr, refl, sym, ap, ◌∙◌, subst, mul_assoc, add-mul, one-mul, arith}
 use Rattle.std.specs.Prelude.{Result, Ok, Err, IfOk, IsOk}
 use Rattle.std.specs.Option.{unwrap_or}
 use Rattle.std.specs.Result.{result_ok}
@@ -23,9 +23,9 @@ use Rattle.lab_shapes.specs.declared.tried.Way.{Way}
 use Rattle.lab_shapes.specs.declared.tried.Way.TheVariants.{Cut, Order}
 use Rattle.lab_shapes.specs.Tried.{IsOfWay, IsTried, IsTriedWay, IsUncut, cut_by}
 use Rattle.lab_shapes.specs.Ordered.{in_turn_of, ordered}
-use Rattle.lab_shapes.specs.Arranged.{FitsArranged, FitsAs, IsShort, fit_in_order}
-use Rattle.lab_shapes.specs.Better.{Improves, InShape, IsFoundAs, IsShapeAs, IsShapeIn, IsShapeOf, pages_size}
-use Rattle.lab_shapes.proofs.BetterLemmas.{improves_as, improves_none}
+use Rattle.lab_shapes.specs.Arranged.{FitsArranged, FitsAs, IsCutShort, fit_in_order}
+use Rattle.lab_shapes.specs.Better.{Improves, InShape, IsFoundAs, IsShapeAs, IsShapeIn, IsShapeOf, least_turns, pages_size}
+use Rattle.lab_shapes.proofs.BetterLemmas.{improves_as, improves_fewer, improves_none}
 use Rattle.lab_shapes.proofs.TriedLemmas.{tried_of_way}
 
 -- ---- a geometry is its numbers
@@ -227,9 +227,9 @@ of_shape all w g a y size d s p tried e is h =
     let one = one_shape w size d s p fits.geometry g y.arrangement a tried (shape_of all w y size d s p e h) is in
     (one.1, subst (λ k. FitsAs all k y) one.0 fits.fits)
 
-pub none_fits : (all : List ℕ) (w : Way) (g : Geometry) (a : Arrangement) (size d s p : ℕ) (old : Option ArrangedFit) → IsTriedWay w → size ≡ length all → IsShapeIn size w d s p (Some (g, a)) → IsFoundAs all g a None → Improves (InShape all w d s p) old old
+pub none_fits : (all : List ℕ) (w : Way) (g : Geometry) (a : Arrangement) (size d s p : ℕ) (old : Option ArrangedFit) → IsTriedWay w → size ≡ length all → IsShapeIn size w d s p (Some (g, a)) → IsFoundAs all (least_turns old) g a None → Improves (InShape all w d s p) old old
 none_fits all w g a size d s p old tried e is none =
-    improves_none (InShape all w d s p) old (λ y h. (let k = of_shape all w g a y size d s p tried e is h in none y k.0 k.1))
+    improves_fewer (InShape all w d s p) old (λ y h. (let k = of_shape all w g a y size d s p tried e is h in none y k.0 k.1))
 
 abbrev fit_from : ℕ → Fit → Arrangement → ArrangedFit
 fit_from t f a = record { in_turn = record { 0 = t }; fit = f; arrangement = a }
@@ -246,12 +246,12 @@ one_fit all g x y same h k =
 -- and it is one of these sizes
 in_shape : (all : List ℕ) (w : Way) (g : Geometry) (a : Arrangement) (x : ArrangedFit) (size d s p : ℕ) → IsTriedWay w → IsShapeOf size w d s p g a → x.arrangement ≡ a → FitsAs all g x → InShape all w d s p x
 in_shape all w g a x size d s p tried is same h =
-    let whole : FitsArranged all x = record { geometry = g; sector = is.sector; tried = subst IsTried (sym same) (tried_of_way w a tried is.of_way); short = subst (IsShort g) (sym same) is.short; fits = h } in
+    let whole : FitsArranged all x = record { geometry = g; sector = is.sector; tried = subst IsTried (sym same) (tried_of_way w a tried is.of_way); short = subst (IsCutShort g) (sym same) is.short; fits = h } in
     ((((whole, subst (IsOfWay w) (sym same) is.of_way), ap (λ f. f.data_bytes) h.fit_is ∙ is.data_is), ap (λ f. f.spare_bytes) h.fit_is ∙ is.spare_is), ap (λ f. f.pages) h.fit_is ∙ is.pages_is)
 
-pub one_fits : (all : List ℕ) (w : Way) (g : Geometry) (a : Arrangement) (x : ArrangedFit) (size d s p : ℕ) (old new : Option ArrangedFit) → IsTriedWay w → size ≡ length all → IsShapeIn size w d s p (Some (g, a))
-    → IsFoundAs all g a (Some x) → Improves (λ y. y ≡ x) old new → Improves (InShape all w d s p) old new
-one_fits all w g a x size d s p old new tried e is found h =
+pub one_fits : (all : List ℕ) (w : Way) (g : Geometry) (a : Arrangement) (x : ArrangedFit) (size d s p least : ℕ) (old new : Option ArrangedFit) → IsTriedWay w → size ≡ length all → IsShapeIn size w d s p (Some (g, a))
+    → IsFoundAs all least g a (Some x) → Improves (λ y. y ≡ x) old new → Improves (InShape all w d s p) old new
+one_fits all w g a x size d s p least old new tried e is found h =
     improves_as (λ y. y ≡ x) (InShape all w d s p) old new h
     (λ y same. subst (InShape all w d s p) (sym same) (in_shape all w g a x size d s p tried is found.0 found.1))
     (λ y k. (let of = of_shape all w g a y size d s p tried e is k in one_fit all g y x (of.0 ∙ sym found.0) of.1 found.1))
@@ -280,7 +280,7 @@ shape_result (Err f) bytes d s p b count pages blocks accepted is = λ g de se p
 pub some_bytes : (p m : ℕ) → 0 < p → 0 < m → 0 < p * m
 some_bytes p m a b = mul-lt 0 0 p m a b
 
-order_short : (g : Geometry) (a : Arrangement) → a.cut ≡ None → IsShort g a
+order_short : (g : Geometry) (a : Arrangement) → a.cut ≡ None → IsCutShort g a
 order_short g a cut =
     let none : unwrap_or a.cut 0 ≡ 0 = ap (λ c. unwrap_or c 0) cut in
     let pages : 0 < g.pages = (let l = g.limits.page_count.least in omega arith) in

@@ -7,7 +7,7 @@ use Rattle.page_layout.specs.declared.geometry.Geometry.{Geometry}
 use Rattle.page_layout.specs.Geometry.{page_bytes, row_count}
 use Rattle.lab_dump.specs.declared.fit.Fit.{Fit}
 use Rattle.lab_dump.specs.Sample.{sample_of}
-use Rattle.lab_dump.specs.Told.{told_of}
+use Rattle.lab_dump.specs.Told.{pages_told_of}
 use Rattle.lab_dump.specs.Fits.{IsPossible, fit_of, rank}
 use Rattle.lab_arrange.specs.declared.arrangement.Arrangement.{Arrangement}
 use Rattle.lab_arrange.specs.declared.arrangement.Spares.{Spares}
@@ -21,7 +21,7 @@ use Rattle.lab_shapes.specs.Tried.{IsTried}
 
 -- what a dump that is in order says for this geometry
 abbrev pub fit_in_order : Geometry → List ℕ → Fit
-fit_in_order g all = fit_of g.data_bytes g.spare_bytes g.pages g.blocks (sample_of g.data_bytes g.spare_bytes (row_count g) all) (told_of g.data_bytes g.spare_bytes (row_count g) all)
+fit_in_order g all = fit_of g.data_bytes g.spare_bytes g.pages g.blocks (sample_of g.data_bytes g.spare_bytes (row_count g) all) (pages_told_of g.data_bytes g.spare_bytes (row_count g) all)
 
 -- This geometry fits the dump in this arrangement: such a die can stand so, and comes to the dump's bytes; and of the dump put in order one of the first
 -- 64 pages that are looked at is sound, and where something was cut off more of these are than neither sound nor erased. What is told of it is what the dump put in order says.
@@ -34,15 +34,15 @@ pub record FitsAs (all : List ℕ) (g : Geometry) (x : ArrangedFit) : Type 0 whe
   pub fit_is : x.fit ≡ fit_in_order g (ordered g x.arrangement all)
 
 -- less than a block was cut off
-abbrev pub IsShort : Geometry → Arrangement → Type 0
-IsShort g a = unwrap_or a.cut 0 < g.pages * page_bytes g
+abbrev pub IsCutShort : Geometry → Arrangement → Type 0
+IsCutShort g a = unwrap_or a.cut 0 < g.pages * page_bytes g
 
 -- A GEOMETRY FITS A DUMP IN AN ARRANGEMENT: one with one sector, in an arrangement that is tried, of whose last block some is there
 pub record FitsArranged (all : List ℕ) (x : ArrangedFit) : Type 0 where
   pub geometry : Geometry
   pub sector : geometry.sectors ≡ 1
   pub tried : IsTried x.arrangement
-  pub short : IsShort geometry x.arrangement
+  pub short : IsCutShort geometry x.arrangement
   pub fits : FitsAs all geometry x
 
 -- ---- what fits best

@@ -1,5 +1,5 @@
 -- What is best so far, and one more is tried.
-use Rattle.std.specs.Prelude.{◌≡◌, ◌≢◌, ◌⊎◌, ℕ, ◌+◌, ◌-◌, ◌/◌, nat_le, if◌then◌else◌, List, Option, Some, None, IfSome}
+use Rattle.std.specs.Prelude.{◌≡◌, ◌≢◌, ◌⊎◌, ℕ, ◌+◌, ◌-◌, ◌/◌, ◌<◌, nat_le, if◌then◌else◌, List, Option, Some, None, IfSome}
 use Rattle.std.specs.Option.{unwrap_or}
 use Rattle.page_layout.specs.declared.geometry.Geometry.{Geometry}
 use Rattle.page_layout.specs.Faults.{HasNumbers}
@@ -9,7 +9,7 @@ use Rattle.lab_shapes.specs.declared.find.ArrangedFit.{ArrangedFit}
 use Rattle.lab_arrange.specs.Place.{length_of}
 use Rattle.lab_shapes.specs.declared.tried.Way.{Way}
 use Rattle.lab_shapes.specs.Tried.{IsOfWay}
-use Rattle.lab_shapes.specs.Arranged.{FitsArranged, FitsAs, IsNotAfter, IsPossibleAs, IsShort}
+use Rattle.lab_shapes.specs.Arranged.{FitsArranged, FitsAs, IsCutShort, IsNotAfter, IsPossibleAs}
 
 -- there is one that comes no later than this one
 abbrev pub IsMatched : Option ArrangedFit → ArrangedFit → Type 0
@@ -46,10 +46,15 @@ InShape all way data_bytes spare_bytes pages y = InAreas all way data_bytes spar
 
 -- ---- one geometry
 
--- what was found of a geometry and an arrangement: it fits, or nothing does
-abbrev pub IsFoundAs : List ℕ → Geometry → Arrangement → Option ArrangedFit → Type 0
-IsFoundAs all g a None = (y : ArrangedFit) → y.arrangement ≡ a → ¬ FitsAs all g y
-IsFoundAs all g a (Some x) = (x.arrangement ≡ a) × FitsAs all g x
+-- the pages in their turn of the best one so far: what has fewer comes behind it
+abbrev pub least_turns : Option ArrangedFit → ℕ
+least_turns None = 0
+least_turns (Some x) = x.in_turn.0
+
+-- what was found of a geometry and an arrangement: it fits, or what does has fewer than so many pages in their turn
+abbrev pub IsFoundAs : List ℕ → ℕ → Geometry → Arrangement → Option ArrangedFit → Type 0
+IsFoundAs all least g a None = (y : ArrangedFit) → y.arrangement ≡ a → FitsAs all g y → y.in_turn.0 < least
+IsFoundAs all least g a (Some x) = (x.arrangement ≡ a) × FitsAs all g x
 
 -- the geometry with one sector of such areas and blocks that comes to so many bytes, if there is one
 abbrev pub IsShapeAs : (bytes data_bytes spare_bytes pages : ℕ) → Option Geometry → Type 0
@@ -59,7 +64,7 @@ IsShapeAs bytes d s p (Some g) = (image_bytes g ≡ bytes) × HasNumbers d s p (
 -- A GEOMETRY IS OF A DUMP OF THIS SIZE in an arrangement of a way: with one sector, and with such areas and blocks, it comes to so many bytes
 pub record IsShapeOf (size : ℕ) (way : Way) (data_bytes spare_bytes pages : ℕ) (g : Geometry) (a : Arrangement) : Type 0 where
   pub of_way : IsOfWay way a
-  pub short : IsShort g a
+  pub short : IsCutShort g a
   pub whole : length_of g a ≡ size
   pub data_is : g.data_bytes ≡ data_bytes
   pub spare_is : g.spare_bytes ≡ spare_bytes

@@ -1,5 +1,5 @@
 -- A dump that is put in order, and what its pages are then.
-use Rattle.std.specs.Prelude.{◌||◌, ℕ, ◌-◌, ◌%◌, ◌==◌, not, is_some, nat_lt, min, if◌then◌else◌, Bool, true, false, List, count_by}
+use Rattle.std.specs.Prelude.{◌||◌, ℕ, ◌-◌, ◌%◌, ◌==◌, not, is_some, nat_lt, min, if◌then◌else◌, Bool, true, false, List, Option, Some, None, count_by}
 use Rattle.std.specs.List.{concat, range_with_len}
 use Rattle.page_layout.specs.declared.geometry.Geometry.{Geometry}
 use Rattle.page_layout.specs.Geometry.{row_count}
@@ -40,17 +40,26 @@ is_likely g a all = not (is_some a.cut) || shows_more g all
 
 -- ---- pages in their turn
 
--- whether a page may follow the one before it in its block: a block is programmed page by page, so that one is not erased, and each sequence is later
-abbrev pub follows : Look → Look → Bool
-follows (Sound q) (Sound r) = nat_lt q.sequence r.sequence
-follows Erased (Sound r) = false
-follows Unsound (Sound r) = true
-follows x Erased = false
-follows x Unsound = false
+-- what the page before that of a row is in its block, if there is one
+abbrev pub look_before : Geometry → List ℕ → ℕ → Option Look
+look_before g all row = if row % g.pages == 0 then None else Some (look_in g all (row - 1))
 
--- whether the page of a row is sound, and in its turn
+-- whether a page may follow the one before it in its block: a block is programmed page by page, so that one is not erased, and each sequence is later
+abbrev pub may_follow : Look → Look → Bool
+may_follow (Sound q) (Sound r) = nat_lt q.sequence r.sequence
+may_follow Erased (Sound r) = false
+may_follow Unsound (Sound r) = true
+may_follow x Erased = false
+may_follow x Unsound = false
+
+-- whether it is sound, and the first one or one that may follow
+abbrev pub follows : Option Look → Look → Bool
+follows None x = is_sound x
+follows (Some before) x = may_follow before x
+
+-- whether the page of a row is in its turn
 abbrev pub is_in_turn : Geometry → List ℕ → ℕ → Bool
-is_in_turn g all row = if row % g.pages == 0 then is_sound (look_in g all row) else follows (look_in g all (row - 1)) (look_in g all row)
+is_in_turn g all row = follows (look_before g all row) (look_in g all row)
 
 -- how many are of those that are looked at
 unfoldable pub in_turn_of : Geometry → List ℕ → ℕ

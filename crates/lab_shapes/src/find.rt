@@ -5,7 +5,7 @@ ghost use Rattle.lab_arrange.specs.declared.arrangement.Arrangement.{Arrangement
 ghost use Rattle.lab_shapes.specs.declared.find.ArrangedFit.{ArrangedFit};
 ghost use Rattle.std.specs.Ordering.{is_lt};
 ghost use Rattle.lab_shapes.specs.Arranged.{FitsArranged, IsBest, IsPossibleAs, arranged_rank};
-ghost use Rattle.lab_shapes.specs.Better.{Improves, InAreas, InWay, InData, InShape, KeepsPossible};
+ghost use Rattle.lab_shapes.specs.Better.{Improves, InAreas, InWay, InData, InShape, KeepsPossible, least_turns};
 ghost use Rattle.lab_shapes.specs.Rooms.{HasRoom, IsShapeRoom};
 ghost use Rattle.lab_shapes.specs.Tried.{IsTriedWay};
 
@@ -86,6 +86,16 @@ fn better(so_far: Option<ArrangedFit>, found: ArrangedFit) -> ArrangedFit
     }
 }
 
+// The pages in their turn of the best one so far: what has fewer comes behind it.
+fn least_turns(best: Option<ArrangedFit>) -> u32
+    ensures { result ≡ least_turns best }
+{
+    match best {
+        Some(best) => best.in_turn.0,
+        None => 0,
+    }
+}
+
 // Tries the geometry of such areas and blocks in this way.
 fn try_shape<D: Dump>(
     room: &mut ShapeRoom,
@@ -115,6 +125,7 @@ fn try_shape<D: Dump>(
         size,
         &geometry,
         &arrangement,
+        least_turns(room.best),
         &mut room.raw,
         &mut room.page,
     )?;

@@ -1,10 +1,10 @@
 //! What the pages of a dump are, and what they tell, when they are put in order.
-ghost use Rattle.std.specs.Prelude.{◌≡◌, ◌+◌, ◌*◌, ◌%◌, ◌<◌, ◌≤◌, ◌^◌, List, ℕ, length, IfOk, OnErr, Some, true};
+ghost use Rattle.std.specs.Prelude.{◌≡◌, ◌+◌, ◌*◌, ◌%◌, ◌<◌, ◌≤◌, ◌^◌, List, ℕ, length, IfOk, IfSome, OnErr, Some, true};
 ghost use Rattle.page_layout.specs.Geometry.{page_bytes, row_count};
 ghost use Rattle.lab_arrange.specs.Place.{IsFitting};
 ghost use Rattle.lab_dump.specs.Sample.{looked_count};
-ghost use Rattle.lab_dump.specs.Told.{told_of};
-ghost use Rattle.lab_shapes.specs.Ordered.{follows, in_turn_of, is_in_turn, is_likely, look_in, ordered, sample_first, shows_sound};
+ghost use Rattle.lab_dump.specs.Told.{pages_told_of};
+ghost use Rattle.lab_shapes.specs.Ordered.{follows, in_turn_of, is_likely, look_before, look_in, ordered, sample_first, shows_sound};
 
 use lab_arrange::{Arrangement, read_page, read_spare};
 use lab_dump::{
@@ -14,6 +14,13 @@ use page_layout::geometry::Geometry;
 
 // So many of the pages that are looked at have to show a sound one.
 const PROBED: u32 = 64;
+
+/// What the pages are that are looked at, and how many of these are in their turn.
+#[derive(Clone, Copy)]
+pub(crate) struct LookedOver {
+    pub sample: Sample,
+    pub in_turn: u32,
+}
 
 // What the page of a row is, when the dump is put in order. `raw` and `page` are scratch.
 fn look_in_order<D: Dump>(
@@ -84,7 +91,7 @@ pub(crate) fn told_in_order<D: Dump>(
     requires page_room { length page.old ≡ page_bytes geometry.now }
     requires raw_room { length raw.old ≡ page_bytes geometry.now + 2 }
     ensures told { IfOk result (λ told. (all : List ℕ) → D.bytes dump.old ≡ Some all → size ≡ length all
-        → told ≡ told_of geometry.now.data_bytes geometry.now.spare_bytes (row_count geometry.now) (ordered geometry.now arrangement.now all)) }
+        → told ≡ pages_told_of geometry.now.data_bytes geometry.now.spare_bytes (row_count geometry.now) (ordered geometry.now arrangement.now all)) }
     ensures failed { OnErr result (D.failed dump.new ≡ true) }
     ensures same { D.bytes dump.new ≡ D.bytes dump.old }
 {
@@ -99,20 +106,6 @@ pub(crate) fn told_in_order<D: Dump>(
     Ok(told)
 }
 
-// Whether a page may follow the one before it in its block.
-fn follows(before: Look, look: Look) -> bool
-    ensures { result ≡ follows before look }
-{
-    let Look::Sound(found) = look else {
-        return false;
-    };
-    match before {
-        Look::Sound(last) => last.sequence < found.sequence,
-        Look::Erased => false,
-        Look::Unsound => true,
-    }
-}
-
 // Whether a page is sound.
 fn is_sound(look: Look) -> bool
     ensures { result ≡ Rattle.lab_dump.specs.Sample.is_sound look }
@@ -120,30 +113,51 @@ fn is_sound(look: Look) -> bool
     matches!(look, Look::Sound(_))
 }
 
-// Whether the page of a row is sound and in its turn, when the dump is put in order. `raw` and `page` are scratch.
-fn is_in_turn<D: Dump>(
+// Whether a page is in its turn, with the one before it in its block, if there is one.
+fn follows(before: Option<Look>, look: Look) -> bool
+    ensures { result ≡ follows before look }
+{
+    let Look::Sound(found) = look else {
+        return false;
+    };
+    match before {
+        None | Some(Look::Unsound) => true,
+        Some(Look::Sound(last)) => last.sequence < found.sequence,
+        Some(Look::Erased) => false,
+    }
+}
+
+// What the page before that of a row is in its block, if there is one, when the dump is put in order. It is not read again where it was looked at
+// last. `raw` and `page` are scratch.
+fn look_before<D: Dump>(
     dump: &mut D,
     size: u64,
     geometry: &Geometry,
     arrangement: &Arrangement,
     row: u32,
+    last: Option<(u32, Look)>,
     raw: &mut [u8],
     page: &mut [u8],
-) -> Result<bool, DumpFault>
+) -> Result<Option<Look>, DumpFault>
     requires fits { IsFitting geometry.now arrangement.now }
     requires row { row < row_count geometry.now }
+    requires last { IfSome last (λ last. (all : List ℕ) → D.bytes dump.old ≡ Some all → size ≡ length all → last.1 ≡ look_in geometry.now (ordered geometry.now arrangement.now all) last.0) }
     requires page_room { length page.old ≡ page_bytes geometry.now }
     requires raw_room { length raw.old ≡ page_bytes geometry.now + 2 }
-    ensures turn { IfOk result (λ turn. (all : List ℕ) → D.bytes dump.old ≡ Some all → size ≡ length all → turn ≡ is_in_turn geometry.now (ordered geometry.now arrangement.now all) row) }
+    ensures before { IfOk result (λ before. (all : List ℕ) → D.bytes dump.old ≡ Some all → size ≡ length all → before ≡ look_before geometry.now (ordered geometry.now arrangement.now all) row) }
     ensures failed { OnErr result (D.failed dump.new ≡ true) }
     ensures same { D.bytes dump.new ≡ D.bytes dump.old }
 {
-    let look = look_in_order(dump, size, geometry, arrangement, row, raw, page)?;
     if row % geometry.pages() == 0 {
-        return Ok(is_sound(look));
+        return Ok(None);
     }
-    let before = look_in_order(dump, size, geometry, arrangement, row - 1, raw, page)?;
-    Ok(follows(before, look))
+    if let Some((at, look)) = last
+        && at == row - 1
+    {
+        return Ok(Some(look));
+    }
+    let look = look_in_order(dump, size, geometry, arrangement, row - 1, raw, page)?;
+    Ok(Some(look))
 }
 
 // Whether the page of a row is sound, when the dump is put in order. Of a spare area that spells no record no more is read: it needs no hash.
@@ -225,29 +239,40 @@ pub(crate) fn is_likely<D: Dump>(
     Ok(first.unsound < first.sound)
 }
 
-/// How many of the pages that are looked at are sound and in their turn, when the dump is put in order. `raw` and `page` are scratch.
-pub(crate) fn count_in_turn<D: Dump>(
+/// What the pages are that are looked at, and how many of these are sound and in their turn, when the dump is put in order. `raw` and `page` are scratch.
+pub(crate) fn look_over<D: Dump>(
     dump: &mut D,
     size: u64,
     geometry: &Geometry,
     arrangement: &Arrangement,
     raw: &mut [u8],
     page: &mut [u8],
-) -> Result<u32, DumpFault>
+) -> Result<LookedOver, DumpFault>
     requires fits { IsFitting geometry.now arrangement.now }
     requires page_room { length page.old ≡ page_bytes geometry.now }
     requires raw_room { length raw.old ≡ page_bytes geometry.now + 2 }
-    ensures count { IfOk result (λ count. (all : List ℕ) → D.bytes dump.old ≡ Some all → size ≡ length all → count ≡ in_turn_of geometry.now (ordered geometry.now arrangement.now all)) }
+    ensures sample { IfOk result (λ over. (all : List ℕ) → D.bytes dump.old ≡ Some all → size ≡ length all → over.sample ≡ sample_first geometry.now (ordered geometry.now arrangement.now all) (looked_count (row_count geometry.now))) }
+    ensures few { IfOk result (λ over. over.sample.sound + over.sample.unsound ≤ over.sample.looked) }
+    ensures turns { IfOk result (λ over. (all : List ℕ) → D.bytes dump.old ≡ Some all → size ≡ length all → over.in_turn ≡ in_turn_of geometry.now (ordered geometry.now arrangement.now all)) }
     ensures failed { OnErr result (D.failed dump.new ≡ true) }
     ensures same { D.bytes dump.new ≡ D.bytes dump.old }
 {
     let rows = geometry.rows();
-    let mut count = 0;
-    for place in 0..looked_count(rows) {
+    let looked = looked_count(rows);
+    let mut sample = Sample {
+        looked,
+        sound: 0,
+        unsound: 0,
+    };
+    let mut in_turn = 0;
+    let mut last = None;
+    for place in 0..looked {
         let row = looked_row(rows, place);
-        if is_in_turn(dump, size, geometry, arrangement, row, raw, page)? {
-            count += 1;
-        }
+        let before = look_before(dump, size, geometry, arrangement, row, last, raw, page)?;
+        let look = look_in_order(dump, size, geometry, arrangement, row, raw, page)?;
+        sample = sample.noted(look);
+        in_turn += u32::from(follows(before, look));
+        last = Some((row, look));
     }
-    Ok(count)
+    Ok(LookedOver { sample, in_turn })
 }

@@ -10,7 +10,7 @@ ghost use Rattle.lab_shapes.specs.Rooms.{HasRoom};
 
 use crate::find::{ArrangedFit, ShapeRoom};
 use crate::fitting::fit_as;
-use crate::looking::count_in_turn;
+use crate::looking::look_over;
 use lab_arrange::{Arrangement, fit_arrangement, in_order};
 use lab_dump::{Dump, DumpFault, Fit};
 use page_layout::geometry::Geometry;
@@ -43,7 +43,8 @@ fn turns_in<D: Dump>(
 {
     let bytes = geometry.data_bytes() + geometry.spare_bytes();
     let (raw, page) = (&mut raw[..bytes + 2], &mut page[..bytes]);
-    count_in_turn(dump, size, geometry, arrangement, raw, page)
+    let over = look_over(dump, size, geometry, arrangement, raw, page)?;
+    Ok(over.in_turn)
 }
 
 // What the dump tells for this geometry with the pages of two planes in turns, where more of its pages are in their turn so than as it stands.
@@ -69,7 +70,15 @@ fn compare_turns<D: Dump>(
     if turned <= standing {
         return Ok(None);
     }
-    fit_as(dump, size, geometry, &planes, &mut room.raw, &mut room.page)
+    fit_as(
+        dump,
+        size,
+        geometry,
+        &planes,
+        0,
+        &mut room.raw,
+        &mut room.page,
+    )
 }
 
 /// A geometry that fits a dump as it stands, with the pages of two planes in turns, where more of the pages that are looked at are in their turn so than

@@ -9,6 +9,6 @@ abbrev pub options_for : (writes : Bool) → OpenOptions
 options_for writes = with_write (with_read new_options true) writes
 
 -- it was opened so, and is held alone just where it is to be written
-pub record IsHeld (writes : Bool) (l : LockedFile) : Type 0 where
+pub record IsFileHeld (writes : Bool) (l : LockedFile) : Type 0 where
   pub options_are : l.options ≡ options_for writes
   pub alone_is : l.alone ≡ writes

@@ -1,7 +1,7 @@
 //! The lock on the file of a die.
 ghost use Rattle.std.specs.Prelude.{◌≡◌, IfOk};
 ghost use Rattle.std.specs.Fs.{asks_write};
-ghost use Rattle.nanddisk.specs.Locks.{IsHeld, options_for};
+ghost use Rattle.nanddisk.specs.Locks.{IsFileHeld, options_for};
 
 use crate::fault::unread;
 use disk_commands::{Access, DiskFileFault, LockedDie};
@@ -91,7 +91,7 @@ pub fn lock_die<R: Files<File = File> + Clock>(
     path: &str,
     access: Access,
 ) -> Result<LockedFile, DiskFileFault>
-    ensures { IfOk result (IsHeld access.writes) }
+    ensures { IfOk result (IsFileHeld access.writes) }
 {
     for _ in 0..u64::from(access.wait) * TRIES {
         match locked(rt, path, options_for(access.writes)) {

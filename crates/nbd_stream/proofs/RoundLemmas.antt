@@ -5,8 +5,8 @@ use Rattle.nbd_stream.specs.declared.export.Export.{Export}
 use Rattle.nbd_stream.specs.declared.fault.DiskFault.{DiskFault}
 use Rattle.nbd_stream.specs.declared.reply.RequestError.{RequestError}
 use Rattle.nbd_stream.specs.declared.task.Task.{Task}
-use Rattle.nbd_stream.specs.Disk.{Contents, IsEither, Steps, bytes_after, makes_last}
-use Rattle.nbd_stream.specs.Exchanges.{Exchange, Round, RestsBy, TellsBy, TellsRound, ToldEach, AreRestsDone, exchanges_in, task_of}
+use Rattle.nbd_stream.specs.Disk.{Contents, IsEither, TaskSteps, bytes_after, makes_last}
+use Rattle.nbd_stream.specs.Exchanges.{Exchange, Round, RestsBy, TellsBy, TellsRound, ToldEachRound, AreRestsDone, exchanges_in, task_of}
 use Rattle.nbd_stream.specs.Runs.{AnswersBy, Runs, AreDone}
 
 -- ---- a task, and then a rest
@@ -46,7 +46,7 @@ module _ (s m t : Contents) (bytes : t.bytes ≡ m.bytes)
   lasts_so (Ok gave) task lasts = λ p last. last_so p (lasts p last) (stays p)
   lasts_so (Err error) task lasts = lasts
 
-  steps_rested : (task : Task) (body : List ℕ) (answer : Result (List ℕ) RequestError) → Steps task body s answer m → Steps task body s answer t
+  steps_rested : (task : Task) (body : List ℕ) (answer : Result (List ℕ) RequestError) → TaskSteps task body s answer m → TaskSteps task body s answer t
   steps_rested task body answer steps =
       let due : List ℕ = bytes_after task body s.bytes in
       record {
@@ -127,18 +127,18 @@ module _ {D : Type 0} (contents : D → Contents) (honest calm : D → Bool) (do
 
   -- ---- a chain of disks is a run
 
-  pub back_of : (old new : D) (xs : List Round) → ToldEach contents honest calm does rests e old xs new → honest new ≡ true → honest old ≡ true
+  pub back_of : (old new : D) (xs : List Round) → ToldEachRound contents honest calm does rests e old xs new → honest new ≡ true → honest old ≡ true
   back_of old new [] same h = sym (ap honest same) ∙ h
   back_of old new (x ∷ xs) (next, one, more) h = round_back old next x one (back_of next new xs more h)
 
-  pub runs_of : (old new : D) (xs : List Round) → ToldEach contents honest calm does rests e old xs new → honest new ≡ true → Runs e (contents old) (exchanges_in xs) (contents new)
+  pub runs_of : (old new : D) (xs : List Round) → ToldEachRound contents honest calm does rests e old xs new → honest new ≡ true → Runs e (contents old) (exchanges_in xs) (contents new)
   runs_of old new [] same h = ap contents same
   runs_of old new (x ∷ xs) (next, one, more) h = (contents next, round_answers old next x one (back_of next new xs more h), runs_of next new xs more h)
 
-  pub done_of : (old new : D) (xs : List Round) → ToldEach contents honest calm does rests e old xs new → calm old ≡ true → AreDone e (exchanges_in xs)
+  pub done_of : (old new : D) (xs : List Round) → ToldEachRound contents honest calm does rests e old xs new → calm old ≡ true → AreDone e (exchanges_in xs)
   done_of old new [] same h = tt
   done_of old new (x ∷ xs) (next, one, more) h = (round_done old next x one h, done_of next new xs more (round_calm old next x one ∙ h))
 
-  pub rests_done_of : (old new : D) (xs : List Round) → ToldEach contents honest calm does rests e old xs new → calm old ≡ true → AreRestsDone xs
+  pub rests_done_of : (old new : D) (xs : List Round) → ToldEachRound contents honest calm does rests e old xs new → calm old ≡ true → AreRestsDone xs
   rests_done_of old new [] same h = tt
   rests_done_of old new (x ∷ xs) (next, one, more) h = (round_rest_done old next x one h, rests_done_of next new xs more (round_calm old next x one ∙ h))

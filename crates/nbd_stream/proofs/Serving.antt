@@ -17,13 +17,13 @@ use Rattle.nbd_stream.specs.declared.request.StreamEnd.{StreamEnd}
 use Rattle.nbd_stream.specs.declared.request.StreamEnd.TheVariants.{Boundary, Unfinished, BadFrame, Disconnected}
 use Rattle.nbd_stream.specs.declared.request.NextRequest.TheVariants as next
 use Rattle.nbd_stream.specs.declared.task.Task.{Task}
-use Rattle.nbd_stream.specs.Frames.{Request, IsRequest, IsRest, ReadsRequest, Rests, Splits, is_header, is_end, reply_bytes, reply_header_bytes, request_at, request_bytes}
+use Rattle.nbd_stream.specs.Frames.{Request, IsRequest, IsRest, ReadsNbdRequest, Rests, SplitsTransmission, is_header, is_end, reply_bytes, reply_header_bytes, request_at, request_bytes}
 use Rattle.nbd_stream.specs.Tasks.{admitted, asks_change}
-use Rattle.nbd_stream.specs.Disk.{Contents, Performs, answer_from, asked_as, count_given, count_taken, error_for}
-use Rattle.nbd_stream.specs.Exchanges.{Exchange, HasDone, Round, RestsAfter, RestsBy, TellsBy, TellsRound, ToldEach, AreRested, IsRested, bytes_in, exchanges_in, reply_in, requests_in, task_of}
+use Rattle.nbd_stream.specs.Disk.{Contents, PerformsTask, answer_from, asked_as, count_given, count_taken, error_for}
+use Rattle.nbd_stream.specs.Exchanges.{Exchange, HasDone, Round, RestsAfter, RestsBy, TellsBy, TellsRound, ToldEachRound, AreRested, IsRested, bytes_in, exchanges_in, reply_in, requests_in, task_of}
 use Rattle.nbd_stream.specs.Runs.{Runs}
-use Rattle.nbd_stream.specs.Until.{Until}
-use Rattle.nbd_stream.specs.Transmission.{Carries, HasServed, Reads, Replies, Rested, ServesNext, Transmits, left_of}
+use Rattle.nbd_stream.specs.Until.{IsHonestUntil}
+use Rattle.nbd_stream.specs.Transmission.{Carries, HasServed, ReadsNbdRequests, Replies, Rested, ServesNext, Transmits, left_of}
 use Rattle.nbd_stream.proofs.Asked.{room_for, taken_of}
 use Rattle.nbd_stream.proofs.Negotiating.{all_more, map_more}
 use Rattle.nbd_stream.proofs.RoundLemmas.{back_of, done_of, rests_done_of, round_calm, round_sized, runs_of}
@@ -57,28 +57,28 @@ module _ {D : Type 0} (contents : D → Contents) (honest calm : D → Bool) (do
         ap (λ (n : ℕ). take n buffer) (sym long) ∙ sym (stands (omega arith))
 
     -- it was asked of the disk
-    performed : (answer : Result (List ℕ) RequestError) → Performs contents honest calm task (take (count_taken task) buffer) old answer new → HasDone does task old answer new → Sends b a (reply_bytes h.cookie answer (bytes_in answer)) result → Replies contents honest calm does e old (request_at h body) new b a result
+    performed : (answer : Result (List ℕ) RequestError) → PerformsTask contents honest calm task (take (count_taken task) buffer) old answer new → HasDone does task old answer new → Sends b a (reply_bytes h.cookie answer (bytes_in answer)) result → Replies contents honest calm does e old (request_at h body) new b a result
     unfolding asked_of
     performed answer performs done sends =
         let x : Exchange = record { request = request_at h body; answer = answer } in
         record {
           exchange = x;
           request_is = refl;
-          tells = subst (λ k. asked_of k old new x) (sym is) (subst (λ (l : List ℕ). Performs contents honest calm task l old answer new) body_is performs, done);
+          tells = subst (λ k. asked_of k old new x) (sym is) (subst (λ (l : List ℕ). PerformsTask contents honest calm task l old answer new) body_is performs, done);
           sends = sends;
         }
 
-    pub performed_ok : (done : Result (Unit {0}) DiskFault) (x : Unit {0}) (gave bytes : List ℕ) → done ≡ Ok x → bytes ≡ gave → Performs contents honest calm task (take (count_taken task) buffer) old (answer_from done gave) new → does old (asked_as task) done new
+    pub performed_ok : (done : Result (Unit {0}) DiskFault) (x : Unit {0}) (gave bytes : List ℕ) → done ≡ Ok x → bytes ≡ gave → PerformsTask contents honest calm task (take (count_taken task) buffer) old (answer_from done gave) new → does old (asked_as task) done new
         → Sends b a (reply_header_bytes 0 h.cookie ++ bytes) result → Replies contents honest calm does e old (request_at h body) new b a result
     performed_ok done x gave bytes ok same performs does_so sends =
-        performed (Ok gave) (subst (λ (r : Result (Unit {0}) DiskFault). Performs contents honest calm task (take (count_taken task) buffer) old (answer_from r gave) new) ok performs)
+        performed (Ok gave) (subst (λ (r : Result (Unit {0}) DiskFault). PerformsTask contents honest calm task (take (count_taken task) buffer) old (answer_from r gave) new) ok performs)
         (record { done = done; told = sym (ap (λ r. answer_from r gave) ok); does_so = does_so })
         (subst (λ (l : List ℕ). Sends b a (reply_header_bytes 0 h.cookie ++ l) result) same sends)
 
-    pub performed_err : (done : Result (Unit {0}) DiskFault) (f : DiskFault) (gave : List ℕ) (error : RequestError) → done ≡ Err f → error ≡ error_for f → Performs contents honest calm task (take (count_taken task) buffer) old (answer_from done gave) new → does old (asked_as task) done new
+    pub performed_err : (done : Result (Unit {0}) DiskFault) (f : DiskFault) (gave : List ℕ) (error : RequestError) → done ≡ Err f → error ≡ error_for f → PerformsTask contents honest calm task (take (count_taken task) buffer) old (answer_from done gave) new → does old (asked_as task) done new
         → Sends b a (reply_bytes h.cookie (refusal error) []) result → Replies contents honest calm does e old (request_at h body) new b a result
     performed_err done f gave error err same performs does_so sends =
-        performed (Err (error_for f)) (subst (λ (r : Result (Unit {0}) DiskFault). Performs contents honest calm task (take (count_taken task) buffer) old (answer_from r gave) new) err performs)
+        performed (Err (error_for f)) (subst (λ (r : Result (Unit {0}) DiskFault). PerformsTask contents honest calm task (take (count_taken task) buffer) old (answer_from r gave) new) err performs)
         (record { done = done; told = sym (ap (λ r. answer_from r []) err); does_so = does_so })
         (subst (λ (k : RequestError). Sends b a (reply_bytes h.cookie (refusal k) []) result) same sends)
 
@@ -117,26 +117,26 @@ module _ {D : Type 0} (contents : D → Contents) (honest calm : D → Bool) (do
         (served (AppendsFront b a) (λ (y : Round). y.rested ≡ None) x replies.request_is tells replies.sends.1 refl)
 
   module _ (old : D) (u v b : Option (List ℕ)) (buffer : List ℕ) where
-    pub next_ended : (end : StreamEnd) → ReadsRequest u v buffer (Ok (next.Ended end)) → ServesNext contents honest calm does rests e old old u v b b (Ok (Some end))
+    pub next_ended : (end : StreamEnd) → ReadsNbdRequest u v buffer (Ok (next.Ended end)) → ServesNext contents honest calm does rests e old old u v b b (Ok (Some end))
     next_ended end (tail, rests, read) = record { tail = tail; is = rests; read = read; same = refl; kept = refl }
 
-    pub next_unread : (f : ServeFault) → ReadsRequest u v buffer (Err f) → ServesNext contents honest calm does rests e old old u v b b (Err f)
+    pub next_unread : (f : ServeFault) → ReadsNbdRequest u v buffer (Err f) → ServesNext contents honest calm does rests e old old u v b b (Err f)
     next_unread f (is, tail, begins, read) =
         subst (λ (k : ServeFault). ServesNext contents honest calm does rests e old old u v b b (Err k)) (sym is) (record { tail = tail; is = begins; read = read; same = refl; kept = refl })
 
   -- ---- many
 
-  told_more : (old mid new : D) (xs : List Round) (x : Round) → ToldEach contents honest calm does rests e old xs mid → TellsRound contents honest calm does rests e mid x new → ToldEach contents honest calm does rests e old (xs ++ x ∷ []) new
+  told_more : (old mid new : D) (xs : List Round) (x : Round) → ToldEachRound contents honest calm does rests e old xs mid → TellsRound contents honest calm does rests e mid x new → ToldEachRound contents honest calm does rests e old (xs ++ x ∷ []) new
   told_more old mid new [] x same one = (new, subst (λ (d : D). TellsRound contents honest calm does rests e d x new) same one, refl)
   told_more old mid new (y ∷ xs) x (next, first, more) one = (next, first, told_more next mid new xs x more one)
 
   -- so many requests were read and answered, of their replies so much was written, and the disk rested so
   pub record IsServing (old now : D) (unread left : Option (List ℕ)) (writes : List ℕ → Type 0) (rested : List Round → Type 0) : Type 0 where
     pub rounds : List Round
-    pub each : ToldEach contents honest calm does rests e old rounds now
+    pub each : ToldEachRound contents honest calm does rests e old rounds now
     pub sized : length (contents now).bytes ≡ length (contents old).bytes
     pub calm_is : calm now ≡ calm old
-    pub read : Reads unread left (requests_in (exchanges_in rounds)) []
+    pub read : ReadsNbdRequests unread left (requests_in (exchanges_in rounds)) []
     pub written : writes (flat_map reply_in (exchanges_in rounds))
     pub have_rested : rested rounds
 
@@ -153,7 +153,7 @@ module _ {D : Type 0} (contents : D → Contents) (honest calm : D → Bool) (do
 
   module _ (old mid : D) (u v b c : Option (List ℕ)) (so_far : IsServing old mid u v (Appends b c) (AreRested e)) where
     -- the requests, and then these bytes
-    reads_then : (w : Option (List ℕ)) (tail : List ℕ) → Consumes v w tail → Reads u w (requests_in (exchanges_in so_far.rounds)) tail
+    reads_then : (w : Option (List ℕ)) (tail : List ℕ) → Consumes v w tail → ReadsNbdRequests u w (requests_in (exchanges_in so_far.rounds)) tail
     reads_then w tail more =
         let all : List ℕ = flat_map request_bytes (requests_in (exchanges_in so_far.rounds)) in
         record { each = so_far.read.each; bytes = Consumes-trans u v w all tail (subst (Consumes u v) (append-nil all) so_far.read.bytes) more }
@@ -172,7 +172,7 @@ module _ {D : Type 0} (contents : D → Contents) (honest calm : D → Bool) (do
         let bytes : flat_map request_bytes (requests_in (exchanges_in (rounds ++ one.round ∷ []))) ≡ flat_map request_bytes (requests_in xs) ++ request_bytes x.request =
         ap (flat_map request_bytes) requests ∙ map_more request_bytes (requests_in xs) x.request in
         let replies : flat_map reply_in (exchanges_in (rounds ++ one.round ∷ [])) ≡ flat_map reply_in xs ++ reply_in x = ap (flat_map reply_in) exchanges ∙ map_more reply_in xs x in
-        let later : Reads u w (requests_in xs) (request_bytes x.request) = reads_then w (request_bytes x.request) one.read in
+        let later : ReadsNbdRequests u w (requests_in xs) (request_bytes x.request) = reads_then w (request_bytes x.request) one.read in
         record {
           rounds = rounds ++ one.round ∷ [];
           each = told_more old mid new rounds one.round so_far.each one.tells;
@@ -198,12 +198,12 @@ module _ {D : Type 0} (contents : D → Contents) (honest calm : D → Bool) (do
         → Transmits contents honest calm does rests e old new u w b a result
     transmitted new w b a result same has_rested stream = record {
       rounds = so_far.rounds;
-      each = subst (λ (d : D). ToldEach contents honest calm does rests e old so_far.rounds d) (sym same) so_far.each;
+      each = subst (λ (d : D). ToldEachRound contents honest calm does rests e old so_far.rounds d) (sym same) so_far.each;
       rested = has_rested;
       sized = ap (λ (d : D). length (contents d).bytes) same ∙ so_far.sized;
       back = λ h. back_of contents honest calm does rests e old now so_far.rounds so_far.each (sym (ap honest same) ∙ h);
       calm_is = ap calm same ∙ so_far.calm_is;
-      until = λ h. subst (λ (d : D). Until contents honest calm does rests e old so_far.rounds d) (sym same) (until_of contents honest calm does rests e old now so_far.rounds so_far.each h);
+      until = λ h. subst (λ (d : D). IsHonestUntil contents honest calm does rests e old so_far.rounds d) (sym same) (until_of contents honest calm does rests e old now so_far.rounds so_far.each h);
       run = λ h. subst (λ (d : D). Runs e (contents old) (exchanges_in so_far.rounds) (contents d)) (sym same)
           (runs_of contents honest calm does rests e old now so_far.rounds so_far.each (sym (ap honest same) ∙ h));
       done = λ h. (done_of contents honest calm does rests e old now so_far.rounds so_far.each h, rests_done_of contents honest calm does rests e old now so_far.rounds so_far.each h);
@@ -232,7 +232,7 @@ module _ {D : Type 0} (contents : D → Contents) (honest calm : D → Bool) (do
     ends_so Disconnected tail left (long, good, ends) =
         (omega (arith, length-append tail left, long), ap is_header (take_at tail left 28 long) ∙ good, ap is_end (take_at tail left 28 long) ∙ ends)
 
-    splits_so : (all w : Option (List ℕ)) (end : StreamEnd) (tail : List ℕ) → Reads all w (requests_in (exchanges_in so_far.rounds)) tail → Rests end tail w → IfSome all (λ input. Splits input (requests_in (exchanges_in so_far.rounds)) end (tail ++ left_of w))
+    splits_so : (all w : Option (List ℕ)) (end : StreamEnd) (tail : List ℕ) → ReadsNbdRequests all w (requests_in (exchanges_in so_far.rounds)) tail → Rests end tail w → IfSome all (λ input. SplitsTransmission input (requests_in (exchanges_in so_far.rounds)) end (tail ++ left_of w))
     splits_so None w end tail reads rest = tt
     splits_so (Some input) None end tail reads rest = absurd reads.bytes
     splits_so (Some input) (Some left) end tail reads rest = record {

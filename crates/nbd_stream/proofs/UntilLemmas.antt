@@ -7,9 +7,9 @@ use Rattle.nbd_stream.specs.declared.fault.DiskFault.TheVariants.{Failed}
 use Rattle.nbd_stream.specs.declared.reply.RequestError.{RequestError}
 use Rattle.nbd_stream.specs.declared.task.Task.{Task}
 use Rattle.nbd_stream.specs.Disk.{Contents}
-use Rattle.nbd_stream.specs.Exchanges.{Exchange, Round, RestsBy, TellsBy, TellsRound, ToldEach, exchanges_in, task_of}
-use Rattle.nbd_stream.specs.Runs.{Answers, Runs}
-use Rattle.nbd_stream.specs.Until.{BackLaw, BreaksBy, IsFailed, IsFirstFailed, IsFirstOfRun, StaysLaw, Until, UntilLaw}
+use Rattle.nbd_stream.specs.Exchanges.{Exchange, Round, RestsBy, TellsBy, TellsRound, ToldEachRound, exchanges_in, task_of}
+use Rattle.nbd_stream.specs.Runs.{AnswersExchange, Runs}
+use Rattle.nbd_stream.specs.Until.{BackLaw, BreaksBy, IsFailed, IsFirstFailed, IsFirstOfRun, IsHonestUntil, StaysLaw, UntilLaw}
 use Rattle.nbd_stream.proofs.RoundLemmas.{back_of, one_answers, round_answers}
 use Rattle.nbd_stream.proofs.RunLemmas.{done_law, on_ok}
 
@@ -23,8 +23,8 @@ err_by (Ok bytes) b c kept held lost = (let no : ⊥ = cc in absurd no)
 err_by (Err error) b c kept held lost = refl
 
 -- one exchange more
-runs_more : (e : Export) (s m t : Contents) (before : List Round) (x : Round) → Runs e s (exchanges_in before) m → Answers e m x.exchange t → Runs e s (exchanges_in (before ++ x ∷ [])) t
-runs_more e s m t [] x same one = (t, subst (λ (c : Contents). Answers e c x.exchange t) same one, refl)
+runs_more : (e : Export) (s m t : Contents) (before : List Round) (x : Round) → Runs e s (exchanges_in before) m → AnswersExchange e m x.exchange t → Runs e s (exchanges_in (before ++ x ∷ [])) t
+runs_more e s m t [] x same one = (t, subst (λ (c : Contents). AnswersExchange e c x.exchange t) same one, refl)
 runs_more e s m t (y ∷ ys) x (n, first, more) one = (n, first, runs_more e n m t ys x more one)
 
 module _ {D : Type 0} (contents : D → Contents) (honest calm : D → Bool) (does : D → Task → Result (Unit {0}) DiskFault → D → Type 0) (rests : D → Result (Unit {0}) DiskFault → D → Type 0) where
@@ -34,10 +34,10 @@ module _ {D : Type 0} (contents : D → Contents) (honest calm : D → Bool) (do
   module _ (e : Export) where
     -- ---- the longest front
 
-    none_more : (old new : D) (xs : List Round) → honest old ≡ true → BreaksBy contents honest calm does rests e old xs new → Until contents honest calm does rests e old xs new
+    none_more : (old new : D) (xs : List Round) → honest old ≡ true → BreaksBy contents honest calm does rests e old xs new → IsHonestUntil contents honest calm does rests e old xs new
     none_more old new xs held breaks = record { before = []; after = xs; joined = refl; mid = old; each = refl; held = held; runs = refl; breaks = breaks }
 
-    one_more : (old next new : D) (x : Round) (xs : List Round) → TellsRound contents honest calm does rests e old x next → honest next ≡ true → Until contents honest calm does rests e next xs new → Until contents honest calm does rests e old (x ∷ xs) new
+    one_more : (old next new : D) (x : Round) (xs : List Round) → TellsRound contents honest calm does rests e old x next → honest next ≡ true → IsHonestUntil contents honest calm does rests e next xs new → IsHonestUntil contents honest calm does rests e old (x ∷ xs) new
     one_more old next new x xs one held more = record {
       before = x ∷ more.before;
       after = more.after;
@@ -49,12 +49,12 @@ module _ {D : Type 0} (contents : D → Contents) (honest calm : D → Bool) (do
       breaks = more.breaks;
     }
 
-    by_next : (b : Bool) (old next new : D) (x : Round) (xs : List Round) → honest next ≡ b → honest old ≡ true → TellsRound contents honest calm does rests e old x next → ToldEach contents honest calm does rests e next xs new
-        → (honest next ≡ true → Until contents honest calm does rests e next xs new) → Until contents honest calm does rests e old (x ∷ xs) new
+    by_next : (b : Bool) (old next new : D) (x : Round) (xs : List Round) → honest next ≡ b → honest old ≡ true → TellsRound contents honest calm does rests e old x next → ToldEachRound contents honest calm does rests e next xs new
+        → (honest next ≡ true → IsHonestUntil contents honest calm does rests e next xs new) → IsHonestUntil contents honest calm does rests e old (x ∷ xs) new
     by_next true old next new x xs is held one more later = one_more old next new x xs one is (later is)
     by_next false old next new x xs is held one more later = none_more old new (x ∷ xs) held (next, one, is, more)
 
-    pub until_of : (old new : D) (xs : List Round) → ToldEach contents honest calm does rests e old xs new → honest old ≡ true → Until contents honest calm does rests e old xs new
+    pub until_of : (old new : D) (xs : List Round) → ToldEachRound contents honest calm does rests e old xs new → honest old ≡ true → IsHonestUntil contents honest calm does rests e old xs new
     until_of old new [] same held = none_more old new [] held same
     until_of old new (x ∷ xs) (next, one, more) held = by_next (honest next) old next new x xs refl held one more (until_of next new xs more)
 

@@ -122,7 +122,7 @@ IsEither old due new place = (slice_index new place ≡ slice_index old place) �
 -- ONE TASK OF A DISK, BY ITS BYTES. Where it is done the bytes are those that the task leaves, and a read gave those of its range; where it
 -- failed, each byte is as it was or as the task was to leave it. If the power goes now, each byte is as it would have been before, as it was,
 -- or as the task leaves it; and after one that is done, a byte that it makes last is as it is now.
-pub record Steps (task : Task) (body : List ℕ) (s : Contents) (answer : Result (List ℕ) RequestError) (t : Contents) : Type 0 where
+pub record TaskSteps (task : Task) (body : List ℕ) (s : Contents) (answer : Result (List ℕ) RequestError) (t : Contents) : Type 0 where
   pub done : OnOk answer (t.bytes ≡ bytes_after task body s.bytes)
   pub gave : IfOk answer (λ bytes. bytes ≡ bytes_given task s.bytes)
   pub torn : OnErr answer ((place : ℕ) → IsEither s.bytes (bytes_after task body s.bytes) t.bytes place)
@@ -132,7 +132,7 @@ pub record Steps (task : Task) (body : List ℕ) (s : Contents) (answer : Result
 -- ONE CALL OF A DISK, whatever it does. A disk holds what it is given until a call of it fails; from then on it may be honest no more, and is never
 -- again. What is true of the bytes is said of a disk that is honest after the call: so of each call that is done, and of each that failed and
 -- left it honest. One that is calm does all that it is asked.
-pub record Performs {D : Type 0} (contents : D → Contents) (honest calm : D → Bool) (task : Task) (body : List ℕ)
+pub record PerformsTask {D : Type 0} (contents : D → Contents) (honest calm : D → Bool) (task : Task) (body : List ℕ)
     (old : D) (answer : Result (List ℕ) RequestError) (new : D) : Type 0 where
   pub sized : length (contents new).bytes ≡ length (contents old).bytes
   pub kept : OnOk answer (honest new ≡ honest old)
@@ -141,7 +141,7 @@ pub record Performs {D : Type 0} (contents : D → Contents) (honest calm : D �
   pub fault : IfErr answer (MayAnswer task)
   pub given : IfOk answer (λ bytes. length bytes ≡ count_given task)
   pub calmly : calm old ≡ true → IsOk answer
-  pub steps : honest new ≡ true → Steps task body (contents old) answer (contents new)
+  pub steps : honest new ≡ true → TaskSteps task body (contents old) answer (contents new)
 
 -- ONE REST, an idle moment between two requests. Done or failed, it leaves the bytes of a disk that is honest after it; if the power goes now, each
 -- byte is as it would have been before, or as it stands. A disk's honesty may end in it as in a call that failed, and its one error is that the disk

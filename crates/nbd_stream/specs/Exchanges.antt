@@ -8,7 +8,7 @@ use Rattle.nbd_stream.specs.declared.request.NbdHeader.{NbdHeader}
 use Rattle.nbd_stream.specs.declared.task.Task.{Task}
 use Rattle.nbd_stream.specs.Frames.{Request, reply_bytes}
 use Rattle.nbd_stream.specs.Tasks.{admitted, asks_change}
-use Rattle.nbd_stream.specs.Disk.{Contents, Idles, Performs, answer_from, asked_as}
+use Rattle.nbd_stream.specs.Disk.{Contents, Idles, PerformsTask, answer_from, asked_as}
 
 -- AN EXCHANGE: a request, and the bytes that answer it, or an error
 pub record Exchange : Type 0 where
@@ -47,7 +47,7 @@ abbrev pub TellsBy : {D : Type 0} → (D → Contents) → (honest calm : D → 
     → Result Task RequestError → D → Exchange → D → Type 0
 TellsBy contents honest calm does (Err e) old x new = (x.answer ≡ Err e) × (new ≡ old)
 TellsBy contents honest calm does (Ok task) old x new =
-    Performs contents honest calm task x.request.body old x.answer new × HasDone does task old x.answer new
+    PerformsTask contents honest calm task x.request.body old x.answer new × HasDone does task old x.answer new
 
 abbrev pub Tells : {D : Type 0} → (D → Contents) → (honest calm : D → Bool) → (does : D → Task → Result (Unit {0}) DiskFault → D → Type 0)
     → Export → D → Exchange → D → Type 0
@@ -87,12 +87,12 @@ pub record TellsRound {D : Type 0} (contents : D → Contents) (honest calm : D 
   pub rest : RestsBy contents honest calm rests (task_of e x.exchange.request) mid x.rested new
 
 -- EACH ROUND, from a disk to the next: a chain of disks, from the one to the other
-abbrev pub ToldEach : {D : Type 0} → (D → Contents) → (honest calm : D → Bool)
+abbrev pub ToldEachRound : {D : Type 0} → (D → Contents) → (honest calm : D → Bool)
     → (does : D → Task → Result (Unit {0}) DiskFault → D → Type 0) → (rests : D → Result (Unit {0}) DiskFault → D → Type 0)
     → Export → D → List Round → D → Type 0
-ToldEach contents honest calm does rests e old [] new = new ≡ old
-ToldEach {D} contents honest calm does rests e old (x ∷ xs) new =
-    (next : D) × TellsRound contents honest calm does rests e old x next × ToldEach contents honest calm does rests e next xs new
+ToldEachRound contents honest calm does rests e old [] new = new ≡ old
+ToldEachRound {D} contents honest calm does rests e old (x ∷ xs) new =
+    (next : D) × TellsRound contents honest calm does rests e old x next × ToldEachRound contents honest calm does rests e next xs new
 
 -- a change that the disk was asked is followed by a rest
 abbrev pub IsRested : Export → Round → Type 0

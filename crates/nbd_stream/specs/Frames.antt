@@ -74,7 +74,7 @@ IsRest BadFrame bytes = (28 ≤ length bytes) × (is_header (take 28 bytes) ≡ 
 IsRest Disconnected bytes = (28 ≤ length bytes) × (is_header (take 28 bytes) ≡ true) × (is_end (take 28 bytes) ≡ true)
 
 -- THE TRANSMISSION: the bytes are these requests one after another, and then this rest
-pub record Splits (stream : List ℕ) (requests : List Request) (end : StreamEnd) (rest : List ℕ) : Type 0 where
+pub record SplitsTransmission (stream : List ℕ) (requests : List Request) (end : StreamEnd) (rest : List ℕ) : Type 0 where
   pub whole : stream ≡ flat_map request_bytes requests ++ rest
   pub each : AllByRecursion IsRequest requests
   pub ends : IsRest end rest
@@ -110,11 +110,11 @@ Rests Disconnected tail left = (length tail ≡ 28) × (is_header tail ≡ true)
 
 -- THE NEXT REQUEST, or the end, was read and nothing after it; where a read failed, a beginning of it. Where the buffer has room for
 -- the request's body, it stands at the front.
-abbrev pub ReadsRequest : (unread left : Option (List ℕ)) → List ℕ → Result NextRequest ServeFault → Type 0
-ReadsRequest unread left buffer (Ok (next.Whole h)) =
+abbrev pub ReadsNbdRequest : (unread left : Option (List ℕ)) → List ℕ → Result NextRequest ServeFault → Type 0
+ReadsNbdRequest unread left buffer (Ok (next.Whole h)) =
     (body : List ℕ) × IsRequest (request_at h body) × Consumes unread left (request_bytes (request_at h body)) × (length body ≤ length buffer → body ≡ take (length body) buffer)
-ReadsRequest unread left buffer (Ok (next.Ended end)) = (tail : List ℕ) × Rests end tail left × Consumes unread left tail
-ReadsRequest unread left buffer (Err e) = (e ≡ fault.Read) × (tail : List ℕ) × IsBeginning tail × Consumes unread left tail
+ReadsNbdRequest unread left buffer (Ok (next.Ended end)) = (tail : List ℕ) × Rests end tail left × Consumes unread left tail
+ReadsNbdRequest unread left buffer (Err e) = (e ≡ fault.Read) × (tail : List ℕ) × IsBeginning tail × Consumes unread left tail
 
 -- the same, once the header was read
 abbrev pub ReadsRest : NbdHeader → (unread left : Option (List ℕ)) → List ℕ → Result NextRequest ServeFault → Type 0
@@ -155,14 +155,14 @@ IsBytes bytes = (i : ℕ) → slice_index bytes i < 256
 
 -- a transmission splits in just one way
 abbrev pub OneWayLaw : Type 0
-OneWayLaw = (stream : List ℕ) (fs gs : List Request) (d e : StreamEnd) (t u : List ℕ) → Splits stream fs d t → Splits stream gs e u → (fs ≡ gs) × (d ≡ e) × (t ≡ u)
+OneWayLaw = (stream : List ℕ) (fs gs : List Request) (d e : StreamEnd) (t u : List ℕ) → SplitsTransmission stream fs d t → SplitsTransmission stream gs e u → (fs ≡ gs) × (d ≡ e) × (t ≡ u)
 
 -- and in some way
 pub record SplitsSomehow (stream : List ℕ) : Type 0 where
   pub requests : List Request
   pub end : StreamEnd
   pub rest : List ℕ
-  pub splits : Splits stream requests end rest
+  pub splits : SplitsTransmission stream requests end rest
 
 abbrev pub SomeWayLaw : Type 0
 SomeWayLaw = (stream : List ℕ) → IsBytes stream → SplitsSomehow stream

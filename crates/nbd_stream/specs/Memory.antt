@@ -10,7 +10,7 @@ use Rattle.nbd_stream.specs.Runs.{bytes_left, exchanges_of}
 use Rattle.nbd_stream.specs.Transmission.{Carries, negotiated_as}
 
 -- after a negotiation these requests were read, and what was written are the answers of the array
-pub record Answers (e : Export) (limit : ℕ) (bytes left_bytes : List ℕ)
+pub record AnswersAsArray (e : Export) (limit : ℕ) (bytes left_bytes : List ℕ)
     (unread left before after : Option (List ℕ)) (result : Result StreamEnd ServeFault) : Type 0 where
   pub unread' : Option (List ℕ)
   pub before' : Option (List ℕ)
@@ -23,4 +23,4 @@ pub record Answers (e : Export) (limit : ℕ) (bytes left_bytes : List ℕ)
 abbrev pub ServesBytes : Export → (limit : ℕ) → (bytes left_bytes : List ℕ) → (unread left before after : Option (List ℕ)) → Result StreamEnd ServeFault → Type 0
 ServesBytes e limit bytes left_bytes unread left before after result =
     ((left_bytes ≡ bytes) × Negotiates e limit unread left before after (negotiated_as result))
-    ⊎ Answers e limit bytes left_bytes unread left before after result
+    ⊎ AnswersAsArray e limit bytes left_bytes unread left before after result

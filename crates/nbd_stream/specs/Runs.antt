@@ -7,7 +7,7 @@ use Rattle.nbd_stream.specs.declared.reply.RequestError.{RequestError}
 use Rattle.nbd_stream.specs.declared.task.Task.{Task}
 use Rattle.nbd_stream.specs.declared.task.Task.TheVariants.{Read, Write, Flush, Trim, WriteZeroes}
 use Rattle.nbd_stream.specs.Frames.{Request, IsRequest}
-use Rattle.nbd_stream.specs.Disk.{Contents, Steps, IsInside, bytes_after, bytes_given, count_taken, value_at}
+use Rattle.nbd_stream.specs.Disk.{Contents, TaskSteps, IsInside, bytes_after, bytes_given, count_taken, value_at}
 use Rattle.nbd_stream.specs.Exchanges.{Exchange, requests_in, task_of}
 
 -- ---- the run
@@ -15,15 +15,15 @@ use Rattle.nbd_stream.specs.Exchanges.{Exchange, requests_in, task_of}
 -- ONE ANSWER: a request that is refused gets its error, and changes nothing; else the disk did a task, and has as many bytes as before
 abbrev pub AnswersBy : Result Task RequestError → Contents → Exchange → Contents → Type 0
 AnswersBy (Err e) s x t = (x.answer ≡ Err e) × (t ≡ s)
-AnswersBy (Ok task) s x t = (length t.bytes ≡ length s.bytes) × Steps task x.request.body s x.answer t
+AnswersBy (Ok task) s x t = (length t.bytes ≡ length s.bytes) × TaskSteps task x.request.body s x.answer t
 
-abbrev pub Answers : Export → Contents → Exchange → Contents → Type 0
-Answers e s x t = AnswersBy (task_of e x.request) s x t
+abbrev pub AnswersExchange : Export → Contents → Exchange → Contents → Type 0
+AnswersExchange e s x t = AnswersBy (task_of e x.request) s x t
 
 -- THE RUN
 abbrev pub Runs : Export → Contents → List Exchange → Contents → Type 0
 Runs e s [] t = t ≡ s
-Runs e s (x ∷ xs) t = (mid : Contents) × Answers e s x mid × Runs e mid xs t
+Runs e s (x ∷ xs) t = (mid : Contents) × AnswersExchange e s x mid × Runs e mid xs t
 
 -- ---- where no task fails
 
@@ -100,7 +100,7 @@ IsToLast task place =
 -- WHAT IT MAKES LAST, where it was answered without an error: the byte that stands would stand if the power went
 abbrev pub LastsLaw : Type 0
 LastsLaw = (e : Export) (s t : Contents) (x : Exchange) (task : Task) (place : ℕ) → task_of e x.request ≡ Ok task
-    → IsToLast task place → Answers e s x t → IsOk x.answer
+    → IsToLast task place → AnswersExchange e s x t → IsOk x.answer
     → slice_index t.durable place ≡ slice_index t.bytes place
 
 -- a byte that stands, and would stand if the power went, does both at the end of a run, whatever fails; or stands as one of its requests sets it
@@ -114,12 +114,12 @@ KeptLaw = (e : Export) (s t : Contents) (xs : List Exchange) (place : ℕ) → A
 -- it made last is as it was then, or as a later request sets it
 abbrev pub NothingLostLaw : Type 0
 NothingLostLaw = (e : Export) (s m t : Contents) (x : Exchange) (xs : List Exchange) (task : Task) (place : ℕ) → task_of e x.request ≡ Ok task
-    → IsToLast task place → AreFor e s (x ∷ xs) → Answers e s x m → IsOk x.answer → Runs e m xs t
+    → IsToLast task place → AreFor e s (x ∷ xs) → AnswersExchange e s x m → IsOk x.answer → Runs e m xs t
     → IsOrSet e (slice_index m.bytes place) xs place (slice_index t.durable place)
 
 -- WHAT A CHANGE SETS, where it was answered without an error, stands
 abbrev pub SetLaw : Type 0
-SetLaw = (e : Export) (s t : Contents) (x : Exchange) (place value : ℕ) → AreFor e s (x ∷ []) → Answers e s x t → IsOk x.answer
+SetLaw = (e : Export) (s t : Contents) (x : Exchange) (place value : ℕ) → AreFor e s (x ∷ []) → AnswersExchange e s x t → IsOk x.answer
     → value_of e x.request place ≡ Some value → slice_index t.bytes place ≡ value
 
 -- where no task fails, the exchanges are those of the array, and it is left as they leave it

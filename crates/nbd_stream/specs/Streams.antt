@@ -9,10 +9,10 @@ abbrev pub EndsBy : {S : Type 0} → (call : S → S → Type 0) → S → Type 
 EndsBy {S} call new = (old : S) × call old new
 
 -- WHAT A FAULT TELLS: the last call of the reader or of the writer failed
-abbrev pub HasFailed : {R W : Type 0} → (reads : R → R → Type 0) → (writes : W → W → Type 0) → R → W → ServeFault → Type 0
-HasFailed reads writes reader writer fault.Read = EndsBy reads reader
-HasFailed reads writes reader writer fault.Write = EndsBy writes writer
-HasFailed reads writes reader writer fault.OutOfMemory = ⊥
+abbrev pub HasStreamFailed : {R W : Type 0} → (reads : R → R → Type 0) → (writes : W → W → Type 0) → R → W → ServeFault → Type 0
+HasStreamFailed reads writes reader writer fault.Read = EndsBy reads reader
+HasStreamFailed reads writes reader writer fault.Write = EndsBy writes writer
+HasStreamFailed reads writes reader writer fault.OutOfMemory = ⊥
 
 -- as many requests or options were read as can be counted, each of 16 bytes at least
 abbrev pub IsSpent : (unread left : Option (List ℕ)) → Type 0
@@ -20,4 +20,4 @@ IsSpent unread left = (bytes : List ℕ) × (16 * (2 ^ 64 - 1) ≤ length bytes)
 
 -- WHY A SESSION STOPPED: its last call failed, or `Read` tells that no more can be counted
 abbrev pub HasStopped : {R W : Type 0} → (reads : R → R → Type 0) → (writes : W → W → Type 0) → (unread left : Option (List ℕ)) → R → W → ServeFault → Type 0
-HasStopped reads writes unread left reader writer e = HasFailed reads writes reader writer e ⊎ ((e ≡ fault.Read) × IsSpent unread left)
+HasStopped reads writes unread left reader writer e = HasStreamFailed reads writes reader writer e ⊎ ((e ≡ fault.Read) × IsSpent unread left)

@@ -11,17 +11,17 @@ use Rattle.nbd_stream.specs.declared.request.StreamEnd.{StreamEnd}
 use Rattle.nbd_stream.specs.declared.negotiation.Negotiated.{Negotiated}
 use Rattle.nbd_stream.specs.declared.negotiation.Negotiated.TheVariants.{Transmission, Ended}
 use Rattle.nbd_stream.specs.declared.task.Task.{Task}
-use Rattle.nbd_stream.specs.Frames.{Request, IsRequest, IsBeginning, Rests, Splits, request_bytes}
+use Rattle.nbd_stream.specs.Frames.{Request, IsRequest, IsBeginning, Rests, SplitsTransmission, request_bytes}
 use Rattle.nbd_stream.specs.Negotiation.{Negotiates}
 use Rattle.nbd_stream.specs.Disk.{Contents}
-use Rattle.nbd_stream.specs.Exchanges.{Exchange, Round, Tells, TellsRound, ToldEach, IsRested, AreRested, AreRestsDone, exchanges_in, reply_in, requests_in}
+use Rattle.nbd_stream.specs.Exchanges.{Exchange, Round, Tells, TellsRound, ToldEachRound, IsRested, AreRested, AreRestsDone, exchanges_in, reply_in, requests_in}
 use Rattle.nbd_stream.specs.Runs.{Runs, AreDone}
-use Rattle.nbd_stream.specs.Until.{Until}
+use Rattle.nbd_stream.specs.Until.{IsHonestUntil}
 
 -- ---- the streams
 
 -- these requests were read, and then these bytes
-pub record Reads (unread left : Option (List ℕ)) (requests : List Request) (tail : List ℕ) : Type 0 where
+pub record ReadsNbdRequests (unread left : Option (List ℕ)) (requests : List Request) (tail : List ℕ) : Type 0 where
   pub each : AllByRecursion IsRequest requests
   pub bytes : Consumes unread left (flat_map request_bytes requests ++ tail)
 
@@ -35,12 +35,12 @@ left_of (Some bytes) = bytes
 -- beginning of the replies.
 abbrev pub Carries : (unread left before after : Option (List ℕ)) → List Exchange → Result StreamEnd ServeFault → Type 0
 Carries unread left before after xs (Ok end) =
-    (tail : List ℕ) × Reads unread left (requests_in xs) tail × Rests end tail left
+    (tail : List ℕ) × ReadsNbdRequests unread left (requests_in xs) tail × Rests end tail left
     × Appends before after (flat_map reply_in xs)
-    × IfSome unread (λ input. Splits input (requests_in xs) end (tail ++ left_of left))
+    × IfSome unread (λ input. SplitsTransmission input (requests_in xs) end (tail ++ left_of left))
 Carries unread left before after xs (Err fault.Read) =
-    (tail : List ℕ) × Reads unread left (requests_in xs) tail × IsBeginning tail × Appends before after (flat_map reply_in xs)
-Carries unread left before after xs (Err fault.Write) = Reads unread left (requests_in xs) [] × AppendsFront before after (flat_map reply_in xs)
+    (tail : List ℕ) × ReadsNbdRequests unread left (requests_in xs) tail × IsBeginning tail × Appends before after (flat_map reply_in xs)
+Carries unread left before after xs (Err fault.Write) = ReadsNbdRequests unread left (requests_in xs) [] × AppendsFront before after (flat_map reply_in xs)
 Carries unread left before after xs (Err fault.OutOfMemory) = ⊥
 
 -- WHEN THE DISK RESTED, by the result: after each change that it was asked, done or failed, once the reply was handed on. After `Write` the last reply was
@@ -59,12 +59,12 @@ pub record Transmits {D : Type 0} (contents : D → Contents) (honest calm : D �
     (does : D → Task → Result (Unit {0}) DiskFault → D → Type 0) (rests : D → Result (Unit {0}) DiskFault → D → Type 0)
     (e : Export) (old new : D) (unread left before after : Option (List ℕ)) (result : Result StreamEnd ServeFault) : Type 0 where
   pub rounds : List Round
-  pub each : ToldEach contents honest calm does rests e old rounds new
+  pub each : ToldEachRound contents honest calm does rests e old rounds new
   pub rested : Rested e rounds result
   pub sized : length (contents new).bytes ≡ length (contents old).bytes
   pub back : honest new ≡ true → honest old ≡ true
   pub calm_is : calm new ≡ calm old
-  pub until : honest old ≡ true → Until contents honest calm does rests e old rounds new
+  pub until : honest old ≡ true → IsHonestUntil contents honest calm does rests e old rounds new
   pub run : honest new ≡ true → Runs e (contents old) (exchanges_in rounds) (contents new)
   pub done : calm old ≡ true → AreDone e (exchanges_in rounds) × AreRestsDone rounds
   pub stream : Carries unread left before after (exchanges_in rounds) result

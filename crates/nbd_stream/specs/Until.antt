@@ -5,7 +5,7 @@ use Rattle.nbd_stream.specs.declared.fault.DiskFault.{DiskFault}
 use Rattle.nbd_stream.specs.declared.fault.DiskFault.TheVariants.{Failed}
 use Rattle.nbd_stream.specs.declared.task.Task.{Task}
 use Rattle.nbd_stream.specs.Disk.{Contents}
-use Rattle.nbd_stream.specs.Exchanges.{Round, TellsRound, ToldEach, AreRestsDone, exchanges_in, requests_in, task_of}
+use Rattle.nbd_stream.specs.Exchanges.{Round, TellsRound, ToldEachRound, AreRestsDone, exchanges_in, requests_in, task_of}
 use Rattle.nbd_stream.specs.Runs.{Runs, AreDone, bytes_left, exchanges_of}
 
 -- nothing more was asked; or the next round left a disk that is not honest, and of that one the others were asked
@@ -14,18 +14,18 @@ abbrev pub BreaksBy : {D : Type 0} → (D → Contents) → (honest calm : D →
     → Export → D → List Round → D → Type 0
 BreaksBy contents honest calm does rests e mid [] new = new ≡ mid
 BreaksBy {D} contents honest calm does rests e mid (x ∷ xs) new =
-    (next : D) × TellsRound contents honest calm does rests e mid x next × (honest next ≡ false) × ToldEach contents honest calm does rests e next xs new
+    (next : D) × TellsRound contents honest calm does rests e mid x next × (honest next ≡ false) × ToldEachRound contents honest calm does rests e next xs new
 
 -- THE LONGEST FRONT of the rounds that an honest disk came through honest: over it the answers are a run of its array. After it nothing was
 -- asked, or the next round ended it.
-pub record Until {D : Type 0} (contents : D → Contents) (honest calm : D → Bool)
+pub record IsHonestUntil {D : Type 0} (contents : D → Contents) (honest calm : D → Bool)
     (does : D → Task → Result (Unit {0}) DiskFault → D → Type 0) (rests : D → Result (Unit {0}) DiskFault → D → Type 0)
     (e : Export) (old : D) (xs : List Round) (new : D) : Type 0 where
   pub before : List Round
   pub after : List Round
   pub joined : xs ≡ before ++ after
   pub mid : D
-  pub each : ToldEach contents honest calm does rests e old before mid
+  pub each : ToldEachRound contents honest calm does rests e old before mid
   pub held : honest mid ≡ true
   pub runs : Runs e (contents old) (exchanges_in before) (contents mid)
   pub breaks : BreaksBy contents honest calm does rests e mid after new
@@ -36,7 +36,7 @@ pub record Until {D : Type 0} (contents : D → Contents) (honest calm : D → B
 abbrev pub BackLaw : {D : Type 0} → (D → Contents) → (honest calm : D → Bool)
     → (does : D → Task → Result (Unit {0}) DiskFault → D → Type 0) → (rests : D → Result (Unit {0}) DiskFault → D → Type 0) → Type 0
 BackLaw {D} contents honest calm does rests =
-    (e : Export) (old new : D) (xs : List Round) → ToldEach contents honest calm does rests e old xs new → honest old ≡ false → honest new ≡ false
+    (e : Export) (old new : D) (xs : List Round) → ToldEachRound contents honest calm does rests e old xs new → honest old ≡ false → honest new ≡ false
 
 -- a round that was asked of the disk and failed, or whose rest failed
 abbrev pub IsFailed : Export → Round → Type 0
@@ -56,7 +56,7 @@ IsFirstOfRun e s before (x ∷ xs) = IsOk x.exchange.answer → (t : Contents) �
 abbrev pub UntilLaw : {D : Type 0} → (D → Contents) → (honest calm : D → Bool)
     → (does : D → Task → Result (Unit {0}) DiskFault → D → Type 0) → (rests : D → Result (Unit {0}) DiskFault → D → Type 0) → Type 0
 UntilLaw {D} contents honest calm does rests =
-    (e : Export) (old new : D) (xs : List Round) (until : Until contents honest calm does rests e old xs new)
+    (e : Export) (old new : D) (xs : List Round) (until : IsHonestUntil contents honest calm does rests e old xs new)
     → (honest new ≡ true → (until.before ≡ xs) × (new ≡ until.mid))
     × IsFirstFailed e until.after
     × IsFirstOfRun e (contents old) until.before until.after
@@ -68,5 +68,5 @@ UntilLaw {D} contents honest calm does rests =
 abbrev pub StaysLaw : {D : Type 0} → (D → Contents) → (honest calm : D → Bool)
     → (does : D → Task → Result (Unit {0}) DiskFault → D → Type 0) → (rests : D → Result (Unit {0}) DiskFault → D → Type 0) → Type 0
 StaysLaw {D} contents honest calm does rests =
-    (e : Export) (old new : D) (xs : List Round) → ToldEach contents honest calm does rests e old xs new
+    (e : Export) (old new : D) (xs : List Round) → ToldEachRound contents honest calm does rests e old xs new
     → AreDone e (exchanges_in xs) → AreRestsDone xs → honest new ≡ honest old

@@ -4,7 +4,7 @@ use crate::task::Task;
 
 /// A disk of bytes that are read and set by ranges, in the order in which it is asked.
 ///
-/// Each method is one `Performs`: what a range holds is what was last set there, and what a change that failed leaves of a byte is
+/// Each method is one `PerformsTask`: what a range holds is what was last set there, and what a change that failed leaves of a byte is
 /// what was there or what was to be. A change may be kept back; one that is `durable`, and each before a flush, is so no longer when the
 /// call is answered.
 ///
@@ -17,7 +17,7 @@ pub trait Disk {
     ghost use Rattle.std.specs.Prelude.{◌≤◌, ◌+◌, Bool, [], length, Result};
     ghost use Rattle.nbd_stream.specs.declared.fault.DiskFault.{DiskFault};
     ghost use Rattle.nbd_stream.specs.declared.task.Task.{Task};
-    ghost use Rattle.nbd_stream.specs.Disk.{Contents, Idles, Performs, answer_from};
+    ghost use Rattle.nbd_stream.specs.Disk.{Contents, Idles, PerformsTask, answer_from};
 
     /// The bytes that it stands for, and those that it will stand for if the power goes now.
     ghost contents: { Self → Contents };
@@ -45,7 +45,7 @@ pub trait Disk {
     /// `Failed` where the disk failed: of one that is still honest, the bytes are as they were.
     fn read(&mut self, offset: u64, buffer: &mut [u8]) -> Result<(), DiskFault>
         requires { offset + length buffer.old ≤ length (contents self.old).bytes }
-        ensures performs { Performs contents honest calm (Task.Read offset (length buffer.old)) [] self.old (answer_from result buffer.new) self.new }
+        ensures performs { PerformsTask contents honest calm (Task.Read offset (length buffer.old)) [] self.old (answer_from result buffer.new) self.new }
         ensures does { does self.old (Task.Read offset (length buffer.old)) result self.new }
         ensures leaves { leaves self.old self.new };
 
@@ -57,7 +57,7 @@ pub trait Disk {
     /// still honest, each byte of the range is as it was or as it was to be.
     fn write(&mut self, offset: u64, bytes: &[u8], durable: bool) -> Result<(), DiskFault>
         requires { offset + length bytes.now ≤ length (contents self.old).bytes }
-        ensures performs { Performs contents honest calm (Task.Write offset (length bytes.now) durable) bytes.now self.old (answer_from result []) self.new }
+        ensures performs { PerformsTask contents honest calm (Task.Write offset (length bytes.now) durable) bytes.now self.old (answer_from result []) self.new }
         ensures does { does self.old (Task.Write offset (length bytes.now) durable) result self.new };
 
     /// Sets so many bytes to zeros, from an offset on.
@@ -67,7 +67,7 @@ pub trait Disk {
     /// As `write`.
     fn clear(&mut self, offset: u64, count: u32, durable: bool) -> Result<(), DiskFault>
         requires { offset + count ≤ length (contents self.old).bytes }
-        ensures performs { Performs contents honest calm (Task.Trim offset count durable) [] self.old (answer_from result []) self.new }
+        ensures performs { PerformsTask contents honest calm (Task.Trim offset count durable) [] self.old (answer_from result []) self.new }
         ensures does { does self.old (Task.Trim offset count durable) result self.new };
 
     /// Makes all bytes last. A disk that takes no change any more is flushed too: what it was given before is to last.
@@ -76,7 +76,7 @@ pub trait Disk {
     ///
     /// `Failed` where the disk failed: of one that is still honest, the bytes are as they were, and may not all last.
     fn flush(&mut self) -> Result<(), DiskFault>
-        ensures performs { Performs contents honest calm Task.Flush [] self.old (answer_from result []) self.new }
+        ensures performs { PerformsTask contents honest calm Task.Flush [] self.old (answer_from result []) self.new }
         ensures does { does self.old Task.Flush result self.new }
         ensures leaves { leaves self.old self.new };
 

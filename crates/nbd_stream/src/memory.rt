@@ -1,7 +1,8 @@
 //! A disk whose bytes stand in memory, and a client that it is served to.
-ghost use Rattle.std.specs.Prelude.{◌≡◌, ◌≤◌, ◌+◌, length, replicate, slice_range};
+ghost use Rattle.std.specs.Prelude.{◌≡◌, ◌≤◌, ◌+◌, length, replicate, slice_range, IfErr};
 ghost use Rattle.nbd_stream.specs.Disk.{with_bytes};
 ghost use Rattle.nbd_stream.specs.Memory.{ServesBytes};
+ghost use Rattle.nbd_stream.specs.Streams.{HasStopped};
 
 use crate::disk::Disk;
 use crate::export::Export;
@@ -114,8 +115,9 @@ pub fn serve_memory<R: Incoming, W: Outgoing>(
 ) -> Result<StreamEnd, ServeFault>
     requires size { length disk.old.bytes.items ≡ export.now.size }
     requires room { export.now.maximum ≤ length buffer.old }
-    ensures { ServesBytes export.now (length buffer.new) disk.old.bytes.items disk.new.bytes.items
+    ensures serves { ServesBytes export.now (length buffer.new) disk.old.bytes.items disk.new.bytes.items
         (R.remaining reader.old) (R.remaining reader.new) (W.contents writer.old) (W.contents writer.new) result }
+    ensures stops { IfErr result (HasStopped R.fails W.fails (R.remaining reader.old) (R.remaining reader.new) reader.new writer.new) }
 {
     serve(reader, writer, disk, export, buffer)
 }

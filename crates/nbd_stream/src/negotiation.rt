@@ -1,6 +1,6 @@
 //! The negotiation: a greeting, and answers to options until one of them begins the transmission.
 ghost use Rattle.std.specs.Prelude.{IfErr, OnErr, length};
-ghost use Rattle.nbd_stream.specs.Streams.{EndsBy, HasFailed, HasStopped};
+ghost use Rattle.nbd_stream.specs.Streams.{EndsBy, HasStopped, HasStreamFailed};
 ghost use Rattle.nbd_stream.specs.Negotiation.{AnswersNext, AnswersOptions, Negotiates, ReadsFlags};
 
 use crate::answer::{AnswerStep, answer_to, send_answer, step_after};
@@ -40,7 +40,7 @@ fn answer_next<R: Incoming, W: Outgoing>(
     body: &mut [u8],
 ) -> Result<Option<Negotiated>, ServeFault>
     ensures answers { AnswersNext export.now no_zeroes (length body.new) (R.remaining reader.old) (R.remaining reader.new) (W.contents writer.old) (W.contents writer.new) result }
-    ensures fails { IfErr result (HasFailed R.fails W.fails reader.new writer.new) }
+    ensures fails { IfErr result (HasStreamFailed R.fails W.fails reader.new writer.new) }
 {
     let header = match read_option(reader, body)? {
         NextOption::Whole(header) => header,

@@ -1,7 +1,7 @@
 //! The next request of a transmission.
 ghost use Rattle.nbd_stream.specs.Streams.{EndsBy};
 ghost use Rattle.std.specs.Prelude.{◌≡◌, OnErr, length};
-ghost use Rattle.nbd_stream.specs.Frames.{ReadsRequest, ReadsRest};
+ghost use Rattle.nbd_stream.specs.Frames.{ReadsNbdRequest, ReadsRest};
 
 use crate::body::read_body;
 use crate::streams::Incoming;
@@ -102,7 +102,7 @@ fn read_rest<R: Incoming>(
 ///
 /// `Read` where a read failed or was interrupted: what was read of a request is lost. (This project's.)
 pub fn read_request<R: Incoming>(reader: &mut R, body: &mut [u8]) -> Result<NextRequest, ServeFault>
-    ensures reads { ReadsRequest (R.remaining reader.old) (R.remaining reader.new) body.new result }
+    ensures reads { ReadsNbdRequest (R.remaining reader.old) (R.remaining reader.new) body.new result }
     ensures fails { OnErr result (EndsBy R.fails reader.new) }
 {
     let mut bytes = [0; 28];

@@ -1,7 +1,7 @@
 //! Requests are asked of a disk and answered, one after another.
 ghost use Rattle.std.specs.Prelude.{◌≡◌, ◌≤◌, ◌+◌, ℕ, List, None, Ok, IfErr, OnErr, OnOk, false, length, take, true};
-ghost use Rattle.nbd_stream.specs.Streams.{EndsBy, HasFailed, HasStopped};
-ghost use Rattle.nbd_stream.specs.Disk.{IsInside, Performs, answer_from, asked_as, count_given, count_taken};
+ghost use Rattle.nbd_stream.specs.Streams.{EndsBy, HasStopped, HasStreamFailed};
+ghost use Rattle.nbd_stream.specs.Disk.{IsInside, PerformsTask, answer_from, asked_as, count_given, count_taken};
 ghost use Rattle.nbd_stream.specs.Exchanges.{RestsAfter};
 ghost use Rattle.nbd_stream.specs.Frames.{IsRequest, request_at};
 ghost use Rattle.nbd_stream.specs.Tasks.{admitted, asks_change, is_change};
@@ -22,7 +22,7 @@ use request_stream::ServeFault;
 fn perform<D: Disk>(disk: &mut D, task: Task, buffer: &mut [u8]) -> Result<(), DiskFault>
     requires inside { IsInside (length (D.contents disk.old).bytes) task }
     requires room { count_taken task + count_given task ≤ length buffer.old }
-    ensures performs { Performs D.contents D.honest D.calm task (take (count_taken task) buffer.old) disk.old
+    ensures performs { PerformsTask D.contents D.honest D.calm task (take (count_taken task) buffer.old) disk.old
         (answer_from result (take (count_given task) buffer.new)) disk.new }
     ensures does { D.does disk.old (asked_as task) result disk.new }
     ensures leaves { is_change task ≡ false → D.leaves disk.old disk.new }
@@ -112,7 +112,7 @@ fn serve_next<R: Incoming, W: Outgoing, D: Disk>(
     ensures serves { ServesNext D.contents D.honest D.calm D.does D.rests export.now disk.old disk.new (R.remaining reader.old) (R.remaining reader.new)
         (W.contents writer.old) (W.contents writer.new) result }
     ensures leaves { export.now.read_only ≡ true → Through D.leaves disk.old disk.new }
-    ensures fails { IfErr result (HasFailed R.fails W.fails reader.new writer.new) }
+    ensures fails { IfErr result (HasStreamFailed R.fails W.fails reader.new writer.new) }
     ensures hands { result ≡ Ok None → EndsBy W.hands writer.new }
 {
     match read_request(reader, buffer)? {

@@ -64,7 +64,7 @@ pub record HasRead {N : Type 0} (flash : N → Flash) (honest : N → Bool) (row
   pub puts : honest old.nand ≡ true → PutsOut (flash old.nand) (flash new.nand) row put
 
 -- an operation was done, and its status can be asked for
-pub record HasDone {N : Type 0} (old new : BusState N) (outcome : Outcome) : Type 0 where
+pub record HasDoneOperation {N : Type 0} (old new : BusState N) (outcome : Outcome) : Type 0 where
   pub is : new ≡ record { nand = new.nand; geometry = old.geometry; stage = stage.Idle; held = []; status = status_of (is_passed outcome) }
 
 -- the page that came in, without its codes
@@ -73,12 +73,12 @@ page_in g held = page (take g.data_bytes held) (take g.spare_bytes (drop g.data_
 
 pub record HasProgrammed {N : Type 0} (flash : N → Flash) (honest : N → Bool) (row : ℕ) (old new : BusState N) : Type 0 where
   pub outcome : Outcome
-  pub done : HasDone old new outcome
+  pub done : HasDoneOperation old new outcome
   pub did : honest old.nand ≡ true → Did (λ passed s. Program row (page_in old.geometry old.held) passed (page_at s row)) (flash old.nand) (flash new.nand) outcome
 
 pub record HasErased {N : Type 0} (flash : N → Flash) (honest : N → Bool) (block : ℕ) (old new : BusState N) : Type 0 where
   pub outcome : Outcome
-  pub done : HasDone old new outcome
+  pub done : HasDoneOperation old new outcome
   pub did : honest old.nand ≡ true → Did (λ passed s. Erase block passed (block_at s block)) (flash old.nand) (flash new.nand) outcome
 
 -- those that begin: a read, an erase, a program
@@ -102,9 +102,9 @@ Takes flash honest old (Address byte) out new = (out ≡ []) × (new ≡ moved (
 Takes flash honest old (DataIn bytes) out new = (out ≡ []) × (new ≡ moved old.stage (old.held ++ bytes) old)
 Takes flash honest old (DataOut count) out new = (count ≤ length old.held) × (out ≡ take count old.held) × (new ≡ moved old.stage (drop count old.held) old)
 
-abbrev pub Answers : {N : Type 0} → (N → Flash) → (N → Bool) → BusState N → Cycle → Result (Unit {0}) BusFault → List ℕ → BusState N → Type 0
-Answers flash honest old cycle (Ok x) out new = Takes flash honest old cycle out new
-Answers flash honest old cycle (Err fault) out new = Unit {0}
+abbrev pub AnswersCycle : {N : Type 0} → (N → Flash) → (N → Bool) → BusState N → Cycle → Result (Unit {0}) BusFault → List ℕ → BusState N → Type 0
+AnswersCycle flash honest old cycle (Ok x) out new = Takes flash honest old cycle out new
+AnswersCycle flash honest old cycle (Err fault) out new = Unit {0}
 
 -- whether the chip keeps its law stays, and its geometry; its faults do not fall
 pub record Stays {N : Type 0} (flash : N → Flash) (honest : N → Bool) (failed : N → ℕ) (old new : BusState N) : Type 0 where
@@ -116,5 +116,5 @@ pub record Stays {N : Type 0} (flash : N → Flash) (honest : N → Bool) (faile
 
 -- whatever it answers
 pub record IsCalled {N : Type 0} (flash : N → Flash) (honest : N → Bool) (failed : N → ℕ) (old : BusState N) (cycle : Cycle) (answer : Result (Unit {0}) BusFault) (out : List ℕ) (new : BusState N) : Type 0 where
-  pub answers : Answers flash honest old cycle answer out new
+  pub answers : AnswersCycle flash honest old cycle answer out new
   pub stays : Stays flash honest failed old new

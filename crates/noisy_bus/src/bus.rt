@@ -7,7 +7,7 @@ ghost use Rattle.onfi_cycles.specs.Cycles.{IsCounted, status_of};
 ghost use Rattle.page_code.specs.Layout.{outer_bytes, coded};
 ghost use Rattle.onfi_cycles.specs.Outcomes.{is_passed};
 ghost use Rattle.onfi_cycles.specs.Spelling.{done};
-ghost use Rattle.noisy_bus.specs.Bus.{moved, is_beginning, Stays, HasDone, HasPut, HasRead, HasProgrammed, HasErased};
+ghost use Rattle.noisy_bus.specs.Bus.{moved, is_beginning, Stays, HasDoneOperation, HasPut, HasRead, HasProgrammed, HasErased};
 ghost use Rattle.noisy_bus.specs.declared.stage.Stage.TheVariants as at;
 
 use crate::stage::Stage;
@@ -187,7 +187,7 @@ impl<N: NoisyNand> NoisyBus<N> {
 
     // What an operation came to.
     fn finish(&mut self, answer: Result<Outcome, BusFault>) -> Result<(), BusFault>
-        ensures done { IfOk answer (λ outcome. HasDone self.old self.new outcome × (self.new.nand ≡ self.old.nand) × (result ≡ done)) }
+        ensures done { IfOk answer (λ outcome. HasDoneOperation self.old self.new outcome × (self.new.nand ≡ self.old.nand) × (result ≡ done)) }
         ensures failed { OnErr answer ((self.new ≡ moved at.Idle [] self.old) × (result ≡ Err BusFault.Device)) }
     {
         self.stand(Stage::Idle);

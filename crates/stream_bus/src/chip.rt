@@ -10,7 +10,7 @@ pub trait ChipLink: Link {
     ghost use Rattle.std.specs.Prelude.{Bool};
     ghost use Rattle.page_layout.specs.Flash.{Flash};
     ghost use Rattle.corrected_nand.specs.ChipBus.{SteadyLaw, ReadLaw, ProgramLaw, EraseLaw};
-    ghost use Rattle.stream_bus.specs.Carried.{Sent};
+    ghost use Rattle.stream_bus.specs.Carried.{SentAsFrame};
 
     /// The die that the chip is, without the codes.
     ghost chip: { Self → Flash };
@@ -19,16 +19,16 @@ pub trait ChipLink: Link {
     ghost keeps: { Self → Bool };
 
     /// No frame changes that, or the geometry where the law is kept.
-    ghost steady: { SteadyLaw Self chip keeps (Sent Self.called) };
+    ghost steady: { SteadyLaw Self chip keeps (SentAsFrame Self.called) };
 
     /// What is read.
-    ghost read: { ReadLaw Self chip keeps (Sent Self.called) };
+    ghost read: { ReadLaw Self chip keeps (SentAsFrame Self.called) };
 
     /// What a program does.
-    ghost programmed: { ProgramLaw Self chip keeps (Sent Self.called) };
+    ghost programmed: { ProgramLaw Self chip keeps (SentAsFrame Self.called) };
 
     /// What an erase does.
-    ghost erased: { EraseLaw Self chip keeps (Sent Self.called) };
+    ghost erased: { EraseLaw Self chip keeps (SentAsFrame Self.called) };
 }
 
 impl<L: ChipLink> ChipBus for StreamBus<L> {

@@ -9,7 +9,7 @@ ghost use Rattle.collection.specs.Results.{Refused};
 ghost use Rattle.collection.specs.Collect.{KeepsKeys, Refreshes, GoesBut, IsReleased, IsEmptied, CollectCosts, CollectsFew, CollectCounts, IsThrifty, due_count};
 ghost use Rattle.collection.specs.Whole.{next_of, step_within, work_left};
 ghost use Rattle.collection.specs.Left.{IsHalfDone, IsFew, HasPassed, PinIsFew};
-ghost use Rattle.collection.specs.Acts.{Acts, Stands};
+ghost use Rattle.collection.specs.Acts.{EngineActs, Stands};
 ghost use Rattle.collection.specs.Stops.{StopsSafely};
 
 use super::step::Progress;
@@ -46,7 +46,7 @@ impl<N: Nand> Engine<N> {
         requires pinned { self.old.pinned ≡ Some pinned }
         requires half_done { IsHalfDone (ram self.old) pinned }
         requires unmarked { (ram self.old).pin.marks ≡ replicate (translation_pages self.old.geometry) false }
-        ensures acts { Acts N.flash N.recorded N.honest N.calm N.failed self.old self.new result }
+        ensures acts { EngineActs N.flash N.recorded N.honest N.calm N.failed self.old self.new result }
         ensures idle { OnOk result (IsIdle (ram self.new)) }
         ensures unpinned { OnOk result (self.new.pinned ≡ None) }
         ensures goes { GoesBut pinned.block (ram self.old) (ram self.new) }
@@ -98,7 +98,7 @@ impl<N: Nand> Engine<N> {
         requires idle { IsIdle (ram self.old) }
         requires block { block < self.old.geometry.blocks }
         requires closed { is_closed (ram self.old).blocks block ≡ true }
-        ensures acts { Acts N.flash N.recorded N.honest N.calm N.failed self.old self.new result }
+        ensures acts { EngineActs N.flash N.recorded N.honest N.calm N.failed self.old self.new result }
         ensures idle { OnOk result (IsIdle (ram self.new)) }
         ensures unpinned { OnOk result (self.new.pinned ≡ None) }
         ensures goes { GoesBut block (ram self.old) (ram self.new) }

@@ -8,7 +8,7 @@ ghost use Rattle.collection.specs.Pages.{newest_row};
 ghost use Rattle.collection.specs.Safe.{IsSafe, ram, image_in, page_in};
 ghost use Rattle.collection.specs.Truth as truth;
 ghost use Rattle.collection.specs.Live.{PointsTo, IsTaken, LooksAt, FindsFirst, IsFoundIn};
-ghost use Rattle.collection.specs.Acts.{OnlyLooks};
+ghost use Rattle.collection.specs.Acts.{EngineLooks};
 
 use super::Engine;
 use super::steps::read_sound;
@@ -33,7 +33,7 @@ impl<N: Nand> Engine<N> {
     fn find_newest(&mut self, key: Key) -> Result<Option<u32>, WriteFault>
         requires safe { IsSafe N.flash self.old }
         requires key { IsKeyOf self.old.geometry key }
-        ensures looks { OnlyLooks N.flash N.recorded N.honest N.calm N.programs N.erases N.failed self.old self.new result }
+        ensures looks { EngineLooks N.flash N.recorded N.honest N.calm N.programs N.erases N.failed self.old self.new result }
         ensures page { self.new.page ≡ self.old.page }
         ensures reads { N.reads self.new.nand ≤ N.reads self.old.nand + 1 }
         ensures points { IfOk result (PointsTo (ram self.old) (page_in self.new.scratch) key) }
@@ -56,7 +56,7 @@ impl<N: Nand> Engine<N> {
     fn take_page(&mut self, row: u32) -> Result<Option<Record>, WriteFault>
         requires safe { IsSafe N.flash self.old }
         requires row { row < row_count self.old.geometry }
-        ensures looks { OnlyLooks N.flash N.recorded N.honest N.calm N.programs N.erases N.failed self.old self.new result }
+        ensures looks { EngineLooks N.flash N.recorded N.honest N.calm N.programs N.erases N.failed self.old self.new result }
         ensures reads { N.reads self.new.nand ≤ N.reads self.old.nand + 1 }
         ensures faults { IfErr result (λ fault. fault ≡ WriteFault.Bus) }
         ensures sound { IfOk result (λ found. found ≡ record_of (page_in self.new.page)) }
@@ -82,7 +82,7 @@ impl<N: Nand> Engine<N> {
     pub(crate) fn live_record(&mut self, row: u32) -> Result<Option<Record>, WriteFault>
         requires safe { IsSafe N.flash self.old }
         requires row { row < row_count self.old.geometry }
-        ensures looks { OnlyLooks N.flash N.recorded N.honest N.calm N.programs N.erases N.failed self.old self.new result }
+        ensures looks { EngineLooks N.flash N.recorded N.honest N.calm N.programs N.erases N.failed self.old self.new result }
         ensures reads { N.reads self.new.nand ≤ N.reads self.old.nand + 2 }
         ensures checked { IfOk result (λ found. ForSome found (IsFoundIn (ram self.old) (page_in self.new.page) (page_in self.new.scratch) row)) }
         ensures stands { N.honest self.old.nand ≡ true → OnOk result (slice_get (image_in N.flash self.old) row ≡ Some (page_in self.new.page)) }
@@ -116,7 +116,7 @@ impl<N: Nand> Engine<N> {
     ) -> Result<Option<(u32, Record)>, WriteFault>
         requires safe { IsSafe N.flash self.old }
         requires block { block < self.old.geometry.blocks }
-        ensures looks { OnlyLooks N.flash N.recorded N.honest N.calm N.programs N.erases N.failed self.old self.new result }
+        ensures looks { EngineLooks N.flash N.recorded N.honest N.calm N.programs N.erases N.failed self.old self.new result }
         ensures reads { N.reads self.new.nand ≤ N.reads self.old.nand + 2 * (self.old.geometry.pages - first) }
         ensures found_reads { IfOk result (λ found. ForSome found (λ f. N.reads self.new.nand ≤ N.reads self.old.nand + 2 * (f.0 + 1 - first))) }
         ensures within { IfOk result (λ found. ForSome found (λ f. (first ≤ f.0) × (f.0 < self.old.geometry.pages))) }

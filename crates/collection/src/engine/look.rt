@@ -12,7 +12,7 @@ ghost use Rattle.collection.specs.Pages.{newest_row};
 ghost use Rattle.collection.specs.Safe.{IsSafe, IsBuffer, ram, image_in, page_in};
 ghost use Rattle.collection.specs.Truth.{IsTrue};
 ghost use Rattle.collection.specs.Looks.{IsPageOf, IsRead, GivesRow, FindsRow, GivesSector, IsReadFault};
-ghost use Rattle.collection.specs.Acts.{OnlyLooks};
+ghost use Rattle.collection.specs.Acts.{EngineLooks};
 ghost use Rattle.page_layout.specs.OnlyReads.{OnlyReads};
 
 use super::steps::read_sound;
@@ -110,7 +110,7 @@ impl<N: Nand> Engine<N> {
     pub fn row_of_sector(&mut self, sector: u32) -> Result<Option<u32>, WriteFault>
         requires safe { IsSafe N.flash self.old }
         requires sector { sector < self.old.geometry.sectors }
-        ensures looks { OnlyLooks N.flash N.recorded N.honest N.calm N.programs N.erases N.failed self.old self.new result }
+        ensures looks { EngineLooks N.flash N.recorded N.honest N.calm N.programs N.erases N.failed self.old self.new result }
         ensures page { self.new.page ≡ self.old.page }
         ensures reads { N.reads self.new.nand ≤ N.reads self.old.nand + 1 }
         ensures row { IfOk result (λ row. ForSome row (λ r. r < row_count self.old.geometry)) }
@@ -136,7 +136,7 @@ impl<N: Nand> Engine<N> {
         requires safe { IsSafe N.flash self.old }
         requires sector { sector < self.old.geometry.sectors }
         requires unknown { known self.old.mapping sector ≡ None }
-        ensures looks { OnlyLooks N.flash N.recorded N.honest N.calm N.programs N.erases N.failed self.old self.new result }
+        ensures looks { EngineLooks N.flash N.recorded N.honest N.calm N.programs N.erases N.failed self.old self.new result }
         ensures page { self.new.page ≡ self.old.page }
         ensures reads { N.reads self.new.nand ≤ N.reads self.old.nand + 1 }
         ensures row { IfOk result (λ row. ForSome row (λ r. r < row_count self.old.geometry)) }
@@ -179,7 +179,7 @@ impl<N: Nand> Engine<N> {
         requires safe { IsSafe N.flash self.old }
         requires sector { sector < self.old.geometry.sectors }
         requires whole { length out.old ≡ self.old.geometry.data_bytes }
-        ensures looks { OnlyLooks N.flash N.recorded N.honest N.calm N.programs N.erases N.failed self.old self.new result }
+        ensures looks { EngineLooks N.flash N.recorded N.honest N.calm N.programs N.erases N.failed self.old self.new result }
         ensures reads { N.reads self.new.nand ≤ N.reads self.old.nand + 2 }
         ensures row { IfOk result (λ row. ForSome row (λ r. r < row_count self.old.geometry)) }
         ensures hit { IsSome (known self.old.mapping sector) → N.reads self.new.nand ≤ N.reads self.old.nand + 1 }

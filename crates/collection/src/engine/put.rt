@@ -15,7 +15,7 @@ ghost use Rattle.collection.specs.Truth.{IsTrue};
 ghost use Rattle.collection.specs.Settle.{IsCachedKey};
 ghost use Rattle.collection.specs.Cost.{moved_live, TryCosts, PutCosts};
 ghost use Rattle.collection.specs.Results.{MayPut, Attempted, Refused, GoesPut, IsPut, IsLastPage, array_after};
-ghost use Rattle.collection.specs.Acts.{Acts, Stands, OnlyPrograms};
+ghost use Rattle.collection.specs.Acts.{EngineActs, Stands, OnlyPrograms};
 ghost use Rattle.collection.specs.Stops.{IsKeptOr, Stops};
 
 use super::Engine;
@@ -53,7 +53,7 @@ impl<N: Nand> Engine<N> {
         requires next { self.old.next + 1 < 2 ^ 64 }
         requires key { IsKeyOf self.old.geometry (key_from kind number) }
         requires old_row { ForSome old_row (λ r. r < row_count self.old.geometry) }
-        ensures acts { Acts N.flash N.recorded N.honest N.calm N.failed self.old self.new result }
+        ensures acts { EngineActs N.flash N.recorded N.honest N.calm N.failed self.old self.new result }
         ensures goes { GoesPut (ram self.old) (ram self.new) }
         ensures page { self.new.page.body ≡ self.old.page.body }
         ensures scratch { self.new.scratch ≡ self.old.scratch }
@@ -113,7 +113,7 @@ impl<N: Nand> Engine<N> {
         requires safe { IsSafe N.flash self.old }
         requires key { IsKeyOf self.old.geometry (key_from kind number) }
         requires old_row { ForSome old_row (λ r. r < row_count self.old.geometry) }
-        ensures acts { Acts N.flash N.recorded N.honest N.calm N.failed self.old self.new result }
+        ensures acts { EngineActs N.flash N.recorded N.honest N.calm N.failed self.old self.new result }
         ensures goes { GoesPut (ram self.old) (ram self.new) }
         ensures page { self.new.page.body ≡ self.old.page.body }
         ensures scratch { self.new.scratch ≡ self.old.scratch }

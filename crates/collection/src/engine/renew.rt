@@ -12,7 +12,7 @@ ghost use Rattle.collection.specs.Results.{Refused, Goes};
 ghost use Rattle.collection.specs.Collect.{KeepsKeys, RescueCosts};
 ghost use Rattle.page_layout.specs.Version.{is_1};
 ghost use Rattle.collection.specs.Renew.{is_table, is_due_page, LooksAtDue, FindsDue, IsRenewedAt};
-ghost use Rattle.collection.specs.Acts.{OnlyLooks, Acts, Stands};
+ghost use Rattle.collection.specs.Acts.{EngineLooks, EngineActs, Stands};
 ghost use Rattle.collection.specs.Stops.{StopsSafely};
 
 use super::Engine;
@@ -58,7 +58,7 @@ impl<N: Nand> Engine<N> {
     fn due_record(&mut self, row: u32) -> Result<Option<Record>, WriteFault>
         requires safe { IsSafe N.flash self.old }
         requires row { row < row_count self.old.geometry }
-        ensures looks { OnlyLooks N.flash N.recorded N.honest N.calm N.programs N.erases N.failed self.old self.new result }
+        ensures looks { EngineLooks N.flash N.recorded N.honest N.calm N.programs N.erases N.failed self.old self.new result }
         ensures checked { IfOk result (λ found. ForSome found (IsFoundIn (ram self.old) (page_in self.new.page) (page_in self.new.scratch) row)) }
         ensures truth { N.honest self.old.nand ≡ true → truth.IsTrue None (ram self.old) (image_in N.flash self.old) →
             MatchResult result
@@ -79,7 +79,7 @@ impl<N: Nand> Engine<N> {
     // The next row, from a row on, whose page has to be renewed, whatever fault stands.
     fn look_for_due(&mut self, from: u32) -> Result<Option<u32>, WriteFault>
         requires safe { IsSafe N.flash self.old }
-        ensures looks { OnlyLooks N.flash N.recorded N.honest N.calm N.programs N.erases N.failed self.old self.new result }
+        ensures looks { EngineLooks N.flash N.recorded N.honest N.calm N.programs N.erases N.failed self.old self.new result }
         ensures row { IfOk result (λ found. ForSome found (λ row. row < row_count self.old.geometry)) }
         ensures truth { N.honest self.old.nand ≡ true → truth.IsTrue None (ram self.old) (image_in N.flash self.old) →
             MatchResult result
@@ -100,7 +100,7 @@ impl<N: Nand> Engine<N> {
     fn renew(&mut self, row: u32) -> Result<bool, WriteFault>
         requires safe { IsSafe N.flash self.old }
         requires row { row < row_count self.old.geometry }
-        ensures acts { Acts N.flash N.recorded N.honest N.calm N.failed self.old self.new result }
+        ensures acts { EngineActs N.flash N.recorded N.honest N.calm N.failed self.old self.new result }
         ensures goes { Goes (ram self.old) (ram self.new) }
         ensures erases { N.erases self.new.nand ≡ N.erases self.old.nand }
         ensures keys { KeepsKeys self.old.mapping self.new.mapping }

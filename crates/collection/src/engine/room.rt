@@ -8,7 +8,7 @@ ghost use Rattle.collection.specs.Truth as truth;
 ghost use Rattle.collection.specs.Collect.{HasRoom, RoomCounts};
 ghost use Rattle.collection.specs.Room.{wanted, beyond, IsMade, IsWorth, IsFundedOn, MakesRoom};
 ghost use Rattle.collection.specs.Left.{IsCalm, PinHasPassed, PinIsFew};
-ghost use Rattle.collection.specs.Acts.{Acts, Stands};
+ghost use Rattle.collection.specs.Acts.{EngineActs, Stands};
 ghost use Rattle.collection.specs.Stops.{StopsSafely};
 
 use super::Engine;
@@ -75,7 +75,7 @@ impl<N: Nand> Engine<N> {
     fn finish(&mut self, flushing: bool) -> Result<(), WriteFault>
         requires safe { IsSafe N.flash self.old }
         requires calm { IsCalm (ram self.old) }
-        ensures acts { Acts N.flash N.recorded N.honest N.calm N.failed self.old self.new result }
+        ensures acts { EngineActs N.flash N.recorded N.honest N.calm N.failed self.old self.new result }
         ensures makes { MakesRoom N.flash N.honest N.erases flushing self.old self.new result }
         ensures unpinned { OnOk result ((9 ≤ free_count (ram self.new).blocks) ⊎ (self.new.pinned ≡ None)) }
         ensures count { N.honest self.old.nand ≡ true → truth.IsTrue None (ram self.old) (image_in N.flash self.old) →
@@ -100,7 +100,7 @@ impl<N: Nand> Engine<N> {
     fn regain(&mut self, flushing: bool) -> Result<(), WriteFault>
         requires safe { IsSafe N.flash self.old }
         requires calm { IsCalm (ram self.old) }
-        ensures acts { Acts N.flash N.recorded N.honest N.calm N.failed self.old self.new result }
+        ensures acts { EngineActs N.flash N.recorded N.honest N.calm N.failed self.old self.new result }
         ensures makes { MakesRoom N.flash N.honest N.erases flushing self.old self.new result }
         ensures room { OnOk result (HasRoom (ram self.new)) }
         ensures count { N.honest self.old.nand ≡ true → truth.IsTrue None (ram self.old) (image_in N.flash self.old) →

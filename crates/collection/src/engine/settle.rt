@@ -11,9 +11,9 @@ ghost use Rattle.budget.specs.Stream.{stream_of};
 ghost use Rattle.collection.specs.Safe.{IsSafe, IsOutside, ram, image_in, page_in};
 ghost use Rattle.collection.specs.Truth.{IsTrue};
 ghost use Rattle.collection.specs.Cost.{PutCosts, PageCosts};
-ghost use Rattle.collection.specs.Settle.{HasPlace, SetsRow, SetsMapping, SetsDirectory, Settles, HasSettled, HasNoMore};
+ghost use Rattle.collection.specs.Settle.{HasPlace, SetsRow, SetsMapping, SetsDirectory, SettlesRow, HasSettled, HasNoMore};
 ghost use Rattle.collection.specs.Results.{MayPut, Goes, KeepsTable, IsReplaced, IsLastPage, IsWritten, Refused};
-ghost use Rattle.collection.specs.Acts.{Acts, OnlyPrograms};
+ghost use Rattle.collection.specs.Acts.{EngineActs, OnlyPrograms};
 ghost use Rattle.collection.specs.Stops.{StopsSafely};
 
 use super::Engine;
@@ -43,7 +43,7 @@ impl<N: Nand> Engine<N> {
         requires place { HasPlace self.old.mapping (key_from kind number) }
         requires row { row < row_count self.old.geometry }
         ensures safe { IsSafe N.flash self.new }
-        ensures settles { Settles (key_from kind number) row (ram self.old) (ram self.new) }
+        ensures settles { SettlesRow (key_from kind number) row (ram self.old) (ram self.new) }
         ensures nand { self.new.nand ≡ self.old.nand }
         ensures page { self.new.page ≡ self.old.page }
         ensures scratch { self.new.scratch ≡ self.old.scratch }
@@ -69,7 +69,7 @@ impl<N: Nand> Engine<N> {
         requires key { IsKeyOf self.old.geometry (key_from kind number) }
         requires place { HasPlace self.old.mapping (key_from kind number) }
         requires old_row { ForSome old_row (λ r. r < row_count self.old.geometry) }
-        ensures acts { Acts N.flash N.recorded N.honest N.calm N.failed self.old self.new result }
+        ensures acts { EngineActs N.flash N.recorded N.honest N.calm N.failed self.old self.new result }
         ensures goes { Goes (ram self.old) (ram self.new) }
         ensures page { self.new.page.body ≡ self.old.page.body }
         ensures scratch { self.new.scratch ≡ self.old.scratch }
@@ -102,7 +102,7 @@ impl<N: Nand> Engine<N> {
         requires kind { key_from kind sector ≡ Sector sector }
         requires sector { sector < self.old.geometry.sectors }
         requires cached { IsSome (slot_of self.old.mapping sector) }
-        ensures acts { Acts N.flash N.recorded N.honest N.calm N.failed self.old self.new result }
+        ensures acts { EngineActs N.flash N.recorded N.honest N.calm N.failed self.old self.new result }
         ensures goes { Goes (ram self.old) (ram self.new) }
         ensures page { self.new.page.body ≡ self.old.page.body }
         ensures scratch { self.new.scratch ≡ self.old.scratch }

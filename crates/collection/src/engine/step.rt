@@ -11,14 +11,14 @@ ghost use Rattle.allocation.specs.State.{is_closed, live_at};
 ghost use Rattle.collection.specs.Safe.{IsSafe, IsIdle, ram, image_in, page_in, is_shut};
 ghost use Rattle.collection.specs.Truth as truth;
 ghost use Rattle.collection.specs.Live.{HoldsNoneIn, IsLivePage};
-ghost use Rattle.collection.specs.Results.{IsSame, IsKept, Refused, Goes, IsLastPage};
+ghost use Rattle.collection.specs.Results.{IsSame, IsImageKept, Refused, Goes, IsLastPage};
 ghost use Rattle.collection.specs.Whole.{erases_after};
 ghost use Rattle.collection.specs.Collect.{has_moved, due_count, marks_after, IsLowestDue, HasNoneDue, Refreshes, KeepsKeys};
 ghost use Rattle.collection.specs.Settle.{SetsMapping};
 ghost use Rattle.collection.specs.Left.{TouchesNoMore};
 ghost use Rattle.collection.specs.Collect.{GoesBut, HasCopied, HasWritten, HasErased, IsReleased, FaultCosts, StepCosts, IsMovedOut, IsRenewed};
 ghost use Rattle.collection.specs.Collect.{IsCopiedOr, IsStepped};
-ghost use Rattle.collection.specs.Acts.{Acts, OnlyPrograms};
+ghost use Rattle.collection.specs.Acts.{EngineActs, OnlyPrograms};
 ghost use Rattle.collection.specs.Stops.{StopsSafely};
 
 use super::Engine;
@@ -87,7 +87,7 @@ impl<N: Nand> Engine<N> {
         requires key { IsKeyOf self.old.geometry (key_of found.now) }
         requires row { row < row_count self.old.geometry }
         requires room { length self.old.mapping.moved < self.old.geometry.pages }
-        ensures acts { Acts N.flash N.recorded N.honest N.calm N.failed self.old self.new result }
+        ensures acts { EngineActs N.flash N.recorded N.honest N.calm N.failed self.old self.new result }
         ensures goes { Goes (ram self.old) (ram self.new) }
         ensures only_programs { OnlyPrograms N.reads N.erases self.old.nand self.new.nand }
         ensures keys { KeepsKeys self.old.mapping self.new.mapping }
@@ -133,7 +133,7 @@ impl<N: Nand> Engine<N> {
         requires block { block < self.old.geometry.blocks }
         requires closed { is_closed (ram self.old).blocks block ≡ true }
         requires room { length self.old.mapping.moved ≤ first }
-        ensures acts { Acts N.flash N.recorded N.honest N.calm N.failed self.old self.new result }
+        ensures acts { EngineActs N.flash N.recorded N.honest N.calm N.failed self.old self.new result }
         ensures goes { Goes (ram self.old) (ram self.new) }
         ensures reads { N.reads self.new.nand ≤ N.reads self.old.nand + 2 * (self.old.geometry.pages - first) }
         ensures copied_reads { IfOk result (λ copied. ForSome copied (λ page. N.reads self.new.nand ≤ N.reads self.old.nand + 2 * (page + 1 - first))) }
@@ -185,7 +185,7 @@ impl<N: Nand> Engine<N> {
     // Writes it. Answers whether there was one.
     fn write_back_lowest(&mut self, flushing: bool) -> Result<bool, WriteFault>
         requires safe { IsSafe N.flash self.old }
-        ensures acts { Acts N.flash N.recorded N.honest N.calm N.failed self.old self.new result }
+        ensures acts { EngineActs N.flash N.recorded N.honest N.calm N.failed self.old self.new result }
         ensures goes { Goes (ram self.old) (ram self.new) }
         ensures reads { N.reads self.new.nand ≤ N.reads self.old.nand + min (due_count flushing (ram self.old)) 1 }
         ensures erases { N.erases self.new.nand ≡ N.erases self.old.nand }
@@ -219,7 +219,7 @@ impl<N: Nand> Engine<N> {
         requires safe { IsSafe N.flash self.old }
         requires block { block < self.old.geometry.blocks }
         requires closed { is_closed (ram self.old).blocks block ≡ true }
-        ensures acts { Acts N.flash N.recorded N.honest N.calm N.failed self.old self.new result }
+        ensures acts { EngineActs N.flash N.recorded N.honest N.calm N.failed self.old self.new result }
         ensures goes { GoesBut block (ram self.old) (ram self.new) }
         ensures erased { OnOk result (HasErased block (ram self.old) (ram self.new)) }
         ensures pin { (ram self.new).pin.block ≡ (ram self.old).pin.block }
@@ -232,7 +232,7 @@ impl<N: Nand> Engine<N> {
         ensures erases { N.erases self.new.nand ≡ counted (N.erases self.old.nand) }
         ensures truth { N.honest self.old.nand ≡ true → truth.IsTrue None (ram self.old) (image_in N.flash self.old) →
             HoldsNone self.old.geometry.pages block (image_in N.flash self.old) →
-            OnOk result (IsKept (ram self.old) (image_in N.flash self.old) (ram self.new) (image_in N.flash self.new)) }
+            OnOk result (IsImageKept (ram self.old) (image_in N.flash self.old) (ram self.new) (image_in N.flash self.new)) }
         ensures stops { N.honest self.old.nand ≡ true → truth.IsTrue None (ram self.old) (image_in N.flash self.old) →
             HoldsNone self.old.geometry.pages block (image_in N.flash self.old) → result ≢ Err WriteFault.Bus →
             StopsSafely N.flash N.recorded self.old self.new }
@@ -265,7 +265,7 @@ impl<N: Nand> Engine<N> {
         requires block { block < self.old.geometry.blocks }
         requires closed { is_closed (ram self.old).blocks block ≡ true }
         requires room { length self.old.mapping.moved ≤ first }
-        ensures acts { Acts N.flash N.recorded N.honest N.calm N.failed self.old self.new result }
+        ensures acts { EngineActs N.flash N.recorded N.honest N.calm N.failed self.old self.new result }
         ensures goes { GoesBut block (ram self.old) (ram self.new) }
         ensures goes_still { result ≢ Ok Progress.Erased → Goes (ram self.old) (ram self.new) }
         ensures keys { KeepsKeys self.old.mapping self.new.mapping }

@@ -7,7 +7,7 @@ ghost use Rattle.collection.specs.Safe.{IsSafe, ram, image_in, page_in};
 ghost use Rattle.collection.specs.Truth.{IsTrue};
 ghost use Rattle.collection.specs.Cost.{PageCosts};
 ghost use Rattle.collection.specs.Results.{IsLastPage, IsTabled, Refused, Goes, KeepsTable};
-ghost use Rattle.collection.specs.Acts.{Acts, Stands, OnlyPrograms};
+ghost use Rattle.collection.specs.Acts.{EngineActs, Stands, OnlyPrograms};
 ghost use Rattle.collection.specs.Stops.{StopsSafely};
 
 use super::Engine;
@@ -21,7 +21,7 @@ impl<N: Nand> Engine<N> {
     fn put_table(&mut self, u: u32) -> Result<(), WriteFault>
         requires safe { IsSafe N.flash self.old }
         requires page { u < table_pages self.old.geometry }
-        ensures acts { Acts N.flash N.recorded N.honest N.calm N.failed self.old self.new result }
+        ensures acts { EngineActs N.flash N.recorded N.honest N.calm N.failed self.old self.new result }
         ensures goes { Goes (ram self.old) (ram self.new) }
         ensures table { KeepsTable (ram self.old).blocks (ram self.new).blocks }
         ensures mapping { self.new.mapping ≡ self.old.mapping }

@@ -10,7 +10,7 @@ ghost use Rattle.collection.specs.Results.{Refused, Goes};
 ghost use Rattle.collection.specs.Collect.{due_count, Refreshes, KeepsKeys, GoesBut, IsReleased, StepCosts, IsStepped};
 ghost use Rattle.collection.specs.Whole.{step_within, erases_after};
 ghost use Rattle.collection.specs.Left.{IsCalm, IsHalfDone, HasPassed, PinHasPassed, TouchesNoMore, pin_after, told};
-ghost use Rattle.collection.specs.Acts.{Acts, Stands};
+ghost use Rattle.collection.specs.Acts.{EngineActs, Stands};
 ghost use Rattle.collection.specs.Turns.{Advances};
 ghost use Rattle.collection.specs.Stops.{StopsSafely};
 
@@ -91,7 +91,7 @@ impl<N: Nand> Engine<N> {
     pub(crate) fn step_on(&mut self, pinned: Pinned, flushing: bool) -> Result<Progress, WriteFault>
         requires safe { IsSafe N.flash self.old }
         requires half_done { IsHalfDone (ram self.old) pinned }
-        ensures acts { Acts N.flash N.recorded N.honest N.calm N.failed self.old self.new result }
+        ensures acts { EngineActs N.flash N.recorded N.honest N.calm N.failed self.old self.new result }
         ensures goes { GoesBut pinned.block (ram self.old) (ram self.new) }
         ensures goes_still { result ≢ Ok Progress.Erased → Goes (ram self.old) (ram self.new) }
         ensures keys { KeepsKeys self.old.mapping self.new.mapping }
@@ -133,7 +133,7 @@ impl<N: Nand> Engine<N> {
     fn advance(&mut self, pinned: Pinned, flushing: bool) -> Result<Step, WriteFault>
         requires safe { IsSafe N.flash self.old }
         requires half_done { IsHalfDone (ram self.old) pinned }
-        ensures acts { Acts N.flash N.recorded N.honest N.calm N.failed self.old self.new result }
+        ensures acts { EngineActs N.flash N.recorded N.honest N.calm N.failed self.old self.new result }
         ensures advances { Advances N.flash N.honest N.reads N.erases flushing pinned self.old self.new result }
         ensures stops { N.honest self.old.nand ≡ true → truth.IsTrue None (ram self.old) (image_in N.flash self.old) →
             HasPassed (ram self.old) (image_in N.flash self.old) pinned → result ≢ Err WriteFault.Bus →

@@ -12,7 +12,7 @@ ghost use Rattle.collection.specs.Cost.{WriteBackCosts};
 ghost use Rattle.collection.specs.Looks.{IsLoaded, IsFilled, IsPadded, StartsFrom, IsBroughtUp};
 ghost use Rattle.collection.specs.Settle.{Cleans, HasNoMore};
 ghost use Rattle.collection.specs.Results.{IsLastPage, IsWrittenBack, Refused, Goes};
-ghost use Rattle.collection.specs.Acts.{OnlyLooks, Acts, Stands};
+ghost use Rattle.collection.specs.Acts.{EngineLooks, EngineActs, Stands};
 ghost use Rattle.collection.specs.Stops.{StopsSafely};
 
 use super::Engine;
@@ -27,7 +27,7 @@ impl<N: Nand> Engine<N> {
     fn load_translation(&mut self, t: u32, row: Option<u32>) -> Result<(), WriteFault>
         requires safe { IsSafe N.flash self.old }
         requires row { ForSome row (λ r. r < row_count self.old.geometry) }
-        ensures looks { OnlyLooks N.flash N.recorded N.honest N.calm N.programs N.erases N.failed self.old self.new result }
+        ensures looks { EngineLooks N.flash N.recorded N.honest N.calm N.programs N.erases N.failed self.old self.new result }
         ensures reads { N.reads self.new.nand ≤ N.reads self.old.nand + 1 }
         ensures checked { OnOk result (StartsFrom t row (page_in self.new.page)) }
         ensures truth { N.honest self.old.nand ≡ true → newest_row (image_in N.flash self.old) (Translation t) ≡ row →
@@ -51,7 +51,7 @@ impl<N: Nand> Engine<N> {
         requires safe { IsSafe N.flash self.old }
         requires page { t < translation_pages self.old.geometry }
         requires row { ForSome row (λ r. r < row_count self.old.geometry) }
-        ensures looks { OnlyLooks N.flash N.recorded N.honest N.calm N.programs N.erases N.failed self.old self.new result }
+        ensures looks { EngineLooks N.flash N.recorded N.honest N.calm N.programs N.erases N.failed self.old self.new result }
         ensures reads { N.reads self.new.nand ≤ N.reads self.old.nand + 1 }
         ensures padded { OnOk result (IsPadded self.old.geometry t self.new.page.body.items) }
         ensures checked { OnOk result (IsBroughtUp t row self.old.geometry self.old.mapping self.new.page.body.items) }
@@ -70,7 +70,7 @@ impl<N: Nand> Engine<N> {
     pub(crate) fn write_page_back(&mut self, t: u32) -> Result<(), WriteFault>
         requires safe { IsSafe N.flash self.old }
         requires page { t < translation_pages self.old.geometry }
-        ensures acts { Acts N.flash N.recorded N.honest N.calm N.failed self.old self.new result }
+        ensures acts { EngineActs N.flash N.recorded N.honest N.calm N.failed self.old self.new result }
         ensures goes { Goes (ram self.old) (ram self.new) }
         ensures reads { N.reads self.new.nand ≤ N.reads self.old.nand + 1 }
         ensures erases { N.erases self.new.nand ≡ N.erases self.old.nand }

@@ -1,6 +1,6 @@
 // Calls of a slot whose sectors have 64 bytes, and its device.
 ghost use Rattle.std.specs.Prelude.{◌≡◌, IfOk};
-ghost use Rattle.device_slot.specs.Begun.{IsKept};
+ghost use Rattle.device_slot.specs.Begun.{IsDeviceKept};
 
 use device_bench::hold::hold_same;
 use device_slot::{CallFault, DeviceSlot, PowerFault, Report, Shortage, stop};
@@ -124,8 +124,8 @@ pub fn hold_state<N: Nand>(
 ///
 /// It brought none.
 pub fn kept<N: Nand + Drop>(device: Result<Device<N>, PowerFault<N>>) -> Result<Device<N>, Fail>
-    requires { IfOk device (IsKept N.flash N.honest) }
-    ensures { IfOk result (IsKept N.flash N.honest) }
+    requires { IfOk device (IsDeviceKept N.flash N.honest) }
+    ensures { IfOk result (IsDeviceKept N.flash N.honest) }
 {
     match device {
         Ok(device) => Ok(device),

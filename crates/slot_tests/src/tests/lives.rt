@@ -1,6 +1,6 @@
 // Power comes, calls are told, power goes, and comes again.
 ghost use Rattle.std.specs.Prelude.{◌≡◌, IfOk};
-ghost use Rattle.device_slot.specs.Begun.{IsKept};
+ghost use Rattle.device_slot.specs.Begun.{IsDeviceKept};
 
 use super::calls::Call::{Flush, Read, Trim, Turn, Write};
 use super::calls::{Answer, Call, OFF, RANGE, SIZE, given_up, hold_calls, hold_state, kept};
@@ -155,7 +155,7 @@ fn brought<N: Nand + Drop>(
     life: &Life,
 ) -> Result<Device<N>, Fail>
     requires { (N.flash nand).geometry ≡ geometry.now }
-    ensures { IfOk result (IsKept N.flash N.honest) }
+    ensures { IfOk result (IsDeviceKept N.flash N.honest) }
 {
     if !geometry.is_capacity(life.cache) {
         return Err("no capacity")?;

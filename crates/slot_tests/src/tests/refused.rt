@@ -1,7 +1,7 @@
 // Starts that are refused, and the die that comes back from each.
 ghost use Rattle.std.specs.Prelude.{◌≡◌, IfOk, IfErr};
 ghost use Rattle.onfi_cycles.specs.Driver.{flash_by};
-ghost use Rattle.device_slot.specs.Begun.{IsKept};
+ghost use Rattle.device_slot.specs.Begun.{IsDeviceKept};
 ghost use Rattle.device_slot.specs.Power.{nand_of};
 
 use super::calls::Call::{Read, Write};
@@ -81,7 +81,7 @@ fn taken<N>(fault: PowerFault<N>) -> (Why, N)
 
 // Calls of a device in a slot. Its die comes back.
 fn called<N: Nand + Drop>(device: Device<N>, rows: &[(Call, Answer)]) -> Result<(N, Geometry), Fail>
-    requires { IsKept N.flash N.honest device }
+    requires { IsDeviceKept N.flash N.honest device }
     ensures { IfOk result (λ pair. (N.flash pair.0).geometry ≡ pair.1) }
 {
     let mut slot = DeviceSlot::new();

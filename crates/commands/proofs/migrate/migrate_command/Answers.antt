@@ -9,7 +9,7 @@ use Rattle.commands.specs.declared.steady.SteadyDie.{SteadyDie}
 use Rattle.commands.specs.Check.{IsNoCertificate, IsWhole}
 use Rattle.commands.specs.Files.{Stored, with_store, written}
 use Rattle.commands.specs.Migrate.{EndsShort, IsUnmigratedDie, MigratesDie}
-use Rattle.commands.specs.Serve.{IsUnmade, bad_in}
+use Rattle.commands.specs.Serve.{IsDieUnmade, bad_in}
 use Rattle.commands.proofs.CheckLemmas.{unread_before}
 use Rattle.commands.proofs.FormatLemmas.{kept_whole}
 use Rattle.commands.proofs.MigrateEnds.{falls_short, has_claim, prints, stops}
@@ -66,7 +66,7 @@ returns-in_err-die g c =
     let written = c.in_ok-written.written.items in
     let claim = c.in_ok-certificate.certificate in
     let stop = c.in_err-die.field-0.0 in
-    let P : List ℕ → Type 0 = λ b. IsUnmade asked.geometry b stop in
+    let P : List ℕ → Type 0 = λ b. IsDieUnmade asked.geometry b stop in
     let has = has_claim gives c.args.words asked.geometry asked.capacity bytes written _ claim c.in_ok-asked.ensures.ok c.in_ok-bytes.ensures.ok
     (c.in_ok-bytes.ensures.same c.args.words.certificate.now (Ok written) c.in_ok-written.ensures.ok) c.deref.ensures.value c.in_ok-certificate.ensures.ok in
     stops gives c.args.words _ _ c.from_residual-in_err-die.result stop (search rules) (c.in_ok-written.ensures.stores ∙ c.in_ok-bytes.ensures.stores, search rules)

@@ -1,7 +1,7 @@
 use Rattle.std.proofs.Common.{rules, ◌≡◌, ◌≢◌, Ok, Err, Bool, ℕ, Result, subst, sym}
 use Rattle.ftl_device.specs.declared.fault.DeviceFault.{DeviceFault}
 use Rattle.ftl_device.specs.declared.fault.DeviceFault.TheVariants.{BusFault}
-use Rattle.commands.specs.Migrate.{Calls, KeepsAll, RenewsAll}
+use Rattle.commands.specs.Migrate.{CallsMigrate, KeepsAll, RenewsAll}
 use Rattle.commands.proofs.MigrateLemmas.{begins, calls_as, ends_done, ends_refused, goes_on}
 use Rattle.commands.proofs.migrate_all.renew_all.Goals as goal
 
@@ -38,7 +38,7 @@ returns-then-not-branch-clause-renews g c =
     let new = c.migrate_one.new.self in
     let its = c.in_ok-migrate_one.ensures in
     let call = calls_as n.flash n.recorded n.honest n.calm n.programs n.erases n.failed c.args.geometry.now c.args.device.now c.calls.device new c.calls.count (Ok c.in_ok-migrate_one.field-0) c.requires.roomy c.calls.invariant its.upkeeps its.migrates its.rests its.brought its.brings its.stays its.moves_on in
-    let P : Bool → Type 0 = λ b. Calls n.flash n.recorded n.honest n.calm n.programs n.erases n.failed c.calls.device (Ok b) new in
+    let P : Bool → Type 0 = λ b. CallsMigrate n.flash n.recorded n.honest n.calm n.programs n.erases n.failed c.calls.device (Ok b) new in
     (ends_done n.flash n.recorded n.honest n.calm n.programs n.erases n.failed c.args.geometry.now c.args.device.now c.calls.device new c.calls.count c.calls.invariant (subst P c.if-not-branch.true call)).renews
 
 pub returns-then-not-branch-clause-keeps : goal.returns-then-not-branch-clause-keeps
@@ -47,7 +47,7 @@ returns-then-not-branch-clause-keeps g c =
     let new = c.migrate_one.new.self in
     let its = c.in_ok-migrate_one.ensures in
     let call = calls_as n.flash n.recorded n.honest n.calm n.programs n.erases n.failed c.args.geometry.now c.args.device.now c.calls.device new c.calls.count (Ok c.in_ok-migrate_one.field-0) c.requires.roomy c.calls.invariant its.upkeeps its.migrates its.rests its.brought its.brings its.stays its.moves_on in
-    let P : Bool → Type 0 = λ b. Calls n.flash n.recorded n.honest n.calm n.programs n.erases n.failed c.calls.device (Ok b) new in
+    let P : Bool → Type 0 = λ b. CallsMigrate n.flash n.recorded n.honest n.calm n.programs n.erases n.failed c.calls.device (Ok b) new in
     (ends_done n.flash n.recorded n.honest n.calm n.programs n.erases n.failed c.args.geometry.now c.args.device.now c.calls.device new c.calls.count c.calls.invariant (subst P c.if-not-branch.true call)).keeps
 
 pub calls-preserved : goal.calls-preserved
@@ -56,5 +56,5 @@ calls-preserved g c =
     let new = c.migrate_one.new.self in
     let its = c.in_ok-migrate_one.ensures in
     let call = calls_as n.flash n.recorded n.honest n.calm n.programs n.erases n.failed c.args.geometry.now c.args.device.now c.calls.device new c.calls.count (Ok c.in_ok-migrate_one.field-0) c.requires.roomy c.calls.invariant its.upkeeps its.migrates its.rests its.brought its.brings its.stays its.moves_on in
-    let P : Bool → Type 0 = λ b. Calls n.flash n.recorded n.honest n.calm n.programs n.erases n.failed c.calls.device (Ok b) new in
+    let P : Bool → Type 0 = λ b. CallsMigrate n.flash n.recorded n.honest n.calm n.programs n.erases n.failed c.calls.device (Ok b) new in
     goes_on n.flash n.recorded n.honest n.calm n.programs n.erases n.failed c.args.geometry.now c.args.device.now c.calls.device new c.calls.count c.requires.roomy c.calls.invariant (subst P c.if-not-branch.false call) its.device its.geometry

@@ -1,6 +1,6 @@
 use Rattle.std.proofs.Common.{◌∙◌, List, Option, ℕ, inl, inr, refl, rules, subst, ap}
 use Rattle.commands.specs.Files.{IsUnstored, Stored, with_store, written}
-use Rattle.commands.specs.Mount.{IsMountedAs, IsUnmounted}
+use Rattle.commands.specs.Mount.{IsImageUnmounted, IsMountedAs}
 use Rattle.commands.proofs.MountLemmas.{prints, stops, unstored}
 use Rattle.commands.proofs.mount_image.mount_command.Goals as goal
 
@@ -19,7 +19,7 @@ pub returns-in_err-mounted : goal.returns-in_err-mounted
 returns-in_err-mounted g c =
     let asked = c.in_ok-asked.asked in
     let bytes = c.in_ok-bytes.bytes.items in
-    let P : List ℕ → Type 0 = λ b. IsUnmounted asked.geometry asked.capacity b c.in_err-mounted.field-0.0 in
+    let P : List ℕ → Type 0 = λ b. IsImageUnmounted asked.geometry asked.capacity b c.in_err-mounted.field-0.0 in
     stops (g.F.FileStore.gives c.args.files.now) c.args.words _ _ c.from_residual-in_err-mounted.result c.in_err-mounted.field-0.0 (search rules) (c.in_ok-bytes.ensures.stores, search rules)
     (inr (inr (record {
       geometry = asked.geometry;

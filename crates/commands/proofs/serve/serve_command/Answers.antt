@@ -6,7 +6,7 @@ use Rattle.nand_die.specs.Made.{loaded_flash}
 use Rattle.commands.specs.declared.steady.SteadyDie.{SteadyDie}
 use Rattle.commands.specs.Check.{IsNoCertificate, IsSpelled, IsWhole}
 use Rattle.commands.specs.Files.{Stored, left}
-use Rattle.commands.specs.Serve.{Ends, HasClaim, HasServed, IsUnmade, bad_in}
+use Rattle.commands.specs.Serve.{EndsServing, HasClaim, HasServed, IsDieUnmade, bad_in}
 use Rattle.commands.proofs.CheckLemmas.{unread_before}
 use Rattle.commands.proofs.FormatLemmas.{kept_whole}
 use Rattle.commands.proofs.ServeLemmas.{served_does, stops, undied, unserved}
@@ -64,7 +64,7 @@ returns-in_err-die g c =
     let claim = c.in_ok-certificate.certificate in
     let stop = c.in_err-die.field-0.0 in
     let Q : List ℕ → Type 0 = λ w. IsSpelled claim w in
-    let P : List ℕ → Type 0 = λ b. IsUnmade asked.geometry b stop in
+    let P : List ℕ → Type 0 = λ b. IsDieUnmade asked.geometry b stop in
     let has : HasClaim gives c.args.words asked.geometry asked.capacity bytes claim = record {
       written = written;
       files = record { asked = c.in_ok-asked.ensures.ok; image = record { bytes = c.in_ok-bytes.ensures.ok; told = λ _. refl }; certificate = c.in_ok-bytes.ensures.same c.args.words.certificate.now (Ok written) c.in_ok-written.ensures.ok };
@@ -131,7 +131,7 @@ returns g c =
     let after = left (g.F.FileStore.stores c.finish.new.files) (g.W.Write.contents c.serve_die.new.out) in
     let image = c.deref-3.result.now in
     let kept : image ≡ c.serve_die.new.image = c.deref-3.ensures.value ∙ kept_whole c.in_ok-bytes.bytes.len c.serve_die.new.image bytes (c.serve_die.auto.image ∙ c.deref_mut.ensures.len) in
-    let E : Option (List Stored) → Type 0 = λ stores. Ends words.output.now image c.in_ok-stop.stop stores after.stores c.finish.result in
+    let E : Option (List Stored) → Type 0 = λ stores. EndsServing words.output.now image c.in_ok-stop.stop stores after.stores c.finish.result in
     let H : List ℕ → Type 0 = λ i. HasServed asked.geometry asked.capacity claim s i (g.R.Read.remaining c.args.input.now) (g.R.Read.remaining c.serve_die.new.input) before.out after.out c.in_ok-stop.stop in
     served_does gives words _ _ before after c.finish.result asked.geometry asked.capacity bytes image claim s c.in_ok-stop.stop
     has loaded (subst H (sym kept) c.in_ok-stop.ensures.ok)

@@ -1,6 +1,6 @@
 use Rattle.std.proofs.Common.{inl, inr, ap, rules, subst, sym, ◌∙◌, ◌≡◌, true}
 use Rattle.nand_die.specs.Made.{AreNames}
-use Rattle.disk_commands.specs.Created.{IsDieFor, IsUnmadeFor}
+use Rattle.disk_commands.specs.Created.{IsDieAskedFor, IsUnmadeFor}
 use Rattle.disk_commands.specs.Files.{FailsNoMore}
 use Rattle.disk_commands.proofs.CreateLemmas.{created, not_kept}
 use Rattle.disk_commands.proofs.create.create_command.Goals as goal
@@ -39,10 +39,10 @@ returns-clause-ok g c =
     let same = c.in-Ok-want_free.ensures.same in
     let store = c.in-Ok-make.store in
     let named : c.deref.result.now ≡ c.in-Ok-bad_asked.bad.items = search rules in
-    let made = subst (λ f. g.F.Store.Store.honest store ≡ true → IsDieFor (g.F.DiskFiles.answers f) c.args.words.make c.in-Ok.shape c.deref.result.now (g.F.Store.Store.held store)) same c.in-Ok-make.ensures.made in
+    let made = subst (λ f. g.F.Store.Store.honest store ≡ true → IsDieAskedFor (g.F.DiskFiles.answers f) c.args.words.make c.in-Ok.shape c.deref.result.now (g.F.Store.Store.held store)) same c.in-Ok-make.ensures.made in
     created g.F.Store.Store.held g.F.Store.Store.honest (g.F.DiskFiles.answers c.args.files.now) c.args.words c.in-Ok.shape c.in-Ok-bad_asked.bad.items _ _ _ store c.put.result
     c.in-Ok.ensures.ok c.in-Ok-bad_asked.ensures.ok c.in-Ok-want_free.ensures.free
-    (subst (λ bad. g.F.Store.Store.honest store ≡ true → IsDieFor (g.F.DiskFiles.answers c.args.files.now) c.args.words.make c.in-Ok.shape bad (g.F.Store.Store.held store)) named made)
+    (subst (λ bad. g.F.Store.Store.honest store ≡ true → IsDieAskedFor (g.F.DiskFiles.answers c.args.files.now) c.args.words.make c.in-Ok.shape bad (g.F.Store.Store.held store)) named made)
     (c.in-Ok-make.ensures.honest ∙ ap (λ f. (g.F.DiskFiles.answers f).honest) same)
     (c.in-Ok-make.ensures.kept ∙ ap g.F.DiskFiles.kept same) c.put.ensures.ok
 

@@ -3,11 +3,11 @@ use Rattle.nbd_stream.specs.Transmission.{Serves}
 use Rattle.nbd_stream.specs.Through.{Through}
 use Rattle.disk_server.specs.Reading.{OnlyAsksReads, RestsNever}
 use Rattle.disk_server.specs.Synced.{export_of}
-use Rattle.disk_commands.proofs.ServeLemmas.{limited}
+use Rattle.disk_commands.proofs.ServeLemmas.{limited, stops_ended}
 use Rattle.disk_commands.proofs.serve.serve_only_reading.Goals as goal
 
-pub returns : goal.returns
-returns g c = record {
+pub returns-clause-served : goal.returns-clause-served
+returns-clause-served g c = record {
   last = c.serve_reading.new.disk;
   answer = c.serve_reading.result;
   serves = subst (λ d. Serves g.S.Sectors.contents g.S.Sectors.honest (λ s. false) (OnlyAsksReads g.S.Sectors.reads) RestsNever (export_of c.args.terms.offer (length (g.S.Sectors.contents d).bytes)) c.args.terms.offer.maximum d c.serve_reading.new.disk
@@ -16,3 +16,6 @@ returns g c = record {
   only_read = subst (λ d. Through g.S.Sectors.reads d c.serve_reading.new.disk) c.new-disk.ensures c.serve_reading.ensures.reads;
   told = c.end_of.ensures;
 }
+
+pub returns-clause-stops : goal.returns-clause-stops
+returns-clause-stops g c = stops_ended _ c.serve_reading.result c.end_of.result c.serve_reading.ensures.stops c.end_of.ensures

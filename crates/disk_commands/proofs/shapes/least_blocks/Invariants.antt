@@ -1,6 +1,6 @@
 use Rattle.std.proofs.Common.{ℕ, ◌<◌}
-use Rattle.disk_commands.specs.Shapes.{Formats}
+use Rattle.disk_commands.specs.Shapes.{HasBlocksForFormat}
 use Rattle.disk_commands.proofs.shapes.least_blocks.Given as goal
 
 abbrev pub invariant-loop-blocks : goal.invariant-loop-blocks
-invariant-loop-blocks l = (fewer : ℕ) → fewer < l.blocks → ¬ Formats l.pages l.sectors fewer
+invariant-loop-blocks l = (fewer : ℕ) → fewer < l.blocks → ¬ HasBlocksForFormat l.pages l.sectors fewer

@@ -1,6 +1,6 @@
 use Rattle.std.proofs.Common.{◌≡◌, ◌≤◌, ◌∙◌, ◌+◌, ◌-◌, ◌*◌, ◌%◌, ℕ, [], false, ap, length, replicate, refl, sym, subst, arith}
 use Rattle.std.proofs.lemmas.List.{length-replicate}
-use Rattle.nbd_stream.specs.Disk.{Performs, answer_from}
+use Rattle.nbd_stream.specs.Disk.{PerformsTask, answer_from}
 use Rattle.nbd_stream.specs.declared.task.Task.TheVariants.{Write}
 use Rattle.disk_server.proofs.ClearLemmas.{all_zeros, no_zeros, zeros_read}
 use Rattle.disk_server.proofs.Joining.{piece_clears, piece_given, piece_written, range_long, writes_trim}
@@ -53,7 +53,7 @@ returns-else-are_zeros-clause-performs g c =
     let is : c.fill.new.self ≡ replicate long 0 = c.fill.ensures.after (λ y e. e) ∙ ap (λ k. replicate k 0) (range_long start long c.read_sector.new.buffer room) in
     let zeros : long ≡ length c.fill.new.self = sym (ap length is ∙ length-replicate long 0) in
     writes_trim g.S.Sectors.contents g.S.Sectors.honest g.S.Sectors.calm c.args.offset long false c.args.sectors.now c.write_sector.new.self (answer_from c.write_sector.result []) (
-    subst (λ l. Performs g.S.Sectors.contents g.S.Sectors.honest g.S.Sectors.calm (Write c.args.offset long false) l c.args.sectors.now
+    subst (λ l. PerformsTask g.S.Sectors.contents g.S.Sectors.honest g.S.Sectors.calm (Write c.args.offset long false) l c.args.sectors.now
     (answer_from c.write_sector.result []) c.write_sector.new.self) is (
     piece_written g.S.Sectors.contents g.S.Sectors.honest g.S.Sectors.calm c.args.offset c.sector_bytes-size.result size _ c.sector_count-count.result long
     c.args.sectors.now c.read_sector.new.self c.write_sector.new.self

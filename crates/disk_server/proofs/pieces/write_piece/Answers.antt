@@ -1,5 +1,5 @@
 use Rattle.std.proofs.Common.{◌≡◌, ◌∙◌, ◌+◌, ◌-◌, ◌*◌, ◌%◌, ℕ, [], false, ap, length, sym, subst, arith}
-use Rattle.nbd_stream.specs.Disk.{Performs, answer_from}
+use Rattle.nbd_stream.specs.Disk.{PerformsTask, answer_from}
 use Rattle.nbd_stream.specs.declared.task.Task.TheVariants.{Write}
 use Rattle.disk_server.proofs.Joining.{piece_written}
 use Rattle.disk_server.proofs.pieces.write_piece.Goals as goal
@@ -13,7 +13,7 @@ returns-in-Ok-clause-performs g c =
     let long : ℕ = length c.args.bytes.now in
     let lent : (start + long) - start ≡ long = omega arith in
     let is : c.copy_from_slice.new.self ≡ c.args.bytes.now = c.copy_from_slice.ensures.after in
-    subst (λ l. Performs g.S.Sectors.contents g.S.Sectors.honest g.S.Sectors.calm (Write c.args.offset long false) l c.args.sectors.now
+    subst (λ l. PerformsTask g.S.Sectors.contents g.S.Sectors.honest g.S.Sectors.calm (Write c.args.offset long false) l c.args.sectors.now
     (answer_from c.write_sector-in-Ok.result []) c.write_sector-in-Ok.new.self) is (
     piece_written g.S.Sectors.contents g.S.Sectors.honest g.S.Sectors.calm c.args.offset c.sector_bytes-size.result size _ c.sector_count-count.result long
     c.args.sectors.now c.read_sector.new.self c.write_sector-in-Ok.new.self

@@ -1,5 +1,5 @@
 use Rattle.std.proofs.Common.{◌≡◌, ◌≤◌, ◌+◌, ◌-◌, ◌∙◌, ℕ, Ok, [], length, refl, rules, arith}
-use Rattle.nbd_stream.specs.Disk.{Performs}
+use Rattle.nbd_stream.specs.Disk.{PerformsTask}
 use Rattle.nbd_stream.specs.declared.task.Task.TheVariants.{Read}
 use borrow.Rule.Slice.PartMut.{put_mid}
 use Rattle.nbd_stream.proofs.ThroughLemmas.{joined, none, once}
@@ -26,7 +26,7 @@ loop-done-preserved g c =
 
 pub loop-done-init : goal.loop-done-init
 loop-done-init g c =
-    let nothing : Performs g.S.Sectors.contents g.S.Sectors.honest g.S.Sectors.calm (Read c.args.offset 0) [] c.args.sectors.now (Ok []) c.args.sectors.now = search rules in
+    let nothing : PerformsTask g.S.Sectors.contents g.S.Sectors.honest g.S.Sectors.calm (Read c.args.offset 0) [] c.args.sectors.now (Ok []) c.args.sectors.now = search rules in
     (omega arith, refl, refl, refl, nothing, none g.S.Sectors.reads c.args.sectors.now c.args.sectors.now refl)
 
 pub returns-in-Err-clause-reads : goal.returns-in-Err-clause-reads

@@ -5,8 +5,8 @@ use Rattle.disk_server.specs.Asked.{AsksSectors}
 use Rattle.disk_server.specs.Synced.{RestsSynced, SyncsTask, export_of}
 use Rattle.disk_server.proofs.served.serve_synced.Goals as goal
 
-pub returns : goal.returns
-returns g c =
+pub returns-clause-serves : goal.returns-clause-serves
+returns-clause-serves g c =
     let contents = g.S.Sectors.contents in
     let size = c.bytes.ensures ∙ ap (λ s. length (contents s).bytes) c.disk.ensures in
     subst (λ (e : Export). Serves (λ s. contents s.disk) (λ s. g.S.Sectors.honest s.disk) (λ s. false)

@@ -9,12 +9,12 @@ use Rattle.ftl_device.specs.Calls.{Knows, KeepsArray}
 use Rattle.ftl_device.specs.Flush.{IsClean}
 use Rattle.ftl_device.specs.FlushSteps.{FlushesPages}
 use Rattle.ftl_device.specs.Shortage.{FlushFunded}
-use Rattle.ftl_device.specs.Changes.{Leaves}
+use Rattle.ftl_device.specs.Changes.{EngineLeaves}
 use Rattle.ftl_device.proofs.flush.flush_translations.Given as goal
 
 abbrev pub invariant-translations : goal.invariant-translations
 invariant-translations g l = record {
-  leaves : Leaves {A = Unit {0}} g.N.PageSource.flash g.N.PageSource.recorded g.N.PageSource.honest g.N.PageSource.calm g.N.PageSource.failed l.initial.engine (Ok tt) l.engine;
+  leaves : EngineLeaves {A = Unit {0}} g.N.PageSource.flash g.N.PageSource.recorded g.N.PageSource.honest g.N.PageSource.calm g.N.PageSource.failed l.initial.engine (Ok tt) l.engine;
   pins : l.initial.engine.pinned ≡ None → l.engine.pinned ≡ None;
   keys : keys_of l.engine.mapping.cached ≡ keys_of l.initial.engine.mapping.cached;
   limits : HasLimitsOf l.initial.engine.mapping l.engine.mapping;

@@ -5,12 +5,12 @@ use Rattle.collection.specs.Left.{LeavesPin}
 use Rattle.ftl_device.proofs.FlushLoops.{HasRounds, SpellsWhere}
 use Rattle.ftl_device.proofs.FlushStepLemmas.{IsInRounds}
 use Rattle.ftl_device.specs.Calls.{Knows}
-use Rattle.ftl_device.specs.Changes.{Leaves}
+use Rattle.ftl_device.specs.Changes.{EngineLeaves}
 use Rattle.ftl_device.proofs.flush.write_tables.Given as goal
 
 abbrev pub invariant-rounds : goal.invariant-rounds
 invariant-rounds g l = record {
-  leaves : Leaves {A = Unit {0}} g.N.PageSource.flash g.N.PageSource.recorded g.N.PageSource.honest g.N.PageSource.calm g.N.PageSource.failed l.fn.engine (Ok tt) l.engine;
+  leaves : EngineLeaves {A = Unit {0}} g.N.PageSource.flash g.N.PageSource.recorded g.N.PageSource.honest g.N.PageSource.calm g.N.PageSource.failed l.fn.engine (Ok tt) l.engine;
   mapping : l.engine.mapping ≡ l.fn.engine.mapping;
   beside : LeavesPin (ram l.fn.engine) (ram l.engine);
   most : l.good ≤ good_count (ram l.fn.engine).blocks.table;

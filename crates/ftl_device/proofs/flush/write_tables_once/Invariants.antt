@@ -5,12 +5,12 @@ use Rattle.collection.specs.Results.{KeepsTable}
 use Rattle.ftl_device.specs.Flush.{KeepsTables, AddsPages}
 use Rattle.ftl_device.specs.FlushSteps.{WritesFirst}
 use Rattle.ftl_device.specs.Calls.{Knows}
-use Rattle.ftl_device.specs.Changes.{Leaves}
+use Rattle.ftl_device.specs.Changes.{EngineLeaves}
 use Rattle.ftl_device.proofs.flush.write_tables_once.Given as goal
 
 abbrev pub invariant-pages : goal.invariant-pages
 invariant-pages g l = record {
-  leaves : Leaves {A = Unit {0}} g.N.PageSource.flash g.N.PageSource.recorded g.N.PageSource.honest g.N.PageSource.calm g.N.PageSource.failed l.initial.engine (Ok tt) l.engine;
+  leaves : EngineLeaves {A = Unit {0}} g.N.PageSource.flash g.N.PageSource.recorded g.N.PageSource.honest g.N.PageSource.calm g.N.PageSource.failed l.initial.engine (Ok tt) l.engine;
   mapping : l.engine.mapping ≡ l.initial.engine.mapping;
   beside : LeavesPin (ram l.initial.engine) (ram l.engine);
   table : KeepsTable (ram l.initial.engine).blocks (ram l.engine).blocks;

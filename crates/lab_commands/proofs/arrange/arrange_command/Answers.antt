@@ -1,7 +1,7 @@
 use Rattle.std.proofs.Common.{refl, inl, inr, ℕ, List, ap, subst, ◌∙◌}
 use Rattle.std.specs.Io.KnownBytes.{Appends}
 use Rattle.page_layout.specs.Geometry.{row_count}
-use Rattle.lab_commands.specs.Document.{Stops}
+use Rattle.lab_commands.specs.Document.{StopsPrinting}
 use Rattle.lab_commands.proofs.PrintLemmas.{half_printed}
 use Rattle.lab_commands.specs.Reports.{arrange_text}
 use Rattle.lab_commands.specs.Arrange.{IsArrangeFault, IsInOrder, IsUnordered, PutArranged}
@@ -105,6 +105,6 @@ returns-in-Err-clause-fault g c =
       made = subst (λ f. IsInOrder (g.F.LabFiles.answers f) words.dump.now geometry arrangement pieces) same c.in_ok-target.ensures.made;
       put = c.in_ok-keep.ensures.ok ∙ ap (λ x. with_kept x words.out.now pieces words.force) (c.in_ok-target.ensures.beside ∙ ap g.F.LabFiles.kept same);
     } in
-    let stops = subst (λ f. Stops c.in-Err.fault broke o p (arrange_text f (row_count geometry))) c.printer-printer.ensures
-    (subst (λ (n : ℕ). Stops c.in-Err.fault broke o p (arrange_text c.printer-printer.result.form n)) c.rows.ensures c.in-Err.ensures) in
+    let stops = subst (λ f. StopsPrinting c.in-Err.fault broke o p (arrange_text f (row_count geometry))) c.printer-printer.ensures
+    (subst (λ (n : ℕ). StopsPrinting c.in-Err.fault broke o p (arrange_text c.printer-printer.result.form n)) c.rows.ensures c.in-Err.ensures) in
     inr (geometry, put, half_printed c.in-Err.fault _ _ _ _ _ c.unprinted.ensures stops)

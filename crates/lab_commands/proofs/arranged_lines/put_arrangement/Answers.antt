@@ -1,7 +1,7 @@
 use Rattle.std.proofs.Common.{◌++◌, Bool, List, ℕ, subst}
 use Rattle.std.specs.Prelude.{◌||◌, is_some}
 use Rattle.lab_shapes.specs.Words.{arrangement_words, around_words, cut_words, order_words}
-use Rattle.lab_commands.specs.Document.{Prints, Stops}
+use Rattle.lab_commands.specs.Document.{Prints, StopsPrinting}
 use Rattle.lab_commands.proofs.PrintLemmas.{failed, prints_after, stops_after, stops_more}
 use Rattle.lab_commands.proofs.arranged_lines.put_arrangement.Goals as goal
 
@@ -21,7 +21,7 @@ returns-in_err-put_cut g c =
     let rest : List ℕ = order_words (is_some told.header || is_some told.tail || is_some told.cut) told in
     let fault = c.in_err-put_cut.field-0.0 in
     failed fault c.from_residual-in_err-put_cut.result broke a d _ c.from_residual-in_err-put_cut.ensures.1
-    (subst (λ (x : Bool). Stops fault broke a d (front ++ (cut_words x told.cut ++ rest))) c.has_around.ensures
+    (subst (λ (x : Bool). StopsPrinting fault broke a d (front ++ (cut_words x told.cut ++ rest))) c.has_around.ensures
     (stops_after fault broke a b d front (cut_words c.has_around.result told.cut ++ rest) c.in_ok-put_around.ensures
     (stops_more fault broke b d (cut_words c.has_around.result told.cut) rest c.in_err-put_cut.ensures)))
 

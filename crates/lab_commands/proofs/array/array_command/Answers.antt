@@ -5,10 +5,10 @@ use Rattle.lab_dump.specs.declared.map_head.Remark.TheVariants as remark
 use Rattle.lab_dump.specs.Held.{mark_in, shown_in}
 use Rattle.lab_dump.specs.declared.held.Held.{Held}
 use Rattle.lab_dump.specs.Map.{map_text}
-use Rattle.lab_commands.specs.Undone.{IsUnmade}
-use Rattle.lab_commands.specs.Array.{IsArrayFault, IsMade, MadeArray, PutArray, with_map}
+use Rattle.lab_commands.specs.Undone.{IsFileUnmade}
+use Rattle.lab_commands.specs.Array.{IsArrayFault, IsArrayMade, MadeArray, PutArray, with_map}
 use Rattle.lab_commands.specs.Files.{AnswersNoMore, with_kept}
-use Rattle.lab_commands.specs.Document.{Stops}
+use Rattle.lab_commands.specs.Document.{StopsPrinting}
 use Rattle.lab_commands.proofs.PrintLemmas.{half_printed}
 use Rattle.lab_commands.specs.Reports.{array_text}
 use Rattle.lab_commands.proofs.ArrayLemmas.{no_geometry, no_last, not_allowed, not_put, unmapped_before}
@@ -51,7 +51,7 @@ returns-in_err-written-clause-fault g c =
     let same = c.in_ok-allow_both.ensures.same in
     handed_on (IsArrayFault a c.args.words k (g.F.LabFiles.kept c.make.new.files) (g.F.LabFiles.opened c.args.files.now) (g.F.LabFiles.opened c.make.new.files) broke o o) _ _ c.from_residual-in_err-written.ensures.1
     (not_put a c.args.words c.in_ok-geometry.geometry c.in_ok-last.last k _ _ _ broke o _ c.in_ok-geometry.ensures.ok c.in_ok-last.ensures.ok c.in_ok-allow_both.ensures.ok (c.in_err-written.ensures.kept ∙ ap g.F.LabFiles.kept same)
-    (inr (inl (subst (λ f. IsUnmade (g.F.LabFiles.answers f) c.in_ok-geometry.geometry c.args.words.array.dump.now c.args.words.array.out.now c.in_err-written.field-0.0) same c.in_err-written.ensures.fault))))
+    (inr (inl (subst (λ f. IsFileUnmade (g.F.LabFiles.answers f) c.in_ok-geometry.geometry c.args.words.array.dump.now c.args.words.array.out.now c.in_err-written.field-0.0) same c.in_err-written.ensures.fault))))
 
 pub returns-in_err-keep-clause-fault : goal.returns-in_err-keep-clause-fault
 returns-in_err-keep-clause-fault g c =
@@ -86,7 +86,7 @@ returns-in_err-put_map-clause-fault g c =
       geometry_is = c.in_ok-geometry.ensures.ok;
       last_is = c.in_ok-last.ensures.ok;
       allowed = c.in_ok-allow_both.ensures.ok;
-      made = subst (λ f. IsMade (g.F.LabFiles.answers f) words.dump.now geometry last c.args.words.damaged pieces held left) same c.in_ok-written.ensures.made;
+      made = subst (λ f. IsArrayMade (g.F.LabFiles.answers f) words.dump.now geometry last c.args.words.damaged pieces held left) same c.in_ok-written.ensures.made;
     } in
     handed_on (IsArrayFault a c.args.words k (g.F.LabFiles.kept c.put_map.new.files) (g.F.LabFiles.opened c.args.files.now) (g.F.LabFiles.opened c.put_map.new.files) broke o o) _ _ c.from_residual-in_err-put_map.ensures.1
     (inr (inl (record {
@@ -131,7 +131,7 @@ returns-in-Ok-clause-ok g c =
           geometry_is = c.in_ok-geometry.ensures.ok;
           last_is = c.in_ok-last.ensures.ok;
           allowed = c.in_ok-allow_both.ensures.ok;
-          made = subst (λ f. IsMade (g.F.LabFiles.answers f) words.dump.now geometry last c.args.words.damaged pieces held left) same c.in_ok-written.ensures.made;
+          made = subst (λ f. IsArrayMade (g.F.LabFiles.answers f) words.dump.now geometry last c.args.words.damaged pieces held left) same c.in_ok-written.ensures.made;
         };
         put = c.in_ok-put_map.ensures.ok
             ∙ (ap (λ (hs : List Held). with_map (g.F.LabFiles.kept c.keep.new.files) words (map_text remark.Array geometry (map mark_in hs))) c.deref.ensures.value
@@ -157,7 +157,7 @@ returns-clause-fault g c =
         geometry_is = c.in_ok-geometry.ensures.ok;
         last_is = c.in_ok-last.ensures.ok;
         allowed = c.in_ok-allow_both.ensures.ok;
-        made = subst (λ f. IsMade (g.F.LabFiles.answers f) words.dump.now geometry last c.args.words.damaged pieces held left) same c.in_ok-written.ensures.made;
+        made = subst (λ f. IsArrayMade (g.F.LabFiles.answers f) words.dump.now geometry last c.args.words.damaged pieces held left) same c.in_ok-written.ensures.made;
       };
       put = c.in_ok-put_map.ensures.ok
           ∙ (ap (λ (hs : List Held). with_map (g.F.LabFiles.kept c.keep.new.files) words (map_text remark.Array geometry (map mark_in hs))) c.deref.ensures.value
@@ -170,6 +170,6 @@ returns-clause-fault g c =
       left,
       put,
       half_printed c.in-Err.fault _ _ _ _ _ c.unprinted.ensures
-          (subst (λ f. Stops c.in-Err.fault (g.W.Output.failed c.print_array.new.out) (g.W.Output.contents c.args.out.now) (g.W.Output.contents c.print_array.new.out) (array_text f geometry last (map shown_in held) left)) c.printer-printer.ensures
-          (subst (λ (hs : List Held). Stops c.in-Err.fault (g.W.Output.failed c.print_array.new.out) (g.W.Output.contents c.args.out.now) (g.W.Output.contents c.print_array.new.out) (array_text c.printer-printer.result.form geometry last (map shown_in hs) left)) c.deref-2.ensures.value c.in-Err.ensures)),
+          (subst (λ f. StopsPrinting c.in-Err.fault (g.W.Output.failed c.print_array.new.out) (g.W.Output.contents c.args.out.now) (g.W.Output.contents c.print_array.new.out) (array_text f geometry last (map shown_in held) left)) c.printer-printer.ensures
+          (subst (λ (hs : List Held). StopsPrinting c.in-Err.fault (g.W.Output.failed c.print_array.new.out) (g.W.Output.contents c.args.out.now) (g.W.Output.contents c.print_array.new.out) (array_text c.printer-printer.result.form geometry last (map shown_in hs) left)) c.deref-2.ensures.value c.in-Err.ensures)),
     ))

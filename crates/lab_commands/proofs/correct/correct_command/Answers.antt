@@ -2,12 +2,12 @@ use Rattle.std.proofs.Common.{refl, inl, inr, List, ap, subst, ◌∙◌}
 use Rattle.std.specs.Io.KnownBytes.{Appends}
 use Rattle.std.proofs.KnownBytes.{Keeps-refl}
 use Rattle.lab_correct.specs.declared.correcting.Loss.{Loss}
-use Rattle.lab_correct.specs.Map.{map_text}
-use Rattle.lab_commands.specs.Undone.{IsUnmade}
+use Rattle.lab_correct.specs.Map.{loss_map_text}
+use Rattle.lab_commands.specs.Undone.{IsFileUnmade}
 use Rattle.lab_commands.specs.Array.{with_map}
 use Rattle.lab_commands.specs.Correct.{Counts, IsCorrectFault, IsPutRight, MadeCorrected, PutCorrected}
 use Rattle.lab_commands.specs.Files.{AnswersNoMore, with_kept}
-use Rattle.lab_commands.specs.Document.{Stops}
+use Rattle.lab_commands.specs.Document.{StopsPrinting}
 use Rattle.lab_commands.proofs.PrintLemmas.{half_printed}
 use Rattle.lab_commands.specs.Reports.{correct_text}
 use Rattle.lab_commands.proofs.ArrayLemmas.{unmapped_before}
@@ -50,7 +50,7 @@ returns-in_err-told-clause-fault g c =
     let same = c.in_ok-allow_both.ensures.same in
     handed_on (IsCorrectFault a c.args.words k (g.F.LabFiles.kept c.put_right.new.files) (g.F.LabFiles.opened c.args.files.now) (g.F.LabFiles.opened c.put_right.new.files) broke o o) _ _ c.from_residual-in_err-told.ensures.1
     (not_put a c.args.words c.in_ok-geometry.geometry c.in_ok-chip.chip.raw k _ _ _ broke o _ c.in_ok-geometry.ensures.ok c.in_ok-chip.ensures.ok c.in_ok-allow_both.ensures.ok (c.in_err-told.ensures.kept ∙ ap g.F.LabFiles.kept same)
-    (inr (inl (subst (λ f. IsUnmade (g.F.LabFiles.answers f) c.in_ok-chip.chip.raw c.args.words.dump.now c.args.words.out.now c.in_err-told.field-0.0) same c.in_err-told.ensures.fault))))
+    (inr (inl (subst (λ f. IsFileUnmade (g.F.LabFiles.answers f) c.in_ok-chip.chip.raw c.args.words.dump.now c.args.words.out.now c.in_err-told.field-0.0) same c.in_err-told.ensures.fault))))
 
 pub returns-in_err-keep-clause-fault : goal.returns-in_err-keep-clause-fault
 returns-in_err-keep-clause-fault g c =
@@ -131,8 +131,8 @@ returns-in-Ok-clause-ok g c =
         pieces = pieces;
         made = made;
         put = c.in_ok-put_map.ensures.ok
-            ∙ (ap (λ (ls : List Loss). with_map (g.F.LabFiles.kept c.keep.new.files) words (map_text geometry ls)) c.deref.ensures.value
-            ∙ ap (λ x. with_map x words (map_text geometry counts.losses)) (c.in_ok-keep.ensures.ok ∙ ap (λ x. with_kept x words.out.now pieces words.force) (c.in_ok-told.ensures.beside ∙ ap g.F.LabFiles.kept same)));
+            ∙ (ap (λ (ls : List Loss). with_map (g.F.LabFiles.kept c.keep.new.files) words (loss_map_text geometry ls)) c.deref.ensures.value
+            ∙ ap (λ x. with_map x words (loss_map_text geometry counts.losses)) (c.in_ok-keep.ensures.ok ∙ ap (λ x. with_kept x words.out.now pieces words.force) (c.in_ok-told.ensures.beside ∙ ap g.F.LabFiles.kept same)));
       };
       told = subst (λ f. Appends (g.W.Output.contents c.args.out.now) (g.W.Output.contents c.print_corrected.new.out) (correct_text f counts.turned counts.touched counts.losses)) c.printer-printer.ensures
           (subst (λ (ls : List Loss). Appends (g.W.Output.contents c.args.out.now) (g.W.Output.contents c.print_corrected.new.out) (correct_text c.printer-printer.result.form counts.turned counts.touched ls)) c.deref-2.ensures.value c.in-Ok.ensures);
@@ -159,8 +159,8 @@ returns-clause-fault g c =
       pieces = pieces;
       made = made;
       put = c.in_ok-put_map.ensures.ok
-          ∙ (ap (λ (ls : List Loss). with_map (g.F.LabFiles.kept c.keep.new.files) words (map_text geometry ls)) c.deref.ensures.value
-          ∙ ap (λ x. with_map x words (map_text geometry counts.losses)) (c.in_ok-keep.ensures.ok ∙ ap (λ x. with_kept x words.out.now pieces words.force) (c.in_ok-told.ensures.beside ∙ ap g.F.LabFiles.kept same)));
+          ∙ (ap (λ (ls : List Loss). with_map (g.F.LabFiles.kept c.keep.new.files) words (loss_map_text geometry ls)) c.deref.ensures.value
+          ∙ ap (λ x. with_map x words (loss_map_text geometry counts.losses)) (c.in_ok-keep.ensures.ok ∙ ap (λ x. with_kept x words.out.now pieces words.force) (c.in_ok-told.ensures.beside ∙ ap g.F.LabFiles.kept same)));
     } in
     let o = g.W.Output.contents c.args.out.now in
     let p = g.W.Output.contents c.print_corrected.new.out in
@@ -169,6 +169,6 @@ returns-clause-fault g c =
       counts,
       put,
       half_printed c.in-Err.fault _ _ _ _ _ c.unprinted.ensures
-          (subst (λ f. Stops c.in-Err.fault broke o p (correct_text f counts.turned counts.touched counts.losses)) c.printer-printer.ensures
-          (subst (λ (ls : List Loss). Stops c.in-Err.fault broke o p (correct_text c.printer-printer.result.form counts.turned counts.touched ls)) c.deref-2.ensures.value c.in-Err.ensures)),
+          (subst (λ f. StopsPrinting c.in-Err.fault broke o p (correct_text f counts.turned counts.touched counts.losses)) c.printer-printer.ensures
+          (subst (λ (ls : List Loss). StopsPrinting c.in-Err.fault broke o p (correct_text c.printer-printer.result.form counts.turned counts.touched ls)) c.deref-2.ensures.value c.in-Err.ensures)),
     ))

@@ -1,7 +1,7 @@
 use Rattle.std.proofs.Common.{List, inl, refl, inr, subst}
 use Rattle.lab_dump.specs.declared.history.SectorPage.{SectorPage}
 use Rattle.std.specs.Io.KnownBytes.{Appends}
-use Rattle.lab_commands.specs.Document.{Stops}
+use Rattle.lab_commands.specs.Document.{StopsPrinting}
 use Rattle.lab_commands.proofs.PrintLemmas.{half_printed}
 use Rattle.lab_commands.specs.Reports.{history_text}
 use Rattle.lab_commands.specs.History.{HasHistory, IsHistoryFault}
@@ -60,6 +60,6 @@ returns-clause-fault g c =
     let o = g.W.Output.contents c.args.out.now in
     let after = g.W.Output.contents c.print_history.new.out in
     let broke = g.W.Output.failed c.print_history.new.out in
-    let stops = subst (λ f. Stops c.in-Err.fault broke o after (history_text f c.in_ok-geometry.geometry c.in_ok-history.history.pages.items c.in_ok-history.history.unsound)) c.printer.ensures
-    (subst (λ (ps : List SectorPage). Stops c.in-Err.fault broke o after (history_text c.printer.result.form c.in_ok-geometry.geometry ps c.in_ok-history.history.unsound)) c.deref.ensures.value c.in-Err.ensures) in
+    let stops = subst (λ f. StopsPrinting c.in-Err.fault broke o after (history_text f c.in_ok-geometry.geometry c.in_ok-history.history.pages.items c.in_ok-history.history.unsound)) c.printer.ensures
+    (subst (λ (ps : List SectorPage). StopsPrinting c.in-Err.fault broke o after (history_text c.printer.result.form c.in_ok-geometry.geometry ps c.in_ok-history.history.unsound)) c.deref.ensures.value c.in-Err.ensures) in
     inr (c.in_ok-history.ensures.kept, (c.in_ok-geometry.geometry, c.in_ok-history.history, has, half_printed c.in-Err.fault _ _ _ _ _ c.unprinted.ensures stops))

@@ -1,6 +1,6 @@
 use Rattle.std.proofs.Common.{refl, inl, inr, ℕ, List, ap, subst, ◌∙◌}
 use Rattle.std.specs.Io.KnownBytes.{Appends}
-use Rattle.lab_commands.specs.Document.{Stops}
+use Rattle.lab_commands.specs.Document.{StopsPrinting}
 use Rattle.lab_mend.specs.declared.merging.TriedRow.{TriedRow}
 use Rattle.lab_commands.proofs.PrintLemmas.{half_printed}
 use Rattle.lab_commands.specs.Reports.{merge_text}
@@ -117,8 +117,8 @@ returns-clause-fault g c =
       tally,
       put,
       half_printed c.in-Err.fault _ _ _ _ _ c.unprinted.ensures
-          (subst (λ f. Stops c.in-Err.fault (g.W.Output.failed c.print_merged.new.out) (g.W.Output.contents c.args.out.now) (g.W.Output.contents c.print_merged.new.out) (merge_text f conflicts unsound tried tally)) c.printer-printer.ensures
-          (subst (λ (rows : List TriedRow). Stops c.in-Err.fault (g.W.Output.failed c.print_merged.new.out) (g.W.Output.contents c.args.out.now) (g.W.Output.contents c.print_merged.new.out) (merge_text c.printer-printer.result.form conflicts unsound rows tally)) c.deref-3.ensures.value
-          (subst (λ (rows : List ℕ). Stops c.in-Err.fault (g.W.Output.failed c.print_merged.new.out) (g.W.Output.contents c.args.out.now) (g.W.Output.contents c.print_merged.new.out) (merge_text c.printer-printer.result.form conflicts rows c.deref-3.result.now tally)) c.deref-2.ensures.value
-          (subst (λ (rows : List ℕ). Stops c.in-Err.fault (g.W.Output.failed c.print_merged.new.out) (g.W.Output.contents c.args.out.now) (g.W.Output.contents c.print_merged.new.out) (merge_text c.printer-printer.result.form rows c.deref-2.result.now c.deref-3.result.now tally)) c.deref.ensures.value c.in-Err.ensures)))),
+          (subst (λ f. StopsPrinting c.in-Err.fault (g.W.Output.failed c.print_merged.new.out) (g.W.Output.contents c.args.out.now) (g.W.Output.contents c.print_merged.new.out) (merge_text f conflicts unsound tried tally)) c.printer-printer.ensures
+          (subst (λ (rows : List TriedRow). StopsPrinting c.in-Err.fault (g.W.Output.failed c.print_merged.new.out) (g.W.Output.contents c.args.out.now) (g.W.Output.contents c.print_merged.new.out) (merge_text c.printer-printer.result.form conflicts unsound rows tally)) c.deref-3.ensures.value
+          (subst (λ (rows : List ℕ). StopsPrinting c.in-Err.fault (g.W.Output.failed c.print_merged.new.out) (g.W.Output.contents c.args.out.now) (g.W.Output.contents c.print_merged.new.out) (merge_text c.printer-printer.result.form conflicts rows c.deref-3.result.now tally)) c.deref-2.ensures.value
+          (subst (λ (rows : List ℕ). StopsPrinting c.in-Err.fault (g.W.Output.failed c.print_merged.new.out) (g.W.Output.contents c.args.out.now) (g.W.Output.contents c.print_merged.new.out) (merge_text c.printer-printer.result.form rows c.deref-2.result.now c.deref-3.result.now tally)) c.deref.ensures.value c.in-Err.ensures)))),
     )

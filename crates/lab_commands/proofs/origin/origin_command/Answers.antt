@@ -3,7 +3,7 @@ use Rattle.std.specs.Io.KnownBytes.{Appends}
 use Rattle.lab_dump.specs.declared.map_head.Remark.TheVariants as remark
 use Rattle.lab_dump.specs.declared.mark.MapMark.{MapMark}
 use Rattle.lab_dump.specs.Map.{map_text}
-use Rattle.lab_commands.specs.Document.{Stops}
+use Rattle.lab_commands.specs.Document.{StopsPrinting}
 use Rattle.lab_commands.specs.Files.{AnswersNoMore, with_kept}
 use Rattle.lab_commands.specs.Reports.{origin_text}
 use Rattle.lab_commands.specs.Origin.{IsFollowed, IsOriginFault, IsUnfollowed, PutOrigin}
@@ -121,6 +121,6 @@ returns-clause-fault g c =
       marks,
       put,
       half_printed c.in-Err.fault _ _ _ _ _ c.unprinted.ensures
-          (subst (λ f. Stops c.in-Err.fault (g.W.Output.failed c.print_origin.new.out) (g.W.Output.contents c.args.out.now) (g.W.Output.contents c.print_origin.new.out) (origin_text f marks)) c.printer.ensures
-          (subst (λ (ms : List MapMark). Stops c.in-Err.fault (g.W.Output.failed c.print_origin.new.out) (g.W.Output.contents c.args.out.now) (g.W.Output.contents c.print_origin.new.out) (origin_text c.printer.result.form ms)) c.deref-2.ensures.value c.in-Err.ensures)),
+          (subst (λ f. StopsPrinting c.in-Err.fault (g.W.Output.failed c.print_origin.new.out) (g.W.Output.contents c.args.out.now) (g.W.Output.contents c.print_origin.new.out) (origin_text f marks)) c.printer.ensures
+          (subst (λ (ms : List MapMark). StopsPrinting c.in-Err.fault (g.W.Output.failed c.print_origin.new.out) (g.W.Output.contents c.args.out.now) (g.W.Output.contents c.print_origin.new.out) (origin_text c.printer.result.form ms)) c.deref-2.ensures.value c.in-Err.ensures)),
     )

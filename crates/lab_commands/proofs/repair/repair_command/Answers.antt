@@ -1,8 +1,8 @@
 use Rattle.std.proofs.Common.{◌≡◌, ℕ, refl, inl, inr, List, ap, subst, ◌∙◌}
 use Rattle.std.specs.Io.KnownBytes.{Appends}
 use Rattle.lab_mend.specs.declared.repairing.Mend.{Mend}
-use Rattle.lab_commands.specs.Undone.{IsUnmade}
-use Rattle.lab_commands.specs.Document.{Stops}
+use Rattle.lab_commands.specs.Undone.{IsFileUnmade}
+use Rattle.lab_commands.specs.Document.{StopsPrinting}
 use Rattle.lab_commands.proofs.PrintLemmas.{half_printed}
 use Rattle.lab_commands.specs.Reports.{repair_text}
 use Rattle.lab_commands.specs.Repair.{IsMended, IsRepairFault, PutRepair, asked_of, told_tries}
@@ -54,7 +54,7 @@ returns-in_err-repaired-clause-fault g c =
     let same = c.in_ok-allow.ensures.same in
     handed_on (IsRepairFault a c.args.words k (g.F.LabFiles.kept c.mend.new.files) (g.F.LabFiles.opened c.args.files.now) (g.F.LabFiles.opened c.mend.new.files) broke o o) _ _ c.from_residual-in_err-repaired.ensures.1
     (not_put a c.args.words c.in_ok-geometry.geometry c.in_ok-rows.rows c.in_ok-bits.bits k _ _ _ broke o _ c.in_ok-geometry.ensures.ok c.in_ok-rows.ensures.ok c.in_ok-bits.ensures.ok c.in_ok-allow.ensures.ok (c.in_err-repaired.ensures.kept ∙ ap g.F.LabFiles.kept same)
-    (inr (inl (subst (λ f. IsUnmade (g.F.LabFiles.answers f) c.in_ok-geometry.geometry c.args.words.dump.now c.args.words.out.now c.in_err-repaired.field-0.0) same c.in_err-repaired.ensures.fault))))
+    (inr (inl (subst (λ f. IsFileUnmade (g.F.LabFiles.answers f) c.in_ok-geometry.geometry c.args.words.dump.now c.args.words.out.now c.in_err-repaired.field-0.0) same c.in_err-repaired.ensures.fault))))
 
 pub returns-in_err-keep-clause-fault : goal.returns-in_err-keep-clause-fault
 returns-in_err-keep-clause-fault g c =
@@ -134,7 +134,7 @@ returns-clause-fault g c =
     let a = g.W.Output.contents c.args.out.now in
     let b = g.W.Output.contents c.print_repaired.new.out in
     let broke = g.W.Output.failed c.print_repaired.new.out in
-    let stops = subst (λ f. Stops c.in-Err.fault broke a b (repair_text f (told_tries bits geometry mends) mends)) c.printer.ensures
-    (subst (λ (n : ℕ). Stops c.in-Err.fault broke a b (repair_text c.printer.result.form n mends)) tries
-    (subst (λ (ms : List Mend). Stops c.in-Err.fault broke a b (repair_text c.printer.result.form c.tries_told-tries.result ms)) c.deref-2.ensures.value c.in-Err.ensures)) in
+    let stops = subst (λ f. StopsPrinting c.in-Err.fault broke a b (repair_text f (told_tries bits geometry mends) mends)) c.printer.ensures
+    (subst (λ (n : ℕ). StopsPrinting c.in-Err.fault broke a b (repair_text c.printer.result.form n mends)) tries
+    (subst (λ (ms : List Mend). StopsPrinting c.in-Err.fault broke a b (repair_text c.printer.result.form c.tries_told-tries.result ms)) c.deref-2.ensures.value c.in-Err.ensures)) in
     inr (mends, put, half_printed c.in-Err.fault _ _ _ _ _ c.unprinted.ensures stops)

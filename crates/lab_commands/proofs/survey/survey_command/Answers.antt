@@ -1,6 +1,6 @@
 use Rattle.std.proofs.Common.{inl, refl, inr, subst}
 use Rattle.std.specs.Io.KnownBytes.{Appends}
-use Rattle.lab_commands.specs.Document.{Stops}
+use Rattle.lab_commands.specs.Document.{StopsPrinting}
 use Rattle.lab_commands.proofs.PrintLemmas.{half_printed}
 use Rattle.lab_commands.specs.Reports.{survey_text}
 use Rattle.lab_commands.specs.Survey.{HasSurvey, IsSurveyFault}
@@ -56,5 +56,5 @@ returns-in-Ok-clause-ok g c = record {
 pub returns-clause-fault : goal.returns-clause-fault
 returns-clause-fault g c =
     let has : HasSurvey (g.F.LabFiles.answers c.args.files.now) c.args.words c.in_ok-geometry.geometry c.in_ok-rows.rows c.in_ok-survey.survey = record { geometry_is = c.in_ok-geometry.ensures.ok; rows_are = c.in_ok-rows.ensures.ok; seen = c.in_ok-survey.ensures.seen } in
-    let stops = subst (λ f. Stops c.in-Err.fault (g.W.Output.failed c.print_survey.new.out) (g.W.Output.contents c.args.out.now) (g.W.Output.contents c.print_survey.new.out) (survey_text f c.in_ok-geometry.geometry c.in_ok-rows.rows c.in_ok-survey.survey)) c.printer.ensures c.in-Err.ensures in
+    let stops = subst (λ f. StopsPrinting c.in-Err.fault (g.W.Output.failed c.print_survey.new.out) (g.W.Output.contents c.args.out.now) (g.W.Output.contents c.print_survey.new.out) (survey_text f c.in_ok-geometry.geometry c.in_ok-rows.rows c.in_ok-survey.survey)) c.printer.ensures c.in-Err.ensures in
     inr (c.in_ok-survey.ensures.kept, (c.in_ok-geometry.geometry, c.in_ok-rows.rows, c.in_ok-survey.survey, has, half_printed c.in-Err.fault _ _ _ _ _ c.unprinted.ensures stops))

@@ -6,12 +6,12 @@ use Rattle.lab_dump.specs.declared.fit.Fit.{Fit}
 use Rattle.lab_dump.specs.Fits.{IsPossible, fits_of}
 use Rattle.lab_dump.proofs.FitLemmas.{possible_none}
 use Rattle.lab_correct.specs.declared.found.FoundFit.{FoundFit}
-use Rattle.lab_correct.specs.Coded.{coded_fits, found_as, found_of}
+use Rattle.lab_correct.specs.Coded.{coded_fits, found_as, found_fits_of}
 use Rattle.lab_correct.proofs.FoundLemmas.{found_both, possible_both, same_found_rank}
 use Rattle.lab_correct.proofs.found.find_all_geometries.Goals as goal
 
 pub returns-clause-found : goal.returns-clause-found
-unfolding found_of
+unfolding found_fits_of
 returns-clause-found g c = λ all told.
     let here = c.find_geometries.ensures.same ∙ told in
     let plain : IsPermutation (fits_of all) c.deref.result.now = subst (IsPermutation (fits_of all)) (sym c.deref.ensures.value) (c.in_ok-plain.ensures.found all told) in

@@ -1,6 +1,6 @@
 use Rattle.std.proofs.Common.{◌≡◌, ℕ, inr, map, refl, subst, arith}
 use Rattle.program_words.specs.Met.{texts}
-use Rattle.lab_commands.specs.Program.{Runs}
+use Rattle.lab_commands.specs.Program.{LabCommandRuns}
 use Rattle.lab_report.specs.Note.{noted_of}
 use Rattle.lab_custody.proofs.program.run_reported.Goals as goal
 
@@ -16,7 +16,7 @@ returns g c =
       said = record { before = g.E.Output.contents c.args.err.now; after = g.E.Output.contents c.run-status.new.err; broke = g.E.Output.failed c.run-status.new.err };
       begins = record { may = c.in-Ok.ensures.may; noted = c.in-Ok.ensures.noted; no_more = c.in-Ok.ensures.no_more; same = c.in-Ok.ensures.kept };
       ran =
-          subst (λ (status : ℕ). Runs (g.F.LabFiles.answers begun) (texts c.args.words.now) (g.F.LabFiles.kept begun) (g.F.LabFiles.kept done) (g.F.LabFiles.opened begun) (g.F.LabFiles.opened done)
+          subst (λ (status : ℕ). LabCommandRuns (g.F.LabFiles.answers begun) (texts c.args.words.now) (g.F.LabFiles.kept begun) (g.F.LabFiles.kept done) (g.F.LabFiles.opened begun) (g.F.LabFiles.opened done)
           (record { before = g.W.Output.contents c.args.out.now; after = g.W.Output.contents c.run-status.new.out; broke = g.W.Output.failed c.run-status.new.out })
           (record { before = g.E.Output.contents c.args.err.now; after = g.E.Output.contents c.run-status.new.err; broke = g.E.Output.failed c.run-status.new.err }) status) none c.run-status.ensures;
       first = refl;

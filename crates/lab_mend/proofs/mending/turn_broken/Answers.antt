@@ -1,7 +1,7 @@
 use Rattle.std.proofs.Common.{◌≡◌, Some, None, sym, ap, ◌∙◌, arith}
 use Rattle.lab_dump.specs.PageBytes.{page_of}
 use Rattle.lab_mend.specs.declared.pairs.Turn.TheVariants.{One}
-use Rattle.lab_mend.specs.Pairs.{by_pairs, sound_pairs, turn_of, turned_by}
+use Rattle.lab_mend.specs.Pairs.{by_pairs, page_turn_of, sound_pairs, turned_by}
 use Rattle.lab_mend.proofs.PairLemmas.{repaired_by, turn_none, turn_one, turn_two}
 use Rattle.lab_mend.proofs.mending.turn_broken.Goals as goal
 
@@ -21,7 +21,7 @@ returns-then-bits-ge2-clause-turn g c =
 pub returns-then-bits-ge2-clause-after : goal.returns-then-bits-ge2-clause-after
 returns-then-bits-ge2-clause-after g c =
     let p = page_of c.args.geometry.now.data_bytes c.args.bytes.now in
-    let is : Some c.turn_pair.result ≡ turn_of c.args.bits p =
+    let is : Some c.turn_pair.result ≡ page_turn_of c.args.bits p =
     ap Some (c.turn_pair.ensures.turn ∙ ap (λ q. by_pairs (sound_pairs q)) c.in-None.ensures.after) ∙ turn_two c.args.bits p (omega arith) c.requires.broken c.in-None.ensures.turn in
     c.turn_pair.ensures.after ∙ (ap (λ q. turned_by q (Some c.turn_pair.result)) c.in-None.ensures.after ∙ sym (repaired_by c.args.bits p (Some c.turn_pair.result) (sym is)))
 

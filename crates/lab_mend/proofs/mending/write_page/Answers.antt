@@ -3,7 +3,7 @@ use Rattle.page_layout.specs.Page.{page}
 use Rattle.lab_dump.specs.PageBytes.{page_of}
 use Rattle.lab_dump.specs.Rows.{is_asked}
 use Rattle.lab_dump.proofs.PageLemmas.{page_joined}
-use Rattle.lab_mend.specs.Pairs.{turn_of}
+use Rattle.lab_mend.specs.Pairs.{page_turn_of}
 use Rattle.lab_mend.specs.Repairing.{piece_of}
 use Rattle.lab_mend.proofs.RepairedLemmas.{repaired_own, repaired_piece, unasked_own, asked_same, unasked_same, asked_piece, unasked_piece}
 use Rattle.lab_mend.proofs.mending.write_page.Goals as goal
@@ -14,7 +14,7 @@ returns-then-is_asked-clause-turn g c =
     let bits = c.args.asked.bits in
     let is : is_asked c.args.asked.rows c.args.row ≡ true = sym c.is_asked.ensures ∙ c.if-is_asked.true in
     asked_same c.args.asked c.args.row (page c.args.body.now c.args.spare.now) c.repair_page.result is
-    (c.repair_page.ensures.turn ∙ ap (turn_of bits) (ap (page_of d) c.join_page.ensures ∙ page_joined c.args.body.now c.args.spare.now d c.requires.body_whole))
+    (c.repair_page.ensures.turn ∙ ap (page_turn_of bits) (ap (page_of d) c.join_page.ensures ∙ page_joined c.args.body.now c.args.spare.now d c.requires.body_whole))
 
 pub returns-then-is_asked-clause-piece : goal.returns-then-is_asked-clause-piece
 returns-then-is_asked-clause-piece g c =

@@ -2,7 +2,7 @@ use Rattle.std.proofs.Common.{◌≡◌, ℕ, ◌*◌, List, length, map}
 use Rattle.std.specs.Prelude.{vec_capacity}
 use Rattle.page_layout.specs.Geometry.{page_bytes, row_count}
 use Rattle.lab_mend.specs.InStep.{AreAt}
-use Rattle.lab_mend.specs.Merging.{AreListed, AreTried, HasRoom, HasTriedRoom, Shows, Stands, tried_below, unsound_below}
+use Rattle.lab_mend.specs.Merging.{AreListed, AreTried, HasRoom, HasTriedRoom, MergingStands, Shows, tried_below, unsound_below}
 use Rattle.lab_mend.specs.Tried.{IsTrialRoom}
 use Rattle.lab_mend.specs.Merged.{row_of}
 use Rattle.lab_mend.proofs.merge.merge_rows.Given as goal
@@ -12,7 +12,7 @@ invariant-loop-row g l =
     record {
       count : length l.readers ≡ length l.initial.readers;
       room : length l.pages ≡ length l.initial.pages;
-      stands : Stands l.geometry l.row l.merging.conflicts.items l.merging.tally l.merging.scratch.items (g.T.Pieces.pieces l.merging.target);
+      stands : MergingStands l.geometry l.row l.merging.conflicts.items l.merging.tally l.merging.scratch.items (g.T.Pieces.pieces l.merging.target);
       shows : (files : List (List ℕ)) → AreAt (map g.R.DumpReader.remaining l.initial.readers) files 0 → Shows l.geometry (row_of l.geometry files) l.row l.merging.conflicts.items l.merging.tally (g.T.Pieces.pieces l.merging.target);
       unsound : (files : List (List ℕ)) → AreAt (map g.R.DumpReader.remaining l.initial.readers) files 0 → l.merging.unsound.items ≡ unsound_below l.geometry (row_of l.geometry files) l.row;
       listed : AreListed l.row l.merging.unsound.items;

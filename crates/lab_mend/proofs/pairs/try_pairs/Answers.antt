@@ -1,6 +1,6 @@
 use Rattle.std.proofs.Common.{◌≡◌, ◌∙◌, ◌+◌, ◌-◌, ◌++◌, [], refl, sym, ap, subst, arith}
 use Rattle.lab_dump.specs.PageBytes.{page_of, bits_of}
-use Rattle.lab_mend.specs.Bits.{turned_bytes, turned}
+use Rattle.lab_mend.specs.Bits.{turned_bytes, with_bit_turned}
 use Rattle.lab_mend.specs.Pairs.{by_pairs, pairs_with, second_bits, seen_with}
 use Rattle.lab_mend.specs.Seal.{HasTaken}
 use Rattle.lab_mend.proofs.BitLemmas.{back_again, count_page, turned_page}
@@ -48,7 +48,7 @@ loop-low-preserved g c =
     let once : c.try_second-seen.new.bytes ≡ turned_bytes bytes low = c.try_second-seen.ensures.same ∙ turns in
     let back = back_again bytes _ _ low (omega arith) once c.turn-in-loop-low.ensures in
     let rest = pairs_from p (low + 1) (n - (low + 1)) in
-    let page : page_of size c.turn.new.bytes ≡ turned p low = ap (page_of size) turns ∙ sym (turned_page size bytes low (omega arith)) in
+    let page : page_of size c.turn.new.bytes ≡ with_bit_turned p low = ap (page_of size) turns ∙ sym (turned_page size bytes low (omega arith)) in
     record {
       same = back;
       taken = subst (λ b. HasTaken size b (low + 1) c.pass.new.self) back c.pass.ensures;

@@ -1,6 +1,6 @@
 use Rattle.std.proofs.Common.{◌≡◌, ◌∙◌, ◌+◌, ◌-◌, [], ◌++◌, refl, sym, ap, subst, arith}
 use Rattle.lab_dump.specs.PageBytes.{is_sound, page_of, bits_of}
-use Rattle.lab_mend.specs.Bits.{turned_bytes, turned}
+use Rattle.lab_mend.specs.Bits.{turned_bytes, with_bit_turned}
 use Rattle.lab_mend.specs.Pairs.{pairs_with, second_bits, seen_with}
 use Rattle.lab_mend.specs.Seal.{HasTaken}
 use Rattle.lab_mend.proofs.BitLemmas.{back_again, count_page, turned_page}
@@ -49,7 +49,7 @@ loop-high-preserved c =
     let p = page_of size bytes in
     let once : c.turn.new.bytes ≡ turned_bytes bytes high = c.turn.ensures ∙ ap (λ b. turned_bytes b high) inv.same in
     let back = back_again bytes _ _ high (omega arith) once c.turn-in-loop-high.ensures in
-    let tested : is_sound (turned p high) ≡ c.is_sound.result = ap is_sound (turned_page size bytes high (omega arith)) ∙ (ap (λ b. is_sound (page_of size b)) (sym once) ∙ sym c.is_sound.ensures) in
+    let tested : is_sound (with_bit_turned p high) ≡ c.is_sound.result = ap is_sound (turned_page size bytes high (omega arith)) ∙ (ap (λ b. is_sound (page_of size b)) (sym once) ∙ sym c.is_sound.ensures) in
     record {
       same = back;
       taken = subst (λ b. HasTaken size b (high + 1) c.pass.new.self) back c.pass.ensures;

@@ -5,7 +5,7 @@ use Rattle.lab_dump.proofs.ScanLemmas.{if_more}
 use Rattle.lab_mend.specs.declared.repairing.Mend.{Mend}
 use Rattle.lab_mend.specs.declared.repairing.RepairAsked.{RepairAsked}
 use Rattle.lab_mend.proofs.RepairedLemmas.{same_asked}
-use Rattle.lab_mend.specs.Repairing.{Shows, Stands}
+use Rattle.lab_mend.specs.Repairing.{RepairingStands, Shows}
 use Rattle.lab_mend.specs.Repaired.{IsRepaired}
 use Rattle.lab_mend.proofs.RepairingLemmas.{shows_first}
 use Rattle.lab_mend.proofs.RepairedLemmas.{repaired}
@@ -23,7 +23,7 @@ returns-in-Ok-clause-ok g c =
     let pieces = g.T.Pieces.pieces taker.target in
     let asked = c.args.asked in
     let same : taker.asked ≡ asked = same_asked taker.asked asked c.in-Ok.ensures.asked c.in-Ok.ensures.fixed in
-    let stands = subst (λ (r : RepairAsked). Stands geo r (row_count geo) taker.mends.items taker.scratch.items pieces) same c.in-Ok.ensures.stands.0 in
+    let stands = subst (λ (r : RepairAsked). RepairingStands geo r (row_count geo) taker.mends.items taker.scratch.items pieces) same c.in-Ok.ensures.stands.0 in
     let taken = subst (λ (r : RepairAsked). IfSome (g.R.DumpReader.remaining c.args.reader.now) (IsTaken geo (λ image. Shows r (row_count geo) image taker.mends.items pieces))) same c.in-Ok.ensures.taken in
     if_more (g.R.DumpReader.remaining c.args.reader.now) (IsTaken geo (λ image. Shows asked (row_count geo) image taker.mends.items pieces)) (IsRepaired geo asked pieces taker.mends.items) taken
     (λ bytes taken. repaired geo asked taker.mends.items taker.scratch.items pieces bytes stands taken)
@@ -34,5 +34,5 @@ returns-in-Ok-clause-own g c =
     let taker = c.scan.new.taker in
     let pieces = g.T.Pieces.pieces taker.target in
     let same : taker.asked ≡ c.args.asked = same_asked taker.asked c.args.asked c.in-Ok.ensures.asked c.in-Ok.ensures.fixed in
-    let stands = subst (λ (r : RepairAsked). Stands geo r (row_count geo) taker.mends.items taker.scratch.items pieces) same c.in-Ok.ensures.stands.0 in
+    let stands = subst (λ (r : RepairAsked). RepairingStands geo r (row_count geo) taker.mends.items taker.scratch.items pieces) same c.in-Ok.ensures.stands.0 in
     record { listed = stands.listed; own = stands.own }

@@ -1,6 +1,6 @@
 use Rattle.std.proofs.Common.{◌≡◌, ◌+◌, List, ℕ, length, Some}
 use Rattle.page_layout.specs.Geometry.{page_bytes}
-use Rattle.lab_dump.specs.Told.{told_of}
+use Rattle.lab_dump.specs.Told.{pages_told_of}
 use Rattle.lab_shapes.specs.Ordered.{ordered}
 use Rattle.lab_shapes.proofs.looking.told_in_order.Given as goal
 
@@ -9,5 +9,5 @@ invariant-loop-row g l = record {
   raw_room : length l.raw ≡ page_bytes l.geometry + 2;
   page_room : length l.page ≡ page_bytes l.geometry;
   same : g.D.Dump.bytes l.dump ≡ g.D.Dump.bytes l.fn.dump;
-  told : (all : List ℕ) → g.D.Dump.bytes l.fn.dump ≡ Some all → l.size ≡ length all → l.told ≡ told_of l.geometry.data_bytes l.geometry.spare_bytes l.row (ordered l.geometry l.arrangement all);
+  told : (all : List ℕ) → g.D.Dump.bytes l.fn.dump ≡ Some all → l.size ≡ length all → l.told ≡ pages_told_of l.geometry.data_bytes l.geometry.spare_bytes l.row (ordered l.geometry l.arrangement all);
 }

@@ -1,5 +1,5 @@
-use Rattle.std.proofs.Common.{◌≡◌, ◌∙◌, List, ℕ, Some, length}
-use Rattle.lab_shapes.specs.Planes.{IsInTurns, IsTurnedOf}
+use Rattle.std.proofs.Common.{◌≡◌, ◌∙◌, List, ℕ, Some}
+use Rattle.lab_shapes.specs.Planes.{IsTurnedOf}
 use Rattle.lab_shapes.proofs.PlaneLemmas.{for_numbers, turned_map}
 use Rattle.lab_shapes.proofs.planes.find_planes.Goals as goal
 

@@ -1,7 +1,7 @@
 use Rattle.std.proofs.Common.{Err, refl, sym, subst, ap, inl, inr}
 use Rattle.std.proofs.lemmas.Result.{err_from_is_err_and}
 use Rattle.request_stream.specs.declared.reply.ServeFault.{ServeFault}
-use Rattle.nbd_stream.specs.Streams.{HasFailed}
+use Rattle.nbd_stream.specs.Streams.{HasStreamFailed}
 use Rattle.nbd_stream.proofs.StreamEnds.{stop_later}
 use Rattle.nbd_stream.proofs.negotiation.negotiate.Goals as goal
 
@@ -30,13 +30,13 @@ pub returns-in_err-send_parts-clause-stops : goal.returns-in_err-send_parts-clau
 returns-in_err-send_parts-clause-stops g c =
     let p = err_from_is_err_and c.from_residual.result c.from_residual.ensures.1 in
     let stopped = c.in_err-send_parts.ensures.sends in
-    rw (p.1, p.2) (inl (subst (λ f. HasFailed g.R.Incoming.fails g.W.Outgoing.fails c.args.reader.now c.send_parts.new.writer f) (sym stopped.0) c.in_err-send_parts.ensures.fails))
+    rw (p.1, p.2) (inl (subst (λ f. HasStreamFailed g.R.Incoming.fails g.W.Outgoing.fails c.args.reader.now c.send_parts.new.writer f) (sym stopped.0) c.in_err-send_parts.ensures.fails))
 
 pub returns-in_err-end-clause-stops : goal.returns-in_err-end-clause-stops
 returns-in_err-end-clause-stops g c =
     let p = err_from_is_err_and c.from_residual-in_err-end.result c.from_residual-in_err-end.ensures.1 in
     let unread = c.in_err-end.ensures.reads in
-    rw (p.1, p.2) (inl (subst (λ f. HasFailed g.R.Incoming.fails g.W.Outgoing.fails c.read_flags.new.reader c.send_parts.new.writer f) (sym unread.0) c.in_err-end.ensures.fails))
+    rw (p.1, p.2) (inl (subst (λ f. HasStreamFailed g.R.Incoming.fails g.W.Outgoing.fails c.read_flags.new.reader c.send_parts.new.writer f) (sym unread.0) c.in_err-end.ensures.fails))
 
 pub returns-in-NoZeroes-clause-stops : goal.returns-in-NoZeroes-clause-stops
 returns-in-NoZeroes-clause-stops g c =

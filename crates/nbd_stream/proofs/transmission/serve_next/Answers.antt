@@ -1,6 +1,6 @@
 use Rattle.std.proofs.Common.{refl, subst, sym}
 use Rattle.std.proofs.lemmas.Result.{err_from_is_err_and}
-use Rattle.nbd_stream.specs.Streams.{HasFailed}
+use Rattle.nbd_stream.specs.Streams.{HasStreamFailed}
 use Rattle.nbd_stream.proofs.ThroughLemmas.{joined, no_change, none}
 use Rattle.nbd_stream.proofs.Serving.{next_served, next_unsent}
 use Rattle.nbd_stream.proofs.transmission.serve_next.Goals as goal
@@ -39,7 +39,7 @@ pub returns-in_err-end-clause-fails : goal.returns-in_err-end-clause-fails
 returns-in_err-end-clause-fails g c =
     let p = err_from_is_err_and c.from_residual.result c.from_residual.ensures.1 in
     let unread = c.in_err-end.ensures.reads in
-    rw (p.1, p.2) (subst (λ f. HasFailed g.R.Incoming.fails g.W.Outgoing.fails c.read_request.new.reader c.args.writer.now f) (sym unread.0) c.in_err-end.ensures.fails)
+    rw (p.1, p.2) (subst (λ f. HasStreamFailed g.R.Incoming.fails g.W.Outgoing.fails c.read_request.new.reader c.args.writer.now f) (sym unread.0) c.in_err-end.ensures.fails)
 
 pub returns-in_err-answer-in-Whole-clause-fails : goal.returns-in_err-answer-in-Whole-clause-fails
 returns-in_err-answer-in-Whole-clause-fails g c =
@@ -47,4 +47,4 @@ returns-in_err-answer-in-Whole-clause-fails g c =
     let p = err_from_is_err_and c.from_residual-in_err-answer-in-Whole.result c.from_residual-in_err-answer-in-Whole.ensures.1 in
     let unsent = c.in_err-answer-in-Whole.ensures.replies whole.0 whole.1 whole.3 in
     let is = unsent.sends in
-    rw (p.1, p.2) (subst (λ f. HasFailed g.R.Incoming.fails g.W.Outgoing.fails c.read_request.new.reader c.answer.new.writer f) (sym is.0) c.in_err-answer-in-Whole.ensures.fails)
+    rw (p.1, p.2) (subst (λ f. HasStreamFailed g.R.Incoming.fails g.W.Outgoing.fails c.read_request.new.reader c.answer.new.writer f) (sym is.0) c.in_err-answer-in-Whole.ensures.fails)

@@ -2,17 +2,17 @@ use Rattle.std.proofs.Common.{◌≡◌, ◌≤◌, ◌-◌, true, Some, None, O
 use Rattle.allocation.specs.State.{is_closed}
 use Rattle.collection.specs.Safe.{ram, image_in}
 use Rattle.collection.specs.Truth.{IsTrue}
-use Rattle.collection.specs.Acts.{Acts}
+use Rattle.collection.specs.Acts.{EngineActs}
 use Rattle.collection.specs.Results.{Goes}
 use Rattle.collection.specs.Collect.{KeepsKeys, Refreshes}
 use Rattle.collection.specs.Left.{HasPassed}
 use Rattle.collection.specs.Whole.{HasRead, IsUnderWay}
-use Rattle.collection.specs.Stops.{IsLeft, Stops}
+use Rattle.collection.specs.Stops.{IsLeftByStop, Stops}
 use Rattle.collection.proofs.engine.Engine.collect_from.Given as goal
 
 abbrev pub invariant-steps : goal.invariant-steps
 invariant-steps g l = record {
-  acts : Acts {A = Unit {0}} g.N.PageSource.flash g.N.PageSource.recorded g.N.PageSource.honest g.N.PageSource.calm g.N.PageSource.failed l.fn.self l.self (Ok tt);
+  acts : EngineActs {A = Unit {0}} g.N.PageSource.flash g.N.PageSource.recorded g.N.PageSource.honest g.N.PageSource.calm g.N.PageSource.failed l.fn.self l.self (Ok tt);
   goes : Goes (ram l.fn.self) (ram l.self);
   as_erased : g.N.PageSource.erases l.self.nand ≡ g.N.PageSource.erases l.fn.self.nand;
   keys : KeepsKeys l.fn.self.mapping l.self.mapping;
@@ -23,7 +23,7 @@ invariant-steps g l = record {
   reads : HasRead l.flushing l.fn.pinned.first l.first (ram l.fn.self) (ram l.self) (g.N.PageSource.reads l.fn.self.nand) (g.N.PageSource.reads l.self.nand);
   under_way : IsUnderWay l.flushing l.fn.pinned.block l.first (ram l.fn.self) (ram l.self) ((g.N.PageSource.honest l.fn.self.nand ≡ true) × IsTrue None (ram l.fn.self) (image_in g.N.PageSource.flash l.fn.self) × HasPassed (ram l.fn.self) (image_in g.N.PageSource.flash l.fn.self) l.fn.pinned) (image_in g.N.PageSource.flash l.fn.self) (image_in g.N.PageSource.flash l.self);
   stops : g.N.PageSource.honest l.fn.self.nand ≡ true → IsTrue None (ram l.fn.self) (image_in g.N.PageSource.flash l.fn.self) → HasPassed (ram l.fn.self) (image_in g.N.PageSource.flash l.fn.self) l.fn.pinned
-      → Stops g.N.PageSource.flash g.N.PageSource.recorded (IsLeft (ram l.fn.self) (image_in g.N.PageSource.flash l.fn.self) (image_in g.N.PageSource.flash l.self)) l.fn.self l.self;
+      → Stops g.N.PageSource.flash g.N.PageSource.recorded (IsLeftByStop (ram l.fn.self) (image_in g.N.PageSource.flash l.fn.self) (image_in g.N.PageSource.flash l.self)) l.fn.self l.self;
 }
 
 abbrev pub decreases-steps : goal.decreases-steps

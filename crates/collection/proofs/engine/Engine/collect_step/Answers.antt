@@ -5,7 +5,7 @@ use Rattle.page_layout.specs.Geometry.{translation_pages}
 use Rattle.collection.specs.State.{Ram}
 use Rattle.collection.specs.Safe.{ram, image_in}
 use Rattle.collection.specs.Truth.{IsTrue}
-use Rattle.collection.specs.Results.{Goes, IsKept}
+use Rattle.collection.specs.Results.{Goes, IsImageKept}
 use Rattle.collection.specs.Collect.{HasWritten, HasErased, HasNoneDue, due_count}
 use Rattle.collection.proofs.Acts.{acts_then, acts_ok, acts_err}
 use Rattle.collection.proofs.Looks.{none_from}
@@ -13,7 +13,7 @@ use Rattle.collection.proofs.Steps.{at_start, err_same, goes_but, found_none, no
 use Rattle.collection.proofs.Stops.{stops_then, fault_not_bus, IsSized}
 use Rattle.collection.proofs.Looks.{ok_not_bus}
 use Rattle.collection.proofs.Costs.{not_bus}
-use Rattle.collection.specs.Stops.{Stops, IsLeft}
+use Rattle.collection.specs.Stops.{Stops, IsLeftByStop}
 use Rattle.collection.proofs.engine.Engine.collect_step.Goals as goal
 
 -- ---- a translation page could not be written
@@ -102,7 +102,7 @@ returns-clause-truth g c = λ honest w none_below.
     let first = found_none c.args.block (ram c.args.self.now) (ram c.copy_lowest.new.self) _ _ c.in_ok-copied.copied (c.in_ok-copied.ensures.truth honest w none_below) is_none in
     let held = none_now c.args.block (ram c.args.self.now) (ram c.copy_lowest.new.self) _ _ same c.copy_lowest.ensures.goes c.requires.closed c.requires.block first in
     let kept = c.in_ok-erase_block.ensures.truth (c.write_back_lowest.ensures.acts.honest_is ∙ (c.copy_lowest.ensures.acts.honest_is ∙ honest)) (subst (λ e. IsTrue None (ram e) (image_in g.N.PageSource.flash e)) (sym none.1) first.0.truth) (subst (λ e. HoldsNone (ram e).geometry.pages c.args.block (image_in g.N.PageSource.flash e)) (sym none.1) held) in
-    emptied_erased c.args.block (ram c.args.self.now) (ram c.copy_lowest.new.self) _ _ same c.copy_lowest.ensures.goes c.requires.closed c.requires.block first (ram c.erase_block.new.self) _ c.erase_block.ensures.acts.safe.memory (c.erase_block.ensures.goes.geometry ∙ ap (λ e. (ram e).geometry) none.1) (subst (λ e. IsKept (ram e) (image_in g.N.PageSource.flash e) (ram c.erase_block.new.self) (image_in g.N.PageSource.flash c.erase_block.new.self)) none.1 kept)
+    emptied_erased c.args.block (ram c.args.self.now) (ram c.copy_lowest.new.self) _ _ same c.copy_lowest.ensures.goes c.requires.closed c.requires.block first (ram c.erase_block.new.self) _ c.erase_block.ensures.acts.safe.memory (c.erase_block.ensures.goes.geometry ∙ ap (λ e. (ram e).geometry) none.1) (subst (λ e. IsImageKept (ram e) (image_in g.N.PageSource.flash e) (ram c.erase_block.new.self) (image_in g.N.PageSource.flash c.erase_block.new.self)) none.1 kept)
 
 -- ---- what a stop leaves
 
@@ -147,4 +147,4 @@ returns-clause-stops g c = λ honest w none_in ne.
     let now = c.copy_lowest.ensures.acts.honest_is ∙ honest in
     let held = none_now c.args.block (ram c.args.self.now) (ram c.copy_lowest.new.self) _ _ same c.copy_lowest.ensures.goes c.requires.closed c.requires.block first in
     let erased = c.in_ok-erase_block.ensures.stops (c.write_back_lowest.ensures.acts.honest_is ∙ now) (subst (λ e. IsTrue None (ram e) (image_in g.N.PageSource.flash e)) (sym none.1) first.0.truth) (subst (λ e. HoldsNone (ram e).geometry.pages c.args.block (image_in g.N.PageSource.flash e)) (sym none.1) held) (ok_not_bus _) in
-    stops_then (ram c.args.self.now) (ram c.copy_lowest.new.self) _ _ _ _ _ _ sized first.0.array (c.in_ok-copied.ensures.stops honest w (ok_not_bus _)) (subst (λ e. Stops g.N.PageSource.flash g.N.PageSource.recorded (IsLeft (ram e) (image_in g.N.PageSource.flash e) (image_in g.N.PageSource.flash c.erase_block.new.self)) e c.erase_block.new.self) none.1 erased)
+    stops_then (ram c.args.self.now) (ram c.copy_lowest.new.self) _ _ _ _ _ _ sized first.0.array (c.in_ok-copied.ensures.stops honest w (ok_not_bus _)) (subst (λ e. Stops g.N.PageSource.flash g.N.PageSource.recorded (IsLeftByStop (ram e) (image_in g.N.PageSource.flash e) (image_in g.N.PageSource.flash c.erase_block.new.self)) e c.erase_block.new.self) none.1 erased)

@@ -1,5 +1,5 @@
 use Rattle.std.proofs.Common.{false, [], subst, sym}
-use Rattle.nbd_stream.specs.Disk.{Performs, answer_from}
+use Rattle.nbd_stream.specs.Disk.{PerformsTask, answer_from}
 use Rattle.nbd_stream.specs.declared.task.Task.TheVariants as task
 use Rattle.disk_server.specs.Disk.{contents_of, holds, flush_answer}
 use Rattle.disk_server.proofs.Calls.{flush_disk, flush_performs}
@@ -11,9 +11,9 @@ invariant_of-self g c = flush_disk g.N.PageSource.flash g.N.PageSource.recorded 
 
 pub returns-clause-performs : goal.returns-clause-performs
 returns-clause-performs g c =
-    subst (λ r. Performs (contents_of g.N.PageSource.flash g.N.PageSource.honest) (holds g.N.PageSource.honest) (λ d. false) task.Flush [] c.args.self.now
+    subst (λ r. PerformsTask (contents_of g.N.PageSource.flash g.N.PageSource.honest) (holds g.N.PageSource.honest) (λ d. false) task.Flush [] c.args.self.now
     (answer_from r []) c.flush.new.self) (sym c.flush_answer.ensures)
-    (subst (λ d. Performs (contents_of g.N.PageSource.flash g.N.PageSource.honest) (holds g.N.PageSource.honest) (λ d. false) task.Flush [] d
+    (subst (λ d. PerformsTask (contents_of g.N.PageSource.flash g.N.PageSource.honest) (holds g.N.PageSource.honest) (λ d. false) task.Flush [] d
     (answer_from (flush_answer c.flush.result) []) c.flush.new.self) c.self.view_is
     (flush_performs g.N.PageSource.flash g.N.PageSource.recorded g.N.PageSource.honest g.N.PageSource.calm g.N.PageSource.failed
     c.self.inside.device c.flush.new.self c.flush.result c.self.invariant c.flush.ensures.upkeeps c.flush.ensures.geometry c.flush.ensures.device))

@@ -1,6 +1,6 @@
 use Rattle.std.proofs.Common.{◌≡◌, ◌<◌, ◌*◌, ◌∙◌, false, [], ap, length, rules, subst, sym}
 use Rattle.std.specs.Prelude.{IsOk}
-use Rattle.nbd_stream.specs.Disk.{Performs, answer_from}
+use Rattle.nbd_stream.specs.Disk.{PerformsTask, answer_from}
 use Rattle.nbd_stream.specs.declared.task.Task.TheVariants as task
 use Rattle.collection.specs.Safe.{page_in}
 use Rattle.disk_server.specs.Disk.{contents_of, holds, read_answer}
@@ -18,10 +18,10 @@ returns-clause-performs g c =
     let same : length c.read.new.out ≡ length c.args.buffer.now = search rules in
     let whole : length c.read.new.out ≡ c.self.inside.device.engine.geometry.data_bytes =
     same ∙ c.requires.whole ∙ ap (λ d. d.engine.geometry.data_bytes) (sym c.self.view_is) in
-    subst (λ r. Performs (contents_of g.N.PageSource.flash g.N.PageSource.honest) (holds g.N.PageSource.honest) (λ d. false)
+    subst (λ r. PerformsTask (contents_of g.N.PageSource.flash g.N.PageSource.honest) (holds g.N.PageSource.honest) (λ d. false)
     (task.Read (c.args.sector * c.args.self.now.engine.geometry.data_bytes) c.args.self.now.engine.geometry.data_bytes) [] c.args.self.now
     (answer_from r c.read.new.out) c.read.new.self) (sym c.read_answer.ensures)
-    (subst (λ d. Performs (contents_of g.N.PageSource.flash g.N.PageSource.honest) (holds g.N.PageSource.honest) (λ d. false)
+    (subst (λ d. PerformsTask (contents_of g.N.PageSource.flash g.N.PageSource.honest) (holds g.N.PageSource.honest) (λ d. false)
     (task.Read (c.args.sector * d.engine.geometry.data_bytes) d.engine.geometry.data_bytes) [] d
     (answer_from (read_answer c.read.result) c.read.new.out) c.read.new.self) c.self.view_is
     (read_performs g.N.PageSource.flash g.N.PageSource.honest c.args.sector c.self.inside.device c.read.new.self c.read.result

@@ -1,5 +1,5 @@
 use Rattle.std.proofs.Common.{◌<◌, ◌*◌, false, [], subst, sym}
-use Rattle.nbd_stream.specs.Disk.{Performs, answer_from}
+use Rattle.nbd_stream.specs.Disk.{PerformsTask, answer_from}
 use Rattle.nbd_stream.specs.declared.task.Task.TheVariants as task
 use Rattle.page_layout.specs.Array.{zeros}
 use Rattle.promises.specs.Step.{Trim}
@@ -15,16 +15,16 @@ invariant_of-self g c = changed_disk g.N.PageSource.flash g.N.PageSource.recorde
 pub returns-clause-performs : goal.returns-clause-performs
 returns-clause-performs g c =
     let within : c.args.sector < c.self.inside.device.engine.geometry.sectors = subst (λ d. c.args.sector < d.engine.geometry.sectors) (sym c.self.view_is) c.requires.within in
-    let here : Performs (contents_of g.N.PageSource.flash g.N.PageSource.honest) (holds g.N.PageSource.honest) (λ d. false)
+    let here : PerformsTask (contents_of g.N.PageSource.flash g.N.PageSource.honest) (holds g.N.PageSource.honest) (λ d. false)
     (task.Trim (c.args.sector * c.self.inside.device.engine.geometry.data_bytes) c.self.inside.device.engine.geometry.data_bytes false) [] c.self.inside.device
     (answer_from (change_answer c.trim.result) []) c.trim.new.self =
     trim_performs g.N.PageSource.flash g.N.PageSource.recorded g.N.PageSource.honest g.N.PageSource.calm g.N.PageSource.failed
     c.args.sector c.self.inside.device c.trim.new.self c.trim.result c.self.invariant within c.trim.ensures.changes
     c.trim.ensures.geometry c.trim.ensures.device in
-    subst (λ r. Performs (contents_of g.N.PageSource.flash g.N.PageSource.honest) (holds g.N.PageSource.honest) (λ d. false)
+    subst (λ r. PerformsTask (contents_of g.N.PageSource.flash g.N.PageSource.honest) (holds g.N.PageSource.honest) (λ d. false)
     (task.Trim (c.args.sector * c.args.self.now.engine.geometry.data_bytes) c.args.self.now.engine.geometry.data_bytes false) [] c.args.self.now
     (answer_from r []) c.trim.new.self) (sym c.change_answer.ensures)
-    (subst (λ d. Performs (contents_of g.N.PageSource.flash g.N.PageSource.honest) (holds g.N.PageSource.honest) (λ d. false)
+    (subst (λ d. PerformsTask (contents_of g.N.PageSource.flash g.N.PageSource.honest) (holds g.N.PageSource.honest) (λ d. false)
     (task.Trim (c.args.sector * d.engine.geometry.data_bytes) d.engine.geometry.data_bytes false) [] d
     (answer_from (change_answer c.trim.result) []) c.trim.new.self) c.self.view_is here)
 

@@ -1,5 +1,5 @@
 use Rattle.std.proofs.Common.{◌≡◌, ◌<◌, ◌*◌, ◌∙◌, false, [], length, subst, sym, ap}
-use Rattle.nbd_stream.specs.Disk.{Performs, answer_from}
+use Rattle.nbd_stream.specs.Disk.{PerformsTask, answer_from}
 use Rattle.nbd_stream.specs.declared.task.Task.TheVariants as task
 use Rattle.promises.specs.Step.{Write}
 use Rattle.disk_server.specs.Disk.{KeepsOnError, contents_of, holds, change_answer}
@@ -15,16 +15,16 @@ pub returns-clause-performs : goal.returns-clause-performs
 returns-clause-performs g c =
     let within : c.args.sector < c.self.inside.device.engine.geometry.sectors = subst (λ d. c.args.sector < d.engine.geometry.sectors) (sym c.self.view_is) c.requires.within in
     let whole : length c.args.bytes.now ≡ c.self.inside.device.engine.geometry.data_bytes = c.requires.whole ∙ ap (λ d. d.engine.geometry.data_bytes) (sym c.self.view_is) in
-    let here : Performs (contents_of g.N.PageSource.flash g.N.PageSource.honest) (holds g.N.PageSource.honest) (λ d. false)
+    let here : PerformsTask (contents_of g.N.PageSource.flash g.N.PageSource.honest) (holds g.N.PageSource.honest) (λ d. false)
     (task.Write (c.args.sector * c.self.inside.device.engine.geometry.data_bytes) c.self.inside.device.engine.geometry.data_bytes false) c.args.bytes.now c.self.inside.device
     (answer_from (change_answer c.write.result) []) c.write.new.self =
     write_performs g.N.PageSource.flash g.N.PageSource.recorded g.N.PageSource.honest g.N.PageSource.calm g.N.PageSource.failed
     c.args.sector c.args.bytes.now c.self.inside.device c.write.new.self c.write.result c.self.invariant within whole c.write.ensures.changes
     c.write.ensures.geometry c.write.ensures.device in
-    subst (λ r. Performs (contents_of g.N.PageSource.flash g.N.PageSource.honest) (holds g.N.PageSource.honest) (λ d. false)
+    subst (λ r. PerformsTask (contents_of g.N.PageSource.flash g.N.PageSource.honest) (holds g.N.PageSource.honest) (λ d. false)
     (task.Write (c.args.sector * c.args.self.now.engine.geometry.data_bytes) c.args.self.now.engine.geometry.data_bytes false) c.args.bytes.now c.args.self.now
     (answer_from r []) c.write.new.self) (sym c.change_answer.ensures)
-    (subst (λ d. Performs (contents_of g.N.PageSource.flash g.N.PageSource.honest) (holds g.N.PageSource.honest) (λ d. false)
+    (subst (λ d. PerformsTask (contents_of g.N.PageSource.flash g.N.PageSource.honest) (holds g.N.PageSource.honest) (λ d. false)
     (task.Write (c.args.sector * d.engine.geometry.data_bytes) d.engine.geometry.data_bytes false) c.args.bytes.now d
     (answer_from (change_answer c.write.result) []) c.write.new.self) c.self.view_is here)
 

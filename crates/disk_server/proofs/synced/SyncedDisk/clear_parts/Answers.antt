@@ -1,6 +1,6 @@
 use Rattle.std.proofs.Common.{rules, ◌≡◌, ◌∙◌, ◌≤◌, ◌+◌, inl, inr, ℕ, Ok, Err, [], false, ap, add-zero, refl, subst, zero-add, arith}
 use Rattle.nbd_stream.specs.declared.task.Task.TheVariants.{Trim}
-use Rattle.nbd_stream.specs.Disk.{Performs, error_for}
+use Rattle.nbd_stream.specs.Disk.{PerformsTask, error_for}
 use Rattle.disk_server.proofs.Joining.{writes_trim}
 use Rattle.disk_server.proofs.Fronts.{nothing_set, zeros_stopped, zeros_written}
 use Rattle.nbd_stream.proofs.ThroughLemmas.{joined, none, once}
@@ -15,7 +15,7 @@ loop-done-preserved g c =
     let m : ℕ = c.min-taken.result in
     let within : k + m ≤ c.args.count = omega (arith, inv.0, c.min-taken.ensures) in
     let place : c.from-in-loop-done.result ≡ k = search rules in
-    let part = subst (λ n. Performs (λ s. g.D.Disk.contents s.disk) (λ s. g.D.Disk.honest s.disk) (λ _. false) (Trim (c.args.offset + n) m false) [] c.loop-done.self (Ok []) c.clear_part-in-loop-done.new.self) place
+    let part = subst (λ n. PerformsTask (λ s. g.D.Disk.contents s.disk) (λ s. g.D.Disk.honest s.disk) (λ _. false) (Trim (c.args.offset + n) m false) [] c.loop-done.self (Ok []) c.clear_part-in-loop-done.new.self) place
     c.in-Ok.ensures.performs in
     let settled = subst (λ n. HasSynced g.Y.Syncs.synced false (after_change (c.args.offset + n) m c.loop-done.self) c.clear_part-in-loop-done.new.self) place c.in-Ok.ensures.synced in (
       within,
@@ -37,7 +37,7 @@ returns-in-Err-clause-performs g c =
     let m : ℕ = c.min-taken.result in
     let within : k + m ≤ c.args.count = omega (arith, inv.0, c.min-taken.ensures) in
     let place : c.from-in-loop-done.result ≡ k = search rules in
-    let part = subst (λ n. Performs (λ s. g.D.Disk.contents s.disk) (λ s. g.D.Disk.honest s.disk) (λ _. false) (Trim (c.args.offset + n) m false) [] c.loop-done.self (Err (error_for c.in-Err.fault))
+    let part = subst (λ n. PerformsTask (λ s. g.D.Disk.contents s.disk) (λ s. g.D.Disk.honest s.disk) (λ _. false) (Trim (c.args.offset + n) m false) [] c.loop-done.self (Err (error_for c.in-Err.fault))
     c.clear_part-in-loop-done.new.self) place c.in-Err.ensures.performs in
     writes_trim (λ s. g.D.Disk.contents s.disk) (λ s. g.D.Disk.honest s.disk) (λ _. false) c.args.offset c.args.count false c.args.self.now c.clear_part-in-loop-done.new.self (Err (error_for c.in-Err.fault))
     (zeros_stopped (λ s. g.D.Disk.contents s.disk) (λ s. g.D.Disk.honest s.disk) (λ _. false) c.args.count c.args.offset k m

@@ -1,5 +1,5 @@
 use Rattle.std.proofs.Common.{◌≡◌, ◌-◌, ◌≤◌, false, [], replicate, Ok}
-use Rattle.nbd_stream.specs.Disk.{Performs}
+use Rattle.nbd_stream.specs.Disk.{PerformsTask}
 use Rattle.nbd_stream.specs.declared.task.Task.TheVariants.{Write}
 use Rattle.nbd_stream.specs.Through.{Through}
 use Rattle.disk_server.specs.Synced.{ClearsPart, KeepsCount, NoneFailed}
@@ -8,7 +8,7 @@ use Rattle.disk_server.proofs.synced.SyncedDisk.clear_parts.Given as goal
 
 abbrev pub invariant-loop-done : goal.invariant-loop-done
 invariant-loop-done g l = (l.done ≤ l.count) × KeepsCount g.Y.Syncs.synced l.fn.self l.self × Counted g.Y.Syncs.synced l.offset l.done l.fn.self l.self
-    × Performs (λ s. g.D.Disk.contents s.disk) (λ s. g.D.Disk.honest s.disk) (λ _. false) (Write l.offset l.done false) (replicate l.done 0) l.fn.self (Ok []) l.self
+    × PerformsTask (λ s. g.D.Disk.contents s.disk) (λ s. g.D.Disk.honest s.disk) (λ _. false) (Write l.offset l.done false) (replicate l.done 0) l.fn.self (Ok []) l.self
     × NoneFailed g.Y.Syncs.failed l.fn.self l.self
     × Through (ClearsPart g.D.Disk.does l.offset l.count) l.fn.self.disk l.self.disk
     × ((g.Y.Syncs.marked l.self.syncs).flushed ≡ (g.Y.Syncs.marked l.fn.self.syncs).flushed)

@@ -1,6 +1,6 @@
 use Rattle.std.proofs.Common.{◌∙◌, Ok, Err, [], false, inl, refl, subst, sym}
 use Rattle.nbd_stream.specs.declared.task.Task.TheVariants as task
-use Rattle.nbd_stream.specs.Disk.{Performs, answer_from, error_for}
+use Rattle.nbd_stream.specs.Disk.{PerformsTask, answer_from, error_for}
 use Rattle.nbd_stream.specs.Through.{Through}
 use Rattle.disk_server.specs.Synced.{ClearsPart}
 use Rattle.disk_server.proofs.SyncLemmas.{unflushed}
@@ -13,7 +13,7 @@ returns-then-self-clause-does g c = refused g.D.Disk.does g.Y.Syncs.synced g.Y.S
 pub returns-in-Ok-clause-performs : goal.returns-in-Ok-clause-performs
 returns-in-Ok-clause-performs g c =
     joined_call g.D.Disk.contents g.D.Disk.honest (λ _. false) (task.Trim c.args.offset c.args.count c.args.durable) [] c.args.self.now c.settle.new.self (answer_from c.settle.result [])
-    (subst (λ d. Performs g.D.Disk.contents g.D.Disk.honest (λ _. false) (task.Trim c.args.offset c.args.count c.args.durable) [] c.args.self.now.disk (answer_from c.settle.result []) d) (sym c.settle.ensures.disk)
+    (subst (λ d. PerformsTask g.D.Disk.contents g.D.Disk.honest (λ _. false) (task.Trim c.args.offset c.args.count c.args.durable) [] c.args.self.now.disk (answer_from c.settle.result []) d) (sym c.settle.ensures.disk)
     (and_synced g.D.Disk.contents g.D.Disk.honest (λ _. false) (task.Trim c.args.offset c.args.count c.args.durable) [] c.args.self.now.disk c.clear_parts.new.self.disk c.settle.result c.settle.ensures.fault (inl refl) refl
     (lasting_trim g.D.Disk.contents g.D.Disk.honest (λ _. false) g.met.D.LastingDisk.lasts c.args.offset c.args.count c.args.durable c.args.self.now.disk c.clear_parts.new.self.disk (Ok [])
     (as_disk g.D.Disk.contents g.D.Disk.honest (task.Trim c.args.offset c.args.count false) [] c.args.self.now c.clear_parts.new.self (Ok []) c.in-Ok.ensures.performs))))

@@ -1,7 +1,7 @@
 use Rattle.std.proofs.Common.{◌∙◌, List, ℕ, Option, sym, ap, subst, set, ◌+◌}
 use Rattle.std.specs.Prelude.{option_map}
 use Rattle.lab_mend.specs.declared.repairing.Mend.{Mend}
-use Rattle.lab_mend.specs.Repairing.{noted, Shows, Stands}
+use Rattle.lab_mend.specs.Repairing.{noted, RepairingStands, Shows}
 use Rattle.lab_mend.proofs.RepairingLemmas.{room_more, stands_more, shows_more}
 use Rattle.lab_mend.proofs.repairing.Repairing.write.Goals as goal
 
@@ -12,8 +12,8 @@ returns-in-Ok-clause-stands g c =
     let s = c.args.self.now in
     let pieces = g.T.Pieces.pieces s.target in
     let more = stands_more geo s.asked row s.mends.items c.args.turn s.scratch.items pieces c.requires.row_in c.requires.stands c.requires.own in
-    let P : List Mend → Type 0 = λ ms. Stands geo s.asked (row + 1) ms s.scratch.items (option_map (λ ps. set ps row s.scratch.items) pieces) in
-    let Q : Option (List (List ℕ)) → Type 0 = λ ps. Stands geo s.asked (row + 1) c.list_mend.new.mends.items s.scratch.items ps in
+    let P : List Mend → Type 0 = λ ms. RepairingStands geo s.asked (row + 1) ms s.scratch.items (option_map (λ ps. set ps row s.scratch.items) pieces) in
+    let Q : Option (List (List ℕ)) → Type 0 = λ ps. RepairingStands geo s.asked (row + 1) c.list_mend.new.mends.items s.scratch.items ps in
     subst Q (sym (c.in-Ok.ensures.written ∙ ap (λ bytes. option_map (λ ps. set ps row bytes) pieces) c.deref.ensures.value)) (subst P (sym c.list_mend.ensures.noted) more)
 
 pub returns-in-Ok-clause-shows : goal.returns-in-Ok-clause-shows
