@@ -107,8 +107,8 @@ def refusals(folder):
         ([shape, "dump.bin", "out.bin", "--from", "cut=24577"], (1, "", "refused arrange 3 CutRange\n")),
         ([shape, "dump.bin", "out.bin"], (1, "", "refused arrange 1 WrongLength wanted 24576 found 1\n")),
         ([shape, "dump.bin", "./dump.bin", "--force"], (1, "", "refused out 1 IsDump\n")),
-        ([shape, "none.bin", "out.bin"], (3, "", "fault read none.bin\n")),
-        ([shape, "dump.bin", "none/out.bin"], (3, "", "fault write none/out.bin\n")),
+        ([shape, "none.bin", "out.bin"], lab.failed("fault read none.bin")),
+        ([shape, "dump.bin", "none/out.bin"], lab.failed("fault write none/out.bin")),
         ([shape, "dump.bin"], (2, "", lab.NONE)),
     ]:
         answer = lab.run(["arrange", *words], folder)

@@ -28,6 +28,7 @@ import nbd
 GEOMETRY = "512,32,8,48,150"
 SIZE = 150 * 512
 MOST_KIB = 65536
+FIRST = "the system's first error: "
 
 
 def told(command, **words):
@@ -35,9 +36,12 @@ def told(command, **words):
     return done.returncode, done.stderr.decode()
 
 
-def hold(command, status, line):
-    found = told(command, stdin=subprocess.DEVNULL)
-    assert found == (status, line + "\n"), (command[1:], found)
+def hold(command, status, line, words=None):
+    """One line is told, and behind it, where a file failed, the system's first error, in these words where they are given."""
+    found, said = told(command, stdin=subprocess.DEVNULL)
+    said, behind, first = said.partition(FIRST)
+    assert (found, said, behind != "") == (status, line + "\n", status == 3), (command[1:], found, said)
+    assert words is None or first == words + "\n", (command[1:], first)
 
 
 def start(command):
@@ -61,7 +65,7 @@ def refused_files(program, folder):
     client.shutdown()
     server.wait()
     image = open(path, "rb").read()
-    hold([program, "serve", path + "x"], 3, f"fault read {path}x")
+    hold([program, "serve", path + "x"], 3, f"fault read {path}x", "No such file or directory (os error 2)")
     for text, why in (
         (b"", "not JSON"),
         (b"[]", "no object"),
@@ -267,7 +271,7 @@ def failed_syncs(program, folder):
     assert failed == ["EIO"] * 5, failed
     client.shutdown()
     assert server.wait() == 3
-    assert server.stderr.read().decode() == f"fault serve: {path} failed\n"
+    assert server.stderr.read().decode() == f"fault serve: {path} failed\n{FIRST}Input/output error (os error 5)\n"
 
 
 def file_systems(program, folder):
@@ -277,11 +281,11 @@ def file_systems(program, folder):
     subprocess.run(["mount", "-t", "tmpfs", "-o", "size=1m", "none", mounted], check=True)
     try:
         path = os.path.join(mounted, "c.nand")
-        hold([program, "create", "--size", "4M", path], 3, f"fault write {path}")
+        hold([program, "create", "--size", "4M", path], 3, f"fault write {path}", "No space left on device (os error 28)")
         assert os.listdir(mounted) == []
         told([program, "create", "--geometry", GEOMETRY, path])
         subprocess.run(["mount", "-o", "remount,ro", mounted], check=True)
-        hold([program, "serve", path], 3, f"fault read {path}")
+        hold([program, "serve", path], 3, f"fault read {path}", "Read-only file system (os error 30)")
         client, server = start([program, "serve", "--read-only", path])
         assert client.is_read_only() and client.pread(512, 0) == bytes(512)
         assert client.can_flush()

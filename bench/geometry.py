@@ -1,6 +1,6 @@
 #!/usr/bin/env python3
 """Holds the geometries that `nandlab geometry` tells, as the dump stands and with codes, against the independent reference, on dumps of pseudorandom
-making, of more shapes than those of lab.py; with `--time`, times it on dumps of 264 MiB and of 66 MiB beside `sha256sum`.
+making, of more shapes than those of lab.py; with `--time`, times it on dumps of 264 MiB and of 66 MiB beside `sha256sum`, in several arrangements.
 
     [LAB=..] bench/geometry.py [CASES] [SEED]
     [LAB=..] bench/geometry.py --time
@@ -123,7 +123,29 @@ def timed(path):
     for words in [["sha256sum", str(path)], [lab.LAB, "geometry", str(path)]]:
         seconds, memory = measure.least(3, words)
         print(f"{Path(words[0]).name:15} {seconds:7.3f} s {memory:8} KiB")
-    print(subprocess.run([lab.LAB, "geometry", str(path)], capture_output=True, check=True).stdout.decode(), end="")
+    found = subprocess.run([lab.LAB, "geometry", str(path)], stdout=subprocess.PIPE, stderr=subprocess.STDOUT)
+    print(found.stdout.decode(), end="")
+
+
+def swapped(raw):
+    out = bytearray(raw)
+    out[0::2], out[1::2] = raw[1::2], raw[0::2]
+    return bytes(out)
+
+
+def spares_last(g, raw):
+    pages = range(0, len(raw), g.page)
+    return b"".join(raw[at : at + g.data] for at in pages) + b"".join(raw[at + g.data : at + g.page] for at in pages)
+
+
+def orders_of(g, raw):
+    """The dump in other arrangements, and one that nothing fits."""
+    yield "inverted", raw.translate(bytes(range(255, -1, -1)))
+    yield "swapped", swapped(raw)
+    yield "with a header of 512 bytes", b"\0" * 512 + raw
+    yield "spare areas of the die together", spares_last(g, raw)
+    yield "cut by 1000 bytes", raw[:-1000]
+    yield "FFh bytes alone", b"\xff" * len(raw)
 
 
 def times(folder):
@@ -133,6 +155,10 @@ def times(folder):
         large_dump(path, g)
         print(f"dump: {g.words()}, {path.stat().st_size} bytes")
         timed(path)
+        for order, raw in orders_of(g, path.read_bytes()):
+            path.write_bytes(raw)
+            print(f"the same, {order}:")
+            timed(path)
     # the last size once more, as a chip's dump with codes and a wrong bit in each page
     g = ref.Geometry(2048, 37, 64, 512, 20000)
     large_dump(path, g)

@@ -137,6 +137,11 @@ def reported(words, folder, answer):
     REPORTED[words[0]] += 1
 
 
+def failed(line, words="No such file or directory (os error 2)"):
+    """What is answered where a file failed: its line, and behind it the system's first error."""
+    return 3, "", f"{line}\nthe system's first error: {words}\n"
+
+
 def run(words, folder):
     asks = words[:1] != [] and words[0] in COMMANDS and FORMS.random() < 0.5
     words = [words[0], "--json", *words[1:]] if asks else words
@@ -462,11 +467,11 @@ def refusals(folder):
         (["array", "64,32,8,32,32", "dump.bin", "out.bin", "--map", "stood.map"], (1, "", "refused map 3 Exists\n")),
         (["array", "64,32,8,32,32", "dump.bin", "out.bin", "--map"], (2, "", NONE)),
         (["geometry", "dump.bin"], (1, "", "refused geometry 6 NoneFits\n")),
-        (["geometry", "none.bin"], (3, "", "fault read none.bin\n")),
+        (["geometry", "none.bin"], failed("fault read none.bin")),
         (["geometry", "64,32,8,32,32", "dump.bin"], (2, "", NONE)),
         (["repair", "64,32,8,32,32", "dump.bin", "./dump.bin", "--force"], (1, "", "refused out 1 IsDump\n")),
-        (["repair", "64,32,8,32,32", "none.bin", "out.bin"], (3, "", "fault read none.bin\n")),
-        (["repair", "64,32,8,32,32", "dump.bin", "none/out.bin"], (3, "", "fault write none/out.bin\n")),
+        (["repair", "64,32,8,32,32", "none.bin", "out.bin"], failed("fault read none.bin")),
+        (["repair", "64,32,8,32,32", "dump.bin", "none/out.bin"], failed("fault write none/out.bin")),
         (["repair", "64,32,8,32,32", "dump.bin"], (2, "", NONE)),
         (["repair", "64,32,8,32,32", "none.bin", "dump.bin", "--rows", "9..8"], (1, "", "refused rows 1 RowRange\n")),
         (["repair", "64,32,8,32,32", "none.bin", "dump.bin", "--rows", "0..257"], (1, "", "refused rows 1 RowRange\n")),
@@ -483,26 +488,26 @@ def refusals(folder):
         (["origin", "64,32,8,32,32", "out.bin", "dump.bin"], (2, "", NONE)),
         (["origin", "64,32,8,32,32", "./dump.bin", "dump.bin", "stood.map", "--force"], (1, "", "refused out 1 IsDump\n")),
         (["origin", "64,32,8,32,32", "stood.map", "dump.bin", "./stood.map", "--force"], (1, "", "refused out 1 IsDump\n")),
-        (["origin", "64,32,8,32,32", "out.bin", "dump.bin", "none.bin"], (3, "", "fault read none.bin\n")),
+        (["origin", "64,32,8,32,32", "out.bin", "dump.bin", "none.bin"], failed("fault read none.bin")),
         (["merge", "64,32,8,32", "out.bin", "dump.bin", "dump.bin"], (2, "", "usage: bad number 64,32,8,32\n")),
         (["merge", "64,32,8,32,32", "dump.bin", "--force", "stood.map", "./dump.bin"], (1, "", "refused out 1 IsDump\n")),
         (["merge", "64,32,8,32,32", "stood.map", "dump.bin", "dump.bin"], (1, "", "refused out 2 Exists\n")),
-        (["merge", "64,32,8,32,32", "out.bin", "dump.bin", "none.bin"], (3, "", "fault read none.bin\n")),
+        (["merge", "64,32,8,32,32", "out.bin", "dump.bin", "none.bin"], failed("fault read none.bin")),
         (["merge", "64,32,8,32,32", "out.bin", "dump.bin", "dump.bin"], (1, "", "refused merge 1 DumpLength dump.bin\n")),
         (["array", "64,32,8,32", "dump.bin", "out.bin"], (2, "", "usage: bad number 64,32,8,32\n")),
         (["array", "63,32,8,32,32", "dump.bin", "out.bin"], (1, "", "refused geometry 1 DataSize\n")),
-        (["array", "64,32,8,32,32", "none.bin", "out.bin"], (3, "", "fault read none.bin\n")),
-        (["array", "64,32,8,32,32", "dump.bin", "none/out.bin"], (3, "", "fault write none/out.bin\n")),
+        (["array", "64,32,8,32,32", "none.bin", "out.bin"], failed("fault read none.bin")),
+        (["array", "64,32,8,32,32", "dump.bin", "none/out.bin"], failed("fault write none/out.bin")),
         (["array", "64,32,8,32,32", "dump.bin"], (2, "", NONE)),
         (["survey", "64,32,8,32", "dump.bin"], (2, "", "usage: bad number 64,32,8,32\n")),
         (["survey", "63,32,8,32,32", "dump.bin"], (1, "", "refused geometry 1 DataSize\n")),
-        (["survey", "64,32,8,32,32", "none.bin"], (3, "", "fault read none.bin\n")),
+        (["survey", "64,32,8,32,32", "none.bin"], failed("fault read none.bin")),
         (["survey", "64,32,8,32,32"], (2, "", NONE)),
         (["history", "64,32,8,32", "none.bin", "x"], (2, "", "usage: bad number 64,32,8,32\n")),
         (["history", "64,32,8,32,32", "none.bin", "x"], (2, "", "usage: bad number x\n")),
         (["history", "64,32,8,32,32", "none.bin", "32"], (1, "", "refused sector 1 OutOfRange\n")),
         (["history", "64,32,8,32,32", "none.bin", "4294967296"], (2, "", "usage: bad number 4294967296\n")),
-        (["history", "64,32,8,32,32", "none.bin", "31"], (3, "", "fault read none.bin\n")),
+        (["history", "64,32,8,32,32", "none.bin", "31"], failed("fault read none.bin")),
         (["history", "64,32,8,32,32", "dump.bin"], (2, "", NONE)),
         (["history", "64,32,8,32,32", "dump.bin", "1", "--until", "5"], (2, "", NONE)),
         (["array", "64,32,8,32,32", "none.bin", "dump.bin", "--until", "18446744073709551616"], (2, "", "usage: bad number 18446744073709551616\n")),
@@ -513,23 +518,23 @@ def refusals(folder):
         (["survey", "64,32,8,32,32", "dump.bin", "--force"], (2, "", NONE)),
         (["compare", "64,32,8,32", "die.cert", "dump.bin"], (2, "", "usage: bad number 64,32,8,32\n")),
         (["compare", "63,32,8,32,32", "die.cert", "dump.bin"], (1, "", "refused geometry 1 DataSize\n")),
-        (["compare", "64,32,8,32,32", "none.cert", "dump.bin"], (3, "", "fault read none.cert\n")),
+        (["compare", "64,32,8,32,32", "none.cert", "dump.bin"], failed("fault read none.cert")),
         (["compare", "64,32,8,32,32", "dump.bin", "dump.bin"], (1, "", "refused certificate 2 Short\n")),
         (["compare", "64,32,8,32,32", "die.cert"], (2, "", NONE)),
-        (["array", "64,32,8,32,32", "none.bin", "out.bin", "--force", "--force", "--json", "--json"], (3, "", "fault read none.bin\n")),
+        (["array", "64,32,8,32,32", "none.bin", "out.bin", "--force", "--force", "--json", "--json"], failed("fault read none.bin")),
         (["array", "64,32,8,32,32", "dump.bin", "/dev/null"], (1, "", "refused out 2 Exists\n")),
         (["array", "64,32,8,32,32", "dump.bin", "/dev/null", "--force"], (1, "", "refused out 3 NoFile\n")),
         (["array", "64,32,8,32,32", "dump.bin", "out.bin", "--map", "/dev/null", "--force"], (1, "", "refused map 4 NoFile\n")),
         (["array", "64,32,8,32,32", "dump.bin", ".", "--force"], (1, "", "refused out 3 NoFile\n")),
         (["merge", "64,32,8,32,32", "/dev/null", "dump.bin", "dump.bin", "--force"], (1, "", "refused out 3 NoFile\n")),
-        (["geometry", "no\ndump\x1b[2J\x9b2J é\\\x7f"], (3, "", "fault read no\\x0adump\\x1b[2J\\xc2\\x9b2J é\\x5c\\x7f\n")),
+        (["geometry", "no\ndump\x1b[2J\x9b2J é\\\x7f"], failed("fault read no\\x0adump\\x1b[2J\\xc2\\x9b2J é\\x5c\\x7f")),
         (["survey", "64,32\r", "dump.bin"], (2, "", "usage: bad number 64,32\\x0d\n")),
         (["geometry", "dump.bin", "--report", "dump.bin"], (1, "", "refused report 1 Exists\n")),
         (["array", "64,32,8,32,32", "dump.bin", "out.bin", "--report", "./out.bin"], (1, "", "refused report 2 IsOut\n")),
         (["array", "64,32,8,32,32", "dump.bin", "out.bin", "--map", "told.json", "--report", "told.json"], (1, "", "refused report 2 IsOut\n")),
         (["survey", "64,32,8,32,32", "/dev/zero", "--report", "told.json"], (3, "", "fault read /dev/zero\n")),
-        (["survey", "64,32,8,32,32", "none.bin", "--report", "told.json"], (3, "", "fault read none.bin\n")),
-        (["verify", "none.json"], (3, "", "fault read none.json\n")),
+        (["survey", "64,32,8,32,32", "none.bin", "--report", "told.json"], failed("fault read none.bin")),
+        (["verify", "none.json"], failed("fault read none.json")),
         (["verify", "dump.bin"], (1, "", "refused verify 1 NotReport\n")),
         (["verify", "dump.bin", "--report", "told.json"], (2, "", NONE)),
         (["arrays"], (2, "", NONE)),
@@ -559,6 +564,7 @@ def races(folder):
         runs = [subprocess.Popen([LAB, "array", g.words(), "whole.bin", "raced.bin"], cwd=folder, stdout=subprocess.DEVNULL, stderr=subprocess.PIPE) for _ in range(6)]
         told = sorted((run.wait(), run.stderr.read().decode()) for run in runs)
         assert told[0] == (0, ""), told
+        told = [(status, line.partition("the system's first error: ")[0]) for status, line in told]
         assert all(one in [(1, "refused out 2 Exists\n"), (3, "fault write raced.bin\n")] for one in told[1:]), told
         assert (folder / "raced.bin").read_bytes() == bytes(g.sectors * g.data) and not part.exists()
         (folder / "raced.bin").unlink()

@@ -30,7 +30,7 @@ def having(pattern, files):
 
 def is_library(path):
     crate = path.relative_to(TOP / "crates").parts[0]
-    return crate not in PROGRAMS and not crate.endswith(("_tests", "_bench"))
+    return crate not in PROGRAMS and not crate.endswith(("_tests", "_fixtures"))
 
 
 def show(title, names):

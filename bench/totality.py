@@ -19,7 +19,7 @@ from pathlib import Path
 TOP = Path(__file__).resolve().parent.parent
 PAGE = TOP / "docs" / "TOTALITY.md"
 # libraries of which the page does not speak: those of tests, and of laws alone
-OTHERS = re.compile(r"_tests$|_laws$|^test_images$|^device_bench$|^noisy_(chip|bus)$")
+OTHERS = re.compile(r"_tests$|_laws$|^test_images$|^device_fixtures$|^noisy_(chip|bus)$")
 LAW = re.compile(r"_laws?$")
 # the sections that are not called as the one crate that they tell of
 SECTIONS = {

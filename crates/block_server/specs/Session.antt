@@ -10,7 +10,7 @@ use Rattle.promises.specs.declared.stream.End.{End}
 use Rattle.promises.specs.declared.stream.End.TheVariants.{BadFrame}
 use Rattle.request_stream.specs.declared.reply.ServeFault.{ServeFault}
 use Rattle.request_stream.specs.declared.reply.ServeFault.TheVariants as fault
-use Rattle.request_stream.specs.Frames.{Rests, AppendsFront, Sends, last_count}
+use Rattle.request_stream.specs.Frames.{Rests, AppendsFront, SendsBytes, last_count}
 use Rattle.ftl_device.specs.declared.device.Device.{Device}
 use Rattle.command_queue.specs.declared.command.Command.{Command}
 use Rattle.command_queue.specs.declared.command.Command.TheVariants as told
@@ -74,7 +74,7 @@ pub record AnswersRequest {N : Type 0} (flash : N → Flash) (recorded : N → O
   pub exchange : Exchange
   pub command_is : exchange.command ≡ command_of r
   pub tells : Tells flash recorded honest failed erases old exchange new
-  pub sends : Sends before after (reply_bytes r (reply_in exchange)) result
+  pub sends : SendsBytes before after (reply_bytes r (reply_in exchange)) result
 
 -- a request was read, the device was told it, and its reply was written as this says
 pub record HasServed {N : Type 0} (flash : N → Flash) (recorded : N → Option Recording) (honest : N → Bool) (failed erases : N → ℕ)

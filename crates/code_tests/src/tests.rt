@@ -1,3 +1,4 @@
+//! Pages, chips and stores with codes.
 mod bus;
 mod bus_life;
 mod chunks;

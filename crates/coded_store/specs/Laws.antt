@@ -18,13 +18,13 @@ use Rattle.coded_store.specs.Reading.{coded_bytes, read_as, shown_by, wrong_with
 use Rattle.coded_store.specs.File.{IsWithCodes, image_with_codes}
 
 -- the page is shown, and this is told of it
-pub record Reads (g : Geometry) (stands page : Page) (wrong : Wrong) : Type 0 where
+pub record ReadsCoded (g : Geometry) (stands page : Page) (wrong : Wrong) : Type 0 where
   pub shows : read_as g stands ≡ page
   pub tells : wrong_with g stands ≡ wrong
 
 -- A page of which at most one bit is wrong in each chunk with its code reads as it was written, and just the bits that are wrong are told
 abbrev pub MendedLaw : Type 0
-MendedLaw = (g : Geometry) (p stands : Page) → IsPage g p → IsWithCodes g stands → IsNear g p stands → Reads g stands p (Turned (bits_wrong g p stands))
+MendedLaw = (g : Geometry) (p stands : Page) → IsPage g p → IsWithCodes g stands → IsNear g p stands → ReadsCoded g stands p (Turned (bits_wrong g p stands))
 
 -- a chunk of the data area, with its code, of which two bits are wrong
 abbrev pub HasTwoIn : ℕ → List ℕ → List ℕ → List ℕ → Type 0
@@ -39,19 +39,19 @@ HasTwo g p stands =
 
 -- One of which two bits of a chunk are wrong is lost, and that is told
 abbrev pub LostLaw : Type 0
-LostLaw = (g : Geometry) (p stands : Page) → IsPage g p → IsWithCodes g stands → HasTwo g p stands → Reads g stands (lost_page g) Lost
+LostLaw = (g : Geometry) (p stands : Page) → IsPage g p → IsWithCodes g stands → HasTwo g p stands → ReadsCoded g stands (lost_page g) Lost
 
 -- bytes that are near to a page are shown as it, and just so many bits are told as are wrong
 pub record IsMended (g : Geometry) (stands : Page) : Type 0 where
   pub page : Page
   pub is_page : IsPage g page
   pub near : IsNear g page stands
-  pub reads : Reads g stands page (Turned (bits_wrong g page stands))
+  pub reads : ReadsCoded g stands page (Turned (bits_wrong g page stands))
 
 -- those that are near to none are lost
 pub record IsLost (g : Geometry) (stands : Page) : Type 0 where
   pub far : (p : Page) → IsPage g p → IsNear g p stands → ⊥
-  pub reads : Reads g stands (lost_page g) Lost
+  pub reads : ReadsCoded g stands (lost_page g) Lost
 
 -- ANY BYTES, such as a file may give that is not honest
 abbrev pub AnyLaw : Type 0
@@ -67,7 +67,7 @@ NoPageLaw = (g : Geometry) → IsNoPage (lost_page g)
 
 -- a page as it is written reads so, and nothing is wrong with it
 abbrev pub OwnLaw : Type 0
-OwnLaw = (g : Geometry) (p : Page) → IsPage g p → Reads g (coded g p) p (Turned 0)
+OwnLaw = (g : Geometry) (p : Page) → IsPage g p → ReadsCoded g (coded g p) p (Turned 0)
 
 -- an erased page has erased codes
 abbrev pub ErasedLaw : Type 0

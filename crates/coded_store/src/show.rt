@@ -1,4 +1,4 @@
-// A page with its codes, as it reads and as it is written.
+//! A page with its codes, as it reads and as it is written.
 ghost use Rattle.std.specs.Prelude.{◌≡◌, ◌*◌, length};
 ghost use Rattle.page_layout.specs.Geometry.{page_bytes};
 ghost use Rattle.onfi_cycles.specs.Cycles.{page_of};

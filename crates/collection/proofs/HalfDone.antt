@@ -16,10 +16,10 @@ use Rattle.page_layout.specs.Counter.{counted}
 use Rattle.page_layout.specs.declared.record.Key.{Key}
 use Rattle.std.specs.Prelude.{IfErr, OnOk, MatchResult}
 use Rattle.collection.specs.declared.engine.Pinned.{Pinned}
-use Rattle.collection.specs.declared.engine.step.Progress.{Progress}
-use Rattle.collection.specs.declared.engine.step.Progress.TheVariants as step_is
-use Rattle.collection.specs.declared.engine.turns.Step.{Step}
-use Rattle.collection.specs.declared.engine.turns.Step.TheVariants as steps
+use Rattle.collection.specs.declared.engine.collect_steps.Progress.{Progress}
+use Rattle.collection.specs.declared.engine.collect_steps.Progress.TheVariants as step_is
+use Rattle.collection.specs.declared.engine.collect_in_turns.Step.{Step}
+use Rattle.collection.specs.declared.engine.collect_in_turns.Step.TheVariants as steps
 use Rattle.collection.specs.declared.fault.WriteFault.{WriteFault}
 use Rattle.collection.specs.declared.fault.WriteFault.TheVariants.{ReadOnly, SequenceSpent, Damaged, Bus}
 use Rattle.collection.specs.State.{Ram}

@@ -29,9 +29,9 @@ use Rattle.bad_blocks.specs.Table.{most_wear}
 use Rattle.collection.specs.Whole.{next_of, erases_after, step_within, busy_of, work_left, IsSoFar, IsUnderWay}
 use Rattle.collection.specs.declared.fault.WriteFault.{WriteFault}
 use Rattle.collection.specs.declared.fault.WriteFault.TheVariants.{ReadOnly, SequenceSpent, Damaged, Bus}
-use Rattle.collection.specs.declared.engine.step.Progress.{Progress}
-use Rattle.collection.specs.declared.engine.step.Progress.TheVariants as step_is
-use Rattle.collection.specs.declared.engine.turns.Step.TheVariants as steps
+use Rattle.collection.specs.declared.engine.collect_steps.Progress.{Progress}
+use Rattle.collection.specs.declared.engine.collect_steps.Progress.TheVariants as step_is
+use Rattle.collection.specs.declared.engine.collect_in_turns.Step.TheVariants as steps
 use Rattle.allocation.specs.Laws.{IsLeftButLive}
 use Rattle.collection.proofs.Blocks.{left_then}
 use Rattle.collection.proofs.Memory.{shut_same}

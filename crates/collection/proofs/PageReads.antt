@@ -5,8 +5,8 @@ use Rattle.page_layout.specs.Geometry.{translation_pages}
 use Rattle.collection.specs.State.{Ram}
 use Rattle.collection.specs.Collect.{due_count, StepCosts}
 use Rattle.collection.specs.Whole.{next_of, HasRead}
-use Rattle.collection.specs.declared.engine.step.Progress.{Progress}
-use Rattle.collection.specs.declared.engine.step.Progress.TheVariants as step_is
+use Rattle.collection.specs.declared.engine.collect_steps.Progress.{Progress}
+use Rattle.collection.specs.declared.engine.collect_steps.Progress.TheVariants as step_is
 use Rattle.collection.proofs.Ledgers.{due_most, ok_step}
 
 pub none_read : (flushing : Bool) (first : ℕ) (r : Ram) (reads : ℕ) → due_count flushing r ≤ first → first ≤ r.geometry.pages → HasRead flushing first first r r reads reads

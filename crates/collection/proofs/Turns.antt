@@ -11,10 +11,10 @@ use Rattle.page_layout.specs.Change.{HoldsNone}
 use Rattle.allocation.specs.State.{live_at}
 use Rattle.collection.specs.declared.engine.Engine.{Engine}
 use Rattle.collection.specs.declared.engine.Pinned.{Pinned}
-use Rattle.collection.specs.declared.engine.step.Progress.{Progress}
-use Rattle.collection.specs.declared.engine.step.Progress.TheVariants as step
-use Rattle.collection.specs.declared.engine.turns.Step.{Step}
-use Rattle.collection.specs.declared.engine.turns.Step.TheVariants.{Copied, Erased}
+use Rattle.collection.specs.declared.engine.collect_steps.Progress.{Progress}
+use Rattle.collection.specs.declared.engine.collect_steps.Progress.TheVariants as step
+use Rattle.collection.specs.declared.engine.collect_in_turns.Step.{Step}
+use Rattle.collection.specs.declared.engine.collect_in_turns.Step.TheVariants.{Copied, Erased}
 use Rattle.collection.specs.declared.fault.WriteFault.{WriteFault}
 use Rattle.collection.specs.declared.fault.WriteFault.TheVariants.{ReadOnly, SequenceSpent, Damaged, Bus}
 use Rattle.collection.specs.State.{Ram}

@@ -9,10 +9,10 @@ use Rattle.page_layout.specs.Geometry.{translation_pages, entries, vmax}
 use Rattle.page_layout.specs.Live.{is_in_block}
 use Rattle.allocation.specs.State.{live_at, is_closed}
 use Rattle.collection.specs.declared.engine.Pinned.{Pinned}
-use Rattle.collection.specs.declared.engine.step.Progress.{Progress}
-use Rattle.collection.specs.declared.engine.step.Progress.TheVariants as progress
-use Rattle.collection.specs.declared.engine.turns.Step.{Step}
-use Rattle.collection.specs.declared.engine.turns.Step.TheVariants.{Copied, WroteBack, Erased}
+use Rattle.collection.specs.declared.engine.collect_steps.Progress.{Progress}
+use Rattle.collection.specs.declared.engine.collect_steps.Progress.TheVariants as progress
+use Rattle.collection.specs.declared.engine.collect_in_turns.Step.{Step}
+use Rattle.collection.specs.declared.engine.collect_in_turns.Step.TheVariants.{Copied, WroteBack, Erased}
 use Rattle.collection.specs.State.{Ram}
 use Rattle.collection.specs.Pages.{newest_row}
 use Rattle.collection.specs.Live.{HoldsNoneIn}

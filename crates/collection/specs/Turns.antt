@@ -5,8 +5,8 @@ use Rattle.page_layout.specs.Flash.{Flash}
 use Rattle.page_layout.specs.Counter.{counted}
 use Rattle.collection.specs.declared.engine.Engine.{Engine}
 use Rattle.collection.specs.declared.engine.Pinned.{Pinned}
-use Rattle.collection.specs.declared.engine.turns.Step.{Step}
-use Rattle.collection.specs.declared.engine.turns.Step.TheVariants.{Copied, WroteBack, Erased}
+use Rattle.collection.specs.declared.engine.collect_in_turns.Step.{Step}
+use Rattle.collection.specs.declared.engine.collect_in_turns.Step.TheVariants.{Copied, WroteBack, Erased}
 use Rattle.collection.specs.declared.fault.WriteFault.{WriteFault}
 use Rattle.collection.specs.Safe.{IsIdle, ram, image_in}
 use Rattle.collection.specs.Truth.{IsTrue}

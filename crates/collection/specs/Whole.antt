@@ -5,8 +5,8 @@ use Rattle.page_layout.specs.Counter.{counted}
 use Rattle.page_layout.specs.Geometry.{translation_pages}
 use Rattle.allocation.specs.State.{live_at}
 use Rattle.allocation.specs.Counts.{counts_of}
-use Rattle.collection.specs.declared.engine.step.Progress.{Progress}
-use Rattle.collection.specs.declared.engine.step.Progress.TheVariants.{Copied, WroteBack, Erased}
+use Rattle.collection.specs.declared.engine.collect_steps.Progress.{Progress}
+use Rattle.collection.specs.declared.engine.collect_steps.Progress.TheVariants.{Copied, WroteBack, Erased}
 use Rattle.collection.specs.State.{Ram}
 use Rattle.collection.specs.Live.{HoldsNoneIn}
 use Rattle.collection.specs.Results.{IsSame}

@@ -9,24 +9,24 @@ use translation_pages::Directory;
 mod begin;
 mod cache;
 mod collect;
+mod collect_in_turns;
+mod collect_steps;
 mod entries;
 mod gate;
 mod live;
 mod look;
+mod operations;
 mod put;
 mod renew;
 mod rescue;
 mod room;
 mod settle;
-mod step;
-mod steps;
 mod table;
-mod turns;
 mod write;
 mod write_back;
 
+pub use collect_in_turns::Step;
 pub use room::{LEAST_FREE, Reserve};
-pub use turns::Step;
 
 /// The data area and the spare area of one page. (This project.)
 #[derive(Drop)]

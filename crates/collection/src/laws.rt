@@ -1,3 +1,4 @@
+//! What calls of the engine come to, each as one statement.
 ghost use Rattle.collection.specs.Left.{IdleLaw, PinLaw, LeftLaw, KeptLaw, CalmLaw, PassedLaw, FewLaw, CopyLaw, WriteLaw};
 ghost use Rattle.collection.specs.Stops.{OneGainLaw};
 ghost use Rattle.collection.specs.Rescued.{LazyLaw, FollowedLaw, AloneLaw, OneLowestLaw, OneAnswerLaw};

@@ -12,8 +12,8 @@ use Rattle.bad_blocks.specs.Table.{good_count}
 use Rattle.allocation.specs.State.{State, free_count, live_at}
 use Rattle.promises.specs.Log as logs
 use Rattle.promises.specs.Log.{programs_in, failed_in, bad_of}
-use Rattle.collection.specs.declared.engine.turns.Step.{Step}
-use Rattle.collection.specs.declared.engine.turns.Step.TheVariants as steps
+use Rattle.collection.specs.declared.engine.collect_in_turns.Step.{Step}
+use Rattle.collection.specs.declared.engine.collect_in_turns.Step.TheVariants as steps
 use Rattle.collection.specs.State.{Ram}
 use Rattle.collection.specs.Safe.{IsRam}
 use Rattle.collection.specs.Truth.{IsTrue}

@@ -1,3 +1,4 @@
+//! What turns in a row come to, and what a call is told.
 ghost use Rattle.command_queue.specs.Turns.{TurnsInARowLaw, QuietTurnLaw, QuietEventLaw};
 ghost use Rattle.command_queue.specs.Tells.{ToldProgramsLaw};
 ghost use Rattle.command_queue.specs.Asked.{ToldAskedLaw, AskedJoinLaw, AskedRunLaw, AskedForwardLaw};

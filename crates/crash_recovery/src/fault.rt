@@ -1,4 +1,4 @@
-// Why nothing was taken away, or not all.
+//! Why nothing was taken away, or not all.
 ghost use Rattle.std.specs.Prelude.{◌≡◌};
 
 use file_die::StoreFault;

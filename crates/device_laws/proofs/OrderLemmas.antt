@@ -12,8 +12,8 @@ use Rattle.mapping_cache.specs.Mapping.{MappingState, IsMapping, per_page, pendi
 use Rattle.mapping_cache.proofs.Steps.{IsMapping-cleaned, pending-cleaned_other}
 use Rattle.allocation.specs.State.{free_count}
 use Rattle.collection.specs.declared.engine.Engine.{Engine}
-use Rattle.collection.specs.declared.engine.turns.Step.{Step}
-use Rattle.collection.specs.declared.engine.turns.Step.TheVariants as steps
+use Rattle.collection.specs.declared.engine.collect_in_turns.Step.{Step}
+use Rattle.collection.specs.declared.engine.collect_in_turns.Step.TheVariants as steps
 use Rattle.collection.specs.State.{Ram}
 use Rattle.collection.specs.Safe.{IsRam, ram, page_in}
 use Rattle.collection.specs.Results.{IsLastPage}

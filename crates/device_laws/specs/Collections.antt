@@ -5,8 +5,8 @@ use Rattle.page_layout.specs.Page.{Image}
 use Rattle.bad_blocks.specs.Table.{is_good_at}
 use Rattle.allocation.specs.State.{State, live_at, is_closed, free_count}
 use Rattle.collection.specs.declared.engine.Pinned.{Pinned}
-use Rattle.collection.specs.declared.engine.turns.Step.{Step}
-use Rattle.collection.specs.declared.engine.turns.Step.TheVariants.{Erased}
+use Rattle.collection.specs.declared.engine.collect_in_turns.Step.{Step}
+use Rattle.collection.specs.declared.engine.collect_in_turns.Step.TheVariants.{Erased}
 use Rattle.collection.specs.State.{Ram}
 use Rattle.collection.specs.Collect.{has_moved, is_due, HasWritten, HasCollected, HasRoom, IsAiling}
 use Rattle.collection.specs.Room.{IsNextFor}

@@ -1,4 +1,4 @@
-// The devices of these tests, and their geometry, are those of `device_bench`.
+//! The devices of these tests, and their geometry, are those of `device_fixtures`.
 mod collection_rows;
 mod count_runs;
 mod flush;

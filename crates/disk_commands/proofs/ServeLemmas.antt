@@ -116,11 +116,7 @@ abbrev told_in : Result (Unit {0}) DiskCommandFault → DiskCommandFault
 told_in (Ok done) = fault.OutOfMemory
 told_in (Err told) = told
 
--- another fault tells of no stream
-pub tells_another : (P : Type 0) (told : DiskCommandFault) → is_stream told ≡ false → told_as told ≡ told_as fault.Stream → P
-tells_another P told quiet is = another P (told_as told) (told_as fault.Stream) quiet refl is
-
--- nor does what says why a disk is not ready
+-- what says why a disk is not ready tells of no stream
 pub unready_stops : {S Y K : Type 0} (P : Type 0) (held : S → Held) (honest : S → Bool) (failed : S → ℕ) (missed : Y → ℕ) (kept : K → List Bool) (unlisted : K → ℕ) (a : DiskFileAnswers) (path : List ℕ) (read_only : Bool) (told : DiskCommandFault)
     → IsUnreadyAt held honest failed missed kept unlisted a path read_only told → told_as told ≡ told_as fault.Stream → P
 unready_stops {S} {Y} {K} P held honest failed missed kept unlisted a path read_only told why is = absurd (by (subst (IsUnreadyAt held honest failed missed kept unlisted a path read_only) (ap told_in is) why))

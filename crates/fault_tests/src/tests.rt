@@ -1,4 +1,4 @@
-// The devices of these tests are those of `device_bench`.
+//! The devices of these tests are those of `device_fixtures`.
 mod collecting;
 mod courses;
 mod fault_scripts;

@@ -1,4 +1,4 @@
-// What a die asks of its store. A call that fails is the device's fault.
+//! What a die asks of its store. A call that fails is the device's fault.
 ghost use Rattle.std.specs.Prelude.{◌≡◌, ◌<◌, true, length, is_ok};
 ghost use Rattle.page_layout.specs.Geometry.{row_count, page_bytes};
 ghost use Rattle.onfi_cycles.specs.Cycles.{page_of};

@@ -1,4 +1,4 @@
-// What data out gives, of a die that holds the page which it puts out.
+//! What data out gives, of a die that holds the page which it puts out.
 ghost use Rattle.std.specs.Prelude.{◌≡◌, ◌<◌, ◌≤◌, ◌+◌, ℕ, List, length, take, drop, IfOk, IfErr, IfSome, IfNone};
 ghost use Rattle.page_layout.specs.Geometry.{page_bytes};
 ghost use Rattle.page_layout.specs.Raw.{bytes_of_page};

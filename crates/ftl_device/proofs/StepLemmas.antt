@@ -14,8 +14,8 @@ use Rattle.budget.specs.declared.stream.Stream.TheVariants.{Meta}
 use Rattle.allocation.specs.State.{State, is_closed, is_open, pointer_at, live_at, free_count}
 use Rattle.collection.specs.declared.engine.Engine.{Engine}
 use Rattle.collection.specs.declared.engine.Pinned.{Pinned}
-use Rattle.collection.specs.declared.engine.turns.Step.{Step}
-use Rattle.collection.specs.declared.engine.turns.Step.TheVariants.{Copied, WroteBack, Erased}
+use Rattle.collection.specs.declared.engine.collect_in_turns.Step.{Step}
+use Rattle.collection.specs.declared.engine.collect_in_turns.Step.TheVariants.{Copied, WroteBack, Erased}
 use Rattle.collection.specs.declared.fault.WriteFault.{WriteFault}
 use Rattle.collection.specs.declared.fault.WriteFault.TheVariants.{ReadOnly, SequenceSpent, Damaged, Bus}
 use Rattle.collection.specs.State.{Ram}

@@ -1,7 +1,7 @@
 -- What a turn has done once there was room.
 use Rattle.std.proofs.Common.{◌≡◌, ◌⊎◌, inl, inr, Bool, true, false, Option, Some, None, MatchOption, Ok, refl, sym, ap, subst}
 use Rattle.collection.specs.declared.engine.Pinned.{Pinned}
-use Rattle.collection.specs.declared.engine.turns.Step.{Step}
+use Rattle.collection.specs.declared.engine.collect_in_turns.Step.{Step}
 use Rattle.collection.specs.State.{Ram}
 use Rattle.collection.specs.Collect.{HasAiling, HasNoneAiling, RescueCosts}
 use Rattle.collection.specs.Left.{HasStepped, pinned_to}

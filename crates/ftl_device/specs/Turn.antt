@@ -2,7 +2,7 @@
 use Rattle.std.specs.Prelude.{◌≡◌, ◌⊎◌, false, Some, None, MatchOption}
 use Rattle.collection.specs.declared.engine.Pinned.{Pinned}
 use Rattle.collection.specs.declared.engine.room.Reserve.TheVariants as reserve
-use Rattle.collection.specs.declared.engine.turns.Step.{Step}
+use Rattle.collection.specs.declared.engine.collect_in_turns.Step.{Step}
 use Rattle.collection.specs.State.{Ram}
 use Rattle.collection.specs.Collect.{HasAiling, HasNoneAiling, HasRescuedPage}
 use Rattle.collection.specs.Left.{HasStepped, pinned_to}

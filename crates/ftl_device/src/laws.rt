@@ -1,3 +1,4 @@
+//! What a device begins with, and what it leaves between two calls.
 ghost use Rattle.ftl_device.specs.Begin.{BeginLaw, FreeLaw, GoodLaw, AccountsLaw};
 ghost use Rattle.ftl_device.specs.Calls.{OneKindLaw, WriteOrTrimLaw, StaleLaw, RestartLaw, LeftBelowLaw, TurnsLaw};
 ghost use Rattle.ftl_device.specs.FlushSteps.{CleanFlushLaw, FailedFlushLaw, LackingPageLaw};

@@ -1,29 +1,25 @@
 -- WHAT FOLLOWS FROM A SHAPE.
 use Rattle.std.specs.Prelude.{◌≡◌, ◌⊎◌, ℕ, ◌+◌, ◌*◌, max, min, Option, Some, None}
 use Rattle.page_layout.specs.declared.geometry.Geometry.{Geometry}
-use Rattle.page_layout.specs.Geometry.{need, row_count, translation_pages, table_pages}
+use Rattle.page_layout.specs.Geometry.{key_count, need, row_count}
 use Rattle.page_code.specs.declared.chip.ChipGeometry.{ChipGeometry}
 use Rattle.ftl_disk.specs.Plans.{IsPlanOf, IsUnplanned}
 use Rattle.ftl_disk.specs.declared.plan.Plan.{Plan}
 use Rattle.ftl_disk.specs.declared.shape.Shape.{Shape}
 use Rattle.ftl_disk.specs.declared.measures.Sizes.{Sizes}
 
--- the sectors, translation pages and table pages, each of which has a newest page
-abbrev pub keys : Geometry → ℕ
-keys g = g.sectors + translation_pages g + table_pages g
-
 -- the bytes of a certificate
 abbrev pub certificate_length : Geometry → ℕ
-certificate_length g = 40 + 9 * g.blocks + 4 * keys g
+certificate_length g = 40 + 9 * g.blocks + 4 * key_count g
 
 -- the bytes that a look at all pages takes beside its certificate: a sequence and a row for each page, the newest row and sequence of each key, what
 -- each block shows, and the table pages, which have four bytes for each block
 abbrev pub scan_bytes : Geometry → ℕ
-scan_bytes g = 16 * row_count g + 12 * keys g + 44 * g.blocks + g.data_bytes
+scan_bytes g = 16 * row_count g + 12 * key_count g + 44 * g.blocks + g.data_bytes
 
 -- those that a device takes, with so many entries cached: for an entry a node and its places in a table, and for each page of a block a moved row
 abbrev pub device_bytes : Geometry → ℕ → ℕ
-device_bytes g entries = 72 * entries + 8 * g.pages + 48 * g.blocks + 9 * keys g + 2 * (g.data_bytes + g.spare_bytes)
+device_bytes g entries = 72 * entries + 8 * g.pages + 48 * g.blocks + 9 * key_count g + 2 * (g.data_bytes + g.spare_bytes)
 
 -- what a chip with codes takes beside: two counts for each block, of wrong bits and of lost pages
 abbrev pub error_bytes : Geometry → Option ChipGeometry → ℕ
@@ -33,7 +29,7 @@ error_bytes g (Some chip) = 16 * g.blocks
 -- all of it at once: a certificate and its stale sectors, a page, and a look or a device, whichever takes more. A stop leaves at most as many
 -- sectors stale as the cache has entries and a block has pages, and a start caches them all
 abbrev pub memory_bytes : Geometry → ℕ → Option ChipGeometry → ℕ
-memory_bytes g cache chip = 1024 + 12 * g.blocks + 9 * keys g + (g.data_bytes + g.spare_bytes) + max (scan_bytes g) (device_bytes g (cache + g.pages)) + error_bytes g chip
+memory_bytes g cache chip = 1024 + 12 * g.blocks + 9 * key_count g + (g.data_bytes + g.spare_bytes) + max (scan_bytes g) (device_bytes g (cache + g.pages)) + error_bytes g chip
 
 -- each entry is a piece of its own
 abbrev pub memory_blocks : Geometry → ℕ → ℕ

@@ -3,7 +3,7 @@ ghost use Rattle.ftl_disk.specs.Disk.{Certifies, CertifiesDisk, IsCertifying, Is
 
 use crate::behind::{certify_behind, start_checked_behind};
 use crate::disk::{FtlDisk, way_to};
-use crate::measures::certificate_bytes;
+use crate::measures::certificate_length;
 use crate::number::{STARTED, WRONG_SIZE, of_certificate};
 use certificate::{Certificate, read_certificate};
 
@@ -24,7 +24,7 @@ fn certified(disk: &FtlDisk, out: &mut [u8]) -> u32
 fn put_certificate(disk: &mut FtlDisk, out: &mut [u8]) -> u32
     ensures { IsCertifying disk.old out.old result out.new disk.new }
 {
-    if out.len() as u64 != certificate_bytes(&disk.plan.geometry) {
+    if out.len() as u64 != certificate_length(&disk.plan.geometry) {
         return WRONG_SIZE;
     }
     certified(disk, out)
@@ -58,7 +58,7 @@ fn begin_by(disk: &mut FtlDisk, certificate: &Certificate) -> u32
 fn begin_certified(disk: &mut FtlDisk, bytes: &[u8]) -> u32
     ensures { StartsByBytes disk.old bytes.now result disk.new }
 {
-    if bytes.len() as u64 != certificate_bytes(&disk.plan.geometry) {
+    if bytes.len() as u64 != certificate_length(&disk.plan.geometry) {
         return WRONG_SIZE;
     }
     match read_certificate(disk.alloc, bytes) {

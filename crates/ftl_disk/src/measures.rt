@@ -1,6 +1,7 @@
 //! What follows from a shape: how large a disk is, and how much memory it takes.
 ghost use Rattle.std.specs.Prelude.{◌≡◌, ◌≤◌, min};
-ghost use Rattle.ftl_disk.specs.Measures.{Measures, Tells, certificate_length, chip_spare, device_bytes, error_bytes, keys, memory_bytes, scan_bytes};
+ghost use Rattle.page_layout.specs.Geometry.{key_count};
+ghost use Rattle.ftl_disk.specs.Measures.{Measures, Tells, certificate_length, chip_spare, device_bytes, error_bytes, memory_bytes, scan_bytes};
 
 use crate::number::DONE;
 use crate::plan::Plan;
@@ -29,20 +30,19 @@ pub struct Sizes {
 }
 
 // The sectors, translation pages and table pages.
-fn keys(geometry: &Geometry) -> u64
-    ensures is { result ≡ keys geometry.now }
+fn key_count(geometry: &Geometry) -> u64
+    ensures is { result ≡ key_count geometry.now }
     ensures most { result ≤ 12884901885 }
 {
-    u64::from(geometry.sectors())
-        + u64::from(geometry.translation_pages())
-        + u64::from(geometry.table_pages())
+    let meta = u64::from(geometry.translation_pages()) + u64::from(geometry.table_pages());
+    u64::from(geometry.sectors()) + meta
 }
 
 /// The bytes of a certificate.
-pub(crate) fn certificate_bytes(geometry: &Geometry) -> u64
+pub(crate) fn certificate_length(geometry: &Geometry) -> u64
     ensures { result ≡ certificate_length geometry.now }
 {
-    40 + 9 * u64::from(geometry.blocks()) + 4 * keys(geometry)
+    40 + 9 * u64::from(geometry.blocks()) + 4 * key_count(geometry)
 }
 
 // The bytes that a look at all pages takes.
@@ -51,7 +51,7 @@ fn scan_bytes(geometry: &Geometry) -> u64
     ensures most { result ≤ 1099511627776 }
 {
     16 * u64::from(geometry.rows())
-        + 12 * keys(geometry)
+        + 12 * key_count(geometry)
         + 44 * u64::from(geometry.blocks())
         + u64::from(geometry.data_bytes() as u32)
 }
@@ -65,7 +65,7 @@ fn device_bytes(geometry: &Geometry, entries: u64) -> u64
     72 * entries
         + 8 * u64::from(geometry.pages())
         + 48 * u64::from(geometry.blocks())
-        + 9 * keys(geometry)
+        + 9 * key_count(geometry)
         + 2 * (u64::from(geometry.data_bytes() as u32) + u64::from(geometry.spare_bytes() as u32))
 }
 
@@ -91,7 +91,7 @@ fn memory_bytes(plan: &Plan) -> u64
         u64::from(plan.cache) + u64::from(geometry.pages()),
     );
     1024 + 12 * u64::from(geometry.blocks())
-        + 9 * keys(geometry)
+        + 9 * key_count(geometry)
         + (u64::from(geometry.data_bytes() as u32) + u64::from(geometry.spare_bytes() as u32))
         + look.max(device)
         + error_bytes(geometry, plan.chip)
@@ -123,7 +123,7 @@ fn measure(plan: &Plan) -> Sizes
         sector_bytes: geometry.data_bytes() as u32,
         sectors: geometry.sectors(),
         need: geometry.need(),
-        certificate_bytes: told(certificate_bytes(geometry)),
+        certificate_bytes: told(certificate_length(geometry)),
         memory_bytes: told(memory_bytes(plan)),
         memory_blocks: 34 + plan.cache + geometry.pages(),
         chip_spare_bytes: chip_spare(geometry, plan.chip),

@@ -23,7 +23,7 @@ use Rattle.page_layout.proofs.CountLemmas.{bit}
 use Rattle.certificate.specs.Claim.{Claim}
 use Rattle.translation_pages.specs.TranslationPage.{entry_at}
 use Rattle.translation_pages.specs.Entry.{entry_in, entry_of}
-use Rattle.image_check.specs.declared.kept.Noted.{Noted}
+use Rattle.image_check.specs.declared.noted_sectors.Noted.{Noted}
 use Rattle.image_check.specs.Agrees.{IsDirectory, AreNewest}
 use Rattle.image_check.specs.Stale.{same_row, is_stale, stale_sectors}
 use Rattle.image_check.specs.Rising.{IsRisingBelow}

@@ -13,7 +13,7 @@ use Rattle.std.specs.Prelude.{IsPermutation}
 use Rattle.std.specs.List.Sorted.{IsNonDecreasingBy}
 use Rattle.page_layout.specs.Geometry.{row_count}
 use Rattle.certificate.specs.Claim.{Claim}
-use Rattle.image_check.specs.declared.kept.Noted.{Noted}
+use Rattle.image_check.specs.declared.noted_sectors.Noted.{Noted}
 use Rattle.image_check.specs.declared.survey.Survey.{Survey}
 use Rattle.image_check.specs.declared.refusal.Refusal.{Refusal}
 use Rattle.image_check.proofs.ChainLemmas.{hold_one, fails_first, fails_later}
@@ -23,7 +23,7 @@ use Rattle.image_check.specs.Agrees.{IsAsked, IsCertificateOf, IsDirectory, AreN
 use Rattle.image_check.specs.Noted.{HasNoted, HasSomeNoted}
 use Rattle.image_check.specs.Passed.{IsPass, IsSamePass, Shows}
 use Rattle.image_check.specs.Refused.{Asked, Directory, Sectors, HoldBetween, FailsFrom, IsFirstWrong, IsJudgement}
-use Rattle.image_check.specs.Room.{IsDesk}
+use Rattle.image_check.specs.Room.{IsScratch}
 use Rattle.image_check.specs.Stale.{stale_sectors}
 use Rattle.image_check.specs.Surveyed.{IsSized, IsSurvey, Surveys}
 use Rattle.image_check.proofs.SurveyLemmas.{passed_first}
@@ -58,12 +58,12 @@ pub record IsPassOf (g : Geometry) (rows : ℕ) (p : Pass) : Type 0 where
   pub passed : length p.passed.items ≡ g.sectors
   pub most : p.noted.most ≡ p.certificate.now.capacity
   pub noted : HasSomeNoted g p.certificate.now rows p.noted
-  pub desk : IsDesk g p.desk
+  pub scratch : IsScratch g p.scratch
 
 pub pass_of : (g : Geometry) (rows : ℕ) (p : Pass) → p.survey.geometry ≡ g → IsPassOf g rows p → IsPass rows p
 pass_of g rows p same h =
     let k : IsPassOf p.survey.geometry rows p = subst (λ x. IsPassOf x rows p) (sym same) h in
-    record { asked = k.asked; certificate = k.certificate; survey = k.survey; passed = k.passed; most = k.most; noted = k.noted; desk = k.desk }
+    record { asked = k.asked; certificate = k.certificate; survey = k.survey; passed = k.passed; most = k.most; noted = k.noted; scratch = k.scratch }
 
 pub record ShowsOf (g : Geometry) (image : Image) (rows : ℕ) (p : Pass) : Type 0 where
   pub survey : IsSurvey g image rows p.survey

@@ -10,7 +10,7 @@ use Rattle.page_layout.specs.Newest.{sequence_at}
 use Rattle.page_layout.specs.Array.{marks}
 use Rattle.certificate.specs.Claim.{Claim}
 use Rattle.translation_pages.specs.Entry.{entry_in}
-use Rattle.image_check.specs.declared.kept.Noted.{Noted}
+use Rattle.image_check.specs.declared.noted_sectors.Noted.{Noted}
 use Rattle.image_check.specs.Stale.{same_row}
 
 -- the row that a certificate has at a place, or none

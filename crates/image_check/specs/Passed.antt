@@ -5,7 +5,7 @@ use Rattle.page_layout.specs.Array.{marks}
 use Rattle.image_check.specs.declared.pass.Pass.{Pass}
 use Rattle.image_check.specs.Agrees.{IsAsked, IsCertificateOf}
 use Rattle.image_check.specs.Noted.{HasNoted, HasSomeNoted}
-use Rattle.image_check.specs.Room.{IsDesk}
+use Rattle.image_check.specs.Room.{IsScratch}
 use Rattle.image_check.specs.Survey.{HasPassed}
 use Rattle.image_check.specs.Surveyed.{IsSized, IsSurvey}
 
@@ -17,7 +17,7 @@ pub record IsPass (rows : ℕ) (p : Pass) : Type 0 where
   pub passed : length p.passed.items ≡ p.survey.geometry.sectors
   pub most : p.noted.most ≡ p.certificate.now.capacity
   pub noted : HasSomeNoted p.survey.geometry p.certificate.now rows p.noted
-  pub desk : IsDesk p.survey.geometry p.desk
+  pub scratch : IsScratch p.survey.geometry p.scratch
 
 -- it has what the first rows of the image show, by the certificate
 pub record Shows (image : Image) (rows : ℕ) (p : Pass) : Type 0 where

@@ -9,16 +9,16 @@ ghost use Rattle.certificate.specs.Claim.{Claim};
 ghost use Rattle.certificate.specs.Spelling.{FitsBlock};
 ghost use Rattle.image_check.specs.Agrees.{IsCertificateOf};
 ghost use Rattle.image_check.specs.Blocks.{AreStates, IsTableOf};
-ghost use Rattle.image_check.specs.Room.{IsDesk};
+ghost use Rattle.image_check.specs.Room.{IsScratch};
 ghost use Rattle.image_check.specs.Survey.{HasPassed};
 ghost use Rattle.image_check.specs.Surveyed.{IsSized, Surveys, SurveysKeys};
 ghost use Rattle.image_check.specs.Refused.{HoldBetween, FailsFrom, IsMemory, IsJudgement, IsOfImage};
 
 use crate::blocks::{Aspect, check_blocks};
-use crate::desk::Desk;
 use crate::live::count_live;
 use crate::parts::{check_claims, check_directory, check_next, check_numbers, check_sectors};
 use crate::refusal::Refusal;
+use crate::scratch::Scratch;
 use crate::sequences::check_sequences;
 use crate::states::block_states;
 use crate::survey::Survey;
@@ -83,17 +83,17 @@ fn judge_blocks(states: &[BlockState], certificate: &Certificate) -> Result<(), 
     Ok(())
 }
 
-/// As `describe_blocks`, onto a desk on which nothing was written. It takes no memory.
+/// As `describe_blocks`, onto a scratch on which nothing was written. It takes no memory.
 ///
 /// # Errors
 /// Those of `describe_blocks`, but `OutOfMemory`. (This project's rules.)
-pub fn describe(survey: &mut Survey, desk: &mut Desk) -> Result<(), Refusal>
+pub fn describe(survey: &mut Survey, scratch: &mut Scratch) -> Result<(), Refusal>
     requires sized { IsSized survey.old.geometry (row_count survey.old.geometry) survey.old }
-    requires desk { IsDesk survey.old.geometry desk.old }
+    requires scratch { IsScratch survey.old.geometry scratch.old }
     ensures ok { OnOk result ((capacity : ℕ) (image : Image) (claim : Claim) → Surveys survey.old.geometry image survey.old → HoldBetween survey.old.geometry capacity image claim 1 4) }
-    ensures states { OnOk result ((image : Image) → Surveys survey.old.geometry image survey.old → AreStates survey.old.geometry image desk.new.states.items) }
-    ensures size { OnOk result (length desk.new.states.items ≡ survey.old.geometry.blocks) }
-    ensures fits { OnOk result (All FitsBlock desk.new.states.items) }
+    ensures states { OnOk result ((image : Image) → Surveys survey.old.geometry image survey.old → AreStates survey.old.geometry image scratch.new.states.items) }
+    ensures size { OnOk result (length scratch.new.states.items ≡ survey.old.geometry.blocks) }
+    ensures fits { OnOk result (All FitsBlock scratch.new.states.items) }
     ensures err { IfErr result (λ refusal. (capacity : ℕ) (image : Image) (claim : Claim) → Surveys survey.old.geometry image survey.old →
         FailsFrom survey.old.geometry capacity image claim 1 refusal) }
     ensures kind { IfErr result IsOfImage }
@@ -101,9 +101,14 @@ pub fn describe(survey: &mut Survey, desk: &mut Desk) -> Result<(), Refusal>
     ensures permutation { IsPermutation survey.old.pairs.items survey.new.pairs.items }
     ensures others { survey.new ≡ record survey.old { pairs = survey.new.pairs } }
 {
-    judge_image(survey, &mut desk.table)?;
-    count_live(&survey.geometry, &survey.newest, &mut desk.counts);
-    block_states(&survey.looks, &desk.table, &desk.counts, &mut desk.states);
+    judge_image(survey, &mut scratch.table)?;
+    count_live(&survey.geometry, &survey.newest, &mut scratch.counts);
+    block_states(
+        &survey.looks,
+        &scratch.table,
+        &scratch.counts,
+        &mut scratch.states,
+    );
     Ok(())
 }
 
@@ -126,9 +131,9 @@ pub fn describe_blocks(alloc: Global, survey: &mut Survey) -> Result<Vec<BlockSt
     ensures permutation { IsPermutation survey.old.pairs.items survey.new.pairs.items }
     ensures others { survey.new ≡ record survey.old { pairs = survey.new.pairs } }
 {
-    let mut desk = Desk::new(alloc, &survey.geometry)?;
-    describe(survey, &mut desk)?;
-    Ok(desk.states)
+    let mut scratch = Scratch::new(alloc, &survey.geometry)?;
+    describe(survey, &mut scratch)?;
+    Ok(scratch.states)
 }
 
 /// Looks at the parts from the second to the last but one in order, and names the first that fails.
@@ -136,12 +141,12 @@ pub(crate) fn judge(
     survey: &mut Survey,
     certificate: &Certificate,
     passed: &[bool],
-    desk: &mut Desk,
+    scratch: &mut Scratch,
 ) -> Result<(), Refusal>
     requires sized { IsSized survey.old.geometry (row_count survey.old.geometry) survey.old }
     requires certificate { IsCertificateOf survey.old.geometry certificate.now }
     requires passed { length passed.now ≡ survey.old.geometry.sectors }
-    requires desk { IsDesk survey.old.geometry desk.old }
+    requires scratch { IsScratch survey.old.geometry scratch.old }
     ensures ok { OnOk result ((capacity : ℕ) (image : Image) → Surveys survey.old.geometry image survey.old →
         HasPassed (marks image) (row_count survey.old.geometry) certificate.now.sectors passed.now →
         HoldBetween survey.old.geometry capacity image certificate.now 1 11) }
@@ -150,9 +155,9 @@ pub(crate) fn judge(
         FailsFrom survey.old.geometry capacity image certificate.now 1 refusal) }
     ensures named { IfErr result IsJudgement }
 {
-    describe(survey, desk)?;
+    describe(survey, scratch)?;
     judge_rows(survey, certificate, passed)?;
-    judge_blocks(&desk.states, certificate)?;
+    judge_blocks(&scratch.states, certificate)?;
     check_next(&survey.pairs, certificate)?;
     Ok(())
 }

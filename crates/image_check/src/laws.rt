@@ -1,3 +1,4 @@
+//! What the checker's definitions come to, each as one statement.
 ghost use Rattle.image_check.specs.Mountable.{MountableLaw};
 ghost use Rattle.image_check.specs.Torn.{OtherKeysLaw, NoSectorLaw, OneSectorLaw, StillOneLaw, KeptLaw, TornProgramLaw, TornEraseLaw, OneMoreStaleLaw};
 

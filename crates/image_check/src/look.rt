@@ -1,3 +1,4 @@
+//! What the pages of a block show.
 ghost use Rattle.std.specs.Prelude.{◌≡◌, ◌<◌, ◌≤◌, ◌+◌, ◌^◌, ◌-◌};
 ghost use Rattle.image_check.specs.Survey.{look_step};
 ghost use Rattle.page_layout.specs.Block.{has_data_kind};

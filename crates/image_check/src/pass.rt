@@ -8,12 +8,12 @@ ghost use Rattle.image_check.specs.Passed.{IsPass, IsSamePass, Shows};
 ghost use Rattle.image_check.specs.Refused.{IsFirstWrong, IsJudgement};
 
 use crate::accepted::Accepted;
-use crate::desk::Desk;
 use crate::judge::judge;
-use crate::kept::Noted;
-use crate::noted::{note_absent, note_entries};
-use crate::notes::note_claim;
+use crate::noted_sectors::Noted;
+use crate::page_notes::note_claim;
 use crate::refusal::Refusal;
+use crate::scratch::Scratch;
+use crate::stale_notes::{note_absent, note_entries};
 use crate::survey::Survey;
 use certificate::Certificate;
 use page_layout::geometry::Geometry;
@@ -27,7 +27,7 @@ pub(crate) struct Pass<'a> {
     // of each sector whether the row that the certificate has for it holds a sound page of it
     pub(crate) passed: Vec<bool>,
     pub(crate) noted: Noted,
-    pub(crate) desk: Desk,
+    pub(crate) scratch: Scratch,
 }
 
 impl<'a> Pass<'a> {
@@ -47,14 +47,14 @@ impl<'a> Pass<'a> {
         let survey = Survey::new(alloc, geometry)?;
         let passed = vec![in alloc; false; geometry.sectors() as usize]?;
         let mut noted = Noted::new(alloc, certificate.capacity())?;
-        let desk = Desk::new(alloc, geometry)?;
+        let scratch = Scratch::new(alloc, geometry)?;
         note_absent(geometry, certificate, &mut noted);
         Ok(Pass {
             certificate,
             survey,
             passed,
             noted,
-            desk,
+            scratch,
         })
     }
 
@@ -101,9 +101,9 @@ impl<'a> Pass<'a> {
             mut survey,
             passed,
             noted,
-            mut desk,
+            mut scratch,
         } = self;
-        judge(&mut survey, certificate, &passed, &mut desk)?;
+        judge(&mut survey, certificate, &passed, &mut scratch)?;
         let capacity = certificate.capacity();
         let stale = noted.count;
         if stale > capacity {

@@ -1,3 +1,4 @@
+//! Why a certificate is not accepted, or an image not mounted.
 ghost use Rattle.std.specs.Prelude.{◌≡◌};
 ghost use Rattle.image_check.specs.declared.refusal.Refusal.TheVariants as refusals;
 

@@ -38,6 +38,18 @@ fn find_repeated(pairs: &[(u64, u32)]) -> Option<(u32, u32)>
     lowest
 }
 
+/// The rows of two pages that share a sequence, if some do: those whose second row is lowest. `pairs` are the sequence and the row of each page, in
+/// whatever order. They are sorted. (This project's.)
+pub fn first_repeated(pairs: &mut [(u64, u32)]) -> Option<(u32, u32)>
+    ensures permutation { IsPermutation pairs.old pairs.new }
+    ensures sorted { AreInOrder pairs.new }
+    ensures none { IfNone result (DifferBelow (length pairs.new) pairs.new) }
+    ensures found { IfSome result (λ rows. IsLowestBelow (length pairs.new) pairs.new rows.0 rows.1) }
+{
+    sort_pairs(pairs);
+    find_repeated(pairs)
+}
+
 /// No two sound pages share a sequence. Leaves the pairs sorted.
 pub(crate) fn check_sequences(pairs: &mut [(u64, u32)]) -> Result<(), Refusal>
     ensures ok { OnOk result ((g : Geometry) (image : Image) → length image ≡ row_count g → pairs.old ≡ pairs_below (marks image) (row_count g) → AreDistinct (marks image)) }
@@ -47,8 +59,7 @@ pub(crate) fn check_sequences(pairs: &mut [(u64, u32)]) -> Result<(), Refusal>
     ensures kind { IfErr result IsOfImage }
     ensures permutation { IsPermutation pairs.old pairs.new }
 {
-    sort_pairs(pairs);
-    match find_repeated(pairs) {
+    match first_repeated(pairs) {
         Some((first, second)) => Err(Refusal::SequenceRepeated { first, second }),
         None => Ok(()),
     }

@@ -1,7 +1,7 @@
 //! What one pass over the pages of a die shows, fed page by page.
 use crate::look::Look;
 use crate::newest::Newest;
-use crate::notes::{note_look, note_newest, note_number, note_sequence, note_table};
+use crate::page_notes::{note_look, note_newest, note_number, note_sequence, note_table};
 use page_layout::geometry::Geometry;
 use page_layout::record::{Record, is_erased, read_record};
 use std::alloc::{AllocError, Global};

@@ -36,7 +36,7 @@ pub fn wanted_length(geometry: &Geometry, arrangement: &Arrangement) -> u64
 }
 
 // The row in whose place the page of a row stands.
-fn turn_of(pages: u64, planes: bool, row: u64) -> u64
+fn row_in_turns(pages: u64, planes: bool, row: u64) -> u64
     requires some { 0 < pages }
     requires few_pages { pages ≤ 256 }
     requires few { row ≤ 1048576 }
@@ -95,7 +95,7 @@ pub(crate) fn page_starts(geometry: &Geometry, arrangement: &Arrangement, row: u
     ensures spare { result.spare ≡ body_place geometry.now arrangement.now row geometry.now.data_bytes }
 {
     let pages = u64::from(geometry.pages());
-    let stands = turn_of(pages, arrangement.planes, u64::from(row));
+    let stands = row_in_turns(pages, arrangement.planes, u64::from(row));
     let run = run_of(geometry, arrangement.spares);
     let (data_bytes, spare_bytes) = (geometry.data_bytes() as u64, geometry.spare_bytes() as u64);
     run_starts(

@@ -1,6 +1,6 @@
 //! The content of a file that is read whole.
 ghost use Rattle.std.specs.Prelude.{◌≡◌, ◌⊎◌, ◌<◌, ◌≤◌, ◌^◌, true, length, IfOk, IfSome, OnErr};
-ghost use Rattle.lab_report.specs.Content.{IsOf};
+ghost use Rattle.lab_report.specs.Content.{IsContentOf};
 
 use lab_dump::{DumpFault, DumpReader};
 use lab_report::{Content, Hashing};
@@ -15,7 +15,7 @@ pub(crate) fn read_content<R: DumpReader>(
     buffer: &mut [u8],
 ) -> Result<Content, DumpFault>
     requires { 0 < length buffer.old }
-    ensures is { IfOk result (λ content. IfSome (R.remaining reader.old) (λ bytes. IsOf bytes content)) }
+    ensures is { IfOk result (λ content. IfSome (R.remaining reader.old) (λ bytes. IsContentOf bytes content)) }
     ensures cut { OnErr result ((R.failed reader.new ≡ true) ⊎ IfSome (R.remaining reader.old) (λ bytes. 2 ^ 64 ≤ length bytes)) }
 {
     let mut hashing = Hashing::new();

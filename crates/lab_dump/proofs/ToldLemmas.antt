@@ -1,6 +1,7 @@
 -- What pages tell, one page more.
 use Rattle.std.proofs.Common.{◌≡◌, ℕ, suc, ◌+◌, ◌*◌, ◌/◌, ◌%◌, ◌≤◌, List, length, refl, sym, ap, ◌∙◌, subst, arith, count_by, Bool, true, false, Option, Some, None, inl, inr, slice_index, slice_range, le_trans}
-use Rattle.std.specs.Prelude.{max, nat_lt}
+use Rattle.std.specs.Prelude.{◌||◌, max, nat_lt}
+use Rattle.std.proofs.lemmas.Bool.{ltb-false, true≢false}
 use Rattle.std.specs.List.{range_with_len}
 use Rattle.page_layout.specs.Word.{word_at}
 use Rattle.std.proofs.lemmas.List.Sums.{count_by-le-length}
@@ -17,7 +18,7 @@ use Rattle.lab_dump.specs.declared.look.Look.{Look}
 use Rattle.lab_dump.specs.declared.told.PagesTold.{PagesTold}
 use Rattle.lab_dump.specs.Pages.{page_at}
 use Rattle.lab_dump.specs.Sample.{look_at}
-use Rattle.lab_dump.specs.Told.{words_used, blocks_of, sectors_of, blocks_by, sectors_by, blocks_at, sectors_at, greatest, pages_told_of, raised, most_by}
+use Rattle.lab_dump.specs.Told.{words_used, blocks_of, sectors_of, blocks_by, sectors_by, blocks_at, sectors_at, greatest, pages_told_of, raised, may_raise, most_by, most_in}
 use Rattle.lab_dump.proofs.SampleLemmas.{one, count_last}
 
 -- ---- words
@@ -86,10 +87,10 @@ says : (p : Page) (r : Record) → IsSound p r → Spells p.spare r
 says p r (inl x) = x.spells
 says p r (inr x) = x.spells
 
-pub told_same : (t : PagesTold) (p : Page) (entries n code : ℕ) → entries ≡ length p.body / 4 → code ≡ slice_index p.spare 3 → n ≡ little_number 4 (slice_range p.spare 4 8)
+told_kept_by : (t : PagesTold) (p : Page) (entries n code : ℕ) → entries ≡ length p.body / 4 → code ≡ slice_index p.spare 3 → n ≡ little_number 4 (slice_range p.spare 4 8)
     → (most_by code n entries).blocks ≤ t.blocks → (most_by code n entries).sectors ≤ t.sectors → t ≡ raised t (look_of p) p.body
 unfolding look_of
-told_same t p entries n code size code_is n_is blocks sectors = by_record (record_of p) refl
+told_kept_by t p entries n code size code_is n_is blocks sectors = by_record (record_of p) refl
   where
     nothing : (b : Bool) → t ≡ raised t (look_by None b) p.body
     nothing true = told_kept 0 0 t (omega arith) (omega arith)
@@ -108,3 +109,14 @@ told_same t p entries n code size code_is n_is blocks sectors = by_record (recor
         let x : (most_by (code_of r.kind) r.number entries).blocks ≤ t.blocks = subst (λ m. m.blocks ≤ t.blocks) here blocks in
         let y : (most_by (code_of r.kind) r.number entries).sectors ≤ t.sectors = subst (λ m. m.sectors ≤ t.sectors) here sectors in
         told_kept (blocks_of r.kind r.number p.body) (sectors_of r.kind r.number (length p.body / 4)) t (le_trans b x) (le_trans (subst (λ k. k ≤ (most_by (code_of r.kind) r.number entries).sectors) same_s s) y)
+
+neither : (a b : Bool) → a || b ≡ false → (a ≡ false) × (b ≡ false)
+neither false b e = (refl, e)
+neither true b e = absurd (true≢false e)
+
+-- one that could not tell more tells no more
+pub told_same : (t : PagesTold) (d : ℕ) (p : Page) → length p.body ≡ d → may_raise t (most_in d p.spare) ≡ false → t ≡ raised t (look_of p) p.body
+told_same t d p size less =
+    let parts = neither (nat_lt t.blocks (most_in d p.spare).blocks) (nat_lt t.sectors (most_in d p.spare).sectors) less in
+    told_kept_by t p (d / 4) (little_number 4 (slice_range p.spare 4 8)) (slice_index p.spare 3) (ap (λ k. k / 4) (sym size)) refl refl
+    (ltb-false t.blocks (most_in d p.spare).blocks parts.0) (ltb-false t.sectors (most_in d p.spare).sectors parts.1)

@@ -3,7 +3,7 @@ use Rattle.std.specs.Prelude.{◌≡◌, ℕ, length, take}
 use Rattle.page_layout.specs.declared.geometry.Geometry.{Geometry}
 use Rattle.page_layout.specs.Geometry.{key_count, table_pages}
 use Rattle.page_layout.specs.Page.{Image}
-use Rattle.image_check.specs.Room.{IsDesk}
+use Rattle.image_check.specs.Room.{IsScratch}
 use Rattle.image_check.specs.Surveyed.{IsSized, IsSurvey}
 use Rattle.lab_dump.specs.declared.seeing.Seeing.{Seeing}
 use Rattle.lab_dump.specs.Count.{AreFew, page_counts_of}
@@ -19,7 +19,7 @@ pub record SeeingStands (g : Geometry) (rows : ℕ) (s : Seeing) : Type 0 where
   pub formed : length s.formed.items ≡ table_pages g
   pub doubting : doubting.DoubtingStands g rows s.doubting
   pub keys : length s.keys.items ≡ key_count g
-  pub desk : IsDesk g s.desk
+  pub scratch : IsScratch g s.scratch
   pub table : length s.table ≡ g.blocks
 
 -- it has what the first rows of the image show

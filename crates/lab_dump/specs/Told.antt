@@ -1,6 +1,7 @@
 -- What all pages tell of the blocks and the sectors.
-use Rattle.std.specs.Prelude.{ℕ, zero, suc, ◌+◌, ◌*◌, ◌/◌, ◌%◌, ◌==◌, nat_lt, ◌||◌, if◌then◌else◌, max, List, length, count_by}
+use Rattle.std.specs.Prelude.{ℕ, zero, suc, ◌+◌, ◌*◌, ◌/◌, ◌%◌, ◌==◌, nat_lt, ◌||◌, if◌then◌else◌, max, Bool, List, length, count_by, slice_index, slice_range}
 use Rattle.std.specs.List.{range_with_len}
+use Rattle.byteorder.specs.Endian.{little_number}
 use Rattle.page_layout.specs.declared.record.Kind.{Kind}
 use Rattle.page_layout.specs.declared.record.Kind.TheVariants as kind
 use Rattle.page_layout.specs.Word.{word_at}
@@ -73,3 +74,12 @@ most_by code n entries =
     if code == 4 then record { blocks = (n + 1) * entries; sectors = 0 } else (
     if code == 3 then record { blocks = 0; sectors = n * entries + 1 } else (
     if (code == 1) || (code == 2) then record { blocks = 0; sectors = n + 1 } else record { blocks = 0; sectors = 0 }))
+
+-- the same by its spare bytes, where its data area has so many
+abbrev pub most_in : ℕ → List ℕ → PagesTold
+most_in data_bytes spare = most_by (slice_index spare 3) (little_number 4 (slice_range spare 4 8)) (data_bytes / 4)
+
+-- whether that is more than what is told
+-- Law: a page of which it is not tells no more, whatever its data area is (`PagesTold::may_rise`: `same`).
+abbrev pub may_raise : PagesTold → PagesTold → Bool
+may_raise told most = nat_lt told.blocks most.blocks || nat_lt told.sectors most.sectors

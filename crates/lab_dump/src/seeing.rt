@@ -9,7 +9,7 @@ use crate::held::KeyState;
 use crate::keys::{blank_table, note_formed};
 use crate::pass::{Stopped, Taker};
 use bad_blocks::Table;
-use image_check::{Desk, Survey};
+use image_check::{Scratch, Survey};
 use page_layout::geometry::Geometry;
 use page_layout::record::is_erased;
 use std::alloc::{AllocError, Global};
@@ -26,7 +26,7 @@ pub(crate) struct Seeing {
     // room for how each key stands, which is known in the end
     pub(crate) keys: Vec<KeyState>,
     // room for the state of each block, which is known in the end
-    pub(crate) desk: Desk,
+    pub(crate) scratch: Scratch,
     // scratch, to read table pages into
     table: Table,
 }
@@ -44,7 +44,7 @@ impl Seeing {
             formed: vec![in alloc; false; geometry.table_pages() as usize]?,
             doubting: Doubting::new(alloc, geometry)?,
             keys: vec![in alloc; KeyState::Absent; keys as usize]?,
-            desk: Desk::new(alloc, geometry)?,
+            scratch: Scratch::new(alloc, geometry)?,
             table: blank_table(alloc, geometry.blocks())?,
         })
     }

@@ -2,7 +2,7 @@
 ghost use Rattle.std.specs.Prelude.{◌≡◌, ℕ, ◌<◌, true, length, get_or, Err, IfOk, IfErr, IfSome, IsPermutation, option_map};
 ghost use Rattle.page_layout.specs.Geometry.{row_count};
 ghost use Rattle.page_layout.specs.Page.{Image};
-ghost use Rattle.image_check.specs.Room.{IsDesk};
+ghost use Rattle.image_check.specs.Room.{IsScratch};
 ghost use Rattle.image_check.specs.Surveyed.{IsSized, Surveys};
 ghost use Rattle.lab_dump.specs.declared.held.KeyState.TheVariants.{Absent};
 ghost use Rattle.lab_dump.specs.declared.trace.Trace.TheVariants.{Never};
@@ -16,12 +16,12 @@ use crate::doubts::Unsettled;
 use crate::dump::DumpReader;
 use crate::held::KeyState;
 use crate::pass::{PassFault, scan_rows};
-use crate::repeated::first_repeated;
+use crate::repeated::shared_sequence;
 use crate::rows::Rows;
 use crate::seeing::Seeing;
 use crate::trace::Trace;
 use certificate::BlockState;
-use image_check::{Desk, Survey, describe};
+use image_check::{Scratch, Survey, describe};
 use page_layout::geometry::Geometry;
 use std::alloc::{AllocError, Global};
 use thiserror::Error;
@@ -88,15 +88,15 @@ fn note_keys(traces: &[Trace], keys: &mut [KeyState])
 }
 
 // The state of each block, where the pages have none of the first three faults.
-fn blocks_of(survey: &mut Survey, mut desk: Desk) -> Option<Vec<BlockState>>
+fn blocks_of(survey: &mut Survey, mut scratch: Scratch) -> Option<Vec<BlockState>>
     requires sized { IsSized survey.old.geometry (row_count survey.old.geometry) survey.old }
-    requires desk { IsDesk survey.old.geometry desk }
+    requires scratch { IsScratch survey.old.geometry scratch }
     ensures blocks { (image : Image) → Surveys survey.old.geometry image survey.old → BlocksAs survey.old.geometry image (option_map (λ states. states.items) result) }
     ensures size { IfSome result (λ states. length states.items ≡ survey.old.geometry.blocks) }
     ensures permutation { IsPermutation survey.old.pairs.items survey.new.pairs.items }
 {
-    match describe(survey, &mut desk) {
-        Ok(()) => Some(desk.states),
+    match describe(survey, &mut scratch) {
+        Ok(()) => Some(scratch.states),
         Err(_) => None,
     }
 }
@@ -109,8 +109,8 @@ fn conclude(geometry: &Geometry, seeing: Seeing) -> DieSurvey
 {
     let (mut survey, mut keys, mut doubting) = (seeing.survey, seeing.keys, seeing.doubting);
     note_keys(&doubting.traces, &mut keys);
-    let blocks = blocks_of(&mut survey, seeing.desk);
-    let repeated = first_repeated(&mut survey.pairs);
+    let blocks = blocks_of(&mut survey, seeing.scratch);
+    let repeated = shared_sequence(&mut survey.pairs);
     let doubts = doubting.conclude(geometry);
     let left = Unsettled {
         doubts,

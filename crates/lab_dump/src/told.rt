@@ -1,9 +1,10 @@
 //! What all pages tell of the blocks and the sectors.
-ghost use Rattle.std.specs.Prelude.{◌≡◌, ◌+◌, ◌*◌, ◌/◌, ◌<◌, ◌≤◌, ◌^◌, List, ℕ, length, take, IfOk, Some, OnErr, true};
+ghost use Rattle.std.specs.Prelude.{◌≡◌, ◌+◌, ◌*◌, ◌/◌, ◌<◌, ◌≤◌, ◌^◌, List, ℕ, length, take, IfOk, Some, OnErr, true, false};
 ghost use Rattle.page_layout.specs.Geometry.{page_bytes, row_count};
+ghost use Rattle.page_layout.specs.Page.{page};
 ghost use Rattle.lab_dump.specs.Look.{look_of};
 ghost use Rattle.lab_dump.specs.Pages.{page_in};
-ghost use Rattle.lab_dump.specs.Told.{words_used, blocks_by, sectors_by, most_by, raised, pages_told_of};
+ghost use Rattle.lab_dump.specs.Told.{words_used, blocks_by, sectors_by, may_raise, most_by, most_in, raised, pages_told_of};
 
 use crate::dump::{Dump, DumpFault};
 use crate::look::{Look, look_at};
@@ -89,6 +90,13 @@ fn most_by(code: u8, number: u32, entries: u32) -> PagesTold
     PagesTold { blocks, sectors }
 }
 
+// Whether that is more than what is told.
+fn may_raise(told: PagesTold, most: PagesTold) -> bool
+    ensures { result ≡ may_raise told most }
+{
+    told.blocks < most.blocks || told.sectors < most.sectors
+}
+
 impl PagesTold {
     // What is told with one page more.
     fn raised(self, look: Look, body: &[u8]) -> PagesTold
@@ -102,18 +110,24 @@ impl PagesTold {
         }
     }
 
+    /// Whether a page with this spare area could tell more, if it were sound. One that could not tells no more, whatever its data area is.
+    pub fn may_rise(self, geometry: &Geometry, spare: &[u8]) -> bool
+        requires { length spare.now ≡ geometry.now.spare_bytes }
+        ensures is { result ≡ may_raise self (most_in geometry.now.data_bytes spare.now) }
+        ensures same { result ≡ false → (body : List ℕ) → length body ≡ geometry.now.data_bytes → self ≡ raised self (look_of (page body spare.now)) body }
+    {
+        let number = LittleEndian::read_u32(&spare[4..8]);
+        let most = most_by(spare[3], number, geometry.entries());
+        may_raise(self, most)
+    }
+
     /// What is told with one page more, by its bytes. A page is not hashed that could not tell more if it were sound.
     pub fn noted(self, geometry: &Geometry, page: &[u8]) -> PagesTold
         requires { length page.now ≡ page_bytes geometry.now }
         ensures { result ≡ raised self (look_of (page_in geometry.now.data_bytes page.now)) (take geometry.now.data_bytes page.now) }
     {
         let (body, spare) = page.split_at(geometry.data_bytes());
-        let most = most_by(
-            spare[3],
-            LittleEndian::read_u32(&spare[4..8]),
-            geometry.entries(),
-        );
-        if most.blocks <= self.blocks && most.sectors <= self.sectors {
+        if !self.may_rise(geometry, spare) {
             return self;
         }
         self.raised(look_at(geometry, body, spare), body)

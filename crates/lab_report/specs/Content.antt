@@ -6,7 +6,7 @@ use Rattle.lab_report.specs.declared.content.Content as declared
 use Rattle.lab_report.specs.declared.content.Hashing.{Hashing}
 
 -- it is told of these bytes: so many are they, and that is their SHA-256
-pub record IsOf (bytes : List ℕ) (c : declared.Content) : Type 0 where
+pub record IsContentOf (bytes : List ℕ) (c : declared.Content) : Type 0 where
   pub length_is : c.length ≡ length bytes
   pub digest_is : c.sha256 ≡ sha256 bytes
 

@@ -1,6 +1,6 @@
 //! The content of a file: how many bytes it has, and their SHA-256.
 ghost use Rattle.std.specs.Prelude.{◌≡◌, ◌<◌, ◌^◌, length};
-ghost use Rattle.lab_report.specs.Content.{IsOf};
+ghost use Rattle.lab_report.specs.Content.{IsContentOf};
 
 use sha2::{Digest, Sha256};
 use thiserror::Error;
@@ -41,7 +41,7 @@ pub struct Hashing {
 
 impl Hashing {
     ghost use Rattle.std.specs.Prelude.{◌≡◌, ◌≤◌, ◌<◌, ◌+◌, ◌^◌, ◌++◌, ℕ, List, [], length, OnOk, OnErr};
-    ghost use Rattle.lab_report.specs.Content.{HasTaken, IsOf, count_of};
+    ghost use Rattle.lab_report.specs.Content.{HasTaken, IsContentOf, count_of};
 
     /// One that has taken no byte.
     pub fn new() -> Hashing
@@ -74,7 +74,7 @@ impl Hashing {
 
     /// The content that the bytes are which were taken.
     pub fn content(self) -> Content
-        ensures { (bytes : List ℕ) → HasTaken bytes self → IsOf bytes result }
+        ensures { (bytes : List ℕ) → HasTaken bytes self → IsContentOf bytes result }
     {
         Content {
             length: self.length,
@@ -85,7 +85,7 @@ impl Hashing {
 
 /// The content that these bytes are. (This project's.)
 pub fn content_of(bytes: &[u8]) -> Content
-    ensures { IsOf bytes.now result }
+    ensures { IsContentOf bytes.now result }
 {
     let mut hasher = Sha256::new();
     hasher.update(bytes);

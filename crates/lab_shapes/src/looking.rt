@@ -78,7 +78,8 @@ pub(crate) fn sample_first<D: Dump>(
     Ok(sample)
 }
 
-/// What all pages tell together, when the dump is put in order. `raw` and `page` are scratch.
+/// What all pages tell together, when the dump is put in order. Of a page that could not tell more the spare area alone is read. `raw` and `page` are
+/// scratch.
 pub(crate) fn told_in_order<D: Dump>(
     dump: &mut D,
     size: u64,
@@ -100,8 +101,12 @@ pub(crate) fn told_in_order<D: Dump>(
         sectors: 0,
     };
     for row in 0..geometry.rows() {
-        read_page(dump, size, geometry, arrangement, row, raw, page)?;
-        told = told.noted(geometry, page);
+        let spare = &mut page[..geometry.spare_bytes()];
+        read_spare(dump, size, geometry, arrangement, row, raw, spare)?;
+        if told.may_rise(geometry, spare) {
+            read_page(dump, size, geometry, arrangement, row, raw, page)?;
+            told = told.noted(geometry, page);
+        }
     }
     Ok(told)
 }

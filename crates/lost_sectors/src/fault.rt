@@ -1,4 +1,4 @@
-// Why it was not found which sectors are lost.
+//! Why it was not found which sectors are lost.
 ghost use Rattle.std.specs.Prelude.{◌≡◌};
 
 use file_die::StoreFault;

@@ -13,7 +13,7 @@ use Rattle.mount.specs.Log.{failures}
 use Rattle.mount.specs.Fresh.{is_used, IsFirstPass}
 use Rattle.mount.proofs.TableLemmas.{good_count-table}
 use Rattle.mount.specs.Formatted.{good_after, IsNotFresh, table_after, IsFormatted, IsTooFewGood, IsWriteFailed, Formats}
-use Rattle.mount.specs.Attempt.{IsTrying, Tries, Writes}
+use Rattle.mount.specs.Attempt.{IsTrying, Tries, WritesFormat}
 use Rattle.mount.specs.declared.format_fault.FormatFault.{FormatFault}
 use Rattle.mount.specs.declared.format_fault.FormatFault.TheVariants.{TooFewGood, Bus, OutOfMemory, WriteFailed, NotFresh}
 use Rattle.mount.proofs.FinishLemmas.{finished}
@@ -71,7 +71,7 @@ gives_up g first now table block next failed trying three enough = record {
   enough = (let same : good_count table ≡ good_after g first.image trying.log = ap good_count trying.underway.table_is ∙ good_count-table g first.image trying.log in omega (arith, enough));
 }
 
-pub writes_formats : (g : Geometry) (first now : Flash) (r : Result ℕ FormatFault) → Writes g first now r → Formats g first now r
+pub writes_formats : (g : Geometry) (first now : Flash) (r : Result ℕ FormatFault) → WritesFormat g first now r → Formats g first now r
 writes_formats g first now (Ok good) writes = writes
 writes_formats g first now (Err (TooFewGood good asked)) writes = writes
 writes_formats g first now (Err Bus) writes = writes

@@ -76,13 +76,13 @@ Tries g first now table block next failed Failed = (other : ℕ) → IsTrying g 
 -- ---- the answers of the programs
 
 -- what writing the table pages of a fresh die answers
-abbrev pub Writes : Geometry → Flash → Flash → Result ℕ FormatFault → Type 0
-Writes g first now (Ok good) = IsFormatted g first now good
-Writes g first now (Err (TooFewGood good asked)) = IsTooFewGood g first now good asked
-Writes g first now (Err Bus) = Unit {0}
-Writes g first now (Err OutOfMemory) = ⊥
-Writes g first now (Err WriteFailed) = IsWriteFailed g first now
-Writes g first now (Err (NotFresh row)) = ⊥
+abbrev pub WritesFormat : Geometry → Flash → Flash → Result ℕ FormatFault → Type 0
+WritesFormat g first now (Ok good) = IsFormatted g first now good
+WritesFormat g first now (Err (TooFewGood good asked)) = IsTooFewGood g first now good asked
+WritesFormat g first now (Err Bus) = Unit {0}
+WritesFormat g first now (Err OutOfMemory) = ⊥
+WritesFormat g first now (Err WriteFailed) = IsWriteFailed g first now
+WritesFormat g first now (Err (NotFresh row)) = ⊥
 
 -- what it answers for any die, by the programs before and after
 abbrev pub AnswersWrite : Geometry → ℕ → ℕ → Result ℕ FormatFault → Type 0

@@ -1,3 +1,4 @@
+//! Why a die is not formatted.
 use onfi_cycles::BusFault;
 use page_layout::source::SourceFault;
 use std::alloc::AllocError;

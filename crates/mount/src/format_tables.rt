@@ -4,7 +4,7 @@ ghost use Rattle.page_layout.specs.Counter.{counted, HasRisen};
 ghost use Rattle.page_layout.specs.Flash.{Flash};
 ghost use Rattle.page_layout.specs.Geometry.{need, table_pages};
 ghost use Rattle.bad_blocks.specs.Table.{good_count, is_good_at, unworn};
-ghost use Rattle.mount.specs.Attempt.{IsTableProgram, IsTrying, Tries, Writes, AnswersWrite};
+ghost use Rattle.mount.specs.Attempt.{IsTableProgram, IsTrying, Tries, WritesFormat, AnswersWrite};
 
 use crate::format_fault::FormatFault;
 use bad_blocks::{Class, write_unworn_page};
@@ -152,7 +152,7 @@ pub fn write_tables<N: Nand>(
     requires spare_whole { length spare.old ≡ geometry.now.spare_bytes }
     ensures writes { N.honest nand.old ≡ true →
         IsTrying geometry.now (N.flash nand.old) (N.flash nand.old) (unworn classes.old) 0 0 1 0 →
-        Writes geometry.now (N.flash nand.old) (N.flash nand.new) result }
+        WritesFormat geometry.now (N.flash nand.old) (N.flash nand.new) result }
     ensures answers { AnswersWrite geometry.now (N.programs nand.old) (N.programs nand.new) result }
     ensures geometry { (N.flash nand.new).geometry ≡ (N.flash nand.old).geometry }
     ensures honest { N.honest nand.new ≡ N.honest nand.old }

@@ -1,3 +1,4 @@
+//! What a format may answer, and what the checker finds behind it.
 ghost use Rattle.mount.specs.FormatLaws.{FewLaw, FreshLaw, UsedLaw};
 ghost use Rattle.mount.specs.MountLaws.{AcceptedLaw, SharedLaw, TableTieLaw};
 ghost use Rattle.mount.specs.Ready.{FormattedLaw};

@@ -3,21 +3,28 @@ ghost use Rattle.std.specs.Prelude.{◌≡◌, ℕ, IfOk};
 ghost use Rattle.nanddisk.specs.Stores.{IsStoreOf};
 
 use crate::fault::{unread, unwritten};
+use crate::noted_file::NotedFile;
 use coded_store::{CodedStore, MaybeCoded};
 use disk_commands::{Code, DiskFileFault, DiskShape, die_bytes};
 use file_die::{ByteFault, DieFile, RowFault};
 use page_layout::geometry::Geometry;
+use part_files::System;
 use std::alloc::Global;
 use std::fs::File;
+use std::rt::Files;
 
 /// The pages of a die in a file of the system: with their codes, or without.
-pub type DieStore = MaybeCoded<DieFile<File>, File>;
+pub type DieStore<'a> = MaybeCoded<DieFile<NotedFile<'a>>, NotedFile<'a>>;
 
 /// The same file, if it is as long as a shape says.
-pub fn as_long(file: File, shape: &DiskShape) -> Result<File, DiskFileFault> {
+pub fn as_long<R: Files<File = File>>(
+    system: &System<'_, R>,
+    file: File,
+    shape: &DiskShape,
+) -> Result<File, DiskFileFault> {
     let found = match file.metadata() {
         Ok(metadata) => metadata.len(),
-        Err(error) => return Err(unread(error)),
+        Err(error) => return Err(unread(system, error)),
     };
     if found == die_bytes(shape) {
         Ok(file)
@@ -27,10 +34,13 @@ pub fn as_long(file: File, shape: &DiskShape) -> Result<File, DiskFileFault> {
 }
 
 /// A second handle of a file, which holds the lock too.
-pub fn second_handle(file: &File) -> Result<File, DiskFileFault> {
+pub fn second_handle<R: Files<File = File>>(
+    system: &System<'_, R>,
+    file: &File,
+) -> Result<File, DiskFileFault> {
     match file.try_clone() {
         Ok(own) => Ok(own),
-        Err(error) => Err(unread(error)),
+        Err(error) => Err(unread(system, error)),
     }
 }
 
@@ -48,7 +58,11 @@ fn untaken(fault: RowFault) -> DiskFileFault
 }
 
 // A store of pages without codes.
-fn plain_store(alloc: Global, geometry: &Geometry, file: File) -> Result<DieStore, DiskFileFault>
+fn plain_store<'a>(
+    alloc: Global,
+    geometry: &Geometry,
+    file: NotedFile<'a>,
+) -> Result<DieStore<'a>, DiskFileFault>
     ensures { IfOk result (IsStoreOf geometry.now) }
 {
     match DieFile::new(alloc, *geometry, file) {
@@ -58,7 +72,11 @@ fn plain_store(alloc: Global, geometry: &Geometry, file: File) -> Result<DieStor
 }
 
 // A store of pages with their codes.
-fn coded_store(alloc: Global, geometry: &Geometry, file: File) -> Result<DieStore, DiskFileFault>
+fn coded_store<'a>(
+    alloc: Global,
+    geometry: &Geometry,
+    file: NotedFile<'a>,
+) -> Result<DieStore<'a>, DiskFileFault>
     ensures { IfOk result (IsStoreOf geometry.now) }
 {
     match CodedStore::new(alloc, *geometry, file) {
@@ -68,7 +86,11 @@ fn coded_store(alloc: Global, geometry: &Geometry, file: File) -> Result<DieStor
 }
 
 /// The store over a file, of the pages of a shape, in which what stands is made to last first.
-pub fn store_over(alloc: Global, shape: &DiskShape, file: File) -> Result<DieStore, DiskFileFault>
+pub fn store_over<'a>(
+    alloc: Global,
+    shape: &DiskShape,
+    file: NotedFile<'a>,
+) -> Result<DieStore<'a>, DiskFileFault>
     ensures { IfOk result (IsStoreOf shape.now.geometry) }
 {
     match shape.code {
@@ -78,11 +100,16 @@ pub fn store_over(alloc: Global, shape: &DiskShape, file: File) -> Result<DieSto
 }
 
 /// The store over an empty file, which is made as long as the pages of a shape are.
-pub fn store_in(alloc: Global, shape: &DiskShape, file: File) -> Result<DieStore, DiskFileFault>
+pub fn store_in<'a, R: Files<File = File>>(
+    system: &System<'a, R>,
+    alloc: Global,
+    shape: &DiskShape,
+    file: File,
+) -> Result<DieStore<'a>, DiskFileFault>
     ensures { IfOk result (IsStoreOf shape.now.geometry) }
 {
     match file.set_len(die_bytes(shape)) {
-        Ok(()) => store_over(alloc, shape, file),
-        Err(error) => Err(unwritten(error)),
+        Ok(()) => store_over(alloc, shape, NotedFile::new(file, system.first)),
+        Err(error) => Err(unwritten(system, error)),
     }
 }

@@ -1,16 +1,17 @@
-//! What an error of the system comes to.
+//! What an error of the system comes to, or a fault of a part.
 ghost use Rattle.std.specs.Prelude.{◌≡◌, ◌≢◌};
 ghost use Rattle.std.specs.IoError.{error_kind};
 
 use disk_commands::DiskFileFault;
-use part_files::PartFault;
+use part_files::{PartFault, System};
 use std::io::{Error, ErrorKind};
 
-/// Why a file was not read, by the system's error.
-pub fn unread(error: Error) -> DiskFileFault
+/// Why a file was not read, by the system's error, which is noted.
+pub fn unread<R>(system: &System<'_, R>, error: Error) -> DiskFileFault
     ensures memory { error_kind error ≡ ErrorKind.OutOfMemory → result ≡ DiskFileFault.OutOfMemory }
     ensures other { error_kind error ≢ ErrorKind.OutOfMemory → result ≡ DiskFileFault.Read }
 {
+    system.first.note(&error);
     if error.kind() == ErrorKind::OutOfMemory {
         DiskFileFault::OutOfMemory
     } else {
@@ -19,10 +20,11 @@ pub fn unread(error: Error) -> DiskFileFault
 }
 
 /// Why a file was not written.
-pub fn unwritten(error: Error) -> DiskFileFault
+pub fn unwritten<R>(system: &System<'_, R>, error: Error) -> DiskFileFault
     ensures memory { error_kind error ≡ ErrorKind.OutOfMemory → result ≡ DiskFileFault.OutOfMemory }
     ensures other { error_kind error ≢ ErrorKind.OutOfMemory → result ≡ DiskFileFault.Write }
 {
+    system.first.note(&error);
     if error.kind() == ErrorKind::OutOfMemory {
         DiskFileFault::OutOfMemory
     } else {

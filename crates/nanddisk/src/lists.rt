@@ -4,7 +4,7 @@ ghost use Rattle.std.specs.Prelude.{◌≡◌, []};
 use disk_damage::write_list;
 use disk_server::KeepsLost;
 use nbd_stream::DiskFault;
-use part_files::{SystemNames, discard, new_part, publish_over};
+use part_files::{System, discard, new_part, publish_over};
 use std::alloc::Global;
 use std::fs::File;
 use std::io::Write;
@@ -22,7 +22,7 @@ pub struct ListNames {
 /// The place of a list: a handle of the die, whose file is synced before the list is kept, and what the file beside the disk is to say from the first list on.
 #[derive(Drop)]
 pub struct FileLists<'a, R> {
-    rt: &'a R,
+    system: System<'a, R>,
     alloc: Global,
     die: File,
     names: ListNames,
@@ -35,7 +35,7 @@ pub struct FileLists<'a, R> {
 impl<'a, R: Files<File = File>> FileLists<'a, R> {
     /// With these. Nothing is opened or made.
     pub fn new(
-        rt: &'a R,
+        system: System<'a, R>,
         alloc: Global,
         die: File,
         names: ListNames,
@@ -44,7 +44,7 @@ impl<'a, R: Files<File = File>> FileLists<'a, R> {
         ensures { result.kept.items ≡ [] }
     {
         FileLists {
-            rt,
+            system,
             alloc,
             die,
             names,
@@ -59,9 +59,9 @@ impl<'a, R: Files<File = File>> FileLists<'a, R> {
         ensures kept { self.new.kept ≡ self.old.kept }
         ensures failed { self.new.failed ≡ self.old.failed }
     {
-        if self.die.sync_data().is_err()
+        if self.system.first.noting(self.die.sync_data()).is_err()
             || !replaced(
-                self.rt,
+                &self.system,
                 self.names.list_part.as_str(),
                 self.names.list.as_str(),
                 text,
@@ -73,7 +73,7 @@ impl<'a, R: Files<File = File>> FileLists<'a, R> {
             return true;
         }
         let told = replaced(
-            self.rt,
+            &self.system,
             self.names.beside_part.as_str(),
             self.names.beside.as_str(),
             &self.beside,
@@ -86,12 +86,18 @@ impl<'a, R: Files<File = File>> FileLists<'a, R> {
 }
 
 // Writes bytes to a part, has them stored, and puts the part in the place of a file. Answers whether that was done: else the file is as it was.
-fn replaced<R: Files<File = File>>(rt: &R, part: &str, path: &str, bytes: &[u8]) -> bool {
-    let mut names = SystemNames::new(rt);
+fn replaced<R: Files<File = File>>(
+    system: &System<'_, R>,
+    part: &str,
+    path: &str,
+    bytes: &[u8],
+) -> bool {
+    let mut names = system.names();
     let Ok(mut file) = new_part(&mut names, part) else {
         return false;
     };
-    let stored = file.write_all(bytes).is_ok() && file.sync_all().is_ok();
+    let stored = system.first.noting(file.write_all(bytes)).is_ok()
+        && system.first.noting(file.sync_all()).is_ok();
     if stored && publish_over(&mut names, part, path).is_ok() {
         return true;
     }

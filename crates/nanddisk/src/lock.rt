@@ -5,6 +5,7 @@ ghost use Rattle.nanddisk.specs.Locks.{IsFileHeld, options_for};
 
 use crate::fault::unread;
 use disk_commands::{Access, DiskFileFault, LockedDie};
+use part_files::System;
 use std::fs::{File, OpenOptions, TryLockError};
 use std::rt::{Clock, Files};
 use std::thread;
@@ -44,7 +45,11 @@ fn options_for(writes: bool) -> OpenOptions
 }
 
 // Locks a file, alone or with others, at once or not at all.
-fn taken(file: &File, alone: bool) -> Result<(), DiskFileFault> {
+fn taken<R: Files<File = File>>(
+    system: &System<'_, R>,
+    file: &File,
+    alone: bool,
+) -> Result<(), DiskFileFault> {
     let done = if alone {
         file.try_lock()
     } else {
@@ -53,25 +58,25 @@ fn taken(file: &File, alone: bool) -> Result<(), DiskFileFault> {
     match done {
         Ok(()) => Ok(()),
         Err(TryLockError::WouldBlock) => Err(DiskFileFault::InUse),
-        Err(TryLockError::Error(error)) => Err(unread(error)),
+        Err(TryLockError::Error(error)) => Err(unread(system, error)),
     }
 }
 
 // Opens a file so, and locks it: alone where it is to be written.
 fn locked<R: Files<File = File>>(
-    rt: &R,
+    system: &System<'_, R>,
     path: &str,
     options: OpenOptions,
 ) -> Result<LockedFile, DiskFileFault>
     ensures options { IfOk result (λ l. l.options ≡ options) }
     ensures alone { IfOk result (λ l. l.alone ≡ asks_write options) }
 {
-    let file = match options.open(rt, path) {
+    let file = match options.open(system.rt, path) {
         Ok(file) => file,
-        Err(error) => return Err(unread(error)),
+        Err(error) => return Err(unread(system, error)),
     };
     let alone = options.asks_write();
-    match taken(&file, alone) {
+    match taken(system, &file, alone) {
         Ok(()) => Ok(LockedFile {
             file,
             options,
@@ -87,17 +92,20 @@ fn locked<R: Files<File = File>>(
 ///
 /// `InUse` where others hold it then; `Read` where it could not be opened or locked; `OutOfMemory`.
 pub fn lock_die<R: Files<File = File> + Clock>(
-    rt: &R,
+    system: &System<'_, R>,
     path: &str,
     access: Access,
 ) -> Result<LockedFile, DiskFileFault>
     ensures { IfOk result (IsFileHeld access.writes) }
 {
     for _ in 0..u64::from(access.wait) * TRIES {
-        match locked(rt, path, options_for(access.writes)) {
-            Err(DiskFileFault::InUse) => thread::sleep(rt, Duration::from_millis(PAUSE_MILLIS)),
+        match locked(system, path, options_for(access.writes)) {
+            Err(DiskFileFault::InUse) => thread::sleep(
+                system.rt,
+                Duration::from_millis(PAUSE_MILLIS),
+            ),
             done => return done,
         }
     }
-    locked(rt, path, options_for(access.writes))
+    locked(system, path, options_for(access.writes))
 }

@@ -7,10 +7,12 @@ mod die;
 mod fault;
 mod lists;
 mod lock;
+mod noted_file;
 mod part;
 mod system;
 
 use disk_commands::{DiskCommandFault, run, tell};
+use part_files::FirstError;
 use program_words::{GrammarFault, word_slices, words_found};
 use std::env;
 use std::fs::File;
@@ -21,6 +23,9 @@ use system::SystemFiles;
 
 // The bytes that are read or printed at once.
 const BUFFERED: usize = 65_536;
+
+// The exit status of a command for which a file or a stream failed.
+const FAILED: u8 = 3;
 
 // Why there are no words.
 fn words_fault(fault: GrammarFault) -> DiskCommandFault<'static>
@@ -34,20 +39,20 @@ fn words_fault(fault: GrammarFault) -> DiskCommandFault<'static>
 }
 
 // Does what the words say, over the system's files. What is read and printed goes through buffers, so that a request and a reply are one call of the system each.
-fn run_over<S: Files<File = File> + AllocGlobal + Clock, I: Read + Drop, O: Write + Drop, E: Write>(
-    system: &S,
-    words: &[&str],
-    input: I,
-    out: O,
-    err: &mut E,
-) -> u8 {
+fn run_over<
+    'a,
+    S: Files<File = File> + AllocGlobal + Clock,
+    I: Read + Drop,
+    O: Write + Drop,
+    E: Write,
+>(system: &'a S, first: &'a FirstError, words: &[&str], input: I, out: O, err: &mut E) -> u8 {
     let Ok(mut reader) = BufReader::with_capacity(system.alloc(), BUFFERED, input) else {
         return tell(system.alloc(), &DiskCommandFault::OutOfMemory, err);
     };
     let Ok(mut writer) = BufWriter::with_capacity(system.alloc(), BUFFERED, out) else {
         return tell(system.alloc(), &DiskCommandFault::OutOfMemory, err);
     };
-    let mut files = SystemFiles::new(system);
+    let mut files = SystemFiles::new(system, first);
     let status = run(
         system.alloc(),
         words,
@@ -64,21 +69,27 @@ fn run_over<S: Files<File = File> + AllocGlobal + Clock, I: Read + Drop, O: Writ
 
 // The exit status of the program.
 fn status_of<
+    'a,
     S: Env + Files<File = File> + AllocGlobal + Clock,
     I: Read + Drop,
     O: Write + Drop,
     E: Write,
->(system: &S, input: I, out: O, err: &mut E) -> u8 {
+>(system: &'a S, first: &'a FirstError, input: I, out: O, err: &mut E) -> u8 {
     let kept = match words_found(system.alloc(), env::args(system)) {
         Ok(kept) => kept,
         Err(fault) => return tell(system.alloc(), &words_fault(fault), err),
     };
     match word_slices(system.alloc(), &kept) {
-        Ok(words) => run_over(system, &words, input, out, err),
+        Ok(words) => run_over(system, first, &words, input, out, err),
         Err(_) => tell(system.alloc(), &DiskCommandFault::OutOfMemory, err),
     }
 }
 
 fn main(rt: HostRuntime) -> ExitCode {
-    ExitCode::from(status_of(&rt, rt.stdin(), rt.stdout(), &mut rt.stderr()))
+    let first = FirstError::new();
+    let status = status_of(&rt, &first, rt.stdin(), rt.stdout(), &mut rt.stderr());
+    if status == FAILED {
+        first.tell(&mut rt.stderr());
+    }
+    ExitCode::from(status)
 }

@@ -7,9 +7,7 @@ use crate::fault::{unmade, unread, unseen, unwritten};
 use disk_commands::DiskFileFault;
 use file_die::Store;
 use page_layout::geometry::Geometry;
-use part_files::{
-    Names, Pair, SystemNames, clear_begun, discard, is_begun, new_part, publish_pair,
-};
+use part_files::{Names, Pair, System, clear_begun, discard, is_begun, new_part, publish_pair};
 use std::alloc::Global;
 use std::fs::{self, File};
 use std::io::{self, BufReader, Read, Seek, SeekFrom, Write};
@@ -24,18 +22,18 @@ fn length_of(file: &mut File) -> io::Result<u64> {
 
 /// A dump of just so many bytes, to be read from its first one.
 pub fn open_dump<R: Files<File = File>>(
-    rt: &R,
+    system: &System<'_, R>,
     dump: &str,
     wanted: u64,
 ) -> Result<File, DiskFileFault> {
-    let mut from = match fs::open(rt, dump) {
+    let mut from = match fs::open(system.rt, dump) {
         Ok(from) => from,
-        Err(error) => return Err(unread(error)),
+        Err(error) => return Err(unread(system, error)),
     };
     match length_of(&mut from) {
         Ok(found) if found == wanted => Ok(from),
         Ok(found) => Err(DiskFileFault::Length(found)),
-        Err(error) => Err(unread(error)),
+        Err(error) => Err(unread(system, error)),
     }
 }
 
@@ -47,12 +45,13 @@ pub fn copy_file(from: &mut File, file: &File) -> io::Result<()> {
 }
 
 /// Puts the pages of a dump into a store, and has them last.
-pub fn put_dump(
+pub fn put_dump<'a, R: Files<File = File>>(
+    system: &System<'a, R>,
     alloc: Global,
     geometry: &Geometry,
     from: File,
-    store: DieStore,
-) -> Result<DieStore, DiskFileFault>
+    store: DieStore<'a>,
+) -> Result<DieStore<'a>, DiskFileFault>
     requires { IsStoreOf geometry.now store }
     ensures { IfOk result (IsStoreOf geometry.now) }
 {
@@ -64,7 +63,7 @@ pub fn put_dump(
     };
     for row in 0..geometry.rows() {
         if let Err(error) = reader.read_exact(&mut page) {
-            return Err(unread(error));
+            return Err(unread(system, error));
         }
         if store.put(row, &page).is_err() {
             return Err(DiskFileFault::Write);
@@ -84,15 +83,15 @@ fn put_all(file: &mut File, bytes: &[u8]) -> io::Result<()> {
 
 // Writes the part of the file beside a die, and names both.
 fn put_both<R: Files<File = File>>(
-    rt: &R,
+    system: &System<'_, R>,
     pair: &Pair<'_>,
     file: &mut File,
     text: &[u8],
 ) -> Result<(), DiskFileFault> {
     if let Err(error) = put_all(file, text) {
-        return Err(unwritten(error));
+        return Err(unwritten(system, error));
     }
-    match publish_pair(&mut SystemNames::new(rt), pair) {
+    match publish_pair(&mut system.names(), pair) {
         Ok(()) => Ok(()),
         Err(fault) => Err(unmade(fault)),
     }
@@ -101,24 +100,27 @@ fn put_both<R: Files<File = File>>(
 /// Gives a finished die its name, with the file beside it that tells its shape, so that both names outlive a loss of power where the folder can be synced. The part of that
 /// file is gone then.
 pub fn publish<R: Files<File = File>>(
-    rt: &R,
+    system: &System<'_, R>,
     pair: &Pair<'_>,
     text: &[u8],
 ) -> Result<(), DiskFileFault> {
-    let mut file = match new_part(&mut SystemNames::new(rt), pair.beside_part) {
+    let mut file = match new_part(&mut system.names(), pair.beside_part) {
         Ok(file) => file,
         Err(fault) => return Err(unmade(fault)),
     };
-    let done = put_both(rt, pair, &mut file, text);
+    let done = put_both(system, pair, &mut file, text);
     if done.is_err() {
-        discard(&mut SystemNames::new(rt), pair.beside_part);
+        discard(&mut system.names(), pair.beside_part);
     }
     done
 }
 
 /// The part of a die, empty, open and locked. What a run that was killed has begun here is taken back first.
-pub fn new_die<R: Files<File = File>>(rt: &R, pair: &Pair<'_>) -> Result<File, DiskFileFault> {
-    let mut names = SystemNames::new(rt);
+pub fn new_die<R: Files<File = File>>(
+    system: &System<'_, R>,
+    pair: &Pair<'_>,
+) -> Result<File, DiskFileFault> {
+    let mut names = system.names();
     match clear_begun(&mut names, pair) {
         Ok(()) => {}
         Err(fault) => return Err(unmade(fault)),
@@ -130,8 +132,11 @@ pub fn new_die<R: Files<File = File>>(rt: &R, pair: &Pair<'_>) -> Result<File, D
 }
 
 /// Whether something stands at the path of a die, or beside it. What a run that was killed has begun is nothing.
-pub fn is_taken<R: Files<File = File>>(rt: &R, pair: &Pair<'_>) -> Result<bool, DiskFileFault> {
-    let mut names = SystemNames::new(rt);
+pub fn is_taken<R: Files<File = File>>(
+    system: &System<'_, R>,
+    pair: &Pair<'_>,
+) -> Result<bool, DiskFileFault> {
+    let mut names = system.names();
     let taken = match names.is_there(pair.path) {
         Ok(true) => Ok(true),
         Ok(false) => names.is_there(pair.beside),

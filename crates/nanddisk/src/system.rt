@@ -6,13 +6,14 @@ use crate::die::{DieStore, as_long, second_handle, store_in, store_over};
 use crate::fault::{unmade, unread, unseen, unwritten};
 use crate::lists::{FileLists, ListNames};
 use crate::lock::{LockedFile, lock_die};
+use crate::noted_file::NotedFile;
 use crate::part::{copy_file, is_taken, new_die, open_dump, publish, put_dump};
 use disk_commands::{
     Access, Code, DiskFileFault, DiskFiles, DiskShape, FileSyncs, FoundMark, MARK_BYTES, MarkFile,
     dump_bytes, put_blank,
 };
 use file_die::erase_all;
-use part_files::{Names, Pair, SystemNames, discard, new_part, part_name, publish_new};
+use part_files::{FirstError, Names, Pair, System, discard, new_part, part_name, publish_new};
 use std::alloc::{AllocError, Global};
 use std::fs::{self, File, OpenOptions};
 use std::io::{self, ErrorKind, Read};
@@ -27,7 +28,7 @@ const MOST_BYTES: u64 = 65_536;
 /// The system's files, by their paths. A disk is made as its part beside PATH, its shape is told in PATH.json, and its mark is kept in PATH.mark.
 #[derive(Drop)]
 pub struct SystemFiles<'a, R> {
-    rt: &'a R,
+    system: System<'a, R>,
     // the part that is being made, which is locked as long as it is here
     part: Option<File>,
 }
@@ -76,9 +77,12 @@ fn try_path_names(alloc: Global, path: &str) -> Result<PathNames, AllocError> {
 }
 
 impl<'a, R: Files<File = File> + AllocGlobal> SystemFiles<'a, R> {
-    /// The files that the program's handle `rt` reaches. Nothing is opened.
-    pub fn new(rt: &'a R) -> SystemFiles<'a, R> {
-        SystemFiles { rt, part: None }
+    /// The files that the program's handle `rt` reaches. Nothing is opened. The system's first error that a fault comes of is noted.
+    pub fn new(rt: &'a R, first: &'a FirstError) -> SystemFiles<'a, R> {
+        SystemFiles {
+            system: System { rt, first },
+            part: None,
+        }
     }
 
     // Keeps the lock of a part, where a die was made in it, and removes the part where none was.
@@ -86,9 +90,9 @@ impl<'a, R: Files<File = File> + AllocGlobal> SystemFiles<'a, R> {
         &mut self,
         names: &PathNames,
         own: Result<File, DiskFileFault>,
-        made: Result<DieStore, DiskFileFault>,
-    ) -> Result<DieStore, DiskFileFault>
-        ensures { IfOk result (λ store. made ≡ Ok store) }
+        made: Result<DieStore<'a>, DiskFileFault>,
+    ) -> Result<DieStore<'a>, DiskFileFault>
+        ensures { IfOk result (λ store. made.entry ≡ Ok store) }
     {
         match (own, made) {
             (Ok(own), Ok(store)) => {
@@ -96,7 +100,7 @@ impl<'a, R: Files<File = File> + AllocGlobal> SystemFiles<'a, R> {
                 Ok(store)
             }
             (Err(fault), _) | (_, Err(fault)) => {
-                discard(&mut SystemNames::new(self.rt), names.part.as_str());
+                discard(&mut self.system.names(), names.part.as_str());
                 Err(fault)
             }
         }
@@ -134,49 +138,49 @@ fn list_names(alloc: Global, path: &str) -> Result<ListNames, AllocError> {
 }
 
 // The bytes of a small file, or none where there is no such file.
-fn read_if_there<R: Files>(
-    rt: &R,
+fn read_if_there<R: Files<File = File>>(
+    system: &System<'_, R>,
     alloc: Global,
     name: &str,
 ) -> Result<Option<Vec<u8>>, DiskFileFault> {
-    match read_small(rt, alloc, name) {
+    match read_small(system.rt, alloc, name) {
         Ok(bytes) => Ok(Some(bytes)),
         Err(error) if error.kind() == ErrorKind::NotFound => Ok(None),
-        Err(error) => Err(unread(error)),
+        Err(error) => Err(unread(system, error)),
     }
 }
 
 // Makes the file of a mark, which holds none yet, beside its place, and gives it its name.
 fn make_mark<R: Files<File = File> + AllocGlobal>(
-    rt: &R,
+    system: &System<'_, R>,
     names: &PathNames,
 ) -> Result<(), DiskFileFault> {
     let part = names.mark_part.as_str();
-    let mut file = match new_part(&mut SystemNames::new(rt), part) {
-        Ok(file) => file,
+    let mut file = match new_part(&mut system.names(), part) {
+        Ok(file) => NotedFile::new(file, system.first),
         Err(fault) => return Err(unmade(fault)),
     };
-    let done = match put_blank(rt.alloc(), &mut file) {
-        Ok(()) => match publish_new(&mut SystemNames::new(rt), part, names.mark.as_str()) {
+    let done = match put_blank(system.rt.alloc(), &mut file) {
+        Ok(()) => match publish_new(&mut system.names(), part, names.mark.as_str()) {
             Ok(()) => Ok(()),
             Err(fault) => Err(unmade(fault)),
         },
         Err(fault) => Err(fault),
     };
     if done.is_err() {
-        discard(&mut SystemNames::new(rt), part);
+        discard(&mut system.names(), part);
     }
     done
 }
 
 // The file of a mark, to be written; none where it has another length than such a file.
 fn open_mark<R: Files<File = File> + AllocGlobal>(
-    rt: &R,
+    system: &System<'_, R>,
     names: &PathNames,
 ) -> Result<Option<File>, DiskFileFault> {
-    match SystemNames::new(rt).is_there(names.mark.as_str()) {
+    match system.names().is_there(names.mark.as_str()) {
         Ok(true) => {}
-        Ok(false) => match make_mark(rt, names) {
+        Ok(false) => match make_mark(system, names) {
             Ok(()) => {}
             Err(fault) => return Err(fault),
         },
@@ -185,26 +189,28 @@ fn open_mark<R: Files<File = File> + AllocGlobal>(
     let file = match OpenOptions::new()
         .read(true)
         .write(true)
-        .open(rt, names.mark.as_str())
+        .open(system.rt, names.mark.as_str())
     {
         Ok(file) => file,
-        Err(error) => return Err(unwritten(error)),
+        Err(error) => return Err(unwritten(system, error)),
     };
     match file.metadata() {
         Ok(metadata) if metadata.len() == MARK_BYTES as u64 => Ok(Some(file)),
         Ok(_) => Ok(None),
-        Err(error) => Err(unread(error)),
+        Err(error) => Err(unread(system, error)),
     }
 }
 
 // A store of erased pages over an empty file.
-fn new_store(alloc: Global, shape: &DiskShape, file: File) -> Result<DieStore, DiskFileFault>
+fn new_store<'a, R: Files<File = File>>(
+    system: &System<'a, R>,
+    alloc: Global,
+    shape: &DiskShape,
+    file: File,
+) -> Result<DieStore<'a>, DiskFileFault>
     ensures { IfOk result (IsStoreOf shape.now.geometry) }
 {
-    let mut store = match store_in(alloc, shape, file) {
-        Ok(store) => store,
-        Err(fault) => return Err(fault),
-    };
+    let mut store = store_in(system, alloc, shape, file)?;
     match erase_all(&mut store) {
         Ok(()) => Ok(store),
         Err(_) => Err(DiskFileFault::Write),
@@ -212,21 +218,22 @@ fn new_store(alloc: Global, shape: &DiskShape, file: File) -> Result<DieStore, D
 }
 
 // A store over an empty file, with the pages of a dump.
-fn copied(
+fn copied<'a, R: Files<File = File>>(
+    system: &System<'a, R>,
     alloc: Global,
     shape: &DiskShape,
     mut from: File,
     file: File,
-) -> Result<DieStore, DiskFileFault>
+) -> Result<DieStore<'a>, DiskFileFault>
     ensures { IfOk result (IsStoreOf shape.now.geometry) }
 {
     match shape.code {
         Code::Plain => match copy_file(&mut from, &file) {
-            Ok(()) => store_over(alloc, shape, file),
-            Err(error) => Err(unwritten(error)),
+            Ok(()) => store_over(alloc, shape, NotedFile::new(file, system.first)),
+            Err(error) => Err(unwritten(system, error)),
         },
-        Code::Hamming => match store_in(alloc, shape, file) {
-            Ok(store) => put_dump(alloc, &shape.geometry, from, store),
+        Code::Hamming => match store_in(system, alloc, shape, file) {
+            Ok(store) => put_dump(system, alloc, &shape.geometry, from, store),
             Err(fault) => Err(fault),
         },
     }
@@ -238,9 +245,9 @@ impl<'a, R: Files<File = File> + AllocGlobal + Clock> DiskFiles for SystemFiles<
 
     type Locked = LockedFile;
 
-    type Store = DieStore;
+    type Store = DieStore<'a>;
 
-    type Syncs = FileSyncs<File>;
+    type Syncs = FileSyncs<NotedFile<'a>>;
 
     type Lists = FileLists<'a, R>;
 
@@ -251,12 +258,9 @@ impl<'a, R: Files<File = File> + AllocGlobal + Clock> DiskFiles for SystemFiles<
     ghost opened = { λ _. None };
 
     fn has(&mut self, path: &str) -> Result<bool, DiskFileFault> {
-        let names = match path_names(self.rt.alloc(), path) {
-            Ok(names) => names,
-            Err(fault) => return Err(fault),
-        };
-        match is_taken(self.rt, &pair_of(path, &names)) {
-            Ok(false) => match SystemNames::new(self.rt).is_there(names.mark.as_str()) {
+        let names = path_names(self.system.rt.alloc(), path)?;
+        match is_taken(&self.system, &pair_of(path, &names)) {
+            Ok(false) => match self.system.names().is_there(names.mark.as_str()) {
                 Ok(there) => Ok(there),
                 Err(fault) => Err(unseen(fault)),
             },
@@ -265,7 +269,7 @@ impl<'a, R: Files<File = File> + AllocGlobal + Clock> DiskFiles for SystemFiles<
     }
 
     fn lock(&mut self, path: &str, access: Access) -> Result<LockedFile, DiskFileFault> {
-        lock_die(self.rt, path, access)
+        lock_die(&self.system, path, access)
     }
 
     fn shape_text(
@@ -274,19 +278,16 @@ impl<'a, R: Files<File = File> + AllocGlobal + Clock> DiskFiles for SystemFiles<
         path: &str,
         _locked: &LockedFile,
     ) -> Result<Vec<u8>, DiskFileFault> {
-        let names = match path_names(alloc, path) {
-            Ok(names) => names,
-            Err(fault) => return Err(fault),
-        };
-        match read_small(self.rt, alloc, names.beside.as_str()) {
+        let names = path_names(alloc, path)?;
+        match read_small(self.system.rt, alloc, names.beside.as_str()) {
             Ok(bytes) => Ok(bytes),
-            Err(error) => Err(unread(error)),
+            Err(error) => Err(unread(&self.system, error)),
         }
     }
 
     fn mark_text(&mut self, alloc: Global, path: &str) -> Result<Option<Vec<u8>>, DiskFileFault> {
         match path_names(alloc, path) {
-            Ok(names) => read_if_there(self.rt, alloc, names.mark.as_str()),
+            Ok(names) => read_if_there(&self.system, alloc, names.mark.as_str()),
             Err(fault) => Err(fault),
         }
     }
@@ -298,17 +299,14 @@ impl<'a, R: Files<File = File> + AllocGlobal + Clock> DiskFiles for SystemFiles<
         _path: &str,
         locked: LockedFile,
         shape: &DiskShape,
-    ) -> Result<(DieStore, FileSyncs<File>), DiskFileFault> {
-        let file = match as_long(locked.into_file(), shape) {
-            Ok(file) => file,
-            Err(fault) => return Err(fault),
-        };
-        let own = match second_handle(&file) {
-            Ok(own) => own,
-            Err(fault) => return Err(fault),
-        };
-        match store_over(alloc, shape, own) {
-            Ok(store) => Ok((store, FileSyncs::new(file))),
+    ) -> Result<(DieStore<'a>, FileSyncs<NotedFile<'a>>), DiskFileFault> {
+        let file = as_long(&self.system, locked.into_file(), shape)?;
+        let own = second_handle(&self.system, &file)?;
+        match store_over(alloc, shape, NotedFile::new(own, self.system.first)) {
+            Ok(store) => Ok((
+                store,
+                FileSyncs::new(NotedFile::new(file, self.system.first)),
+            )),
             Err(fault) => Err(fault),
         }
     }
@@ -317,15 +315,15 @@ impl<'a, R: Files<File = File> + AllocGlobal + Clock> DiskFiles for SystemFiles<
         &mut self,
         alloc: Global,
         path: &str,
-        syncs: FileSyncs<File>,
+        syncs: FileSyncs<NotedFile<'a>>,
         found: FoundMark,
-    ) -> Result<FileSyncs<File>, DiskFileFault> {
-        let names = match path_names(alloc, path) {
-            Ok(names) => names,
-            Err(fault) => return Err(fault),
-        };
-        let kept = match open_mark(self.rt, &names) {
-            Ok(Some(file)) => Some(MarkFile::new(file, found.in_second)),
+    ) -> Result<FileSyncs<NotedFile<'a>>, DiskFileFault> {
+        let names = path_names(alloc, path)?;
+        let kept = match open_mark(&self.system, &names) {
+            Ok(Some(file)) => Some(MarkFile::new(
+                NotedFile::new(file, self.system.first),
+                found.in_second,
+            )),
             Ok(None) => None,
             Err(fault) => return Err(fault),
         };
@@ -338,17 +336,11 @@ impl<'a, R: Files<File = File> + AllocGlobal + Clock> DiskFiles for SystemFiles<
         alloc: Global,
         path: &str,
         shape: &DiskShape,
-    ) -> Result<DieStore, DiskFileFault> {
-        let names = match path_names(alloc, path) {
-            Ok(names) => names,
-            Err(fault) => return Err(fault),
-        };
-        let file = match new_die(self.rt, &pair_of(path, &names)) {
-            Ok(file) => file,
-            Err(fault) => return Err(fault),
-        };
-        let own = second_handle(&file);
-        let made = new_store(alloc, shape, file);
+    ) -> Result<DieStore<'a>, DiskFileFault> {
+        let names = path_names(alloc, path)?;
+        let file = new_die(&self.system, &pair_of(path, &names))?;
+        let own = second_handle(&self.system, &file);
+        let made = new_store(&self.system, alloc, shape, file);
         self.keep_part(&names, own, made)
     }
 
@@ -359,30 +351,18 @@ impl<'a, R: Files<File = File> + AllocGlobal + Clock> DiskFiles for SystemFiles<
         path: &str,
         shape: &DiskShape,
         dump: &str,
-    ) -> Result<DieStore, DiskFileFault> {
-        let names = match path_names(alloc, path) {
-            Ok(names) => names,
-            Err(fault) => return Err(fault),
-        };
-        let from = match open_dump(self.rt, dump, dump_bytes(&shape.geometry)) {
-            Ok(from) => from,
-            Err(fault) => return Err(fault),
-        };
-        let file = match new_die(self.rt, &pair_of(path, &names)) {
-            Ok(file) => file,
-            Err(fault) => return Err(fault),
-        };
-        let own = second_handle(&file);
-        let made = copied(alloc, shape, from, file);
+    ) -> Result<DieStore<'a>, DiskFileFault> {
+        let names = path_names(alloc, path)?;
+        let from = open_dump(&self.system, dump, dump_bytes(&shape.geometry))?;
+        let file = new_die(&self.system, &pair_of(path, &names))?;
+        let own = second_handle(&self.system, &file);
+        let made = copied(&self.system, alloc, shape, from, file);
         self.keep_part(&names, own, made)
     }
 
-    fn keep(&mut self, path: &str, _store: DieStore, text: &[u8]) -> Result<(), DiskFileFault> {
-        let names = match path_names(self.rt.alloc(), path) {
-            Ok(names) => names,
-            Err(fault) => return Err(fault),
-        };
-        let done = publish(self.rt, &pair_of(path, &names), text);
+    fn keep(&mut self, path: &str, _store: DieStore<'a>, text: &[u8]) -> Result<(), DiskFileFault> {
+        let names = path_names(self.system.rt.alloc(), path)?;
+        let done = publish(&self.system, &pair_of(path, &names), text);
         if done.is_ok() {
             self.part = None;
         }
@@ -391,8 +371,8 @@ impl<'a, R: Files<File = File> + AllocGlobal + Clock> DiskFiles for SystemFiles<
 
     fn discard(&mut self, path: &str) {
         if self.part.is_some() {
-            if let Ok(names) = path_names(self.rt.alloc(), path) {
-                discard(&mut SystemNames::new(self.rt), names.part.as_str());
+            if let Ok(names) = path_names(self.system.rt.alloc(), path) {
+                discard(&mut self.system.names(), names.part.as_str());
             }
         }
         self.part = None;
@@ -408,9 +388,9 @@ impl<'a, R: Files<File = File> + AllocGlobal + Clock> DiskFiles for SystemFiles<
             Ok(names) => names,
             Err(_) => return Err(DiskFileFault::OutOfMemory),
         };
-        match read_front(self.rt, alloc, names.list.as_str(), most) {
+        match read_front(self.system.rt, alloc, names.list.as_str(), most) {
             Ok(bytes) => Ok(bytes),
-            Err(error) => Err(unread(error)),
+            Err(error) => Err(unread(&self.system, error)),
         }
     }
 
@@ -418,16 +398,13 @@ impl<'a, R: Files<File = File> + AllocGlobal + Clock> DiskFiles for SystemFiles<
         &mut self,
         alloc: Global,
         path: &str,
-        syncs: &FileSyncs<File>,
+        syncs: &FileSyncs<NotedFile<'a>>,
         beside: &[u8],
     ) -> Result<FileLists<'a, R>, DiskFileFault> {
         let (Ok(names), Ok(text)) = (list_names(alloc, path), beside.to_vec(alloc)) else {
             return Err(DiskFileFault::OutOfMemory);
         };
-        let die = match second_handle(syncs.die()) {
-            Ok(die) => die,
-            Err(fault) => return Err(fault),
-        };
-        Ok(FileLists::new(self.rt, alloc, die, names, text))
+        let die = second_handle(&self.system, syncs.die().file())?;
+        Ok(FileLists::new(self.system.again(), alloc, die, names, text))
     }
 }

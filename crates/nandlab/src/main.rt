@@ -8,6 +8,7 @@ mod system;
 
 use lab_commands::{LabFault, Output, OutputStream, tell};
 use lab_custody::run;
+use part_files::FirstError;
 use program_words::{GrammarFault, word_slices, words_found};
 use std::env;
 use std::fs::File;
@@ -15,6 +16,9 @@ use std::io::{IsTerminal, Write};
 use std::process::ExitCode;
 use std::rt::{Env, Files};
 use system::SystemFiles;
+
+// The exit status of a command for which a file or a stream failed.
+const FAILED: u8 = 3;
 
 // Why there are no words.
 fn words_fault(fault: GrammarFault) -> LabFault<'static>
@@ -27,33 +31,58 @@ fn words_fault(fault: GrammarFault) -> LabFault<'static>
     }
 }
 
-// Does what the words of the command line say, over the system's files.
+// Does what the words say, over the system's files.
 fn run_over<
+    'a,
+    S: Files<File = File> + AllocGlobal,
+    W: Output,
+    E: Output,
+    P: Write + IsTerminal + Drop,
+>(
+    system: &'a S,
+    first: &'a FirstError,
+    words: &[&str],
+    out: &mut W,
+    err: &mut E,
+    screen: P,
+    trials: P,
+) -> u8 {
+    let is_watched = screen.is_terminal();
+    let mut files = SystemFiles::new(system, first, screen, trials, is_watched);
+    run(system.alloc(), words, &mut files, out, err)
+}
+
+// The exit status of the program.
+fn status_of<
+    'a,
     S: Env + Files<File = File> + AllocGlobal,
     W: Output,
     E: Output,
     P: Write + IsTerminal + Drop,
->(system: &S, out: &mut W, err: &mut E, screen: P, trials: P) -> u8 {
-    let kept = match words_found(system.alloc(), env::args(system)) {
+>(system: &'a S, first: &'a FirstError, out: &mut W, err: &mut E, screen: P, trials: P) -> u8 {
+    let alloc = system.alloc();
+    let kept = match words_found(alloc, env::args(system)) {
         Ok(kept) => kept,
-        Err(fault) => return tell(system.alloc(), &words_fault(fault), err),
+        Err(fault) => return tell(alloc, &words_fault(fault), err),
     };
-    match word_slices(system.alloc(), &kept) {
-        Ok(words) => {
-            let is_watched = screen.is_terminal();
-            let mut files = SystemFiles::new(system, screen, trials, is_watched);
-            run(system.alloc(), &words, &mut files, out, err)
-        }
-        Err(_) => tell(system.alloc(), &LabFault::OutOfMemory, err),
+    match word_slices(alloc, &kept) {
+        Ok(words) => run_over(system, first, &words, out, err, screen, trials),
+        Err(_) => tell(alloc, &LabFault::OutOfMemory, err),
     }
 }
 
 fn main(rt: HostRuntime) -> ExitCode {
-    ExitCode::from(run_over(
+    let first = FirstError::new();
+    let status = status_of(
         &rt,
+        &first,
         &mut OutputStream::new(rt.stdout()),
         &mut OutputStream::new(rt.stderr()),
         rt.stderr(),
         rt.stderr(),
-    ))
+    );
+    if status == FAILED {
+        first.tell(&mut rt.stderr());
+    }
+    ExitCode::from(status)
 }

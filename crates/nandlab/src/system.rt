@@ -7,7 +7,9 @@ use lab_commands::{KeepFault, LabFileFault, LabFiles, MapText, Progress, Standin
 use lab_dump::{
     DamagedTarget, Dump, DumpFault, LineFault, MapWriter, PageTarget, Pieces, Target, TargetFault,
 };
-use part_files::{PartFault, SystemNames, discard, new_part, part_name, publish_new, publish_over};
+use part_files::{
+    FirstError, PartFault, System, discard, new_part, part_name, publish_new, publish_over,
+};
 use std::alloc::Global;
 use std::fmt::Display;
 use std::fs::{self, File, Metadata};
@@ -31,7 +33,7 @@ const MAP_BUFFER: usize = 65_536;
 /// The system's files, by their paths.
 #[derive(Drop)]
 pub struct SystemFiles<'a, R, E> {
-    rt: &'a R,
+    system: System<'a, R>,
     // where the first file that may shows how far it was read
     screen: Option<E>,
     // where it is shown how many pairs of bits were tried
@@ -44,8 +46,8 @@ pub struct SystemFiles<'a, R, E> {
 
 /// A file of the system that is read at whatever place.
 #[derive(Drop)]
-pub struct DumpFile<F, E> {
-    file: F,
+pub struct DumpFile<E> {
+    file: File,
     meter: Option<Meter<E>>,
 }
 
@@ -53,6 +55,8 @@ pub struct DumpFile<F, E> {
 #[derive(Drop)]
 pub struct PieceFile {
     file: File,
+    // the first error of a write
+    error: Option<Error>,
     // the name of the part
     name: String,
     // the bytes of a sector or a page
@@ -60,10 +64,17 @@ pub struct PieceFile {
 }
 
 impl<'a, R: Files<File = File> + AllocGlobal, E: Write> SystemFiles<'a, R, E> {
-    /// The files that the program's handle `rt` reaches, and a screen, twice, to show progress on, which somebody may look at. Nothing is opened.
-    pub fn new(rt: &'a R, screen: E, trials: E, is_watched: bool) -> SystemFiles<'a, R, E> {
+    /// The files that the program's handle `rt` reaches, and a screen, twice, to show progress on, which somebody may look at. Nothing is opened. The system's first error that
+    /// a fault comes of is noted, but for those of reads of an open file.
+    pub fn new(
+        rt: &'a R,
+        first: &'a FirstError,
+        screen: E,
+        trials: E,
+        is_watched: bool,
+    ) -> SystemFiles<'a, R, E> {
         SystemFiles {
-            rt,
+            system: System { rt, first },
             screen: Some(screen),
             trials: Some(trials),
             is_watched,
@@ -74,7 +85,7 @@ impl<'a, R: Files<File = File> + AllocGlobal, E: Write> SystemFiles<'a, R, E> {
     // A file that is read. As long as the program runs it is held with whoever else reads it, where the file system has locks; of many files the
     // first ones alone, so that `verify` of a long report does not come to the system's limit of open files.
     fn open_held(&mut self, path: &str) -> Result<File, LabFileFault> {
-        let file = fs::open(self.rt, path).map_err(fault_of)?;
+        let file = settled(&self.system, fs::open(self.system.rt, path))?;
         let _ = file.try_lock_shared();
         if self.held.len() >= MOST_HELD {
             return Ok(file);
@@ -116,6 +127,11 @@ fn fault_of(error: Error) -> LabFileFault {
     }
 }
 
+// What a call of the system came to. Its error is noted.
+fn settled<R, T>(system: &System<'_, R>, done: io::Result<T>) -> Result<T, LabFileFault> {
+    system.first.noting(done).map_err(fault_of)
+}
+
 // Why a part was not made.
 fn part_fault_of(fault: PartFault) -> LabFileFault {
     match fault {
@@ -136,13 +152,13 @@ fn keep_fault_of(fault: PartFault) -> KeepFault
 
 // A new part beside a path, with its name. It is locked as long as it is open.
 fn new_beside<R: Files<File = File> + AllocGlobal>(
-    rt: &R,
+    system: &System<'_, R>,
     path: &str,
 ) -> Result<(File, String), LabFileFault> {
-    let Ok(name) = part_name(rt.alloc(), path, PROGRAM) else {
+    let Ok(name) = part_name(system.rt.alloc(), path, PROGRAM) else {
         return Err(LabFileFault::OutOfMemory);
     };
-    match new_part(&mut SystemNames::new(rt), name.as_str()) {
+    match new_part(&mut system.names(), name.as_str()) {
         Ok(file) => Ok((file, name)),
         Err(fault) => Err(part_fault_of(fault)),
     }
@@ -150,23 +166,23 @@ fn new_beside<R: Files<File = File> + AllocGlobal>(
 
 // The same, of so many zeros.
 fn new_zeros<R: Files<File = File> + AllocGlobal>(
-    rt: &R,
+    system: &System<'_, R>,
     path: &str,
     size: u64,
 ) -> Result<(File, String), LabFileFault> {
-    let (file, name) = new_beside(rt, path)?;
-    match file.set_len(size) {
+    let (file, name) = new_beside(system, path)?;
+    match settled(system, file.set_len(size)) {
         Ok(()) => Ok((file, name)),
-        Err(error) => {
-            discard(&mut SystemNames::new(rt), name.as_str());
-            Err(fault_of(error))
+        Err(fault) => {
+            discard(&mut system.names(), name.as_str());
+            Err(fault)
         }
     }
 }
 
 // Gives a part its name once it is stored: one that no file has, or where it may stand over another file, whatever file has it.
 fn publish<R: Files<File = File>>(
-    rt: &R,
+    system: &System<'_, R>,
     file: &File,
     name: &str,
     path: &str,
@@ -174,11 +190,11 @@ fn publish<R: Files<File = File>>(
 ) -> Result<(), KeepFault>
     ensures { IfErr result (IsUnkept unknown path.now over) }
 {
-    match file.sync_all() {
+    match settled(system, file.sync_all()) {
         Ok(()) => {}
-        Err(error) => return Err(KeepFault::Fails(fault_of(error))),
+        Err(fault) => return Err(KeepFault::Fails(fault)),
     }
-    let mut names = SystemNames::new(rt);
+    let mut names = system.names();
     if over {
         return match publish_over(&mut names, name, path) {
             Ok(()) => Ok(()),
@@ -193,7 +209,7 @@ fn publish<R: Files<File = File>>(
 
 // The same; where that fails the part is removed.
 fn put_in_place<R: Files<File = File>>(
-    rt: &R,
+    system: &System<'_, R>,
     file: &File,
     name: &str,
     path: &str,
@@ -201,10 +217,10 @@ fn put_in_place<R: Files<File = File>>(
 ) -> Result<(), KeepFault>
     ensures { IfErr result (IsUnkept unknown path.now over) }
 {
-    match publish(rt, file, name, path, over) {
+    match publish(system, file, name, path, over) {
         Ok(()) => Ok(()),
         Err(fault) => {
-            discard(&mut SystemNames::new(rt), name);
+            discard(&mut system.names(), name);
             Err(fault)
         }
     }
@@ -212,11 +228,12 @@ fn put_in_place<R: Files<File = File>>(
 
 /// A file that a map is printed to, through a buffer.
 #[derive(Drop)]
-pub struct LineFile<W: Write + Drop> {
+pub struct LineFile<'a, W: Write + Drop> {
     writer: BufWriter<W>,
+    first: &'a FirstError,
 }
 
-impl<W: Write + Drop> MapWriter for LineFile<W> {
+impl<W: Write + Drop> MapWriter for LineFile<'_, W> {
     ghost use Rattle.std.specs.Prelude.{None, true};
 
     ghost contents = { λ _. None };
@@ -224,7 +241,8 @@ impl<W: Write + Drop> MapWriter for LineFile<W> {
     ghost failed = { λ _. true };
 
     fn line<D: Display + Drop>(&mut self, line: D) -> Result<(), LineFault> {
-        match writeln!(self.writer, "{line}") {
+        let done = writeln!(self.writer, "{line}");
+        match self.first.noting(done) {
             Ok(()) => Ok(()),
             Err(_) => Err(LineFault),
         }
@@ -232,13 +250,18 @@ impl<W: Write + Drop> MapWriter for LineFile<W> {
 }
 
 // Prints a map to a file, whole.
-fn print_map<M: MapText>(alloc: Global, file: &File, map: &M) -> Result<(), LabFileFault>
+fn print_map<R: AllocGlobal, M: MapText>(
+    system: &System<'_, R>,
+    file: &File,
+    map: &M,
+) -> Result<(), LabFileFault>
     requires { M.whole map.now }
 {
-    let writer = BufWriter::with_capacity(alloc, MAP_BUFFER, file).map_err(fault_of)?;
-    let mut lines = LineFile { writer };
+    let writer = BufWriter::with_capacity(system.rt.alloc(), MAP_BUFFER, file).map_err(fault_of)?;
+    let first = system.first;
+    let mut lines = LineFile { writer, first };
     match map.print(&mut lines) {
-        Ok(()) => lines.writer.flush().map_err(fault_of),
+        Ok(()) => settled(system, lines.writer.flush()),
         Err(_) => Err(LabFileFault::Failed),
     }
 }
@@ -253,11 +276,10 @@ fn standing_of(found: &Metadata) -> Standing {
 }
 
 // What stands where a link leads: nothing that may be replaced, where it leads nowhere.
-fn behind_link<R: Files>(rt: &R, path: &str) -> Result<Standing, LabFileFault> {
-    match fs::metadata(rt, path) {
-        Ok(found) => Ok(standing_of(&found)),
+fn behind_link<R: Files>(system: &System<'_, R>, path: &str) -> Result<Standing, LabFileFault> {
+    match fs::metadata(system.rt, path) {
         Err(error) if error.kind() == ErrorKind::NotFound => Ok(Standing::Other),
-        Err(error) => Err(fault_of(error)),
+        found => Ok(standing_of(&settled(system, found)?)),
     }
 }
 
@@ -274,13 +296,7 @@ fn real_path<R: Files + AllocGlobal>(rt: &R, path: &str) -> io::Result<PathBuf<R
     }
 }
 
-// Reads as many bytes as the buffer has, from this one on.
-fn read_from<F: Read + Seek>(file: &mut F, at: u64, buffer: &mut [u8]) -> io::Result<()> {
-    file.seek(SeekFrom::Start(at))?;
-    file.read_exact(buffer)
-}
-
-impl<F: Read + Seek, E: Write> Dump for DumpFile<F, E> {
+impl<E: Write> Dump for DumpFile<E> {
     ghost use Rattle.std.specs.Prelude.{None, true};
 
     ghost bytes = { λ _. None };
@@ -295,7 +311,7 @@ impl<F: Read + Seek, E: Write> Dump for DumpFile<F, E> {
     }
 
     fn read_at(&mut self, at: u64, buffer: &mut [u8]) -> Result<(), DumpFault> {
-        match read_from(&mut self.file, at, buffer) {
+        match self.file.read_exact_at(buffer, at) {
             Ok(()) => {}
             Err(_) => return Err(DumpFault),
         }
@@ -312,7 +328,10 @@ impl PieceFile {
         let at = u64::from(number) * u64::from(self.size);
         match self.file.write_all_at(bytes, at) {
             Ok(()) => Ok(()),
-            Err(_) => Err(TargetFault),
+            Err(error) => {
+                self.error.get_or_insert(error);
+                Err(TargetFault)
+            }
         }
     }
 }
@@ -347,13 +366,13 @@ impl PageTarget for PieceFile {
     }
 }
 
-impl<R: Files<File = File> + AllocGlobal, E: Write + Drop> LabFiles for SystemFiles<'_, R, E> {
+impl<'a, R: Files<File = File> + AllocGlobal, E: Write + Drop> LabFiles for SystemFiles<'a, R, E> {
     ghost use Rattle.std.specs.Prelude.{None};
     ghost use Rattle.lab_commands.specs.Files.{unknown};
 
     type Reader = Metered<BufReader<File>, E>;
 
-    type Dump = DumpFile<File, E>;
+    type Dump = DumpFile<E>;
 
     type Target = PieceFile;
 
@@ -366,21 +385,19 @@ impl<R: Files<File = File> + AllocGlobal, E: Write + Drop> LabFiles for SystemFi
     ghost opened = { λ _. None };
 
     fn standing(&mut self, path: &str) -> Result<Standing, LabFileFault> {
-        match fs::symlink_metadata(self.rt, path) {
-            Ok(found) if found.is_symlink() => behind_link(self.rt, path),
-            Ok(found) => Ok(standing_of(&found)),
+        match fs::symlink_metadata(self.system.rt, path) {
+            Ok(found) if found.is_symlink() => behind_link(&self.system, path),
             Err(error) if error.kind() == ErrorKind::NotFound => Ok(Standing::Nothing),
-            Err(error) => Err(fault_of(error)),
+            found => Ok(standing_of(&settled(&self.system, found)?)),
         }
     }
 
     fn is_same(&mut self, first: &str, second: &str) -> Result<bool, LabFileFault> {
-        let first = real_path(self.rt, first).map_err(fault_of)?;
-        match real_path(self.rt, second) {
-            Ok(second) => Ok(first.as_str() == second.as_str()),
+        let first = settled(&self.system, real_path(self.system.rt, first))?;
+        match real_path(self.system.rt, second) {
             // in a folder that is not there
             Err(error) if error.kind() == ErrorKind::NotFound => Ok(false),
-            Err(error) => Err(fault_of(error)),
+            second => Ok(first.as_str() == settled(&self.system, second)?.as_str()),
         }
     }
 
@@ -391,24 +408,20 @@ impl<R: Files<File = File> + AllocGlobal, E: Write + Drop> LabFiles for SystemFi
     ) -> Result<Metered<BufReader<File>, E>, LabFileFault> {
         let mut file = self.open_held(path)?;
         let meter = self.meter(&mut file, progress);
-        let reader = BufReader::with_capacity(self.rt.alloc(), READ_AHEAD, file).map_err(fault_of)?;
+        let reader = BufReader::with_capacity(self.system.rt.alloc(), READ_AHEAD, file).map_err(
+            fault_of,
+        )?;
         Ok(Metered::new(reader, meter))
     }
 
     fn load(&mut self, path: &str, most: u64) -> Result<Vec<u8>, LabFileFault> {
         let file = self.open_held(path)?;
-        let mut bytes = Vec::new(self.rt.alloc());
-        match file.take(most).read_to_end(&mut bytes) {
-            Ok(_) => Ok(bytes),
-            Err(error) => Err(fault_of(error)),
-        }
+        let mut bytes = Vec::new(self.system.rt.alloc());
+        settled(&self.system, file.take(most).read_to_end(&mut bytes))?;
+        Ok(bytes)
     }
 
-    fn open_dump(
-        &mut self,
-        path: &str,
-        progress: Progress,
-    ) -> Result<DumpFile<File, E>, LabFileFault> {
+    fn open_dump(&mut self, path: &str, progress: Progress) -> Result<DumpFile<E>, LabFileFault> {
         let mut file = self.open_held(path)?;
         let meter = self.meter(&mut file, progress);
         Ok(DumpFile { file, meter })
@@ -427,29 +440,37 @@ impl<R: Files<File = File> + AllocGlobal, E: Write + Drop> LabFiles for SystemFi
             return Err(LabFileFault::Failed);
         };
         let all = u64::from(count) * u64::from(size);
-        let (file, name) = new_zeros(self.rt, path, all)?;
-        Ok(PieceFile { file, name, size })
+        let (file, name) = new_zeros(&self.system, path, all)?;
+        Ok(PieceFile {
+            file,
+            error: None,
+            name,
+            size,
+        })
     }
 
     fn keep(&mut self, path: &str, target: PieceFile, over: bool) -> Result<(), KeepFault> {
-        put_in_place(self.rt, &target.file, target.name.as_str(), path, over)
+        put_in_place(&self.system, &target.file, target.name.as_str(), path, over)
     }
 
     fn store<M: MapText>(&mut self, path: &str, map: &M, over: bool) -> Result<(), KeepFault> {
-        let (file, name) = match new_beside(self.rt, path) {
+        let (file, name) = match new_beside(&self.system, path) {
             Ok(made) => made,
             Err(fault) => return Err(KeepFault::Fails(fault)),
         };
-        match print_map(self.rt.alloc(), &file, map) {
-            Ok(()) => put_in_place(self.rt, &file, name.as_str(), path, over),
+        match print_map(&self.system, &file, map) {
+            Ok(()) => put_in_place(&self.system, &file, name.as_str(), path, over),
             Err(fault) => {
-                discard(&mut SystemNames::new(self.rt), name.as_str());
+                discard(&mut self.system.names(), name.as_str());
                 Err(KeepFault::Fails(fault))
             }
         }
     }
 
     fn discard(&mut self, target: PieceFile) {
-        discard(&mut SystemNames::new(self.rt), target.name.as_str());
+        if let Some(error) = &target.error {
+            self.system.first.note(error);
+        }
+        discard(&mut self.system.names(), target.name.as_str());
     }
 }

@@ -4,7 +4,7 @@ use Rattle.std.proofs.Common.{append_assoc, append-nil}
 use Rattle.std.specs.List.{flat_map, AllByRecursion}
 use Rattle.std.specs.Io.KnownBytes.{Appends, Consumes}
 use Rattle.std.proofs.KnownBytes.{Appends-trans, Appends-nil, Consumes-trans, Consumes-nil}
-use Rattle.request_stream.specs.Frames.{AppendsFront, Sends}
+use Rattle.request_stream.specs.Frames.{AppendsFront, SendsBytes}
 use Rattle.request_stream.specs.declared.reply.ServeFault.{ServeFault}
 use Rattle.request_stream.specs.declared.reply.ServeFault.TheVariants as fault
 use Rattle.nbd_stream.specs.declared.export.Export.{Export}
@@ -34,7 +34,7 @@ module _ (e : Export) (no_zeroes : Bool) (limit : ℕ) (u v b : Option (List ℕ
   next_ended end (tail, rests, read) = inr (record { tail = tail; is = rests; read = read; kept = refl })
 
   module _ (a : Option (List ℕ)) (h : OptionHeader) (answer : Answer) (whole : ReadsOption u v buffer (Ok (next.Whole h))) (answers : Answering limit buffer h answer) where
-    pub next_unsent : (f : ServeFault) → Sends {T = Unit {0}} b a (answer_bytes e no_zeroes h.code answer) (Err f) → AnswersNext e no_zeroes limit u v b a (Err f)
+    pub next_unsent : (f : ServeFault) → SendsBytes {T = Unit {0}} b a (answer_bytes e no_zeroes h.code answer) (Err f) → AnswersNext e no_zeroes limit u v b a (Err f)
     next_unsent f (is, front) =
         let due = answers whole.0 whole.1 in
         subst (λ k. AnswersNext e no_zeroes limit u v b a (Err k)) (sym is) (record {

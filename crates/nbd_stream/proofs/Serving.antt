@@ -5,7 +5,7 @@ use Rattle.std.specs.List.{flat_map, AllByRecursion}
 use Rattle.std.proofs.lemmas.List.{map-append, take_at}
 use Rattle.std.specs.Io.KnownBytes.{Appends, Consumes}
 use Rattle.std.proofs.KnownBytes.{Appends-nil, Appends-trans, Consumes-trans, Consumes-nil}
-use Rattle.request_stream.specs.Frames.{AppendsFront, Sends}
+use Rattle.request_stream.specs.Frames.{AppendsFront, SendsBytes}
 use Rattle.request_stream.specs.declared.reply.ServeFault.{ServeFault}
 use Rattle.request_stream.specs.declared.reply.ServeFault.TheVariants as fault
 use Rattle.request_stream.proofs.Writing.{front_more}
@@ -41,7 +41,7 @@ module _ {D : Type 0} (contents : D → Contents) (honest calm : D → Bool) (do
 
   -- it was refused
   pub refused : (old : D) (h : NbdHeader) (body : List ℕ) (error : RequestError) (b a : Option (List ℕ)) (result : Result (Unit {0}) ServeFault) → admitted e h ≡ Err error
-      → Sends b a (reply_bytes h.cookie (refusal error) []) result → Replies contents honest calm does e old (request_at h body) old b a result
+      → SendsBytes b a (reply_bytes h.cookie (refusal error) []) result → Replies contents honest calm does e old (request_at h body) old b a result
   unfolding asked_of
   refused old h body error b a result is sends =
       let x : Exchange = record { request = request_at h body; answer = Err error } in
@@ -57,7 +57,7 @@ module _ {D : Type 0} (contents : D → Contents) (honest calm : D → Bool) (do
         ap (λ (n : ℕ). take n buffer) (sym long) ∙ sym (stands (omega arith))
 
     -- it was asked of the disk
-    performed : (answer : Result (List ℕ) RequestError) → PerformsTask contents honest calm task (take (count_taken task) buffer) old answer new → HasDone does task old answer new → Sends b a (reply_bytes h.cookie answer (bytes_in answer)) result → Replies contents honest calm does e old (request_at h body) new b a result
+    performed : (answer : Result (List ℕ) RequestError) → PerformsTask contents honest calm task (take (count_taken task) buffer) old answer new → HasDone does task old answer new → SendsBytes b a (reply_bytes h.cookie answer (bytes_in answer)) result → Replies contents honest calm does e old (request_at h body) new b a result
     unfolding asked_of
     performed answer performs done sends =
         let x : Exchange = record { request = request_at h body; answer = answer } in
@@ -69,18 +69,18 @@ module _ {D : Type 0} (contents : D → Contents) (honest calm : D → Bool) (do
         }
 
     pub performed_ok : (done : Result (Unit {0}) DiskFault) (x : Unit {0}) (gave bytes : List ℕ) → done ≡ Ok x → bytes ≡ gave → PerformsTask contents honest calm task (take (count_taken task) buffer) old (answer_from done gave) new → does old (asked_as task) done new
-        → Sends b a (reply_header_bytes 0 h.cookie ++ bytes) result → Replies contents honest calm does e old (request_at h body) new b a result
+        → SendsBytes b a (reply_header_bytes 0 h.cookie ++ bytes) result → Replies contents honest calm does e old (request_at h body) new b a result
     performed_ok done x gave bytes ok same performs does_so sends =
         performed (Ok gave) (subst (λ (r : Result (Unit {0}) DiskFault). PerformsTask contents honest calm task (take (count_taken task) buffer) old (answer_from r gave) new) ok performs)
         (record { done = done; told = sym (ap (λ r. answer_from r gave) ok); does_so = does_so })
-        (subst (λ (l : List ℕ). Sends b a (reply_header_bytes 0 h.cookie ++ l) result) same sends)
+        (subst (λ (l : List ℕ). SendsBytes b a (reply_header_bytes 0 h.cookie ++ l) result) same sends)
 
     pub performed_err : (done : Result (Unit {0}) DiskFault) (f : DiskFault) (gave : List ℕ) (error : RequestError) → done ≡ Err f → error ≡ error_for f → PerformsTask contents honest calm task (take (count_taken task) buffer) old (answer_from done gave) new → does old (asked_as task) done new
-        → Sends b a (reply_bytes h.cookie (refusal error) []) result → Replies contents honest calm does e old (request_at h body) new b a result
+        → SendsBytes b a (reply_bytes h.cookie (refusal error) []) result → Replies contents honest calm does e old (request_at h body) new b a result
     performed_err done f gave error err same performs does_so sends =
         performed (Err (error_for f)) (subst (λ (r : Result (Unit {0}) DiskFault). PerformsTask contents honest calm task (take (count_taken task) buffer) old (answer_from r gave) new) err performs)
         (record { done = done; told = sym (ap (λ r. answer_from r []) err); does_so = does_so })
-        (subst (λ (k : RequestError). Sends b a (reply_bytes h.cookie (refusal k) []) result) same sends)
+        (subst (λ (k : RequestError). SendsBytes b a (reply_bytes h.cookie (refusal k) []) result) same sends)
 
 module _ {D : Type 0} (contents : D → Contents) (honest calm : D → Bool) (does : D → Task → Result (Unit {0}) DiskFault → D → Type 0) (rests : D → Result (Unit {0}) DiskFault → D → Type 0) (e : Export) where
   -- ---- the next request

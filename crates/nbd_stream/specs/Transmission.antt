@@ -2,7 +2,7 @@
 use Rattle.std.specs.Prelude.{◌≡◌, ◌⊎◌, ℕ, Bool, true, List, [], ◌∷◌, ◌++◌, length, Option, Some, None, IfSome, Result, Ok, Err}
 use Rattle.std.specs.List.{flat_map, AllByRecursion}
 use Rattle.std.specs.Io.KnownBytes.{Appends, Consumes}
-use Rattle.request_stream.specs.Frames.{AppendsFront, Sends}
+use Rattle.request_stream.specs.Frames.{AppendsFront, SendsBytes}
 use Rattle.request_stream.specs.declared.reply.ServeFault.{ServeFault}
 use Rattle.request_stream.specs.declared.reply.ServeFault.TheVariants as fault
 use Rattle.nbd_stream.specs.declared.export.Export.{Export}
@@ -78,7 +78,7 @@ pub record Replies {D : Type 0} (contents : D → Contents) (honest calm : D →
   pub exchange : Exchange
   pub request_is : exchange.request ≡ r
   pub tells : Tells contents honest calm does e old exchange new
-  pub sends : Sends before after (reply_in exchange) result
+  pub sends : SendsBytes before after (reply_in exchange) result
 
 -- a request was read, the disk was asked it, its reply was written as this says, and the disk rested as that says
 pub record HasServed {D : Type 0} (contents : D → Contents) (honest calm : D → Bool)

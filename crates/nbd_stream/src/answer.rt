@@ -1,7 +1,7 @@
 //! What an option is answered.
 ghost use Rattle.nbd_stream.specs.Streams.{EndsBy};
 ghost use Rattle.std.specs.Prelude.{◌≡◌, ◌≢◌, OnErr, OnOk, ◌≤◌, ℕ, Bool, List, length, take, false, true, IfSome, IsNone};
-ghost use Rattle.request_stream.specs.Frames.{Sends};
+ghost use Rattle.request_stream.specs.Frames.{SendsBytes};
 ghost use Rattle.nbd_stream.specs.Options.{IsData, option_from, answer_of, question_answer, is_question, name_length, step_after, answer_bytes, asked, option_reply_header, transmission_flags, export_bytes, export_info, block_info};
 
 use crate::export::Export;
@@ -202,7 +202,7 @@ fn block_info(export: &Export) -> [u8; 14]
 
 // Writes what the export is.
 fn send_told<W: Outgoing>(writer: &mut W, export: &Export, code: u32) -> Result<(), ServeFault>
-    ensures sends { (no_zeroes : Bool) → Sends (W.contents writer.old) (W.contents writer.new) (answer_bytes export.now no_zeroes code Answer.Told) result }
+    ensures sends { (no_zeroes : Bool) → SendsBytes (W.contents writer.old) (W.contents writer.new) (answer_bytes export.now no_zeroes code Answer.Told) result }
     ensures fails { OnErr result (EndsBy W.fails writer.new) }
     ensures hands { OnOk result (EndsBy W.hands writer.new) }
 {
@@ -231,7 +231,7 @@ pub(crate) fn send_answer<W: Outgoing>(
     code: u32,
     answer: Answer,
 ) -> Result<(), ServeFault>
-    ensures sends { Sends (W.contents writer.old) (W.contents writer.new) (answer_bytes export.now no_zeroes code answer) result }
+    ensures sends { SendsBytes (W.contents writer.old) (W.contents writer.new) (answer_bytes export.now no_zeroes code answer) result }
     ensures fails { OnErr result (EndsBy W.fails writer.new) }
     ensures hands { OnOk result (answer ≢ Answer.Silent → EndsBy W.hands writer.new) }
 {

@@ -2,7 +2,7 @@
 ghost use Rattle.nbd_stream.specs.Streams.{EndsBy};
 ghost use Rattle.std.specs.Prelude.{◌≡◌, OnErr, OnOk};
 ghost use Rattle.std.specs.List.{flat_map};
-ghost use Rattle.request_stream.specs.Frames.{Sends};
+ghost use Rattle.request_stream.specs.Frames.{SendsBytes};
 ghost use Rattle.nbd_stream.specs.Frames.{reply_bytes, reply_header_bytes, error_number_of};
 
 use crate::streams::Outgoing;
@@ -57,7 +57,7 @@ fn reply_header(error: u32, cookie: u64) -> [u8; 16]
 ///
 /// `Write` where a write or the handing on failed, was interrupted or took nothing: a beginning is out.
 pub(crate) fn send_parts<W: Outgoing>(writer: &mut W, parts: &[&[u8]]) -> Result<(), ServeFault>
-    ensures sends { Sends (W.contents writer.old) (W.contents writer.new) (flat_map (λ part. part.now) parts.now) result }
+    ensures sends { SendsBytes (W.contents writer.old) (W.contents writer.new) (flat_map (λ part. part.now) parts.now) result }
     ensures fails { OnErr result (EndsBy W.fails writer.new) }
     ensures hands { OnOk result (EndsBy W.hands writer.new) }
 {
@@ -80,7 +80,7 @@ pub fn send_reply<W: Outgoing>(
     done: Result<(), RequestError>,
     bytes: &[u8],
 ) -> Result<(), ServeFault>
-    ensures sends { Sends (W.contents writer.old) (W.contents writer.new) (reply_bytes cookie done bytes.now) result }
+    ensures sends { SendsBytes (W.contents writer.old) (W.contents writer.new) (reply_bytes cookie done bytes.now) result }
     ensures fails { OnErr result (EndsBy W.fails writer.new) }
     ensures hands { OnOk result (EndsBy W.hands writer.new) }
 {

@@ -33,7 +33,7 @@ impl<R: Read> Incoming for R {
 /// What a client is sent.
 pub trait Outgoing: Write {
     ghost use Rattle.std.specs.Prelude.{[], OnErr, OnOk};
-    ghost use Rattle.request_stream.specs.Frames.{Sends, SendsLine};
+    ghost use Rattle.request_stream.specs.Frames.{SendsBytes, SendsLine};
 
     /// What a call that failed is: of the writer before, and after.
     ghost fails: { Self → Self → Type 0 };
@@ -56,7 +56,7 @@ pub trait Outgoing: Write {
     ///
     /// `Write` where that failed. (This project's.)
     fn hand_on(&mut self) -> Result<(), ServeFault>
-        ensures sends { Sends (Self.contents self.old) (Self.contents self.new) [] result }
+        ensures sends { SendsBytes (Self.contents self.old) (Self.contents self.new) [] result }
         ensures fails { OnErr result (fails self.old self.new) }
         ensures hands { OnOk result (hands self.old self.new) };
 }

@@ -62,10 +62,7 @@ pub fn clear_begun<N: Names>(names: &mut N, pair: &Pair<'_>) -> Result<(), PartF
         Ok(false) => return Ok(()),
         Err(fault) => return Err(fault),
     }
-    let held = match names.claim(pair.part) {
-        Ok(held) => held,
-        Err(fault) => return Err(fault),
-    };
+    let held = names.claim(pair.part)?;
     let done = clear_beside(names, pair);
     drop(held);
     done
@@ -98,10 +95,7 @@ pub fn publish_pair<N: Names>(names: &mut N, pair: &Pair<'_>) -> Result<(), Part
     ensures named { OnOk result (PublishesPair pair.now.part.now pair.now.path.now pair.now.beside_part.now pair.now.beside.now (N.asked names.old) (N.asked names.new)) }
     ensures refused { OnErr result (PublishesNoPair pair.now.part.now pair.now.path.now pair.now.beside_part.now pair.now.beside.now (N.asked names.old) (N.asked names.new)) }
 {
-    match name_beside(names, pair.beside_part, pair.beside) {
-        Ok(()) => {}
-        Err(fault) => return Err(fault),
-    }
+    name_beside(names, pair.beside_part, pair.beside)?;
     match publish_new(names, pair.part, pair.path) {
         Ok(()) => {
             let _ = names.remove(pair.beside_part);

@@ -92,10 +92,7 @@ pub(crate) fn take_name<N: Names>(names: &mut N, part: &str, path: &str) -> Resu
     ensures taken { OnOk result (Takes part.now path.now (N.asked names.old) (N.asked names.new)) }
     ensures not_taken { OnErr result (TakesNot part.now path.now (N.asked names.old) (N.asked names.new)) }
 {
-    let taken = match names.make(path) {
-        Ok(taken) => taken,
-        Err(fault) => return Err(fault),
-    };
+    let taken = names.make(path)?;
     let done = replace_made(names, part, path);
     drop(taken);
     done

@@ -3,6 +3,7 @@ ghost use Rattle.std.specs.Prelude.{◌≡◌, ◌≢◌};
 ghost use Rattle.std.specs.IoError.{error_kind};
 ghost use Rattle.part_files.specs.Names.{anew, as_it_is};
 
+use crate::first_error::FirstError;
 use crate::names::{Names, PartFault};
 use std::fs::{self, File, Metadata, OpenOptions, TryLockError};
 use std::io::{self, Error, ErrorKind};
@@ -13,12 +14,81 @@ use std::rt::Files;
 #[derive(Drop)]
 pub struct SystemNames<'a, R> {
     rt: &'a R,
+    // where an error is noted that a fault comes of
+    first: Option<&'a FirstError>,
 }
 
 impl<'a, R: Files<File = File>> SystemNames<'a, R> {
     /// The names that the program's handle `rt` reaches. Nothing is asked.
     pub fn new(rt: &'a R) -> SystemNames<'a, R> {
-        SystemNames { rt }
+        SystemNames { rt, first: None }
+    }
+
+    /// The same. The first error of the system is noted, but for that of a name that something has.
+    pub fn noting(rt: &'a R, first: &'a FirstError) -> SystemNames<'a, R> {
+        SystemNames {
+            rt,
+            first: Some(first),
+        }
+    }
+
+    // What an error of the system comes to, which is noted.
+    fn fault_of(&self, error: Error) -> PartFault {
+        if let Some(first) = self.first
+            && error.kind() != ErrorKind::AlreadyExists
+        {
+            first.note(&error);
+        }
+        part_fault(error)
+    }
+
+    // What a call of the system comes to.
+    fn settled<T>(&self, answer: io::Result<T>) -> Result<T, PartFault> {
+        match answer {
+            Ok(done) => Ok(done),
+            Err(error) => Err(self.fault_of(error)),
+        }
+    }
+
+    // Locks a file, if nobody else has it locked.
+    fn lock(&self, file: &File) -> Result<(), PartFault> {
+        match file.try_lock() {
+            Ok(()) => Ok(()),
+            Err(TryLockError::WouldBlock) => Err(PartFault::InUse),
+            Err(TryLockError::Error(error)) => Err(self.fault_of(error)),
+        }
+    }
+
+    // What the system tells of what has a name, if anything has.
+    fn found(&self, name: &str) -> Result<Option<Metadata>, PartFault> {
+        match fs::symlink_metadata(self.rt, name) {
+            Ok(found) => Ok(Some(found)),
+            Err(error) if error.kind() == ErrorKind::NotFound => Ok(None),
+            Err(error) => Err(self.fault_of(error)),
+        }
+    }
+
+    // Sees that a name is still that of a file: one that has another file by now is in use.
+    fn want_named(&self, name: &str, file: &File) -> Result<(), PartFault> {
+        let Some(standing) = self.found(name)? else {
+            return Err(PartFault::InUse);
+        };
+        let own = self.settled(file.metadata())?;
+        if !standing.is_file() {
+            Err(PartFault::Failed)
+        } else if is_one(&standing, &own) {
+            Ok(())
+        } else {
+            Err(PartFault::InUse)
+        }
+    }
+
+    // A file that was opened, locked, whose name still is its own.
+    fn held(&self, name: &str, opened: io::Result<File>) -> Result<File, PartFault> {
+        let file = self.settled(opened)?;
+        self.lock(&file)?;
+        self.want_named(name, &file)?;
+        Ok(file)
     }
 }
 
@@ -53,61 +123,9 @@ fn options_as_it_is() -> OpenOptions
     options
 }
 
-// Locks a file, if nobody else has it locked.
-fn lock(file: &File) -> Result<(), PartFault> {
-    match file.try_lock() {
-        Ok(()) => Ok(()),
-        Err(TryLockError::WouldBlock) => Err(PartFault::InUse),
-        Err(TryLockError::Error(error)) => Err(part_fault(error)),
-    }
-}
-
 // Whether two files are one.
 fn is_one(first: &Metadata, second: &Metadata) -> bool {
     first.dev() == second.dev() && first.ino() == second.ino()
-}
-
-// What the system tells of what has a name, if anything has.
-fn found<R: Files>(rt: &R, name: &str) -> Result<Option<Metadata>, PartFault> {
-    match fs::symlink_metadata(rt, name) {
-        Ok(found) => Ok(Some(found)),
-        Err(error) if error.kind() == ErrorKind::NotFound => Ok(None),
-        Err(error) => Err(part_fault(error)),
-    }
-}
-
-// Sees that a name is still that of a file: one that has another file by now is in use.
-fn want_named<R: Files>(rt: &R, name: &str, file: &File) -> Result<(), PartFault> {
-    let Some(standing) = found(rt, name)? else {
-        return Err(PartFault::InUse);
-    };
-    let own = match file.metadata() {
-        Ok(own) => own,
-        Err(error) => return Err(part_fault(error)),
-    };
-    if !standing.is_file() {
-        Err(PartFault::Failed)
-    } else if is_one(&standing, &own) {
-        Ok(())
-    } else {
-        Err(PartFault::InUse)
-    }
-}
-
-// A file that was opened, locked, whose name still is its own.
-fn held<R: Files>(rt: &R, name: &str, opened: io::Result<File>) -> Result<File, PartFault> {
-    let file = match opened {
-        Ok(file) => file,
-        Err(error) => return Err(part_fault(error)),
-    };
-    match lock(&file) {
-        Ok(()) => {}
-        Err(fault) => return Err(fault),
-    }
-    match want_named(rt, name, &file) {
-        Ok(()) => Ok(file),
-        Err(fault) => Err(fault),
-    }
 }
 
 // The folder of a path.
@@ -116,14 +134,6 @@ fn folder_of(path: &str) -> &str {
         Some(("", _)) => "/",
         Some((folder, _)) => folder,
         None => ".",
-    }
-}
-
-// What a call of the system comes to.
-fn settled(answer: io::Result<()>) -> Result<(), PartFault> {
-    match answer {
-        Ok(()) => Ok(()),
-        Err(error) => Err(part_fault(error)),
     }
 }
 
@@ -140,51 +150,53 @@ impl<R: Files<File = File>> Names for SystemNames<'_, R> {
     ghost asked = { λ _. None };
 
     fn make(&mut self, name: &str) -> Result<File, PartFault> {
-        held(self.rt, name, options_anew().open(self.rt, name))
+        self.held(name, options_anew().open(self.rt, name))
     }
 
     fn claim(&mut self, name: &str) -> Result<File, PartFault> {
         match options_as_it_is().open(self.rt, name) {
             Err(error) if error.kind() == ErrorKind::NotFound => Err(PartFault::InUse),
-            opened => held(self.rt, name, opened),
+            opened => self.held(name, opened),
         }
     }
 
     fn remove(&mut self, name: &str) -> Result<(), PartFault> {
-        settled(fs::remove_file(self.rt, name))
+        self.settled(fs::remove_file(self.rt, name))
     }
 
     fn link(&mut self, from: &str, to: &str) -> Result<(), PartFault> {
-        settled(fs::hard_link(self.rt, from, to))
+        // what has no link is named otherwise: this is no error that a fault comes of
+        fs::hard_link(self.rt, from, to).map_err(part_fault)
     }
 
     fn rename(&mut self, from: &str, to: &str) -> Result<(), PartFault> {
-        settled(fs::rename(self.rt, from, to))
+        self.settled(fs::rename(self.rt, from, to))
     }
 
     fn sync_folder(&mut self, name: &str) -> Result<(), PartFault> {
-        settled(sync_folder_of(self.rt, name))
+        // nor is this one: some systems sync no folder
+        sync_folder_of(self.rt, name).map_err(part_fault)
     }
 
     fn is_there(&mut self, name: &str) -> Result<bool, PartFault> {
-        match found(self.rt, name) {
+        match self.found(name) {
             Ok(found) => Ok(found.is_some()),
             Err(fault) => Err(fault),
         }
     }
 
     fn is_one_file(&mut self, first: &str, second: &str) -> Result<bool, PartFault> {
-        let Some(first) = found(self.rt, first)? else {
+        let Some(first) = self.found(first)? else {
             return Ok(false);
         };
-        let Some(second) = found(self.rt, second)? else {
+        let Some(second) = self.found(second)? else {
             return Ok(false);
         };
         Ok(is_one(&first, &second))
     }
 
     fn has_one_name(&mut self, name: &str) -> Result<bool, PartFault> {
-        match found(self.rt, name) {
+        match self.found(name) {
             Ok(Some(found)) => Ok(found.is_file() && found.nlink() == 1),
             Ok(None) => Ok(false),
             Err(fault) => Err(fault),

@@ -3,7 +3,7 @@ use Rattle.std.proofs.Common.{◌≡◌, ◌≢◌, ◌<◌, ◌+◌, ℕ, zero,
 use Rattle.std.specs.Int.{to_le_bytes, w32}
 use Rattle.std.specs.Io.KnownBytes.{Appends}
 use Rattle.std.proofs.KnownBytes.{Appends-trans}
-use Rattle.request_stream.specs.Frames.{AppendsFront, AppendsPart, Sends, answer_bytes}
+use Rattle.request_stream.specs.Frames.{AppendsFront, AppendsPart, SendsBytes, answer_bytes}
 use Rattle.request_stream.specs.declared.reply.ServeFault.{ServeFault}
 
 -- what is missing behind the first n of more than n
@@ -53,7 +53,7 @@ front_stop b a x y due whole (sent, more, split, first) =
     (sent, more ++ y, sym (append_assoc sent more y) ∙ ap (λ l. l ++ y) split ∙ whole, first)
 
 -- what was sent, and then the rest of it
-pub sends_then : {T : Type 0} (b m a : Option (List ℕ)) (x y due : List ℕ) (r : Result T ServeFault) → x ++ y ≡ due → Appends b m x → Sends m a y r → Sends b a due r
+pub sends_then : {T : Type 0} (b m a : Option (List ℕ)) (x y due : List ℕ) (r : Result T ServeFault) → x ++ y ≡ due → Appends b m x → SendsBytes m a y r → SendsBytes b a due r
 sends_then b m a x y due (Ok v) whole first second = subst (Appends b a) whole (Appends-trans b m a x y first second)
 sends_then b m a x y due (Err e) whole first (is, front) = (is, front_more b m a x y due whole first front)
 

@@ -63,9 +63,9 @@ abbrev pub AppendsFront : Option (List ℕ) → Option (List ℕ) → List ℕ �
 AppendsFront old new due = (sent more : List ℕ) × (sent ++ more ≡ due) × Appends old new sent
 
 -- all of them were written, or a write failed, or the handing on of all of them did, and a beginning was
-abbrev pub Sends : {T : Type 0} → Option (List ℕ) → Option (List ℕ) → List ℕ → Result T ServeFault → Type 0
-Sends old new due (Ok x) = Appends old new due
-Sends old new due (Err e) = (e ≡ fault.Write) × AppendsFront old new due
+abbrev pub SendsBytes : {T : Type 0} → Option (List ℕ) → Option (List ℕ) → List ℕ → Result T ServeFault → Type 0
+SendsBytes old new due (Ok x) = Appends old new due
+SendsBytes old new due (Err e) = (e ≡ fault.Write) × AppendsFront old new due
 
 -- ---- lines
 

@@ -1,7 +1,7 @@
 //! Replies.
 ghost use Rattle.std.specs.Prelude.{◌≡◌, [], IfOk, IsErr};
 ghost use Rattle.promises.specs.Stream.{op_code, last_bytes};
-ghost use Rattle.request_stream.specs.Frames.{answer_bytes, last_count, Sends};
+ghost use Rattle.request_stream.specs.Frames.{answer_bytes, last_count, SendsBytes};
 
 use crate::header::Header;
 use crate::transfer::send;
@@ -36,7 +36,7 @@ fn reply_header(code: u8, status: u8, tag: u32) -> [u8; 8]
 
 // Has the writer hand on what it took.
 fn flush<W: Write>(writer: &mut W) -> Result<(), ServeFault>
-    ensures { Sends (W.contents writer.old) (W.contents writer.new) [] result }
+    ensures { SendsBytes (W.contents writer.old) (W.contents writer.new) [] result }
 {
     match writer.flush() {
         Ok(()) => Ok(()),
@@ -52,7 +52,7 @@ fn send_frame<W: Write>(
     tag: u32,
     sector: &[u8],
 ) -> Result<(), ServeFault>
-    ensures { Sends (W.contents writer.old) (W.contents writer.new) (answer_bytes code status tag sector.now) result }
+    ensures { SendsBytes (W.contents writer.old) (W.contents writer.new) (answer_bytes code status tag sector.now) result }
 {
     send(writer, &reply_header(code, status, tag))?;
     send(writer, sector)?;
@@ -72,7 +72,7 @@ pub fn send_reply<W: Write>(
     status: u8,
     sector: &[u8],
 ) -> Result<(), ServeFault>
-    ensures { Sends (W.contents writer.old) (W.contents writer.new) (answer_bytes (op_code header.op) status header.tag sector.now) result }
+    ensures { SendsBytes (W.contents writer.old) (W.contents writer.new) (answer_bytes (op_code header.op) status header.tag sector.now) result }
 {
     send_frame(writer, header.op.code(), status, header.tag, sector)
 }
@@ -84,7 +84,7 @@ pub fn send_reply<W: Write>(
 ///
 /// `Write` as of `send_reply`, only after a bad header. (This project's layout.)
 pub fn send_last<W: Write>(writer: &mut W, end: End) -> Result<u64, ServeFault>
-    ensures sends { Sends (W.contents writer.old) (W.contents writer.new) (last_bytes end) result }
+    ensures sends { SendsBytes (W.contents writer.old) (W.contents writer.new) (last_bytes end) result }
     ensures count { IfOk result (λ count. count ≡ last_count end) }
     ensures bad { IsErr result → end ≡ End.BadFrame }
 {

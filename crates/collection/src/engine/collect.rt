@@ -12,7 +12,7 @@ ghost use Rattle.collection.specs.Left.{IsHalfDone, IsFew, HasPassed, PinIsFew};
 ghost use Rattle.collection.specs.Acts.{EngineActs, Stands};
 ghost use Rattle.collection.specs.Stops.{StopsSafely};
 
-use super::step::Progress;
+use super::collect_steps::Progress;
 use super::{Engine, Pinned};
 use crate::fault::WriteFault;
 use onfi_cycles::Nand;

@@ -11,7 +11,7 @@ ghost use Rattle.collection.specs.Live.{PointsTo, IsTaken, LooksAt, FindsFirst, 
 ghost use Rattle.collection.specs.Acts.{EngineLooks};
 
 use super::Engine;
-use super::steps::read_sound;
+use super::operations::read_sound;
 use crate::fault::WriteFault;
 use onfi_cycles::Nand;
 use page_layout::geometry::Geometry;

@@ -15,7 +15,7 @@ ghost use Rattle.collection.specs.Looks.{IsPageOf, IsRead, GivesRow, FindsRow, G
 ghost use Rattle.collection.specs.Acts.{EngineLooks};
 ghost use Rattle.page_layout.specs.OnlyReads.{OnlyReads};
 
-use super::steps::read_sound;
+use super::operations::read_sound;
 use super::{Buffer, Engine};
 use crate::fault::WriteFault;
 use onfi_cycles::Nand;

@@ -19,7 +19,7 @@ ghost use Rattle.collection.specs.Acts.{EngineActs, Stands, OnlyPrograms};
 ghost use Rattle.collection.specs.Stops.{IsKeptOr, Stops};
 
 use super::Engine;
-use super::steps::program_record;
+use super::operations::program_record;
 use crate::fault::WriteFault;
 use allocation::{Blocks, Stream};
 use onfi_cycles::{Nand, Outcome};

@@ -1,11 +1,11 @@
-// Blocks that are collected, and pages that are rescued from bad ones.
-use device_bench::again::Mounted;
-use device_bench::calls::Call::{self, Flush, Read, Trim, Turn, Write};
-use device_bench::cases::Cached::{Clean, Dirty};
-use device_bench::cases::Step::{Done, Over, Spread};
-use device_bench::cases::{Case, QUIET, Told, hold_cases};
-use device_bench::pages::{NO, PageAt};
-use device_bench::recorder::Operation::{Erase, Program, Programs, Read as ReadPage};
+//! Blocks that are collected, and pages that are rescued from bad ones.
+use device_fixtures::again::Mounted;
+use device_fixtures::calls::Call::{self, Flush, Read, Trim, Turn, Write};
+use device_fixtures::cases::Cached::{Clean, Dirty};
+use device_fixtures::cases::Step::{Done, Over, Spread};
+use device_fixtures::cases::{Case, QUIET, Told, hold_cases};
+use device_fixtures::pages::{NO, PageAt};
+use device_fixtures::recorder::Operation::{Erase, Program, Programs, Read as ReadPage};
 use std::test::Fail;
 
 // Eight pages of block 1: two of sector 7, and before the sixth other sector a translation page, since

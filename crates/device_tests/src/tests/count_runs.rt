@@ -1,9 +1,9 @@
-// Long runs of writes that are never refused, since blocks enough are good.
+//! Long runs of writes that are never refused, since blocks enough are good.
 ghost use Rattle.std.specs.Prelude.{◌≡◌, IfOk};
 ghost use Rattle.ftl_device.specs.Device.{IsDevice};
 
-use device_bench::bench::{given_up, marked_die, started};
-use device_bench::calls::{Call, hold_call};
+use device_fixtures::bench::{given_up, marked_die, started};
+use device_fixtures::calls::{Call, hold_call};
 use ftl_device::Device;
 use nand_die::{Die, Mark};
 use onfi_cycles::{Driver, Nand};

@@ -1,16 +1,16 @@
-// Devices that are flushed.
+//! Devices that are flushed.
 ghost use Rattle.onfi_cycles.specs.Driver.{flash_by};
 ghost use Rattle.ftl_device.specs.Device.{IsDevice};
 
-use device_bench::again::Mounted;
-use device_bench::bench::{formatted, started};
-use device_bench::calls::Call::{Flush, Read, Write};
-use device_bench::calls::hold_call;
-use device_bench::cases::Cached::{Clean, Dirty};
-use device_bench::cases::Step::Done;
-use device_bench::cases::{Case, QUIET, hold_cases};
-use device_bench::pages::{NO, PageAt};
-use device_bench::recorder::Operation::{Program, Programs, Read as ReadPage};
+use device_fixtures::again::Mounted;
+use device_fixtures::bench::{formatted, started};
+use device_fixtures::calls::Call::{Flush, Read, Write};
+use device_fixtures::calls::hold_call;
+use device_fixtures::cases::Cached::{Clean, Dirty};
+use device_fixtures::cases::Step::Done;
+use device_fixtures::cases::{Case, QUIET, hold_cases};
+use device_fixtures::pages::{NO, PageAt};
+use device_fixtures::recorder::Operation::{Program, Programs, Read as ReadPage};
 use ftl_device::{Device, DeviceFault};
 use onfi_cycles::Nand;
 use page_layout::geometry::Geometry;

@@ -1,4 +1,4 @@
-// Lists of commands, told from an accepted certificate on.
+//! Lists of commands, told from an accepted certificate on.
 ghost use Rattle.std.specs.Prelude.{◌≡◌, ◌⊎◌, true, IfOk, OnOk};
 ghost use Rattle.page_layout.specs.Counter.{HasRisen};
 ghost use Rattle.onfi_cycles.specs.Driver.{flash_by};
@@ -8,7 +8,7 @@ ghost use Rattle.command_queue.specs.Run.{RanFrom};
 
 use certificate::Certificate;
 use command_queue::{Call, Command, run_accepted};
-use device_bench::bench::{formatted_die, mounted, small};
+use device_fixtures::bench::{formatted_die, mounted, small};
 use ftl_device::{Device, DeviceFault};
 use image_check::check;
 use nand_die::Die;

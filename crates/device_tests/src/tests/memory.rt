@@ -1,10 +1,10 @@
-// Calls of which a growth was refused are made again, and do what they would have done. Nothing is
-// refused here unless the tests are run so.
+//! Calls of which a growth was refused are made again, and do what they would have done. Nothing is
+//! refused here unless the tests are run so.
 ghost use Rattle.ftl_device.specs.Device.{IsDevice};
 
-use device_bench::bench::{formatted, small, started};
-use device_bench::calls::Call::{Read, Trim, Write};
-use device_bench::calls::{Answer, Call, hold_call, make};
+use device_fixtures::bench::{formatted, small, started};
+use device_fixtures::calls::Call::{Read, Trim, Write};
+use device_fixtures::calls::{Answer, Call, hold_call, make};
 use ftl_device::{Device, DeviceFault};
 use onfi_cycles::Nand;
 use std::process::Abort;

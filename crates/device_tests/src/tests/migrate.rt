@@ -1,10 +1,10 @@
 //! Dies with pages of version 1 are brought forward.
 ghost use Rattle.ftl_device.specs.Device.{IsDevice};
 
-use device_bench::bench::{given_up, recorded, started, unwired, wired};
-use device_bench::dies::{image_of, loaded};
-use device_bench::hold::hold_same;
-use device_bench::recorder::Cycle;
+use device_fixtures::bench::{given_up, recorded, started, unwired, wired};
+use device_fixtures::dies::{image_of, loaded};
+use device_fixtures::hold::hold_same;
+use device_fixtures::recorder::Cycle;
 use ftl_device::{Device, DeviceFault};
 use nand_die::Die;
 use onfi_cycles::Nand;

@@ -1,15 +1,15 @@
-// Devices that are given up and started anew, and certificates that say too little or too much.
+//! Devices that are given up and started anew, and certificates that say too little or too much.
 ghost use Rattle.std.specs.Prelude.{◌≡◌, IfOk};
 
 use certificate::Certificate;
-use device_bench::bench::{after_calls, bytes_of, formatted, mounted, small, with_bytes};
-use device_bench::calls::Call;
-use device_bench::calls::Call::{Read, Trim, Write};
-use device_bench::cases::Step::{Done, Refused};
-use device_bench::cases::{Case, QUIET, hold_cases};
-use device_bench::pages::PageAt;
-use device_bench::recorder::Operation::{Program, Read as ReadPage};
-use device_bench::recorder::Recorder;
+use device_fixtures::bench::{after_calls, bytes_of, formatted, mounted, small, with_bytes};
+use device_fixtures::calls::Call;
+use device_fixtures::calls::Call::{Read, Trim, Write};
+use device_fixtures::cases::Step::{Done, Refused};
+use device_fixtures::cases::{Case, QUIET, hold_cases};
+use device_fixtures::pages::PageAt;
+use device_fixtures::recorder::Operation::{Program, Read as ReadPage};
+use device_fixtures::recorder::Recorder;
 use ftl_device::DeviceFault;
 use image_check::{Refusal, check};
 use mount::mount;

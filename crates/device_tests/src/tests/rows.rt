@@ -1,12 +1,12 @@
-// Sectors that are written, read and trimmed where nothing fails.
-use device_bench::calls::Call;
-use device_bench::calls::Call::{Read, Trim, Write};
-use device_bench::cases::Cached::{Clean, Dirty};
-use device_bench::cases::Step::{Done, Refused};
-use device_bench::cases::{Case, QUIET, hold_cases};
-use device_bench::pages::PageAt;
-use device_bench::recorder::Operation::{Program, Programs, Read as ReadPage};
-use device_bench::recorder::{Cycle, Operation, cycles_of};
+//! Sectors that are written, read and trimmed where nothing fails.
+use device_fixtures::calls::Call;
+use device_fixtures::calls::Call::{Read, Trim, Write};
+use device_fixtures::cases::Cached::{Clean, Dirty};
+use device_fixtures::cases::Step::{Done, Refused};
+use device_fixtures::cases::{Case, QUIET, hold_cases};
+use device_fixtures::pages::PageAt;
+use device_fixtures::recorder::Operation::{Program, Programs, Read as ReadPage};
+use device_fixtures::recorder::{Cycle, Operation, cycles_of};
 use ftl_device::DeviceFault;
 use std::test::Fail;
 

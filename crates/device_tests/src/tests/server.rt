@@ -1,5 +1,5 @@
-// The block server from end to end: streams of requests over a die in memory, with sectors of 64 bytes, 32 of them, on 32 blocks of 8
-// pages.
+//! The block server from end to end: streams of requests over a die in memory, with sectors of 64 bytes, 32 of them, on 32 blocks of 8
+//! pages.
 mod bench;
 mod plain;
 mod rows;

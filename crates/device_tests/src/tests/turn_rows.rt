@@ -1,13 +1,13 @@
-// Blocks that are collected from turn to turn.
+//! Blocks that are collected from turn to turn.
 ghost use Rattle.ftl_device.specs.Device.{IsDevice};
 
-use device_bench::again::Mounted;
-use device_bench::bench::{formatted_die, small, started};
-use device_bench::calls::Call::{self, Flush, Read, Turn, Write};
-use device_bench::calls::hold_call;
-use device_bench::cases::Step::{self, Done, Spread};
-use device_bench::cases::{Case, QUIET, Told, erases_of, hold_cases};
-use device_bench::recorder::Operation::{Erase, Program, Programs};
+use device_fixtures::again::Mounted;
+use device_fixtures::bench::{formatted_die, small, started};
+use device_fixtures::calls::Call::{self, Flush, Read, Turn, Write};
+use device_fixtures::calls::hold_call;
+use device_fixtures::cases::Step::{self, Done, Spread};
+use device_fixtures::cases::{Case, QUIET, Told, erases_of, hold_cases};
+use device_fixtures::recorder::Operation::{Erase, Program, Programs};
 use ftl_device::Device;
 use onfi_cycles::Nand;
 use std::alloc::Global;

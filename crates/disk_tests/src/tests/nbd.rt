@@ -1,4 +1,4 @@
-// Byte lists in pieces of several lengths.
+//! Byte lists in pieces of several lengths.
 mod negotiations;
 pub mod pieces;
 mod replies;

@@ -1,4 +1,4 @@
-// Parts and names in a folder of four names, in memory.
+//! Parts and names in a folder of four names, in memory.
 use part_files::{
     Names, Pair, PartFault, clear_begun, discard, is_begun, new_part, publish_new, publish_over,
     publish_pair,

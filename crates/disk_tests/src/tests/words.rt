@@ -1,4 +1,4 @@
-// Tables of cases, each held to what it says.
+//! Tables of cases, each held to what it says.
 mod mark_files;
 mod marks;
 mod shapes;

@@ -1,11 +1,11 @@
-// A block that is collected, from which its die may stop.
+//! A block that is collected, from which its die may stop.
 ghost use Rattle.std.specs.Prelude.{◌≡◌, None, IfOk};
 ghost use Rattle.collection.specs.Safe.{IsSafe, ram};
 ghost use Rattle.collection.specs.Left.{IsCalm};
 ghost use Rattle.ftl_device.specs.Device.{IsDevice};
 
 use collection::{Engine, WriteFault};
-use device_bench::calls::Call::{self, Trim, Write};
+use device_fixtures::calls::Call::{self, Trim, Write};
 use ftl_device::Device;
 use onfi_cycles::Nand;
 use page_layout::geometry::Geometry;

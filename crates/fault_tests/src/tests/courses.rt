@@ -1,4 +1,4 @@
-// What devices are asked on dies that stop, and what is left by them.
+//! What devices are asked on dies that stop, and what is left by them.
 ghost use Rattle.std.specs.Prelude.{◌≡◌, IfOk};
 ghost use Rattle.ftl_device.specs.Device.{IsDevice};
 
@@ -6,9 +6,9 @@ use super::collecting::{CLOSING, collected};
 use super::fault_scripts::nth_call;
 use super::noise::{noisy, quiet};
 use super::script::Script;
-use device_bench::bench::{driver_on, formatted_die, given_up, started};
-use device_bench::calls::{Answer, Call, make};
-use device_bench::dies::image_of;
+use device_fixtures::bench::{driver_on, formatted_die, given_up, started};
+use device_fixtures::calls::{Answer, Call, make};
+use device_fixtures::dies::image_of;
 use ftl_device::{Device, DeviceFault};
 use nand_die::{Die, Stop};
 use onfi_cycles::{Driver, Nand};

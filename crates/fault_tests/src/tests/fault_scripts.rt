@@ -1,11 +1,11 @@
-// Four hundred calls, of which each program and erase fails in turn, alone and with those after it.
+//! Four hundred calls, of which each program and erase fails in turn, alone and with those after it.
 ghost use Rattle.std.specs.Prelude.{◌≡◌, IfOk};
 ghost use Rattle.ftl_device.specs.Device.{IsDevice};
 
 use super::noise::{noisy, quiet};
 use super::script::{Script, change, compare};
-use device_bench::bench::{formatted_die, given_up, small, started};
-use device_bench::calls::Call;
+use device_fixtures::bench::{formatted_die, given_up, small, started};
+use device_fixtures::calls::Call;
 use ftl_device::Device;
 use nand_die::Die;
 use onfi_cycles::{Driver, Nand};

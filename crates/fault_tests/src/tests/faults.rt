@@ -1,9 +1,9 @@
-// Programs that fail.
-use device_bench::calls::Call::{Read, Trim, Write};
-use device_bench::cases::Step::{Done, Refused};
-use device_bench::cases::{Case, QUIET, hold_cases};
-use device_bench::pages::PageAt;
-use device_bench::recorder::Operation::{Program, Programs, Read as ReadPage};
+//! Programs that fail.
+use device_fixtures::calls::Call::{Read, Trim, Write};
+use device_fixtures::cases::Step::{Done, Refused};
+use device_fixtures::cases::{Case, QUIET, hold_cases};
+use device_fixtures::pages::PageAt;
+use device_fixtures::recorder::Operation::{Program, Programs, Read as ReadPage};
 use ftl_device::DeviceFault;
 use std::test::Fail;
 

@@ -1,15 +1,15 @@
-// Dies whose pages of version 1 are brought forward: while each program and erase fails in turn, from a pinned block on, and by devices
-// that are started one after the other. All sectors are compared with a plain list after each call. Each page that is brought forward
-// leaves fewer newest pages of version 1; where none is found, only table pages are of it, and after a flush none is.
+//! Dies whose pages of version 1 are brought forward: while each program and erase fails in turn, from a pinned block on, and by devices
+//! that are started one after the other. All sectors are compared with a plain list after each call. Each page that is brought forward
+//! leaves fewer newest pages of version 1; where none is found, only table pages are of it, and after a flush none is.
 ghost use Rattle.std.specs.Prelude.{◌≡◌, IfOk};
 ghost use Rattle.ftl_device.specs.Device.{IsDevice};
 
 use super::courses::{Calls, Course, Start, start_of};
 use super::old::{Old, old_of};
 use super::script::{Script, compare};
-use device_bench::bench::{driver_on, given_up, started};
-use device_bench::calls::{Call, hold_call};
-use device_bench::hold::hold_same;
+use device_fixtures::bench::{driver_on, given_up, started};
+use device_fixtures::calls::{Call, hold_call};
+use device_fixtures::hold::hold_same;
 use ftl_device::Device;
 use nand_die::{Die, Fault};
 use onfi_cycles::{Bus, Driver, Nand};

@@ -1,4 +1,4 @@
-// The sectors of an image, by a pass over its pages, and a list of sectors.
+//! The sectors of an image, by a pass over its pages, and a list of sectors.
 use super::script::Script;
 use page_layout::record::{Kind, Record, read_record};
 use page_layout::source::ImageSlice;

@@ -1,4 +1,4 @@
-// Dies over chips whose reads have wrong bits: each read turns no bit or one of each chunk with its code.
+//! Dies over chips whose reads have wrong bits: each read turns no bit or one of each chunk with its code.
 ghost use Rattle.std.specs.Prelude.{◌≡◌, IfOk};
 
 use corrected_nand::{Corrected, ReadErrors};

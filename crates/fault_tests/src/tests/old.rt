@@ -1,4 +1,4 @@
-// The pages of version 1 that count on a die with pages of 64 and 40 bytes, by a pass over all its pages.
+//! The pages of version 1 that count on a die with pages of 64 and 40 bytes, by a pass over all its pages.
 ghost use Rattle.std.specs.Prelude.{◌≡◌};
 
 use page_layout::geometry::Geometry;

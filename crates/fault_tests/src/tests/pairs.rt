@@ -1,10 +1,10 @@
-// Sixty calls on the one sector of the least geometry, of which every two programs and erases fail.
+//! Sixty calls on the one sector of the least geometry, of which every two programs and erases fail.
 ghost use Rattle.std.specs.Prelude.{◌≡◌};
 ghost use Rattle.ftl_device.specs.Device.{IsDevice};
 
 use super::script::{Script, change, compare};
-use device_bench::bench::{formatted_die, given_up, started};
-use device_bench::calls::Call;
+use device_fixtures::bench::{formatted_die, given_up, started};
+use device_fixtures::calls::Call;
 use ftl_device::Device;
 use onfi_cycles::Nand;
 use page_layout::geometry::Geometry;

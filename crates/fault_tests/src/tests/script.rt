@@ -1,12 +1,12 @@
-// Thousands of pseudorandom commands and restarts, with programs and erases that fail, against a plain
-// list of sectors.
+//! Thousands of pseudorandom commands and restarts, with programs and erases that fail, against a plain
+//! list of sectors.
 ghost use Rattle.std.specs.Prelude.{◌≡◌, IfOk};
 ghost use Rattle.ftl_device.specs.Device.{IsDevice};
 
 use super::noise::{noisy, quiet};
-use device_bench::bench::{driver_on, formatted_die, given_up, started};
-use device_bench::calls::{Call, hold_call, make};
-use device_bench::cases::erases_of;
+use device_fixtures::bench::{driver_on, formatted_die, given_up, started};
+use device_fixtures::calls::{Call, hold_call, make};
+use device_fixtures::cases::erases_of;
 use ftl_device::{Device, DeviceFault};
 use nand_die::Die;
 use onfi_cycles::{Driver, Nand};

@@ -1,15 +1,15 @@
-// Stops inside a call, to the byte: what the die has then, what it says once it is mounted anew, and what a device on it reads.
+//! Stops inside a call, to the byte: what the die has then, what it says once it is mounted anew, and what a device on it reads.
 ghost use Rattle.std.specs.Prelude.{◌≡◌, IfOk};
 ghost use Rattle.ftl_device.specs.Device.{IsDevice};
 
 use super::collecting::{CLOSING, collected};
-use device_bench::again::{Mounted, hold_mounted};
-use device_bench::bench::{driver_on, formatted_die, given_up, mounted, small, started};
-use device_bench::calls::Call::{self, Flush, Read, Trim, Turn, Write};
-use device_bench::calls::{Answer, hold_call, hold_calls};
-use device_bench::dies::{image_of, loaded};
-use device_bench::hold::hold_same;
-use device_bench::pages::{NO, PageAt, hold_pages};
+use device_fixtures::again::{Mounted, hold_mounted};
+use device_fixtures::bench::{driver_on, formatted_die, given_up, mounted, small, started};
+use device_fixtures::calls::Call::{self, Flush, Read, Trim, Turn, Write};
+use device_fixtures::calls::{Answer, hold_call, hold_calls};
+use device_fixtures::dies::{image_of, loaded};
+use device_fixtures::hold::hold_same;
+use device_fixtures::pages::{NO, PageAt, hold_pages};
 use ftl_device::{Device, DeviceFault};
 use nand_die::{Die, Stop};
 use onfi_cycles::{Driver, Nand};

@@ -1,6 +1,6 @@
-// Dies that stop at each program and erase of a course in turn: before it, after it, and with its page torn in three ways. The image
-// that is left mounts and is accepted. Its sectors are those from before the call or those from after it; where the program or erase
-// was not done whole, those from before. A device on it goes on.
+//! Dies that stop at each program and erase of a course in turn: before it, after it, and with its page torn in three ways. The image
+//! that is left mounts and is accepted. Its sectors are those from before the call or those from after it; where the program or erase
+//! was not done whole, those from before. A device on it goes on.
 ghost use Rattle.std.specs.Prelude.{◌≡◌};
 ghost use Rattle.ftl_device.specs.Device.{IsDevice};
 
@@ -8,10 +8,10 @@ use super::courses::{Calls, Course, Left, Start, left_by, start_of};
 use super::listed::{is_listed, scanned};
 use super::noise::{noisy, quiet};
 use super::script::{Script, compare, hold_sector};
-use device_bench::bench::{given_up, started};
-use device_bench::calls::{Call, hold_call};
-use device_bench::dies::loaded;
-use device_bench::hold::hold_same;
+use device_fixtures::bench::{given_up, started};
+use device_fixtures::calls::{Call, hold_call};
+use device_fixtures::dies::loaded;
+use device_fixtures::hold::hold_same;
 use ftl_device::Device;
 use nand_die::{Die, Stop};
 use onfi_cycles::{Driver, Nand};

@@ -1,8 +1,8 @@
-// Calls of a slot whose sectors have 64 bytes, and its device.
+//! Calls of a slot whose sectors have 64 bytes, and its device.
 ghost use Rattle.std.specs.Prelude.{◌≡◌, IfOk};
 ghost use Rattle.device_slot.specs.Begun.{IsDeviceKept};
 
-use device_bench::hold::hold_same;
+use device_fixtures::hold::hold_same;
 use device_slot::{CallFault, DeviceSlot, PowerFault, Report, Shortage, stop};
 use ftl_device::{Device, DeviceFault};
 use onfi_cycles::Nand;

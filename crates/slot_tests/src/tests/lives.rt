@@ -1,10 +1,10 @@
-// Power comes, calls are told, power goes, and comes again.
+//! Power comes, calls are told, power goes, and comes again.
 ghost use Rattle.std.specs.Prelude.{◌≡◌, IfOk};
 ghost use Rattle.device_slot.specs.Begun.{IsDeviceKept};
 
 use super::calls::Call::{Flush, Read, Trim, Turn, Write};
 use super::calls::{Answer, Call, OFF, RANGE, SIZE, given_up, hold_calls, hold_state, kept};
-use device_bench::bench::{driver_on, formatted_die, mounted, small};
+use device_fixtures::bench::{driver_on, formatted_die, mounted, small};
 use device_slot::{CallFault, DeviceSlot, Report, Shortage, start, start_checked, start_mounted};
 use ftl_device::{Device, DeviceFault};
 use nand_die::Die;

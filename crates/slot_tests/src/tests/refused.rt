@@ -1,4 +1,4 @@
-// Starts that are refused, and the die that comes back from each.
+//! Starts that are refused, and the die that comes back from each.
 ghost use Rattle.std.specs.Prelude.{◌≡◌, IfOk, IfErr};
 ghost use Rattle.onfi_cycles.specs.Driver.{flash_by};
 ghost use Rattle.device_slot.specs.Begun.{IsDeviceKept};
@@ -6,8 +6,8 @@ ghost use Rattle.device_slot.specs.Power.{nand_of};
 
 use super::calls::Call::{Read, Write};
 use super::calls::{Answer, Call, given_up, hold_calls, kept};
-use device_bench::bench::{driver_on, formatted_die, mounted, small};
-use device_bench::hold::hold_same;
+use device_fixtures::bench::{driver_on, formatted_die, mounted, small};
+use device_fixtures::hold::hold_same;
 use device_slot::{DeviceSlot, PowerFault, start, start_checked, start_mounted};
 use ftl_device::{Device, DeviceFault};
 use image_check::Refusal;

@@ -2,7 +2,7 @@ use Rattle.std.proofs.Common.{◌≡◌, refl, subst}
 use Rattle.promises.specs.Stream as stream
 use Rattle.promises.specs.Step as step
 use Rattle.promises.specs.Stream.{op_code, status_of, reply_body}
-use Rattle.request_stream.specs.Frames.{request_at, Sends, answer_bytes}
+use Rattle.request_stream.specs.Frames.{request_at, SendsBytes, answer_bytes}
 use Rattle.command_queue.specs.Commands.{command_of}
 use Rattle.command_queue.specs.Exchanges.{Exchange, answer_to}
 use Rattle.command_queue.specs.Tells.{Tells}
@@ -42,6 +42,6 @@ returns-clause-answers g c =
       command_is = refl;
       tells = subst (λ k. Tells g.N.PageSource.flash g.N.PageSource.recorded g.N.PageSource.honest g.N.PageSource.failed g.N.PageSource.erases old (as_told k) new) c.command_for.ensures.command tells;
       sends =
-          subst (λ l. Sends (g.W.Write.contents c.args.writer.now) (g.W.Write.contents c.send_reply.new.writer) (answer_bytes (op_code c.args.header.op) (status_of (answer_to asked c.tell-done.new.bytes c.tell-done.result)) c.args.header.tag l) c.send_reply.result) given
-          (subst (λ n. Sends (g.W.Write.contents c.args.writer.now) (g.W.Write.contents c.send_reply.new.writer) (answer_bytes (op_code c.args.header.op) n c.args.header.tag c.sector_for.result.now) c.send_reply.result) status c.send_reply.ensures);
+          subst (λ l. SendsBytes (g.W.Write.contents c.args.writer.now) (g.W.Write.contents c.send_reply.new.writer) (answer_bytes (op_code c.args.header.op) (status_of (answer_to asked c.tell-done.new.bytes c.tell-done.result)) c.args.header.tag l) c.send_reply.result) given
+          (subst (λ n. SendsBytes (g.W.Write.contents c.args.writer.now) (g.W.Write.contents c.send_reply.new.writer) (answer_bytes (op_code c.args.header.op) n c.args.header.tag c.sector_for.result.now) c.send_reply.result) status c.send_reply.ensures);
     }

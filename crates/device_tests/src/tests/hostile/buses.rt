@@ -1,4 +1,4 @@
-// Devices over buses that garble a byte or break down for one call.
+//! Devices over buses that garble a byte or break down for one call.
 ghost use Rattle.std.specs.Prelude.{◌≡◌, true, IfOk};
 ghost use Rattle.page_layout.specs.declared.geometry.Geometry.{Geometry};
 ghost use Rattle.certificate.specs.Claim.{sizes_of};
@@ -6,7 +6,9 @@ ghost use Rattle.ftl_device.specs.Device.{IsDevice};
 
 use super::calls::Call::{Flush, Read, Trim, Turn, Write};
 use super::calls::{Call, make};
-use device_bench::bench::{driver_on, formatted_die, given_up, mounted, small, start_on, started};
+use device_fixtures::bench::{
+    driver_on, formatted_die, given_up, mounted, small, start_on, started,
+};
 use ftl_device::{Device, DeviceFault};
 use image_check::{Accepted, check};
 use nand_die::{CycleFuse, Die, Garble};

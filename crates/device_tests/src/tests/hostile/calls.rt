@@ -1,4 +1,4 @@
-// Calls of a device whose sectors have 64 bytes.
+//! Calls of a device whose sectors have 64 bytes.
 ghost use Rattle.ftl_device.specs.Device.{IsDevice};
 
 use ftl_device::{Device, DeviceFault};

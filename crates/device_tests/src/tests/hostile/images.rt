@@ -1,4 +1,4 @@
-// Images that are noise, or valid but for a few bytes, against a plain scan of their pages.
+//! Images that are noise, or valid but for a few bytes, against a plain scan of their pages.
 ghost use Rattle.std.specs.Prelude.{◌≡◌};
 ghost use Rattle.page_layout.specs.Geometry.{row_count};
 ghost use Rattle.ftl_device.specs.Device.{IsDevice};
@@ -7,8 +7,8 @@ use super::calls::{Call, make, write};
 use super::list::{List, SECTORS, hold_device, scanned};
 use super::noise::Noise;
 use certificate::Certificate;
-use device_bench::bench::{formatted_die, given_up, mounted, small, started};
-use device_bench::dies::{image_of, loaded};
+use device_fixtures::bench::{formatted_die, given_up, mounted, small, started};
+use device_fixtures::dies::{image_of, loaded};
 use ftl_device::{Device, DeviceFault};
 use image_check::{Refusal, SectorFault, check, check_stream, sector};
 use mount::{format, mount};

@@ -1,4 +1,4 @@
-// A plain list of sectors, and what is held against it.
+//! A plain list of sectors, and what is held against it.
 ghost use Rattle.ftl_device.specs.Device.{IsDevice};
 
 use super::calls::read;

@@ -1,4 +1,4 @@
-// Pseudorandom numbers, always the same ones.
+//! Pseudorandom numbers, always the same ones.
 
 // A linear congruential generator (Knuth's numbers for 64 bits).
 #[derive(Drop)]

@@ -1,6 +1,6 @@
-// Four hundred commands on a bus that breaks down for one call, at each call in turn, and on a die that stops at each program
-// and erase in turn. The device stops, and what was done is kept: its image mounts with the sectors from before the command or
-// from after it.
+//! Four hundred commands on a bus that breaks down for one call, at each call in turn, and on a die that stops at each program
+//! and erase in turn. The device stops, and what was done is kept: its image mounts with the sectors from before the command or
+//! from after it.
 ghost use Rattle.std.specs.Prelude.{◌≡◌, ◌≤◌, true, IfOk};
 ghost use Rattle.certificate.specs.Claim.{sizes_of};
 ghost use Rattle.onfi_cycles.specs.Driver.{flash_by};
@@ -8,8 +8,10 @@ ghost use Rattle.ftl_device.specs.Device.{IsDevice};
 
 use super::calls::{Call, make, read};
 use super::list::{SECTORS, scanned};
-use device_bench::bench::{driver_on, formatted_die, given_up, mounted, small, start_on, started};
-use device_bench::dies::image_of;
+use device_fixtures::bench::{
+    driver_on, formatted_die, given_up, mounted, small, start_on, started,
+};
+use device_fixtures::dies::image_of;
 use ftl_device::{Device, DeviceFault};
 use image_check::{Accepted, check};
 use nand_die::{CycleFuse, Die, Stop};

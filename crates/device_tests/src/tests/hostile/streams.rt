@@ -1,11 +1,11 @@
-// Streams of requests that are noise, or valid but for a few bytes, against a plain reader and a plain list of sectors.
+//! Streams of requests that are noise, or valid but for a few bytes, against a plain reader and a plain list of sectors.
 ghost use Rattle.std.specs.Prelude.{◌≡◌};
 
 use super::list::{List, SECTORS, hold_image};
 use super::noise::Noise;
 use block_server::{RunFault, Served, serve_checked};
-use device_bench::bench::{formatted_die, mounted, small};
-use device_bench::dies::image_of;
+use device_fixtures::bench::{formatted_die, mounted, small};
+use device_fixtures::dies::image_of;
 use nand_die::Die;
 use onfi_cycles::Driver;
 use page_layout::geometry::Geometry;

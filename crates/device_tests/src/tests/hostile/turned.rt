@@ -1,9 +1,9 @@
-// A bit of an image turned over, against the certificate from before, and mounted anew.
+//! A bit of an image turned over, against the certificate from before, and mounted anew.
 use super::calls::write;
 use super::list::scanned;
 use certificate::Certificate;
-use device_bench::bench::{formatted_die, given_up, mounted, small, started};
-use device_bench::dies::image_of;
+use device_fixtures::bench::{formatted_die, given_up, mounted, small, started};
+use device_fixtures::dies::image_of;
 use image_check::{Refusal, check};
 use page_layout::geometry::Geometry;
 use page_layout::source::ImageSlice;

@@ -1,10 +1,10 @@
-// A die in memory that is formatted, mounted and served.
+//! A die in memory that is formatted, mounted and served.
 ghost use Rattle.std.specs.Prelude.{◌≡◌, ◌≤◌, IfOk};
 
 use super::streams::{Narrow, Pieces};
 use block_server::{RunFault, Served, serve_checked};
-use device_bench::bench::{formatted_die, mounted, small};
-use device_bench::dies::image_of;
+use device_fixtures::bench::{formatted_die, mounted, small};
+use device_fixtures::dies::image_of;
 use nand_die::Die;
 use onfi_cycles::Driver;
 use page_layout::geometry::Geometry;

@@ -1,9 +1,9 @@
-// Reads, writes, trims, flushes, turns and restarts with smaller and smaller caches, held against a plain list of sectors.
+//! Reads, writes, trims, flushes, turns and restarts with smaller and smaller caches, held against a plain list of sectors.
 ghost use Rattle.std.specs.Prelude.{◌≡◌, ◌≤◌, ◌<◌, IfOk};
 
 use super::bench::served;
 use super::streams::Narrow;
-use device_bench::bench::{formatted_die, small};
+use device_fixtures::bench::{formatted_die, small};
 use nand_die::Die;
 use onfi_cycles::Driver;
 use page_layout::geometry::Geometry;

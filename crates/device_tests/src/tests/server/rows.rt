@@ -1,8 +1,8 @@
-// Streams of requests, and what is written for them.
+//! Streams of requests, and what is written for them.
 use super::bench::{Came, Row, hold_row, serve_die};
 use super::streams::{Narrow, Pieces};
 use block_server::Served;
-use device_bench::bench::{formatted_die, small};
+use device_fixtures::bench::{formatted_die, small};
 use promises::stream::End;
 use request_stream::ServeFault;
 use std::alloc::Global;

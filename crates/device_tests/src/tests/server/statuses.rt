@@ -1,4 +1,4 @@
-// Each status as a frame, and those that a device answers with other commands than its die's failures want.
+//! Each status as a frame, and those that a device answers with other commands than its die's failures want.
 ghost use Rattle.std.specs.Prelude.{◌≡◌, true, IfOk};
 ghost use Rattle.certificate.specs.Claim.{sizes_of};
 
@@ -6,7 +6,7 @@ use super::bench::served;
 use super::streams::{Narrow, Pieces};
 use block_server::serve;
 use certificate::Certificate;
-use device_bench::bench::{driver_on, formatted_die, mounted, small, start_on, with_bytes};
+use device_fixtures::bench::{driver_on, formatted_die, mounted, small, start_on, with_bytes};
 use image_check::{Accepted, check};
 use nand_die::{CycleFuse, Die, Fault, Garble};
 use onfi_cycles::{Bus, Driver};

@@ -1,4 +1,4 @@
-// A reader and a writer that take their bytes in pieces, and fail where they are told to.
+//! A reader and a writer that take their bytes in pieces, and fail where they are told to.
 use std::alloc::Global;
 use std::io::{self, ErrorKind, Read, Write};
 

@@ -1,8 +1,8 @@
-// Disks over devices on dies in memory.
+//! Disks over devices on dies in memory.
 ghost use Rattle.std.specs.Prelude.{◌≡◌, IfOk};
 
 use crate::tests::steps::{Answer, Step, does_all};
-use device_bench::bench::{driver_on, formatted_die, mounted, small};
+use device_fixtures::bench::{driver_on, formatted_die, mounted, small};
 use disk_server::{DeviceDisk, SectorDisk, Sectors, open_checked};
 use nand_die::{Die, Stop};
 use nbd_stream::DiskFault;

@@ -1,9 +1,9 @@
-// Transmissions of disks over devices on dies in memory: the device has a turn after each change.
+//! Transmissions of disks over devices on dies in memory: the device has a turn after each change.
 ghost use Rattle.std.specs.Prelude.{◌≡◌, length};
 
 use super::disks::{device_on, die_of, over};
-use device_bench::bench::small;
-use device_bench::cases::erases_of;
+use device_fixtures::bench::small;
+use device_fixtures::cases::erases_of;
 use disk_server::{DeviceDisk, Sectors};
 use nbd_stream::{Disk, Export, StreamEnd, transmit};
 use onfi_cycles::Nand;

@@ -1,4 +1,4 @@
-// Negotiations, of a disk of 1000000000040h bytes, with room for sixteen bytes of body.
+//! Negotiations, of a disk of 1000000000040h bytes, with room for sixteen bytes of body.
 use super::pieces::Pieces;
 use nbd_stream::{Export, Negotiated, StreamEnd, negotiate};
 use request_stream::ServeFault;

@@ -1,4 +1,4 @@
-// A reader that gives its bytes in pieces.
+//! A reader that gives its bytes in pieces.
 use std::io::{self, ErrorKind, Read};
 
 // Gives its bytes in pieces of one length at most. Its read of this number, from 1, is interrupted, and so is each later one; 0 for

@@ -1,4 +1,4 @@
-// Replies, and what a request asks.
+//! Replies, and what a request asks.
 use nbd_stream::{Export, NbdHeader, RequestError, Task, admit, send_reply};
 use std::alloc::Global;
 use std::test::Fail;

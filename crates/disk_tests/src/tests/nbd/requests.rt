@@ -1,4 +1,4 @@
-// Streams of requests, with room for eight bytes of a write.
+//! Streams of requests, with room for eight bytes of a write.
 use super::pieces::Pieces;
 use nbd_stream::{NbdHeader, NextRequest, StreamEnd, read_request};
 use request_stream::ServeFault;

@@ -1,4 +1,4 @@
-// When a disk rests: what it is asked and what a writer is given, in their order.
+//! When a disk rests: what it is asked and what a writer is given, in their order.
 use nbd_stream::{Disk, DiskFault, Export, StreamEnd, transmit};
 use request_stream::ServeFault;
 use std::cell::Cell;

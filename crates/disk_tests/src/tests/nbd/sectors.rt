@@ -1,4 +1,4 @@
-// Disks over four sectors of four bytes, which are kept back until a flush.
+//! Disks over four sectors of four bytes, which are kept back until a flush.
 ghost use Rattle.std.specs.Prelude.{◌≡◌, length};
 
 use crate::tests::steps::{Step, does_all};

@@ -1,5 +1,5 @@
-// A whole session, of a mebibyte of zeros in memory: the default export is chosen, four bytes are written durably, read with a part around them, two
-// of them are cleared, and they are read again; a read past the end is refused; then a flush, and the end.
+//! A whole session, of a mebibyte of zeros in memory: the default export is chosen, four bytes are written durably, read with a part around them, two
+//! of them are cleared, and they are read again; a read past the end is refused; then a flush, and the end.
 ghost use Rattle.std.specs.Prelude.{◌≡◌, vec_len, IfOk};
 
 use super::pieces::Pieces;

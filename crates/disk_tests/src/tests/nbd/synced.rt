@@ -1,4 +1,4 @@
-// When a disk is synced: pieces of four bytes, of which two may be changed between two syncs. The calls of its device stand for sequences.
+//! When a disk is synced: pieces of four bytes, of which two may be changed between two syncs. The calls of its device stand for sequences.
 ghost use Rattle.std.specs.Prelude.{◌≡◌, length};
 
 use crate::tests::steps::{Step, does_all};

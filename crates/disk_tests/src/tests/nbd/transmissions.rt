@@ -1,4 +1,4 @@
-// Transmissions of a disk of sixteen zeros, with room for eight bytes.
+//! Transmissions of a disk of sixteen zeros, with room for eight bytes.
 use super::pieces::Pieces;
 use nbd_stream::{Disk, DiskFault, Export, StreamEnd, transmit};
 use request_stream::ServeFault;

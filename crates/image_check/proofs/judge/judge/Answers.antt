@@ -36,7 +36,7 @@ returns-in_err-judge_blocks-clause-err c =
     let first : HoldBetween g capacity image claim 1 4 = done.ok capacity image claim h in
     let sorted : IsSorted g image s = sorted_of image c.args.survey.now s h done.others done.permutation in
     let rows : HoldBetween g capacity image claim 1 6 = hold_join g capacity image claim 1 4 6 first (rows_hold g s.geometry capacity image s.newest.items claim c.args.passed.now sorted.geometry_is sorted.keys passes c.in_ok-judge_rows.ensures.ok) in
-    let given : AreStates g image c.deref.result.now = states_given g image c.describe.new.desk.states.items c.deref.result.now c.deref.ensures.value (done.states image h) in
+    let given : AreStates g image c.deref.result.now = states_given g image c.describe.new.scratch.states.items c.deref.result.now c.deref.ensures.value (done.states image h) in
     (fails_later g capacity image claim 1 6 _ rows (c.in_err-judge_blocks.ensures.err g capacity image given)))
 
 pub returns-in_err-check_next-clause-err : goal.returns-in_err-check_next-clause-err
@@ -50,7 +50,7 @@ returns-in_err-check_next-clause-err c =
     let first : HoldBetween g capacity image claim 1 4 = done.ok capacity image claim h in
     let sorted : IsSorted g image s = sorted_of image c.args.survey.now s h done.others done.permutation in
     let rows : HoldBetween g capacity image claim 1 6 = hold_join g capacity image claim 1 4 6 first (rows_hold g s.geometry capacity image s.newest.items claim c.args.passed.now sorted.geometry_is sorted.keys passes c.in_ok-judge_rows.ensures.ok) in
-    let given : AreStates g image c.deref.result.now = states_given g image c.describe.new.desk.states.items c.deref.result.now c.deref.ensures.value (done.states image h) in
+    let given : AreStates g image c.deref.result.now = states_given g image c.describe.new.scratch.states.items c.deref.result.now c.deref.ensures.value (done.states image h) in
     let blocks : HoldBetween g capacity image claim 1 10 = hold_join g capacity image claim 1 6 10 rows (c.in_ok-judge_blocks.ensures.ok g capacity image given) in
     let pairs : SurveysPairs g image c.deref-2.result.now = pairs_given g image s.pairs.items c.deref-2.result.now c.deref-2.ensures.value sorted.pairs in
     (fails_here g capacity image claim Next 1 _ blocks (c.in_err-check_next.ensures.err g capacity image pairs)))
@@ -64,7 +64,7 @@ returns-clause-ok c = λ capacity image h passes.
     let first : HoldBetween g capacity image claim 1 4 = done.ok capacity image claim h in
     let sorted : IsSorted g image s = sorted_of image c.args.survey.now s h done.others done.permutation in
     let rows : HoldBetween g capacity image claim 1 6 = hold_join g capacity image claim 1 4 6 first (rows_hold g s.geometry capacity image s.newest.items claim c.args.passed.now sorted.geometry_is sorted.keys passes c.in_ok-judge_rows.ensures.ok) in
-    let given : AreStates g image c.deref.result.now = states_given g image c.describe.new.desk.states.items c.deref.result.now c.deref.ensures.value (done.states image h) in
+    let given : AreStates g image c.deref.result.now = states_given g image c.describe.new.scratch.states.items c.deref.result.now c.deref.ensures.value (done.states image h) in
     let blocks : HoldBetween g capacity image claim 1 10 = hold_join g capacity image claim 1 6 10 rows (c.in_ok-judge_blocks.ensures.ok g capacity image given) in
     let pairs : SurveysPairs g image c.deref-2.result.now = pairs_given g image s.pairs.items c.deref-2.result.now c.deref-2.ensures.value sorted.pairs in
     hold_more g capacity image claim Next 1 10 11 refl refl blocks (c.in_ok-check_next.ensures.ok g image pairs)

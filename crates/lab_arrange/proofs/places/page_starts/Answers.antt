@@ -9,7 +9,7 @@ run_starts-requires-clause-few c =
     let planes = c.args.arrangement.now.planes in
     let pages : c.from-pages.result ≡ g.pages = omega arith in
     let row : c.from.result ≡ c.args.row = omega arith in
-    let stands : c.turn_of-stands.result ≡ row_in_turns g.pages planes c.args.row = c.turn_of-stands.ensures ∙ (ap (λ p. row_in_turns p planes c.from.result) pages ∙ ap (row_in_turns g.pages planes) row) in
+    let stands : c.row_in_turns-stands.result ≡ row_in_turns g.pages planes c.args.row = c.row_in_turns-stands.ensures ∙ (ap (λ p. row_in_turns p planes c.from.result) pages ∙ ap (row_in_turns g.pages planes) row) in
     let lt = turn_lt g.pages g.blocks c.args.row planes (some_pages g) c.requires.row c.requires.fits.even in
     let few = few_rows g in
     omega (arith, stands, lt)

@@ -32,7 +32,7 @@ returns-clause-survey c = λ image whole h.
     let stand = keys_stated geo image s.doubting.traces.items c.note_keys.new.keys whole h.doubting.traces (rw (← c.deref.ensures.value) c.note_keys.ensures.each) in
     record {
       counts = counts_whole geo image _ s.counts whole h.counts;
-      repeated = c.first_repeated-repeated.ensures geo image s.survey.pairs.items whole h.survey.pairs (rw c.deref_mut-2.ensures.value c.blocks_of-blocks.ensures.permutation);
+      repeated = c.shared_sequence-repeated.ensures geo image s.survey.pairs.items whole h.survey.pairs (rw c.deref_mut-2.ensures.value c.blocks_of-blocks.ensures.permutation);
       keys = rw keys_is stand;
       formed = formed_all geo image s.formed.items whole h.formed;
       unsound = λ b l. ap (λ (v : Vec ℕ). get_or v.items b 0) c.conclude-doubts.ensures.unsound ∙ (h.doubting.unsound.at b l ∙ ap (λ n. unsound_below geo image n b) (sym whole));

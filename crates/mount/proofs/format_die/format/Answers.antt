@@ -6,7 +6,7 @@ use Rattle.page_layout.specs.Geometry.{need, row_count}
 use Rattle.bad_blocks.specs.declared.table.TableRow.{TableRow}
 use Rattle.bad_blocks.specs.Table.{good_count, unworn}
 use Rattle.mount.specs.Fresh.{is_used, IsFirst, IsFirstPass, IsFresh}
-use Rattle.mount.specs.Attempt.{IsTrying, Writes}
+use Rattle.mount.specs.Attempt.{IsTrying, WritesFormat}
 use Rattle.mount.specs.Formatted.{IsTooFewGood, IsNotFresh, Formats}
 use Rattle.mount.proofs.FreshLemmas.{start}
 use Rattle.mount.proofs.TriesLemmas.{writes_formats, few_at_once, used_at}
@@ -48,6 +48,6 @@ returns-clause-formats g c = λ h.
     let same : mid ≡ old = made.same h in
     let fresh : IsFresh geometry old.image = subst (λ (found : Option ℕ). IsFirst (is_used geometry old.image) 0 (row_count geometry) found) c.in-None.is (made.first h) in
     let begun : IsTrying geometry old old table 0 0 1 0 = start geometry old table 0 fresh (made.whole h) (ap unworn left ∙ made.table h) in
-    let writes : Writes geometry mid new c.write_tables.result =
+    let writes : WritesFormat geometry mid new c.write_tables.result =
     c.write_tables.ensures.writes (made.only_reads.honest_is ∙ h) (subst (λ (f : Flash). IsTrying geometry f f table 0 0 1 0) (sym same) begun) in
     subst (λ (f : Flash). Formats geometry f new c.write_tables.result) same (writes_formats geometry mid new c.write_tables.result writes)

@@ -1,5 +1,5 @@
 use Rattle.std.proofs.Common.{◌≡◌, ℕ, Bool, List, [], ◌++◌, sym, ap, ◌∙◌, subst, append_assoc}
-use Rattle.request_stream.specs.Frames.{Sends}
+use Rattle.request_stream.specs.Frames.{SendsBytes}
 use Rattle.nbd_stream.specs.declared.export.Export.{Export}
 use Rattle.nbd_stream.specs.declared.answer.Answer.TheVariants.{Told}
 use Rattle.nbd_stream.specs.Options.{answer_bytes, option_reply_header, export_info, block_info}
@@ -20,6 +20,6 @@ told_bytes x no_zeroes code a b c d e pa pb pc pd pe =
 
 pub returns-clause-sends : goal.returns-clause-sends
 returns-clause-sends g c = λ no_zeroes.
-    subst (λ (l : List ℕ). Sends (g.W.Write.contents c.args.writer.now) (g.W.Write.contents c.send_parts.new.writer) l c.send_parts.result)
+    subst (λ (l : List ℕ). SendsBytes (g.W.Write.contents c.args.writer.now) (g.W.Write.contents c.send_parts.new.writer) l c.send_parts.result)
     (told_bytes c.args.export.now no_zeroes c.args.code c.reply_header.result c.export_info.result c.reply_header-2.result c.block_info.result c.reply_header-3.result
     c.reply_header.ensures c.export_info.ensures c.reply_header-2.ensures c.block_info.ensures c.reply_header-3.ensures) c.send_parts.ensures.sends

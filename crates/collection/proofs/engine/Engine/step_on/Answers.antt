@@ -1,5 +1,5 @@
 use Rattle.std.proofs.Common.{◌≡◌, ◌∙◌, ap, sym}
-use Rattle.collection.specs.declared.engine.step.Progress.TheVariants as step
+use Rattle.collection.specs.declared.engine.collect_steps.Progress.TheVariants as step
 use Rattle.collection.specs.Safe.{ram}
 use Rattle.collection.specs.Left.{pin_after}
 use Rattle.collection.proofs.Turns.{refreshes_pinned, half_on, half_pinned}

@@ -12,7 +12,7 @@ returns-clause-pass c = pass_of c.args.geometry.now 0 _ c.in_ok-survey.ensures.s
   passed = omega (arith, c.in_ok-passed.ensures.len);
   most = c.note_absent.ensures.most ∙ (c.in_ok-noted.ensures.most ∙ c.capacity.ensures.is);
   noted = some_start c.args.geometry.now c.args.certificate.now c.note_absent.new.noted c.note_absent.ensures.noted;
-  desk = c.in_ok-desk.ensures;
+  scratch = c.in_ok-scratch.ensures;
 })
 
 pub returns-clause-shows : goal.returns-clause-shows

@@ -21,7 +21,7 @@ returns-clause-pass c =
       passed = ap length is ∙ (c.note_claim.auto.passed ∙ (ap length c.deref_mut.ensures.value ∙ c.requires.pass.passed));
       most = c.note_entries.ensures.most ∙ c.requires.pass.most;
       noted = some_more g old.certificate.now c.args.row p old.noted c.note_entries.new.noted c.requires.pass.noted (λ image h at. c.note_entries.ensures.noted image p h at c.see-found.ensures.found refl);
-      desk = c.requires.pass.desk;
+      scratch = c.requires.pass.scratch;
     })
 
 pub returns-clause-shows : goal.returns-clause-shows

@@ -13,7 +13,7 @@ returns-clause-stands c =
       formed = omega (arith, c.in_ok-vec.ensures.len);
       doubting = c.in_ok-new-2.ensures.stands;
       keys = omega (arith, c.in_ok-vec-2.ensures.len);
-      desk = c.in_ok-new-3.ensures;
+      scratch = c.in_ok-new-3.ensures;
       table = omega (arith, c.in_ok-blank_table.ensures);
     }
 

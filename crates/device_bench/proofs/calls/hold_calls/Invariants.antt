@@ -1,5 +1,0 @@
-use Rattle.ftl_device.specs.Device.{IsDevice}
-use Rattle.device_bench.proofs.calls.hold_calls.Given as goal
-
-abbrev pub invariant-loop-call : goal.invariant-loop-call
-invariant-loop-call g l = IsDevice g.N.PageSource.flash l.device

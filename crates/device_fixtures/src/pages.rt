@@ -1,0 +1,225 @@
+//! What stands in the pages of a die.
+ghost use Rattle.std.specs.Prelude.{◌≡◌};
+
+use crate::hold::hold_same;
+use page_layout::geometry::Geometry;
+use page_layout::record::{Kind, Record, read_record};
+use page_layout::source::PageSource;
+use std::test::Fail;
+
+/// An entry of a translation page without a row.
+pub const NO: u8 = 0xFF;
+
+/// Pages that were programmed in blocks that were never erased.
+pub enum PageAt {
+    /// A row, the sector, the sequence, and the byte that its data area has throughout.
+    Sector(u32, u32, u64, u8),
+    /// A row, the sector, and the sequence. The data area has bytes 00h.
+    Trim(u32, u32, u64),
+    /// A row, the number, the sequence, and the rows of the first entries. The others have none.
+    Translation(u32, u32, u64, &'static [u8]),
+    /// A row, the number, the sequence, and the first bytes. The others are 00h.
+    Table(u32, u32, u64, [u8; 16]),
+    /// A row with 00h in all its bytes.
+    Torn(u32),
+}
+
+// The record of a page and its data area. Where it has no record, its spare area has the same bytes
+// throughout as its data area.
+#[derive(Clone, Copy)]
+struct Page {
+    record: Option<Record>,
+    body: [u8; 64],
+}
+
+fn page_with(kind: Kind, number: u32, sequence: u64, body: [u8; 64]) -> Page {
+    let record = Some(Record {
+        kind,
+        number,
+        sequence,
+        wear: 0,
+    });
+    Page { record, body }
+}
+
+// The data area of a translation page with these entries first, of four bytes each.
+fn translation_body(entries: &[u8]) -> [u8; 64] {
+    let mut body = [0xFF; 64];
+    for nth in 0..16usize {
+        let row = entries.get(nth).copied().unwrap_or(NO);
+        if row != NO {
+            body[4 * nth..4 * nth + 4].copy_from_slice(&[row, 0, 0, 0]);
+        }
+    }
+    body
+}
+
+// The data area of a table page that begins with these bytes.
+fn table_body(first: &[u8; 16]) -> [u8; 64] {
+    let mut body = [0; 64];
+    body[..16].copy_from_slice(first);
+    body
+}
+
+impl PageAt {
+    fn row(&self) -> u32 {
+        match self {
+            PageAt::Sector(row, ..) | PageAt::Trim(row, ..) => *row,
+            PageAt::Translation(row, ..) | PageAt::Table(row, ..) | PageAt::Torn(row) => *row,
+        }
+    }
+
+    fn page(&self) -> Page {
+        match self {
+            PageAt::Sector(_, n, sequence, byte) => page_with(
+                Kind::Sector,
+                *n,
+                *sequence,
+                [*byte; 64],
+            ),
+            PageAt::Trim(_, n, sequence) => page_with(Kind::Trim, *n, *sequence, [0; 64]),
+            PageAt::Translation(_, t, sequence, entries) => page_with(
+                Kind::Translation,
+                *t,
+                *sequence,
+                translation_body(entries),
+            ),
+            PageAt::Table(_, u, sequence, first) => page_with(
+                Kind::Table,
+                *u,
+                *sequence,
+                table_body(first),
+            ),
+            PageAt::Torn(_) => Page {
+                record: None,
+                body: [0; 64],
+            },
+        }
+    }
+}
+
+// The page of this list that stands in a row: else the row is as an erase leaves it.
+fn page_in(pages: &[PageAt], row: u32) -> Page {
+    for at in pages {
+        if at.row() == row {
+            return at.page();
+        }
+    }
+    Page {
+        record: None,
+        body: [0xFF; 64],
+    }
+}
+
+// Reads a page.
+fn read_areas<S: PageSource>(
+    source: &mut S,
+    geometry: &Geometry,
+    row: u32,
+    body: &mut [u8],
+    spare: &mut [u8],
+) -> Result<(), Fail>
+    requires { (S.flash source.old).geometry ≡ geometry.now }
+    ensures { (S.flash source.new).geometry ≡ geometry.now }
+{
+    if geometry.data_bytes() != body.len() || geometry.spare_bytes() != spare.len() {
+        return Err("pages of another size")?;
+    }
+    if !geometry.has_row(row) {
+        return Err("no such row")?;
+    }
+    source.read_page(row, body, spare)?;
+    Ok(())
+}
+
+// The record of a page.
+fn record_of(geometry: &Geometry, body: &[u8], spare: &[u8]) -> Result<Option<Record>, Fail> {
+    if geometry.data_bytes() != body.len() || geometry.spare_bytes() != spare.len() {
+        return Err("pages of another size")?;
+    }
+    Ok(read_record(geometry, body, spare))
+}
+
+// A row has the page of the list, or is as an erase leaves it.
+fn hold_row<S: PageSource>(
+    source: &mut S,
+    geometry: &Geometry,
+    name: &str,
+    pages: &[PageAt],
+    row: u32,
+) -> Result<(), Fail>
+    requires { (S.flash source.old).geometry ≡ geometry.now }
+    ensures { (S.flash source.new).geometry ≡ geometry.now }
+{
+    let mut body = [0; 64];
+    let mut spare = [0; 32];
+    read_areas(source, geometry, row, &mut body, &mut spare)?;
+    let record = record_of(geometry, &body, &spare)?;
+    let page = page_in(pages, row);
+    hold_same(
+        name,
+        "a page",
+        &(row, record, body),
+        &(row, page.record, page.body),
+    )?;
+    if page.record.is_none() {
+        hold_same(
+            name,
+            "a spare area",
+            &(row, spare),
+            &(row, [page.body[0]; 32]),
+        )?;
+    }
+    Ok(())
+}
+
+/// After the two pages of its format the die has these pages and no others.
+///
+/// # Errors
+///
+/// A page is another, or the geometry isn't that of these tests.
+pub fn hold_pages<S: PageSource>(
+    source: &mut S,
+    geometry: &Geometry,
+    name: &str,
+    pages: &[PageAt],
+) -> Result<(), Fail>
+    requires { (S.flash source.old).geometry ≡ geometry.now }
+    ensures { (S.flash source.new).geometry ≡ geometry.now }
+{
+    for row in 2..256 {
+        hold_row(source, geometry, name, pages, row)?;
+    }
+    Ok(())
+}
+
+// Bytes begin with these.
+fn begins_with(bytes: &[u8], first: &[u8]) -> bool {
+    bytes.get(..first.len()) == Some(first)
+}
+
+/// The spare area of row 8 begins with these bytes.
+///
+/// # Errors
+///
+/// It begins with others, or the geometry isn't that of these tests.
+pub fn hold_spare<S: PageSource>(
+    source: &mut S,
+    geometry: &Geometry,
+    name: &str,
+    first: &[u8],
+) -> Result<(), Fail>
+    requires { (S.flash source.old).geometry ≡ geometry.now }
+    ensures { (S.flash source.new).geometry ≡ geometry.now }
+{
+    let mut body = [0; 64];
+    let mut spare = [0; 32];
+    read_areas(source, geometry, 8, &mut body, &mut spare)?;
+    let begins = begins_with(&spare, first);
+    hold_same(
+        name,
+        "the spare area of row 8 is the wanted one",
+        &begins,
+        &true,
+    )
+}
