@@ -1,3 +1,4 @@
+//! What the blocks are at the start, as an accepted certificate tells them.
 ghost use Rattle.std.specs.Prelude.{◌≡◌, ◌<◌, ◌^◌, ◌&&◌, ◌==◌, ◌≤◌, length, map, position, count_by, All, IfOk};
 ghost use Rattle.std.specs.List.{range_with_len};
 ghost use Rattle.allocation.specs.Begun.{class_from, row_from, fill_from, begins_open, unused};

@@ -1,3 +1,4 @@
+//! The blocks of a die: their classes, how far each is filled, and which are open.
 ghost use Rattle.allocation.specs.State.{IsSafe};
 
 use crate::begin::{begun_fills, begun_rows, count_free, first_data, first_meta};

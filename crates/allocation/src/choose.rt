@@ -1,3 +1,4 @@
+//! Which free block is opened next, and which block is collected next.
 use crate::blocks::Blocks;
 
 impl Blocks {

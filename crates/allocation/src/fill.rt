@@ -1,3 +1,4 @@
+//! How far a block is filled.
 /// How far a block is filled: the pages that were programmed since its last erase, and the newest
 /// pages among them. The first is the page that is programmed next.
 #[derive(Clone, Copy, Debug, PartialEq, Eq)]

@@ -1,3 +1,4 @@
+//! What the argument on free blocks needs of the blocks.
 ghost use Rattle.allocation.specs.Counts.{FitsLaw, FailedLaw, NoneLaw, LiveLaw};
 ghost use Rattle.allocation.specs.Laws.{NextLaw, LastPageLaw, BadLaw, BadStaysLaw, FailedOthersLaw, ErasedOthersLaw, TakenOthersLaw, LiveOthersLaw};
 

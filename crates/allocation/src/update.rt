@@ -1,3 +1,4 @@
+//! A row is taken, a page becomes live or old, a block is retired or freed.
 ghost use Rattle.std.specs.Prelude.{◌≡◌};
 ghost use Rattle.allocation.specs.Step.{dropped};
 

@@ -1,3 +1,4 @@
+//! What is known of a block.
 ghost use Rattle.std.specs.Prelude.{◌≡◌, ◌<◌};
 ghost use Rattle.bad_blocks.specs.TablePage.{code_of};
 

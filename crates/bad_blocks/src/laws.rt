@@ -1,3 +1,4 @@
+//! What the layers above know of table pages.
 ghost use Rattle.bad_blocks.specs.Laws.{TableBytesLaw, TableLengthLaw, TableRowsLaw};
 
 /// What the layers above know of table pages: each table has one spelling, of one length, and a page

@@ -1,3 +1,4 @@
+//! What a page costs, what a collection costs, and why nine blocks are enough.
 ghost use Rattle.budget.specs.Laws.{FirstTryLaw, FailedTryLaw, PassedTryLaw, NoTryLaw, NoPageLaw, OnePageLaw, OpeningsLaw, MetaOpeningsLaw, StuckLaw};
 ghost use Rattle.budget.specs.Laws.{CollectedLaw, FundedLaw, PutFundedLaw, CollectedFundedLaw, FreeLeftLaw, NeverStuckLaw, NineLaw, FallsLaw};
 ghost use Rattle.budget.specs.Laws.{CopiesFitLaw, TouchedLaw};

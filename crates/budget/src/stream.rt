@@ -1,3 +1,4 @@
+//! The two streams of pages.
 ghost use Rattle.std.specs.Prelude.{◌≡◌};
 ghost use Rattle.budget.specs.Stream.{stream_of};
 

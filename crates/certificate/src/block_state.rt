@@ -1,3 +1,4 @@
+//! What a certificate says of one block.
 /// What a certificate says of one block. Source: this project.
 #[derive(Clone, Copy, Debug, PartialEq, Eq)]
 pub struct BlockState {

@@ -1,3 +1,4 @@
+//! The blocks and rows behind the head are read.
 ghost use Rattle.std.specs.Prelude.{◌≡◌, ◌+◌, ◌*◌, ◌/◌, ◌≤◌, ◌<◌, [], ◌∷◌, ◌++◌, IfOk, Any, All, length, vec_len, vec_capacity};
 ghost use Rattle.std.specs.Bool.{OnTrue, OnFalse};
 ghost use Rattle.certificate.specs.declared.block_state.BlockState.{BlockState as State};

@@ -1,3 +1,4 @@
+//! The certificate as a value.
 ghost use Rattle.std.specs.Prelude.{◌≡◌, ◌+◌, ◌*◌, ◌<◌, ◌≤◌, ◌++◌, OnOk, length, slice_get, Some};
 ghost use Rattle.std.specs.List.{flat_map};
 

@@ -1,3 +1,4 @@
+//! Why bytes are no certificate, or why one was not written.
 ghost use Rattle.std.specs.Prelude.{◌≡◌};
 ghost use Rattle.certificate.specs.declared.fault.CertFault.TheVariants.{OutOfMemory};
 

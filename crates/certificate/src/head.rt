@@ -1,3 +1,4 @@
+//! The head of forty bytes is read.
 ghost use Rattle.std.specs.Prelude.{◌≡◌, ◌≤◌, ◌≢◌, OnOk, IfOk, IfErr, length};
 ghost use Rattle.certificate.specs.Reading.{next_in};
 ghost use Rattle.certificate.specs.Faults.{IsFirstFault, HasHead};

@@ -1,3 +1,4 @@
+//! Where the parts of a certificate lie among its bytes.
 ghost use Rattle.std.specs.Prelude.{◌≡◌};
 ghost use Rattle.certificate.specs.Claim.{sizes_of};
 ghost use Rattle.certificate.specs.Spelling.{directory_rows, layout};

@@ -1,3 +1,4 @@
+//! Bytes are read as a certificate.
 ghost use Rattle.std.specs.Prelude.{◌≡◌, ◌≢◌, ◌⊎◌, IfOk, IfErr, IsErrAnd, MatchResult};
 ghost use Rattle.certificate.specs.Claim.{Claim};
 ghost use Rattle.certificate.specs.Spelling.{Fits, certificate_bytes};

@@ -1,3 +1,4 @@
+//! A certificate is written as bytes.
 ghost use Rattle.std.specs.Prelude.{◌≡◌, ◌++◌, OnOk, IfOk, IfErr};
 ghost use Rattle.std.specs.List.{flat_map};
 ghost use Rattle.certificate.specs.Claim.{sizes_of};

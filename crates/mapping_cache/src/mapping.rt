@@ -1,3 +1,4 @@
+//! The cached mapping table and the rows of moved sectors.
 ghost use Rattle.std.specs.Prelude.{◌≡◌, ◌≢◌, ◌↔◌, ℕ, ◌+◌, ◌-◌, ◌*◌, ◌/◌, ◌^◌, ◌<◌, ◌≤◌, ◌==◌, [], ◌∷◌, ◌++◌, Some, None, List, Option, length, take};
 ghost use Rattle.std.specs.Prelude.{nat_eq, is_some, unwrap_or, true, false, IsTrue, IsSome, IsOk, IfOk, OnOk, OnErr, map};
 ghost use Rattle.std.specs.Option.{ForSome};

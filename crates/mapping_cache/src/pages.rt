@@ -1,3 +1,4 @@
+//! What one translation page lacks: the rows of its moved sectors, then of its dirty cached ones.
 ghost use Rattle.std.specs.Prelude.{◌≡◌, ◌+◌, ◌*◌, ◌<◌, ◌≤◌, ℕ, nat_eq, length, unwrap_or, option_and_then};
 ghost use Rattle.std.specs.Map.{lookup};
 ghost use Rattle.translation_pages.specs.TranslationPage.{entry_at};

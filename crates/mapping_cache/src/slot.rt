@@ -1,3 +1,4 @@
+//! What is cached of one sector.
 /// What the cache holds of a sector: the row of its newest page, if it was ever written, and
 /// whether its translation page lacks that row.
 ///

@@ -1,3 +1,4 @@
+//! What a die is told before it is used, and what of it is refused.
 // Factory marks, faults on order, stops, and what a die refuses.
 use thiserror::Error;
 

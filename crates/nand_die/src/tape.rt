@@ -1,4 +1,4 @@
-// A record in memory of a die's programs and erases.
+//! A record in memory of a die's programs and erases.
 ghost use Rattle.std.specs.Prelude.{◌≡◌, ◌+◌, ◌-◌, ◌*◌, ◌<◌, ◌≤◌, ◌++◌, ◌==◌, ℕ, List, [], ◌∷◌, length, vec_len, vec_capacity, IfOk, IfErr};
 ghost use Rattle.page_layout.specs.Geometry.{page_bytes};
 ghost use Rattle.page_layout.specs.Raw.{raw_image};

@@ -1,3 +1,4 @@
+//! The directory: the row of each translation page and of each table page.
 ghost use Rattle.std.specs.Prelude.{◌≡◌, ◌<◌, Some, IfOk, length, map, slice_get, slice_set};
 ghost use Rattle.translation_pages.specs.TranslationPage.{row_of_word, IsRow};
 

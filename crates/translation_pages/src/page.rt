@@ -1,3 +1,4 @@
+//! The entries of one translation page.
 ghost use Rattle.std.specs.Prelude.{◌≡◌, ◌≢◌, ℕ, ◌+◌, ◌*◌, ◌≤◌, true, Some, None, List, Option, length, slice_get, slice_set, All};
 ghost use Rattle.page_layout.specs.Sound.{is_filled};
 ghost use Rattle.translation_pages.specs.TranslationPage.{row_of_word, entry_at, entries_of, translation_bytes, IsRow, OneSpellingLaw};
