@@ -1,5 +1,4 @@
-//! Pages and blocks among the bytes of an array.
-// The pages of a die, one after another in an array of bytes.
+//! The pages of a die, one after another in an array of bytes.
 ghost use Rattle.std.specs.Prelude.{◌≡◌, ◌<◌, ◌*◌, List, length, slice_set, take, drop, replicate, get_or};
 ghost use Rattle.page_layout.specs.Geometry.{row_count, page_bytes};
 ghost use Rattle.page_layout.specs.Raw.{raw_image, IsRaw};

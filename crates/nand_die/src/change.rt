@@ -1,5 +1,4 @@
-//! A program or an erase of the array: which are due, what each leaves, and where the block stands then.
-// What a program or an erase does to the pages and to the turns of the blocks.
+//! What a program or an erase does to the pages and to the turns of the blocks.
 ghost use Rattle.std.specs.Prelude.{◌≡◌, ◌<◌, ◌-◌, ◌^◌, ◌+◌, ◌*◌, ◌/◌, ◌%◌, ℕ, List, true, not, ◌&&◌, ◌==◌, length, take, drop, slice_set, get_or};
 ghost use Rattle.std.specs.Prelude.{if◌then◌else◌};
 ghost use Rattle.page_layout.specs.Geometry.{row_count, page_bytes};

@@ -1,5 +1,4 @@
-//! The array behind the cycles: what each cycle changes, and what is counted of it.
-// The array of a die in memory, and what it does at each cycle.
+//! The array of a die in memory, and what it does at each cycle.
 ghost use Rattle.std.specs.Prelude.{◌≡◌, ◌==◌, ◌<◌, ◌*◌, ℕ, true, false, List, length, map, IfOk, IfErr, OnOk, OnErr, if◌then◌else◌};
 ghost use Rattle.page_layout.specs.Geometry.{row_count, page_bytes};
 ghost use Rattle.page_layout.specs.Raw.{raw_bytes, raw_image};

@@ -1,5 +1,4 @@
-//! What a die puts out: its identity, its status, a page.
-// What data out gives.
+//! What data out gives.
 ghost use Rattle.std.specs.Prelude.{◌≡◌, ◌<◌, ◌≤◌, ◌+◌, ◌*◌, ℕ, List, length, take, drop, get_or, IfOk, IfErr, IfSome, IfNone};
 ghost use Rattle.page_layout.specs.Geometry.{row_count, page_bytes};
 ghost use Rattle.page_layout.specs.Raw.{raw_image, bytes_of_page};

@@ -1,5 +1,4 @@
-//! The die: a chip that may stop at a change, and that may keep a record.
-// A die in memory, which may be stopped in the middle of its work.
+//! A die in memory, which may be stopped in the middle of its work.
 ghost use Rattle.std.specs.Prelude.{◌≡◌, ◌*◌, ◌-◌, ℕ, true, false, [], length, Some, None, Err, IfOk, IfErr, OnOk, OnErr, if◌then◌else◌};
 ghost use Rattle.page_layout.specs.Geometry.{row_count, page_bytes};
 ghost use Rattle.page_layout.specs.Raw.{raw_bytes, raw_image};

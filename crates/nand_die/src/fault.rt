@@ -1,5 +1,4 @@
-//! What a die is told before it is used, and what of it is refused.
-// Factory marks, faults on order, stops, and what a die refuses.
+//! Factory marks, faults on order, stops, and what a die refuses.
 use thiserror::Error;
 
 /// A factory mark: spare byte 0 of the first page of a block, or of the last, is 00h, and the block is

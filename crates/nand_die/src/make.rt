@@ -1,5 +1,4 @@
-//! What a die is made of, from marks or from an image.
-// What a die is made of.
+//! What a die is made of.
 ghost use Rattle.std.specs.Prelude.{◌≡◌, ◌⊎◌, ◌<◌, ◌≤◌, ◌*◌, ℕ, true, false, [], length, map, replicate, slice_set, get_or, IfOk, IfErr, OnOk, OnErr};
 ghost use Rattle.page_layout.specs.Geometry.{row_count, page_bytes};
 ghost use Rattle.page_layout.specs.Raw.{raw_image};

@@ -1,5 +1,4 @@
-//! Faults that were asked for: which comes next, and which are no faults of this die.
-// Which fault strikes next, and which faults may be set.
+//! Which fault strikes next, and which faults may be set.
 ghost use Rattle.std.specs.Prelude.{◌≡◌, ◌≢◌, ◌⊎◌, ◌==◌, ◌+◌, length, None, IsSome, is_some, IfOk, IfErr};
 ghost use Rattle.page_layout.specs.Geometry.{page_bytes};
 ghost use Rattle.page_layout.specs.Sound.{record_of};
