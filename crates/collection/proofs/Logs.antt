@@ -90,8 +90,8 @@ module _ (block row : ℕ) (p left : Page) (passed : Bool) (old new : State) (h 
 
 -- nothing was done: the record gained nothing
 pub records_none : (told : Option Recording) → Records told [] told
-records_none None = inr refl
-records_none (Some r) = inr (ap (λ l. Some (record { image = r.image; log = l })) (sym (append-nil r.log)))
+records_none None = refl
+records_none (Some r) = ap (λ l. Some (record { image = r.image; log = l })) (sym (append-nil r.log))
 
 pub went_same : (r : Ram) (s : Flash) (told : Option Recording) → Went r s told r s told
 went_same r s told = record { log = []; leads = refl; records = records_none told; follows = record { legal = λ accounts a. tt; accounted = λ accounts a. a }; next = omega arith; wears = record { worn = λ b most. omega arith } }

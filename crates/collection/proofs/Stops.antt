@@ -41,8 +41,8 @@ gains_one p q r xs ys same one two = append_cancel_left p.log xs ys (sym one ∙
 pub one_gain : OneGainLaw
 one_gain told None xs ys some one two = cc
 one_gain told (Some r) xs ys some one two =
-    let p : RanOn told xs r = ran_on told (Some r) xs r one refl in
-    let q : RanOn told ys r = ran_on told (Some r) ys r two refl in
+    let p : RanOn told xs r = ran_on told (Some r) xs r (inr one) refl in
+    let q : RanOn told ys r = ran_on told (Some r) ys r (inr two) refl in
     gains_one p.before q.before r xs ys (let e : Some p.before ≡ Some q.before = sym p.was ∙ q.was in cc) p.gained q.gained
 
 -- ---- the operations

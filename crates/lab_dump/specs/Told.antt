@@ -75,7 +75,7 @@ most_by code n entries =
     if code == 3 then record { blocks = 0; sectors = n * entries + 1 } else (
     if (code == 1) || (code == 2) then record { blocks = 0; sectors = n + 1 } else record { blocks = 0; sectors = 0 }))
 
--- the same by its spare bytes, where its data area has so many
+-- the same by its spare bytes, where its data area has so many bytes
 abbrev pub most_in : ℕ → List ℕ → PagesTold
 most_in data_bytes spare = most_by (slice_index spare 3) (little_number 4 (slice_range spare 4 8)) (data_bytes / 4)
 

@@ -1,13 +1,13 @@
 -- Dies that stay whole, and what records tell of them.
 use Rattle.std.proofs.Common.{◌≡◌, inl, inr, ℕ, ◌/◌, Bool, List, [], ◌∷◌, ◌++◌, length, get_or, set, Option, Some, None, refl, sym, ◌∙◌, ap, subst, arith}
-use Rattle.std.specs.Prelude.{slice_get, unwrap_or}
+use Rattle.std.specs.Prelude.{slice_get, unwrap_or, IsSome}
 use Rattle.std.proofs.lemmas.Bool.{cases_eq}
 use Rattle.std.proofs.lemmas.List.{length-set, append_assoc}
 use Rattle.std.proofs.lemmas.Option.{get_or_from_slice_get}
 use Rattle.page_layout.specs.declared.geometry.Geometry.{Geometry}
 use Rattle.page_layout.specs.Page.{Page, Image, IsPage, IsImage}
 use Rattle.page_layout.specs.Flash.{Flash, Operation, Program, Erase, no_page, after, with_block, Steps, Leads, IsWhole}
-use Rattle.page_layout.specs.Recording.{Recording, noted, image_after, image_after_all, IsRecordOf, RecordStaysLaw, RecordsJoinLaw, RanOn, RanOnLaw}
+use Rattle.page_layout.specs.Recording.{Recording, noted, image_after, image_after_all, IsRecordOf, RecordStaysLaw, RecordsJoinLaw, EndsJoinLaw, ToldOnLaw, RanOn, RanOnLaw}
 use Rattle.page_layout.specs.StepLaws.{WholeStaysLaw}
 use Rattle.page_layout.proofs.ArrayLemmas.{slice_get-set_same}
 use Rattle.page_layout.proofs.FlashLemmas.{geometry-Steps, image-program, image-erase, program_other, erase_loses, with_block-inside, inside}
@@ -106,9 +106,16 @@ noted_then None xs ys = refl
 noted_then (Some r) xs ys = ap (λ l. Some (record { image = r.image; log = l })) (append_assoc r.log xs ys)
 
 pub records_join : RecordsJoinLaw
-records_join a b c xs ys one (inl none) = inl none
-records_join a b c xs ys (inl none) (inr on) = inl (on ∙ ap (noted ys) none)
-records_join a b c xs ys (inr first) (inr on) = inr (on ∙ (ap (noted ys) first ∙ noted_then a xs ys))
+records_join a b c xs ys first on = on ∙ (ap (noted ys) first ∙ noted_then a xs ys)
+
+pub ends_join : EndsJoinLaw
+ends_join a b c xs ys one (inl none) = inl none
+ends_join a b c xs ys (inl none) (inr on) = inl (on ∙ ap (noted ys) none)
+ends_join a b c xs ys (inr first) (inr on) = inr (records_join a b c xs ys first on)
+
+pub told_on : ToldOnLaw
+told_on None new log is = ((λ some. cc), λ some. subst IsSome is some)
+told_on (Some r) new log is = ((λ some. subst IsSome (sym is) refl), λ some. refl)
 
 noted_ran : (old : Option Recording) (log : List Operation) (r : Recording) → noted log old ≡ Some r → RanOn old log r
 noted_ran None log r is = cc

@@ -1,6 +1,6 @@
 -- Records of a die: its image as it was when the record began, and the programs and erases since. A die may tell a record, or none, which
--- claims nothing.
-use Rattle.std.specs.Prelude.{◌≡◌, ◌⊎◌, ℕ, List, [], ◌∷◌, ◌++◌, slice_set, Option, Some, None, IfSome}
+-- claims nothing. A die that tells one tells it on; a part of a die, as the bus in front of it, may cease to.
+use Rattle.std.specs.Prelude.{◌≡◌, ◌⊎◌, ℕ, List, [], ◌∷◌, ◌++◌, slice_set, Option, Some, None, IsSome, IfSome}
 use Rattle.page_layout.specs.Page.{Image}
 use Rattle.page_layout.specs.Flash.{Flash, Operation, Program, Erase, Leads, with_block}
 
@@ -14,9 +14,13 @@ abbrev pub noted : List Operation → Option Recording → Option Recording
 noted log None = None
 noted log (Some r) = Some (record { image = r.image; log = r.log ++ log })
 
--- A CALL THAT DID THESE OPERATIONS: a record that is told after it was told before it, and has gained just them. It may also have ended.
+-- A CALL THAT DID THESE OPERATIONS: the record has gained just them. It is told after the call where it was told before it, and nowhere else.
 abbrev pub Records : Option Recording → List Operation → Option Recording → Type 0
-Records old log new = (new ≡ None) ⊎ (new ≡ noted log old)
+Records old log new = new ≡ noted log old
+
+-- the same of what may cease to tell: the record has gained just them, or has ended
+abbrev pub RecordsOrEnds : Option Recording → List Operation → Option Recording → Type 0
+RecordsOrEnds old log new = (new ≡ None) ⊎ Records old log new
 
 -- the image after an operation
 unfoldable pub image_after : ℕ → Image → Operation → Image
@@ -33,13 +37,20 @@ IsRecordOf s told = IfSome told (λ r. s.image ≡ image_after_all s.geometry.pa
 
 -- ---- laws
 
--- a record that ran on while the die was led on still tells of it
+-- a record that ran on while the die was led on still tells of it, if it has not ended
 abbrev pub RecordStaysLaw : Type 0
-RecordStaysLaw = (old new : Flash) (log : List Operation) (told told' : Option Recording) → Leads old log new → IsRecordOf old told → Records told log told' → IsRecordOf new told'
+RecordStaysLaw = (old new : Flash) (log : List Operation) (told told' : Option Recording) → Leads old log new → IsRecordOf old told → RecordsOrEnds told log told' → IsRecordOf new told'
 
--- one call after another: the record gained what both did
+-- one call after another: the record gained what both did; and so of records that may end
 abbrev pub RecordsJoinLaw : Type 0
 RecordsJoinLaw = (a b c : Option Recording) (xs ys : List Operation) → Records a xs b → Records b ys c → Records a (xs ++ ys) c
+
+abbrev pub EndsJoinLaw : Type 0
+EndsJoinLaw = (a b c : Option Recording) (xs ys : List Operation) → RecordsOrEnds a xs b → RecordsOrEnds b ys c → RecordsOrEnds a (xs ++ ys) c
+
+-- a record that is told is told after each call, and one that is not is told after none
+abbrev pub ToldOnLaw : Type 0
+ToldOnLaw = (old new : Option Recording) (log : List Operation) → Records old log new → (IsSome old → IsSome new) × (IsSome new → IsSome old)
 
 -- a record that is told after a call was told before it, and began with the same image
 pub record RanOn (old : Option Recording) (log : List Operation) (r : Recording) : Type 0 where
@@ -49,4 +60,4 @@ pub record RanOn (old : Option Recording) (log : List Operation) (r : Recording)
   pub gained : r.log ≡ before.log ++ log
 
 abbrev pub RanOnLaw : Type 0
-RanOnLaw = (old new : Option Recording) (log : List Operation) (r : Recording) → Records old log new → new ≡ Some r → RanOn old log r
+RanOnLaw = (old new : Option Recording) (log : List Operation) (r : Recording) → RecordsOrEnds old log new → new ≡ Some r → RanOn old log r

@@ -15,7 +15,7 @@ ghost use Rattle.page_layout.specs.StepLaws.{WholeStaysLaw};
 ghost use Rattle.page_layout.specs.StepLaws.{ProgramTurnLaw, ProgramCountLaw, FairProgramLaw, EraseTurnLaw, EraseCountLaw, FairEraseLaw};
 ghost use Rattle.page_layout.specs.StepLaws.{RefusedProgramLaw, RefusedEraseLaw};
 ghost use Rattle.page_layout.specs.CounterLaws.{UnchangedLaw, FellLaw, OneMoreLaw, TopLaw};
-ghost use Rattle.page_layout.specs.Recording.{RecordStaysLaw, RecordsJoinLaw, RanOnLaw};
+ghost use Rattle.page_layout.specs.Recording.{RecordStaysLaw, RecordsJoinLaw, EndsJoinLaw, ToldOnLaw, RanOnLaw};
 
 /// What the derived numbers of a geometry are for.
 pub fn geometry_laws()
@@ -132,6 +132,8 @@ pub fn step_laws()
 pub fn record_told_laws()
     ensures stays { RecordStaysLaw }
     ensures join { RecordsJoinLaw }
+    ensures ends { EndsJoinLaw }
+    ensures on { ToldOnLaw }
     ensures ran_on { RanOnLaw }
 {}
 

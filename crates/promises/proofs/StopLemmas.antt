@@ -95,8 +95,8 @@ image_law old new log h = ap (λ (s : Flash). s.image) (leads_after old new log 
 -- ---- calls and their stops
 
 records_none : (told : Option Recording) → Records told [] told
-records_none None = inr refl
-records_none (Some r) = inr (ap (λ l. Some (record { image = r.image; log = l })) (sym (append-nil r.log)))
+records_none None = refl
+records_none (Some r) = ap (λ l. Some (record { image = r.image; log = l })) (sym (append-nil r.log))
 
 -- a call that does nothing
 pub leaves_nothing : (die : Flash) (told : Option Recording) (is_so : Image → Type 0) → is_so die.image → LeavesOnly die die told told is_so
