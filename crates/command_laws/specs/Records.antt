@@ -1,7 +1,7 @@
--- Whose record the die of a served image tells.
-use Rattle.std.specs.Prelude.{◌≡◌}
+-- The die of a served image tells a record.
+use Rattle.std.specs.Prelude.{IsSome}
 use Rattle.commands.specs.Serve.{Driver, recorded_of}
 
--- THE DRIVER OF A SERVED DIE tells the record that the die in memory behind it keeps
-abbrev pub SteadyTellsLaw : Type 0
-SteadyTellsLaw = (d : Driver) → recorded_of d ≡ d.bus.die.recorded
+-- THE DRIVER OF A SERVED DIE tells a record at each moment: what is said of a die that tells one is said of it
+abbrev pub ServedTellsLaw : Type 0
+ServedTellsLaw = (d : Driver) → IsSome (recorded_of d)

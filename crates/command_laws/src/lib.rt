@@ -2,7 +2,7 @@
 //! stand in no crate that others rest on, so that a new one has nothing proved again.
 #![tactic(auto)]
 
-ghost use Rattle.command_laws.specs.Records.{SteadyTellsLaw};
+ghost use Rattle.command_laws.specs.Records.{ServedTellsLaw};
 ghost use Rattle.command_laws.specs.Rescues.{NoGainLaw, NoneAilsLaw, RescuedEventLaw};
 ghost use Rattle.command_laws.specs.Queued.{RefusedBytesLaw, OtherBytesLaw};
 ghost use Rattle.command_laws.specs.Loads.{KnownLaw, InputLaw};
@@ -76,7 +76,7 @@ pub fn queue_laws()
     ensures other { OtherBytesLaw }
 {}
 
-/// What the program's server tells by the die that it serves is the record which that die keeps. (This project.)
+/// The driver of the die that the program serves tells a record of what it did, at each moment. (This project.)
 pub fn record_laws()
-    ensures steady { SteadyTellsLaw }
+    ensures served { ServedTellsLaw }
 {}

@@ -50,9 +50,9 @@ Driver = DriverState SteadyDie
 abbrev pub flash_behind : Driver → Flash
 flash_behind d = flash_by (λ (bus : SteadyDie). bus.die.state) d
 
--- it tells the record that its die keeps
+-- it tells what it has done
 abbrev pub recorded_of : Driver → Option Recording
-recorded_of d = d.bus.die.recorded
+recorded_of d = Some d.told
 
 abbrev pub is_honest : Driver → Bool
 is_honest d = true

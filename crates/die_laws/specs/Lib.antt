@@ -1,2 +1,3 @@
 pub mod Buses
+pub mod Records
 pub mod Stops

@@ -5,6 +5,7 @@
 ghost use Rattle.nand_die.specs.DieValue.{DieValue};
 ghost use Rattle.nand_die.specs.Laws.{TellsLaw};
 ghost use Rattle.die_laws.specs.Buses.{BlownLaw};
+ghost use Rattle.die_laws.specs.Records.{AlwaysTellsLaw, AgreeingLaw};
 ghost use Rattle.die_laws.specs.Stops.{UnsoundStopLaw};
 
 use nand_die::{CycleFuse, Die, Garble};
@@ -21,12 +22,13 @@ pub fn stop_laws()
     ensures unsound { UnsoundStopLaw }
 {}
 
-/// What a driver tells of its programs and erases is what its bus tells. The same of a fuse and of a garble; and what a die in memory tells is the
-/// record that it keeps. So over such a die a driver tells that record. (This project.)
+/// A driver tells a record at each moment, over any bus. What a fuse or a garble tells is what its bus tells, and what a die in memory tells is
+/// the record that it keeps. Where both are told and were the same once, the driver's record and its bus's stay the same. (This project.)
 pub fn record_laws<B: Bus>()
-    ensures driver { TellsLaw (λ d. d.bus) ⟦<Driver<B> as PageSource>⟧.recorded B.recorded }
+    ensures driver { AlwaysTellsLaw ⟦<Driver<B> as PageSource>⟧.recorded (λ d. d.told) }
+    ensures agreeing { AgreeingLaw }
     ensures fuse { TellsLaw (λ f. f.bus) ⟦<CycleFuse<B> as Bus>⟧.recorded B.recorded }
     ensures garble { TellsLaw (λ g. g.bus) ⟦<Garble<B> as Bus>⟧.recorded B.recorded }
     ensures die { TellsLaw (λ (d : DieValue). d) ⟦<Die as Bus>⟧.recorded (λ d. d.recorded) }
-    ensures whole { TellsLaw (λ d. d.bus) ⟦<Driver<Die> as PageSource>⟧.recorded (λ d. d.recorded) }
+    ensures whole { AlwaysTellsLaw ⟦<Driver<Die> as PageSource>⟧.recorded (λ d. d.told) }
 {}

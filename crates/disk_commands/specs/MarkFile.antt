@@ -1,8 +1,11 @@
 -- THE FILES OF A DISK AS IT IS SYNCED: that of its die, and that of its mark, where one is kept.
-use Rattle.std.specs.Prelude.{◌≡◌, ◌⊎◌, ℕ, Bool, true, false, not, if◌then◌else◌, List, length, replicate, slice_set, Option, Some, None}
-use Rattle.file_die.specs.Bytes.{Bytes, SyncsBytes}
+use Rattle.std.specs.Prelude.{◌≡◌, ◌⊎◌, ℕ, Bool, true, false, not, if◌then◌else◌, List, length, replicate, slice_set, Option, Some, None, Result}
+use Rattle.file_die.specs.declared.bytes.ByteFault.{ByteFault}
+use Rattle.file_die.specs.Bytes.{Bytes, FailsBy, HasRefused, SyncsBytes}
 use Rattle.file_die.specs.Rows.{WritesAll}
 use Rattle.disk_server.specs.declared.mark.SyncMark.{SyncMark}
+use Rattle.disk_commands.specs.declared.files.DiskFileFault.{DiskFileFault}
+use Rattle.disk_commands.specs.declared.files.DiskFileFault.TheVariants.{OutOfMemory, Write}
 use Rattle.disk_commands.specs.declared.mark_file.MarkFile.{MarkFile}
 use Rattle.disk_commands.specs.declared.syncs.FileSyncs.{FileSyncs}
 use Rattle.disk_commands.specs.Mark.{file_length, second_at, slot_at, slot_text}
@@ -12,6 +15,10 @@ use Rattle.disk_commands.specs.Mark.{file_length, second_at, slot_at, slot_text}
 -- it is as long as the file of a mark
 abbrev pub IsMarkBytes : Bytes → Type 0
 IsMarkBytes s = length s.bytes ≡ file_length
+
+-- A CALL FAILED where the last call of the file did, by this fault: a write, or a sync
+abbrev pub FailsLast : {F : Type 0} → (wrote : F → ℕ → List ℕ → Result ℕ ByteFault → F → Type 0) → (refused : F → ByteFault → F → Type 0) → ByteFault → F → Type 0
+FailsLast wrote refused why new = FailsBy wrote why new ⊎ HasRefused refused why new
 
 -- a mark is written over a slot, done or failed, and no other byte
 abbrev pub WritesSlot : Bytes → (second : Bool) → SyncMark → (done : Bool) → Bytes → Type 0
@@ -42,26 +49,33 @@ pub record KeepsIn {F : Type 0} (held : F → Bytes) (honest : F → Bool) (old 
 abbrev pub blank_file : List ℕ
 blank_file = slice_set (slice_set (replicate file_length 0) 0 1) second_at 1
 
+-- IT WAS NOT MADE: memory was refused, and the file is as it was; or the last call of the file failed
+abbrev pub BlankFails : {F : Type 0} → (wrote : F → ℕ → List ℕ → Result ℕ ByteFault → F → Type 0) → (refused : F → ByteFault → F → Type 0) → (old : F) → DiskFileFault → F → Type 0
+BlankFails wrote refused old fault new = ((fault ≡ OutOfMemory) × (new ≡ old)) ⊎ ((fault ≡ Write) × (why : ByteFault) × FailsLast wrote refused why new)
+
 -- it was written and made to last
 abbrev pub HasPutBlank : Bytes → Bytes → Type 0
 HasPutBlank s t = (mid : Bytes) × WritesAll s 0 blank_file true mid × SyncsBytes mid true t
 
 -- ---- both files
 
--- THE MARK IS KEPT WHERE THERE IS A FILE OF IT. One that could not be written is the last that is tried: its slot may be torn, and the other one counts. That is a failure where it was the first
-abbrev pub KeepsMarkIfAny : {F : Type 0} → (held : F → Bytes) → (honest : F → Bool) → Option (MarkFile F) → SyncMark → (done : Bool) → Option (MarkFile F) → Type 0
-KeepsMarkIfAny held honest None m done left = (done ≡ true) × (left ≡ None)
-KeepsMarkIfAny {F} held honest (Some file) m done None = (done ≡ not file.fresh) × (broken : MarkFile F) × KeepsIn held honest file m false broken
-KeepsMarkIfAny held honest (Some file) m done (Some left) = (done ≡ true) × KeepsIn held honest file m true left
+-- THE MARK IS KEPT WHERE THERE IS A FILE OF IT. One that could not be written, since a call of its file failed, is the last that is tried: its slot may be torn, and the other
+-- one counts. That is a failure where it was the first
+abbrev pub KeepsMarkIfAny : {F : Type 0} → (held : F → Bytes) → (honest : F → Bool) → (Fails : ByteFault → F → Type 0) → Option (MarkFile F) → SyncMark → (done : Bool) → Option (MarkFile F) → Type 0
+KeepsMarkIfAny held honest Fails None m done left = (done ≡ true) × (left ≡ None)
+KeepsMarkIfAny {F} held honest Fails (Some file) m done None = (done ≡ not file.fresh) × (broken : MarkFile F) × KeepsIn held honest file m false broken × (why : ByteFault) × Fails why broken.file
+KeepsMarkIfAny held honest Fails (Some file) m done (Some left) = (done ≡ true) × KeepsIn held honest file m true left
 
 -- by whether the die's file was synced: where it was not, the file of the mark is left alone
-abbrev pub KeepsAfter : {F : Type 0} → (synced : Bool) → (held : F → Bytes) → (honest : F → Bool) → Option (MarkFile F) → SyncMark → (done : Bool) → Option (MarkFile F) → Type 0
-KeepsAfter true held honest kept m done left = KeepsMarkIfAny held honest kept m done left
-KeepsAfter false held honest kept m done left = (done ≡ false) × (left ≡ kept)
+abbrev pub KeepsAfter : {F : Type 0} → (synced : Bool) → (held : F → Bytes) → (honest : F → Bool) → (Fails : ByteFault → F → Type 0) → Option (MarkFile F) → SyncMark → (done : Bool) → Option (MarkFile F) → Type 0
+KeepsAfter true held honest Fails kept m done left = KeepsMarkIfAny held honest Fails kept m done left
+KeepsAfter false held honest Fails kept m done left = (done ≡ false) × (left ≡ kept)
 
--- A SYNC OF A DISK'S FILES: the die's is synced, and once that is done the mark is kept
-pub record SettlesFiles {F : Type 0} (held : F → Bytes) (honest : F → Bool) (old : FileSyncs F) (m : SyncMark) (done : Bool) (new : FileSyncs F) : Type 0 where
+-- A SYNC OF A DISK'S FILES: the die's is synced, and once that is done the mark is kept. It was not synced just where that call of the file failed
+pub record SettlesFiles {F : Type 0} (held : F → Bytes) (honest : F → Bool) (wrote : F → ℕ → List ℕ → Result ℕ ByteFault → F → Type 0) (refused : F → ByteFault → F → Type 0)
+    (old : FileSyncs F) (m : SyncMark) (done : Bool) (new : FileSyncs F) : Type 0 where
   pub synced : Bool
+  pub failed : synced ≡ false → (why : ByteFault) × refused old.die why new.die
   pub die : honest old.die ≡ true → SyncsBytes (held old.die) synced (held new.die)
   pub as_honest : honest new.die ≡ honest old.die
-  pub mark : KeepsAfter synced held honest old.kept m done new.kept
+  pub mark : KeepsAfter synced held honest (FailsLast wrote refused) old.kept m done new.kept

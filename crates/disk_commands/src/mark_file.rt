@@ -1,6 +1,7 @@
 //! The file of a disk's mark, as marks are written into it.
-ghost use Rattle.std.specs.Prelude.{◌≡◌, true, false, is_ok, not, IfOk, OnOk};
-ghost use Rattle.disk_commands.specs.MarkFile.{BeginsMark, HasPutBlank, IsMarkBytes, KeepsIn, WritesSlot, blank_file};
+ghost use Rattle.std.specs.Prelude.{◌≡◌, true, false, is_ok, not, IfOk, IfErr, OnOk};
+ghost use Rattle.file_die.specs.Bytes.{FailsBy};
+ghost use Rattle.disk_commands.specs.MarkFile.{BeginsMark, BlankFails, FailsLast, HasPutBlank, IsMarkBytes, KeepsIn, WritesSlot, blank_file};
 
 use crate::files::DiskFileFault;
 use crate::mark::{MARK_BYTES, SECOND_AT, slot_at, slot_bytes};
@@ -35,6 +36,7 @@ impl<F: ByteFile> MarkFile<F> {
         ensures honest { F.honest self.new.file ≡ F.honest self.old.file }
         ensures second { self.new.second ≡ self.old.second }
         ensures fresh { self.new.fresh ≡ self.old.fresh }
+        ensures fails { IfErr result (λ why. FailsBy F.wrote why self.new.file) }
     {
         write_all(&mut self.file, &slot_bytes(mark), slot_at(self.second))
     }
@@ -45,6 +47,7 @@ impl<F: ByteFile> MarkFile<F> {
         ensures honest { F.honest self.new.file ≡ F.honest self.old.file }
         ensures second { OnOk result (self.new.second ≡ not self.old.second) }
         ensures fresh { OnOk result (self.new.fresh ≡ false) }
+        ensures fails { IfErr result (λ why. FailsLast F.wrote F.refused why self.new.file) }
     {
         self.put(mark)?;
         self.file.sync()?;
@@ -57,9 +60,10 @@ impl<F: ByteFile> MarkFile<F> {
     ///
     /// # Errors
     ///
-    /// The file's. Of the slot that was to be written each byte is as it was or as it was to be; the other one is as it was.
+    /// That of the file's last call. Of the slot that was to be written each byte is as it was or as it was to be; the other one is as it was.
     pub fn keep(&mut self, mark: SyncMark) -> Result<(), ByteFault>
-        ensures { KeepsIn F.held F.honest self.old mark (is_ok result) self.new }
+        ensures keeps { KeepsIn F.held F.honest self.old mark (is_ok result) self.new }
+        ensures fails { IfErr result (λ why. FailsLast F.wrote F.refused why self.new.file) }
     {
         if self.fresh {
             self.begin(mark)?;
@@ -98,9 +102,10 @@ fn blank_bytes(alloc: Global) -> Result<Vec<u8>, AllocError>
 ///
 /// # Errors
 ///
-/// `OutOfMemory` where a growth was refused, and the file is as it was; `Write` where it was not written or synced. (This project's.)
+/// `OutOfMemory` where a growth was refused, and the file is as it was; `Write` where the last call of the file failed. (This project's.)
 pub fn put_blank<F: ByteFile>(alloc: Global, file: &mut F) -> Result<(), DiskFileFault>
-    ensures { OnOk result (F.honest file.old ≡ true → HasPutBlank (F.held file.old) (F.held file.new)) }
+    ensures put { OnOk result (F.honest file.old ≡ true → HasPutBlank (F.held file.old) (F.held file.new)) }
+    ensures fails { IfErr result (λ fault. BlankFails F.wrote F.refused file.old fault file.new) }
 {
     let Ok(bytes) = blank_bytes(alloc) else {
         return Err(DiskFileFault::OutOfMemory);

@@ -1,7 +1,7 @@
 //! A way to make last what a disk writes.
 ghost use Rattle.std.specs.Prelude.{◌≡◌, None};
 ghost use Rattle.disk_commands.specs.Mark.{no_mark};
-ghost use Rattle.disk_commands.specs.MarkFile.{KeepsMarkIfAny, SettlesFiles};
+ghost use Rattle.disk_commands.specs.MarkFile.{FailsLast, KeepsMarkIfAny, SettlesFiles};
 
 use crate::mark::none_found;
 use crate::mark_file::MarkFile;
@@ -24,7 +24,7 @@ fn keep_in<F: ByteFile + Drop>(
     kept: Option<MarkFile<F>>,
     mark: SyncMark,
 ) -> (Option<MarkFile<F>>, bool)
-    ensures { KeepsMarkIfAny F.held F.honest kept mark result.1 result.0 }
+    ensures { KeepsMarkIfAny F.held F.honest (FailsLast F.wrote F.refused) kept mark result.1 result.0 }
 {
     let Some(mut file) = kept else {
         return (None, true);
@@ -32,7 +32,7 @@ fn keep_in<F: ByteFile + Drop>(
     let first = file.is_fresh();
     match file.keep(mark) {
         Ok(()) => (Some(file), true),
-        Err(_) => (None, !first),
+        Err(_why) => (None, !first),
     }
 }
 
@@ -86,7 +86,7 @@ impl<F: ByteFile + Drop> FileSyncs<F> {
 
     // Syncs the die's file, and once that is done keeps a mark of it. Answers whether both were done.
     fn settle(&mut self, mark: SyncMark) -> bool
-        ensures settles { SettlesFiles F.held F.honest self.old mark result self.new }
+        ensures settles { SettlesFiles F.held F.honest F.wrote F.refused self.old mark result self.new }
         ensures mark { self.new.mark ≡ self.old.mark }
         ensures done { self.new.done ≡ self.old.done }
         ensures failed { self.new.failed ≡ self.old.failed }
@@ -114,7 +114,7 @@ impl<F: ByteFile + Drop> Syncs for FileSyncs<F> {
 
     /// The die's file is synced first, and the mark is kept only once that is done. The first mark lasts before it is answered; a later one that cannot be written is no failure.
     fn sync(&mut self, next: u64, flushed: bool) -> Result<(), DiskFault>
-        ensures settles { SettlesFiles F.held F.honest self.old (after_sync next flushed self.old.mark) (is_ok result) self.new }
+        ensures settles { SettlesFiles F.held F.honest F.wrote F.refused self.old (after_sync next flushed self.old.mark) (is_ok result) self.new }
         ensures done { OnOk result (self.new.done ≡ counted self.old.done) }
         ensures not_done { OnErr result (self.new.done ≡ self.old.done) }
         ensures marked { OnOk result (self.new.mark ≡ after_sync next flushed self.old.mark) }

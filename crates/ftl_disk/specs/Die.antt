@@ -21,7 +21,7 @@ abbrev pub honest_in : Die → Bool
 honest_in d = honest_of (λ link. false) (λ link. false) d
 
 abbrev pub recorded_in : Die → Option Recording
-recorded_in d = recorded_of (λ link. None) d
+recorded_in d = recorded_of d
 
 abbrev pub failed_in : Die → ℕ
 failed_in d = failed_of d

@@ -36,9 +36,9 @@ flash_of die chip d = of_either (λ p. flash_by (λ b. die b.link) p) (λ c. cle
 abbrev pub honest_of : {L : Type 0} → (L → Bool) → (L → Bool) → EitherDie L → Bool
 honest_of honest keeps d = of_either (λ p. honest p.bus.link) (λ c. keeps c.nand.driver.bus.link) d
 
--- the record that the link tells; of a chip with codes none
-abbrev pub recorded_of : {L : Type 0} → (L → Option Recording) → EitherDie L → Option Recording
-recorded_of recorded d = of_either (λ p. recorded p.bus.link) (λ c. None) d
+-- the record of what its driver did; of a chip with codes none
+abbrev pub recorded_of : {L : Type 0} → EitherDie L → Option Recording
+recorded_of d = of_either (λ p. Some p.told) (λ c. None) d
 
 -- what it counts
 abbrev pub reads_of : {L : Type 0} → EitherDie L → ℕ

@@ -29,7 +29,7 @@ impl<L: ChipLink> PageSource for EitherDie<L> {
 
     ghost failed = { λ d. failed_of d };
 
-    ghost recorded = { λ d. recorded_of L.recorded d };
+    ghost recorded = { λ d. recorded_of d };
 
     fn read_page(
         &mut self,

@@ -6,7 +6,7 @@ use Rattle.std.proofs.lemmas.Bool.{eqb-true, eq-eqb, ne_eqb}
 use Rattle.page_layout.specs.declared.geometry.Geometry.{Geometry}
 use Rattle.page_layout.specs.Page.{Page}
 use Rattle.page_layout.specs.Flash.{Operation, Program, Erase, after, page_at, block_at}
-use Rattle.page_layout.specs.Recording.{Recording, Records, noted}
+use Rattle.page_layout.specs.Recording.{Recording, RecordsOrEnds, noted}
 use Rattle.onfi_cycles.specs.declared.nand.BusFault.{BusFault}
 use Rattle.onfi_cycles.specs.declared.nand.BusFault.TheVariants.{NoReset, Device}
 use Rattle.onfi_cycles.specs.Spelling.{refused}
@@ -146,7 +146,7 @@ pub quiet_noted : (due : Due) (told told' : Option Recording) (s : DieState) (r 
 quiet_noted due told told' s (Ok x) e same = λ h. notes_quiet due told told' s e same
 quiet_noted due told told' s (Err fault) e same = tt
 
-next_noted : (b : Bool) (op : Operation) (told : Option Recording) → Records told (op ∷ []) (if b then None else noted (op ∷ []) told)
+next_noted : (b : Bool) (op : Operation) (told : Option Recording) → RecordsOrEnds told (op ∷ []) (if b then None else noted (op ∷ []) told)
 next_noted true op told = inl refl
 next_noted false op told = inr refl
 

@@ -6,7 +6,7 @@ use Rattle.page_layout.specs.declared.geometry.Geometry.{Geometry}
 use Rattle.page_layout.specs.Geometry.{row_count}
 use Rattle.page_layout.specs.Page.{page}
 use Rattle.page_layout.specs.Flash.{Operation, Program, Erase, page_at, block_at}
-use Rattle.page_layout.specs.Recording.{Recording, Records}
+use Rattle.page_layout.specs.Recording.{Recording, RecordsOrEnds}
 use Rattle.onfi_cycles.specs.declared.nand.BusFault.{BusFault}
 use Rattle.onfi_cycles.specs.declared.nand.Outcome.{Outcome}
 use Rattle.onfi_cycles.specs.Outcomes.{outcome_of, is_passed}
@@ -64,8 +64,8 @@ quiet die honest recorded called a b (x ∷ xs) out q h l s =
 
 -- what is noted looks at the flash and the status alone
 noted_at : (due : Due) (told told' : Option Recording) (d e : DieState) (p : Phase) → e ≡ to_phase p d → Notes due told d told' → Notes due told e told'
-noted_at (Programs row pg) told told' d e p to n = subst (λ (x : DieState). Records told (Program row pg (x.status == 0xE0) (page_at x.flash row) ∷ []) told') (sym to) n
-noted_at (Erases block) told told' d e p to n = subst (λ (x : DieState). Records told (Erase block (x.status == 0xE0) (block_at x.flash block) ∷ []) told') (sym to) n
+noted_at (Programs row pg) told told' d e p to n = subst (λ (x : DieState). RecordsOrEnds told (Program row pg (x.status == 0xE0) (page_at x.flash row) ∷ []) told') (sym to) n
+noted_at (Erases block) told told' d e p to n = subst (λ (x : DieState). RecordsOrEnds told (Erase block (x.status == 0xE0) (block_at x.flash block) ∷ []) told') (sym to) n
 noted_at (Moves phase) told told' d e p to n = n
 noted_at Resets told told' d e p to n = n
 noted_at (Refuses fault) told told' d e p to n = n
@@ -114,33 +114,33 @@ pub program_noted : {B : Type 0} → (die : B → DieState) (honest : B → Bool
     → (honest a ≡ true → length body ≡ (die a).flash.geometry.data_bytes) → (honest a ≡ true → length spare ≡ (die a).flash.geometry.spare_bytes)
     → Sent (Calls die honest recorded called) a (program_cycles row body spare) out b → (honest a ≡ true → Taken (die a) (program_cycles row body spare) (die b))
     → (honest a ≡ true → (die b).phase ≡ Ready StatusOut → byte ≡ (die b).status) → r ≡ outcome_of byte
-    → IfOk r (λ outcome. honest a ≡ true → IsReady (die a).phase → Records (recorded a) (Program row (page body spare) (is_passed outcome) (page_at (die b).flash row) ∷ []) (recorded b))
+    → IfOk r (λ outcome. honest a ≡ true → IsReady (die a).phase → RecordsOrEnds (recorded a) (Program row (page body spare) (is_passed outcome) (page_at (die b).flash row) ∷ []) (recorded b))
 unfolding program_cycles
 program_noted die honest recorded called a b row byte body spare out r in_row body_whole spare_whole s taken read is =
-    if_ok r (λ outcome. honest a ≡ true → IsReady (die a).phase → Records (recorded a) (Program row (page body spare) (is_passed outcome) (page_at (die b).flash row) ∷ []) (recorded b))
+    if_ok r (λ outcome. honest a ≡ true → IsReady (die a).phase → RecordsOrEnds (recorded a) (Program row (page body spare) (is_passed outcome) (page_at (die b).flash row) ∷ []) (recorded b))
     (λ outcome ok h at.
     let g : Geometry = (die a).flash.geometry in
     let n : ℕ = 0 + length body + length spare in
     let ends = program_spelling (die a) (die b) row body spare at (in_row h) (body_whole h) (spare_whole h) (taken h) in
     let lead = lead_at (die a) at.0 (load_cycles row body spare) (Loading row n (body ++ spare)) at.1 (load_leads g at.0 row body spare (in_row h) (body_whole h) (spare_whole h)) in
     let note = operation_noted die honest recorded called a b (load_cycles row body spare) (Loading row n (body ++ spare)) 0x10 (Programs row (page body spare)) out h lead (confirms_program g row n body spare (body_whole h)) tt s in
-    subst (λ p. Records (recorded a) (Program row (page body spare) p (page_at (die b).flash row) ∷ []) (recorded b)) (told_passed ends.passed byte (die b).status outcome ends.status (read h ends.phase) (ok ∙ is)) note)
+    subst (λ p. RecordsOrEnds (recorded a) (Program row (page body spare) p (page_at (die b).flash row) ∷ []) (recorded b)) (told_passed ends.passed byte (die b).status outcome ends.status (read h ends.phase) (ok ∙ is)) note)
 
 pub erase_noted : {B : Type 0} → (die : B → DieState) (honest : B → Bool) (recorded : B → Option Recording) (called : B → Cycle → Result (Unit {0}) BusFault → List ℕ → B → Type 0)
     (a b : B) (block byte : ℕ) (g : Geometry) (out : List ℕ) (r : Result Outcome BusFault) → (honest a ≡ true → (die a).flash.geometry ≡ g) → block < g.blocks
     → Sent (Calls die honest recorded called) a (erase_cycles g block) out b → (honest a ≡ true → Taken (die a) (erase_cycles g block) (die b))
     → (honest a ≡ true → (die b).phase ≡ Ready StatusOut → byte ≡ (die b).status) → r ≡ outcome_of byte
-    → IfOk r (λ outcome. honest a ≡ true → IsReady (die a).phase → Records (recorded a) (Erase block (is_passed outcome) (block_at (die b).flash block) ∷ []) (recorded b))
+    → IfOk r (λ outcome. honest a ≡ true → IsReady (die a).phase → RecordsOrEnds (recorded a) (Erase block (is_passed outcome) (block_at (die b).flash block) ∷ []) (recorded b))
 unfolding erase_cycles
 erase_noted die honest recorded called a b block byte g out r same lt s taken read is =
-    if_ok r (λ outcome. honest a ≡ true → IsReady (die a).phase → Records (recorded a) (Erase block (is_passed outcome) (block_at (die b).flash block) ∷ []) (recorded b))
+    if_ok r (λ outcome. honest a ≡ true → IsReady (die a).phase → RecordsOrEnds (recorded a) (Erase block (is_passed outcome) (block_at (die b).flash block) ∷ []) (recorded b))
     (λ outcome ok h at.
     let row : ℕ = block * g.pages in
     let ends = erase_spelling (die a) (die b) block at (subst (λ t. block < t.blocks) (sym (same h)) lt) (subst (λ t. Taken (die a) (erase_cycles t block) (die b)) (sym (same h)) (taken h)) in
     let lead : LeadTo (die a).flash.geometry (Ready at.0) (Command 0x60 ∷ row_address row) (Confirming ForErase row 0) = subst (λ t. LeadTo t (Ready at.0) (Command 0x60 ∷ row_address row) (Confirming ForErase row 0)) (sym (same h)) (erase_leads g at.0 row (first_row g block lt)) in
     let due : command_due (die a).flash.geometry (Confirming ForErase row 0) 0xD0 ≡ Erases block = ap (λ t. command_due t (Confirming ForErase row 0) 0xD0) (same h) ∙ erase_due g block in
     let note = operation_noted die honest recorded called a b (Command 0x60 ∷ row_address row) (Confirming ForErase row 0) 0xD0 (Erases block) out h (lead_at (die a) at.0 (Command 0x60 ∷ row_address row) (Confirming ForErase row 0) at.1 lead) due tt s in
-    subst (λ p. Records (recorded a) (Erase block p (block_at (die b).flash block) ∷ []) (recorded b)) (told_passed ends.passed byte (die b).status outcome ends.status (read h ends.phase) (ok ∙ is)) note)
+    subst (λ p. RecordsOrEnds (recorded a) (Erase block p (block_at (die b).flash block) ∷ []) (recorded b)) (told_passed ends.passed byte (die b).status outcome ends.status (read h ends.phase) (ok ∙ is)) note)
 
 -- a page read leaves the record
 pub read_noted : {A B : Type 0} → (die : B → DieState) (honest : B → Bool) (recorded : B → Option Recording) (called : B → Cycle → Result (Unit {0}) BusFault → List ℕ → B → Type 0)

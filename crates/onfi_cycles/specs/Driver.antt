@@ -1,8 +1,9 @@
 -- What a driver is seen as.
-use Rattle.std.specs.Prelude.{◌≡◌, ℕ, Bool, List, Result, Ok, Err}
+use Rattle.std.specs.Prelude.{◌≡◌, ℕ, Bool, List, [], ◌∷◌, ◌++◌, Result, Ok, Err}
 use Rattle.page_layout.specs.declared.geometry.Geometry.{Geometry}
 use Rattle.page_layout.specs.Counter.{HasRisen}
 use Rattle.page_layout.specs.Flash.{Flash, Operation, Steps}
+use Rattle.page_layout.specs.Recording.{Recording}
 use Rattle.onfi_cycles.specs.declared.nand.BusFault.{BusFault}
 use Rattle.onfi_cycles.specs.declared.nand.BusFault.TheVariants.{Device}
 use Rattle.onfi_cycles.specs.declared.nand.Outcome.{Outcome}
@@ -10,14 +11,23 @@ use Rattle.onfi_cycles.specs.Outcomes.{is_passed}
 use Rattle.onfi_cycles.specs.Cycles.{Cycle, DieState, Phase, Output, Ready}
 use Rattle.onfi_cycles.specs.Spelling.{Taken, FailsIn}
 
--- a driver: its bus, and its counts
+-- a driver: its bus, what it has done to the die behind it, and its counts
 pub record DriverState (B : Type 0) : Type 0 where
   pub bus : B
+  pub told : Recording
   pub geometry : Geometry
   pub reads : ℕ
   pub programs : ℕ
   pub erases : ℕ
   pub failures : ℕ
+
+-- the record with one operation more
+abbrev pub gained : Operation → Recording → Recording
+gained op told = record { image = told.image; log = told.log ++ op ∷ [] }
+
+-- the record of a die to which nothing was done yet
+abbrev pub untouched : Flash → Recording
+untouched s = record { image = s.image; log = [] }
 
 -- no command is unfinished
 abbrev pub IsReady : Phase → Type 0

@@ -1,15 +1,15 @@
 -- What a bus's record gains at a cycle, and what is said of one call of any bus.
 use Rattle.std.specs.Prelude.{◌≡◌, ℕ, Bool, true, ◌==◌, List, [], ◌∷◌, Option, Result, OnOk}
 use Rattle.page_layout.specs.Flash.{Program, Erase, page_at, block_at}
-use Rattle.page_layout.specs.Recording.{Recording, Records}
+use Rattle.page_layout.specs.Recording.{Recording, RecordsOrEnds}
 use Rattle.onfi_cycles.specs.declared.nand.BusFault.{BusFault}
 use Rattle.onfi_cycles.specs.Cycles.{DieState, Cycle, CycleStep, Due, Moves, Resets, Programs, Erases, Refuses, due_of}
 
 -- What a cycle that was taken makes of the record: a program or an erase is noted, with the outcome that the status says and what it left,
 -- unless the record ends; each other cycle leaves the record as it was.
 abbrev pub Notes : Due → Option Recording → DieState → Option Recording → Type 0
-Notes (Programs row page) told new told' = Records told (Program row page (new.status == 0xE0) (page_at new.flash row) ∷ []) told'
-Notes (Erases block) told new told' = Records told (Erase block (new.status == 0xE0) (block_at new.flash block) ∷ []) told'
+Notes (Programs row page) told new told' = RecordsOrEnds told (Program row page (new.status == 0xE0) (page_at new.flash row) ∷ []) told'
+Notes (Erases block) told new told' = RecordsOrEnds told (Erase block (new.status == 0xE0) (block_at new.flash block) ∷ []) told'
 Notes (Moves phase) told new told' = told' ≡ told
 Notes Resets told new told' = told' ≡ told
 Notes (Refuses fault) told new told' = told' ≡ told

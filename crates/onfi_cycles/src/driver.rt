@@ -3,25 +3,30 @@ ghost use Rattle.std.specs.Prelude.{◌≡◌, ◌<◌, ◌≤◌, true, [], ◌
 ghost use Rattle.page_layout.specs.Geometry.{row_count};
 ghost use Rattle.page_layout.specs.Page.{page, IsImage};
 ghost use Rattle.page_layout.specs.Counter.{counted, HasRisen};
-ghost use Rattle.page_layout.specs.Recording.{Records};
+ghost use Rattle.page_layout.specs.Recording.{Records, RecordsOrEnds};
 ghost use Rattle.page_layout.specs.Flash.{Program, Erase, Steps, page_at, block_at, IsWhole};
 ghost use Rattle.onfi_cycles.specs.Cycles.{CycleStep, Command, IsCounted};
 ghost use Rattle.onfi_cycles.specs.Spelling.{Taken, Spells, SpellsRead, program_cycles, erase_cycles, read_cycles, done, refused};
 ghost use Rattle.onfi_cycles.specs.Sent.{Operates, SendsRead};
 ghost use Rattle.onfi_cycles.specs.Outcomes.{is_passed, number_of};
-ghost use Rattle.onfi_cycles.specs.Driver.{flash_by};
+ghost use Rattle.onfi_cycles.specs.Driver.{flash_by, gained, untouched};
 
 use crate::spelling::{erase_block, fetch_page, program_page};
+use crate::told::{Erased, Programmed, Untouched};
 use crate::{Bus, BusFault, Nand, Outcome};
+use die_history::History;
 use page_layout::geometry::Geometry;
 use page_layout::source::{PageSource, SourceFault};
 use std::marker::Model;
 
 /// A die behind a bus: reads, programs and erases spelled as cycles. It counts what it was asked for, and each fault that it
-/// answered; each count stays at 2^64 - 1 once there. (The cycles are those of ONFI 1.0's basic commands.)
+/// answered; each count stays at 2^64 - 1 once there. Its record of what it did is for proofs alone and takes no memory: it begins with
+/// the die as the driver found it, is told for good, and gains each operation that is answered `Ok`. (The cycles are those of ONFI
+/// 1.0's basic commands.)
 #[derive(Drop)]
 pub struct Driver<B: Bus> {
     bus: B,
+    history: History,
     geometry: Geometry,
     reads: u64,
     programs: u64,
@@ -35,7 +40,7 @@ impl<B: Bus> Model for Driver<B> {
 
     ghost Value = { DriverState B };
 
-    ghost view = { λ d. record { bus = d.bus; geometry = d.geometry; reads = d.reads; programs = d.programs; erases = d.erases; failures = d.failures } };
+    ghost view = { λ d. record { bus = d.bus; told = d.history.told; geometry = d.geometry; reads = d.reads; programs = d.programs; erases = d.erases; failures = d.failures } };
 
     ghost invariant = { λ d. B.honest d.bus ≡ true → ((B.die d.bus).flash.geometry ≡ d.geometry) × IsReady (B.die d.bus).phase × (d.failures ≤ B.failed d.bus) };
 }
@@ -54,7 +59,9 @@ impl<B: Bus> Driver<B> {
         ensures geometry { IfOk result (λ driver. driver.geometry ≡ geometry) }
         ensures flash { IfOk result (λ driver. B.honest bus ≡ true → flash_by B.die driver ≡ (B.die bus).flash) }
 
-        ensures recorded { IfOk result (λ driver. B.honest bus ≡ true → B.recorded driver.bus ≡ B.recorded bus) }
+        // Its record begins with the die as it is. What the bus tells stays as it was.
+        ensures told { IfOk result (λ driver. driver.told ≡ untouched (B.die driver.bus).flash) }
+        ensures behind { IfOk result (λ driver. B.honest bus ≡ true → B.recorded driver.bus ≡ B.recorded bus) }
 
         // All counts begin at 0.
         ensures reads { IfOk result (λ driver. driver.reads ≡ 0) }
@@ -73,14 +80,18 @@ impl<B: Bus> Driver<B> {
     {
         let mut bus = bus;
         match bus.command(0xFF) {
-            Ok(()) => Ok(Driver {
-                bus,
-                geometry,
-                reads: 0,
-                programs: 0,
-                erases: 0,
-                failures: 0,
-            }),
+            Ok(()) => {
+                let history = History::of(&Untouched { bus: &bus });
+                Ok(Driver {
+                    bus,
+                    history,
+                    geometry,
+                    reads: 0,
+                    programs: 0,
+                    erases: 0,
+                    failures: 0,
+                })
+            }
             Err(fault) => Err((bus, fault)),
         }
     }
@@ -94,6 +105,7 @@ impl<B: Bus> Driver<B> {
     {
         let Driver {
             bus,
+            history: _,
             geometry: _,
             reads: _,
             programs: _,
@@ -119,7 +131,7 @@ impl<B: Bus> PageSource for Driver<B> {
 
     ghost calm = { λ d. B.calm d.bus };
 
-    ghost recorded = { λ d. B.recorded d.bus };
+    ghost recorded = { λ d. Some d.told };
 
     /// Reads a page: 00h, five address cycles with column 0, 30h, then `body` and `spare` out. A fault of the bus is answered by
     /// its number, 1 to 6; of an honest bus it is 6, the device's. After it the buffers hold anything. (ONFI 1.0, Read; the
@@ -133,7 +145,7 @@ impl<B: Bus> PageSource for Driver<B> {
         ensures page { OnOk result (B.honest self.old.bus ≡ true → slice_get (B.die self.old.bus).flash.image row ≡ Some (page body.new spare.new)) }
         ensures same { OnOk result (B.honest self.old.bus ≡ true → flash_by B.die self.new ≡ flash_by B.die self.old) }
         ensures whole { OnOk result (B.honest self.old.bus ≡ true → IsImage self.new.geometry (B.die self.new.bus).flash.image) }
-        ensures recorded { OnOk result (B.honest self.old.bus ≡ true → B.recorded self.new.bus ≡ B.recorded self.old.bus) }
+        ensures recorded { OnOk result (B.honest self.old.bus ≡ true → Some self.new.told ≡ Some self.old.told) }
         ensures geometry { self.new.geometry ≡ self.old.geometry }
         ensures honest { B.honest self.new.bus ≡ B.honest self.old.bus }
         ensures calm { B.calm self.new.bus ≡ B.calm self.old.bus }
@@ -149,6 +161,10 @@ impl<B: Bus> PageSource for Driver<B> {
             SpellsRead (B.die self.old.bus) (read_cycles row self.old.geometry.data_bytes self.old.geometry.spare_bytes) result (B.die self.new.bus) }
         ensures kept { OnOk result (self.new.failures ≡ self.old.failures) }
         ensures counts { OnErr result (self.new.failures ≡ counted self.old.failures) }
+
+        // Its own record stays as it was, and so does what the bus tells.
+        ensures told { self.new.told ≡ self.old.told }
+        ensures behind { OnOk result (B.honest self.old.bus ≡ true → B.recorded self.new.bus ≡ B.recorded self.old.bus) }
 
         // The number is that of the bus's fault. An honest bus fails only by its device, which it counts.
         ensures number { IfErr result (λ e. (fault : BusFault) × (e.0 ≡ number_of fault) × IsCounted (B.failed self.old.bus) (B.failed self.new.bus) fault) }
@@ -184,7 +200,7 @@ impl<B: Bus> Nand for Driver<B> {
         ensures step { IfOk result (λ outcome. B.honest self.old.bus ≡ true →
             Steps (flash_by B.die self.old) (Program row (page body.now spare.now) (is_passed outcome) (page_at (flash_by B.die self.new) row)) (flash_by B.die self.new)) }
         ensures recorded { IfOk result (λ outcome. B.honest self.old.bus ≡ true →
-            Records (B.recorded self.old.bus) (Program row (page body.now spare.now) (is_passed outcome) (page_at (flash_by B.die self.new) row) ∷ []) (B.recorded self.new.bus)) }
+            Records (Some self.old.told) (Program row (page body.now spare.now) (is_passed outcome) (page_at (flash_by B.die self.new) row) ∷ []) (Some self.new.told)) }
         ensures whole { OnOk result (B.honest self.old.bus ≡ true → IsWhole (flash_by B.die self.new)) }
         ensures geometry { self.new.geometry ≡ self.old.geometry }
         ensures honest { B.honest self.new.bus ≡ B.honest self.old.bus }
@@ -202,13 +218,30 @@ impl<B: Bus> Nand for Driver<B> {
         ensures kept { OnOk result (self.new.failures ≡ self.old.failures) }
         ensures counts { OnErr result (self.new.failures ≡ counted self.old.failures) }
 
+        // Its own record gains the operation just where it was answered, over any bus; what an honest bus tells gains it too, or ends.
+        ensures told { MatchResult result
+            (λ outcome. self.new.told ≡ gained (Program row (page body.now spare.now) (is_passed outcome) (page_at (flash_by B.die self.new) row)) self.old.told) (λ fault. self.new.told ≡ self.old.told) }
+        ensures behind { IfOk result (λ outcome. B.honest self.old.bus ≡ true →
+            RecordsOrEnds (B.recorded self.old.bus) (Program row (page body.now spare.now) (is_passed outcome) (page_at (flash_by B.die self.new) row) ∷ []) (B.recorded self.new.bus)) }
+
         // An honest bus fails only by its device, which it counts.
         ensures device { IfErr result (λ fault. B.honest self.old.bus ≡ true → fault ≡ BusFault.Device) }
         ensures cause { OnErr result (B.honest self.old.bus ≡ true → HasRisen (B.failed self.old.bus) (B.failed self.new.bus)) }
     {
         self.programs = self.programs.saturating_add(1);
         match program_page(&mut self.bus, row, body, spare) {
-            Ok(outcome) => Ok(outcome),
+            Ok(outcome) => {
+                let history = History::of(&Programmed {
+                    before: &self.history,
+                    bus: &self.bus,
+                    row,
+                    body,
+                    spare,
+                    outcome,
+                });
+                self.history = history;
+                Ok(outcome)
+            }
             Err(fault) => {
                 self.failures = self.failures.saturating_add(1);
                 Err(fault)
@@ -226,7 +259,7 @@ impl<B: Bus> Nand for Driver<B> {
         ensures step { IfOk result (λ outcome. B.honest self.old.bus ≡ true →
             Steps (flash_by B.die self.old) (Erase block (is_passed outcome) (block_at (flash_by B.die self.new) block)) (flash_by B.die self.new)) }
         ensures recorded { IfOk result (λ outcome. B.honest self.old.bus ≡ true →
-            Records (B.recorded self.old.bus) (Erase block (is_passed outcome) (block_at (flash_by B.die self.new) block) ∷ []) (B.recorded self.new.bus)) }
+            Records (Some self.old.told) (Erase block (is_passed outcome) (block_at (flash_by B.die self.new) block) ∷ []) (Some self.new.told)) }
         ensures whole { OnOk result (B.honest self.old.bus ≡ true → IsWhole (flash_by B.die self.new)) }
         ensures geometry { self.new.geometry ≡ self.old.geometry }
         ensures honest { B.honest self.new.bus ≡ B.honest self.old.bus }
@@ -244,13 +277,29 @@ impl<B: Bus> Nand for Driver<B> {
         ensures kept { OnOk result (self.new.failures ≡ self.old.failures) }
         ensures counts { OnErr result (self.new.failures ≡ counted self.old.failures) }
 
+        // Its own record gains the operation just where it was answered, over any bus; what an honest bus tells gains it too, or ends.
+        ensures told { MatchResult result
+            (λ outcome. self.new.told ≡ gained (Erase block (is_passed outcome) (block_at (flash_by B.die self.new) block)) self.old.told) (λ fault. self.new.told ≡ self.old.told) }
+        ensures behind { IfOk result (λ outcome. B.honest self.old.bus ≡ true →
+            RecordsOrEnds (B.recorded self.old.bus) (Erase block (is_passed outcome) (block_at (flash_by B.die self.new) block) ∷ []) (B.recorded self.new.bus)) }
+
         // An honest bus fails only by its device, which it counts.
         ensures device { IfErr result (λ fault. B.honest self.old.bus ≡ true → fault ≡ BusFault.Device) }
         ensures cause { OnErr result (B.honest self.old.bus ≡ true → HasRisen (B.failed self.old.bus) (B.failed self.new.bus)) }
     {
         self.erases = self.erases.saturating_add(1);
         match erase_block(&mut self.bus, &self.geometry, block) {
-            Ok(outcome) => Ok(outcome),
+            Ok(outcome) => {
+                let history = History::of(&Erased {
+                    before: &self.history,
+                    bus: &self.bus,
+                    geometry: self.geometry,
+                    block,
+                    outcome,
+                });
+                self.history = history;
+                Ok(outcome)
+            }
             Err(fault) => {
                 self.failures = self.failures.saturating_add(1);
                 Err(fault)

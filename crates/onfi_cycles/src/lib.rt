@@ -8,6 +8,7 @@ pub mod laws;
 mod nand;
 mod spelling;
 mod status;
+mod told;
 
 pub use bus::Bus;
 pub use driver::Driver;

@@ -9,7 +9,7 @@ ghost use Rattle.onfi_cycles.specs.Spelling.{page_address, row_address};
 ghost use Rattle.onfi_cycles.specs.Driver.{IsReady, Operated, Read};
 ghost use Rattle.onfi_cycles.specs.Sent.{Sends, Operates};
 ghost use Rattle.onfi_cycles.specs.Recorded.{Calls};
-ghost use Rattle.page_layout.specs.Recording.{Records};
+ghost use Rattle.page_layout.specs.Recording.{RecordsOrEnds};
 ghost use Rattle.onfi_cycles.specs.Outcomes.{is_passed};
 
 use crate::{Bus, BusFault, Outcome};
@@ -166,7 +166,7 @@ pub(crate) fn program_page<B: Bus>(
         Operated (λ passed s. Program row (page body.now spare.now) passed (page_at s row)) (program_cycles row body.now spare.now)
         (B.die bus.old) (B.die bus.new) (B.failed bus.old) (B.failed bus.new) result }
     ensures recorded { IfOk result (λ outcome. B.honest bus.old ≡ true → IsReady (B.die bus.old).phase →
-        Records (B.recorded bus.old) (Program row (page body.now spare.now) (is_passed outcome) (page_at (B.die bus.new).flash row) ∷ []) (B.recorded bus.new)) }
+        RecordsOrEnds (B.recorded bus.old) (Program row (page body.now spare.now) (is_passed outcome) (page_at (B.die bus.new).flash row) ∷ []) (B.recorded bus.new)) }
     ensures geometry { B.honest bus.old ≡ true → (B.die bus.new).flash.geometry ≡ (B.die bus.old).flash.geometry }
     ensures whole { OnOk result (B.honest bus.old ≡ true → IsWhole (B.die bus.new).flash) }
     ensures honest { B.honest bus.new ≡ B.honest bus.old }
@@ -190,7 +190,7 @@ pub(crate) fn erase_block<B: Bus>(
         Operated (λ passed s. Erase block passed (block_at s block)) (erase_cycles geometry.now block)
         (B.die bus.old) (B.die bus.new) (B.failed bus.old) (B.failed bus.new) result }
     ensures recorded { IfOk result (λ outcome. B.honest bus.old ≡ true → IsReady (B.die bus.old).phase →
-        Records (B.recorded bus.old) (Erase block (is_passed outcome) (block_at (B.die bus.new).flash block) ∷ []) (B.recorded bus.new)) }
+        RecordsOrEnds (B.recorded bus.old) (Erase block (is_passed outcome) (block_at (B.die bus.new).flash block) ∷ []) (B.recorded bus.new)) }
     ensures geometry { B.honest bus.old ≡ true → (B.die bus.new).flash.geometry ≡ (B.die bus.old).flash.geometry }
     ensures whole { OnOk result (B.honest bus.old ≡ true → IsWhole (B.die bus.new).flash) }
     ensures honest { B.honest bus.new ≡ B.honest bus.old }

@@ -1,5 +1,5 @@
 //! Lists of commands, told from an accepted certificate on.
-ghost use Rattle.std.specs.Prelude.{◌≡◌, ◌⊎◌, true, IfOk, OnOk};
+ghost use Rattle.std.specs.Prelude.{◌≡◌, ◌⊎◌, true, Some, IfOk, OnOk};
 ghost use Rattle.page_layout.specs.Counter.{HasRisen};
 ghost use Rattle.onfi_cycles.specs.Driver.{flash_by};
 ghost use Rattle.command_queue.specs.Commands.{IsWhole, AreWhole};
@@ -132,7 +132,7 @@ fn run_on_die(
     requires same { driver.geometry ≡ geometry.now }
     requires whole { AreWhole geometry.now calls.old }
     ensures rose { IfOk result (λ d. AreKnown (exchanges_of calls.new) ⊎ HasRisen driver.failures d.engine.nand.failures) }
-    ensures ran { IfOk result (λ d. AreKnown (exchanges_of calls.new) → RanFrom (flash_by (λ die. die.state)) (λ n. n.bus.recorded) (λ _. true) (λ n. n.failures) (λ n. n.erases)
+    ensures ran { IfOk result (λ d. AreKnown (exchanges_of calls.new) → RanFrom (flash_by (λ die. die.state)) (λ n. Some n.told) (λ _. true) (λ n. n.failures) (λ n. n.erases)
         (flash_by (λ die. die.state) driver) certificate.now (exchanges_of calls.new) d) }
 {
     let accepted = check(alloc, &mut driver, geometry, 4, certificate)?;

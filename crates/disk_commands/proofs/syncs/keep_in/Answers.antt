@@ -1,8 +1,9 @@
 use Rattle.std.proofs.Common.{None, ap, not, subst, sym}
-use Rattle.disk_commands.specs.MarkFile.{KeepsMarkIfAny}
+use Rattle.disk_commands.specs.MarkFile.{FailsLast, KeepsMarkIfAny}
 use Rattle.disk_commands.proofs.syncs.keep_in.Goals as goal
 
 pub returns-in-Err : goal.returns-in-Err
 returns-in-Err g c =
-    subst (λ kept. KeepsMarkIfAny g.F.ByteFile.held g.F.ByteFile.honest kept c.args.mark (not c.is_fresh-first.result) None) (sym c.in-Some.is)
-    (ap not c.is_fresh-first.ensures, c.keep.new.self, c.in-Err.ensures)
+    let file = g.F.ByteFile in
+    subst (λ kept. KeepsMarkIfAny file.held file.honest (FailsLast file.wrote file.refused) kept c.args.mark (not c.is_fresh-first.result) None) (sym c.in-Some.is)
+    (ap not c.is_fresh-first.ensures, c.keep.new.self, c.in-Err.ensures.keeps, c.in-Err.why, c.in-Err.ensures.fails)

@@ -3,8 +3,8 @@ use Rattle.disk_commands.proofs.MarkFileLemmas.{Begins, Puts, kept_first, kept_l
 use Rattle.disk_commands.proofs.mark_file.MarkFile.keep.Goals as goal
 use Rattle.disk_commands.proofs.mark_file.MarkFile.keep.Goals.{then-self+in_ok-begin, else-self}
 
-pub returns : goal.returns
-returns g c =
+pub returns-clause-keeps : goal.returns-clause-keeps
+returns-clause-keeps g c =
     let held = g.F.ByteFile.held in
     let honest = g.F.ByteFile.honest in
     let puts : Puts held honest c.if-self.self c.args.mark (is_ok c.put.result) c.put.new.self =

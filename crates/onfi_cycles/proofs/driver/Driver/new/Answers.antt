@@ -19,5 +19,5 @@ returns-in-Err-clause-device g c h = reset_fails _ _ _ (c.in-Err.ensures.cycle h
 pub returns-in-Err-clause-cause : goal.returns-in-Err-clause-cause
 returns-in-Err-clause-cause g c h = c.in-Err.ensures.rose (reset_fails _ _ _ (c.in-Err.ensures.cycle h))
 
-pub returns-in-Ok-clause-recorded : goal.returns-in-Ok-clause-recorded
-returns-in-Ok-clause-recorded g c h = reset_noted (g.B.Bus.die c.args.bus) (g.B.Bus.die c.command.new.self) _ _ (c.in-Ok.ensures.recorded h)
+pub returns-in-Ok-clause-behind : goal.returns-in-Ok-clause-behind
+returns-in-Ok-clause-behind g c h = reset_noted (g.B.Bus.die c.args.bus) (g.B.Bus.die c.command.new.self) _ _ (c.in-Ok.ensures.recorded h)

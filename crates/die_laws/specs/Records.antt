@@ -1,0 +1,17 @@
+-- What a driver tells of its programs and erases, beside what its bus tells.
+use Rattle.std.specs.Prelude.{◌≡◌, ◌⊎◌, [], ◌∷◌, Option, Some, None}
+use Rattle.page_layout.specs.Flash.{Operation}
+use Rattle.page_layout.specs.Recording.{Recording, RecordsOrEnds}
+use Rattle.onfi_cycles.specs.Driver.{gained}
+
+-- A DRIVER TELLS A RECORD at each moment, which is its own
+abbrev pub AlwaysTellsLaw : {Outer : Type 0} → (tells : Outer → Option Recording) → (told : Outer → Recording) → Type 0
+AlwaysTellsLaw {Outer} tells told = (outer : Outer) → tells outer ≡ Some (told outer)
+
+-- what is told of the bus is what its driver tells, or has ended
+abbrev pub Agrees : Recording → Option Recording → Type 0
+Agrees own behind = (behind ≡ None) ⊎ (behind ≡ Some own)
+
+-- and so it stays after each operation that both gain
+abbrev pub AgreeingLaw : Type 0
+AgreeingLaw = (own : Recording) (behind behind' : Option Recording) (op : Operation) → Agrees own behind → RecordsOrEnds behind (op ∷ []) behind' → Agrees (gained op own) behind'
