@@ -5,20 +5,19 @@ use Rattle.std.specs.Prelude.{IfOk, OnOk}
 use Rattle.page_layout.specs.declared.geometry.Geometry.{Geometry}
 use Rattle.page_layout.specs.Geometry.{row_count}
 use Rattle.page_layout.specs.Page.{page}
-use Rattle.page_layout.specs.Flash.{Operation, Program, Erase, page_at, block_at}
+use Rattle.page_layout.specs.Flash.{Program, Erase, page_at, block_at}
 use Rattle.page_layout.specs.Recording.{Recording, RecordsOrEnds}
 use Rattle.onfi_cycles.specs.declared.nand.BusFault.{BusFault}
 use Rattle.onfi_cycles.specs.declared.nand.Outcome.{Outcome}
 use Rattle.onfi_cycles.specs.Outcomes.{outcome_of, is_passed}
-use Rattle.onfi_cycles.specs.Cycles.{DieState, Phase, Ready, NoOutput, StatusOut, PageOut, Loading, Confirming, ForErase, Cycle, Command, Address}
-use Rattle.onfi_cycles.specs.Cycles.{DataOut, CycleStep, Due, Moves, Resets, Programs, Erases, Refuses, Does, due_of, command_due, to_phase}
+use Rattle.onfi_cycles.specs.Cycles.{DieState, Phase, Ready, NoOutput, StatusOut, PageOut, Loading, Confirming, ForErase, Cycle, Command}
+use Rattle.onfi_cycles.specs.Cycles.{DataOut, Due, Moves, Resets, Programs, Erases, Refuses, Does, due_of, command_due, to_phase}
 use Rattle.onfi_cycles.specs.Cycles.{status_of}
-use Rattle.onfi_cycles.specs.Spelling.{Taken, FailsIn, done, refused, row_address, page_address, load_cycles, confirm_cycles, program_cycles}
+use Rattle.onfi_cycles.specs.Spelling.{Taken, row_address, load_cycles, confirm_cycles, program_cycles}
 use Rattle.onfi_cycles.specs.Spelling.{erase_cycles, read_cycles}
 use Rattle.onfi_cycles.specs.Driver.{IsReady}
-use Rattle.onfi_cycles.specs.Laws.{Ends}
-use Rattle.onfi_cycles.specs.Sent.{Sent, SentUntil, Sends, Operates}
-use Rattle.onfi_cycles.specs.Recorded.{Notes, IsNoted, Calls}
+use Rattle.onfi_cycles.specs.Sent.{Sent, SentUntil, Sends}
+use Rattle.onfi_cycles.specs.Recorded.{Notes, Calls}
 use Rattle.onfi_cycles.proofs.Leads.{LeadTo, moved}
 use Rattle.onfi_cycles.proofs.Operations.{IsConfirm, confirm_ready, status_leads, lead_at, load_leads, confirms_program, erase_leads, erase_due}
 use Rattle.onfi_cycles.proofs.Operations.{first_row, whole_read, program_spelling, erase_spelling}
