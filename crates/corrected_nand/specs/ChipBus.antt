@@ -5,6 +5,7 @@ use Rattle.page_layout.specs.declared.geometry.Geometry.{Geometry}
 use Rattle.page_layout.specs.Geometry.{row_count}
 use Rattle.page_layout.specs.Page.{Page, IsImage}
 use Rattle.page_layout.specs.Flash.{Flash, Operation, Program, Erase, Steps, page_at, block_at, IsWhole}
+use Rattle.page_layout.specs.Recording.{Recording}
 use Rattle.onfi_cycles.specs.declared.nand.BusFault.{BusFault}
 use Rattle.onfi_cycles.specs.declared.nand.Outcome.{Outcome}
 use Rattle.onfi_cycles.specs.Outcomes.{is_passed, outcome_of}
@@ -16,9 +17,10 @@ use Rattle.page_code.specs.Layout.{outer_bytes, coded}
 use Rattle.page_code.specs.Near.{HasChipSizes}
 use Rattle.corrected_nand.specs.Shown.{ReadsAt}
 
--- a driver for such a chip: that of the pages as they stand there, and the geometry of the pages without their codes
+-- a driver for such a chip: that of the pages as they stand there, what it has done to the die without the codes, and the geometry of that
 pub record ChipDriverState (B : Type 0) : Type 0 where
   pub driver : DriverState B
+  pub told : Recording
   pub geometry : Geometry
 
 -- no cycle changes whether the law is kept, and, where it is, the geometry

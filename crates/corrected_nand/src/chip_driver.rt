@@ -4,13 +4,16 @@ ghost use Rattle.page_layout.specs.Geometry.{row_count};
 ghost use Rattle.page_layout.specs.Counter.{HasRisen};
 ghost use Rattle.onfi_cycles.specs.Cycles.{Command, IsCounted};
 ghost use Rattle.onfi_cycles.specs.Spelling.{done, refused};
+ghost use Rattle.onfi_cycles.specs.Driver.{untouched};
 ghost use Rattle.page_code.specs.Layout.{outer_bytes};
 ghost use Rattle.page_code.specs.Chip.{IsChipOf};
 ghost use Rattle.corrected_nand.specs.Errors.{AreFor};
 
+use crate::chip_told::{ErasedChip, ProgrammedChip, UntouchedChip};
 use crate::corrected::Corrected;
 use crate::errors::ReadErrors;
 use crate::noisy::NoisyNand;
+use die_history::History;
 use onfi_cycles::{Bus, BusFault, Driver, Nand, Outcome};
 use page_code::chip::ChipGeometry;
 use page_layout::geometry::Geometry;
@@ -45,10 +48,12 @@ pub trait ChipBus: Bus {
 }
 
 /// A chip behind a bus: its reads, programs and erases are spelled as cycles of whole pages, with their codes. It has two geometries, of two
-/// types: that of the pages without their codes, and the chip's.
+/// types: that of the pages without their codes, and the chip's. Its record is of the pages without their codes; it is for proofs alone, and
+/// takes no memory.
 #[derive(Drop)]
 pub struct ChipDriver<B: ChipBus> {
     driver: Driver<B>,
+    history: History,
     geometry: Geometry,
 }
 
@@ -59,7 +64,7 @@ impl<B: ChipBus> Model for ChipDriver<B> {
 
     ghost Value = { ChipDriverState B };
 
-    ghost view = { λ c. record { driver = c.driver; geometry = c.geometry } };
+    ghost view = { λ c. record { driver = c.driver; told = c.history.told; geometry = c.geometry } };
 
     ghost invariant = { λ c. IsChipOf c.geometry c.driver.geometry × (B.keeps c.driver.bus ≡ true → (B.chip c.driver.bus).geometry ≡ c.geometry) };
 }
@@ -82,10 +87,19 @@ impl<B: ChipBus> ChipDriver<B> {
         ensures geometry { IfOk result (λ driver. driver.geometry ≡ geometry) }
         ensures chip { IfOk result (λ driver. driver.driver.geometry ≡ chip.now.raw) }
         ensures failures { IfOk result (λ driver. driver.driver.failures ≡ 0) }
+        // Its record begins with the die as it is.
+        ensures told { IfOk result (λ driver. driver.told ≡ untouched (B.chip driver.driver.bus)) }
         ensures rose { IfErr result (λ e. IsCounted (B.failed bus) (B.failed e.0) e.1) }
     {
         match Driver::new(bus, *chip.raw()) {
-            Ok(driver) => Ok(ChipDriver { driver, geometry }),
+            Ok(driver) => {
+                let history = History::of(&UntouchedChip { driver: &driver });
+                Ok(ChipDriver {
+                    driver,
+                    history,
+                    geometry,
+                })
+            }
             Err((bus, fault)) => Err((bus, fault)),
         }
     }
@@ -96,6 +110,7 @@ impl<B: ChipBus> ChipDriver<B> {
     {
         let ChipDriver {
             driver,
+            history: _,
             geometry: _,
         } = self;
         driver.into_bus()
@@ -103,7 +118,7 @@ impl<B: ChipBus> ChipDriver<B> {
 }
 
 impl<B: ChipBus> NoisyNand for ChipDriver<B> {
-    ghost use Rattle.std.specs.Prelude.{◌++◌};
+    ghost use Rattle.std.specs.Prelude.{◌++◌, Some};
     ghost use Rattle.onfi_cycles.specs.Driver.{seen};
     ghost use Rattle.onfi_cycles.specs.Sent.{SendsRead};
     ghost use Rattle.onfi_cycles.specs.Spelling.{read_cycles};
@@ -114,6 +129,8 @@ impl<B: ChipBus> NoisyNand for ChipDriver<B> {
     ghost honest = { λ c. B.keeps c.driver.bus };
 
     ghost failed = { λ c. c.driver.failures };
+
+    ghost recorded = { λ c. Some c.told };
 
     // The cycles of one read, and what they put out.
     ghost asked = { λ old row answer put new. SendsRead B.called old.driver.bus (read_cycles row old.geometry.data_bytes (outer_bytes old.geometry)) (put.body ++ put.spare) answer new.driver.bus };
@@ -128,11 +145,29 @@ impl<B: ChipBus> NoisyNand for ChipDriver<B> {
     }
 
     fn program(&mut self, row: u32, body: &[u8], outer: &[u8]) -> Result<Outcome, BusFault> {
-        self.driver.program(row, body, outer)
+        let answer = self.driver.program(row, body, outer);
+        self.history = History::of(&ProgrammedChip {
+            before: &self.history,
+            driver: &self.driver,
+            geometry: self.geometry,
+            row,
+            body,
+            outer,
+            answer,
+        });
+        answer
     }
 
     fn erase(&mut self, block: u32) -> Result<Outcome, BusFault> {
-        self.driver.erase(block)
+        let answer = self.driver.erase(block);
+        self.history = History::of(&ErasedChip {
+            before: &self.history,
+            driver: &self.driver,
+            geometry: self.geometry,
+            block,
+            answer,
+        });
+        answer
     }
 
     fn failures(&self) -> u64 {
@@ -158,6 +193,7 @@ pub fn die_on_chip<B: ChipBus + Drop>(
     ensures chip { IfOk result (λ die. die.nand.driver.geometry ≡ chip.now.raw) }
     ensures errors { MatchResult result (λ die. die.errors ≡ errors) (λ e. e.1 ≡ errors) }
     ensures failures { IfOk result (λ die. die.failures ≡ 0) }
+    ensures told { IfOk result (λ die. die.nand.told ≡ untouched (B.chip die.nand.driver.bus)) }
     ensures rose { IfErr result (λ e. IsCounted (B.failed bus) (B.failed e.0) e.2) }
 {
     match ChipDriver::new(bus, geometry, chip) {

@@ -11,7 +11,7 @@ use Rattle.page_code.specs.declared.chip.ChipGeometry.{ChipGeometry}
 use Rattle.corrected_nand.specs.Errors.{no_errors}
 use Rattle.corrected_nand.specs.ChipBus.{ChipDriverState}
 use Rattle.corrected_nand.specs.Corrected.{CorrectedState}
-use Rattle.corrected_nand.specs.Shown.{clean_flash}
+use Rattle.corrected_nand.specs.Shown.{clean_flash, clean_told}
 use Rattle.stream_bus.specs.Behind.{Behind}
 use Rattle.stream_bus.specs.Carried.{SentAsFrame}
 use Rattle.ftl_disk.specs.declared.either.EitherDie.{EitherDie}
@@ -36,9 +36,9 @@ flash_of die chip d = of_either (λ p. flash_by (λ b. die b.link) p) (λ c. cle
 abbrev pub honest_of : {L : Type 0} → (L → Bool) → (L → Bool) → EitherDie L → Bool
 honest_of honest keeps d = of_either (λ p. honest p.bus.link) (λ c. keeps c.nand.driver.bus.link) d
 
--- the record of what its driver did; of a chip with codes none
+-- the record of what its driver did; of a chip with codes that of the pages without them
 abbrev pub recorded_of : {L : Type 0} → EitherDie L → Option Recording
-recorded_of d = of_either (λ p. Some p.told) (λ c. None) d
+recorded_of d = of_either (λ p. Some p.told) (λ c. clean_told c.geometry (Some c.nand.told)) d
 
 -- what it counts
 abbrev pub reads_of : {L : Type 0} → EitherDie L → ℕ
