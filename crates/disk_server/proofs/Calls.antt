@@ -163,7 +163,7 @@ ok_gives task (Err e) none = tt
 -- ---- a call that may change a sector, and one that changes none
 
 -- a call that the device does not stop in did not answer so
-no_bus : (old new : Ram) (result : Result (Unit {0}) DeviceFault) → IfErr result (Says old new) → stop_of new.fault ≡ None → result ≢ Err BusFault
+pub no_bus : (old new : Ram) (result : Result (Unit {0}) DeviceFault) → IfErr result (Says old new) → stop_of new.fault ≡ None → result ≢ Err BusFault
 no_bus old new (Ok done) says going = λ x. cc
 no_bus old new (Err OutOfRange) says going = λ x. cc
 no_bus old new (Err (ReadOnly good wanted failed)) says going = λ x. cc

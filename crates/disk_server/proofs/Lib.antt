@@ -13,6 +13,7 @@ pub mod MadeLemmas
 pub mod OpenedLemmas
 pub mod StoppedLemmas
 pub mod PowerLemmas
+pub mod KilledLemmas
 pub mod SyncLemmas
 pub mod ReadingLemmas
 pub mod GuardLemmas

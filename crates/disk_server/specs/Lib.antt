@@ -11,6 +11,8 @@ pub mod Open
 -- the disk in a store
 pub mod Made
 pub mod Opened
+-- what a kill leaves of it
+pub mod Killed
 -- what a loss of power leaves of it
 pub mod Power
 -- a disk that is only read

@@ -1,0 +1,12 @@
+use Rattle.disk_server.proofs.KilledLemmas.{found_as_it_was_law, killed_change_law, killed_flush_law, killed_turn_law}
+use Rattle.disk_server.proofs.laws.kill_laws.Goals as goal
+
+pub returns : goal.returns
+returns g c =
+    let n = g.N.PageSource in
+    record {
+      change = killed_change_law n.flash n.recorded n.honest n.calm n.failed;
+      flush = killed_flush_law n.flash n.recorded n.honest n.calm n.failed;
+      turn = killed_turn_law n.flash n.recorded n.honest n.calm n.erases n.failed;
+      as_it_was = found_as_it_was_law n.flash n.recorded n.honest;
+    }
