@@ -7,7 +7,7 @@ use Rattle.request_stream.specs.declared.reply.ServeFault.{ServeFault}
 use Rattle.file_die.specs.Store.{Held}
 use Rattle.coded_store.specs.declared.coded.Mended.{Mended}
 use Rattle.disk_server.specs.Asked.{AsksSectors}
-use Rattle.disk_server.specs.Reopened.{Reopened, AsksDevice, ReadsDevice, contents_in, flushes_of, holds_in, next_in, reads_of, rests_of, takes_in}
+use Rattle.disk_server.specs.Reopened.{Reopened, AsksDevice, ReadsDevice, changes_in, contents_in, flushes_of, holds_in, next_in, reads_of, rests_of, takes_in}
 use Rattle.nbd_stream.specs.declared.fault.DiskFault.{DiskFault as NbdFault}
 use Rattle.nbd_stream.specs.declared.fault.DiskFault.TheVariants as nbd
 use Rattle.nbd_stream.specs.declared.request.StreamEnd.{StreamEnd}
@@ -35,7 +35,7 @@ use Rattle.disk_commands.specs.Damage.{NamesAll}
 use Rattle.disk_commands.specs.Ready.{IsReadyAt, IsUnreadyAt}
 use Rattle.disk_commands.specs.Told.{HasPrintingFailed}
 use Rattle.disk_server.specs.declared.guarded.GuardedSectors.{GuardedSectors}
-use Rattle.disk_server.specs.Guarded.{PassesOn, ReadsGuarded, shown}
+use Rattle.disk_server.specs.Guarded.{ChangesGuarded, PassesOn, ReadsGuarded, shown}
 
 -- ---- what the client is told
 
@@ -143,7 +143,7 @@ abbrev pub shown_in : {S K : Type 0} → (S → Held) → (honest : S → Bool) 
 shown_in held honest = shown (contents_in held honest) (λ d. d.size)
 
 abbrev pub does_in : {S K : Type 0} → (S → Held) → (honest full : S → Bool) → (failed : S → ℕ) → GuardedSectors (Reopened S) K → Task → Result (Unit {0}) NbdFault → GuardedSectors (Reopened S) K → Type 0
-does_in held honest full failed = AsksSectors (shown_in held honest) (λ d. holds_in honest d.sectors) (ReadsGuarded (reads_in held honest)) (PassesOn (flushes_in held honest full failed))
+does_in held honest full failed = AsksSectors (shown_in held honest) (λ d. holds_in honest d.sectors) (ReadsGuarded (reads_in held honest)) (ChangesGuarded (changes_in held honest full failed)) (PassesOn (flushes_in held honest full failed))
 
 -- ---- the command
 

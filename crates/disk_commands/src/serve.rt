@@ -105,7 +105,7 @@ fn end_session<'a, S: Lasting, Y: Syncs>(
     path: &'a str,
     served: Result<StreamEnd, ServeFault>,
 ) -> Result<(), DiskCommandFault<'a>>
-    ensures { IsDiskClosed S.contents S.honest (AsksSectors S.contents S.honest S.reads S.flushes) S.next S.takes Y.synced Y.failed Y.marked marked path.entry disk.old served result }
+    ensures { IsDiskClosed S.contents S.honest (AsksSectors S.contents S.honest S.reads S.changes S.flushes) S.next S.takes Y.synced Y.failed Y.marked marked path.entry disk.old served result }
 {
     match disk.close(marked) {
         Ok(()) => end_of(served),
@@ -123,7 +123,7 @@ fn serve_writing<'a, S: Lasting + Drop, Y: Syncs + Drop, I: Incoming, O: Outgoin
     out: &mut O,
 ) -> Result<(), DiskCommandFault<'a>>
     requires { length buffer.old ≡ terms.offer.maximum }
-    ensures served { HasServedDisk S.contents S.honest (AsksSectors S.contents S.honest S.reads S.flushes) S.rests S.next S.takes Y.synced Y.failed Y.marked terms path.entry opened.0 opened.1 (I.remaining input.old) (I.remaining input.new) (O.contents out.old) (O.contents out.new) result }
+    ensures served { HasServedDisk S.contents S.honest (AsksSectors S.contents S.honest S.reads S.changes S.flushes) S.rests S.next S.takes Y.synced Y.failed Y.marked terms path.entry opened.0 opened.1 (I.remaining input.old) (I.remaining input.new) (O.contents out.old) (O.contents out.new) result }
     ensures stops { StreamStops I.fails O.fails (I.remaining input.old) (I.remaining input.new) input.new out.new result }
 {
     let (disk, syncs) = opened;
@@ -160,7 +160,7 @@ fn serve_client<'a, S: Lasting + Drop, Y: Syncs + Drop, I: Incoming, O: Outgoing
     out: &mut O,
 ) -> Result<(), DiskCommandFault<'a>>
     requires { S.honest opened.0 ≡ true → AllLasts (S.contents opened.0) }
-    ensures served { HasServedOn S.contents S.honest (AsksSectors S.contents S.honest S.reads S.flushes) S.rests S.reads S.next S.takes Y.synced Y.failed Y.marked terms path.entry opened.0 opened.1 (I.remaining input.old) (I.remaining input.new) (O.contents out.old) (O.contents out.new) result
+    ensures served { HasServedOn S.contents S.honest (AsksSectors S.contents S.honest S.reads S.changes S.flushes) S.rests S.reads S.next S.takes Y.synced Y.failed Y.marked terms path.entry opened.0 opened.1 (I.remaining input.old) (I.remaining input.new) (O.contents out.old) (O.contents out.new) result
         ⊎ ((result ≡ Err fault.OutOfMemory) × Keeps (O.contents out.old) (O.contents out.new)) }
     ensures stops { StreamStops I.fails O.fails (I.remaining input.old) (I.remaining input.new) input.new out.new result }
 {

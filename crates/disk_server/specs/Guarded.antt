@@ -59,6 +59,10 @@ IsRefusedUnasked old result new = (result ≡ Err fault.Failed) × (new ≡ old)
 abbrev pub ReadsGuarded : {S K : Type 0} → (reads : S → S → Type 0) → (old new : GuardedSectors S K) → Type 0
 ReadsGuarded reads old new = (new ≡ old) ⊎ (reads old.sectors new.sectors × KeepsList old new)
 
+-- a change is one of the device, or none
+abbrev pub ChangesGuarded : {S K : Type 0} → (changes : S → S → Type 0) → (old new : GuardedSectors S K) → Type 0
+ChangesGuarded changes old new = (new.sectors ≡ old.sectors) ⊎ changes old.sectors new.sectors
+
 -- A FLUSH AND A REST ARE ONE OF THE DEVICE, as this says of such a one, and the list stays; after a list that was not kept nothing is asked
 abbrev pub PassesOn : {S K : Type 0} → (is : S → Result (Unit {0}) DiskFault → S → Type 0) → GuardedSectors S K → Result (Unit {0}) DiskFault → GuardedSectors S K → Type 0
 PassesOn is old result new =

@@ -1,9 +1,10 @@
 -- A DISK AS IT IS OPENED, and why there is none.
-use Rattle.std.specs.Prelude.{◌≡◌, ◌≢◌, ℕ, Bool, true, List, []}
+use Rattle.std.specs.Prelude.{◌≡◌, ◌≢◌, ℕ, Bool, true, List, [], Option, Some}
 use Rattle.page_layout.specs.declared.geometry.Geometry.{Geometry}
 use Rattle.page_layout.specs.Array.{array_of}
 use Rattle.page_layout.specs.Counter.{HasRisen}
 use Rattle.page_layout.specs.Flash.{Flash}
+use Rattle.page_layout.specs.Recording.{Recording}
 use Rattle.onfi_cycles.specs.Driver.{DriverState, flash_by}
 use Rattle.file_die.specs.Store.{Held}
 use Rattle.nand_die.specs.Made.{first_turns, next_in}
@@ -47,6 +48,10 @@ flash_in held d = flash_by (shown held) d
 
 abbrev pub is_honest_in : {S : Type 0} → (S → Bool) → DriverState (FileState S) → Bool
 is_honest_in honest d = honest d.bus.store
+
+-- what it tells of what it did
+abbrev pub told_in : {S : Type 0} → DriverState (FileState S) → Option Recording
+told_in d = Some d.told
 
 -- whether its die syncs the store after each program: no call of a die changes it
 abbrev pub always_in : {S : Type 0} → DriverState (FileState S) → Bool

@@ -14,7 +14,7 @@ use Rattle.nbd_stream.specs.declared.task.Task.TheVariants.{Read}
 use Rattle.nbd_stream.specs.Disk.{Contents, PerformsTask}
 use Rattle.disk_server.specs.declared.opened.OpenStoreFault.{OpenStoreFault}
 use Rattle.disk_server.specs.Disk.{AsksChange, AsksClear, AsksFlush, AsksTurn, contents_of, holds, takes_changes}
-use Rattle.disk_server.specs.Opened.{IsUnopened, SyncsWhen, always_in, bytes_of, flash_in, flash_of, is_honest_in}
+use Rattle.disk_server.specs.Opened.{IsUnopened, SyncsWhen, always_in, bytes_of, flash_in, flash_of, is_honest_in, told_in}
 
 -- its device, where one is there; its sectors; what was next as its device stopped; whether it was opened anew; and how it is: with a cache of so many entries, and by when its die syncs its store
 pub record Reopened (S : Type 0) : Type 0 where
@@ -169,15 +169,20 @@ ReopenedGivesSector {S} held honest n old answer new = (d : Device (DriverState 
 
 -- a change of a sector
 abbrev pub changes_of : {S : Type 0} → (S → Held) → (honest : S → Bool) → (n : ℕ) → Command → Device (DriverState (FileState S)) → Result (Unit {0}) DiskFault → Device (DriverState (FileState S)) → Type 0
-changes_of held honest n command = AsksChange (flash_in held) (λ d. None) (is_honest_in honest) always_in (λ d. d.failures) n command
+changes_of held honest n command = AsksChange (flash_in held) told_in (is_honest_in honest) always_in (λ d. d.failures) n command
 
 -- a sector to be cleared
 abbrev pub clears_of : {S : Type 0} → (S → Held) → (honest : S → Bool) → (n : ℕ) → Device (DriverState (FileState S)) → Result (Unit {0}) DiskFault → Device (DriverState (FileState S)) → Type 0
-clears_of held honest n = AsksClear (flash_in held) (λ d. None) (is_honest_in honest) always_in (λ d. d.programs) (λ d. d.erases) (λ d. d.failures) n
+clears_of held honest n = AsksClear (flash_in held) told_in (is_honest_in honest) always_in (λ d. d.programs) (λ d. d.erases) (λ d. d.failures) n
+
+-- ONE CHANGE OF THE DEVICE THAT IS THERE, of any sector, and what it comes to
+abbrev pub changes_in : {S : Type 0} → (S → Held) → (honest full : S → Bool) → (failed : S → ℕ) → (old new : Reopened S) → Type 0
+changes_in held honest full failed old new = (n : ℕ) × (result : Result (Unit {0}) DiskFault)
+    × (((command : Command) × AsksDevice held honest full failed (changes_of held honest n command) fault.NoSpace old result new) ⊎ AsksDevice held honest full failed (clears_of held honest n) fault.NoSpace old result new)
 
 -- a rest
 abbrev pub rests_of : {S : Type 0} → (S → Held) → (honest : S → Bool) → Device (DriverState (FileState S)) → Result (Unit {0}) DiskFault → Device (DriverState (FileState S)) → Type 0
-rests_of held honest = AsksTurn (flash_in held) (λ d. None) (is_honest_in honest) always_in (λ d. d.erases) (λ d. d.failures)
+rests_of held honest = AsksTurn (flash_in held) told_in (is_honest_in honest) always_in (λ d. d.erases) (λ d. d.failures)
 
 -- a read: its die is asked for reads, and programs and erases nothing
 abbrev pub reads_of : {S : Type 0} → (S → Held) → (honest : S → Bool) → Device (DriverState (FileState S)) → Device (DriverState (FileState S)) → Type 0
@@ -185,7 +190,7 @@ reads_of held honest old new = OnlyReads (flash_in held) (is_honest_in honest) a
 
 -- a flush
 abbrev pub flushes_of : {S : Type 0} → (S → Held) → (honest : S → Bool) → Device (DriverState (FileState S)) → Result (Unit {0}) DiskFault → Device (DriverState (FileState S)) → Type 0
-flushes_of held honest = AsksFlush (flash_in held) (λ d. None) (is_honest_in honest) always_in (λ d. d.failures)
+flushes_of held honest = AsksFlush (flash_in held) told_in (is_honest_in honest) always_in (λ d. d.failures)
 
 -- ---- laws. They are of any call of the device
 

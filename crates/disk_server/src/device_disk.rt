@@ -83,7 +83,7 @@ impl<N: Nand> Sectors for DeviceDisk<N> {
     ghost use Rattle.ftl_device.specs.Calls.{stop_of};
     ghost use Rattle.nbd_stream.specs.Disk.{Idles, PerformsTask, answer_from};
     ghost use Rattle.disk_server.specs.Asked.{SparesZeros};
-    ghost use Rattle.disk_server.specs.Disk.{contents_of, holds, takes_changes, AsksChange, AsksClear, AsksFlush, AsksTurn, KeepsOnError};
+    ghost use Rattle.disk_server.specs.Disk.{contents_of, holds, takes_changes, AsksChange, AsksClear, AsksFlush, AsksTurn, ChangesOne, KeepsOnError};
 
     ghost contents = { contents_of N.flash N.honest };
 
@@ -102,6 +102,9 @@ impl<N: Nand> Sectors for DeviceDisk<N> {
     ghost count = { λ d. d.engine.geometry.sectors };
 
     ghost next = { λ d. d.engine.next };
+
+    // A change is one of the device, or a read and then one.
+    ghost changes = { ChangesOne N.flash N.recorded N.honest N.calm N.programs N.erases N.failed };
 
     // A flush is one of the device.
     ghost flushes = { AsksFlush N.flash N.recorded N.honest N.calm N.failed };
@@ -150,6 +153,7 @@ impl<N: Nand> Sectors for DeviceDisk<N> {
 
         // Whatever the die does.
         ensures asked { AsksChange N.flash N.recorded N.honest N.calm N.failed sector (Write sector bytes.now) self.old result self.new }
+        ensures changes { ChangesOne N.flash N.recorded N.honest N.calm N.programs N.erases N.failed self.old self.new }
     {
         change_answer(self.device.write(sector as u32, bytes))
     }
@@ -169,6 +173,7 @@ impl<N: Nand> Sectors for DeviceDisk<N> {
 
         // Whatever the die does.
         ensures asked { AsksChange N.flash N.recorded N.honest N.calm N.failed sector (Trim sector) self.old result self.new }
+        ensures changes { ChangesOne N.flash N.recorded N.honest N.calm N.programs N.erases N.failed self.old self.new }
     {
         change_answer(self.device.trim(sector as u32))
     }
@@ -190,6 +195,7 @@ impl<N: Nand> Sectors for DeviceDisk<N> {
 
         // Whatever the die does.
         ensures asked { AsksClear N.flash N.recorded N.honest N.calm N.programs N.erases N.failed sector self.old result self.new }
+        ensures changes { ChangesOne N.flash N.recorded N.honest N.calm N.programs N.erases N.failed self.old self.new }
     {
         let _count = self.sector_count();
         match self.read_sector(sector, buffer) {

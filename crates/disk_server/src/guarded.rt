@@ -124,7 +124,7 @@ impl<S: Lasting, K: KeepsLost> Sectors for GuardedSectors<S, K> {
     ghost use Rattle.page_layout.specs.Counter.{HasRisen};
     ghost use Rattle.nbd_stream.specs.Disk.{Idles, PerformsTask, answer_from};
     ghost use Rattle.disk_server.specs.Asked.{SparesZeros};
-    ghost use Rattle.disk_server.specs.Guarded.{HealsIfListed, IsRefusedUnasked, KeepsList, KeepsOrFails, PassesOn, ReadsGuarded, is_listed, shown};
+    ghost use Rattle.disk_server.specs.Guarded.{ChangesGuarded, HealsIfListed, IsRefusedUnasked, KeepsList, KeepsOrFails, PassesOn, ReadsGuarded, is_listed, shown};
 
     ghost contents = { shown S.contents S.size };
 
@@ -137,6 +137,9 @@ impl<S: Lasting, K: KeepsLost> Sectors for GuardedSectors<S, K> {
 
     /// A read of the device, or nothing.
     ghost reads = { ReadsGuarded S.reads };
+
+    /// A change of the device, or nothing.
+    ghost changes = { ChangesGuarded S.changes };
 
     /// A flush of the device, and nothing else.
     ghost flushes = { PassesOn S.flushes };
@@ -186,6 +189,7 @@ impl<S: Lasting, K: KeepsLost> Sectors for GuardedSectors<S, K> {
         ensures count { S.count self.new.sectors ≡ S.count self.old.sectors }
         ensures performs { PerformsTask (shown S.contents S.size) (λ d. S.honest d.sectors) (λ _. false)
             (Task.Write (sector * S.size self.old.sectors) (S.size self.old.sectors) false) bytes.now self.old (answer_from result []) self.new }
+        ensures changes { ChangesGuarded S.changes self.old self.new }
         ensures heals { OnOk result (HealsIfListed K.kept sector self.old self.new) }
         ensures kept { OnErr result (KeepsOrFails K.failed self.old self.new) }
         ensures over { self.old.failed ≡ true → IsRefusedUnasked self.old result self.new }
@@ -216,6 +220,7 @@ impl<S: Lasting, K: KeepsLost> Sectors for GuardedSectors<S, K> {
         ensures count { S.count self.new.sectors ≡ S.count self.old.sectors }
         ensures performs { PerformsTask (shown S.contents S.size) (λ d. S.honest d.sectors) (λ _. false)
             (Task.Trim (sector * S.size self.old.sectors) (S.size self.old.sectors) false) [] self.old (answer_from result []) self.new }
+        ensures changes { ChangesGuarded S.changes self.old self.new }
         ensures heals { OnOk result (HealsIfListed K.kept sector self.old self.new) }
         ensures kept { OnErr result (KeepsOrFails K.failed self.old self.new) }
         ensures over { self.old.failed ≡ true → IsRefusedUnasked self.old result self.new }
@@ -248,6 +253,7 @@ impl<S: Lasting, K: KeepsLost> Sectors for GuardedSectors<S, K> {
         ensures performs { PerformsTask (shown S.contents S.size) (λ d. S.honest d.sectors) (λ _. false)
             (Task.Trim (sector * S.size self.old.sectors) (S.size self.old.sectors) false) [] self.old (answer_from result []) self.new }
         ensures spares { SparesZeros (shown S.contents S.size) (λ d. S.honest d.sectors) (ReadsGuarded S.reads) (sector * S.size self.old.sectors) (S.size self.old.sectors) self.old self.new }
+        ensures changes { ChangesGuarded S.changes self.old self.new }
         ensures heals { OnOk result (HealsIfListed K.kept sector self.old self.new) }
         ensures kept { OnErr result (KeepsOrFails K.failed self.old self.new) }
         ensures over { self.old.failed ≡ true → IsRefusedUnasked self.old result self.new }

@@ -2,7 +2,8 @@
 ghost use Rattle.std.specs.Prelude.{◌≡◌, ◌<◌, ◌≤◌, ◌+◌, ◌%◌, ◌==◌, false, [], length};
 ghost use Rattle.std.specs.List.{list_all};
 ghost use Rattle.nbd_stream.specs.Disk.{PerformsTask, answer_from};
-ghost use Rattle.disk_server.specs.Asked.{SparesZeros};
+ghost use Rattle.nbd_stream.specs.Through.{Through};
+ghost use Rattle.disk_server.specs.Asked.{AsksCall, SparesZeros};
 
 use crate::sectors::Sectors;
 use nbd_stream::{DiskFault, Task};
@@ -63,6 +64,7 @@ pub(crate) fn write_piece<S: Sectors>(
     requires within { offset + length bytes.now ≤ length (S.contents sectors.old).bytes }
     ensures size { S.size sectors.new ≡ S.size sectors.old }
     ensures performs { PerformsTask S.contents S.honest S.calm (Task.Write offset (length bytes.now) false) bytes.now sectors.old (answer_from result []) sectors.new }
+    ensures asks { Through (AsksCall S.reads S.changes S.flushes) sectors.old sectors.new }
 {
     let size = sectors.sector_bytes();
     let count = sectors.sector_count();
@@ -102,6 +104,7 @@ pub(crate) fn clear_piece<S: Sectors>(
     ensures size { S.size sectors.new ≡ S.size sectors.old }
     ensures performs { PerformsTask S.contents S.honest S.calm (Task.Trim offset taken false) [] sectors.old (answer_from result []) sectors.new }
     ensures spares { SparesZeros S.contents S.honest S.reads offset taken sectors.old sectors.new }
+    ensures asks { Through (AsksCall S.reads S.changes S.flushes) sectors.old sectors.new }
 {
     let size = sectors.sector_bytes();
     let count = sectors.sector_count();

@@ -170,7 +170,7 @@ impl<S: Store + TellsFull + Drop> Sectors for ReopenedDevice<S> {
     ghost use Rattle.nbd_stream.specs.declared.fault.DiskFault.TheVariants as fault;
     ghost use Rattle.nbd_stream.specs.Disk.{PerformsTask, answer_from};
     ghost use Rattle.disk_server.specs.Asked.{SparesZeros};
-    ghost use Rattle.disk_server.specs.Reopened.{AsksDevice, ReadsDevice, ReopenedGivesSector, changes_of, clears_of, contents_in, flushes_of, holds_in, next_in, reads_of, rests_of, takes_in};
+    ghost use Rattle.disk_server.specs.Reopened.{AsksDevice, ReadsDevice, ReopenedGivesSector, changes_in, changes_of, clears_of, contents_in, flushes_of, holds_in, next_in, reads_of, rests_of, takes_in};
 
     ghost contents = { contents_in S.held S.honest };
 
@@ -183,6 +183,9 @@ impl<S: Store + TellsFull + Drop> Sectors for ReopenedDevice<S> {
 
     /// A read of the device that is there.
     ghost reads = { ReadsDevice (reads_of S.held S.honest) };
+
+    /// A change of the device that is there, and what it comes to.
+    ghost changes = { changes_in S.held S.honest S.full S.failed };
 
     /// A flush of the device that is there, and what it comes to.
     ghost flushes = { AsksDevice S.held S.honest S.full S.failed (flushes_of S.held S.honest) fault.Failed };
@@ -230,6 +233,7 @@ impl<S: Store + TellsFull + Drop> Sectors for ReopenedDevice<S> {
         ensures count { self.new.count ≡ self.old.count }
         ensures performs { PerformsTask (contents_in S.held S.honest) (holds_in S.honest) (λ _. false) (Task.Write (sector * self.old.size) self.old.size false) bytes.now self.old (answer_from result []) self.new }
         ensures asked { AsksDevice S.held S.honest S.full S.failed (changes_of S.held S.honest sector (Write sector bytes.now)) fault.NoSpace self.old result self.new }
+        ensures changes { changes_in S.held S.honest S.full S.failed self.old self.new }
     {
         let Some(mut device) = self.device.take() else {
             return Err(DiskFault::Failed);
@@ -250,6 +254,7 @@ impl<S: Store + TellsFull + Drop> Sectors for ReopenedDevice<S> {
         ensures count { self.new.count ≡ self.old.count }
         ensures performs { PerformsTask (contents_in S.held S.honest) (holds_in S.honest) (λ _. false) (Task.Trim (sector * self.old.size) self.old.size false) [] self.old (answer_from result []) self.new }
         ensures asked { AsksDevice S.held S.honest S.full S.failed (changes_of S.held S.honest sector (Trim sector)) fault.NoSpace self.old result self.new }
+        ensures changes { changes_in S.held S.honest S.full S.failed self.old self.new }
     {
         let Some(mut device) = self.device.take() else {
             return Err(DiskFault::Failed);
@@ -272,6 +277,7 @@ impl<S: Store + TellsFull + Drop> Sectors for ReopenedDevice<S> {
         ensures performs { PerformsTask (contents_in S.held S.honest) (holds_in S.honest) (λ _. false) (Task.Trim (sector * self.old.size) self.old.size false) [] self.old (answer_from result []) self.new }
         ensures spares { SparesZeros (contents_in S.held S.honest) (holds_in S.honest) (ReadsDevice (reads_of S.held S.honest)) (sector * self.old.size) self.old.size self.old self.new }
         ensures asked { AsksDevice S.held S.honest S.full S.failed (clears_of S.held S.honest sector) fault.NoSpace self.old result self.new }
+        ensures changes { changes_in S.held S.honest S.full S.failed self.old self.new }
     {
         let Some(mut device) = self.device.take() else {
             return Err(DiskFault::Failed);

@@ -72,8 +72,8 @@ impl<S: Sectors> Disk for SectorDisk<S> {
 
     ghost calm = { S.calm };
 
-    // A read asks reads of sectors, a flush one flush; and nothing is asked of a sector that is to be cleared and reads as zeros.
-    ghost does = { AsksSectors S.contents S.honest S.reads S.flushes };
+    // A task asks calls of sectors: a read reads of them, a flush one flush; and no change is asked of a sector that is to be cleared and reads as zeros.
+    ghost does = { AsksSectors S.contents S.honest S.reads S.changes S.flushes };
 
     ghost rests = { S.rests };
 

@@ -52,7 +52,7 @@ pub fn serve_synced<S: Lasting, Y: Syncs, R: Incoming, W: Outgoing>(
 ) -> Result<StreamEnd, ServeFault>
     requires room { offer.maximum ≤ length buffer.old }
     ensures serves { Serves (λ s. S.contents s.disk) (λ s. S.honest s.disk) (λ _. false)
-        (SyncsTask (AsksSectors S.contents S.honest S.reads S.flushes) Y.synced Y.failed Y.marked S.next) (RestsSynced S.rests)
+        (SyncsTask (AsksSectors S.contents S.honest S.reads S.changes S.flushes) Y.synced Y.failed Y.marked S.next) (RestsSynced S.rests)
         (export_of offer (length (S.contents disk.old.disk).bytes)) (length buffer.new) disk.old disk.new (R.remaining reader.old) (R.remaining reader.new)
         (W.contents writer.old) (W.contents writer.new) result }
     ensures stops { IfErr result (HasStopped R.fails W.fails (R.remaining reader.old) (R.remaining reader.new) reader.new writer.new) }

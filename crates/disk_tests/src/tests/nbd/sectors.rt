@@ -45,6 +45,8 @@ impl Sectors for CachedSectors {
 
     ghost reads = { λ old new. Unit {0} };
 
+    ghost changes = { λ old new. Unit {0} };
+
     ghost flushes = { λ old result new. new.bytes ≡ old.bytes };
 
     ghost size = { λ device. 4 };
