@@ -62,7 +62,7 @@ module _ {N : Type 0} (flash : N → Flash) (recorded : N → Option Recording) 
   -- ---- the record
 
   pub run_records : RunRecordsLaw flash recorded honest failed erases
-  run_records old new [] [] same = inr (none_more (recorded new.engine.nand) (recorded old.engine.nand) (ap (λ (d : Device N). recorded d.engine.nand) same))
+  run_records old new [] [] same = none_more (recorded new.engine.nand) (recorded old.engine.nand) (ap (λ (d : Device N). recorded d.engine.nand) same)
   run_records old new [] (x ∷ xs) never = absurd never
   run_records old new (event ∷ events) [] never = absurd never
   run_records old new (event ∷ events) (x ∷ xs) (mid, is, each) =
