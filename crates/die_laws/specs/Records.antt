@@ -1,8 +1,8 @@
 -- What a driver tells of its programs and erases, beside what its bus tells.
 use Rattle.std.specs.Prelude.{◌≡◌, ◌⊎◌, [], ◌∷◌, Option, Some, None}
-use Rattle.page_layout.specs.Flash.{Operation}
-use Rattle.page_layout.specs.Recording.{Recording, RecordsOrEnds}
-use Rattle.onfi_cycles.specs.Driver.{gained}
+use Rattle.page_layout.specs.Flash.{Flash, Operation}
+use Rattle.page_layout.specs.Recording.{Recording, RecordsOrEnds, IsRecordOf}
+use Rattle.onfi_cycles.specs.Driver.{gained, untouched}
 
 -- A DRIVER TELLS A RECORD at each moment, which is its own
 abbrev pub AlwaysTellsLaw : {Outer : Type 0} → (tells : Outer → Option Recording) → (told : Outer → Recording) → Type 0
@@ -15,3 +15,7 @@ Agrees own behind = (behind ≡ None) ⊎ (behind ≡ Some own)
 -- and so it stays after each operation that both gain
 abbrev pub AgreeingLaw : Type 0
 AgreeingLaw = (own : Recording) (behind behind' : Option Recording) (op : Operation) → Agrees own behind → RecordsOrEnds behind (op ∷ []) behind' → Agrees (gained op own) behind'
+
+-- the record of a die to which nothing was done yet tells of it
+abbrev pub UntouchedLaw : Type 0
+UntouchedLaw = (s : Flash) → IsRecordOf s (Some (untouched s))

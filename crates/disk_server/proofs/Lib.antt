@@ -21,3 +21,4 @@ pub mod GuardedLemmas
 pub mod ClearLemmas
 pub mod SyncedLemmas
 pub mod ReopenedLemmas
+pub mod ChangeLemmas

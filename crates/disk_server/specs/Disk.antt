@@ -110,7 +110,7 @@ pub record AsksClear {N : Type 0} (flash : N → Flash) (recorded : N → Option
       ⊎ (((answer ≡ Ok tt → given ≢ replicate old.engine.geometry.data_bytes 0) × AsksChange flash recorded honest calm failed n (step.Trim n) mid result new))
 
 -- ONE CHANGE OF A SECTOR, of any sector and with any answer: it is set, or cleared
-abbrev pub ChangesOne : {N : Type 0} → (flash : N → Flash) → (recorded : N → Option Recording) → (honest calm : N → Bool) → (programs erases failed : N → ℕ) → (old new : Device N) → Type 0
+unfoldable pub ChangesOne : {N : Type 0} → (flash : N → Flash) → (recorded : N → Option Recording) → (honest calm : N → Bool) → (programs erases failed : N → ℕ) → (old new : Device N) → Type 0
 ChangesOne flash recorded honest calm programs erases failed old new = (n : ℕ) × (result : Result (Unit {0}) DiskFault)
     × (((command : Command) × AsksChange flash recorded honest calm failed n command old result new) ⊎ AsksClear flash recorded honest calm programs erases failed n old result new)
 

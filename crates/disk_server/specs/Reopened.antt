@@ -176,7 +176,7 @@ abbrev pub clears_of : {S : Type 0} → (S → Held) → (honest : S → Bool) �
 clears_of held honest n = AsksClear (flash_in held) told_in (is_honest_in honest) always_in (λ d. d.programs) (λ d. d.erases) (λ d. d.failures) n
 
 -- ONE CHANGE OF THE DEVICE THAT IS THERE, of any sector, and what it comes to
-abbrev pub changes_in : {S : Type 0} → (S → Held) → (honest full : S → Bool) → (failed : S → ℕ) → (old new : Reopened S) → Type 0
+unfoldable pub changes_in : {S : Type 0} → (S → Held) → (honest full : S → Bool) → (failed : S → ℕ) → (old new : Reopened S) → Type 0
 changes_in held honest full failed old new = (n : ℕ) × (result : Result (Unit {0}) DiskFault)
     × (((command : Command) × AsksDevice held honest full failed (changes_of held honest n command) fault.NoSpace old result new) ⊎ AsksDevice held honest full failed (clears_of held honest n) fault.NoSpace old result new)
 

@@ -1,5 +1,8 @@
-use Rattle.die_laws.proofs.RecordLemmas.{agreeing}
+use Rattle.die_laws.proofs.RecordLemmas.{agreeing, untouched_law}
 use Rattle.die_laws.proofs.record_laws.Goals as goal
 
 pub returns-clause-agreeing : goal.returns-clause-agreeing
 returns-clause-agreeing g c = agreeing
+
+pub returns-clause-untouched : goal.returns-clause-untouched
+returns-clause-untouched g c = untouched_law

@@ -1,6 +1,7 @@
-use Rattle.std.proofs.Common.{◌*◌, ◌∙◌, ap, false, inl, inr, refl, replicate, sym}
+use Rattle.std.proofs.Common.{◌*◌, ◌∙◌, Ok, ap, false, inl, inr, refl, replicate, sym}
 use Rattle.disk_server.specs.Disk.{contents_of, holds}
 use Rattle.disk_server.proofs.Bytes.{sector_fits}
+use Rattle.disk_server.proofs.ChangeLemmas.{clears_one}
 use Rattle.disk_server.proofs.ClearLemmas.{all_zeros, no_zeros, not_done, trimmed, was_done, zeros_cleared, zeros_read}
 use Rattle.disk_server.proofs.device_disk.DeviceDiskSectors.clear_sector.Goals as goal
 
@@ -63,3 +64,18 @@ returns-in-Err-clause-asked g c = record {
   only_reads = c.read_sector.ensures.reads;
   trims = inr ((λ done. absurd (not_done c.read_sector.result _ c.in-Err.is done)), c.trim_sector-in-Err.ensures.asked);
 }
+
+pub returns-then-are_zeros-clause-changes : goal.returns-then-are_zeros-clause-changes
+returns-then-are_zeros-clause-changes g c =
+    let n = g.N.PageSource in
+    clears_one n.flash n.recorded n.honest n.calm n.programs n.erases n.failed c.args.self.now c.read_sector.new.self c.args.sector (Ok tt) (returns-then-are_zeros-clause-asked g c)
+
+pub returns-else-are_zeros-clause-changes : goal.returns-else-are_zeros-clause-changes
+returns-else-are_zeros-clause-changes g c =
+    let n = g.N.PageSource in
+    clears_one n.flash n.recorded n.honest n.calm n.programs n.erases n.failed c.args.self.now c.trim_sector.new.self c.args.sector c.trim_sector.result (returns-else-are_zeros-clause-asked g c)
+
+pub returns-in-Err-clause-changes : goal.returns-in-Err-clause-changes
+returns-in-Err-clause-changes g c =
+    let n = g.N.PageSource in
+    clears_one n.flash n.recorded n.honest n.calm n.programs n.erases n.failed c.args.self.now c.trim_sector-in-Err.new.self c.args.sector c.trim_sector-in-Err.result (returns-in-Err-clause-asked g c)

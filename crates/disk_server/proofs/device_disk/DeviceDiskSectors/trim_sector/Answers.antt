@@ -4,6 +4,7 @@ use Rattle.nbd_stream.specs.declared.task.Task.TheVariants as task
 use Rattle.page_layout.specs.Array.{zeros}
 use Rattle.promises.specs.Step.{Trim}
 use Rattle.disk_server.specs.Disk.{KeepsOnError, contents_of, holds, change_answer}
+use Rattle.disk_server.proofs.ChangeLemmas.{sets_one}
 use Rattle.disk_server.proofs.Calls.{changed_disk, trim_keeps, trim_performs}
 use Rattle.disk_server.proofs.device_disk.DeviceDiskSectors.trim_sector.Goals as goal
 
@@ -36,3 +37,9 @@ returns-clause-whole g c =
     c.args.sector c.self.inside.device c.trim.new.self c.trim.result c.self.invariant within c.trim.ensures.changes in
     subst (λ r. KeepsOnError g.N.PageSource.flash g.N.PageSource.honest c.args.self.now r c.trim.new.self) (sym c.change_answer.ensures)
     (subst (λ d. KeepsOnError g.N.PageSource.flash g.N.PageSource.honest d (change_answer c.trim.result) c.trim.new.self) c.self.view_is here)
+
+pub returns-clause-changes : goal.returns-clause-changes
+returns-clause-changes g c =
+    let n = g.N.PageSource in
+    rw (← c.self.view_is) (sets_one n.flash n.recorded n.honest n.calm n.programs n.erases n.failed c.self.inside.device c.trim.new.self c.args.sector c.change_answer.result (Trim c.args.sector)
+    (record { answer = c.trim.result; told = c.change_answer.ensures; changes = c.trim.ensures.changes }))

@@ -3,6 +3,7 @@ use Rattle.nbd_stream.specs.Disk.{PerformsTask, answer_from}
 use Rattle.nbd_stream.specs.declared.task.Task.TheVariants as task
 use Rattle.promises.specs.Step.{Write}
 use Rattle.disk_server.specs.Disk.{KeepsOnError, contents_of, holds, change_answer}
+use Rattle.disk_server.proofs.ChangeLemmas.{sets_one}
 use Rattle.disk_server.proofs.Calls.{changed_disk, write_keeps, write_performs}
 use Rattle.disk_server.proofs.device_disk.DeviceDiskSectors.write_sector.Goals as goal
 
@@ -37,3 +38,9 @@ returns-clause-whole g c =
     c.args.sector c.args.bytes.now c.self.inside.device c.write.new.self c.write.result c.self.invariant within whole c.write.ensures.changes in
     subst (λ r. KeepsOnError g.N.PageSource.flash g.N.PageSource.honest c.args.self.now r c.write.new.self) (sym c.change_answer.ensures)
     (subst (λ d. KeepsOnError g.N.PageSource.flash g.N.PageSource.honest d (change_answer c.write.result) c.write.new.self) c.self.view_is here)
+
+pub returns-clause-changes : goal.returns-clause-changes
+returns-clause-changes g c =
+    let n = g.N.PageSource in
+    rw (← c.self.view_is) (sets_one n.flash n.recorded n.honest n.calm n.programs n.erases n.failed c.self.inside.device c.write.new.self c.args.sector c.change_answer.result (Write c.args.sector c.args.bytes.now)
+    (record { answer = c.write.result; told = c.change_answer.ensures; changes = c.write.ensures.changes }))

@@ -4,6 +4,7 @@ use Rattle.nbd_stream.specs.declared.task.Task.TheVariants.{Trim}
 use Rattle.nbd_stream.specs.Disk.{PerformsTask, answer_from}
 use Rattle.disk_server.specs.Asked.{SparesZeros}
 use Rattle.disk_server.specs.Reopened.{reads_of}
+use Rattle.disk_server.proofs.ChangeLemmas.{clears_in}
 use Rattle.disk_server.proofs.ReopenedLemmas.{at, going, long_before, performs, settled_terms, spared}
 use Rattle.disk_server.proofs.reopened.ReopenedDeviceSectors.clear_sector.Goals as goal
 
@@ -34,3 +35,7 @@ returns-clause-size g c = rw (← c.self.view_is) (ap (λ t. t.size) (settled_te
 
 pub returns-clause-count : goal.returns-clause-count
 returns-clause-count g c = rw (← c.self.view_is) (ap (λ t. t.count) (settled_terms g.S.Store.held g.S.Store.honest g.S.TellsFull.full g.S.Store.failed _ _ _ _ _ c.clear_sector-answer.result c.settle.result c.settle.new.self c.settle.ensures))
+
+pub returns-clause-changes : goal.returns-clause-changes
+returns-clause-changes g c =
+    clears_in g.S.Store.held g.S.Store.honest g.S.TellsFull.full g.S.Store.failed c.args.self.now c.settle.new.self c.args.sector c.settle.result (returns-clause-asked g c)

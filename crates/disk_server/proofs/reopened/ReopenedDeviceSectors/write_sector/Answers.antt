@@ -1,7 +1,9 @@
 use Rattle.std.proofs.Common.{◌*◌, [], false, inl, inr, refl, subst, sym}
+use Rattle.promises.specs.Step as step
 use Rattle.nbd_stream.specs.declared.fault.DiskFault.TheVariants as fault
 use Rattle.nbd_stream.specs.declared.task.Task.TheVariants.{Write}
 use Rattle.nbd_stream.specs.Disk.{PerformsTask, answer_from}
+use Rattle.disk_server.proofs.ChangeLemmas.{sets_in}
 use Rattle.disk_server.proofs.ReopenedLemmas.{at, going, long_before, performs}
 use Rattle.disk_server.proofs.reopened.ReopenedDeviceSectors.write_sector.Goals as goal
 
@@ -18,3 +20,7 @@ pub returns-clause-asked : goal.returns-clause-asked
 returns-clause-asked g c =
     let was = sym c.in-Some.ensures.value in
     rw (← c.self.view_is) (inr (record { device = c.in-Some.device; was = was; left = c.write_sector-answer.new.self; answer = c.write_sector-answer.result; asked = c.write_sector-answer.ensures.asked; settles = c.settle.ensures }))
+
+pub returns-clause-changes : goal.returns-clause-changes
+returns-clause-changes g c =
+    sets_in g.S.Store.held g.S.Store.honest g.S.TellsFull.full g.S.Store.failed c.args.self.now c.settle.new.self c.args.sector c.settle.result (step.Write c.args.sector c.args.bytes.now) (returns-clause-asked g c)
