@@ -1,11 +1,13 @@
 -- One change of a sector, by what its calls say of it; and calls of sectors one after another.
-use Rattle.std.proofs.Common.{inl, inr, ℕ, Bool, Option, Result, ◌⊎◌}
+use Rattle.std.proofs.Common.{inl, inr, ℕ, Bool, true, false, [], Option, Result, Ok, rules}
 use Rattle.page_layout.specs.Flash.{Flash}
 use Rattle.page_layout.specs.Recording.{Recording}
 use Rattle.promises.specs.Step.{Command}
 use Rattle.file_die.specs.Store.{Held}
 use Rattle.nbd_stream.specs.declared.fault.DiskFault.{DiskFault}
 use Rattle.nbd_stream.specs.declared.fault.DiskFault.TheVariants as fault
+use Rattle.nbd_stream.specs.declared.task.Task.TheVariants.{Flush, Trim}
+use Rattle.nbd_stream.specs.Disk.{Contents, PerformsTask, answer_from}
 use Rattle.nbd_stream.specs.Through.{Through}
 use Rattle.nbd_stream.proofs.ThroughLemmas.{joined, once}
 use Rattle.ftl_device.specs.declared.device.Device.{Device}
@@ -37,14 +39,17 @@ module _ {S : Type 0} (reads changes : S → S → Type 0) (flushes : S → Resu
 
   -- a read of a sector
   pub a_read : reads old new → Calls old new
+  unfolding AsksCall
   a_read is = once (AsksCall reads changes flushes) old new (inl is)
 
   -- a change of one
   pub a_change : changes old new → Calls old new
+  unfolding AsksCall
   a_change is = once (AsksCall reads changes flushes) old new (inr (inl is))
 
   -- a read, and then a change
   pub read_then_change : reads old mid → changes mid new → Calls old new
+  unfolding AsksCall
   read_then_change first next = joined (AsksCall reads changes flushes) old mid new (once (AsksCall reads changes flushes) old mid (inl first)) (once (AsksCall reads changes flushes) mid new (inr (inl next)))
 
   -- calls, and then more
@@ -53,4 +58,11 @@ module _ {S : Type 0} (reads changes : S → S → Type 0) (flushes : S → Resu
 
   -- calls, and then a flush
   pub calls_then_flush : (result : Result (Unit {0}) DiskFault) → Calls old mid → flushes mid result new → Calls old new
+  unfolding AsksCall
   calls_then_flush result first next = joined (AsksCall reads changes flushes) old mid new first (once (AsksCall reads changes flushes) mid new (inr (inr (result, next))))
+
+-- a range that was cleared, and is then flushed, lasts
+pub cleared_lasts : {S : Type 0} (contents : S → Contents) (honest calm : S → Bool) (offset count : ℕ) (old mid new : S) (result : Result (Unit {0}) DiskFault)
+    → PerformsTask contents honest calm (Trim offset count false) [] old (Ok []) mid → PerformsTask contents honest calm Flush [] mid (answer_from result []) new
+    → PerformsTask contents honest calm (Trim offset count true) [] old (answer_from result []) new
+cleared_lasts contents honest calm offset count old mid new result first last = search rules

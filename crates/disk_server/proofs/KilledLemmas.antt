@@ -1,10 +1,10 @@
 -- What is found of a disk where its server is killed inside a call.
-use Rattle.std.proofs.Common.{◌≡◌, ◌≢◌, inl, inr, ℕ, Bool, true, List, [], Option, Some, Result, Ok, Err, refl, sym, ap, ◌∙◌, subst}
-use Rattle.std.specs.Prelude.{IsSome, IfErr, ◌⊎◌}
+use Rattle.std.proofs.Common.{◌≡◌, ◌≢◌, inl, inr, ℕ, Bool, true, [], Option, Some, Result, Ok, Err, refl, sym, ap, ◌∙◌, subst}
+use Rattle.std.specs.Prelude.{◌⊎◌}
 use Rattle.page_layout.specs.declared.geometry.Geometry.{Geometry}
 use Rattle.page_layout.specs.Page.{Image}
 use Rattle.page_layout.specs.Array.{array_of}
-use Rattle.page_layout.specs.Flash.{Flash, Operation}
+use Rattle.page_layout.specs.Flash.{Flash}
 use Rattle.page_layout.specs.Recording.{Recording}
 use Rattle.page_layout.proofs.FlashLemmas.{geometry-Leads}
 use Rattle.promises.specs.Step.{Command, Flush, Turn}
@@ -18,7 +18,7 @@ use Rattle.ftl_device.specs.declared.device.Device.{Device}
 use Rattle.ftl_device.specs.declared.fault.DeviceFault.{DeviceFault}
 use Rattle.ftl_device.specs.declared.fault.DeviceFault.TheVariants.{BusFault}
 use Rattle.ftl_device.specs.Changes.{Logs, Refuses}
-use Rattle.ftl_device.specs.Stopped.{HoldsEither, Survives, changes_sector}
+use Rattle.ftl_device.specs.Stopped.{Survives, changes_sector}
 use Rattle.disk_server.specs.Flat.{flat}
 use Rattle.disk_server.specs.Disk.{contents_of, change_answer}
 use Rattle.disk_server.specs.Killed.{AreFoundIn, IsCall, MountsFor, bytes_found, KilledChangeLaw, KilledFlushLaw, KilledTurnLaw, FoundAsItWasLaw, StoreTellsLaw}

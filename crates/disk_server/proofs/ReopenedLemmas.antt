@@ -1,5 +1,5 @@
 -- What a call of a device comes to that is opened anew where its store was full.
-use Rattle.std.proofs.Common.{◌≡◌, ◌*◌, ◌&&◌, inl, inr, ℕ, Bool, true, false, List, [], Option, Some, None, Result, Ok, Err, length, replicate, refl, sym, ap, ◌∙◌, subst}
+use Rattle.std.proofs.Common.{◌≡◌, ◌*◌, ◌&&◌, inl, inr, ℕ, Bool, true, false, List, [], Option, Some, None, Result, Ok, Err, length, refl, sym, ap, ◌∙◌, subst}
 use Rattle.std.specs.Prelude.{not, OnOk, slice_index}
 use Rattle.std.proofs.lemmas.List.{length-replicate}
 use Rattle.onfi_cycles.specs.Driver.{DriverState}

@@ -15,7 +15,7 @@ abbrev pub SparesZeros : {S : Type 0} → (S → Contents) → (honest : S → B
 SparesZeros contents honest only_reads offset count old new = honest new ≡ true → HasZeros offset count (contents old).bytes → only_reads old new
 
 -- ONE CALL OF A DEVICE OF SECTORS for a task that sets bytes: a read of a sector, a change of one, or a flush
-abbrev pub AsksCall : {S : Type 0} → (reads changes : S → S → Type 0) → (flushes : S → Result (Unit {0}) DiskFault → S → Type 0) → (old new : S) → Type 0
+unfoldable pub AsksCall : {S : Type 0} → (reads changes : S → S → Type 0) → (flushes : S → Result (Unit {0}) DiskFault → S → Type 0) → (old new : S) → Type 0
 AsksCall reads changes flushes old new = reads old new ⊎ changes old new ⊎ ((result : Result (Unit {0}) DiskFault) × flushes old result new)
 
 -- a range is cleared by such calls, and only reads are asked where it has zeros and they need not last

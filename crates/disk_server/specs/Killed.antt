@@ -1,6 +1,5 @@
 -- WHAT IS FOUND OF A DISK where its server is killed, or its die stopped, inside a call of its device.
 use Rattle.std.specs.Prelude.{◌≡◌, ◌⊎◌, ◌+◌, ◌≤◌, ℕ, List, Option, Some, IsSome, Result, Ok, Bool, true}
-use Rattle.page_layout.specs.declared.geometry.Geometry.{Geometry}
 use Rattle.page_layout.specs.Page.{Image}
 use Rattle.page_layout.specs.Array.{array_of}
 use Rattle.page_layout.specs.Flash.{Flash, Operation}
@@ -15,7 +14,7 @@ use Rattle.nbd_stream.specs.declared.fault.DiskFault.{DiskFault}
 use Rattle.ftl_device.specs.declared.device.Device.{Device}
 use Rattle.disk_server.specs.Flat.{flat}
 use Rattle.disk_server.specs.Disk.{AsksChange, AsksFlush, AsksTurn, IsDisk, contents_of, holds}
-use Rattle.disk_server.specs.Opened.{flash_in, is_honest_in}
+use Rattle.disk_server.specs.Opened.{flash_in}
 
 -- THE PAGES AT SOME MOMENT OF A CALL, by the operations that the record of its die gained in it: those from before it, cut short before one of these, in one, or after the last
 pub record AreFoundIn {N : Type 0} (flash : N → Flash) (recorded : N → Option Recording) (old new : Device N) (found : Image) : Type 0 where

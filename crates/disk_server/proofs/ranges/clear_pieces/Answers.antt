@@ -1,14 +1,22 @@
 use Rattle.std.proofs.Common.{◌≡◌, ◌≤◌, ◌+◌, ◌∙◌, ℕ, Err, false, length, refl, rules, arith}
 use Rattle.nbd_stream.specs.Disk.{error_for}
 use Rattle.nbd_stream.proofs.ThroughLemmas.{joined, none, once}
+use Rattle.disk_server.specs.Asked.{AsksCall}
+use Rattle.disk_server.proofs.ChangeLemmas.{calls_on}
 use Rattle.disk_server.proofs.ClearLemmas.{zeros_left}
 use Rattle.disk_server.proofs.Joining.{writes_trim}
 use Rattle.disk_server.proofs.Fronts.{nothing_set, zeros_stopped, zeros_written}
 use Rattle.disk_server.proofs.ranges.clear_pieces.Goals as goal
 
 pub loop-done-init : goal.loop-done-init
-loop-done-init g c =
-    (omega arith, refl, refl, nothing_set g.S.Sectors.contents g.S.Sectors.honest g.S.Sectors.calm c.args.offset c.args.sectors.now, λ h zeros. none g.S.Sectors.reads c.args.sectors.now c.args.sectors.now refl)
+loop-done-init g c = (
+  omega arith,
+  refl,
+  refl,
+  nothing_set g.S.Sectors.contents g.S.Sectors.honest g.S.Sectors.calm c.args.offset c.args.sectors.now,
+  λ h zeros. none g.S.Sectors.reads c.args.sectors.now c.args.sectors.now refl,
+  none (AsksCall g.S.Sectors.reads g.S.Sectors.changes g.S.Sectors.flushes) c.args.sectors.now c.args.sectors.now refl,
+)
 
 pub loop-done-preserved : goal.loop-done-preserved
 loop-done-preserved g c =
@@ -26,6 +34,7 @@ loop-done-preserved g c =
           joined g.S.Sectors.reads c.args.sectors.now c.loop-done.sectors c.clear_piece.new.sectors (inv.4 before zeros)
           (once g.S.Sectors.reads c.loop-done.sectors c.clear_piece.new.sectors (c.in-Ok.ensures.spares h
           (zeros_left g.S.Sectors.contents g.S.Sectors.honest g.S.Sectors.calm c.args.offset c.args.count k m c.args.sectors.now c.loop-done.sectors within c.requires.within inv.3 before zeros)))),
+      calls_on g.S.Sectors.reads g.S.Sectors.changes g.S.Sectors.flushes c.args.sectors.now c.loop-done.sectors c.clear_piece.new.sectors inv.5 c.in-Ok.ensures.asks,
     )
 
 pub returns-in-Err-clause-performs : goal.returns-in-Err-clause-performs
@@ -49,3 +58,9 @@ returns-in-Err-clause-spares g c = λ h zeros.
     joined g.S.Sectors.reads c.args.sectors.now c.loop-done.sectors c.clear_piece.new.sectors (inv.4 before zeros)
     (once g.S.Sectors.reads c.loop-done.sectors c.clear_piece.new.sectors (c.in-Err.ensures.spares h
     (zeros_left g.S.Sectors.contents g.S.Sectors.honest g.S.Sectors.calm c.args.offset c.args.count k m c.args.sectors.now c.loop-done.sectors within c.requires.within inv.3 before zeros)))
+
+pub returns-in-Err-clause-asks : goal.returns-in-Err-clause-asks
+returns-in-Err-clause-asks g c = calls_on g.S.Sectors.reads g.S.Sectors.changes g.S.Sectors.flushes c.args.sectors.now c.loop-done.sectors c.clear_piece.new.sectors c.loop-done.invariant.5 c.in-Err.ensures.asks
+
+pub returns-clause-asks : goal.returns-clause-asks
+returns-clause-asks g c = c.loop-done.invariant.5

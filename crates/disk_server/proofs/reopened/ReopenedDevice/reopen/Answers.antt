@@ -1,4 +1,4 @@
-use Rattle.std.proofs.Common.{◌∙◌, ap, subst, sym}
+use Rattle.std.proofs.Common.{◌∙◌, sym}
 use Rattle.disk_server.proofs.ReopenedLemmas.{reopens}
 use Rattle.disk_server.proofs.reopened.ReopenedDevice.reopen.Goals as goal
 

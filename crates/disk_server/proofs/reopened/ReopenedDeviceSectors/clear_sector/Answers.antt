@@ -1,4 +1,4 @@
-use Rattle.std.proofs.Common.{◌*◌, [], false, inl, inr, ap, refl, subst, sym}
+use Rattle.std.proofs.Common.{◌*◌, [], false, inl, inr, ap, refl, subst, sym, rules, ◌∙◌, ◌<◌, Err}
 use Rattle.nbd_stream.specs.declared.fault.DiskFault.TheVariants as fault
 use Rattle.nbd_stream.specs.declared.task.Task.TheVariants.{Trim}
 use Rattle.nbd_stream.specs.Disk.{PerformsTask, answer_from}
@@ -39,3 +39,21 @@ returns-clause-count g c = rw (← c.self.view_is) (ap (λ t. t.count) (settled_
 pub returns-clause-changes : goal.returns-clause-changes
 returns-clause-changes g c =
     clears_in g.S.Store.held g.S.Store.honest g.S.TellsFull.full g.S.Store.failed c.args.self.now c.settle.new.self c.args.sector c.settle.result (returns-clause-asked g c)
+
+pub returns-in_default-clause-asked : goal.returns-in_default-clause-asked
+returns-in_default-clause-asked g c = search rules
+
+pub returns-in_default-clause-changes : goal.returns-in_default-clause-changes
+returns-in_default-clause-changes g c =
+    clears_in g.S.Store.held g.S.Store.honest g.S.TellsFull.full g.S.Store.failed c.args.self.now _ c.args.sector (Err fault.Failed) (returns-in_default-clause-asked g c)
+
+pub clear_sector-answer-requires-clause-within : goal.clear_sector-answer-requires-clause-within
+clear_sector-answer-requires-clause-within g c =
+    let within = rw (← c.self.view_is) at c.requires.within in
+    subst (λ k. c.args.sector < k) (sym (c.self.invariant.counted _ (sym c.in-Some.ensures.value))) within
+
+pub clear_sector-answer-requires-clause-whole : goal.clear_sector-answer-requires-clause-whole
+clear_sector-answer-requires-clause-whole g c = (rw (← c.self.view_is) at c.requires.whole) ∙ sym (c.self.invariant.sized _ (sym c.in-Some.ensures.value))
+
+pub settle-requires-clause-counted : goal.settle-requires-clause-counted
+settle-requires-clause-counted g c = c.clear_sector-answer.ensures.count ∙ c.self.invariant.counted _ (sym c.in-Some.ensures.value)

@@ -1,10 +1,10 @@
-use Rattle.std.proofs.Common.{◌*◌, [], false, inl, inr, refl, subst, sym}
+use Rattle.std.proofs.Common.{◌*◌, [], false, inl, inr, refl, subst, sym, rules, ◌∙◌, Err, ap}
 use Rattle.promises.specs.Step as step
 use Rattle.nbd_stream.specs.declared.fault.DiskFault.TheVariants as fault
 use Rattle.nbd_stream.specs.declared.task.Task.TheVariants.{Trim}
 use Rattle.nbd_stream.specs.Disk.{PerformsTask, answer_from}
 use Rattle.disk_server.proofs.ChangeLemmas.{sets_in}
-use Rattle.disk_server.proofs.ReopenedLemmas.{at, going, long_before, performs}
+use Rattle.disk_server.proofs.ReopenedLemmas.{at, going, long_before, performs, settled_terms}
 use Rattle.disk_server.proofs.reopened.ReopenedDeviceSectors.trim_sector.Goals as goal
 
 pub returns-clause-performs : goal.returns-clause-performs
@@ -24,3 +24,22 @@ returns-clause-asked g c =
 pub returns-clause-changes : goal.returns-clause-changes
 returns-clause-changes g c =
     sets_in g.S.Store.held g.S.Store.honest g.S.TellsFull.full g.S.Store.failed c.args.self.now c.settle.new.self c.args.sector c.settle.result (step.Trim c.args.sector) (returns-clause-asked g c)
+
+pub returns-in_default-clause-asked : goal.returns-in_default-clause-asked
+returns-in_default-clause-asked g c = search rules
+
+pub returns-in_default-clause-changes : goal.returns-in_default-clause-changes
+returns-in_default-clause-changes g c =
+    sets_in g.S.Store.held g.S.Store.honest g.S.TellsFull.full g.S.Store.failed c.args.self.now _ c.args.sector (Err fault.Failed) (step.Trim c.args.sector) (returns-in_default-clause-asked g c)
+
+pub settle-requires-clause-sized : goal.settle-requires-clause-sized
+settle-requires-clause-sized g c = c.trim_sector-answer.ensures.size ∙ c.self.invariant.sized _ (sym c.in-Some.ensures.value)
+
+pub settle-requires-clause-counted : goal.settle-requires-clause-counted
+settle-requires-clause-counted g c = c.trim_sector-answer.ensures.count ∙ c.self.invariant.counted _ (sym c.in-Some.ensures.value)
+
+pub returns-clause-size : goal.returns-clause-size
+returns-clause-size g c = rw (← c.self.view_is) (ap (λ t. t.size) (settled_terms g.S.Store.held g.S.Store.honest g.S.TellsFull.full g.S.Store.failed _ _ _ _ _ c.trim_sector-answer.result c.settle.result c.settle.new.self c.settle.ensures))
+
+pub returns-clause-count : goal.returns-clause-count
+returns-clause-count g c = rw (← c.self.view_is) (ap (λ t. t.count) (settled_terms g.S.Store.held g.S.Store.honest g.S.TellsFull.full g.S.Store.failed _ _ _ _ _ c.trim_sector-answer.result c.settle.result c.settle.new.self c.settle.ensures))
