@@ -1,5 +1,6 @@
 -- Marks that are written into their file.
-use Rattle.std.proofs.Common.{◌≡◌, ◌∙◌, ℕ, ◌+◌, ◌≤◌, Bool, true, false, not, List, length, ap, arith, inr, refl, subst, sym}
+use Rattle.std.proofs.Common.{◌≡◌, ◌∙◌, ℕ, ◌+◌, ◌≤◌, Bool, true, false, not, List, length, Result, Ok, Err, ap, arith, inr, refl, subst, sym}
+use Rattle.std.specs.Prelude.{IfErr, is_err}
 use Rattle.file_die.specs.Bytes.{Bytes, over}
 use Rattle.file_die.specs.Rows.{WritesAll}
 use Rattle.file_die.proofs.BytesLemmas.{length_mixed, length_over}
@@ -62,3 +63,8 @@ module _ {F : Type 0} (held : F → Bytes) (honest : F → Bool) where
     begun = λ ok. then.same_fresh ∙ fresh;
     next = λ ok. then.same_second ∙ sym (ap (λ (f : Bool). slot_after f old.second) fresh);
   }
+
+-- an answer that is an error has its fault, of which so much is known
+pub fault_of : {A E : Type 0} (answer : Result A E) (P : E → Type 0) → is_err answer ≡ true → IfErr answer P → (why : E) × P why
+fault_of (Ok x) P failed known = (let no : ⊥ = cc in absurd no)
+fault_of (Err why) P failed known = (why, known)

@@ -6,4 +6,4 @@ pub returns-in-Err : goal.returns-in-Err
 returns-in-Err g c =
     let file = g.F.ByteFile in
     subst (λ kept. KeepsMarkIfAny file.held file.honest (FailsLast file.wrote file.refused) kept c.args.mark (not c.is_fresh-first.result) None) (sym c.in-Some.is)
-    (ap not c.is_fresh-first.ensures, c.keep.new.self, c.in-Err.ensures.keeps, c.in-Err.why, c.in-Err.ensures.fails)
+    (ap not c.is_fresh-first.ensures, c.keep.new.self, c.in-Err.ensures.keeps, c.in-Err._why, c.in-Err.ensures.fails)
