@@ -60,13 +60,19 @@ safe_begun free g states whole counted = record {
   apart = λ b d m. (let one = (begun_open g states 1 b whole refl d).1 in let two = (begun_open g states 2 b whole refl m).1 in omega arith);
 }
 
-pub safe_begun_read : (free pages : ℕ) (g : Geometry) (states : List BlockState) (table : List TableRow) (fills : List Fill) (data_open meta_open : Option ℕ) → length states ≡ g.blocks → pages ≡ g.pages → table ≡ map row_from states → fills ≡ map (fill_from pages) states → free ≡ count_by (unused table fills) (range_with_len 0 (length fills)) → data_open ≡ position (begins_open 1 pages) states → meta_open ≡ position (begins_open 2 pages) states → IsSafe free (record { geometry = g; table = table; fills = fills; data_open = data_open; meta_open = meta_open })
+pub safe_begun_read : (free pages : ℕ) (g : Geometry) (states : List BlockState) (table : List TableRow) (fills : List Fill)
+    (data_open meta_open : Option ℕ) → length states ≡ g.blocks → pages ≡ g.pages → table ≡ map row_from states
+    → fills ≡ map (fill_from pages) states → free ≡ count_by (unused table fills) (range_with_len 0 (length fills))
+    → data_open ≡ position (begins_open 1 pages) states → meta_open ≡ position (begins_open 2 pages) states
+    → IsSafe free (record { geometry = g; table = table; fills = fills; data_open = data_open; meta_open = meta_open })
 safe_begun_read free pages g states table fills data_open meta_open whole p t f counted d m =
     let fs : fills ≡ map (fill_from g.pages) states = f ∙ ap (λ (x : ℕ). map (fill_from x) states) p in
     let ds : data_open ≡ position (begins_open 1 g.pages) states = d ∙ ap (λ (x : ℕ). position (begins_open 1 x) states) p in
     let ms : meta_open ≡ position (begins_open 2 g.pages) states = m ∙ ap (λ (x : ℕ). position (begins_open 2 x) states) p in
     let n : length fills ≡ g.blocks = ap (λ (x : List Fill). length x) fs ∙ length-map states (fill_from g.pages) ∙ whole in
-    let same : free ≡ free_count (begun g states) = counted ∙ ap (λ (x : ℕ). count_by (unused table fills) (range_with_len 0 x)) n ∙ ap (λ (x : List TableRow). count_by (unused x fills) (range_with_len 0 g.blocks)) t ∙ ap (λ (x : List Fill). count_by (unused (map row_from states) x) (range_with_len 0 g.blocks)) fs in
+    let same : free ≡ free_count (begun g states) = counted ∙ ap (λ (x : ℕ). count_by (unused table fills) (range_with_len 0 x)) n ∙ ap
+    (λ (x : List TableRow). count_by (unused x fills) (range_with_len 0 g.blocks)) t ∙ ap
+    (λ (x : List Fill). count_by (unused (map row_from states) x) (range_with_len 0 g.blocks)) fs in
     subst (λ (x : List TableRow). IsSafe free (record { geometry = g; table = x; fills = fills; data_open = data_open; meta_open = meta_open })) (sym t)
     (subst (λ (x : List Fill). IsSafe free (record { geometry = g; table = map row_from states; fills = x; data_open = data_open; meta_open = meta_open })) (sym fs)
     (subst (λ (x : Option ℕ). IsSafe free (record { geometry = g; table = map row_from states; fills = map (fill_from g.pages) states; data_open = x; meta_open = meta_open })) (sym ds)

@@ -141,7 +141,9 @@ erased_free s b within whole table closed =
     let zero_now : pointer_at (erased b s) b ≡ 0 = ap (λ (f : Fill). f.pointer) (get_or-set_same s.fills b new no_fill in_fills) in
     let is_now : is_free (erased b s) b ≡ true = and_from (is_good_at (erased b s).table b) (pointer_at (erased b s) b == 0) good (eq-eqb (pointer_at (erased b s) b) 0 zero_now) in
     let was : is_free s b ≡ false = free_not s b parts.begun in
-    let moved = count_moved (is_free s) (is_free (erased b s)) b 0 s.geometry.blocks (λ c ne. let p : pointer_at (erased b s) c ≡ pointer_at s c = ap (λ (f : Fill). f.pointer) (get_or-set_other s.fills b c new no_fill ne) in rw (good_erased s.table b c in_table, p) refl) (omega arith) (omega arith) in
+    let moved = count_moved (is_free s) (is_free (erased b s)) b 0 s.geometry.blocks
+    (λ c ne. let p : pointer_at (erased b s) c ≡ pointer_at s c = ap (λ (f : Fill). f.pointer) (get_or-set_other s.fills b c new no_fill ne) in rw
+    (good_erased s.table b c in_table, p) refl) (omega arith) (omega arith) in
     let one : bit (is_free (erased b s) b) ≡ 1 = ap bit is_now in
     let none : bit (is_free s b) ≡ 0 = ap bit was in
     omega arith
@@ -174,7 +176,16 @@ safe_erased free s b within closed safe =
       apart = safe.apart;
     }
 
-pub safe_erased_read : (free : ℕ) (s : State) (b : ℕ) (f : Fill) (table : List TableRow) → b < s.geometry.blocks → is_closed s b ≡ true → f ≡ get_or s.fills b f → table ≡ erased_once s.table b → IsSafe free s → IsSafe (free + 1) (record { geometry = s.geometry; table = table; fills = set s.fills b (record { pointer = 0; live = f.live }); data_open = s.data_open; meta_open = s.meta_open })
+pub safe_erased_read : (free : ℕ) (s : State) (b : ℕ) (f : Fill) (table : List TableRow) → b < s.geometry.blocks → is_closed s b ≡ true
+    → f ≡ get_or s.fills b f → table ≡ erased_once s.table b → IsSafe free s
+    → IsSafe (free + 1)
+    (record {
+      geometry = s.geometry;
+      table = table;
+      fills = set s.fills b (record { pointer = 0; live = f.live });
+      data_open = s.data_open;
+      meta_open = s.meta_open;
+    })
 safe_erased_read free s b f table within closed is counted safe =
     let e : live_at s b ≡ f.live = sym (ap (λ (x : Fill). x.live) (read_is s b f within safe.fills_whole is)) in
     subst (λ (t : List TableRow). IsSafe (free + 1) (record { geometry = s.geometry; table = t; fills = set s.fills b (record { pointer = 0; live = f.live }); data_open = s.data_open; meta_open = s.meta_open })) (sym counted)
@@ -222,7 +233,9 @@ safe_without free s b within safe =
       apart = λ c d m. safe.apart c (dropped_kept s.data_open b c d).0 (dropped_kept s.meta_open b c m).0;
     }
 
-pub safe_without_read : (free n : ℕ) (s : State) (b : ℕ) (table : List TableRow) (data_open meta_open : Option ℕ) → b < s.geometry.blocks → n ≡ bit (is_free s b) → table ≡ retired s.table b → data_open ≡ dropped s.data_open b → meta_open ≡ dropped s.meta_open b → IsSafe free s → IsSafe (free - n) (record { geometry = s.geometry; table = table; fills = s.fills; data_open = data_open; meta_open = meta_open })
+pub safe_without_read : (free n : ℕ) (s : State) (b : ℕ) (table : List TableRow) (data_open meta_open : Option ℕ) → b < s.geometry.blocks
+    → n ≡ bit (is_free s b) → table ≡ retired s.table b → data_open ≡ dropped s.data_open b → meta_open ≡ dropped s.meta_open b → IsSafe free s
+    → IsSafe (free - n) (record { geometry = s.geometry; table = table; fills = s.fills; data_open = data_open; meta_open = meta_open })
 safe_without_read free n s b table data_open meta_open within is counted d m safe =
     subst (λ (x : ℕ). IsSafe (free - x) (record { geometry = s.geometry; table = table; fills = s.fills; data_open = data_open; meta_open = meta_open })) (sym is)
     (subst (λ (x : List TableRow). IsSafe (free - bit (is_free s b)) (record { geometry = s.geometry; table = x; fills = s.fills; data_open = data_open; meta_open = meta_open })) (sym counted)
@@ -326,7 +339,9 @@ safe_taken free s Meta b next safe =
     (λ c e. open_here s b c (pointer_at s b) (live_at s b) lt next.within next.good (opened_next (pointer_at s b + 1) s.geometry.pages b c e))
     (λ c d m. ne c d (sym (opened_next (pointer_at s b + 1) s.geometry.pages b c m).1))
 
-pub safe_taken_read : (free n : ℕ) (s : State) (stream : Stream) (b : ℕ) (f : Fill) (opened : Option ℕ) → IsNextBlock s stream b → f ≡ get_or s.fills b f → n ≡ bit (f.pointer == 0) → opened ≡ (then_some (nat_lt (f.pointer + 1) s.geometry.pages) b) → IsSafe free s → IsSafe (free - n) (with_open stream opened (with_fill b (record { pointer = f.pointer + 1; live = f.live }) s))
+pub safe_taken_read : (free n : ℕ) (s : State) (stream : Stream) (b : ℕ) (f : Fill) (opened : Option ℕ) → IsNextBlock s stream b
+    → f ≡ get_or s.fills b f → n ≡ bit (f.pointer == 0) → opened ≡ (then_some (nat_lt (f.pointer + 1) s.geometry.pages) b) → IsSafe free s
+    → IsSafe (free - n) (with_open stream opened (with_fill b (record { pointer = f.pointer + 1; live = f.live }) s))
 safe_taken_read free n s stream b f opened next is one now safe =
     let e : f ≡ fill_at s b = read_is s b f next.within safe.fills_whole is in
     subst (λ (k : ℕ). IsSafe (free - k) (with_open stream opened (with_fill b (record { pointer = f.pointer + 1; live = f.live }) s))) (sym one)
@@ -344,7 +359,9 @@ taken_has free s stream b f next is safe =
 pub next_open : (free : ℕ) (s : State) (stream : Stream) (b : ℕ) → IsSafe free s → open_of s stream ≡ Some b → IsNextBlock s stream b
 next_open free s stream b safe is = let o = safe.opened stream b is in record { within = o.within; good = o.good; room = o.room; from = inl is }
 
-pub next_found : (free : ℕ) (s : State) (stream : Stream) (o : Option ℕ) → IsSafe free s → 0 < s.geometry.pages → open_of s stream ≡ None → MatchOption o ((b : ℕ) → b < s.geometry.blocks → is_free s b ≡ false) (IsLeastWorn s s.geometry.blocks) → MatchOption o (HasNone s stream) (IsNextBlock s stream)
+pub next_found : (free : ℕ) (s : State) (stream : Stream) (o : Option ℕ) → IsSafe free s → 0 < s.geometry.pages → open_of s stream ≡ None
+    → MatchOption o ((b : ℕ) → b < s.geometry.blocks → is_free s b ≡ false) (IsLeastWorn s s.geometry.blocks)
+    → MatchOption o (HasNone s stream) (IsNextBlock s stream)
 next_found free s stream None safe pages shut none = record { none_open = shut; none_free = count_none_in (is_free s) 0 s.geometry.blocks (λ b from below. none b (omega arith)) }
 next_found free s stream (Some b) safe pages shut least =
     let parts = free_parts s b least.free in

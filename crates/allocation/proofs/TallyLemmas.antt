@@ -56,10 +56,23 @@ parts_at free s safe b = bits (is_good_at s.table b) (pointer_at s b == 0) (hold
     (λ h. let o = safe.opened Data b (held s.data_open b h) in (o.good, ne_eqb (pointer_at s b) 0 (λ z. omega (arith, o.begun)), elim (cases_Bool (holds s.meta_open b)) [ inl m ↦ absurd (safe.apart b (held s.data_open b h) (held s.meta_open b m)) | inr n ↦ n ]))
     (λ h. let o = safe.opened Meta b (held s.meta_open b h) in (o.good, ne_eqb (pointer_at s b) 0 (λ z. omega (arith, o.begun))))
 
-count_four : (g p q r t : ℕ → Bool) (a n : ℕ) → ((b : ℕ) → bit (g b) ≡ bit (p b) + bit (q b) + bit (r b) + bit (t b)) → count_by g (range_with_len a n) ≡ count_by p (range_with_len a n) + count_by q (range_with_len a n) + count_by r (range_with_len a n) + count_by t (range_with_len a n)
+count_four : (g p q r t : ℕ → Bool) (a n : ℕ) → ((b : ℕ) → bit (g b) ≡ bit (p b) + bit (q b) + bit (r b) + bit (t b))
+    → count_by g (range_with_len a n) ≡ count_by p (range_with_len a n) + count_by q (range_with_len a n) + count_by r (range_with_len a n) + count_by
+    t (range_with_len a n)
 count_four g p q r t a zero same = refl
 count_four g p q r t a (suc n) same =
-    omega (arith, count_by-cons g a (range_with_len (a + 1) n), count_by-cons p a (range_with_len (a + 1) n), count_by-cons q a (range_with_len (a + 1) n), count_by-cons r a (range_with_len (a + 1) n), count_by-cons t a (range_with_len (a + 1) n), same a, count_four g p q r t (a + 1) n same)
+    omega (
+      arith,
+      count_by-cons g a (range_with_len (a + 1) n),
+      count_by-cons p a (range_with_len (a + 1) n),
+      count_by-cons q a
+          (range_with_len (a + 1) n),
+      count_by-cons r a (range_with_len (a + 1) n),
+      count_by-cons t a (range_with_len (a + 1) n),
+      same a,
+      count_four
+          g p q r t (a + 1) n same,
+    )
 
 -- a count over a list by its places
 count_list : (p : TableRow → Bool) (xs : List TableRow) (d : TableRow) (a : ℕ) (f : ℕ → Bool) → ((i : ℕ) → i < length xs → f (a + i) ≡ p (get_or xs i d)) → count_by f (range_with_len a (length xs)) ≡ count_by p xs
@@ -107,7 +120,13 @@ fits free s safe =
     let P = s.geometry.pages in
     let h : good_count s.table ≡ free_count s + held_count s s.data_open + held_count s s.meta_open + closed_count s = good_parts free s safe in
     let e : good_count s.table * P ≡ (free_count s + held_count s s.data_open + held_count s s.meta_open + closed_count s) * P = ap (λ (x : ℕ). x * P) h in
-    let a : (free_count s + held_count s s.data_open + held_count s s.meta_open + closed_count s) * P ≡ free_count s * P + held_count s s.data_open * P + held_count s s.meta_open * P + closed_count s * P = rw (add-mul (free_count s + held_count s s.data_open + held_count s s.meta_open) (closed_count s) P, add-mul (free_count s + held_count s s.data_open) (held_count s s.meta_open) P, add-mul (free_count s) (held_count s s.data_open) P) refl in
+    let a : (free_count s + held_count s s.data_open + held_count s s.meta_open + closed_count s) * P ≡ free_count s * P + held_count s s.data_open *
+    P + held_count s s.meta_open * P + closed_count s * P = rw (
+      add-mul (free_count s + held_count s s.data_open + held_count s s.meta_open) (closed_count s) P,
+      add-mul
+          (free_count s + held_count s s.data_open) (held_count s s.meta_open) P,
+      add-mul (free_count s) (held_count s s.data_open) P,
+    ) refl in
     record { data_open = d.0; meta_open = m.0; within = omega (arith, d.1, m.1) }
 
 -- ---- a victim is worth collecting
@@ -121,7 +140,9 @@ small_victim free s marks v safe exact enough few is =
     let below : found.place < s.geometry.blocks = omega (arith, found.below) in
     omega (arith, is.live_least found.place below found.is_closed, exact found.place below, found.is_small)
 
-pub small_found : (free : ℕ) (s : State) (marks : List (Option Record)) (o : Option ℕ) → IsSafe free s → MatchOption o ((b : ℕ) → b < s.geometry.blocks → is_closed s b ≡ false) (IsVictim s s.geometry.blocks) → IsLiveExact s marks → need s.geometry ≤ good_count s.table → free_count s ≤ 8 → IsSomeAnd o (λ v. live_at s v ≤ vmax s.geometry)
+pub small_found : (free : ℕ) (s : State) (marks : List (Option Record)) (o : Option ℕ) → IsSafe free s
+    → MatchOption o ((b : ℕ) → b < s.geometry.blocks → is_closed s b ≡ false) (IsVictim s s.geometry.blocks) → IsLiveExact s marks
+    → need s.geometry ≤ good_count s.table → free_count s ≤ 8 → IsSomeAnd o (λ v. live_at s v ≤ vmax s.geometry)
 unfolding closed_count
 small_found free s marks None safe none exact enough few =
     let d = left_within free s Data s.data_open safe refl in
@@ -210,7 +231,9 @@ gone_next s b next pages = elim (ltb next pages) as (λ v. left_in (without b s)
   | false ↦ refl
 ]
 
-free_after : (s : State) (b live : ℕ) → b < s.geometry.blocks → length s.table ≡ s.geometry.blocks → length s.fills ≡ s.geometry.blocks → free_count (without b (with_fill b (record { pointer = pointer_at s b + 1; live = live }) s)) ≡ free_count (with_fill b (record { pointer = pointer_at s b + 1; live = live }) s)
+free_after : (s : State) (b live : ℕ) → b < s.geometry.blocks → length s.table ≡ s.geometry.blocks → length s.fills ≡ s.geometry.blocks
+    → free_count (without b (with_fill b (record { pointer = pointer_at s b + 1; live = live }) s)) ≡ free_count
+    (with_fill b (record { pointer = pointer_at s b + 1; live = live }) s)
 free_after s b live within table fills =
     let f : Fill = record { pointer = pointer_at s b + 1; live = live } in
     let mid : State = with_fill b f s in

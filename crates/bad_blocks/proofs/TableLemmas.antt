@@ -34,7 +34,9 @@ none_read entries u bytes rows counted = record {
   counted = counted;
 }
 
-pub one_read : (entries u i b : ℕ) (bytes : List ℕ) (old rows : List TableRow) (row : TableRow) → IsReadTo entries u i bytes old rows → b ≡ u * entries + i → i < entries → b < length rows → word_of row ≡ word_at bytes (4 * i) → IsCounted row → IsReadTo entries u (i + 1) bytes old (set rows b row)
+pub one_read : (entries u i b : ℕ) (bytes : List ℕ) (old rows : List TableRow) (row : TableRow) → IsReadTo entries u i bytes old rows
+    → b ≡ u * entries + i → i < entries → b < length rows → word_of row ≡ word_at bytes (4 * i) → IsCounted row
+    → IsReadTo entries u (i + 1) bytes old (set rows b row)
 one_read entries u i b bytes old rows row h at within in_rows is row_counted = record {
   read = λ k l. elim (cases_order k i) [
     | inl same ↦ let place : u * entries + k ≡ b = rw same (sym at) in rw (place, slice_get-set_same rows b row in_rows, same) (sym is)

@@ -99,7 +99,9 @@ room_of g body bytes told.Turn is size room = tt
 
 module _ {N : Type 0} (flash : N → Flash) (recorded : N → Option Recording) (honest : N → Bool) (failed erases : N → ℕ) (old new : Device N) (u v b a : Option (List ℕ)) (buffer : List ℕ) (size : length buffer ≡ old.engine.geometry.data_bytes) where
   -- a reply was written, whole or in part
-  pub served : (h : Header) (writes : List ℕ → Type 0) (x : Exchange) → ReadsRequest (length buffer) u v buffer (Ok (next.Whole h)) → x.command ≡ command_of (request_at h buffer) → Tells flash recorded honest failed erases old x new → writes (reply_bytes (request_at h buffer) (reply_in x)) → HasServed flash recorded honest failed erases old new u v writes
+  pub served : (h : Header) (writes : List ℕ → Type 0) (x : Exchange) → ReadsRequest (length buffer) u v buffer (Ok (next.Whole h))
+      → x.command ≡ command_of (request_at h buffer) → Tells flash recorded honest failed erases old x new
+      → writes (reply_bytes (request_at h buffer) (reply_in x)) → HasServed flash recorded honest failed erases old new u v writes
   served h writes x read command tells wrote = record {
     request = request_at h buffer;
     exchange = x;
@@ -110,7 +112,9 @@ module _ {N : Type 0} (flash : N → Flash) (recorded : N → Option Recording) 
     written = wrote;
   }
 
-  pub next_served : (h : Header) (done : Unit {0}) → ReadsRequest (length buffer) u v buffer (Ok (next.Whole h)) → AnswersRequest flash recorded honest failed erases old new (request_at h buffer) b a (Ok done) → ServesNext flash recorded honest failed erases old new u v b a (Ok None)
+  pub next_served : (h : Header) (done : Unit {0}) → ReadsRequest (length buffer) u v buffer (Ok (next.Whole h))
+      → AnswersRequest flash recorded honest failed erases old new (request_at h buffer) b a (Ok done)
+      → ServesNext flash recorded honest failed erases old new u v b a (Ok None)
   next_served h done read answers = served h (Appends b a) answers.exchange read answers.command_is answers.tells answers.sends
 
   pub next_unsent : (h : Header) (e : ServeFault) → ReadsRequest (length buffer) u v buffer (Ok (next.Whole h)) → AnswersRequest flash recorded honest failed erases old new (request_at h buffer) b a (Err e) → ServesNext flash recorded honest failed erases old new u v b a (Err e)

@@ -104,7 +104,9 @@ module _ {N : Type 0} (flash : N → Flash) (recorded : N → Option Recording) 
     runs : honest nand ≡ true → RunsLegally flash recorded honest failed erases d e g c (flash nand) (flash e.engine.nand) e.read_only (is_some e.engine.pinned) xs
     runs h =
         let ran : Ran flash recorded honest failed erases d xs e = (runs_to.1 (ap honest nand_is ∙ (honest_is ∙ h)) (well h)).1 in
-        let from : RanFrom flash recorded honest failed erases (flash checked) a.claim xs e = ran_accepted flash recorded honest failed erases (flash checked) a d e xs (ap flash nand_is) begun (accepted h) (free (honest_is ∙ h) (accepted h)) (accounts (honest_is ∙ h) (accepted h)) ran in
+        let from : RanFrom flash recorded honest failed erases (flash checked) a.claim xs e = ran_accepted flash recorded honest failed erases
+        (flash checked) a d e xs (ap flash nand_is) begun (accepted h) (free (honest_is ∙ h) (accepted h)) (accounts (honest_is ∙ h) (accepted h))
+        ran in
         let each = ran_each flash recorded honest failed erases (flash checked) a d e xs (ap flash nand_is) begun (accepted h) (free (honest_is ∙ h) (accepted h)) (accounts (honest_is ∙ h) (accepted h)) ran in
         let first : RunsLegally flash recorded honest failed erases d e (flash checked).geometry a.claim (flash checked) (flash e.engine.nand) e.read_only (is_some e.engine.pinned) xs = record { run = from.run; legal = from.legal; each = each } in
         let then : RunsLegally flash recorded honest failed erases d e (flash nand).geometry a.claim (flash nand) (flash e.engine.nand) e.read_only (is_some e.engine.pinned) xs =
@@ -152,9 +154,13 @@ module _ {N : Type 0} (flash : N → Flash) (recorded : N → Option Recording) 
 
     holds_until : (xs : List Exchange) → Until (RunsTo flash recorded honest failed erases d) (Tells flash recorded honest failed erases) xs e → Until (HoldsTo flash recorded honest failed erases nand g capacity c d) (HasBusFailed flash recorded honest failed erases) xs e
     holds_until xs until =
-        until_so (λ f. f) (RunsTo flash recorded honest failed erases d) (HoldsTo flash recorded honest failed erases nand g capacity c d) (Tells flash recorded honest failed erases) (HasBusFailed flash recorded honest failed erases) xs e holds_to (λ before mid x known runs_to bus tells. has_failed before mid runs_to x e known bus tells) until
+        until_so (λ f. f) (RunsTo flash recorded honest failed erases d) (HoldsTo flash recorded honest failed erases nand g capacity c d)
+        (Tells flash recorded honest failed erases) (HasBusFailed flash recorded honest failed erases) xs e holds_to
+        (λ before mid x known runs_to bus tells. has_failed before mid runs_to x e known bus tells) until
 
-    pub is_served : (u v b w : Option (List ℕ)) (result : Result Served ServeFault) → calm e.engine.nand ≡ calm d.engine.nand → Session flash recorded honest failed erases d e u v b w result → IsServed flash recorded honest calm failed erases nand g capacity c u v b w result given
+    pub is_served : (u v b w : Option (List ℕ)) (result : Result Served ServeFault) → calm e.engine.nand ≡ calm d.engine.nand
+        → Session flash recorded honest failed erases d e u v b w result
+        → IsServed flash recorded honest calm failed erases nand g capacity c u v b w result given
     is_served u v b w result still session =
         let calls = session.told.calls in
         record {

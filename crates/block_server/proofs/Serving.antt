@@ -73,7 +73,10 @@ module _ {N : Type 0} (flash : N → Flash) (recorded : N → Option Recording) 
         record { each = so_far.read.each; bytes = Consumes-trans u v w all tail (subst (Consumes u v) (append-nil all) so_far.read.bytes) more }
 
     -- one request more, whose reply is sent whole or in part
-    pub serving_more : (new : Device N) (w : Option (List ℕ)) (writes sends : List ℕ → Type 0) → HasServed flash recorded honest failed erases mid new v w writes → ((front bytes : List ℕ) → Appends b c front → writes bytes → sends (front ++ bytes)) → IsServing flash recorded honest failed erases old new u w sends (n + 1)
+    pub serving_more : (new : Device N) (w : Option (List ℕ)) (writes sends : List ℕ → Type 0)
+        → HasServed flash recorded honest failed erases mid new v w writes
+        → ((front bytes : List ℕ) → Appends b c front → writes bytes → sends (front ++ bytes))
+        → IsServing flash recorded honest failed erases old new u w sends (n + 1)
     serving_more new w writes sends one joins =
         let rs : List Request = so_far.requests in
         let xs : List Exchange = so_far.exchanges in
@@ -142,7 +145,9 @@ module _ {N : Type 0} (flash : N → Flash) (recorded : N → Option Recording) 
       ends_so BadFrame tail left (long, bad) =
           (omega (arith, length-append tail left, long), ap is_header (take_at tail left 12 long) ∙ bad)
 
-      splits_so : (all w' : Option (List ℕ)) (tail : List ℕ) → ReadsRequests old.engine.geometry.data_bytes all w' so_far.requests tail → Rests old.engine.geometry.data_bytes end tail w' → IfSome all (λ input. Splits old.engine.geometry.data_bytes input so_far.requests end (tail ++ left_of w'))
+      splits_so : (all w' : Option (List ℕ)) (tail : List ℕ) → ReadsRequests old.engine.geometry.data_bytes all w' so_far.requests tail
+          → Rests old.engine.geometry.data_bytes end tail w'
+          → IfSome all (λ input. Splits old.engine.geometry.data_bytes input so_far.requests end (tail ++ left_of w'))
       splits_so None w' tail reads rest = tt
       splits_so (Some input) None tail reads rest = absurd reads.bytes
       splits_so (Some input) (Some left) tail reads rest = record {
@@ -181,7 +186,9 @@ module _ {N : Type 0} (flash : N → Flash) (recorded : N → Option Recording) 
           })
 
 -- the next request wants no memory
-pub never_next : {N : Type 0} (flash : N → Flash) (recorded : N → Option Recording) (honest : N → Bool) (failed erases : N → ℕ) (old new : Device N) (u v b a : Option (List ℕ)) (e : ServeFault) → ServesNext flash recorded honest failed erases old new u v b a (Err e) → failure e ≢ failure fault.OutOfMemory
+pub never_next : {N : Type 0} (flash : N → Flash) (recorded : N → Option Recording) (honest : N → Bool) (failed erases : N → ℕ) (old new : Device N)
+    (u v b a : Option (List ℕ)) (e : ServeFault) → ServesNext flash recorded honest failed erases old new u v b a (Err e)
+    → failure e ≢ failure fault.OutOfMemory
 never_next flash recorded honest failed erases old new u v b a fault.Read one is = (let no : ⊥ = cc in no)
 never_next flash recorded honest failed erases old new u v b a fault.Write one is = (let no : ⊥ = cc in no)
 never_next flash recorded honest failed erases old new u v b a fault.OutOfMemory one is = one

@@ -38,7 +38,15 @@ four_below a b c d x y z w (suc (suc (suc zero))) = w
 four_below a b c d x y z w (suc (suc (suc (suc k)))) = omega arith
 
 -- one state's bytes
-nine : (c p q l m w x y z : ℕ) → IsBytes (c ∷ p ∷ q ∷ l ∷ m ∷ w ∷ x ∷ y ∷ z ∷ []) → block (record { class = c; pointer = from_le_bytes w16 (p ∷ q ∷ []); live = from_le_bytes w16 (l ∷ m ∷ []); wear = from_le_bytes w32 (w ∷ x ∷ y ∷ z ∷ []) }) ≡ c ∷ p ∷ q ∷ l ∷ m ∷ w ∷ x ∷ y ∷ z ∷ []
+nine : (c p q l m w x y z : ℕ) → IsBytes (c ∷ p ∷ q ∷ l ∷ m ∷ w ∷ x ∷ y ∷ z ∷ [])
+    → block
+    (record {
+      class = c;
+      pointer = from_le_bytes w16 (p ∷ q ∷ []);
+      live = from_le_bytes w16 (l ∷ m ∷ []);
+      wear = from_le_bytes w32
+          (w ∷ x ∷ y ∷ z ∷ []);
+    }) ≡ c ∷ p ∷ q ∷ l ∷ m ∷ w ∷ x ∷ y ∷ z ∷ []
 unfolding word
 nine c p q l m w x y z h =
     let pointer : to_le_bytes w16 (from_le_bytes w16 (p ∷ q ∷ [])) ≡ p ∷ q ∷ [] = le_bytes_2 (p ∷ q ∷ []) _ refl (two_below p q (h 1) (h 2)) refl in
@@ -103,7 +111,15 @@ blocks_end (c ∷ p ∷ q ∷ l ∷ m ∷ w ∷ x ∷ y ∷ z ∷ rest) l' = abs
 blocks_end bytes l' = refl
 
 pub block_read : (b : List ℕ) → length b ≡ 9 →
-    (let state : BlockState = record { class = get_or b 0 0; pointer = from_le_bytes w16 (get_or b 1 0 ∷ get_or b 2 0 ∷ []); live = from_le_bytes w16 (get_or b 3 0 ∷ get_or b 4 0 ∷ []); wear = from_le_bytes w32 (get_or b 5 0 ∷ get_or b 6 0 ∷ get_or b 7 0 ∷ get_or b 8 0 ∷ []) } in blocks_of b ≡ state ∷ [])
+    (let state : BlockState =
+    record {
+      class = get_or b 0 0;
+      pointer = from_le_bytes w16 (get_or b 1 0 ∷ get_or b 2 0 ∷ []);
+      live = from_le_bytes w16
+          (get_or b 3 0 ∷ get_or b 4 0 ∷ []);
+      wear = from_le_bytes w32 (get_or b 5 0 ∷ get_or b 6 0 ∷ get_or b 7 0 ∷ get_or b 8 0 ∷ []);
+    } in
+    blocks_of b ≡ state ∷ [])
 unfolding blocks_of
 block_read (c ∷ p ∷ q ∷ l ∷ m ∷ w ∷ x ∷ y ∷ z ∷ []) long = refl
 block_read b long = absurd (omega arith)

@@ -9,7 +9,9 @@ pub record AreParts (s : Sizes) (bytes blocks directory sectors : List ℕ) : Ty
   pub directory_is : directory ≡ take (4 * directory_rows s) (drop (directory_at s) bytes)
   pub sectors_are : sectors ≡ take (4 * s.sectors) (drop (sectors_at s) bytes)
 
-pub cut : (s : Sizes) (bytes behind blocks rows directory sectors : List ℕ) → length bytes ≡ layout s → behind ≡ drop 40 bytes → blocks ≡ take (9 * s.blocks) behind → rows ≡ drop (9 * s.blocks) behind → directory ≡ take (4 * directory_rows s) rows → sectors ≡ drop (4 * directory_rows s) rows
+pub cut : (s : Sizes) (bytes behind blocks rows directory sectors : List ℕ) → length bytes ≡ layout s → behind ≡ drop 40 bytes
+    → blocks ≡ take (9 * s.blocks) behind → rows ≡ drop (9 * s.blocks) behind → directory ≡ take (4 * directory_rows s) rows
+    → sectors ≡ drop (4 * directory_rows s) rows
     → AreParts s bytes blocks directory sectors
 cut s bytes behind blocks rows directory sectors long behind_is blocks_are rows_are directory_is sectors_are =
     let all_rows : rows ≡ drop (directory_at s) bytes = rows_are ∙ (ap (drop (9 * s.blocks)) behind_is ∙ drop-drop (9 * s.blocks) 40 bytes) in

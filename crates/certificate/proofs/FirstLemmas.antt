@@ -94,6 +94,8 @@ fault_or_memory bytes fault Limit ne h a = inl (one_fault bytes Limit fault (sta
 fault_or_memory bytes fault RowRange ne h a = inl (one_fault bytes RowRange fault (stands_at bytes RowRange (λ e. (cc)) a) (stands_at bytes fault ne h))
 fault_or_memory bytes fault ClassRange ne h a = inl (one_fault bytes ClassRange fault (stands_at bytes ClassRange (λ e. (cc)) a) (stands_at bytes fault ne h))
 
-pub is_answered : (bytes : List ℕ) (r : Result Claim CertFault) (fault : CertFault) → IfOk r (λ c. Fits c × (certificate_bytes c ≡ bytes)) → IfErr r (IsFirstFault bytes) → fault ≢ OutOfMemory → IsFirstFault bytes fault → IsErrAnd r (λ answer. (answer ≡ fault) ⊎ (answer ≡ OutOfMemory))
+pub is_answered : (bytes : List ℕ) (r : Result Claim CertFault) (fault : CertFault) → IfOk r (λ c. Fits c × (certificate_bytes c ≡ bytes))
+    → IfErr r (IsFirstFault bytes) → fault ≢ OutOfMemory → IsFirstFault bytes fault
+    → IsErrAnd r (λ answer. (answer ≡ fault) ⊎ (answer ≡ OutOfMemory))
 is_answered bytes (Ok c) fault found err ne h = ne (only_memory bytes c fault found.0 (sym found.1) h)
 is_answered bytes (Err answer) fault found err ne h = fault_or_memory bytes fault answer ne h err

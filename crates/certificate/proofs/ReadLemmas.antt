@@ -81,8 +81,11 @@ spelled_again bytes h whole =
     let directory_bytes = take (4 * directory_rows s) (drop (directory_at s) bytes) in
     let sectors_bytes = take (4 * s.sectors) (drop (sectors_at s) bytes) in
     let blocks_are : flat_map block (blocks_in s bytes) ≡ blocks_bytes = blocks_spell s.blocks blocks_bytes (length-part 40 (9 * s.blocks) bytes (omega arith)) (IsBytes-part 40 (9 * s.blocks) bytes h) in
-    let directory_is : flat_map row (map row_of_word (directory_in s bytes)) ≡ directory_bytes = rows_spelled (directory_in s bytes) ∙ words_spell (directory_rows s) directory_bytes (length-part (directory_at s) (4 * directory_rows s) bytes (omega arith)) (IsBytes-part (directory_at s) (4 * directory_rows s) bytes h) in
-    let sectors_are : flat_map row (map row_of_word (sectors_in s bytes)) ≡ sectors_bytes = rows_spelled (sectors_in s bytes) ∙ words_spell s.sectors sectors_bytes (length-part (sectors_at s) (4 * s.sectors) bytes (omega arith)) (IsBytes-part (sectors_at s) (4 * s.sectors) bytes h) in
+    let directory_is : flat_map row (map row_of_word (directory_in s bytes)) ≡ directory_bytes = rows_spelled (directory_in s bytes) ∙ words_spell
+    (directory_rows s) directory_bytes (length-part (directory_at s) (4 * directory_rows s) bytes (omega arith))
+    (IsBytes-part (directory_at s) (4 * directory_rows s) bytes h) in
+    let sectors_are : flat_map row (map row_of_word (sectors_in s bytes)) ≡ sectors_bytes = rows_spelled (sectors_in s bytes) ∙ words_spell s.sectors
+    sectors_bytes (length-part (sectors_at s) (4 * s.sectors) bytes (omega arith)) (IsBytes-part (sectors_at s) (4 * s.sectors) bytes h) in
     let ends : sectors_bytes ≡ drop (sectors_at s) bytes = take_all (4 * s.sectors) (drop (sectors_at s) bytes) (omega (arith, length-drop (sectors_at s) bytes)) in
     let body : drop 40 bytes ≡ blocks_bytes ++ (directory_bytes ++ sectors_bytes) =
     first_part bytes 40 (9 * s.blocks) ∙ ap (λ (xs : List ℕ). blocks_bytes ++ xs) (first_part bytes (directory_at s) (4 * directory_rows s) ∙ ap (λ (xs : List ℕ). directory_bytes ++ xs) (sym ends)) in

@@ -44,7 +44,9 @@ module _ {N : Type 0} {flash : N → Flash} {recorded : N → Option Recording} 
     went = λ known ne. went_same (ram a) (flash a.nand) (recorded a.nand);
   }
 
-  pub acts_then : {A B : Type 0} (a b c : Engine N) (x : A) (result : Result B WriteFault) → (ram b).geometry ≡ (ram a).geometry → EngineActs flash recorded honest calm failed a b (Ok x) → EngineActs flash recorded honest calm failed b c result → EngineActs flash recorded honest calm failed a c result
+  pub acts_then : {A B : Type 0} (a b c : Engine N) (x : A) (result : Result B WriteFault) → (ram b).geometry ≡ (ram a).geometry
+      → EngineActs flash recorded honest calm failed a b (Ok x) → EngineActs flash recorded honest calm failed b c result
+      → EngineActs flash recorded honest calm failed a c result
   acts_then a b c x result same p q = record {
     safe = q.safe;
     fault = q.fault ∙ p.fault;
@@ -155,7 +157,10 @@ module _ {N : Type 0} {flash : N → Flash} {recorded : N → Option Recording} 
     told = λ known ne. refl;
   }
 
-  pub looks_then : {A B : Type 0} (a b c : Engine N) (x : A) (result : Result B WriteFault) → EngineLooks flash recorded honest calm programs erases failed a b (Ok x) → EngineLooks flash recorded honest calm programs erases failed b c result → EngineLooks flash recorded honest calm programs erases failed a c result
+  pub looks_then : {A B : Type 0} (a b c : Engine N) (x : A) (result : Result B WriteFault)
+      → EngineLooks flash recorded honest calm programs erases failed a b (Ok x)
+      → EngineLooks flash recorded honest calm programs erases failed b c result
+      → EngineLooks flash recorded honest calm programs erases failed a c result
   looks_then a b c x result p q = record {
     safe = q.safe;
     memory = q.memory ∙ p.memory;

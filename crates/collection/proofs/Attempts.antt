@@ -84,7 +84,10 @@ module _ (stream : Stream) (block row : ℕ) (r : Ram) (t : State) (s : IsRam r)
     passed_ram o e within next = made_ram block r r' s ticks (made_moved o e within) next
 
     pub passed_goes : (o : Option ℕ) → r'.blocks ≡ moved_live o block t → ForSome o (λ q. q < row_count r.geometry) → GoesPut r r'
-    passed_goes o e within = made_goes stream block r r' s ticks is.next (made_moved o e within) (table_kept r.blocks r'.blocks (ap (λ (x : State). x.table) (e ∙ ap (moved_live o block) is.left) ∙ (moved_table o block (taken stream block r.blocks) ∙ taken_table stream r.blocks block)))
+    passed_goes o e within = made_goes stream block r r' s ticks is.next (made_moved o e within)
+        (table_kept r.blocks r'.blocks
+        (ap (λ (x : State). x.table) (e ∙ ap (moved_live o block) is.left)
+        ∙ (moved_table o block (taken stream block r.blocks) ∙ taken_table stream r.blocks block)))
 
     -- ---- what it costs
 
@@ -149,6 +152,8 @@ module _ (stream : Stream) (block row : ℕ) (r : Ram) (t : State) (s : IsRam r)
           let its : wear_at r'.blocks.table (row / r'.geometry.pages) ≡ wear = ap (λ x. wear_at x (row / r'.geometry.pages)) table_is ∙ (ap (wear_at t.table) block_is ∙ sym wear_is) in
           let same : last_record kind n row r' ≡ rec = ap (λ q. next_record kind n q (wear_at r'.blocks.table (row / r'.geometry.pages))) sequence ∙ ap (next_record kind n r.next) its in
           record {
-            truth = true_passed stream block row rec body o r r' old new s ticks is.next is.row_is whole others (e ∙ ap (moved_live o block) is.left) m.truth refl (wear_is ∙ (ap (λ x. wear_at x.table block) is.left ∙ ap (λ x. wear_at x block) (taken_table stream r.blocks block))) of_key within m.old_row_is m.page_for w;
+            truth = true_passed stream block row rec body o r r' old new s ticks is.next is.row_is whole others (e ∙ ap (moved_live o block) is.left)
+                m.truth refl (wear_is ∙ (ap (λ x. wear_at x.table block) is.left ∙ ap (λ x. wear_at x block) (taken_table stream r.blocks block)))
+                of_key within m.old_row_is m.page_for w;
             writes = (let P : Record → Type 0 = λ x. Writes r.geometry x row body old new in subst P (sym same) w);
           }

@@ -167,7 +167,9 @@ failed_bad free stream block s safe next =
 pub counts_failed : (free : ℕ) (stream : Stream) (block : ℕ) (s : State) → IsSafe free s → IsNextBlock s stream block → FailsOne stream (counts_of s) (counts_of (without block (taken stream block s)))
 counts_failed free stream block s safe next = failed free s stream block safe next
 
-pub counts_passed : (free : ℕ) (stream : Stream) (block : ℕ) (s : State) (o : Option ℕ) → IsSafe free s → IsNextBlock s stream block → ForSome o (λ r. r / s.geometry.pages < s.geometry.blocks) → TakesOne stream s.geometry.pages (counts_of s) (counts_of (moved_live o block (taken stream block s)))
+pub counts_passed : (free : ℕ) (stream : Stream) (block : ℕ) (s : State) (o : Option ℕ) → IsSafe free s → IsNextBlock s stream block
+    → ForSome o (λ r. r / s.geometry.pages < s.geometry.blocks)
+    → TakesOne stream s.geometry.pages (counts_of s) (counts_of (moved_live o block (taken stream block s)))
 counts_passed free stream block s o safe next within =
     let t : State = taken stream block s in
     let same : t.geometry ≡ s.geometry = taken_geometry stream s block in

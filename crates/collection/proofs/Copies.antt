@@ -103,12 +103,18 @@ renewed_by r r' old new row row' rec body l out p = record {
   others = λ other ne. written_keeps r.geometry (last_record rec.kind rec.number row' r') row' body old new other ne p.writes;
 }
 
-pub moved_out : (r r' : Ram) (old new : Image) (row row' : ℕ) (rec : Record) (body : List ℕ) → IsRam r → IsRam r' → r'.geometry ≡ r.geometry → IsTrue None r old → IsLivePage row body rec old → IsKeyOf r.geometry (key_of rec) → row < row_count r.geometry → is_shut r.blocks (row / r.geometry.pages) ≡ true → IsOutside r row' → IsReplaced rec.kind rec.number row' body r old r' new → IsMovedOut row r old r' new
+pub moved_out : (r r' : Ram) (old new : Image) (row row' : ℕ) (rec : Record) (body : List ℕ) → IsRam r → IsRam r' → r'.geometry ≡ r.geometry
+    → IsTrue None r old → IsLivePage row body rec old → IsKeyOf r.geometry (key_of rec) → row < row_count r.geometry
+    → is_shut r.blocks (row / r.geometry.pages) ≡ true → IsOutside r row' → IsReplaced rec.kind rec.number row' body r old r' new
+    → IsMovedOut row r old r' new
 moved_out r r' old new row row' rec body s s' same w l of_key lt shut out p =
     let ne : row' / r.geometry.pages ≢ row / r.geometry.pages = apart_shut r row row' out shut in
     let within : row / r.geometry.pages < r.geometry.blocks = row_in_block r.geometry row lt in
     let before : live_at r.blocks (row / r.geometry.pages) ≡ live r.geometry (marks old) (row / r.geometry.pages) = exact_at r old (row / r.geometry.pages) s w within in
-    let after : live_at r'.blocks (row / r.geometry.pages) ≡ live r.geometry (marks new) (row / r.geometry.pages) = (let P : Geometry → Type 0 = λ g. (row / r.geometry.pages < g.blocks → live_at r'.blocks (row / r.geometry.pages) ≡ live g (marks new) (row / r.geometry.pages)) in subst P same (exact_at r' new (row / r.geometry.pages) s' p.truth) within) in
+    let after : live_at r'.blocks (row / r.geometry.pages) ≡ live r.geometry (marks new) (row / r.geometry.pages) =
+    (let P : Geometry → Type 0 = λ g.
+    (row / r.geometry.pages < g.blocks → live_at r'.blocks (row / r.geometry.pages) ≡ live g (marks new) (row / r.geometry.pages)) in subst P
+    same (exact_at r' new (row / r.geometry.pages) s' p.truth) within) in
     let less = live_less r.geometry old new row row' (last_record rec.kind rec.number row' r') body p.writes l.newest ne in
     record {
       same = (renewed_by r r' old new row row' rec body l out p).same;
@@ -146,7 +152,9 @@ keys_set (Table u) row m m' s = keys_same m m' s
 pub keys_then : (a b c : MappingState) → KeepsKeys a b → KeepsKeys b c → KeepsKeys a c
 keys_then a b c x y = record { limits = record { geometry = y.limits.geometry ∙ x.limits.geometry; capacity = y.limits.capacity ∙ x.limits.capacity }; keys = y.keys ∙ x.keys }
 
-pub marked_at : (flushing : Bool) (key key' : Key) (b r' : Ram) → key' ≡ key → r' ≡ record b { pin = record { block = b.pin.block; marks = marks_after flushing b.geometry key' b.pin.marks } } → r' ≡ record b { pin = record { block = b.pin.block; marks = marks_after flushing b.geometry key b.pin.marks } }
+pub marked_at : (flushing : Bool) (key key' : Key) (b r' : Ram) → key' ≡ key
+    → r' ≡ record b { pin = record { block = b.pin.block; marks = marks_after flushing b.geometry key' b.pin.marks } }
+    → r' ≡ record b { pin = record { block = b.pin.block; marks = marks_after flushing b.geometry key b.pin.marks } }
 marked_at flushing key key' b r' same is = is ∙ ap (λ k. record b { pin = record { block = b.pin.block; marks = marks_after flushing b.geometry k b.pin.marks } }) same
 
 pub last_marked : (kind : Kind) (n : ℕ) (b r' : Ram) (p p' : Page) → r'.next ≡ b.next → p' ≡ p → IsLastPage kind n b p → IsLastPage kind n r' p'

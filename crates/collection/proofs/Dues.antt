@@ -96,7 +96,8 @@ unmarked_key true g (Translation t) ms not = refl
 unmarked_key true g (Table u) ms not = refl
 unmarked_key false g key ms not = refl
 
-due_by : (flushing : Bool) (pp t : ℕ) (moved moved' : List (ℕ × ℕ)) (mark mark' : Bool) → moved_in pp t moved' ≡ moved_in pp t moved → mark' ≡ mark → (not (length (moved_in pp t moved') == 0) || (flushing && mark')) ≡ (not (length (moved_in pp t moved) == 0) || (flushing && mark))
+due_by : (flushing : Bool) (pp t : ℕ) (moved moved' : List (ℕ × ℕ)) (mark mark' : Bool) → moved_in pp t moved' ≡ moved_in pp t moved → mark' ≡ mark
+    → (not (length (moved_in pp t moved') == 0) || (flushing && mark')) ≡ (not (length (moved_in pp t moved) == 0) || (flushing && mark))
 due_by flushing pp t moved moved' mark mark' m k = rw (m, k) refl
 
 -- a page of a sector that was copied has no other translation page written
@@ -127,7 +128,11 @@ pub copied_refreshes : (key : Key) (row : ℕ) (r r' : Ram) → IsRam r → IsKe
 copied_refreshes (Sector n) row r r' s lt f = record {
   each = λ t within fresh unmarked k of_page. elim (cases_eq t (n / entries r.geometry)) [
     | inl here ↦
-        let did : get_or r'.pin.marks t false ≡ true = ap (get_or r'.pin.marks t) refl ∙ (ap (λ l. get_or l t false) f.marks ∙ (ap (λ i. get_or (set r.pin.marks (n / entries r.geometry) true) i false) here ∙ get_or-set_same r.pin.marks (n / entries r.geometry) true false (let w = sector_entry r.geometry n lt in omega (arith, s.marks)))) in
+        let did : get_or r'.pin.marks t false ≡ true = ap (get_or r'.pin.marks t) refl ∙
+        (ap (λ l. get_or l t false) f.marks
+        ∙ (ap (λ i. get_or (set r.pin.marks (n / entries r.geometry) true) i false) here
+        ∙ get_or-set_same r.pin.marks (n / entries r.geometry) true false (let w = sector_entry r.geometry n lt in omega (arith, s.marks))))
+        in
         let no : ⊥ = cc in absurd no
     | inr ne ↦
         let pp : per_page r'.mapping ≡ entries r.geometry = ap entries f.mapping.limits.geometry ∙ ap entries s.mapping_of in
@@ -156,9 +161,13 @@ module _ (t : ℕ) (r r' : Ram) (s : IsRam r) (lt : t < translation_pages r.geom
   pub written_due : (flushing : Bool) → is_due flushing r t ≡ true → due_count flushing r' + 1 ≤ due_count flushing r
   written_due flushing was =
       let same : (k : ℕ) → k ≢ t → is_due flushing r' k ≡ is_due flushing r k = λ k ne.
-      ap (λ (m : MappingState). not (length (moved_in (per_page m) k m.moved) == 0) || (flushing && get_or r'.pin.marks k false)) f.mapping ∙ due_by flushing (per_page r.mapping) k r.mapping.moved (without_page (per_page r.mapping) t r.mapping.moved) (get_or r.pin.marks k false) (get_or r'.pin.marks k false) (left_others (per_page r.mapping) t k r.mapping.moved ne) (mark_there k ne) in
+      ap (λ (m : MappingState). not (length (moved_in (per_page m) k m.moved) == 0) || (flushing && get_or r'.pin.marks k false)) f.mapping
+      ∙ due_by flushing (per_page r.mapping) k r.mapping.moved (without_page (per_page r.mapping) t r.mapping.moved) (get_or r.pin.marks k false)
+      (get_or r'.pin.marks k false) (left_others (per_page r.mapping) t k r.mapping.moved ne) (mark_there k ne) in
       let now : is_due flushing r' t ≡ false =
-      ap (λ (m : MappingState). not (length (moved_in (per_page m) t m.moved) == 0) || (flushing && get_or r'.pin.marks t false)) f.mapping ∙ (ap (λ l. not (length l == 0) || (flushing && get_or r'.pin.marks t false)) (left_none (per_page r.mapping) t r.mapping.moved) ∙ none flushing (get_or r'.pin.marks t false) mark_here) in
+      ap (λ (m : MappingState). not (length (moved_in (per_page m) t m.moved) == 0) || (flushing && get_or r'.pin.marks t false)) f.mapping
+      ∙ (ap (λ l. not (length l == 0) || (flushing && get_or r'.pin.marks t false)) (left_none (per_page r.mapping) t r.mapping.moved)
+      ∙ none flushing (get_or r'.pin.marks t false) mark_here) in
       let e = one_less (is_due flushing r) (is_due flushing r') t (translation_pages r.geometry) same lt was now in
       rw f.geometry e
     where

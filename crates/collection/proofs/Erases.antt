@@ -203,7 +203,9 @@ worn_there block passed left w v b ne is most =
     let f : one_if (passed && (block == b)) ≡ 0 = ap (λ t. one_if (passed && t)) e ∙ ap one_if (not_worn passed) in
     omega (arith, f)
 
-pub went_erase : (old new : Ram) (before after : Flash) (told told' : Option Recording) (block : ℕ) (passed : Bool) (left : List Page) → Steps before (Erase block passed left) after → Records told (Erase block passed left ∷ []) told' → HasEnded block passed old.blocks new.blocks → new.next ≡ old.next → Went old before told new after told'
+pub went_erase : (old new : Ram) (before after : Flash) (told told' : Option Recording) (block : ℕ) (passed : Bool) (left : List Page)
+    → Steps before (Erase block passed left) after → Records told (Erase block passed left ∷ []) told'
+    → HasEnded block passed old.blocks new.blocks → new.next ≡ old.next → Went old before told new after told'
 went_erase old new before after told told' block passed left step records h next = record {
   log = Erase block passed left ∷ [];
   leads = Leads-one before after (Erase block passed left) step;
@@ -247,9 +249,14 @@ ended_grows block passed s t h most b = elim (cases_eq b block) [
 row_apart : (pages b block p : ℕ) → b ≢ block → p < pages → (b * pages + p) / pages ≢ block
 row_apart pages b block p ne lt e = ne (sym (div-mul-add b pages p lt) ∙ e)
 
-pub filled_ended : (block : ℕ) (s t : State) (old new : Image) → IsMade block s t → LosesIn s.geometry.pages block old new → ((b : ℕ) → b < s.geometry.blocks → pointer_at s b ≤ s.geometry.pages) → (is_good_at t.table block ≡ true → pointer_at t block ≡ 0) → (is_good_at t.table block ≡ true → (p : ℕ) → p < s.geometry.pages → IsErasedAt new (block * s.geometry.pages + p)) → AreFilled old s → AreFilled new t
+pub filled_ended : (block : ℕ) (s t : State) (old new : Image) → IsMade block s t → LosesIn s.geometry.pages block old new
+    → ((b : ℕ) → b < s.geometry.blocks → pointer_at s b ≤ s.geometry.pages) → (is_good_at t.table block ≡ true → pointer_at t block ≡ 0)
+    → (is_good_at t.table block ≡ true → (p : ℕ) → p < s.geometry.pages → IsErasedAt new (block * s.geometry.pages + p)) → AreFilled old s
+    → AreFilled new t
 filled_ended block s t old new m lost pointers zero_at gone f =
-    let P : Geometry → Type 0 = λ g. ((b p : ℕ) → b < g.blocks → is_good_at t.table b ≡ true → p < pointer_at t b → IsSome (get_or (marks new) (b * g.pages + p) None)) × ((b p : ℕ) → b < g.blocks → is_good_at t.table b ≡ true → pointer_at t b ≤ p → p < g.pages → IsErasedAt new (b * g.pages + p)) in
+    let P : Geometry → Type 0 = λ g.
+    ((b p : ℕ) → b < g.blocks → is_good_at t.table b ≡ true → p < pointer_at t b → IsSome (get_or (marks new) (b * g.pages + p) None)) ×
+    ((b p : ℕ) → b < g.blocks → is_good_at t.table b ≡ true → pointer_at t b ≤ p → p < g.pages → IsErasedAt new (b * g.pages + p)) in
     let both = subst P (sym m.geometry) (sound, empty) in
     record { sound = both.0; erased = both.1 }
   where
@@ -273,7 +280,9 @@ filled_ended block s t old new m lost pointers zero_at gone f =
 passed_erases : (g : Geometry) (before after : Flash) (block : ℕ) (passed : Bool) (left : List Page) → before.geometry ≡ g → Steps before (Erase block passed left) after → passed ≡ true → ErasesIn g block before.image after.image
 passed_erases g before after block passed left same step did = erase_erases g before after block left same (let P : Bool → Type 0 = λ p. Steps before (Erase block p left) after in subst P did step)
 
-pub ended_kept : (r r' : Ram) (before after : Flash) (block : ℕ) (passed : Bool) (left : List Page) → IsRam r → IsTrue None r before.image → before.geometry ≡ r.geometry → HoldsNone r.geometry.pages block before.image → Steps before (Erase block passed left) after → IsImage r.geometry after.image → IsCleared r r' → HasEnded block passed r.blocks r'.blocks → IsImageKept r before.image r' after.image
+pub ended_kept : (r r' : Ram) (before after : Flash) (block : ℕ) (passed : Bool) (left : List Page) → IsRam r → IsTrue None r before.image
+    → before.geometry ≡ r.geometry → HoldsNone r.geometry.pages block before.image → Steps before (Erase block passed left) after
+    → IsImage r.geometry after.image → IsCleared r r' → HasEnded block passed r.blocks r'.blocks → IsImageKept r before.image r' after.image
 ended_kept r r' before after block passed left s w same none step whole t h = record { truth = truth; keeps = k }
   where
     k : Keeps r.geometry before.image after.image

@@ -84,7 +84,9 @@ followed_on pp pp' n ms ms' same but = ap (λ k. without_page k (n / k) ms') sam
 pub followed_beside : (key : Key) (at : ℕ) (a d : Ram) (m : MappingState) → d.pin ≡ a.pin → Goes a d → KeepsKeys a.mapping d.mapping → SetsMapping key at a.mapping m → IsFollowed key m d.mapping → LeavesPin a d
 followed_beside (Sector n) at a d m pin goes keeps s f = elim f [
   | inl (some, same) ↦ beside_same a d pin goes (ap (λ (z : MappingState). z.moved) same ∙ s.unmoved (slot_by m a.mapping n (sym s.keys) some)) keeps.limits
-  | inr (uncached, clean) ↦ beside_filtered a d pin goes (λ e. not (e.0 / per_page a.mapping == n / per_page a.mapping)) keeps.limits (ap (λ (z : MappingState). z.moved) clean ∙ followed_on (per_page a.mapping) (per_page m) n a.mapping.moved m.moved (ap entries s.limits.geometry) s.moved_but)
+  | inr (uncached, clean) ↦ beside_filtered a d pin goes (λ e. not (e.0 / per_page a.mapping == n / per_page a.mapping)) keeps.limits
+      (ap (λ (z : MappingState). z.moved) clean
+      ∙ followed_on (per_page a.mapping) (per_page m) n a.mapping.moved m.moved (ap entries s.limits.geometry) s.moved_but)
 ]
 followed_beside (Translation t) at a d m pin goes keeps s f = beside_same a d pin goes (ap (λ (z : MappingState). z.moved) (f ∙ s)) keeps.limits
 followed_beside (Table u) at a d m pin goes keeps s f = beside_same a d pin goes (ap (λ (z : MappingState). z.moved) (f ∙ s)) keeps.limits

@@ -67,7 +67,9 @@ module _ (fault : Option WriteFault) where
   costs_noted stream a b (Err Damaged) h = h
   costs_noted stream a b (Err Bus) h = tt
 
-  pub result_noted : (kind : Kind) (n : ℕ) (body : List ℕ) (a b : Ram) (x y : Image) (result : Result ℕ WriteFault) → MatchResult result (λ row. IsPut kind n row body a x b y) (Refused a x b y) → MatchResult result (λ row. IsPut kind n row body a x (record b { fault = fault }) y) (Refused a x (record b { fault = fault }) y)
+  pub result_noted : (kind : Kind) (n : ℕ) (body : List ℕ) (a b : Ram) (x y : Image) (result : Result ℕ WriteFault)
+      → MatchResult result (λ row. IsPut kind n row body a x b y) (Refused a x b y)
+      → MatchResult result (λ row. IsPut kind n row body a x (record b { fault = fault }) y) (Refused a x (record b { fault = fault }) y)
   result_noted kind n body a b x y (Ok row) p = is_put_noted kind n row body a b x y p
   result_noted kind n body a b x y (Err f) k = refused_noted a b x y f k
 

@@ -84,7 +84,12 @@ pub due_first : (flushing : Bool) (r : Ram) (p : Pinned) → r.pin.marks ≡ rep
 due_first flushing r p unmarked half = omega (arith, due_few flushing r unmarked, half.passed)
 
 -- a step that was refused leaves few pages
-pub few_left : (old now new : Ram) (p : Pinned) (first : ℕ) (y z : Image) (fault : WriteFault) → IsRam now → IsRam new → now.geometry ≡ old.geometry → new.geometry ≡ now.geometry → p.block < old.geometry.blocks → is_closed now.blocks p.block ≡ true → length new.mapping.moved ≡ length now.mapping.moved → new.pin.block ≡ Some (record { block = p.block; first = first }) → IsFew 0 old p → IsTrue None now y → (copies : ℕ) → copies + live_at now.blocks p.block ≤ live_at old.blocks p.block → live_at now.blocks p.block + length now.mapping.moved ≤ live_at old.blocks p.block + length old.mapping.moved → Refused now y new z fault → fault ≢ Bus → PinIsFew 0 new
+pub few_left : (old now new : Ram) (p : Pinned) (first : ℕ) (y z : Image) (fault : WriteFault) → IsRam now → IsRam new → now.geometry ≡ old.geometry
+    → new.geometry ≡ now.geometry → p.block < old.geometry.blocks → is_closed now.blocks p.block ≡ true
+    → length new.mapping.moved ≡ length now.mapping.moved → new.pin.block ≡ Some (record { block = p.block; first = first }) → IsFew 0 old p
+    → IsTrue None now y → (copies : ℕ) → copies + live_at now.blocks p.block ≤ live_at old.blocks p.block
+    → live_at now.blocks p.block + length now.mapping.moved ≤ live_at old.blocks p.block + length old.mapping.moved → Refused now y new z fault
+    → fault ≢ Bus → PinIsFew 0 new
 few_left old now new p first y z fault s s' same still within closed moved pin few w copies left fewer refused ne = λ q is.
     let less : live_at new.blocks p.block ≤ live_at now.blocks p.block = refused_fewer now new p.block y z fault s s' still w (rw same within) closed refused ne in
     let e : q ≡ record { block = p.block; first = first } = (let e2 : Some (record { block = p.block; first = first }) ≡ Some q = sym pin ∙ is in let f : record { block = p.block; first = first } ≡ q = cc in sym f) in
@@ -95,7 +100,9 @@ few_left old now new p first y z fault s s' same still within closed moved pin f
     } in
     subst (IsFew 0 new) (sym e) at
   where
-    refused_fewer : (now new : Ram) (block : ℕ) (y z : Image) (fault : WriteFault) → IsRam now → IsRam new → new.geometry ≡ now.geometry → IsTrue None now y → block < now.geometry.blocks → is_closed now.blocks block ≡ true → Refused now y new z fault → fault ≢ Bus → live_at new.blocks block ≤ live_at now.blocks block
+    refused_fewer : (now new : Ram) (block : ℕ) (y z : Image) (fault : WriteFault) → IsRam now → IsRam new → new.geometry ≡ now.geometry
+        → IsTrue None now y → block < now.geometry.blocks → is_closed now.blocks block ≡ true → Refused now y new z fault → fault ≢ Bus
+        → live_at new.blocks block ≤ live_at now.blocks block
     refused_fewer now new block y z ReadOnly s s' same w lt closed k ne = shut_fewer now new y z block s s' same w k.truth k.leaves lt (shut_closed now.blocks block closed)
     refused_fewer now new block y z SequenceSpent s s' same w lt closed k ne = shut_fewer now new y z block s s' same w k.truth k.leaves lt (shut_closed now.blocks block closed)
     refused_fewer now new block y z Damaged s s' same w lt closed k ne = absurd k
@@ -194,7 +201,9 @@ sparing_from a b to flushing block (Ok u) k =
     }
 sparing_from a b to flushing block (Err fault) k = tt
 
-pub acts_from : {A N : Type 0} {flash : N → Flash} {recorded : N → Option Recording} {honest calm : N → Bool} {failed : N → ℕ} (a b : Engine N) (to : Option Pinned) (result : Result A WriteFault) → EngineActs flash recorded honest calm failed (record a { pinned = to }) b result → EngineActs flash recorded honest calm failed a b result
+pub acts_from : {A N : Type 0} {flash : N → Flash} {recorded : N → Option Recording} {honest calm : N → Bool} {failed : N → ℕ} (a b : Engine N)
+    (to : Option Pinned) (result : Result A WriteFault) → EngineActs flash recorded honest calm failed (record a { pinned = to }) b result
+    → EngineActs flash recorded honest calm failed a b result
 acts_from a b to result p = record {
   safe = p.safe;
   fault = p.fault;
@@ -256,16 +265,22 @@ unpinned_now r (inr none) few = none
 
 -- one block more
 pub collects_more : (flushing : Bool) (block : ℕ) (a b c : Ram) → (blocks : List ℕ) × Collects flushing a blocks b → b.pin.block ≡ None → IsWorth 0 b block → HasCollected flushing block b c → (blocks : List ℕ) × Collects flushing a blocks c
-collects_more flushing block a b c before none worth cost = (let P : Option Pinned → Type 0 = λ o. MatchOption o (IsWorth 0 b block) (λ q. q.block ≡ block) in (block ∷ before.0, (b, before.1, record { scarce = omega (arith, worth.scarce); which = subst P (sym none) worth }, cost)))
+collects_more flushing block a b c before none worth cost =
+    (let P : Option Pinned → Type 0 = λ o. MatchOption o (IsWorth 0 b block) (λ q. q.block ≡ block) in
+    (block ∷ before.0, (b, before.1, record { scarce = omega (arith, worth.scarce); which = subst P (sym none) worth }, cost)))
 
 pub finished_collects : (flushing : Bool) (p : Pinned) (a c : Ram) (result : Result (Unit {0}) WriteFault) → a.pin.block ≡ Some p → free_count a.blocks < 9 → CollectCosts flushing p.block a c result → OnOk result ((blocks : List ℕ) × Collects flushing a blocks c)
 finished_collects flushing p a c (Ok u) is scarce cost = (let P : Option Pinned → Type 0 = λ o. MatchOption o (IsWorth 0 a p.block) (λ q. q.block ≡ p.block) in (p.block ∷ [], (a, refl, record { scarce = scarce; which = subst P (sym is) refl }, cost)))
 finished_collects flushing p a c (Err fault) is scarce cost = tt
 
-pub finished_truth : (block : ℕ) (a c : Ram) (x z : Image) (result : Result (Unit {0}) WriteFault) → IsRam a → IsRam c → c.geometry ≡ a.geometry → IsTrue None a x → MatchResult result (λ u. IsEmptied block a x c z) (Refused a x c z) → MatchResult result (λ u. IsRearranged a x c z) (RoomRefused a x c z)
+pub finished_truth : (block : ℕ) (a c : Ram) (x z : Image) (result : Result (Unit {0}) WriteFault) → IsRam a → IsRam c → c.geometry ≡ a.geometry
+    → IsTrue None a x → MatchResult result (λ u. IsEmptied block a x c z) (Refused a x c z)
+    → MatchResult result (λ u. IsRearranged a x c z) (RoomRefused a x c z)
 finished_truth block a c x z (Ok u) s s' same w k = rearranged_then a a c x x z s s' (on_same a) same (rearranged_same a x w) k.same
 finished_truth block a c x z (Err fault) s s' same w k = room_refused a a c x x z fault s s' (on_same a) same (rearranged_same a x w) k
 
-pub finished_counts : (failures : ℕ) (a c : Ram) (result : Result (Unit {0}) WriteFault) → IsRam a → IsFunded a.geometry.pages failures (counts_of a.blocks) → CollectCounts a c result → MatchResult result (λ u. IsFundedOn failures a c) (λ fault. RoomCounts failures a c (Err fault))
+pub finished_counts : (failures : ℕ) (a c : Ram) (result : Result (Unit {0}) WriteFault) → IsRam a
+    → IsFunded a.geometry.pages failures (counts_of a.blocks) → CollectCounts a c result
+    → MatchResult result (λ u. IsFundedOn failures a c) (λ fault. RoomCounts failures a c (Err fault))
 finished_counts failures a c (Ok u) s funded k = funded_then failures a a c refl (funded_same failures a funded) k
 finished_counts failures a c (Err fault) s funded k = refused_room failures a a c fault s refl (funded_same failures a funded) k

@@ -51,7 +51,9 @@ pub one_of : (stream : Stream) → data_of stream + meta_of stream ≡ 1
 one_of Data = omega arith
 one_of Meta = omega arith
 
-put_busy : (stream : Stream) (pages blocks f : ℕ) (old new : Counts) → 1 < pages → old.free ≤ blocks → StreamPut stream pages f old new → new.good + (blocks + 2 - (new.free + min new.data_left 1 + min new.meta_left 1)) ≤ old.good + (blocks + 2 - (old.free + min old.data_left 1 + min old.meta_left 1)) + 1
+put_busy : (stream : Stream) (pages blocks f : ℕ) (old new : Counts) → 1 < pages → old.free ≤ blocks → StreamPut stream pages f old new
+    → new.good + (blocks + 2 - (new.free + min new.data_left 1 + min new.meta_left 1)) ≤ old.good +
+    (blocks + 2 - (old.free + min old.data_left 1 + min old.meta_left 1)) + 1
 put_busy Data pages blocks f old new some within p = elim p.put.cases [
   | inl a ↦ omega (arith, a.0, a.1, a.2, p.good, p.other)
   | inr b ↦ elim b [
@@ -69,7 +71,8 @@ put_busy Meta pages blocks f old new some within p = elim p.put.cases [
 
 pub programmed_more : (stream : Stream) (first now new : Ram) (d m : ℕ) → now.geometry ≡ first.geometry → HasProgrammed first now d m → HasPut stream now new → HasProgrammed first new (d + data_of stream) (m + meta_of stream)
 programmed_more stream first now new d m same p put = record {
-  account = one_page stream first.geometry.pages put.failures d m (counts_of first.blocks) (counts_of now.blocks) (counts_of new.blocks) p.account (let P : Geometry → Type 0 = λ g. StreamPut stream g.pages put.failures (counts_of now.blocks) (counts_of new.blocks) in subst P same put.put);
+  account = one_page stream first.geometry.pages put.failures d m (counts_of first.blocks) (counts_of now.blocks) (counts_of new.blocks) p.account
+      (let P : Geometry → Type 0 = λ g. StreamPut stream g.pages put.failures (counts_of now.blocks) (counts_of new.blocks) in subst P same put.put);
   next = omega (arith, p.next, put.next, put.put.good, one_of stream);
 }
 
@@ -104,7 +107,10 @@ begun flushing block first r known x s w passed =
 
 -- ---- a page is copied
 
-pub copied_more : (flushing : Bool) (block first page : ℕ) (old now new : Ram) (known : Type 0) (x y z : Image) → IsRam now → Goes old now → Goes now new → 1 < old.geometry.pages → IsUnderWay flushing block first old now known x y → first ≤ page → page < now.geometry.pages → HasCopied flushing now new → (known → IsTrue None now y → HoldsNoneIn now.geometry.pages block 0 first y → IsCopied block page now y new z) → IsUnderWay flushing block (page + 1) old new known x z
+pub copied_more : (flushing : Bool) (block first page : ℕ) (old now new : Ram) (known : Type 0) (x y z : Image) → IsRam now → Goes old now
+    → Goes now new → 1 < old.geometry.pages → IsUnderWay flushing block first old now known x y → first ≤ page → page < now.geometry.pages
+    → HasCopied flushing now new → (known → IsTrue None now y → HoldsNoneIn now.geometry.pages block 0 first y → IsCopied block page now y new z)
+    → IsUnderWay flushing block (page + 1) old new known x z
 copied_more flushing block first page old now new known x y z s goes then some u ge lt cost call =
     let same : now.geometry ≡ old.geometry = goes.geometry in
     let zero : u.ledger.written ≡ 0 = elim u.order [ inl e ↦ e | inr past ↦ (let p : now.geometry.pages ≡ old.geometry.pages = ap (λ g. g.pages) same in absurd (omega arith)) ] in
@@ -138,7 +144,10 @@ copied_more flushing block first page old now new known x y z s goes then some u
 
 -- ---- a translation page is written
 
-pub written_more : (flushing : Bool) (block first : ℕ) (old now new : Ram) (known : Type 0) (x y z : Image) → IsRam now → IsRam new → Goes old now → Goes now new → 1 < old.geometry.pages → block < old.geometry.blocks → IsUnderWay flushing block first old now known x y → HasWritten flushing now new → (known → IsTrue None now y → HoldsNoneIn now.geometry.pages block 0 first y → IsEmptied block now y new z) → IsUnderWay flushing block old.geometry.pages old new known x z
+pub written_more : (flushing : Bool) (block first : ℕ) (old now new : Ram) (known : Type 0) (x y z : Image) → IsRam now → IsRam new → Goes old now
+    → Goes now new → 1 < old.geometry.pages → block < old.geometry.blocks → IsUnderWay flushing block first old now known x y
+    → HasWritten flushing now new → (known → IsTrue None now y → HoldsNoneIn now.geometry.pages block 0 first y → IsEmptied block now y new z)
+    → IsUnderWay flushing block old.geometry.pages old new known x z
 written_more flushing block first old now new known x y z s s' goes then some within u cost call =
     let same : now.geometry ≡ old.geometry = goes.geometry in
     let same' : new.geometry ≡ old.geometry = then.geometry ∙ same in
@@ -166,7 +175,14 @@ written_more flushing block first old now new known x y z s s' goes then some wi
           let w = u.truth k in
           let c = call k w.same.truth (rw same w.none) in
           let h = holds_none new z block s' c.same.truth (rw same' within) c.none in
-          record { same = same_then old now new x y z goes then.geometry w.same c.same; copies_left = omega (arith, w.copies_left, c.none); few = omega (arith, w.few, c.none, cost.moved); none = none_of_all old.geometry.pages block z 0 old.geometry.pages (omega arith) (rw (← same') h) };
+          record {
+            same = same_then old now new x y z goes then.geometry w.same c.same;
+            copies_left = omega (arith, w.copies_left, c.none);
+            few =
+                omega (arith, w.few, c.none, cost.moved);
+            none = none_of_all old.geometry.pages block z 0 old.geometry.pages (omega arith)
+                (rw (← same') h);
+          };
     }
 
 -- ---- it ends
@@ -175,7 +191,8 @@ pub collected_cost : (flushing : Bool) (block first : ℕ) (old now new : Ram) (
 collected_cost flushing block first old now new known x y u none e = record { mid = now; ledger = u.ledger; none = none; erase = e }
 
 -- where the die is honest and none was due
-pub collected_few : (flushing : Bool) (block first : ℕ) (old now new : Ram) (known : Type 0) (x y : Image) → known → due_count flushing old ≡ 0 → IsUnderWay flushing block first old now known x y → HasNoneDue flushing now → HasErased block now new → CollectsFew flushing block old new
+pub collected_few : (flushing : Bool) (block first : ℕ) (old now new : Ram) (known : Type 0) (x y : Image) → known → due_count flushing old ≡ 0
+    → IsUnderWay flushing block first old now known x y → HasNoneDue flushing now → HasErased block now new → CollectsFew flushing block old new
 collected_few flushing block first old now new known x y k idle u none e =
     let w = u.truth k in
     record {
@@ -199,11 +216,16 @@ less_work flushing block first old now new known x y s s' same u e =
 few : (g : Geometry) (live_pages moved first copies written due : ℕ) → live_pages + moved ≤ vmax g + 0 → first ≤ moved → copies ≤ live_pages → written + due ≤ copies + first → written + due ≤ translation_pages g → copies + written + 1 ≤ g.pages
 few g live_pages moved first copies written due small begin le a b = (let f = copies_fit g (live_pages + moved) (omega (arith, small)) in omega (arith, f, begin, le, a, b))
 
-few_more : (g : Geometry) (live_pages moved first copies written due still : ℕ) → live_pages + moved ≤ vmax g + 0 → first ≤ moved → copies + still ≤ live_pages → written + due ≤ copies + first → written + due ≤ translation_pages g → (0 < still) ⊎ (0 < due) → copies + written + 2 ≤ g.pages
+few_more : (g : Geometry) (live_pages moved first copies written due still : ℕ) → live_pages + moved ≤ vmax g + 0 → first ≤ moved
+    → copies + still ≤ live_pages → written + due ≤ copies + first → written + due ≤ translation_pages g → (0 < still) ⊎ (0 < due)
+    → copies + written + 2 ≤ g.pages
 few_more g live_pages moved first copies written due still small begin le a b (inl some) = (let f = copies_fit g (live_pages + moved) (omega (arith, small)) in omega (arith, f, begin, le, a, b))
 few_more g live_pages moved first copies written due still small begin le a b (inr some) = (let f = copies_fit g (live_pages + moved) (omega (arith, small)) in omega (arith, f, begin, le, a, b))
 
-pub counts_collected : (flushing : Bool) (block first : ℕ) (old now new : Ram) (known : Type 0) (x y : Image) → IsRam new → new.geometry ≡ old.geometry → known → live_at old.blocks block + length old.mapping.moved ≤ vmax old.geometry + 0 → due_count flushing old ≤ length old.mapping.moved → IsUnderWay flushing block first old now known x y → HasErased block now new → Collected old.geometry.pages (counts_of old.blocks) (counts_of new.blocks)
+pub counts_collected : (flushing : Bool) (block first : ℕ) (old now new : Ram) (known : Type 0) (x y : Image) → IsRam new
+    → new.geometry ≡ old.geometry → known → live_at old.blocks block + length old.mapping.moved ≤ vmax old.geometry + 0
+    → due_count flushing old ≤ length old.mapping.moved → IsUnderWay flushing block first old now known x y → HasErased block now new
+    → Collected old.geometry.pages (counts_of old.blocks) (counts_of new.blocks)
 counts_collected flushing block first old now new known x y s same k small begin u e =
     let w = u.truth k in
     let le : u.ledger.copies ≤ live_at old.blocks block = omega (arith, w.copies_left) in
@@ -211,23 +233,32 @@ counts_collected flushing block first old now new known x y s same k small begin
     let fits_new : Fits old.geometry.pages (counts_of new.blocks) = (let P : Geometry → Type 0 = λ g. Fits g.pages (counts_of new.blocks) in subst P same (fit new s)) in
     collected old.geometry.pages e.failures u.ledger.data_pages u.ledger.meta_pages (counts_of old.blocks) (counts_of now.blocks) (counts_of new.blocks) u.ledger.programmed.account (omega (arith, u.ledger.pages, f)) e.counts fits_new
 
-pub counts_stuck : (flushing : Bool) (block first : ℕ) (old now new : Ram) (known : Type 0) (x y : Image) → known → live_at old.blocks block + length old.mapping.moved ≤ vmax old.geometry + 0 → due_count flushing old ≤ length old.mapping.moved → IsUnderWay flushing block first old now known x y → (0 < live_at now.blocks block) ⊎ (0 < due_count flushing now) → StreamRunsOut now new → Stuck (counts_of old.blocks) (counts_of new.blocks)
+pub counts_stuck : (flushing : Bool) (block first : ℕ) (old now new : Ram) (known : Type 0) (x y : Image) → known
+    → live_at old.blocks block + length old.mapping.moved ≤ vmax old.geometry + 0 → due_count flushing old ≤ length old.mapping.moved
+    → IsUnderWay flushing block first old now known x y → (0 < live_at now.blocks block) ⊎ (0 < due_count flushing now) → StreamRunsOut now new
+    → Stuck (counts_of old.blocks) (counts_of new.blocks)
 counts_stuck flushing block first old now new known x y k small begin u owed out =
     let w = u.truth k in
     let f = few_more old.geometry (live_at old.blocks block) (length old.mapping.moved) (due_count flushing old) u.ledger.copies u.ledger.written (due_count flushing now) (live_at now.blocks block) small begin w.copies_left u.ledger.for_copies u.ledger.for_pages owed in
     stuck out.stream old.geometry.pages out.out.failures u.ledger.data_pages u.ledger.meta_pages (counts_of old.blocks) (counts_of now.blocks) (counts_of new.blocks) u.ledger.programmed.account (omega (arith, u.ledger.pages, f)) out.out.found
 
-thrift : (flushing : Bool) (block first : ℕ) (old now : Ram) (known : Type 0) (x y : Image) → known → live_at old.blocks block + length old.mapping.moved ≤ vmax old.geometry + 0 → due_count flushing old ≤ length old.mapping.moved → IsUnderWay flushing block first old now known x y → IsThrifty old now
+thrift : (flushing : Bool) (block first : ℕ) (old now : Ram) (known : Type 0) (x y : Image) → known
+    → live_at old.blocks block + length old.mapping.moved ≤ vmax old.geometry + 0 → due_count flushing old ≤ length old.mapping.moved
+    → IsUnderWay flushing block first old now known x y → IsThrifty old now
 thrift flushing block first old now known x y k small begin u =
     let w = u.truth k in
     let le : u.ledger.copies ≤ live_at old.blocks block = omega (arith, w.copies_left) in
     let f = few old.geometry (live_at old.blocks block) (length old.mapping.moved) (due_count flushing old) u.ledger.copies u.ledger.written (due_count flushing now) small begin le u.ledger.for_copies u.ledger.for_pages in
     omega (arith, u.ledger.programmed.next, u.ledger.pages, f)
 
-pub thrifty_erased : (flushing : Bool) (block first : ℕ) (old now new : Ram) (known : Type 0) (x y : Image) → known → live_at old.blocks block + length old.mapping.moved ≤ vmax old.geometry + 0 → due_count flushing old ≤ length old.mapping.moved → IsUnderWay flushing block first old now known x y → HasErased block now new → IsThrifty old new
+pub thrifty_erased : (flushing : Bool) (block first : ℕ) (old now new : Ram) (known : Type 0) (x y : Image) → known
+    → live_at old.blocks block + length old.mapping.moved ≤ vmax old.geometry + 0 → due_count flushing old ≤ length old.mapping.moved
+    → IsUnderWay flushing block first old now known x y → HasErased block now new → IsThrifty old new
 thrifty_erased flushing block first old now new known x y k small begin u e = (let t = thrift flushing block first old now known x y k small begin u in omega (arith, t, e.next, e.counts.good))
 
-pub thrifty_refused : (flushing : Bool) (block first : ℕ) (old now new : Ram) (known : Type 0) (x y : Image) (fault : WriteFault) → known → live_at old.blocks block + length old.mapping.moved ≤ vmax old.geometry + 0 → due_count flushing old ≤ length old.mapping.moved → IsUnderWay flushing block first old now known x y → FaultCosts now new fault → fault ≢ Damaged → fault ≢ Bus → IsThrifty old new
+pub thrifty_refused : (flushing : Bool) (block first : ℕ) (old now new : Ram) (known : Type 0) (x y : Image) (fault : WriteFault) → known
+    → live_at old.blocks block + length old.mapping.moved ≤ vmax old.geometry + 0 → due_count flushing old ≤ length old.mapping.moved
+    → IsUnderWay flushing block first old now known x y → FaultCosts now new fault → fault ≢ Damaged → fault ≢ Bus → IsThrifty old new
 thrifty_refused flushing block first old now new known x y ReadOnly k small begin u out nd nb = (let t = thrift flushing block first old now known x y k small begin u in omega (arith, t, out.out.next, out.out.found.good))
 thrifty_refused flushing block first old now new known x y SequenceSpent k small begin u out nd nb = (let t = thrift flushing block first old now known x y k small begin u in omega (arith, t, out.spent.tried.next, out.spent.tried.tries.good))
 thrifty_refused flushing block first old now new known x y Damaged k small begin u out nd nb = absurd (nd refl)
@@ -239,7 +270,10 @@ refused_cost flushing block first old now new known x y SequenceSpent u out = re
 refused_cost flushing block first old now new known x y Damaged u out = tt
 refused_cost flushing block first old now new known x y Bus u out = tt
 
-pub refused_counts : (flushing : Bool) (block first : ℕ) (old now new : Ram) (known : Type 0) (x y : Image) (z : Image) (fault : WriteFault) → known → live_at old.blocks block + length old.mapping.moved ≤ vmax old.geometry + 0 → due_count flushing old ≤ length old.mapping.moved → IsUnderWay flushing block first old now known x y → (fault ≡ ReadOnly → (0 < live_at now.blocks block) ⊎ (0 < due_count flushing now)) → FaultCosts now new fault → Refused now y new z fault → CollectCounts old new (Err fault)
+pub refused_counts : (flushing : Bool) (block first : ℕ) (old now new : Ram) (known : Type 0) (x y : Image) (z : Image) (fault : WriteFault) → known
+    → live_at old.blocks block + length old.mapping.moved ≤ vmax old.geometry + 0 → due_count flushing old ≤ length old.mapping.moved
+    → IsUnderWay flushing block first old now known x y → (fault ≡ ReadOnly → (0 < live_at now.blocks block) ⊎ (0 < due_count flushing now))
+    → FaultCosts now new fault → Refused now y new z fault → CollectCounts old new (Err fault)
 refused_counts flushing block first old now new known x y z ReadOnly k small begin u owed out r = counts_stuck flushing block first old now new known x y k small begin u (owed refl) out
 refused_counts flushing block first old now new known x y z SequenceSpent k small begin u owed out r = tt
 refused_counts flushing block first old now new known x y z Damaged k small begin u owed out r = r
@@ -262,7 +296,9 @@ not_erased : (pages next : ℕ) (step : Progress) → next_of pages step ≡ Som
 not_erased pages next step is e = (let n : next_of pages step ≡ None = ap (next_of pages) e in let no : ⊥ = cc in no)
 
 module _ (flushing : Bool) (block first next : ℕ) (old now new : Ram) (known : Type 0) (x y z : Image) (s : IsRam now) (s' : IsRam new) (goes : Goes old now) (within : block < old.geometry.blocks) (u : IsUnderWay flushing block first old now known x y) where
-  step_more : (step : Progress) → Goes now new → next_of old.geometry.pages step ≡ Some next → StepCosts flushing block first now new (Ok step) → (known → IsTrue None now y → HoldsNoneIn now.geometry.pages block 0 first y → IsStepped block now y new z step) → IsUnderWay flushing block next old new known x z
+  step_more : (step : Progress) → Goes now new → next_of old.geometry.pages step ≡ Some next → StepCosts flushing block first now new (Ok step)
+      → (known → IsTrue None now y → HoldsNoneIn now.geometry.pages block 0 first y → IsStepped block now y new z step)
+      → IsUnderWay flushing block next old new known x z
   step_more (step_is.Copied page) then is cost call =
       let e : page + 1 ≡ next = cc in
       let P : ℕ → Type 0 = λ n. IsUnderWay flushing block n old new known x z in
@@ -273,7 +309,10 @@ module _ (flushing : Bool) (block first next : ℕ) (old now new : Ram) (known :
       subst P e (written_more flushing block first old now new known x y z s s' goes then (some_steps old.geometry) within u cost call)
   step_more step_is.Erased then is cost call = (let no : ⊥ = cc in absurd no)
 
-  pub stepped : (step : Progress) → (ok_step step ≢ ok_step step_is.Erased → Goes now new) → next_of old.geometry.pages step ≡ Some next → StepCosts flushing block first now new (Ok step) → (known → IsTrue None now y → HoldsNoneIn now.geometry.pages block 0 first y → IsStepped block now y new z step) → IsUnderWay flushing block next old new known x z
+  pub stepped : (step : Progress) → (ok_step step ≢ ok_step step_is.Erased → Goes now new) → next_of old.geometry.pages step ≡ Some next
+      → StepCosts flushing block first now new (Ok step)
+      → (known → IsTrue None now y → HoldsNoneIn now.geometry.pages block 0 first y → IsStepped block now y new z step)
+      → IsUnderWay flushing block next old new known x z
   stepped step then is cost call = step_more step (then (λ e. (let same : step ≡ step_is.Erased = cc in not_erased old.geometry.pages next step is same))) is cost call
 
 pub within_by : (flushing : Bool) (block first pages : ℕ) (now new : Ram) (step : Progress) → pages ≡ now.geometry.pages → StepCosts flushing block first now new (Ok step) → step_within pages step
@@ -305,7 +344,9 @@ still_erased pages next step_is.Erased before after is h = (let no : ⊥ = cc in
 pub once_erased : (step : Progress) (before after : ℕ) → step ≡ step_is.Erased → after ≡ erases_after step before → after ≡ counted before
 once_erased step before after is h = h ∙ ap (λ s. erases_after s before) is
 
-pub room_next : (flushing : Bool) (block first next pages : ℕ) (now new : Ram) (step : Progress) → IsRam new → pages ≡ new.geometry.pages → length now.mapping.moved ≤ first → next_of pages step ≡ Some next → StepCosts flushing block first now new (Ok step) → length new.mapping.moved ≤ next
+pub room_next : (flushing : Bool) (block first next pages : ℕ) (now new : Ram) (step : Progress) → IsRam new → pages ≡ new.geometry.pages
+    → length now.mapping.moved ≤ first → next_of pages step ≡ Some next → StepCosts flushing block first now new (Ok step)
+    → length new.mapping.moved ≤ next
 room_next flushing block first next pages now new (step_is.Copied page) s' p room is cost = (let e : page + 1 ≡ next = cc in omega (arith, e, cost.0, cost.2.moved))
 room_next flushing block first next pages now new step_is.WroteBack s' p room is cost = (let e : pages ≡ next = cc in let m = s'.mapping.moved_within in let g = ap (λ (x : Geometry). x.pages) s'.mapping_of in omega arith)
 room_next flushing block first next pages now new step_is.Erased s' p room is cost = (let no : ⊥ = cc in absurd no)

@@ -100,17 +100,25 @@ stays_in r r' x y block n same shut l is =
           let never : ⊥ = cc in absurd never
     ]
 
-some_stays : (r r' : Ram) (x y : Image) (block t : ℕ) → r'.geometry ≡ r.geometry → is_shut r.blocks block ≡ true → LeavesNewest r x y → is_of_some (entries r'.geometry) (sectors_in r'.geometry y block) t ≡ true → is_of_some (entries r.geometry) (sectors_in r.geometry x block) t ≡ true
+some_stays : (r r' : Ram) (x y : Image) (block t : ℕ) → r'.geometry ≡ r.geometry → is_shut r.blocks block ≡ true → LeavesNewest r x y
+    → is_of_some (entries r'.geometry) (sectors_in r'.geometry y block) t ≡ true
+    → is_of_some (entries r.geometry) (sectors_in r.geometry x block) t ≡ true
 some_stays r r' x y block t same shut l is =
     let here : is_of_some (entries r.geometry) (sectors_in r.geometry y block) t ≡ true = (let P : Geometry → Type 0 = λ g. is_of_some (entries g) (sectors_in g y block) t ≡ true in subst P same is) in
-    let fewer = count_filter (λ n. n / entries r.geometry == t) (λ n. is_in_block r.geometry.pages block (newest_row x (Sector n))) (λ n. is_in_block r.geometry.pages block (newest_row y (Sector n))) (range_with_len 0 r.geometry.sectors) (λ n now. stays_in r r' x y block n same shut l now) in
+    let fewer = count_filter (λ n. n / entries r.geometry == t) (λ n. is_in_block r.geometry.pages block (newest_row x (Sector n)))
+    (λ n. is_in_block r.geometry.pages block (newest_row y (Sector n))) (range_with_len 0 r.geometry.sectors)
+    (λ n now. stays_in r r' x y block n same shut l now) in
     let some = some_positive (count_by (λ n. n / entries r.geometry == t) (sectors_in r.geometry y block)) here in
     positive_some (count_by (λ n. n / entries r.geometry == t) (sectors_in r.geometry x block)) (omega arith)
 
 -- as many translation pages are touched, or fewer
-pub touched_kept : (flushing : Bool) (r r' : Ram) (x y : Image) (block : ℕ) → r'.geometry ≡ r.geometry → is_shut r.blocks block ≡ true → LeavesNewest r x y → ((t : ℕ) → is_due flushing r' t ≡ true → is_touched flushing r x block t ≡ true) → touched_count flushing r' y block ≤ touched_count flushing r x block
+pub touched_kept : (flushing : Bool) (r r' : Ram) (x y : Image) (block : ℕ) → r'.geometry ≡ r.geometry → is_shut r.blocks block ≡ true
+    → LeavesNewest r x y → ((t : ℕ) → is_due flushing r' t ≡ true → is_touched flushing r x block t ≡ true)
+    → touched_count flushing r' y block ≤ touched_count flushing r x block
 touched_kept flushing r r' x y block same shut l due =
-    let e : count_by (is_touched flushing r' y block) (range_with_len 0 (translation_pages r.geometry)) ≤ touched_count flushing r x block = count_less (is_touched flushing r x block) (is_touched flushing r' y block) (range_with_len 0 (translation_pages r.geometry)) (λ t is. elim (or_cases (is_due flushing r' t) (is_of_some (entries r'.geometry) (sectors_in r'.geometry y block) t) is) [
+    let e : count_by (is_touched flushing r' y block) (range_with_len 0 (translation_pages r.geometry)) ≤ touched_count flushing r x block =
+    count_less (is_touched flushing r x block) (is_touched flushing r' y block) (range_with_len 0 (translation_pages r.geometry))
+    (λ t is. elim (or_cases (is_due flushing r' t) (is_of_some (entries r'.geometry) (sectors_in r'.geometry y block) t) is) [
       | inl first ↦ due t first
       | inr second ↦ or_right (is_due flushing r t) (is_of_some (entries r.geometry) (sectors_in r.geometry x block) t) (some_stays r r' x y block t same shut l second)
     ]) in
@@ -145,8 +153,15 @@ copied_touches flushing (Sector n) row at r r' image s of_key is f = λ t due. e
       or_right (is_due flushing r t) (is_of_some (entries r.geometry) (sectors_in r.geometry image block) t) (ap (is_of_some (entries r.geometry) (sectors_in r.geometry image block)) here ∙ of_some_here r.geometry image block n of_key in_block)
   | inr ne ↦ or_left (is_due flushing r t) (is_of_some (entries r.geometry) (sectors_in r.geometry image (row / r.geometry.pages)) t) (sym (other_due flushing n at r r' s f t ne) ∙ due)
 ]
-copied_touches flushing (Translation u) row at r r' image s of_key is f = λ t due. or_left (is_due flushing r t) (is_of_some (entries r.geometry) (sectors_in r.geometry image (row / r.geometry.pages)) t) (sym (same_due flushing r r' f.mapping (f.marks ∙ unmarked_key flushing r.geometry (Translation u) r.pin.marks (λ n x. (let no : ⊥ = cc in no))) t) ∙ due)
-copied_touches flushing (Table u) row at r r' image s of_key is f = λ t due. or_left (is_due flushing r t) (is_of_some (entries r.geometry) (sectors_in r.geometry image (row / r.geometry.pages)) t) (sym (same_due flushing r r' f.mapping (f.marks ∙ unmarked_key flushing r.geometry (Table u) r.pin.marks (λ n x. (let no : ⊥ = cc in no))) t) ∙ due)
+copied_touches flushing (Translation u) row at r r' image s of_key is f = λ t due. or_left (is_due flushing r t)
+    (is_of_some (entries r.geometry) (sectors_in r.geometry image (row / r.geometry.pages)) t)
+    (sym
+    (same_due flushing r r' f.mapping
+    (f.marks ∙ unmarked_key flushing r.geometry (Translation u) r.pin.marks (λ n x. (let no : ⊥ = cc in no))) t) ∙ due)
+copied_touches flushing (Table u) row at r r' image s of_key is f = λ t due. or_left (is_due flushing r t)
+    (is_of_some (entries r.geometry) (sectors_in r.geometry image (row / r.geometry.pages)) t)
+    (sym (same_due flushing r r' f.mapping (f.marks ∙ unmarked_key flushing r.geometry (Table u) r.pin.marks (λ n x. (let no : ⊥ = cc in no))) t)
+    ∙ due)
 
 -- ---- once no newest page is left
 
@@ -162,11 +177,15 @@ or_none true b e = refl
 or_none false b e = e
 
 touched_at_end : (flushing : Bool) (r : Ram) (x : Image) (block : ℕ) → IsRam r → IsTrue None r x → block < r.geometry.blocks → live_at r.blocks block ≡ 0 → touched_count flushing r x block ≡ due_count flushing r
-touched_at_end flushing r x block s w lt zero_is = Rattle.page_layout.proofs.CountLemmas.count_by-same (is_touched flushing r x block) (is_due flushing r) (range_with_len 0 (translation_pages r.geometry)) (λ t. or_none (is_due flushing r t) (is_of_some (entries r.geometry) (sectors_in r.geometry x block) t) (none_in_block r x block t s w lt zero_is))
+touched_at_end flushing r x block s w lt zero_is = Rattle.page_layout.proofs.CountLemmas.count_by-same (is_touched flushing r x block)
+    (is_due flushing r) (range_with_len 0 (translation_pages r.geometry))
+    (λ t. or_none (is_due flushing r t) (is_of_some (entries r.geometry) (sectors_in r.geometry x block) t) (none_in_block r x block t s w lt zero_is))
 
 pub write_law : Rattle.collection.specs.Left.WriteLaw
 write_law flushing r r' x y block s' w' lt same now cost =
-    let a : due_count flushing r ≤ touched_count flushing r x block = count_less (is_touched flushing r x block) (is_due flushing r) (range_with_len 0 (translation_pages r.geometry)) (λ t due. or_left (is_due flushing r t) (is_of_some (entries r.geometry) (sectors_in r.geometry x block) t) due) in
+    let a : due_count flushing r ≤ touched_count flushing r x block = count_less (is_touched flushing r x block) (is_due flushing r)
+    (range_with_len 0 (translation_pages r.geometry))
+    (λ t due. or_left (is_due flushing r t) (is_of_some (entries r.geometry) (sectors_in r.geometry x block) t) due) in
     let b = touched_at_end flushing r' y block s' w' (rw same lt) now in
     omega (arith, a, b, cost.due, now)
 

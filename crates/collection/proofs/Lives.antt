@@ -58,7 +58,9 @@ less_length (Some row) s = length-set s.fills (row / s.geometry.pages) _
 less_most : (s : State) (o : Option ℕ) (c : ℕ) → live_at (one_live_less o s) c + one_if (is_in_block s.geometry.pages c o) ≡ live_at s c → live_at (one_live_less o s) c ≤ live_at s c
 less_most s o c e = omega (arith, e)
 
-pub moves : (s : State) (o : Option ℕ) (block c : ℕ) → block < length s.fills → ForSome o (λ r. r / s.geometry.pages < length s.fills) → ForSome o (λ r. 0 < live_at s (r / s.geometry.pages)) → live_at s block + 1 < 2 ^ 32 → live_at (moved_live o block s) c + one_if (is_in_block s.geometry.pages c o) ≡ live_at s c + one_if (block == c)
+pub moves : (s : State) (o : Option ℕ) (block c : ℕ) → block < length s.fills → ForSome o (λ r. r / s.geometry.pages < length s.fills)
+    → ForSome o (λ r. 0 < live_at s (r / s.geometry.pages)) → live_at s block + 1 < 2 ^ 32
+    → live_at (moved_live o block s) c + one_if (is_in_block s.geometry.pages c o) ≡ live_at s c + one_if (block == c)
 moves s o block c lt within some small =
     let left : State = one_live_less o s in
     let at_c : live_at left c + one_if (is_in_block s.geometry.pages c o) ≡ live_at s c = less_live s o c within some in
@@ -75,7 +77,11 @@ live_failed stream block s old new lt k w =
     let P : Geometry → Type 0 = λ g. (b : ℕ) → b < g.blocks → live_at t b ≡ live g (marks new) b in
     subst P (sym (taken_geometry stream s block)) (λ b lb. taken_live stream s block b lt ∙ (w b lb ∙ sym (k.live_same b)))
 
-pub live_passed : (stream : Stream) (block row : ℕ) (s : State) (rec : Record) (body : List ℕ) (o : Option ℕ) (old new : Image) → block < length s.fills → row / s.geometry.pages ≡ block → ForSome o (λ r. r / s.geometry.pages < length s.fills) → ForSome o (λ r. 0 < live_at s (r / s.geometry.pages)) → live_at s block + 1 < 2 ^ 32 → o ≡ newest_row old (key_of rec) → Writes s.geometry rec row body old new → IsLiveExact s (marks old) → (moved_live o block (taken stream block s)).geometry ≡ s.geometry → IsLiveExact (moved_live o block (taken stream block s)) (marks new)
+pub live_passed : (stream : Stream) (block row : ℕ) (s : State) (rec : Record) (body : List ℕ) (o : Option ℕ) (old new : Image)
+    → block < length s.fills → row / s.geometry.pages ≡ block → ForSome o (λ r. r / s.geometry.pages < length s.fills)
+    → ForSome o (λ r. 0 < live_at s (r / s.geometry.pages)) → live_at s block + 1 < 2 ^ 32 → o ≡ newest_row old (key_of rec)
+    → Writes s.geometry rec row body old new → IsLiveExact s (marks old) → (moved_live o block (taken stream block s)).geometry ≡ s.geometry
+    → IsLiveExact (moved_live o block (taken stream block s)) (marks new)
 live_passed stream block row s rec body o old new lt is within some small old_is w exact geometry =
     let t : State = taken stream block s in
     let m : State = moved_live o block t in
@@ -84,7 +90,11 @@ live_passed stream block row s rec body o old new lt is within some small old_is
     let live_same : (b : ℕ) → live_at t b ≡ live_at s b = λ b. taken_live stream s block b lt in
     let P : Geometry → Type 0 = λ g. (b : ℕ) → b < g.blocks → live_at m b ≡ live g (marks new) b in
     subst P (sym geometry) (λ b lb.
-    let ram : live_at m b + one_if (is_in_block t.geometry.pages b o) ≡ live_at t b + one_if (block == b) = moves t o block b (omega (arith, size)) (λ r e. rw (same, size) (within r e)) (λ r e. (let x = some r e in let y : live_at t (r / t.geometry.pages) ≡ live_at s (r / s.geometry.pages) = live_same (r / t.geometry.pages) ∙ ap (λ g. live_at s (r / g.pages)) same in omega arith)) (omega (arith, live_same block)) in
+    let ram : live_at m b + one_if (is_in_block t.geometry.pages b o) ≡ live_at t b + one_if (block == b) = moves t o block b (omega (arith, size))
+    (λ r e. rw (same, size) (within r e))
+    (λ r e.
+    (let x = some r e in let y : live_at t (r / t.geometry.pages) ≡ live_at s (r / s.geometry.pages) = live_same (r / t.geometry.pages) ∙ ap
+    (λ g. live_at s (r / g.pages)) same in omega arith)) (omega (arith, live_same block)) in
     let die : live s.geometry (marks new) b + one_if (is_in_block s.geometry.pages b (newest_row old (key_of rec))) ≡ live s.geometry (marks old) b + one_if (row / s.geometry.pages == b) = w.live_moved b in
     let same_old : one_if (is_in_block t.geometry.pages b o) ≡ one_if (is_in_block s.geometry.pages b (newest_row old (key_of rec))) = ap (λ g. one_if (is_in_block g.pages b o)) same ∙ ap (λ x. one_if (is_in_block s.geometry.pages b x)) old_is in
     let same_new : one_if (row / s.geometry.pages == b) ≡ one_if (block == b) = ap (λ k. one_if (k == b)) is in

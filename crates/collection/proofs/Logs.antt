@@ -96,7 +96,10 @@ records_none (Some r) = ap (λ l. Some (record { image = r.image; log = l })) (s
 pub went_same : (r : Ram) (s : Flash) (told : Option Recording) → Went r s told r s told
 went_same r s told = record { log = []; leads = refl; records = records_none told; follows = record { legal = λ accounts a. tt; accounted = λ accounts a. a }; next = omega arith; wears = record { worn = λ b most. omega arith } }
 
-pub went_one : (old new : Ram) (before after : Flash) (told told' : Option Recording) (block row : ℕ) (outcome : Outcome) → IsStep row outcome before told after told' → old.blocks.geometry ≡ old.geometry → HasFollowed block (is_passed outcome) old.blocks new.blocks → row ≡ block * old.blocks.geometry.pages + pointer_at old.blocks block → new.next ≡ old.next + 1 → Went old before told new after told'
+pub went_one : (old new : Ram) (before after : Flash) (told told' : Option Recording) (block row : ℕ) (outcome : Outcome)
+    → IsStep row outcome before told after told' → old.blocks.geometry ≡ old.geometry
+    → HasFollowed block (is_passed outcome) old.blocks new.blocks → row ≡ block * old.blocks.geometry.pages + pointer_at old.blocks block
+    → new.next ≡ old.next + 1 → Went old before told new after told'
 went_one old new before after told told' block row outcome step same h row_is next = record {
   log = Program row step.its (is_passed outcome) step.left ∷ [];
   leads = Leads-one before after (Program row step.its (is_passed outcome) step.left) step.step;

@@ -100,7 +100,10 @@ module _ (g : Geometry) (image : Image) (directory : List (Option ℕ)) (m : Map
       ap (λ k. entry_at p.body (n % k)) same ∙ (ap (λ b. entry_at b (n % entries g)) (sym holds) ∙ (sym (entry_here g image n at (page_at (Some at) is)) ∙ right))
 
   -- and the test of it passes
-  pub found_by : (at : ℕ) (p : Page) (lent : List ℕ) (result : Result (Option ℕ) WriteFault) → length image ≡ row_count g → newest_row image (Translation (n / e)) ≡ Some at → slice_get image at ≡ Some p → lent ≡ p.body → IfOk result (λ row. row ≡ entry_at lent (n % e)) → (ForSome (entry_at lent (n % e)) (λ r. r < row_count g) → OnErr result ⊥) → MatchResult result (λ row. row ≡ newest_row image (Sector n)) (λ fault. fault ≡ Bus)
+  pub found_by : (at : ℕ) (p : Page) (lent : List ℕ) (result : Result (Option ℕ) WriteFault) → length image ≡ row_count g
+      → newest_row image (Translation (n / e)) ≡ Some at → slice_get image at ≡ Some p → lent ≡ p.body
+      → IfOk result (λ row. row ≡ entry_at lent (n % e)) → (ForSome (entry_at lent (n % e)) (λ r. r < row_count g) → OnErr result ⊥)
+      → MatchResult result (λ row. row ≡ newest_row image (Sector n)) (λ fault. fault ≡ Bus)
   found_by at p lent (Ok row) whole is read is_lent entry tested = entry ∙ (ap (λ b. entry_at b (n % e)) is_lent ∙ entry_read at p is read)
   found_by at p lent (Err fault) whole is read is_lent entry tested =
       let here : entry_at lent (n % e) ≡ newest_row image (Sector n) = ap (λ b. entry_at b (n % e)) is_lent ∙ entry_read at p is read in
@@ -124,7 +127,9 @@ by_kind g kind.Table bytes body written cleared = cleared (λ e. (let never : �
 pub gives_none : (g : Geometry) (n size : ℕ) (p : Page) (bytes : List ℕ) → bytes ≡ replicate size 0 → size ≡ g.data_bytes → GivesSector g n None p bytes
 gives_none g n size p bytes filled whole = filled ∙ ap (λ k. replicate k 0) whole
 
-pub gives_some : (g : Geometry) (n at : ℕ) (row : Option ℕ) (p : Page) (its : Record) (bytes lent : List ℕ) (size : ℕ) → row ≡ Some at → IsPageOf (Sector n) its p → lent ≡ p.body → (its.kind ≡ kind.Sector → bytes ≡ lent) → (its.kind ≢ kind.Sector → bytes ≡ replicate size 0) → size ≡ g.data_bytes → GivesSector g n row p bytes
+pub gives_some : (g : Geometry) (n at : ℕ) (row : Option ℕ) (p : Page) (its : Record) (bytes lent : List ℕ) (size : ℕ) → row ≡ Some at
+    → IsPageOf (Sector n) its p → lent ≡ p.body → (its.kind ≡ kind.Sector → bytes ≡ lent) → (its.kind ≢ kind.Sector → bytes ≡ replicate size 0)
+    → size ≡ g.data_bytes → GivesSector g n row p bytes
 gives_some g n at row p its bytes lent size is checked is_lent written cleared whole =
     let holds : bytes ≡ content_of_kind g its.kind p.body = by_kind g its.kind bytes p.body (λ k. written k ∙ is_lent) (λ k. cleared k ∙ ap (λ z. replicate z 0) whole) in
     let given : GivesSector g n (Some at) p bytes = record { its = its; checked = checked; holds = holds } in
@@ -138,7 +143,10 @@ found_row row = Ok row
 pub finds_row : {A : Type 0} (r : Ram) (n : ℕ) (p : Page) (row : Option ℕ) → ForSome (known r.mapping n) (λ its. (found_row row ≡ found_row its) × A) → (known r.mapping n ≡ None → GivesRow r.geometry r.directory n p row) → FindsRow r n p row
 finds_row r n p row hit miss = record { hit = λ its is. (let e : found_row row ≡ found_row its = (hit its is).0 in cc); miss = miss }
 
-pub read_some : (g : Geometry) (image : Image) (n at : ℕ) (row : Option ℕ) (p : Page) (its : Record) (bytes lent : List ℕ) (size : ℕ) → row ≡ newest_row image (Sector n) → row ≡ Some at → slice_get image at ≡ Some p → IsPageOf (Sector n) its p → lent ≡ p.body → (its.kind ≡ kind.Sector → bytes ≡ lent) → (its.kind ≢ kind.Sector → bytes ≡ replicate size 0) → size ≡ g.data_bytes → IsRead n (Some at) bytes g image
+pub read_some : (g : Geometry) (image : Image) (n at : ℕ) (row : Option ℕ) (p : Page) (its : Record) (bytes lent : List ℕ) (size : ℕ)
+    → row ≡ newest_row image (Sector n) → row ≡ Some at → slice_get image at ≡ Some p → IsPageOf (Sector n) its p → lent ≡ p.body
+    → (its.kind ≡ kind.Sector → bytes ≡ lent) → (its.kind ≢ kind.Sector → bytes ≡ replicate size 0) → size ≡ g.data_bytes
+    → IsRead n (Some at) bytes g image
 read_some g image n at row p its bytes lent size found is read checked is_lent written cleared whole =
     let newest_is : newest_row image (Sector n) ≡ Some at = sym found ∙ is in
     let here : sector_of g image n ≡ content_of_kind g its.kind (body_at image at) = sector_here g image n at its newest_is (mark-page image at p read ∙ checked.sound) in

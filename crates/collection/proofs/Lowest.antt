@@ -36,7 +36,9 @@ holds_none r image block s w lt zero = none_live r.geometry block image w.one (s
 pub some_pages : (g : Geometry) → 0 < g.pages
 some_pages g = omega (arith, g.limits.page_count.least)
 
-pub copied_none : (r r1 : Ram) (x x1 : Image) (block first : ℕ) (live : Option (ℕ × Record)) (body : List ℕ) → IsTrue None r x → r1 ≡ r → x1 ≡ x → HoldsNoneIn r.geometry.pages block 0 first x → FindsFirst r.geometry.pages block first body x live → live ≡ None → IsSame r x r1 x1 × HoldsNone r.geometry.pages block x1
+pub copied_none : (r r1 : Ram) (x x1 : Image) (block first : ℕ) (live : Option (ℕ × Record)) (body : List ℕ) → IsTrue None r x → r1 ≡ r → x1 ≡ x
+    → HoldsNoneIn r.geometry.pages block 0 first x → FindsFirst r.geometry.pages block first body x live → live ≡ None
+    → IsSame r x r1 x1 × HoldsNone r.geometry.pages block x1
 copied_none r r1 x x1 block first live body w same still none finds is =
     let rest : HoldsNoneIn r.geometry.pages block first r.geometry.pages x = (let P : Option (ℕ × Record) → Type 0 = λ o. FindsFirst r.geometry.pages block first body x o in subst P is finds) in
     rw (same, still) (same_here r x w, none_all r.geometry.pages block x (some_pages r.geometry) (none_join r.geometry.pages block x 0 first r.geometry.pages none rest))
@@ -61,7 +63,9 @@ none_leaves r x y block first end shut le l h = record {
   ];
 }
 
-pub copied_by : (r r2 : Ram) (x x2 : Image) (block first page row : ℕ) (found : Record) (body : List ℕ) → row ≡ block * r.geometry.pages + page → page < r.geometry.pages → is_closed r.blocks block ≡ true → HoldsNoneIn r.geometry.pages block 0 first x → IsFirstLive r.geometry.pages block first page body found x → IsMovedOut row r x r2 x2 → IsCopied block page r x r2 x2
+pub copied_by : (r r2 : Ram) (x x2 : Image) (block first page row : ℕ) (found : Record) (body : List ℕ) → row ≡ block * r.geometry.pages + page
+    → page < r.geometry.pages → is_closed r.blocks block ≡ true → HoldsNoneIn r.geometry.pages block 0 first x
+    → IsFirstLive r.geometry.pages block first page body found x → IsMovedOut row r x r2 x2 → IsCopied block page r x r2 x2
 copied_by r r2 x x2 block first page row found body at lt closed none f m =
     let of_block : row / r.geometry.pages ≡ block = ap (λ k. k / r.geometry.pages) at ∙ div-mul-add block r.geometry.pages page lt in
     let shut : is_shut r.blocks block ≡ true = shut_closed r.blocks block closed in
@@ -72,7 +76,11 @@ copied_by r r2 x x2 block first page row found body at lt closed none f m =
       none = Rattle.collection.proofs.Finds.none_more r.geometry.pages block x2 0 page before (let P : ℕ → Type 0 = λ q. NotAt q x2 in subst P at m.gone);
     }
 
-pub copied_from : (r r1 r2 : Ram) (x x1 x2 : Image) (block first page row : ℕ) (found : Record) (body : List ℕ) (live : Option (ℕ × Record)) → IsTrue None r x → r1 ≡ r → x1 ≡ x → row ≡ block * r1.geometry.pages + page → page < r.geometry.pages → is_closed r.blocks block ≡ true → HoldsNoneIn r.geometry.pages block 0 first x → FindsFirst r.geometry.pages block first body x live → live ≡ Some (page, found) → (IsTrue None r1 x1 → is_shut r1.blocks (row / r1.geometry.pages) ≡ true → IsLivePage row body found x1 → IsMovedOut row r1 x1 r2 x2) → IsCopied block page r x r2 x2
+pub copied_from : (r r1 r2 : Ram) (x x1 x2 : Image) (block first page row : ℕ) (found : Record) (body : List ℕ) (live : Option (ℕ × Record))
+    → IsTrue None r x → r1 ≡ r → x1 ≡ x → row ≡ block * r1.geometry.pages + page → page < r.geometry.pages → is_closed r.blocks block ≡ true
+    → HoldsNoneIn r.geometry.pages block 0 first x → FindsFirst r.geometry.pages block first body x live → live ≡ Some (page, found)
+    → (IsTrue None r1 x1 → is_shut r1.blocks (row / r1.geometry.pages) ≡ true → IsLivePage row body found x1 → IsMovedOut row r1 x1 r2 x2)
+    → IsCopied block page r x r2 x2
 copied_from r r1 r2 x x1 x2 block first page row found body live w same still at lt closed none finds is call =
     let f : IsFirstLive r.geometry.pages block first page body found x = (let P : Option (ℕ × Record) → Type 0 = λ o. FindsFirst r.geometry.pages block first body x o in subst P is finds) in
     let here : row ≡ block * r.geometry.pages + page = at ∙ ap (λ (z : Ram). block * z.geometry.pages + page) same in
@@ -103,7 +111,9 @@ moved_only true flushing m is off = refl
 moved_only false true m is off = (let no : ⊥ = cc in absurd no)
 moved_only false false m is off = is
 
-pub written_cost : (flushing : Bool) (t : ℕ) (r b : Ram) (p : Pin) → IsRam r → IsLowestDue flushing r t → HasPut Meta r b → HasNoMore r.mapping b.mapping → b.geometry ≡ r.geometry → b.mapping ≡ cleaned r.mapping t → p.marks ≡ set r.pin.marks t false → HasWritten flushing r (record b { pin = p })
+pub written_cost : (flushing : Bool) (t : ℕ) (r b : Ram) (p : Pin) → IsRam r → IsLowestDue flushing r t → HasPut Meta r b
+    → HasNoMore r.mapping b.mapping → b.geometry ≡ r.geometry → b.mapping ≡ cleaned r.mapping t → p.marks ≡ set r.pin.marks t false
+    → HasWritten flushing r (record b { pin = p })
 written_cost flushing t r b p s low cost more same mapping marks = record {
   put = put_pinned Meta r b p cost;
   page = t;

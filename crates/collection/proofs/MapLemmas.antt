@@ -19,7 +19,8 @@ use Rattle.collection.specs.Maps.{Maps, IsPageFor}
 use Rattle.page_layout.proofs.ArrayLemmas.{slice_get-set_same, slice_get-set_other}
 
 -- an entry is the same where the newest page of its key is
-entry_kept : (g : Geometry) (old new : Image) (n : ℕ) → newest_row new (Translation (n / entries g)) ≡ newest_row old (Translation (n / entries g)) → ((q : ℕ) → newest_row old (Translation (n / entries g)) ≡ Some q → body_at new q ≡ body_at old q) → entry_of g new n ≡ entry_of g old n
+entry_kept : (g : Geometry) (old new : Image) (n : ℕ) → newest_row new (Translation (n / entries g)) ≡ newest_row old (Translation (n / entries g))
+    → ((q : ℕ) → newest_row old (Translation (n / entries g)) ≡ Some q → body_at new q ≡ body_at old q) → entry_of g new n ≡ entry_of g old n
 unfolding entry_of
 entry_kept g old new n same bodies = ap (entry_in new (n % entries g)) same ∙ at (newest_row old (Translation (n / entries g))) refl
   where
@@ -65,7 +66,9 @@ maps_put g r row body old new directory m p fits w = record {
 -- ---- the memory follows
 
 -- a sector's entry: by set_dirty, by move_entry
-pub maps_entry : (g : Geometry) (image : Image) (directory : List (Option ℕ)) (m m' : MappingState) (k : ℕ) (row : Option ℕ) → Maps (Some (Sector k)) g image directory m → newest_row image (Sector k) ≡ row → known m' k ≡ Some row → pending m' k ≡ Some row → ((n : ℕ) → n ≢ k → known m' n ≡ known m n) → ((n : ℕ) → n ≢ k → pending m' n ≡ pending m n) → Maps None g image directory m'
+pub maps_entry : (g : Geometry) (image : Image) (directory : List (Option ℕ)) (m m' : MappingState) (k : ℕ) (row : Option ℕ)
+    → Maps (Some (Sector k)) g image directory m → newest_row image (Sector k) ≡ row → known m' k ≡ Some row → pending m' k ≡ Some row
+    → ((n : ℕ) → n ≢ k → known m' n ≡ known m n) → ((n : ℕ) → n ≢ k → pending m' n ≡ pending m n) → Maps None g image directory m'
 maps_entry g image directory m m' k row w here known_now pending_now known_others pending_others = record {
   directory_is = λ key at lt ne is. w.directory_is key at lt (meta key at is) is;
   known_is = λ n q ne is. elim (cases_eq n k) [
@@ -105,7 +108,9 @@ places_apart g (Translation t) (Sector n) i la lb x y = (let no : ⊥ = cc in ab
 places_apart g (Table t) (Sector n) i la lb x y = (let no : ⊥ = cc in absurd no)
 
 -- a row of the directory
-pub maps_directory : (g : Geometry) (image : Image) (directory : List (Option ℕ)) (m : MappingState) (key : Key) (i : ℕ) (row : Option ℕ) → Maps (Some key) g image directory m → IsKeyOf g key → directory_place g key ≡ Some i → i < length directory → newest_row image key ≡ row → Maps None g image (set directory i row) m
+pub maps_directory : (g : Geometry) (image : Image) (directory : List (Option ℕ)) (m : MappingState) (key : Key) (i : ℕ) (row : Option ℕ)
+    → Maps (Some key) g image directory m → IsKeyOf g key → directory_place g key ≡ Some i → i < length directory → newest_row image key ≡ row
+    → Maps None g image (set directory i row) m
 maps_directory g image directory m key i row w of_key place within here = record {
   directory_is = λ k at lt ne is. elim (cases_key key k) [
     | inl same ↦
@@ -122,7 +127,10 @@ maps_directory g image directory m key i row w of_key place within here = record
     sector n e = (let same : key ≡ Sector n = cc in let p : directory_place g key ≡ None = ap (directory_place g) same in let no : ⊥ = cc in no)
 
 -- translation page t has every row of its sectors, and the mapping forgets that it lacked some
-pub maps_clean : (g : Geometry) (image : Image) (directory : List (Option ℕ)) (m m' : MappingState) (t : ℕ) → Maps None g image directory m → ((n : ℕ) → n < g.sectors → n / entries g ≡ t → entry_of g image n ≡ newest_row image (Sector n)) → ((n : ℕ) (row : Option ℕ) → known m' n ≡ Some row → known m n ≡ Some row) → ((n : ℕ) → n / entries g ≢ t → pending m' n ≡ pending m n) → Maps None g image directory m'
+pub maps_clean : (g : Geometry) (image : Image) (directory : List (Option ℕ)) (m m' : MappingState) (t : ℕ) → Maps None g image directory m
+    → ((n : ℕ) → n < g.sectors → n / entries g ≡ t → entry_of g image n ≡ newest_row image (Sector n))
+    → ((n : ℕ) (row : Option ℕ) → known m' n ≡ Some row → known m n ≡ Some row) → ((n : ℕ) → n / entries g ≢ t → pending m' n ≡ pending m n)
+    → Maps None g image directory m'
 maps_clean g image directory m m' t w written knows others = record {
   directory_is = w.directory_is;
   known_is = λ n q ne is. w.known_is n q ne (knows n q is);

@@ -30,7 +30,9 @@ module _ (fault : Option WriteFault) where
   pub fresh_noted : (a b : Ram) → Refreshes a b → Refreshes a (record b { fault = fault })
   fresh_noted a b x = record { each = x.each }
 
-  pub emptied_noted : (block : ℕ) (a b : Ram) (x y : Image) (result : Result (Unit {0}) WriteFault) → MatchResult result (λ u. IsEmptied block a x b y) (Refused a x b y) → MatchResult result (λ u. IsEmptied block a x (record b { fault = fault }) y) (Refused a x (record b { fault = fault }) y)
+  pub emptied_noted : (block : ℕ) (a b : Ram) (x y : Image) (result : Result (Unit {0}) WriteFault)
+      → MatchResult result (λ u. IsEmptied block a x b y) (Refused a x b y)
+      → MatchResult result (λ u. IsEmptied block a x (record b { fault = fault }) y) (Refused a x (record b { fault = fault }) y)
   emptied_noted block a b x y (Ok u) k = record { same = same_noted fault a b x y k.same; none = k.none }
   emptied_noted block a b x y (Err f) k = refused_noted fault a b x y f k
 

@@ -22,7 +22,12 @@ none_read flushing first r reads due within =
       few = omega arith;
     }
 
-pub read_more : (flushing : Bool) (block start first next : ℕ) (old now new : Ram) (before middle after : ℕ) (step : Progress) → now.geometry ≡ old.geometry → new.geometry ≡ old.geometry → HasRead flushing start first old now before middle → next_of old.geometry.pages step ≡ Some next → StepCosts flushing block first now new (Ok step) → after ≤ middle + (2 * (now.geometry.pages - first) + min (due_count flushing now) 1) → ((page : ℕ) → ok_step step ≡ ok_step (step_is.Copied page) → after ≤ middle + 2 * (page + 1 - first)) → HasRead flushing start next old new before after
+pub read_more : (flushing : Bool) (block start first next : ℕ) (old now new : Ram) (before middle after : ℕ) (step : Progress)
+    → now.geometry ≡ old.geometry → new.geometry ≡ old.geometry → HasRead flushing start first old now before middle
+    → next_of old.geometry.pages step ≡ Some next → StepCosts flushing block first now new (Ok step)
+    → after ≤ middle + (2 * (now.geometry.pages - first) + min (due_count flushing now) 1)
+    → ((page : ℕ) → ok_step step ≡ ok_step (step_is.Copied page) → after ≤ middle + 2 * (page + 1 - first))
+    → HasRead flushing start next old new before after
 read_more flushing block start first next old now new before middle after (step_is.Copied page) same still h is cost most copied =
     let e : page + 1 ≡ next = cc in
     let pages : now.geometry.pages ≡ old.geometry.pages = ap (λ (g : Geometry). g.pages) same in
@@ -52,5 +57,7 @@ read_more flushing block start first next old now new before middle after step_i
 read_more flushing block start first next old now new before middle after step_is.Erased same still h is cost most copied = (let no : ⊥ = cc in absurd no)
 
 -- with the last step
-pub read_all : (flushing : Bool) (start first : ℕ) (old now : Ram) (before middle after : ℕ) → now.geometry ≡ old.geometry → HasRead flushing start first old now before middle → after ≤ middle + (2 * (now.geometry.pages - first) + min (due_count flushing now) 1) → after ≤ before + (2 * (old.geometry.pages - start) + min old.geometry.pages (translation_pages old.geometry))
+pub read_all : (flushing : Bool) (start first : ℕ) (old now : Ram) (before middle after : ℕ) → now.geometry ≡ old.geometry
+    → HasRead flushing start first old now before middle → after ≤ middle + (2 * (now.geometry.pages - first) + min (due_count flushing now) 1)
+    → after ≤ before + (2 * (old.geometry.pages - start) + min old.geometry.pages (translation_pages old.geometry))
 read_all flushing start first old now before middle after same h most = (let pages : now.geometry.pages ≡ old.geometry.pages = ap (λ (g : Geometry). g.pages) same in omega (arith, pages, h.for_copies, h.for_pages, h.on, h.within, h.few))

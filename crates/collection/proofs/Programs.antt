@@ -25,7 +25,10 @@ pub image_by : (g : Geometry) (old new : Flash) (H : Type 0) (result : Result Ou
 image_by g old new H (Ok o) same is whole h = (let P : Geometry → Type 0 = λ x. IsImage x new.image in subst P (same ∙ is) (whole h).image_whole)
 image_by g old new H (Err e) same is whole h = tt
 
-pub means_by : (g : Geometry) (row : ℕ) (r : Record) (body spare : List ℕ) (old new : Flash) (H : Type 0) (result : Result Outcome BusFault) → CanProgram g row r old.image → record_of (page body spare) ≡ Some r → version_of (page body spare) ≡ Some (version_for g) → IfOk result (λ o. H → Steps old (Program row (page body spare) (is_passed o) (page_at new row)) new) → H → IfOk result (λ o. ProgramMeans g r row body (is_passed o) old.image new.image)
+pub means_by : (g : Geometry) (row : ℕ) (r : Record) (body spare : List ℕ) (old new : Flash) (H : Type 0) (result : Result Outcome BusFault)
+    → CanProgram g row r old.image → record_of (page body spare) ≡ Some r → version_of (page body spare) ≡ Some (version_for g)
+    → IfOk result (λ o. H → Steps old (Program row (page body spare) (is_passed o) (page_at new row)) new) → H
+    → IfOk result (λ o. ProgramMeans g r row body (is_passed o) old.image new.image)
 means_by g row r body spare old new H (Ok o) can is version step h = program_means g old new row (page body spare) (page_at new row) (is_passed o) r (step h) can.one can.unsound is version can.below can.in_range
 means_by g row r body spare old new H (Err e) can is version step h = tt
 

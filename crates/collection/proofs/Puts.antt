@@ -150,6 +150,8 @@ array_put kind.Translation n row body a b x y lt p = array_unwritten a.geometry 
 array_put kind.Table n row body a b x y lt p = array_unwritten a.geometry (last_record kind.Table n row b) row body x y (λ k e. (let no : ⊥ = cc in no)) p.writes
 
 -- whatever the answer is
-pub array_result : (kind : Kind) (n : ℕ) (body : List ℕ) (a b : Ram) (x y : Image) (result : Result ℕ WriteFault) → IsKeyOf a.geometry (key_from kind n) → MatchResult result (λ row. IsPut kind n row body a x b y) (Refused a x b y) → OnOk result (array_of a.geometry y ≡ array_after a.geometry kind n body (array_of a.geometry x))
+pub array_result : (kind : Kind) (n : ℕ) (body : List ℕ) (a b : Ram) (x y : Image) (result : Result ℕ WriteFault)
+    → IsKeyOf a.geometry (key_from kind n) → MatchResult result (λ row. IsPut kind n row body a x b y) (Refused a x b y)
+    → OnOk result (array_of a.geometry y ≡ array_after a.geometry kind n body (array_of a.geometry x))
 array_result kind n body a b x y (Ok row) lt p = array_put kind n row body a b x y lt p
 array_result kind n body a b x y (Err f) lt p = tt

@@ -56,7 +56,9 @@ found_at r r1 p q row at f same here found x e =
     subst R is (subst Q (sym here) (subst P same found))
 
 -- one block more without a newest page
-pub ailing_more : (r : Ram) (x : Image) (block : ℕ) → ((b : ℕ) → b < block → is_good_at r.blocks.table b ≡ false → live_at r.blocks b ≡ 0) → (is_good_at r.blocks.table block ≡ false → live_at r.blocks block ≡ 0) → (b : ℕ) → b < block + 1 → is_good_at r.blocks.table b ≡ false → live_at r.blocks b ≡ 0
+pub ailing_more : (r : Ram) (x : Image) (block : ℕ) → ((b : ℕ) → b < block → is_good_at r.blocks.table b ≡ false → live_at r.blocks b ≡ 0)
+    → (is_good_at r.blocks.table block ≡ false → live_at r.blocks block ≡ 0) → (b : ℕ) → b < block + 1 → is_good_at r.blocks.table b ≡ false
+    → live_at r.blocks b ≡ 0
 ailing_more r x block below here b lt bad = elim (cases_eq b block) [
   | inl same ↦ ap (live_at r.blocks) same ∙ here (ap (is_good_at r.blocks.table) (sym same) ∙ bad)
   | inr ne ↦ below b (omega arith) bad
@@ -80,7 +82,10 @@ not_above pages b p block page row some lp lt at less =
     let is : (b * pages + p) / pages ≡ b = div-mul-add b pages p lp in
     omega arith
 
-pub first_by : (r : Ram) (x : Image) (block page row : ℕ) (found : Record) (body : List ℕ) (live : Option (ℕ × Record)) → IsRam r → IsTrue None r x → row ≡ block * r.geometry.pages + page → page < r.geometry.pages → IsAiling r.blocks block → ((b : ℕ) → b < block → is_good_at r.blocks.table b ≡ false → live_at r.blocks b ≡ 0) → FindsFirst r.geometry.pages block 0 body x live → live ≡ Some (page, found) → IsFirstAiling r.blocks row body found x
+pub first_by : (r : Ram) (x : Image) (block page row : ℕ) (found : Record) (body : List ℕ) (live : Option (ℕ × Record)) → IsRam r → IsTrue None r x
+    → row ≡ block * r.geometry.pages + page → page < r.geometry.pages → IsAiling r.blocks block
+    → ((b : ℕ) → b < block → is_good_at r.blocks.table b ≡ false → live_at r.blocks b ≡ 0) → FindsFirst r.geometry.pages block 0 body x live
+    → live ≡ Some (page, found) → IsFirstAiling r.blocks row body found x
 first_by r x block page row found body live s w at lt ailing below finds is =
     let f : IsFirstLive r.geometry.pages block 0 page body found x = (let P : Option (ℕ × Record) → Type 0 = λ o. FindsFirst r.geometry.pages block 0 body x o in subst P is finds) in
     let of_block : row / r.geometry.pages ≡ block = ap (λ k. k / r.geometry.pages) at ∙ div-mul-add block r.geometry.pages page lt in
@@ -161,7 +166,9 @@ module _ (a b : Ram) (x x1 : Image) (row : ℕ) (found : Record) (body : List �
       let all : IsSame a x d z = same_then a c d x y z goes after m.same k in
       let within : row / a.geometry.pages < a.geometry.blocks = (let P : Geometry → Type 0 = λ g. row / a.geometry.pages < g.blocks in subst P s.blocks_of of_bad.within) in
       let left : IsLeftButLive a.blocks c.blocks (row / a.geometry.pages) = goes.shut (row / a.geometry.pages) within (bad_shut a.blocks (row / a.geometry.pages) of_bad.bad) in
-      let less : live_at d.blocks (row / a.geometry.pages) ≤ live_at c.blocks (row / a.geometry.pages) = shut_fewer c d y z (row / a.geometry.pages) sc sd after m.same.truth k.truth k.leaves (rw goes.geometry within) (bad_shut c.blocks (row / a.geometry.pages) (still_bad a.blocks c.blocks (row / a.geometry.pages) left of_bad.bad)) in
+      let less : live_at d.blocks (row / a.geometry.pages) ≤ live_at c.blocks (row / a.geometry.pages) = shut_fewer c d y z (row / a.geometry.pages)
+      sc sd after m.same.truth k.truth k.leaves (rw goes.geometry within)
+      (bad_shut c.blocks (row / a.geometry.pages) (still_bad a.blocks c.blocks (row / a.geometry.pages) left of_bad.bad)) in
       record {
         same = all;
         lowest = λ t. left_lowest c d y z goes keys m f;
@@ -183,7 +190,9 @@ none_rescued a b x x1 body live same still w finds is =
     rw (same, still) r
 
 -- no sector more is moved, and the pin stays
-pub rescued_beside : (key key' : Key) (a b c d : Ram) → b ≡ a → Goes a d → ((at : ℕ) × SetsMapping key at b.mapping c.mapping) → KeepsKeys b.mapping c.mapping → c.pin ≡ b.pin → key' ≡ key → IsFollowed key' c.mapping d.mapping → KeepsKeys c.mapping d.mapping → d.pin ≡ c.pin → LeavesPin a d
+pub rescued_beside : (key key' : Key) (a b c d : Ram) → b ≡ a → Goes a d → ((at : ℕ) × SetsMapping key at b.mapping c.mapping)
+    → KeepsKeys b.mapping c.mapping → c.pin ≡ b.pin → key' ≡ key → IsFollowed key' c.mapping d.mapping → KeepsKeys c.mapping d.mapping
+    → d.pin ≡ c.pin → LeavesPin a d
 rescued_beside key key' a b c d same goes sets keeps pin is follows keeps' pin' =
     let P : Ram → Type 0 = λ r. SetsMapping key sets.0 r.mapping c.mapping in
     let Q : Ram → Type 0 = λ r. KeepsKeys r.mapping c.mapping in
@@ -222,7 +231,9 @@ followed_by key n a b x y is uncached k = record {
 }
 
 -- whatever was answered
-pub followed_result : (key : Key) (n e : ℕ) (a b : Ram) (x y : Image) (result : Result (Unit {0}) WriteFault) → key ≡ Sector n → slot_of a.mapping n ≡ None → e ≡ entries a.geometry → MatchResult result (λ _. IsWrittenBack (n / e) a x b y) (Refused a x b y) → MatchResult result (λ _. IsFollowedBy key a x b y) (Refused a x b y)
+pub followed_result : (key : Key) (n e : ℕ) (a b : Ram) (x y : Image) (result : Result (Unit {0}) WriteFault) → key ≡ Sector n
+    → slot_of a.mapping n ≡ None → e ≡ entries a.geometry → MatchResult result (λ _. IsWrittenBack (n / e) a x b y) (Refused a x b y)
+    → MatchResult result (λ _. IsFollowedBy key a x b y) (Refused a x b y)
 followed_result key n e a b x y (Ok done) is none same k = followed_by key n a b x y is none (subst (λ s. IsWrittenBack (n / s) a x b y) same k)
 followed_result key n e a b x y (Err fault) is none same k = k
 
@@ -275,7 +286,9 @@ rescued_page key a c d s g cost sets behind mapping =
       }
     ]
 
-pub rescued_cost : (key key' : Key) (a b c d : Ram) → IsRam a → b ≡ a → c.geometry ≡ b.geometry → HasCopied false b c → ((at : ℕ) × SetsMapping key at b.mapping c.mapping) → key' ≡ key → FollowCosts key' c d (Ok tt) → IsFollowed key' c.mapping d.mapping → RescueCosts a d (Ok true)
+pub rescued_cost : (key key' : Key) (a b c d : Ram) → IsRam a → b ≡ a → c.geometry ≡ b.geometry → HasCopied false b c
+    → ((at : ℕ) × SetsMapping key at b.mapping c.mapping) → key' ≡ key → FollowCosts key' c d (Ok tt) → IsFollowed key' c.mapping d.mapping
+    → RescueCosts a d (Ok true)
 rescued_cost key key' a b c d s same g cost sets is behind mapping =
     let P : Ram → Type 0 = λ z. HasCopied false z c in
     let Q : Ram → Type 0 = λ z. (at : ℕ) × SetsMapping key at z.mapping c.mapping in

@@ -61,10 +61,23 @@ part_of true false false false = omega arith
 parts_at : (s : State) (b : ℕ) → bit (is_good_at s.table b) ≤ bit (is_free s b) + bit (holds s.data_open b) + bit (holds s.meta_open b) + bit (is_closed s b)
 parts_at s b = part_of (is_good_at s.table b) (pointer_at s b == 0) (holds s.data_open b) (holds s.meta_open b)
 
-count_four : (good p q r t : ℕ → Bool) (a n : ℕ) → ((b : ℕ) → bit (good b) ≤ bit (p b) + bit (q b) + bit (r b) + bit (t b)) → count_by good (range_with_len a n) ≤ count_by p (range_with_len a n) + count_by q (range_with_len a n) + count_by r (range_with_len a n) + count_by t (range_with_len a n)
+count_four : (good p q r t : ℕ → Bool) (a n : ℕ) → ((b : ℕ) → bit (good b) ≤ bit (p b) + bit (q b) + bit (r b) + bit (t b))
+    → count_by good (range_with_len a n) ≤ count_by p (range_with_len a n) + count_by q (range_with_len a n) + count_by r (range_with_len a n) +
+    count_by t (range_with_len a n)
 count_four good p q r t a zero le = omega arith
 count_four good p q r t a (suc n) le =
-    omega (arith, count_by-cons good a (range_with_len (a + 1) n), count_by-cons p a (range_with_len (a + 1) n), count_by-cons q a (range_with_len (a + 1) n), count_by-cons r a (range_with_len (a + 1) n), count_by-cons t a (range_with_len (a + 1) n), le a, count_four good p q r t (a + 1) n le)
+    omega (
+      arith,
+      count_by-cons good a (range_with_len (a + 1) n),
+      count_by-cons p a (range_with_len (a + 1) n),
+      count_by-cons q a
+          (range_with_len (a + 1) n),
+      count_by-cons r a (range_with_len (a + 1) n),
+      count_by-cons t a (range_with_len (a + 1) n),
+      le a,
+      count_four
+          good p q r t (a + 1) n le,
+    )
 
 held_most : (o : Option ℕ) (n : ℕ) → count_by (holds o) (range_with_len 0 n) ≤ 1
 held_most None n = omega (arith, count_by_none (holds None) (range_with_len 0 n) (λ b. refl))
@@ -80,7 +93,10 @@ none_enough : (more : ℕ) (r : Ram) → IsRam r → HasNoneWorth r → (ms : Li
 none_enough more r safe none ms exact enough =
     let s : State = r.blocks in
     let many : need s.geometry + more ≤ good_count s.table = rw safe.blocks_of enough in
-    nine s.geometry ms (is_closed s) more (free_count s) (count_by (holds s.data_open) (range_with_len 0 s.geometry.blocks) + count_by (holds s.meta_open) (range_with_len 0 s.geometry.blocks)) (omega (arith, good_most s safe.blocks.table_whole, many)) (omega (arith, held_most s.data_open s.geometry.blocks, held_most s.meta_open s.geometry.blocks)) (λ b lt closed.
+    nine s.geometry ms (is_closed s) more (free_count s)
+    (count_by (holds s.data_open) (range_with_len 0 s.geometry.blocks) + count_by (holds s.meta_open) (range_with_len 0 s.geometry.blocks))
+    (omega (arith, good_most s safe.blocks.table_whole, many))
+    (omega (arith, held_most s.data_open s.geometry.blocks, held_most s.meta_open s.geometry.blocks)) (λ b lt closed.
     let below : b < r.geometry.blocks = (let P : Geometry → Type 0 = λ g. b < g.blocks in subst P safe.blocks_of lt) in
     let large : vmax s.geometry < live_at s b = (let P : Geometry → Type 0 = λ g. vmax g < live_at s b in subst P (sym safe.blocks_of) (none.none b below closed)) in
     omega (arith, large, exact b lt))
@@ -232,7 +248,9 @@ made_none r o m is = (let P : Option ℕ → Type 0 = λ x. MatchOption x (IsMad
 pub made_some : (r : Ram) (o : Option ℕ) (block : ℕ) → MatchOption o (IsMade 0 r) (IsWorth 0 r) → o ≡ Some block → IsWorth 0 r block
 made_some r o block m is = (let P : Option ℕ → Type 0 = λ x. MatchOption x (IsMade 0 r) (IsWorth 0 r) in subst P is m)
 
-pub final_counts : (failures : ℕ) (a b : Ram) (y : Image) (result : Result (Unit {0}) WriteFault) → IsTrue None b y → b.geometry ≡ a.geometry → IsMade 0 b → IsFundedOn failures a b → IfErr result (λ fault. (fault ≡ ReadOnly) × (free_count b.blocks < 5)) → RoomCounts failures a b result
+pub final_counts : (failures : ℕ) (a b : Ram) (y : Image) (result : Result (Unit {0}) WriteFault) → IsTrue None b y → b.geometry ≡ a.geometry
+    → IsMade 0 b → IsFundedOn failures a b → IfErr result (λ fault. (fault ≡ ReadOnly) × (free_count b.blocks < 5))
+    → RoomCounts failures a b result
 final_counts failures a b y (Ok u) w same room f few = regained failures a b y w same room f
 final_counts failures a b y (Err fault) w same room f few = (let P : WriteFault → Type 0 = λ e. RoomCounts failures a b (Err e) in subst P (sym few.0) (too_few failures a b y w same room few.1))
 

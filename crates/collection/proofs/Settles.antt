@@ -24,7 +24,9 @@ use Rattle.collection.proofs.MapLemmas.{maps_entry, maps_directory}
 
 -- ---- what is true of the image
 
-maps_by : (g : Geometry) (image : Image) (directory directory' : List (Option ℕ)) (m m' : MappingState) (key : Key) (row : ℕ) → length directory ≡ translation_pages g + table_pages g → Maps (Some key) g image directory m → IsKeyOf g key → newest_row image key ≡ Some row → SetsDirectory g key row directory directory' → SetsMapping key row m m' → Maps None g image directory' m'
+maps_by : (g : Geometry) (image : Image) (directory directory' : List (Option ℕ)) (m m' : MappingState) (key : Key) (row : ℕ)
+    → length directory ≡ translation_pages g + table_pages g → Maps (Some key) g image directory m → IsKeyOf g key
+    → newest_row image key ≡ Some row → SetsDirectory g key row directory directory' → SetsMapping key row m m' → Maps None g image directory' m'
 maps_by g image directory directory' m m' (Sector n) row size w of_key here d s = (let P : List (Option ℕ) → Type 0 = λ x. Maps None g image x m' in subst P (sym d) (maps_entry g image directory m m' n (Some row) w here s.known_now s.pending_now s.known_others s.pending_others))
 maps_by g image directory directory' m m' (Translation t) row size w of_key here d s =
     let e : Maps None g image (set directory t (Some row)) m = maps_directory g image directory m (Translation t) t (Some row) w of_key refl (omega arith) here in

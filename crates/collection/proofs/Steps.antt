@@ -116,7 +116,9 @@ moved_nil flushing r s none = by r.mapping.moved refl
         let lt : e.0 / per_page r.mapping < translation_pages r.geometry = (let x = sector_entry r.mapping.geometry e.0 entry.sector in rw (← s.mapping_of) x) in
         let page : (e.0 / per_page r.mapping == e.0 / per_page r.mapping) ≡ true = eq-eqb (e.0 / per_page r.mapping) (e.0 / per_page r.mapping) refl in
         let more : length (moved_in (per_page r.mapping) (e.0 / per_page r.mapping) (e ∷ ms)) ≡ suc (length (moved_in (per_page r.mapping) (e.0 / per_page r.mapping) ms)) = rw page refl in
-        let some : has_moved r.mapping (e.0 / per_page r.mapping) ≡ true = ap (λ l. not (length (moved_in (per_page r.mapping) (e.0 / per_page r.mapping) l) == 0)) is ∙ ap not (ne_eqb (length (moved_in (per_page r.mapping) (e.0 / per_page r.mapping) (e ∷ ms))) 0 (λ z. absurd (omega (arith, more, z)))) in
+        let some : has_moved r.mapping (e.0 / per_page r.mapping) ≡ true = ap
+        (λ l. not (length (moved_in (per_page r.mapping) (e.0 / per_page r.mapping) l) == 0)) is ∙ ap not
+        (ne_eqb (length (moved_in (per_page r.mapping) (e.0 / per_page r.mapping) (e ∷ ms))) 0 (λ z. absurd (omega (arith, more, z)))) in
         let due : is_due flushing r (e.0 / per_page r.mapping) ≡ true = ap (λ b. b || (flushing && get_or r.pin.marks (e.0 / per_page r.mapping) false)) some in
         let no : true ≡ false = sym due ∙ none (e.0 / per_page r.mapping) lt in
         let never : ⊥ = cc in absurd never

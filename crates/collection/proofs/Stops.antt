@@ -171,7 +171,9 @@ kept_left : (a : Ram) (x y left : Image) → IsRam a → IsTrue None a x → Kee
 kept_left a x y left safe w k = record { array = inl (array_kept a.geometry x left k); orderly = orderly_kept a.geometry (room_of a) x left k (orderly a x safe w) }
 
 -- ONE ERASE of a block that holds no newest page
-pub erase_stops : (a b : Ram) (block : ℕ) (passed : Bool) (left : List Page) (x y : Flash) (rx ry : Option Recording) → x.geometry ≡ a.geometry → IsRam a → IsTrue None a x.image → HoldsNone a.geometry.pages block x.image → Steps x (Erase block passed left) y → Records rx (Erase block passed left ∷ []) ry → IsImageKept a x.image b y.image → LeavesOnly x y rx ry (IsLeftByStop a x.image y.image)
+pub erase_stops : (a b : Ram) (block : ℕ) (passed : Bool) (left : List Page) (x y : Flash) (rx ry : Option Recording) → x.geometry ≡ a.geometry
+    → IsRam a → IsTrue None a x.image → HoldsNone a.geometry.pages block x.image → Steps x (Erase block passed left) y
+    → Records rx (Erase block passed left ∷ []) ry → IsImageKept a x.image b y.image → LeavesOnly x y rx ry (IsLeftByStop a x.image y.image)
 erase_stops a b block passed left x y rx ry same safe w none step records kept =
     leaves_one x y (Erase block passed left) rx ry (IsLeftByStop a x.image y.image) step records
     (λ image whole torn. kept_left a x.image y.image image safe w (lost_keeps a.geometry block x.image image w.one none (subst (λ g. LosesIn g.pages block x.image image) same torn)))
@@ -195,7 +197,9 @@ room_same a b x y Damaged ne k = absurd k
 room_same a b x y Bus ne k = absurd (ne refl)
 
 -- the page that was found is live after the look as before
-pub live_known : (r r1 : Ram) (x x1 : Image) (block first page row : ℕ) (found : Record) (body : List ℕ) (live : Option (ℕ × Record)) → IsTrue None r x → r1 ≡ r → x1 ≡ x → row ≡ block * r1.geometry.pages + page → FindsFirst r.geometry.pages block first body x live → live ≡ Some (page, found) → IsTrue None r1 x1 × IsLivePage row body found x1
+pub live_known : (r r1 : Ram) (x x1 : Image) (block first page row : ℕ) (found : Record) (body : List ℕ) (live : Option (ℕ × Record))
+    → IsTrue None r x → r1 ≡ r → x1 ≡ x → row ≡ block * r1.geometry.pages + page → FindsFirst r.geometry.pages block first body x live
+    → live ≡ Some (page, found) → IsTrue None r1 x1 × IsLivePage row body found x1
 live_known r r1 x x1 block first page row found body live w same still at finds is =
     let f : IsFirstLive r.geometry.pages block first page body found x = (let P : Option (ℕ × Record) → Type 0 = λ o. FindsFirst r.geometry.pages block first body x o in subst P is finds) in
     let here : row ≡ block * r.geometry.pages + page = at ∙ ap (λ (z : Ram). block * z.geometry.pages + page) same in

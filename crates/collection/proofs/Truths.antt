@@ -63,13 +63,18 @@ newest_counts : (but : Option Key) (r : Ram) (image : Image) (key : Key) (row : 
 newest_counts but r image key row s w of_key is =
     let within : row < row_count r.geometry = newest_in r.geometry image key row w.whole.rows is in
     let block : row / r.geometry.pages < r.geometry.blocks = row_in_block r.geometry row within in
-    let exact : live_at r.blocks (row / r.geometry.pages) ≡ live r.geometry (marks image) (row / r.geometry.pages) = (let P : Geometry → Type 0 = λ g. (b : ℕ) → b < g.blocks → live_at r.blocks b ≡ live g (marks image) b in subst P s.blocks_of w.live (row / r.geometry.pages) block) in
+    let exact : live_at r.blocks (row / r.geometry.pages) ≡ live r.geometry (marks image) (row / r.geometry.pages) =
+    (let P : Geometry → Type 0 = λ g. (b : ℕ) → b < g.blocks → live_at r.blocks b ≡ live g (marks image) b in subst P s.blocks_of w.live
+    (row / r.geometry.pages) block) in
     let some : live r.geometry (marks image) (row / r.geometry.pages) ≢ 0 = λ none. live_zero r.geometry (marks image) (row / r.geometry.pages) row key of_key none is refl in
     omega arith
 
 -- ---- the page that is programmed
 
-pub can_program : (but : Option Key) (r : Ram) (image : Image) (block row : ℕ) (rec : Record) → IsRam r → IsTrue but r image → block < r.blocks.geometry.blocks → is_good_at r.blocks.table block ≡ true → pointer_at r.blocks block < r.blocks.geometry.pages → row ≡ block * r.blocks.geometry.pages + pointer_at r.blocks block → rec.sequence ≡ r.next → IsKeyOf r.geometry (key_of rec) → CanProgram r.geometry row rec image
+pub can_program : (but : Option Key) (r : Ram) (image : Image) (block row : ℕ) (rec : Record) → IsRam r → IsTrue but r image
+    → block < r.blocks.geometry.blocks → is_good_at r.blocks.table block ≡ true → pointer_at r.blocks block < r.blocks.geometry.pages
+    → row ≡ block * r.blocks.geometry.pages + pointer_at r.blocks block → rec.sequence ≡ r.next → IsKeyOf r.geometry (key_of rec)
+    → CanProgram r.geometry row rec image
 can_program but r image block row rec s w is_block good room at sequence of_key = record {
   one = w.one;
   unsound = rw at (erased_at_unsound r.geometry image (block * r.blocks.geometry.pages + pointer_at r.blocks block) w.whole (w.filled.erased block (pointer_at r.blocks block) is_block good (omega arith) room));
@@ -99,7 +104,10 @@ pub record IsTry (block row : ℕ) (s t : State) (old new : Image) : Type 0 wher
   pub pointers : (b : ℕ) → b < s.geometry.blocks → pointer_at s b ≤ s.geometry.pages
   pub others : (q : ℕ) → q ≢ row → slice_get new q ≡ slice_get old q
 
-filled_there : (block row : ℕ) (s t : State) (old new : Image) → IsTry block row s t old new → AreFilled old s → (b p : ℕ) → b ≢ block → b < s.geometry.blocks → is_good_at t.table b ≡ true → p < s.geometry.pages → ((p < pointer_at t b → IsSome (get_or (marks new) (b * s.geometry.pages + p) None)) × (pointer_at t b ≤ p → IsErasedAt new (b * s.geometry.pages + p)))
+filled_there : (block row : ℕ) (s t : State) (old new : Image) → IsTry block row s t old new → AreFilled old s → (b p : ℕ) → b ≢ block
+    → b < s.geometry.blocks → is_good_at t.table b ≡ true → p < s.geometry.pages
+    → ((p < pointer_at t b → IsSome (get_or (marks new) (b * s.geometry.pages + p) None))
+    × (pointer_at t b ≤ p → IsErasedAt new (b * s.geometry.pages + p)))
 filled_there block row s t old new y f b p ne lb good lp =
     let o = y.made.others b ne in
     let was : is_good_at s.table b ≡ true = ap is_good (sym o.row) ∙ good in
@@ -111,7 +119,9 @@ filled_there block row s t old new y f b p ne lb good lp =
 -- it failed: the block is bad
 pub filled_failed : (block row : ℕ) (s t : State) (old new : Image) → IsTry block row s t old new → is_good_at t.table block ≡ false → AreFilled old s → AreFilled new t
 filled_failed block row s t old new y bad f =
-    let P : Geometry → Type 0 = λ g. ((b p : ℕ) → b < g.blocks → is_good_at t.table b ≡ true → p < pointer_at t b → IsSome (get_or (marks new) (b * g.pages + p) None)) × ((b p : ℕ) → b < g.blocks → is_good_at t.table b ≡ true → pointer_at t b ≤ p → p < g.pages → IsErasedAt new (b * g.pages + p)) in
+    let P : Geometry → Type 0 = λ g.
+    ((b p : ℕ) → b < g.blocks → is_good_at t.table b ≡ true → p < pointer_at t b → IsSome (get_or (marks new) (b * g.pages + p) None)) ×
+    ((b p : ℕ) → b < g.blocks → is_good_at t.table b ≡ true → pointer_at t b ≤ p → p < g.pages → IsErasedAt new (b * g.pages + p)) in
     let both = subst P (sym y.made.geometry) (
       λ b p lb good lt. (let o = y.made.others b (apart b good) in (filled_there block row s t old new y f b p (apart b good) lb good (omega (arith, y.pointers b lb, o.pointer))).0 lt),
       λ b p lb good ge lp. (filled_there block row s t old new y f b p (apart b good) lb good lp).1 ge,
@@ -124,7 +134,9 @@ filled_failed block row s t old new y bad f =
 -- it passed: the row's page is sound
 pub filled_passed : (block row : ℕ) (s t : State) (old new : Image) → IsTry block row s t old new → pointer_at t block ≡ pointer_at s block + 1 → IsSome (get_or (marks new) row None) → AreFilled old s → AreFilled new t
 filled_passed block row s t old new y pointer here f =
-    let P : Geometry → Type 0 = λ g. ((b p : ℕ) → b < g.blocks → is_good_at t.table b ≡ true → p < pointer_at t b → IsSome (get_or (marks new) (b * g.pages + p) None)) × ((b p : ℕ) → b < g.blocks → is_good_at t.table b ≡ true → pointer_at t b ≤ p → p < g.pages → IsErasedAt new (b * g.pages + p)) in
+    let P : Geometry → Type 0 = λ g.
+    ((b p : ℕ) → b < g.blocks → is_good_at t.table b ≡ true → p < pointer_at t b → IsSome (get_or (marks new) (b * g.pages + p) None)) ×
+    ((b p : ℕ) → b < g.blocks → is_good_at t.table b ≡ true → pointer_at t b ≤ p → p < g.pages → IsErasedAt new (b * g.pages + p)) in
     let both = subst P (sym y.made.geometry) (sound, erased) in
     record { sound = both.0; erased = both.1 }
   where
@@ -166,7 +178,9 @@ tables_put g rec row body old new u w fits h = elim (cases_key (key_of rec) (Tab
 
 -- ---- what is known after it
 
-module _ (but : Option Key) (stream : Stream) (block row : ℕ) (r r' : Ram) (old new : Image) (s : IsRam r) (t : Ticks r r') (n : IsNextBlock r.blocks stream block) (at : row ≡ block * r.blocks.geometry.pages + pointer_at r.blocks block) (whole : IsImage r.geometry new) (others : (q : ℕ) → q ≢ row → slice_get new q ≡ slice_get old q) where
+module _ (but : Option Key) (stream : Stream) (block row : ℕ) (r r' : Ram) (old new : Image) (s : IsRam r) (t : Ticks r r')
+    (n : IsNextBlock r.blocks stream block) (at : row ≡ block * r.blocks.geometry.pages + pointer_at r.blocks block) (whole : IsImage r.geometry new)
+    (others : (q : ℕ) → q ≢ row → slice_get new q ≡ slice_get old q) where
   a_try : (made : State) → IsMade block r.blocks made → IsTry block row r.blocks made old new
   a_try made m = record { is_block = n.within; was_good = n.good; room = n.room; row_is = at; made = m; pointers = s.blocks.pointers; others = others }
 
@@ -188,8 +202,13 @@ module _ (but : Option Key) (stream : Stream) (block row : ℕ) (r r' : Ram) (ol
         maps = (let e : Maps but r.geometry new r.directory r.mapping = maps_stays but r.geometry old new r.directory r.mapping k w.maps in rw (t.geometry, t.directory, t.mapping) e);
       }
 
-module _ (stream : Stream) (block row : ℕ) (rec : Record) (body : List ℕ) (o : Option ℕ) (r r' : Ram) (old new : Image) (s : IsRam r) (t : Ticks r r') (n : IsNextBlock r.blocks stream block) (at : row ≡ block * r.blocks.geometry.pages + pointer_at r.blocks block) (whole : IsImage r.geometry new) (others : (q : ℕ) → q ≢ row → slice_get new q ≡ slice_get old q) where
-  pub true_passed : r'.blocks ≡ moved_live o block (taken stream block r.blocks) → IsTrue None r old → rec.sequence ≡ r.next → rec.wear ≡ wear_at r.blocks.table block → IsKeyOf r.geometry (key_of rec) → ForSome o (λ q. q < row_count r.geometry) → o ≡ newest_row old (key_of rec) → IsPageFor r.geometry old r.mapping body (key_of rec) → Writes r.geometry rec row body old new → IsTrue (Some (key_of rec)) r' new
+module _ (stream : Stream) (block row : ℕ) (rec : Record) (body : List ℕ) (o : Option ℕ) (r r' : Ram) (old new : Image) (s : IsRam r) (t : Ticks r r')
+    (n : IsNextBlock r.blocks stream block) (at : row ≡ block * r.blocks.geometry.pages + pointer_at r.blocks block) (whole : IsImage r.geometry new)
+    (others : (q : ℕ) → q ≢ row → slice_get new q ≡ slice_get old q) where
+  pub true_passed : r'.blocks ≡ moved_live o block (taken stream block r.blocks) → IsTrue None r old → rec.sequence ≡ r.next
+      → rec.wear ≡ wear_at r.blocks.table block → IsKeyOf r.geometry (key_of rec) → ForSome o (λ q. q < row_count r.geometry)
+      → o ≡ newest_row old (key_of rec) → IsPageFor r.geometry old r.mapping body (key_of rec) → Writes r.geometry rec row body old new
+      → IsTrue (Some (key_of rec)) r' new
   true_passed is w sequence wear of_key old_in old_is fits p =
       let g : Geometry = r.geometry in
       let same : r.blocks.geometry ≡ r.geometry = s.blocks_of in
@@ -208,7 +227,15 @@ module _ (stream : Stream) (block row : ℕ) (rec : Record) (body : List ℕ) (o
         below = below_more (marks new) (rec.sequence + 1) r'.next (omega (arith, t.next, sequence)) p.below;
         filled = rw is (filled_passed block row r.blocks (moved_live o block (taken stream block r.blocks)) old new (record { is_block = n.within; was_good = n.good; room = n.room; row_is = at; made = made; pointers = s.blocks.pointers; others = others }) pointer here w.filled);
         worn = rw is (worn_put r.blocks (moved_live o block (taken stream block r.blocks)) row rec old new made.geometry (passed_wear o stream block r.blocks) (wear ∙ ap (wear_at r.blocks.table) (sym block_is)) p.record_here p.records w.worn);
-        live = rw is (live_passed stream block row r.blocks rec body o old new lt block_is (λ q e. (let x = in_block q e in let y = s.blocks.fills_whole in (let z : q / r.blocks.geometry.pages < length r.blocks.fills = omega arith in z))) counted small old_is written w.live made.geometry);
-        tables = (let e : (u : ℕ) → u < table_pages r.geometry → HasTable r.geometry new u = λ u lt. tables_put r.geometry rec row body old new u p (λ key. (let P : Key → Type 0 = λ k. IsPageFor r.geometry old r.mapping body k in subst P key fits)) (w.tables u lt) in rw t.geometry e);
+        live = rw is
+            (live_passed stream block row r.blocks rec body o old new lt block_is
+            (λ q e.
+            (let x = in_block q e in let y = s.blocks.fills_whole in
+            (let z : q / r.blocks.geometry.pages < length r.blocks.fills = omega arith in z))) counted small old_is written w.live
+            made.geometry);
+        tables =
+            (let e : (u : ℕ) → u < table_pages r.geometry → HasTable r.geometry new u = λ u lt. tables_put r.geometry rec row body old new u p
+            (λ key. (let P : Key → Type 0 = λ k. IsPageFor r.geometry old r.mapping body k in subst P key fits)) (w.tables u lt) in rw t.geometry
+            e);
         maps = (let e : Maps (Some (key_of rec)) r.geometry new r.directory r.mapping = maps_put r.geometry rec row body old new r.directory r.mapping p fits w.maps in rw (t.geometry, t.directory, t.mapping) e);
       }

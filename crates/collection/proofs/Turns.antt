@@ -69,7 +69,11 @@ half_on flushing r b p step.Erased h goes c = λ q is. (let no : ⊥ = cc in abs
 
 -- ---- the page that was found is copied
 
-pub touched_from : (flushing : Bool) (r r1 r2 : Ram) (x x1 : Image) (block first page row : ℕ) (found : Record) (body : List ℕ) (live : Option (ℕ × Record)) → IsTrue None r x → r1 ≡ r → x1 ≡ x → row ≡ block * r1.geometry.pages + page → page < r.geometry.pages → FindsFirst r.geometry.pages block first body x live → live ≡ Some (page, found) → (IsTrue None r1 x1 → IsLivePage row body found x1 → TouchesNoMore flushing (row / r1.geometry.pages) r1 x1 r2) → TouchesNoMore flushing block r x r2
+pub touched_from : (flushing : Bool) (r r1 r2 : Ram) (x x1 : Image) (block first page row : ℕ) (found : Record) (body : List ℕ)
+    (live : Option (ℕ × Record)) → IsTrue None r x → r1 ≡ r → x1 ≡ x → row ≡ block * r1.geometry.pages + page → page < r.geometry.pages
+    → FindsFirst r.geometry.pages block first body x live → live ≡ Some (page, found)
+    → (IsTrue None r1 x1 → IsLivePage row body found x1 → TouchesNoMore flushing (row / r1.geometry.pages) r1 x1 r2)
+    → TouchesNoMore flushing block r x r2
 touched_from flushing r r1 r2 x x1 block first page row found body live w same still at lt finds is call = λ t due.
     let f : IsFirstLive r.geometry.pages block first page body found x = (let P : Option (ℕ × Record) → Type 0 = λ o. FindsFirst r.geometry.pages block first body x o in subst P is finds) in
     let here : row ≡ block * r.geometry.pages + page = at ∙ ap (λ (z : Ram). block * z.geometry.pages + page) same in
@@ -104,7 +108,10 @@ told_erases step.WroteBack count = refl
 told_erases step.Erased count = refl
 
 -- a copy tells its page by what is pinned then
-pub copied_told : (pin : Option Pinned) (block pages first before after : ℕ) (done : Progress) → pin ≡ pin_after block pages done → ((page : ℕ) → ok_as Progress done ≡ ok_as Progress (step.Copied page) → after ≤ before + 2 * (page + 1 - first)) → ok_as Step (told done) ≡ ok_as Step Copied → (page : ℕ) × (pin ≡ Some (record { block = block; first = page + 1 })) × (after ≤ before + 2 * (page + 1 - first))
+pub copied_told : (pin : Option Pinned) (block pages first before after : ℕ) (done : Progress) → pin ≡ pin_after block pages done
+    → ((page : ℕ) → ok_as Progress done ≡ ok_as Progress (step.Copied page) → after ≤ before + 2 * (page + 1 - first))
+    → ok_as Step (told done) ≡ ok_as Step Copied
+    → (page : ℕ) × (pin ≡ Some (record { block = block; first = page + 1 })) × (after ≤ before + 2 * (page + 1 - first))
 copied_told pin block pages first before after (step.Copied page) next reads is = (page, next, reads page refl)
 copied_told pin block pages first before after step.WroteBack next reads is = (let no : ⊥ = cc in absurd no)
 copied_told pin block pages first before after step.Erased next reads is = (let no : ⊥ = cc in absurd no)
@@ -143,7 +150,9 @@ few_on r b p q at same fewer sum few =
 none_in : (pages block : ℕ) (image : Image) → HoldsNone pages block image → HoldsNoneIn pages block 0 pages image
 none_in pages block image h = record { none = λ p ge lt key is. h.none key (block * pages + p) is (div-mul-add block pages p lt) }
 
-pub steps_on : (flushing : Bool) (p : Pinned) (r b : Ram) (x y : Image) (done : Progress) → IsRam b → IsHalfDone r p → b.geometry ≡ r.geometry → StepCosts flushing p.block p.first r b (Ok done) → b.pin.block ≡ pin_after p.block r.geometry.pages done → IsStepped p.block r x b y done → ((page : ℕ) → done ≡ step.Copied page → TouchesNoMore flushing p.block r x b) → StepsOn flushing p r x b y (told done)
+pub steps_on : (flushing : Bool) (p : Pinned) (r b : Ram) (x y : Image) (done : Progress) → IsRam b → IsHalfDone r p → b.geometry ≡ r.geometry
+    → StepCosts flushing p.block p.first r b (Ok done) → b.pin.block ≡ pin_after p.block r.geometry.pages done → IsStepped p.block r x b y done
+    → ((page : ℕ) → done ≡ step.Copied page → TouchesNoMore flushing p.block r x b) → StepsOn flushing p r x b y (told done)
 steps_on flushing p r b x y (step.Copied page) s' h same (low, high, c, f) next s touched =
     let to : Pinned = record { block = p.block; first = page + 1 } in
     let passed : HasPassed b y to = (let P : Geometry → Type 0 = λ g. HoldsNoneIn g.pages p.block 0 (page + 1) y in subst P (sym same) s.none) in

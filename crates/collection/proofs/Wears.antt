@@ -51,7 +51,9 @@ worn_kept s t old new same wears had w = record {
 }
 
 -- and counts only rise
-pub worn_grown : (s t : State) (old new : Image) → t.geometry ≡ s.geometry → ((c : ℕ) → wear_at t.table c ≤ most_wear) → ((c : ℕ) → wear_at s.table c ≤ wear_at t.table c) → ((row : ℕ) (x : Record) → get_or (marks new) row None ≡ Some x → get_or (marks old) row None ≡ Some x) → AreWorn old s → AreWorn new t
+pub worn_grown : (s t : State) (old new : Image) → t.geometry ≡ s.geometry → ((c : ℕ) → wear_at t.table c ≤ most_wear)
+    → ((c : ℕ) → wear_at s.table c ≤ wear_at t.table c)
+    → ((row : ℕ) (x : Record) → get_or (marks new) row None ≡ Some x → get_or (marks old) row None ≡ Some x) → AreWorn old s → AreWorn new t
 worn_grown s t old new same most grows had w = record {
   most = most;
   told = λ row x at.
@@ -61,7 +63,9 @@ worn_grown s t old new same most grows had w = record {
 }
 
 -- one page has a new record, which tells its block's erase count
-pub worn_put : (s t : State) (row : ℕ) (rec : Record) (old new : Image) → t.geometry ≡ s.geometry → ((c : ℕ) → wear_at t.table c ≡ wear_at s.table c) → rec.wear ≡ wear_at s.table (row / s.geometry.pages) → get_or (marks new) row None ≡ Some rec → ((q : ℕ) (x : Record) → q ≢ row → get_or (marks new) q None ≡ Some x → get_or (marks old) q None ≡ Some x) → AreWorn old s → AreWorn new t
+pub worn_put : (s t : State) (row : ℕ) (rec : Record) (old new : Image) → t.geometry ≡ s.geometry → ((c : ℕ) → wear_at t.table c ≡ wear_at s.table c)
+    → rec.wear ≡ wear_at s.table (row / s.geometry.pages) → get_or (marks new) row None ≡ Some rec
+    → ((q : ℕ) (x : Record) → q ≢ row → get_or (marks new) q None ≡ Some x → get_or (marks old) q None ≡ Some x) → AreWorn old s → AreWorn new t
 worn_put s t row rec old new same wears tells here had w = record {
   most = λ b. omega (arith, wears b, w.most b);
   told = λ q x at.

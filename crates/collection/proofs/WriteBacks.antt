@@ -71,7 +71,10 @@ entries_none g image t row lent items bytes is none filled same whole = record {
 at_place : (e t n : ℕ) → 0 < e → n / e ≡ t → t * e + n % e ≡ n
 at_place e t n some same = grind (arith, div-add-mod' n e)
 
-pub brought_up : (g : Geometry) (image : Image) (directory : List (Option ℕ)) (m : MappingState) (t : ℕ) (body body' : List ℕ) → Maps None g image directory m → IsLoaded t body g image → ((i : ℕ) → i < entries g → t * entries g + i < g.sectors → entry_at body' i ≡ unwrap_or (pending m (t * entries g + i)) (entry_at body i)) → IsPadded g t body' → IsFilled t body' g image
+pub brought_up : (g : Geometry) (image : Image) (directory : List (Option ℕ)) (m : MappingState) (t : ℕ) (body body' : List ℕ)
+    → Maps None g image directory m → IsLoaded t body g image
+    → ((i : ℕ) → i < entries g → t * entries g + i < g.sectors → entry_at body' i ≡ unwrap_or (pending m (t * entries g + i)) (entry_at body i))
+    → IsPadded g t body' → IsFilled t body' g image
 brought_up g image directory m t body body' w loaded written padded = record {
   padded = padded;
   right = λ n lt of_page.
@@ -83,7 +86,11 @@ brought_up g image directory m t body body' w loaded written padded = record {
 }
 
 -- by a memory that the read of the page has left as it was
-pub brought_up_by : (r r1 : Ram) (image : Image) (t : ℕ) (body lent body' : List ℕ) → IsTrue None r image → r1 ≡ r → lent ≡ body → IsLoaded t body r.geometry image → ((i : ℕ) → i < entries r1.geometry → t * entries r1.geometry + i < r1.geometry.sectors → entry_at body' i ≡ unwrap_or (pending r1.mapping (t * entries r1.geometry + i)) (entry_at lent i)) → IsPadded r1.geometry t body' → IsFilled t body' r.geometry image
+pub brought_up_by : (r r1 : Ram) (image : Image) (t : ℕ) (body lent body' : List ℕ) → IsTrue None r image → r1 ≡ r → lent ≡ body
+    → IsLoaded t body r.geometry image
+    → ((i : ℕ) → i < entries r1.geometry → t * entries r1.geometry + i < r1.geometry.sectors
+    → entry_at body' i ≡ unwrap_or (pending r1.mapping (t * entries r1.geometry + i)) (entry_at lent i)) → IsPadded r1.geometry t body'
+    → IsFilled t body' r.geometry image
 brought_up_by r r1 image t body lent body' w same is_lent loaded rows padded =
     let P : Ram → Type 0 = λ z. (i : ℕ) → i < entries z.geometry → t * entries z.geometry + i < z.geometry.sectors → entry_at body' i ≡ unwrap_or (pending z.mapping (t * entries z.geometry + i)) (entry_at lent i) in
     let Q : Ram → Type 0 = λ z. IsPadded z.geometry t body' in
@@ -169,7 +176,10 @@ module _ (r r2 : Ram) (m3 : MappingState) (x x2 : Image) (t row : ℕ) (body : L
     renewed = λ two. written_not_old r.geometry _ row body x x2 two p.writes;
   }
 
-pub written_back_by : (r r1 r2 : Ram) (m3 : MappingState) (x x1 x2 : Image) (t row : ℕ) (body : List ℕ) → r1 ≡ r → x1 ≡ x → IsFilled t body r.geometry x → IsReplaced kind.Translation t row body r1 x1 r2 x2 → r2.geometry ≡ r1.geometry → r2.mapping.geometry ≡ r2.geometry → Cleans (per_page r2.mapping) t r2.mapping m3 → IsOutside r1 row → IsWrittenBack t r x (record r2 { mapping = m3 }) x2
+pub written_back_by : (r r1 r2 : Ram) (m3 : MappingState) (x x1 x2 : Image) (t row : ℕ) (body : List ℕ) → r1 ≡ r → x1 ≡ x
+    → IsFilled t body r.geometry x → IsReplaced kind.Translation t row body r1 x1 r2 x2 → r2.geometry ≡ r1.geometry
+    → r2.mapping.geometry ≡ r2.geometry → Cleans (per_page r2.mapping) t r2.mapping m3 → IsOutside r1 row
+    → IsWrittenBack t r x (record r2 { mapping = m3 }) x2
 written_back_by r r1 r2 m3 x x1 x2 t row body same still filled p g_is of cleans out =
     let P : Ram → Type 0 = λ z. IsReplaced kind.Translation t row body z x r2 x2 in
     let Q : Image → Type 0 = λ i. IsReplaced kind.Translation t row body r1 i r2 x2 in

@@ -145,7 +145,9 @@ record RanWith {N : Type 0} (flash : N → Flash) (recorded : N → Option Recor
   pub follows : Follows r.geometry.pages (log_of run.events) (ram d.engine).blocks (ram new.engine).blocks
   pub wears : Wears (log_of run.events) (ram d.engine).blocks (ram new.engine).blocks
 
-pub ran_accepted : {N : Type 0} (flash : N → Flash) (recorded : N → Option Recording) (honest : N → Bool) (failed erases : N → ℕ) (s : Flash) (a : Acceptance) (d new : Device N) (calls : List Exchange) → flash d.engine.nand ≡ s → ram d.engine ≡ begun_ram s.geometry a.claim a.stale → IsAcceptedFor s a → d.read_only ≡ is_scarce (free_in s.geometry a.claim s.image)
+pub ran_accepted : {N : Type 0} (flash : N → Flash) (recorded : N → Option Recording) (honest : N → Bool) (failed erases : N → ℕ) (s : Flash)
+    (a : Acceptance) (d new : Device N) (calls : List Exchange) → flash d.engine.nand ≡ s
+    → ram d.engine ≡ begun_ram s.geometry a.claim a.stale → IsAcceptedFor s a → d.read_only ≡ is_scarce (free_in s.geometry a.claim s.image)
     → IsAccounted (accounts_of s.geometry s.image (is_bad_in a.claim)) (ram d.engine).blocks → Ran flash recorded honest failed erases d calls new → RanFrom flash recorded honest failed erases s a.claim calls new
 ran_accepted {N} flash recorded honest failed erases s a d new calls die is accepted scarce accounts ran =
     let c = a.claim in
@@ -170,7 +172,9 @@ ran_accepted {N} flash recorded honest failed erases s a d new calls die is acce
         commands = there.run.commands;
         replies = there.run.replies;
         run = there.run.run;
-        fair = fair_as s.geometry (is_bad_by (begun_ram s.geometry c a.stale)) (is_bad_in c) (wear_at (begun s.geometry c.blocks).table) (wear_in c) (bad_begun s.geometry c.capacity s.image c a.stale accepted.accepted.agrees) (wear_begun s.geometry c.capacity s.image c accepted.accepted.agrees) c.capacity c.next first [] there.run.events calls there.run.fair;
+        fair = fair_as s.geometry (is_bad_by (begun_ram s.geometry c a.stale)) (is_bad_in c) (wear_at (begun s.geometry c.blocks).table) (wear_in c)
+            (bad_begun s.geometry c.capacity s.image c a.stale accepted.accepted.agrees)
+            (wear_begun s.geometry c.capacity s.image c accepted.accepted.agrees) c.capacity c.next first [] there.run.events calls there.run.fair;
       };
       legal = there.legal;
       next = there.next;

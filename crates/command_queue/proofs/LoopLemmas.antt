@@ -66,7 +66,9 @@ pub record IsRunning {N : Type 0} (flash : N → Flash) (recorded : N → Option
   pub answered : AreAnswered (take done calls)
   pub kept : HaveKeptSo done before calls
 
-pub running_none : {N : Type 0} (flash : N → Flash) (recorded : N → Option Recording) (honest : N → Bool) (failed erases : N → ℕ) (old : Device N) (calls : List Call) → IsDevice flash old → AreWhole old.engine.geometry calls → IsRunning flash recorded honest failed erases old old calls calls 0
+pub running_none : {N : Type 0} (flash : N → Flash) (recorded : N → Option Recording) (honest : N → Bool) (failed erases : N → ℕ) (old : Device N)
+    (calls : List Call) → IsDevice flash old → AreWhole old.engine.geometry calls
+    → IsRunning flash recorded honest failed erases old old calls calls 0
 unfolding HaveKeptSo
 running_none flash recorded honest failed erases old calls device whole = record {
   was_told = told_none flash recorded honest failed erases old device;
@@ -109,7 +111,9 @@ module _ {N : Type 0} (flash : N → Flash) (recorded : N → Option Recording) 
     kept = subst (λ n. HaveKeptSo n before (set calls done after)) (let on : suc done ≡ done + 1 = omega arith in on) (kept_more done before calls call after at its_bytes running.kept);
   }
 
-module _ {N : Type 0} (flash : N → Flash) (recorded : N → Option Recording) (honest : N → Bool) (failed erases : N → ℕ) (old now : Device N) (before calls : List Call) (done : ℕ) (all : length calls ≤ done) (running : IsRunning flash recorded honest failed erases old now before calls done) where
+module _ {N : Type 0} (flash : N → Flash) (recorded : N → Option Recording) (honest : N → Bool) (failed erases : N → ℕ) (old now : Device N)
+    (before calls : List Call) (done : ℕ) (all : length calls ≤ done)
+    (running : IsRunning flash recorded honest failed erases old now before calls done) where
   pub all_told : WasTold flash recorded honest failed erases old (exchanges_of calls) now
   all_told = subst (λ (cs : List Call). WasTold flash recorded honest failed erases old (exchanges_of cs) now) (take_all done calls all) running.was_told
 

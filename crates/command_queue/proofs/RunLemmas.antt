@@ -101,7 +101,9 @@ went_none old new s t told told' same kept still = record {
   wears = record { worn = λ b most. (let e : wear_at new.blocks.table b ≡ wear_at old.blocks.table b = ap (λ (x : Ram). wear_at x.blocks.table b) same in omega arith) };
 }
 
-read_shown : (g : Geometry) (bad : ℕ → Bool) (next : ℕ) (before call : List Operation) (ro : Bool) (image : Image) (n : ℕ) (bytes : List ℕ) (s t : step.State) (result : Result (Unit {0}) DeviceFault) → IfErr result IsReadRefusal → ReadStep g s n (read_reply_of bytes result) t → result ≢ Err BusFault → IfErr result (IsShown g bad next before call ro image)
+read_shown : (g : Geometry) (bad : ℕ → Bool) (next : ℕ) (before call : List Operation) (ro : Bool) (image : Image) (n : ℕ) (bytes : List ℕ)
+    (s t : step.State) (result : Result (Unit {0}) DeviceFault) → IfErr result IsReadRefusal → ReadStep g s n (read_reply_of bytes result) t
+    → result ≢ Err BusFault → IfErr result (IsShown g bad next before call ro image)
 read_shown g bad next before call ro image n bytes s t (Ok done) of_read is ne = tt
 read_shown g bad next before call ro image n bytes s t (Err OutOfRange) of_read is ne = tt
 read_shown g bad next before call ro image n bytes s t (Err (ReadOnly good wanted failed)) of_read is ne = absurd of_read
@@ -153,7 +155,10 @@ module _ {N : Type 0} (flash : N → Flash) (recorded : N → Option Recording) 
       let view : Flash → Bool → Bool → DeviceView = λ f ro pinned. record { flash = f; ro = ro; pinned = pinned } in
       ap (λ f. view f new.read_only (is_some new.engine.pinned)) kept ∙ (ap (λ ro. view (flash old.engine.nand) ro (is_some new.engine.pinned)) flag ∙ ap (view (flash old.engine.nand) old.read_only) pin)
 
-  pub read_happened : (n : ℕ) (bytes : List ℕ) (p q : Page) → ReadStep old.engine.geometry (state_in flash old) n (read_reply_of bytes result) (state_in flash new) → flash new.engine.nand ≡ flash old.engine.nand → recorded new.engine.nand ≡ recorded old.engine.nand → LeavesRead n result (ram old.engine) (ram new.engine) p q bytes → new.read_only ≡ old.read_only → IfErr result IsReadRefusal
+  pub read_happened : (n : ℕ) (bytes : List ℕ) (p q : Page)
+      → ReadStep old.engine.geometry (state_in flash old) n (read_reply_of bytes result) (state_in flash new)
+      → flash new.engine.nand ≡ flash old.engine.nand → recorded new.engine.nand ≡ recorded old.engine.nand
+      → LeavesRead n result (ram old.engine) (ram new.engine) p q bytes → new.read_only ≡ old.read_only → IfErr result IsReadRefusal
       → SurvivesStops old.engine.geometry old.engine.mapping.capacity (step.Read n) result (image_in flash old.engine) (image_in flash new.engine) (recorded new.engine.nand) [] → Happened flash recorded old (record { command = step.Read n; result = result; bytes = bytes }) new
   unfolding went_none
   read_happened n bytes p q is kept still leaves flag of_read survives = record {
@@ -170,7 +175,10 @@ module _ {N : Type 0} (flash : N → Flash) (recorded : N → Option Recording) 
     left = λ bad before bads on. read_left old.engine.geometry bad before [] old.read_only n result (sym flag ∙ on);
   }
 
-  module _ (safe : IsRam (ram old.engine)) (safe' : IsRam (ram new.engine)) (sized : new.engine.geometry ≡ old.engine.geometry) (was : IsWell flash old) (well : IsWell flash new) (w : Went (ram old.engine) (flash old.engine.nand) (recorded old.engine.nand) (ram new.engine) (flash new.engine.nand) (recorded new.engine.nand)) (says : IfErr result (Says (ram old.engine) (ram new.engine)))
+  module _ (safe : IsRam (ram old.engine)) (safe' : IsRam (ram new.engine)) (sized : new.engine.geometry ≡ old.engine.geometry)
+      (was : IsWell flash old) (well : IsWell flash new)
+      (w : Went (ram old.engine) (flash old.engine.nand) (recorded old.engine.nand) (ram new.engine) (flash new.engine.nand)
+      (recorded new.engine.nand)) (says : IfErr result (Says (ram old.engine) (ram new.engine)))
       (shown : IfErr result (IsShown old.engine.geometry (is_bad_by (ram old.engine)) old.engine.next [] w.log old.read_only (image_in flash new.engine))) where
     -- with no operation the image is as it was
     unwritten : w.log ≡ [] → image_in flash new.engine ≡ image_in flash old.engine
@@ -183,8 +191,17 @@ module _ {N : Type 0} (flash : N → Flash) (recorded : N → Option Recording) 
     twelve_so h t = leaves_twelve (ram old.engine) (ram new.engine) w.log safe safe' sized w.follows h w.next (image_in flash old.engine) (image_in flash new.engine) was.truth well.truth unwritten t
 
     -- a call that may change sectors
-    pub changed : (command : step.Command) (bytes : List ℕ) → is_read command ≡ false → (is_turn command ≡ true → OnOk result (HasRescued (ram old.engine) (ram new.engine))) → (is_turn command ≡ true → OnOk result (HasTurned (ram old.engine) (ram new.engine))) → (is_flush command ≡ true → result ≡ Ok tt → IsFlushedOut (first_of (ram old.engine)) w.log (image_in flash new.engine)) → (new.read_only ≡ true → IsLeftReadOnly command old.engine.geometry (is_bad_by (ram old.engine)) [] w.log old.read_only result) → NoDamage result → (needs_no_memory (is_some old.engine.pinned) old.engine.geometry (image_in flash old.engine) command ≡ true → result ≢ Err OutOfMemory) → ArrayStep old.engine.geometry (state_in flash old) command (answer_to command bytes result) (state_in flash new)
-        → SurvivesStops old.engine.geometry old.engine.mapping.capacity command result (image_in flash old.engine) (image_in flash new.engine) (recorded new.engine.nand) w.log → AddsNoOld old.engine.geometry (image_in flash old.engine) (image_in flash new.engine) → Happened flash recorded old (record { command = command; result = result; bytes = bytes }) new
+    pub changed : (command : step.Command) (bytes : List ℕ) → is_read command ≡ false
+        → (is_turn command ≡ true → OnOk result (HasRescued (ram old.engine) (ram new.engine)))
+        → (is_turn command ≡ true → OnOk result (HasTurned (ram old.engine) (ram new.engine)))
+        → (is_flush command ≡ true → result ≡ Ok tt → IsFlushedOut (first_of (ram old.engine)) w.log (image_in flash new.engine))
+        → (new.read_only ≡ true → IsLeftReadOnly command old.engine.geometry (is_bad_by (ram old.engine)) [] w.log old.read_only result)
+        → NoDamage result
+        → (needs_no_memory (is_some old.engine.pinned) old.engine.geometry (image_in flash old.engine) command ≡ true → result ≢ Err OutOfMemory)
+        → ArrayStep old.engine.geometry (state_in flash old) command (answer_to command bytes result) (state_in flash new)
+        → SurvivesStops old.engine.geometry old.engine.mapping.capacity command result (image_in flash old.engine) (image_in flash new.engine)
+        (recorded new.engine.nand) w.log → AddsNoOld old.engine.geometry (image_in flash old.engine) (image_in flash new.engine)
+        → Happened flash recorded old (record { command = command; result = result; bytes = bytes }) new
     changed command bytes no_read rescued turned flushed left is stale whole survives versions = record {
       stopped = survives;
       versions = versions;
@@ -207,7 +224,9 @@ follows_then pages xs ys a b c before after = record {
   accounted = λ accounts s. rw (accounts_join pages accounts xs ys) (after.accounted (accounted_all pages accounts xs) (before.accounted accounts s));
 }
 
-fair_more : (first : First) (old mid : runs.DeviceView) (before total : List Operation) (events : List Event) (xs : List Exchange) (event : Event) (x : Exchange) → AreFair first old before events xs → mid ≡ last_of old events → total ≡ before ++ log_of events → IsFair first mid total event x → AreFair first old before (events ++ event ∷ []) (xs ++ x ∷ [])
+fair_more : (first : First) (old mid : runs.DeviceView) (before total : List Operation) (events : List Event) (xs : List Exchange) (event : Event)
+    (x : Exchange) → AreFair first old before events xs → mid ≡ last_of old events → total ≡ before ++ log_of events
+    → IsFair first mid total event x → AreFair first old before (events ++ event ∷ []) (xs ++ x ∷ [])
 fair_more first old mid before total [] [] event x fair here all is =
     let P : runs.DeviceView → List Operation → Type 0 = λ d l. IsFair first d l event x in
     (subst (λ d. P d before) here (subst (P mid) (all ∙ append-nil before) is), tt)
@@ -216,7 +235,10 @@ fair_more first old mid before total (e ∷ events) [] event x fair here all is 
 fair_more first old mid before total (e ∷ events) (y ∷ xs) event x fair here all is =
     (fair.0, fair_more first e.left mid (before ++ e.piece) total events xs event x fair.1 here (all ∙ sym (append_assoc before e.piece (log_of events))) is)
 
-each_more : {N : Type 0} (flash : N → Flash) (recorded : N → Option Recording) (honest : N → Bool) (failed erases : N → ℕ) (old mid new : Device N) (events : List Event) (xs : List Exchange) (event : Event) (x : Exchange) → HappensEach flash recorded honest failed erases old events xs mid → IsEventOf flash recorded honest failed erases mid event x new → HappensEach flash recorded honest failed erases old (events ++ event ∷ []) (xs ++ x ∷ []) new
+each_more : {N : Type 0} (flash : N → Flash) (recorded : N → Option Recording) (honest : N → Bool) (failed erases : N → ℕ) (old mid new : Device N)
+    (events : List Event) (xs : List Exchange) (event : Event) (x : Exchange)
+    → HappensEach flash recorded honest failed erases old events xs mid → IsEventOf flash recorded honest failed erases mid event x new
+    → HappensEach flash recorded honest failed erases old (events ++ event ∷ []) (xs ++ x ∷ []) new
 each_more flash recorded honest failed erases old mid new [] [] event x each is = (new, subst (λ d. IsEventOf flash recorded honest failed erases d event x new) each is, refl)
 each_more flash recorded honest failed erases old mid new [] (y ∷ xs) event x each is = absurd each
 each_more flash recorded honest failed erases old mid new (e ∷ events) [] event x each is = absurd each
@@ -243,7 +265,9 @@ flushed_then a b c xs ys image same most wears here there f = record {
 module _ {N : Type 0} (flash : N → Flash) (recorded : N → Option Recording) (honest : N → Bool) (failed erases : N → ℕ) (old mid new : Device N) (done : List Exchange) (x : Exchange)
     (sized : mid.engine.geometry ≡ old.engine.geometry) (sized' : new.engine.geometry ≡ mid.engine.geometry)
     (die : (flash mid.engine.nand).geometry ≡ mid.engine.geometry) (die' : (flash new.engine.nand).geometry ≡ new.engine.geometry)
-    (limits : HasLimitsOf old.engine.mapping new.engine.mapping) (most : (b : ℕ) → wear_at (ram old.engine).blocks.table b ≤ most_wear) (safe : IsRam (ram old.engine)) (mid_limits : HasLimitsOf old.engine.mapping mid.engine.mapping) (mid_safe : IsRam (ram mid.engine)) (safe' : IsRam (ram new.engine)) (well : IsWell flash new)
+    (limits : HasLimitsOf old.engine.mapping new.engine.mapping) (most : (b : ℕ) → wear_at (ram old.engine).blocks.table b ≤ most_wear)
+    (safe : IsRam (ram old.engine)) (mid_limits : HasLimitsOf old.engine.mapping mid.engine.mapping) (mid_safe : IsRam (ram mid.engine))
+    (safe' : IsRam (ram new.engine)) (well : IsWell flash new)
     (ran : Ran flash recorded honest failed erases old done mid) (tells : Tells flash recorded honest failed erases mid x new) (h : Happened flash recorded mid x new) where
   event : Event
   event = record { command = x.command; reply = reply_in x; piece = h.went.log; left = die_in flash new; told = recorded new.engine.nand }
@@ -305,11 +329,19 @@ module _ {N : Type 0} (flash : N → Flash) (recorded : N → Option Recording) 
         let P : Geometry → ℕ → Type 0 = λ g c. SurvivesStops g c x.command x.result (image_in flash mid.engine) (image_in flash new.engine) (recorded new.engine.nand) h.went.log in
         subst (λ g. P g old.engine.mapping.capacity) sized (subst (P mid.engine.geometry) mid_limits.capacity h.stopped);
     rescues = λ is done.
-        let here : Rescues old.engine.geometry (is_bad_by (ram mid.engine)) h.went.log (image_in flash mid.engine) (image_in flash new.engine) = subst (λ (g : Geometry). Rescues g (is_bad_by (ram mid.engine)) h.went.log (image_in flash mid.engine) (image_in flash new.engine)) sized (h.rescues is done) in
-        rescues_as old.engine.geometry (is_bad_by (ram mid.engine)) (bad_of old.engine.geometry.pages (is_bad_by (ram old.engine)) (log_of ran.run.events)) (λ b lt. bad_now_law (ram old.engine) (ram mid.engine) (log_of ran.run.events) b safe.blocks_of ran.follows lt) h.went.log (image_in flash mid.engine) (image_in flash new.engine) here;
+        let here : Rescues old.engine.geometry (is_bad_by (ram mid.engine)) h.went.log (image_in flash mid.engine) (image_in flash new.engine) = subst
+        (λ (g : Geometry). Rescues g (is_bad_by (ram mid.engine)) h.went.log (image_in flash mid.engine) (image_in flash new.engine)) sized
+        (h.rescues is done) in
+        rescues_as old.engine.geometry (is_bad_by (ram mid.engine))
+        (bad_of old.engine.geometry.pages (is_bad_by (ram old.engine)) (log_of ran.run.events))
+        (λ b lt. bad_now_law (ram old.engine) (ram mid.engine) (log_of ran.run.events) b safe.blocks_of ran.follows lt) h.went.log
+        (image_in flash mid.engine) (image_in flash new.engine) here;
     quiet = λ is done.
         let here : LeavesTwelve old.engine.geometry (is_bad_by (ram mid.engine)) h.went.log (image_in flash new.engine) = subst (λ (g : Geometry). LeavesTwelve g (is_bad_by (ram mid.engine)) h.went.log (image_in flash new.engine)) sized (h.quiet is done) in
-        twelve_as old.engine.geometry (is_bad_by (ram mid.engine)) (bad_of old.engine.geometry.pages (is_bad_by (ram old.engine)) (log_of ran.run.events)) (λ b lt. bad_now_law (ram old.engine) (ram mid.engine) (log_of ran.run.events) b safe.blocks_of ran.follows lt) h.went.log (image_in flash new.engine) here;
+        twelve_as old.engine.geometry (is_bad_by (ram mid.engine))
+        (bad_of old.engine.geometry.pages (is_bad_by (ram old.engine)) (log_of ran.run.events))
+        (λ b lt. bad_now_law (ram old.engine) (ram mid.engine) (log_of ran.run.events) b safe.blocks_of ran.follows lt) h.went.log
+        (image_in flash new.engine) here;
   }
 
   run_more : HasRun (first_of (ram old.engine)) (die_in flash old) (die_in flash new) (done ++ x ∷ [])

@@ -111,7 +111,9 @@ module _ {S T : Type 0} (of : S → T) (Runs : List Exchange → S → Type 0) (
   }
 
 -- of a device that the bus had not failed before, the count rose in that call
-module _ {N : Type 0} (flash : N → Flash) (recorded : N → Option Recording) (honest : N → Bool) (failed erases : N → ℕ) (old new : Device N) (x : Exchange) (tells : Tells flash recorded honest failed erases old x new) (ne : stop_of old.engine.fault ≢ Some BusFault) (bus : x.result ≡ Err BusFault) where
+module _ {N : Type 0} (flash : N → Flash) (recorded : N → Option Recording) (honest : N → Bool) (failed erases : N → ℕ) (old new : Device N)
+    (x : Exchange) (tells : Tells flash recorded honest failed erases old x new) (ne : stop_of old.engine.fault ≢ Some BusFault)
+    (bus : x.result ≡ Err BusFault) where
   was_going : (o : Option DeviceFault) → stop_of old.engine.fault ≡ o → o ≡ None
   was_going None is = refl
   was_going (Some fault) is =
@@ -123,7 +125,9 @@ module _ {N : Type 0} (flash : N → Flash) (recorded : N → Option Recording) 
 
 -- ---- none, and one more
 
-chain_more : {N : Type 0} (flash : N → Flash) (recorded : N → Option Recording) (honest : N → Bool) (failed erases : N → ℕ) (old now new : Device N) (xs : List Exchange) (x : Exchange) → ToldEach flash recorded honest failed erases old xs now → Tells flash recorded honest failed erases now x new → ToldEach flash recorded honest failed erases old (xs ++ x ∷ []) new
+chain_more : {N : Type 0} (flash : N → Flash) (recorded : N → Option Recording) (honest : N → Bool) (failed erases : N → ℕ) (old now new : Device N)
+    (xs : List Exchange) (x : Exchange) → ToldEach flash recorded honest failed erases old xs now
+    → Tells flash recorded honest failed erases now x new → ToldEach flash recorded honest failed erases old (xs ++ x ∷ []) new
 chain_more flash recorded honest failed erases old now new [] x each tells = (new, subst (λ d. Tells flash recorded honest failed erases d x new) each tells, refl)
 chain_more flash recorded honest failed erases old now new (y ∷ xs) x each tells = (each.0, each.1, chain_more flash recorded honest failed erases each.0 now new xs x each.2 tells)
 
@@ -162,8 +166,13 @@ module _ {N : Type 0} (flash : N → Flash) (recorded : N → Option Recording) 
   ran_on : honest old.engine.nand ≡ true → IsWell flash old → IsWell flash now × Ran flash recorded honest failed erases old xs now → x.result ≢ Err BusFault → IsWell flash new × Ran flash recorded honest failed erases old (xs ++ x ∷ []) new
   ran_on is_honest well before ne =
       let still : honest now.engine.nand ≡ true = so_far.honest_is ∙ is_honest in
-      let now_well : IsWell flash new = tells.well still before.0 ne in
-      (now_well, ran_more flash recorded honest failed erases old now new xs x so_far.sized tells.sized so_far.device.engine.geometry tells.device.engine.geometry (limits_then old.engine.mapping now.engine.mapping new.engine.mapping so_far.limits tells.limits) well.truth.worn.most safe.engine.memory so_far.limits so_far.device.engine.memory tells.device.engine.memory now_well before.1 tells (tells.happened still before.0 ne))
+      let now_well : IsWell flash new = tells.well still before.0 ne in (
+        now_well,
+        ran_more flash recorded honest failed erases old now new xs x so_far.sized tells.sized so_far.device.engine.geometry
+            tells.device.engine.geometry (limits_then old.engine.mapping now.engine.mapping new.engine.mapping so_far.limits tells.limits)
+            well.truth.worn.most safe.engine.memory so_far.limits so_far.device.engine.memory tells.device.engine.memory now_well before.1 tells
+            (tells.happened still before.0 ne),
+      )
 
   its_stop : (fault : DeviceFault) → x.result ≡ Err fault → StopsDevice x.command fault → stop_of new.engine.fault ≡ Some fault
   its_stop fault is there = subst (λ r. IfErr r (λ f. StopsDevice x.command f → stop_of new.engine.fault ≡ Some f)) is tells.stops there
@@ -209,7 +218,10 @@ module _ {N : Type 0} (flash : N → Flash) (recorded : N → Option Recording) 
   again : (mid : Device N) (y : Exchange) → y.result ≡ Err BusFault → Tells flash recorded honest failed erases mid y now → (x.result ≡ Err BusFault) × (new ≡ now)
   again mid y bus its = tells.stopped BusFault (subst (λ r. IfErr r (λ fault. StopsDevice y.command fault → stop_of now.engine.fault ≡ Some fault)) bus its.stops (bus_stops y.command))
 
-  until_on : (before rest : List Exchange) (mid : Device N) → xs ≡ before ++ rest → AreKnown before → AreRefused BusFault rest → RunsTo flash recorded honest failed erases old before mid → EndsBy (Tells flash recorded honest failed erases) mid rest now → (x.result ≡ Err BusFault) ⊎ (x.result ≢ Err BusFault) → Until (RunsTo flash recorded honest failed erases old) (Tells flash recorded honest failed erases) (xs ++ x ∷ []) new
+  until_on : (before rest : List Exchange) (mid : Device N) → xs ≡ before ++ rest → AreKnown before → AreRefused BusFault rest
+      → RunsTo flash recorded honest failed erases old before mid → EndsBy (Tells flash recorded honest failed erases) mid rest now
+      → (x.result ≡ Err BusFault) ⊎ (x.result ≢ Err BusFault)
+      → Until (RunsTo flash recorded honest failed erases old) (Tells flash recorded honest failed erases) (xs ++ x ∷ []) new
   until_on before [] mid joined known refused runs ends (inl bus) = record {
     before = before;
     rest = x ∷ [];
@@ -247,7 +259,9 @@ module _ {N : Type 0} (flash : N → Flash) (recorded : N → Option Recording) 
       }
 
 -- one call more
-pub told_more : {N : Type 0} (flash : N → Flash) (recorded : N → Option Recording) (honest : N → Bool) (failed erases : N → ℕ) (old now new : Device N) (xs : List Exchange) (x : Exchange) → IsDevice flash old → WasTold flash recorded honest failed erases old xs now → Tells flash recorded honest failed erases now x new → WasTold flash recorded honest failed erases old (xs ++ x ∷ []) new
+pub told_more : {N : Type 0} (flash : N → Flash) (recorded : N → Option Recording) (honest : N → Bool) (failed erases : N → ℕ)
+    (old now new : Device N) (xs : List Exchange) (x : Exchange) → IsDevice flash old → WasTold flash recorded honest failed erases old xs now
+    → Tells flash recorded honest failed erases now x new → WasTold flash recorded honest failed erases old (xs ++ x ∷ []) new
 told_more flash recorded honest failed erases old now new xs x safe so_far tells =
     let u = so_far.until in
     record {

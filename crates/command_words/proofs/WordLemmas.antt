@@ -338,7 +338,11 @@ only_whole Five name (a ∷ b ∷ c ∷ d ∷ f ∷ x ∷ rest) plain e =
     let three = or_parts _ _ two.1 in
     let four = or_parts _ _ three.1 in
     let five = or_parts _ _ four.1 in
-    nothing_wrong _ _ _ (many_fail Five name (a ∷ b ∷ c ∷ d ∷ f ∷ []) x rest (plain_more a (b ∷ c ∷ d ∷ f ∷ []) one.0 (plain_more b (c ∷ d ∷ f ∷ []) two.0 (plain_more c (d ∷ f ∷ []) three.0 (plain_more d (f ∷ []) four.0 (plain_more f [] five.0 refl))))) (or_parts _ _ five.1).0 refl) e
+    nothing_wrong _ _ _
+    (many_fail Five name (a ∷ b ∷ c ∷ d ∷ f ∷ []) x rest
+    (plain_more a (b ∷ c ∷ d ∷ f ∷ []) one.0
+    (plain_more b (c ∷ d ∷ f ∷ []) two.0 (plain_more c (d ∷ f ∷ []) three.0 (plain_more d (f ∷ []) four.0 (plain_more f [] five.0 refl)))))
+    (or_parts _ _ five.1).0 refl) e
 only_whole Five name [] plain e = nothing_wrong _ _ _ (few_fail Five name [] plain (omega arith)) e
 only_whole Five name (a ∷ []) plain e = nothing_wrong _ _ _ (few_fail Five name (a ∷ []) plain (omega arith)) e
 only_whole Five name (a ∷ b ∷ []) plain e = nothing_wrong _ _ _ (few_fail Five name (a ∷ b ∷ []) plain (omega arith)) e

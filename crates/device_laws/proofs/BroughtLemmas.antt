@@ -165,7 +165,9 @@ module _ {N : Type 0} (flash : N → Flash) (recorded : N → Option Recording) 
   alike_after stays a b a' b' two alike x y = record {
     old = record {
       there = old_after row (ram mid) (ram mid') (image_in flash mid) (image_in flash mid') (two_there a b two x.one) sized keys mids (ram b.engine) (ram b'.engine) (image_of b) (image_of b') x.one.brings.renewed y.one.brings.renewed x.one.brings.renews theirs;
-      back = old_after row (ram mid') (ram mid) (image_in flash mid') (image_in flash mid) (two_there a' b' two' y.one) (sym sized) (sym keys) (turned (image_in flash mid) (image_in flash mid') mids) (ram b'.engine) (ram b.engine) (image_of b') (image_of b) y.one.brings.renewed x.one.brings.renewed theirs x.one.brings.renews;
+      back = old_after row (ram mid') (ram mid) (image_in flash mid') (image_in flash mid) (two_there a' b' two' y.one) (sym sized) (sym keys)
+          (turned (image_in flash mid) (image_in flash mid') mids) (ram b'.engine) (ram b.engine) (image_of b') (image_of b) y.one.brings.renewed
+          x.one.brings.renewed theirs x.one.brings.renews;
     };
     cursor = y.one.cursor_is ∙ (ap (λ k. k + 1) rows ∙ sym x.one.cursor_is);
     geometry = sized_one a' b' y.one ∙ (alike.geometry ∙ sym (sized_one a b x.one));

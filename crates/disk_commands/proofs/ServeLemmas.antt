@@ -62,7 +62,9 @@ pub limited : {D : Type 0} (contents : D → Contents) (honest calm : D → Bool
 limited contents honest calm does rests e room most first last unread left before after result is = subst (λ n. Serves contents honest calm does rests e n first last unread left before after result) is
 
 -- it was served, or memory for its requests was refused
-pub served_at : {S Y K : Type 0} (held : S → Held) (honest full : S → Bool) (mended_in : S → Mended) (failed : S → ℕ) (synced missed : Y → ℕ) (marked : Y → SyncMark) (kept : K → List Bool) (unlisted : K → ℕ) (a : DiskFileAnswers) (words : DiskServeWords) (told : DiskText) (mended : Mended)
+pub served_at : {S Y K : Type 0} (held : S → Held) (honest full : S → Bool) (mended_in : S → Mended) (failed : S → ℕ) (synced missed : Y → ℕ)
+    (marked : Y → SyncMark) (kept : K → List Bool) (unlisted : K → ℕ) (a : DiskFileAnswers) (words : DiskServeWords) (told : DiskText)
+    (mended : Mended)
     (disk : GuardedSectors (Reopened S) K) (syncs : Y) (terms : Terms) (unread left before after telling told_after : Option (List ℕ)) (result : Result (Unit {0}) DiskCommandFault)
     → IsReadyAt held honest mended_in marked kept a words.disk.now words.read_only words.sync_always told mended disk syncs → NamesAll disk.lost.items told.shape.code mended telling told_after → terms ≡ terms_of told words.read_only
     → HasServedOn (shown_in held honest) (λ d. holds_in honest d.sectors) (does_in held honest full failed) (PassesOn (rests_in held honest full failed)) (ReadsGuarded (reads_in held honest))

@@ -220,7 +220,13 @@ parts_on size count capacity device d left was parts sizes counts = record {
 pub given_of : {S : Type 0} (held : S → Held) (honest : S → Bool) (n size : ℕ) (before after : Option (Device (DriverState (FileState S)))) (d left : Device (DriverState (FileState S))) (answer : Result (List ℕ) RequestError) → before ≡ Some d → after ≡ Some left
     → PerformsTask (contents_of (flash_in held) (is_honest_in honest)) (holds (is_honest_in honest)) (λ x. false) (Read (n * size) size) [] d answer left
     → (x : Device (DriverState (FileState S))) → before ≡ Some x → (y : Device (DriverState (FileState S))) × (after ≡ Some y) × PerformsTask (contents_of (flash_in held) (is_honest_in honest)) (holds (is_honest_in honest)) (λ z. false) (Read (n * size) size) [] x answer y
-given_of held honest n size before after d left answer was is p = λ x there. (left, is, subst (λ y. PerformsTask (contents_of (flash_in held) (is_honest_in honest)) (holds (is_honest_in honest)) (λ z. false) (Read (n * size) size) [] y answer left) (some_same d x (sym was ∙ there)) p)
+given_of held honest n size before after d left answer was is p = λ x there. (
+  left,
+  is,
+  subst
+      (λ y. PerformsTask (contents_of (flash_in held) (is_honest_in honest)) (holds (is_honest_in honest)) (λ z. false) (Read (n * size) size) [] y
+      answer left) (some_same d x (sym was ∙ there)) p,
+)
 
 -- the terms stay
 pub settled_terms : {S : Type 0} (held : S → Held) (honest full : S → Bool) (failed : S → ℕ) (told : DiskFault) (terms : Terms) (reopened : Bool) (next : ℕ) (left : Device (DriverState (FileState S))) (answer result : Result (Unit {0}) DiskFault) (new : Reopened S)

@@ -11,7 +11,31 @@ use Rattle.nbd_stream.specs.Disk.{Contents, MayAnswer, PerformsTask, answer_from
 use Rattle.std.proofs.lemmas.Bool.{cases_lt}
 use Rattle.page_layout.specs.Counter.{HasRisen, counted}
 use Rattle.disk_server.specs.declared.mark.SyncMark.{SyncMark}
-use Rattle.disk_server.specs.Synced.{CloseLaw, Closes, Counts, EndsChange, EndsSynced, EndsTask, FlushLaw, HasSynced, IsKnownFlushed, IsLasting, IsOver, KeepsCount, Marks, NoneFailed, NotesFailedSync, OverLaw, SyncedLaw, SyncsTask, UnflushedLaw, WriteLaw, after_change, after_sync}
+use
+    Rattle.disk_server.specs.Synced.{
+      CloseLaw,
+      Closes,
+      Counts,
+      EndsChange,
+      EndsSynced,
+      EndsTask,
+      FlushLaw,
+      HasSynced,
+      IsKnownFlushed,
+      IsLasting,
+      IsOver,
+      KeepsCount,
+      Marks,
+      NoneFailed,
+      NotesFailedSync,
+      OverLaw,
+      SyncedLaw,
+      SyncsTask,
+      UnflushedLaw,
+      WriteLaw,
+      after_change,
+      after_sync,
+    }
 use Rattle.disk_server.proofs.SyncLemmas.{no_less, none_then, then_failed, unflushed}
 use Rattle.disk_server.specs.declared.synced.SyncedDisk.{SyncedDisk}
 

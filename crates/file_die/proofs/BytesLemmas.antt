@@ -213,7 +213,9 @@ going_on u at given done n part s t p l d g w =
     }
 
 -- a call that failed, or has written nothing
-pub going_still : (u : Bytes) (at : ℕ) (given : List ℕ) (done : ℕ) (answer : Result ℕ ByteFault) (part : List ℕ) (s t : Bytes) → part ≡ drop done given → at ≤ length u.bytes → done ≤ length given → Going u at given done s → WritesBytes s (at + done) part answer t → Going u at given done t
+pub going_still : (u : Bytes) (at : ℕ) (given : List ℕ) (done : ℕ) (answer : Result ℕ ByteFault) (part : List ℕ) (s t : Bytes)
+    → part ≡ drop done given → at ≤ length u.bytes → done ≤ length given → Going u at given done s → WritesBytes s (at + done) part answer t
+    → Going u at given done t
 going_still u at given done answer part s t p l d g w =
     let is = ap (λ z. over (at + done) z s.bytes) p ∙ going_wants u at given done s l d g in
     let full : List ℕ = over at given u.bytes in
@@ -227,7 +229,9 @@ going_still u at given done answer part s t p l d g w =
       reaches = reach (at + done) t.bytes full alike (omega (arith, reaches_over at given u.bytes l, d));
     }
 
-pub tells_next : (size : ℕ) (reads : List ℕ → Page) (u : Bytes) (at : ℕ) (given : List ℕ) (done : ℕ) (part : List ℕ) (s t : Bytes) → part ≡ drop done given → at ≤ length u.bytes → done ≤ length given → Going u at given done s → Tells size reads (over (at + done) part s.bytes) s t → Tells size reads (over at given u.bytes) s t
+pub tells_next : (size : ℕ) (reads : List ℕ → Page) (u : Bytes) (at : ℕ) (given : List ℕ) (done : ℕ) (part : List ℕ) (s t : Bytes)
+    → part ≡ drop done given → at ≤ length u.bytes → done ≤ length given → Going u at given done s
+    → Tells size reads (over (at + done) part s.bytes) s t → Tells size reads (over at given u.bytes) s t
 tells_next size reads u at given done part s t p l d g b = subst (λ z. Tells size reads z s t) (ap (λ z. over (at + done) z s.bytes) p ∙ going_wants u at given done s l d g) b
 
 pub all_written : (u : Bytes) (at : ℕ) (given : List ℕ) (done : ℕ) (s : Bytes) → at ≤ length u.bytes → length given ≤ done → Going u at given done s → WritesAll u at given true s

@@ -368,7 +368,9 @@ pub kept_of : {F : Type 0} → (held : F → Bytes) (honest : F → Bool) (tells
 unfolding is_kept
 kept_of held honest tells reads r e = kept_parts (honest r.file) (tells r.file r.size reads) (held r.file).failed_syncs (syncs_lost r.sync_failed) e
 
-pub same_kept : {F : Type 0} → (held : F → Bytes) (honest : F → Bool) (tells : F → ℕ → (List ℕ → Page) → Bool) (reads : List ℕ → Page) (old new : Rows F) → honest new.file ≡ honest old.file → ((size : ℕ) → tells new.file size reads ≡ tells old.file size reads) → new.size ≡ old.size
+pub same_kept : {F : Type 0}
+    → (held : F → Bytes) (honest : F → Bool) (tells : F → ℕ → (List ℕ → Page) → Bool) (reads : List ℕ → Page) (old new : Rows F)
+    → honest new.file ≡ honest old.file → ((size : ℕ) → tells new.file size reads ≡ tells old.file size reads) → new.size ≡ old.size
     → (honest old.file ≡ true → ((held new.file).failed_syncs == syncs_lost new.sync_failed) ≡ ((held old.file).failed_syncs == syncs_lost old.sync_failed)) → is_kept held honest tells reads new ≡ is_kept held honest tells reads old
 unfolding is_kept
 same_kept held honest tells reads old new e f s h =

@@ -220,7 +220,9 @@ module _ {N : Type 0} (flash : N → Flash) (recorded : N → Option Recording) 
     where
       rows : one'.row ≡ one.row
       rows =
-          let found : FindsFrom a'.cursor (image_in flash a'.engine) (Some one.row) = subst (λ k. FindsFrom k (image_in flash a'.engine) (Some one.row)) (sym alike.cursor) (found_there (image_in flash a.engine) (image_in flash a'.engine) alike.there alike.back a.cursor one.row one.found) in
+          let found : FindsFrom a'.cursor (image_in flash a'.engine) (Some one.row) = subst
+          (λ k. FindsFrom k (image_in flash a'.engine) (Some one.row)) (sym alike.cursor)
+          (found_there (image_in flash a.engine) (image_in flash a'.engine) alike.there alike.back a.cursor one.row one.found) in
           let same : Some one'.row ≡ Some one.row = one_found a'.cursor (image_in flash a'.engine) (Some one'.row) (Some one.row) one'.found found in
           cc
 

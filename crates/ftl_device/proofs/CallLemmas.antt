@@ -26,7 +26,10 @@ pub pin_at : (r : Ram) (image : Image) (fault : Option WriteFault) → r.fault �
 pin_at r image fault is h = subst (λ f. PinIsTrue f r image) (sym is) h
 
 -- the engine isn't stopped, and what it knows is so
-pub well_ram : (answer : Result (Unit {0}) CallFault) (result : Result (Unit {0}) DeviceFault) (good n : ℕ) (bytes : List ℕ) (g : Geometry) (before after : Image) (r q : Ram) → r.fault ≡ standing_after answer → result ≡ answer_of q good answer → result ≢ Err BusFault → MatchResult answer (λ _. HoldsSector g n bytes before r after) (CallRefused g before r after) → (stop_of r.fault ≡ None) × IsTrue None r after × PinIsTrue r.fault r after
+pub well_ram : (answer : Result (Unit {0}) CallFault) (result : Result (Unit {0}) DeviceFault) (good n : ℕ) (bytes : List ℕ) (g : Geometry)
+    (before after : Image) (r q : Ram) → r.fault ≡ standing_after answer → result ≡ answer_of q good answer → result ≢ Err BusFault
+    → MatchResult answer (λ _. HoldsSector g n bytes before r after) (CallRefused g before r after)
+    → (stop_of r.fault ≡ None) × IsTrue None r after × PinIsTrue r.fault r after
 well_ram (Ok done) result good n bytes g before after r q fault is ne h = (ap stop_of fault, h.truth.truth, pin_at r after None fault (h.truth.passed, h.truth.few))
 well_ram (Err (call.Engine engine_fault.ReadOnly)) result good n bytes g before after r q fault is ne h = (ap stop_of fault, h.truth, pin_at r after (Some engine_fault.ReadOnly) fault tt)
 well_ram (Err (call.Engine engine_fault.SequenceSpent)) result good n bytes g before after r q fault is ne h = (ap stop_of fault, h.truth, pin_at r after (Some engine_fault.SequenceSpent) fault h.few)
@@ -50,7 +53,9 @@ memory_only (Err (call.Engine engine_fault.Bus)) result good q is e = (let no : 
 memory_only (Err call.OutOfMemory) result good q is e = refl
 
 -- a certificate for the image is to be had, at the capacity that the device had before
-pub mountable_after : {N : Type 0} (flash : N → Flash) (old : Engine N) (d : Device N) (e : Engine N) → d.engine ≡ e → e.geometry ≡ old.geometry → HasLimitsOf old.mapping e.mapping → IsRam (ram d.engine) → IsWell flash d → old.mapping.capacity + old.geometry.pages ≤ 65536 → IsMountable old.geometry (old.mapping.capacity + old.geometry.pages) (image_in flash d.engine)
+pub mountable_after : {N : Type 0} (flash : N → Flash) (old : Engine N) (d : Device N) (e : Engine N) → d.engine ≡ e → e.geometry ≡ old.geometry
+    → HasLimitsOf old.mapping e.mapping → IsRam (ram d.engine) → IsWell flash d → old.mapping.capacity + old.geometry.pages ≤ 65536
+    → IsMountable old.geometry (old.mapping.capacity + old.geometry.pages) (image_in flash d.engine)
 mountable_after {N} flash old d e same sized limits safe w =
     let g : d.engine.geometry ≡ old.geometry = ap (λ (x : Engine N). x.geometry) same ∙ sized in
     let cap : d.engine.mapping.capacity ≡ old.mapping.capacity = ap (λ (x : Engine N). x.mapping.capacity) same ∙ limits.capacity in
@@ -58,7 +63,9 @@ mountable_after {N} flash old d e same sized limits safe w =
     subst (λ h. P h old.mapping.capacity) g (subst (λ c. P d.engine.geometry c) cap (restart_law (ram d.engine) (image_in flash d.engine) safe w.truth))
 
 -- so it is where nothing was programmed
-pub mountable_kept : {N : Type 0} (flash : N → Flash) (old new : Engine N) → flash new.nand ≡ flash old.nand → IsRam (ram old) → IsTrue None (ram old) (image_in flash old) → old.mapping.capacity + old.geometry.pages ≤ 65536 → IsMountable old.geometry (old.mapping.capacity + old.geometry.pages) (image_in flash new)
+pub mountable_kept : {N : Type 0} (flash : N → Flash) (old new : Engine N) → flash new.nand ≡ flash old.nand → IsRam (ram old)
+    → IsTrue None (ram old) (image_in flash old) → old.mapping.capacity + old.geometry.pages ≤ 65536
+    → IsMountable old.geometry (old.mapping.capacity + old.geometry.pages) (image_in flash new)
 mountable_kept flash old new same safe truth most = subst (λ (s : Flash). IsMountable old.geometry (old.mapping.capacity + old.geometry.pages) s.image) (sym same) (restart_law (ram old) (image_in flash old) safe truth most)
 
 -- what is so of a call that was done is so of the answer
@@ -70,13 +77,17 @@ done_too P (Err (call.Engine engine_fault.Damaged)) good q h = tt
 done_too P (Err (call.Engine engine_fault.Bus)) good q h = tt
 done_too P (Err call.OutOfMemory) good q h = tt
 
-pub recent_after : {N : Type 0} (e last : Engine N) (n : ℕ) (answer : Result (Unit {0}) CallFault) (result : Result (Unit {0}) DeviceFault) (good : ℕ) → last ≡ e → result ≡ answer_of (ram last) good answer → OnOk answer (IsMostRecent n e.mapping) → OnOk result (IsMostRecent n last.mapping)
+pub recent_after : {N : Type 0} (e last : Engine N) (n : ℕ) (answer : Result (Unit {0}) CallFault) (result : Result (Unit {0}) DeviceFault) (good : ℕ)
+    → last ≡ e → result ≡ answer_of (ram last) good answer → OnOk answer (IsMostRecent n e.mapping) → OnOk result (IsMostRecent n last.mapping)
 recent_after {N} e last n answer result good same is first =
     let here : OnOk answer (IsMostRecent n last.mapping) = subst (λ (x : Engine N). OnOk answer (IsMostRecent n x.mapping)) (sym same) first in
     subst (λ r. OnOk r (IsMostRecent n last.mapping)) (sym is) (done_too (IsMostRecent n last.mapping) answer good (ram last) here)
 
 -- and the log of a call is the engine's
-pub went_after : {N : Type 0} (flash : N → Flash) (recorded : N → Option Recording) (old e last : Engine N) (answer : Result (Unit {0}) CallFault) (result : Result (Unit {0}) DeviceFault) (good : ℕ) → last ≡ e → result ≡ answer_of (ram last) good answer → (answer ≢ Err (call.Engine engine_fault.Bus) → Went (ram old) (flash old.nand) (recorded old.nand) (ram e) (flash e.nand) (recorded e.nand)) → result ≢ Err BusFault → Went (ram old) (flash old.nand) (recorded old.nand) (ram last) (flash last.nand) (recorded last.nand)
+pub went_after : {N : Type 0} (flash : N → Flash) (recorded : N → Option Recording) (old e last : Engine N) (answer : Result (Unit {0}) CallFault)
+    (result : Result (Unit {0}) DeviceFault) (good : ℕ) → last ≡ e → result ≡ answer_of (ram last) good answer
+    → (answer ≢ Err (call.Engine engine_fault.Bus) → Went (ram old) (flash old.nand) (recorded old.nand) (ram e) (flash e.nand) (recorded e.nand))
+    → result ≢ Err BusFault → Went (ram old) (flash old.nand) (recorded old.nand) (ram last) (flash last.nand) (recorded last.nand)
 went_after {N} flash recorded old e last answer result good same is w ne =
     let P : Engine N → Type 0 = λ x. Went (ram old) (flash old.nand) (recorded old.nand) (ram x) (flash x.nand) (recorded x.nand) in
     subst P (sym same) (w (λ bus. ne (is ∙ ap (answer_of (ram last) good) bus)))

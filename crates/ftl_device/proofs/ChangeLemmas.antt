@@ -95,7 +95,9 @@ module _ (g h : Geometry) (n : ℕ) (bytes : List ℕ) (before after : Image) (o
   array_now : (xs : List (List ℕ)) → array_of g after ≡ xs → array_of h after ≡ xs
   array_now xs is = ap (λ x. array_of x after) same ∙ is
 
-  pub step_of : (answer : Result (Unit {0}) CallFault) → CallTells old new answer → MatchResult answer (λ _. HoldsSector g n bytes before new after) (CallRefused g before new after) → answer_of new good answer ≢ Err BusFault → WriteStep g state_was n bytes (reply_of (answer_of new good answer)) state_now
+  pub step_of : (answer : Result (Unit {0}) CallFault) → CallTells old new answer
+      → MatchResult answer (λ _. HoldsSector g n bytes before new after) (CallRefused g before new after)
+      → answer_of new good answer ≢ Err BusFault → WriteStep g state_was n bytes (reply_of (answer_of new good answer)) state_now
   step_of (Ok done) tells is ne = record { within = within; writable = writable; array_is = array_now _ is.array }
   step_of (Err (call.Engine engine_fault.ReadOnly)) tells is ne = record { within = within; becomes = record { array_is = array_now _ is.array; read_only = flag ∙ lt-ltb (free_count new.blocks) 5 tells.0 } }
   step_of (Err (call.Engine engine_fault.SequenceSpent)) tells is ne = record { within = within; keeps = record { writable = writable; array_is = array_now _ is.array } }
@@ -125,7 +127,9 @@ pins_of (Err (call.Engine engine_fault.Bus)) old new q good pins none some = tt
 pins_of (Err call.OutOfMemory) old new q good pins none some = unpinned_some new.pinned (pins none) some
 
 -- a command that changes a sector changes the array where it is done, and keeps it where it is refused
-changed_or : (g : Geometry) (n : ℕ) (bytes : List ℕ) (command : Command) → changes_sector command ≡ true → (before after : Image) (new q : Ram) (good : ℕ) (answer : Result (Unit {0}) CallFault) → MatchResult answer (λ _. HoldsSector g n bytes before new after) (CallRefused g before new after)
+changed_or : (g : Geometry) (n : ℕ) (bytes : List ℕ) (command : Command) → changes_sector command ≡ true
+    → (before after : Image) (new q : Ram) (good : ℕ) (answer : Result (Unit {0}) CallFault)
+    → MatchResult answer (λ _. HoldsSector g n bytes before new after) (CallRefused g before new after)
     → answer_of q good answer ≢ Err BusFault → (array_of g after ≡ array_of g before) ⊎ ((changes_sector command ≡ true) × (answer_of q good answer ≡ Ok tt))
 changed_or g n bytes command its before after new q good (Ok done) h ne = inr (its, refl)
 changed_or g n bytes command its before after new q good (Err (call.Engine engine_fault.ReadOnly)) h ne = inl h.array
@@ -149,13 +153,17 @@ no_flush_is command off P its = (let no : ⊥ = cc in absurd no)
 
 -- ---- the call was made
 
-module _ {N : Type 0} (flash : N → Flash) (recorded : N → Option Recording) (honest calm : N → Bool) (failed : N → ℕ) (n : ℕ) (bytes : List ℕ) (command : Command) (old new : Device N) (device : IsDevice flash old) (device' : IsDevice flash new) (may : MayChange (ram old.engine) old.read_only n)
+module _ {N : Type 0} (flash : N → Flash) (recorded : N → Option Recording) (honest calm : N → Bool) (failed : N → ℕ) (n : ℕ) (bytes : List ℕ)
+    (command : Command) (old new : Device N) (device : IsDevice flash old) (device' : IsDevice flash new)
+    (may : MayChange (ram old.engine) old.read_only n)
     (takes : (reply : Reply) (s : State) → WriteStep old.engine.geometry (state_in flash old) n bytes reply s → ArrayStep old.engine.geometry (state_in flash old) command reply s) (no_flush : is_flush command ≡ false) (changes : changes_sector command ≡ true) where
   abbrev good_then : ℕ
   good_then = good_count (ram old.engine).blocks.table
 
   abbrev Holds : Engine N → Result (Unit {0}) CallFault → Type 0
-  Holds e answer = honest old.engine.nand ≡ true → Knows (ram old.engine) (image_in flash old.engine) → MatchResult answer (λ _. HoldsSector old.engine.geometry n bytes (image_in flash old.engine) (ram e) (image_in flash e)) (CallRefused old.engine.geometry (image_in flash old.engine) (ram e) (image_in flash e))
+  Holds e answer = honest old.engine.nand ≡ true → Knows (ram old.engine) (image_in flash old.engine)
+      → MatchResult answer (λ _. HoldsSector old.engine.geometry n bytes (image_in flash old.engine) (ram e) (image_in flash e))
+      (CallRefused old.engine.geometry (image_in flash old.engine) (ram e) (image_in flash e))
 
   abbrev Pages : Engine N → Result (Unit {0}) CallFault → Type 0
   Pages e answer = OnOk answer (IsLastOf old.engine.geometry command (ram e) (page_in e.page))
@@ -193,7 +201,9 @@ module _ {N : Type 0} (flash : N → Flash) (recorded : N → Option Recording) 
     }
 
     short : honest old.engine.nand ≡ true → Knows (ram old.engine) (image_in flash old.engine) → CallShort (ram old.engine) (ram new.engine) answer
-    short is_honest well = call_short (HasFunds (honest old.engine.nand) (ram old.engine) (image_in flash old.engine)) answer (ram old.engine) (ram new.engine) device.engine.memory readies.costs (is_honest, well, funded_begun (ram old.engine) old.read_only device.read_only may.writable)
+    short is_honest well = call_short (HasFunds (honest old.engine.nand) (ram old.engine) (image_in flash old.engine)) answer (ram old.engine)
+        (ram new.engine) device.engine.memory readies.costs
+        (is_honest, well, funded_begun (ram old.engine) old.read_only device.read_only may.writable)
 
     logs_done : honest old.engine.nand ≡ true → replied ≢ Err BusFault → Logs flash recorded command old replied new
     logs_done is_honest ne =
@@ -211,7 +221,10 @@ module _ {N : Type 0} (flash : N → Flash) (recorded : N → Option Recording) 
     means_done is_honest known ne =
         let after = well_device flash new new.engine refl (well_ram answer replied good_then n bytes _ _ _ (ram new.engine) (ram new.engine) ends.fault refl ne (truth is_honest known)) in
         record {
-          step = takes _ _ (step_of old.engine.geometry new.engine.geometry n bytes (image_in flash old.engine) (image_in flash new.engine) (ram old.engine) (ram new.engine) old.read_only new.read_only good_then may.within may.writable device'.read_only ends.geometry answer ends.tells (truth is_honest known) ne);
+          step = takes _ _
+              (step_of old.engine.geometry new.engine.geometry n bytes (image_in flash old.engine) (image_in flash new.engine) (ram old.engine)
+              (ram new.engine) old.read_only new.read_only good_then may.within may.writable device'.read_only ends.geometry answer ends.tells
+              (truth is_honest known) ne);
           well = after;
           versions = changed_versions old.engine.geometry n bytes (image_in flash old.engine) (image_in flash new.engine) (ram new.engine) (ram new.engine) good_then answer (truth is_honest known) ne;
           mountable = λ most. mountable_after flash old.engine new new.engine refl ends.geometry ends.limits device'.engine.memory after most;
@@ -230,7 +243,9 @@ module _ {N : Type 0} (flash : N → Flash) (recorded : N → Option Recording) 
     }
 
   -- the device noted nothing else
-  pub changed_by : (mid : Engine N) (good : ℕ) (answer : Result (Unit {0}) CallFault) (result : Result (Unit {0}) DeviceFault) → new.engine ≡ mid → good ≡ good_then → result ≡ answer_of (ram new.engine) good answer → EndsCall flash recorded honest calm failed old.engine answer mid → Readies flash honest n 2 old.engine answer mid
+  pub changed_by : (mid : Engine N) (good : ℕ) (answer : Result (Unit {0}) CallFault) (result : Result (Unit {0}) DeviceFault) → new.engine ≡ mid
+      → good ≡ good_then → result ≡ answer_of (ram new.engine) good answer → EndsCall flash recorded honest calm failed old.engine answer mid
+      → Readies flash honest n 2 old.engine answer mid
       → OnOk answer (HasCost n (ram old.engine) (ram mid)) → OnOk answer (HasLookedUp n (ram old.engine) (ram mid) (page_in mid.scratch)) → Pages mid answer → Newest mid answer → Holds mid answer → Changes flash recorded honest calm failed n command old result new
   changed_by mid good answer result same many is ends readies cost checked page newest truth =
       let E : Engine N → Type 0 = λ e. EndsCall flash recorded honest calm failed old.engine answer e in

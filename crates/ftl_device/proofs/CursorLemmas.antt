@@ -84,7 +84,9 @@ module _ {N : Type 0} (flash : N → Flash) (recorded : N → Option Recording) 
 
   -- what is known of a turn, or of a page brought forward, as the part ends that asks the die
   pub kept_ready : (old : Device N) (mid : Engine N) (answer : Result (Unit {0}) CallFault) → IsDevice flash old → MayFlush (ram old.engine) old.read_only → EndsCall flash recorded honest calm failed old.engine answer mid → answer ≢ Err call.OutOfMemory
-      → (honest old.engine.nand ≡ true → Knows (ram old.engine) (image_in flash old.engine) → MatchResult answer (λ _. KeepsArray old.engine.geometry (image_in flash old.engine) (ram mid) (image_in flash mid)) (CallRefused old.engine.geometry (image_in flash old.engine) (ram mid) (image_in flash mid)))
+      → (honest old.engine.nand ≡ true → Knows (ram old.engine) (image_in flash old.engine)
+      → MatchResult answer (λ _. KeepsArray old.engine.geometry (image_in flash old.engine) (ram mid) (image_in flash mid))
+      (CallRefused old.engine.geometry (image_in flash old.engine) (ram mid) (image_in flash mid)))
       → (HasFunds (honest old.engine.nand) (ram old.engine) (image_in flash old.engine) → 5 ≤ free_count (ram old.engine).blocks → CallShort (ram old.engine) (ram mid) answer)
       → IsUpkept flash recorded honest calm failed step.Turn old answer mid
   kept_ready old mid answer device may ends memory truth count = record {

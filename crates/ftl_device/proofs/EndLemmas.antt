@@ -186,5 +186,7 @@ module _ {N : Type 0} (flash : N → Flash) (honest : N → Bool) (n : ℕ) wher
     }
 
 -- the page buffer that the look-up left is as it was
-pub looked_up_before : {N : Type 0} (old mid new : Engine N) (n : ℕ) → IsReady n (ram old) (ram mid) → IsLookedUp n (ram old) (ram mid) (page_in mid.scratch) → new.scratch ≡ mid.scratch → HasPut Data (ram mid) (ram new) → HasSettled n (ram mid) (ram new) → HasLookedUp n (ram old) (ram new) (page_in new.scratch)
+pub looked_up_before : {N : Type 0} (old mid new : Engine N) (n : ℕ) → IsReady n (ram old) (ram mid)
+    → IsLookedUp n (ram old) (ram mid) (page_in mid.scratch) → new.scratch ≡ mid.scratch → HasPut Data (ram mid) (ram new)
+    → HasSettled n (ram mid) (ram new) → HasLookedUp n (ram old) (ram new) (page_in new.scratch)
 looked_up_before old mid new n ready looked same page settled = record { mid = ram mid; ready = ready; looked_up = subst (λ b. IsLookedUp n (ram old) (ram mid) (page_in b)) (sym same) looked; put = page; settled = settled }

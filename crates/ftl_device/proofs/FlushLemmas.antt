@@ -78,7 +78,9 @@ in_pages blocks n b some l =
 
 -- ---- what the pages of a block show
 
-module _ (s : State) (image : Image) (whole : IsImage s.geometry image) (f : AreFilled image s) (size : length s.table ≡ s.geometry.blocks) (tables : (u : ℕ) → u < table_pages s.geometry → SpellsTable s.geometry s.table image u) (w : AreWorn image s) (b : ℕ) (lt : b < s.geometry.blocks) where
+module _ (s : State) (image : Image) (whole : IsImage s.geometry image) (f : AreFilled image s) (size : length s.table ≡ s.geometry.blocks)
+    (tables : (u : ℕ) → u < table_pages s.geometry → SpellsTable s.geometry s.table image u) (w : AreWorn image s) (b : ℕ)
+    (lt : b < s.geometry.blocks) where
   abbrev ps : List Page
   ps = block_pages s.geometry image b
 

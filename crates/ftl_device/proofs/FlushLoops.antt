@@ -56,7 +56,9 @@ pub engine_refused : (g : Geometry) (b c : Ram) (x y z : Image) (fault : WriteFa
 engine_refused g b c x y z fault same s t beside k l = keeps_refused g b c x y z fault same k (refused_beside b c y z s t beside k.truth fault l)
 
 -- a translation page was written back
-pub back_after : (result : Result (Unit {0}) WriteFault) (t : ℕ) (g : Geometry) (b c : Ram) (x y z : Image) → b.geometry ≡ g → IsRam b → IsRam c → LeavesPin b c → KeepsArray g x b y → MatchResult result (λ done. IsWrittenBack t b y c z) (Refused b y c z) → MatchResult result (λ done. KeepsArray g x c z) (λ fault. CallRefused g x c z (Engine fault))
+pub back_after : (result : Result (Unit {0}) WriteFault) (t : ℕ) (g : Geometry) (b c : Ram) (x y z : Image) → b.geometry ≡ g → IsRam b → IsRam c
+    → LeavesPin b c → KeepsArray g x b y → MatchResult result (λ done. IsWrittenBack t b y c z) (Refused b y c z)
+    → MatchResult result (λ done. KeepsArray g x c z) (λ fault. CallRefused g x c z (Engine fault))
 back_after (Ok done) t g b c x y z same s s' beside k l = engine_keeps g b c x y z same s s' beside k l.same
 back_after (Err fault) t g b c x y z same s s' beside k l = engine_refused g b c x y z fault same s s' beside k l
 

@@ -88,7 +88,9 @@ module _ {N : Type 0} (flash : N → Flash) (recorded : N → Option Recording) 
   }
 
   -- one after another, the first done
-  pub leaves_then : {A B : Type 0} (old mid new : Engine N) (done : A) (result : Result B WriteFault) → KeepsOn flash honest old mid → HasLimitsOf old.mapping mid.mapping → EngineLeaves flash recorded honest calm failed old (Ok done) mid → EngineLeaves flash recorded honest calm failed mid result new → EngineLeaves flash recorded honest calm failed old result new
+  pub leaves_then : {A B : Type 0} (old mid new : Engine N) (done : A) (result : Result B WriteFault) → KeepsOn flash honest old mid
+      → HasLimitsOf old.mapping mid.mapping → EngineLeaves flash recorded honest calm failed old (Ok done) mid
+      → EngineLeaves flash recorded honest calm failed mid result new → EngineLeaves flash recorded honest calm failed old result new
   leaves_then old mid new done result keeps limits first next = record {
     safe = next.safe;
     fault = next.fault;
@@ -120,7 +122,9 @@ module _ {N : Type 0} (flash : N → Flash) (recorded : N → Option Recording) 
   }
 
   -- and as the end of the part of a device's call that asks the die
-  pub leaves_ends : (old new : Engine N) (result : Result (Unit {0}) WriteFault) → EngineLeaves flash recorded honest calm failed old result new → HasLimitsOf old.mapping new.mapping → (new.fault ≡ None → IsCalm (ram new)) → EndsCall flash recorded honest calm failed old (call_of result) new
+  pub leaves_ends : (old new : Engine N) (result : Result (Unit {0}) WriteFault) → EngineLeaves flash recorded honest calm failed old result new
+      → HasLimitsOf old.mapping new.mapping → (new.fault ≡ None → IsCalm (ram new))
+      → EndsCall flash recorded honest calm failed old (call_of result) new
   leaves_ends old new result l limits calm_now = record {
     safe = l.safe;
     fault = call_fault result (ram new) l.fault;

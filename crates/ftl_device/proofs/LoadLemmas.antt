@@ -112,7 +112,10 @@ one_word words rows i word o so_far at is =
     ∙ (ap (λ y. take i rows ++ y ∷ []) is ∙ sym (take_next rows i o at)))
 
 -- one sector more
-pub load_next : (g : Geometry) (c : Claim) (stale : List ℕ) (i n : ℕ) (row : Option ℕ) (old loaded_now new : MappingState) → IsRisingBelow c.sizes.sectors stale → length stale ≤ c.capacity → slice_get stale i ≡ Some n → slice_get c.sectors n ≡ Some row → old ≡ begun_mapping g c (take i stale) → loaded_now ≡ loaded old n row → new ≡ with_dirty loaded_now n row → new ≡ begun_mapping g c (take (i + 1) stale)
+pub load_next : (g : Geometry) (c : Claim) (stale : List ℕ) (i n : ℕ) (row : Option ℕ) (old loaded_now new : MappingState)
+    → IsRisingBelow c.sizes.sectors stale → length stale ≤ c.capacity → slice_get stale i ≡ Some n → slice_get c.sectors n ≡ Some row
+    → old ≡ begun_mapping g c (take i stale) → loaded_now ≡ loaded old n row → new ≡ with_dirty loaded_now n row
+    → new ≡ begun_mapping g c (take (i + 1) stale)
 load_next g c stale i n row old loaded_now new rising few at row_at so_far loads sets =
     let within : i < length stale = slice_get_within stale i n at in
     let its : n ≡ get_or stale i 0 = sym (get_or_from_slice_get stale i n 0 at) in

@@ -125,7 +125,9 @@ module _ {N : Type 0} (flash : N → Flash) (recorded : N → Option Recording) 
   keeps_look old mid same still = λ is_honest k. over (λ r i. KeepsArray old.geometry (image_in flash old) r i) (ram mid) (ram old) (image_in flash mid) (image_in flash old) (sym same) (ap (λ f. f.image) (sym (still is_honest))) (keeps_same (ram old) (image_in flash old) k)
 
   -- the rest of the call after it
-  pub ends_after : {A : Type 0} (old mid new : Engine N) (x : A) (result : Result (Unit {0}) CallFault) → ram mid ≡ ram old → (honest old.nand ≡ true → flash mid.nand ≡ flash old.nand) → EngineLeaves flash recorded honest calm failed old (Ok x) mid → EndsCall flash recorded honest calm failed mid result new → EndsCall flash recorded honest calm failed old result new
+  pub ends_after : {A : Type 0} (old mid new : Engine N) (x : A) (result : Result (Unit {0}) CallFault) → ram mid ≡ ram old
+      → (honest old.nand ≡ true → flash mid.nand ≡ flash old.nand) → EngineLeaves flash recorded honest calm failed old (Ok x) mid
+      → EndsCall flash recorded honest calm failed mid result new → EndsCall flash recorded honest calm failed old result new
   ends_after old mid new x result same still first next = record {
     safe = next.safe;
     fault = next.fault;

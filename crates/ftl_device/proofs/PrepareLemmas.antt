@@ -35,7 +35,9 @@ tells_then SequenceSpent a b c fewer h = h
 tells_then Damaged a b c fewer h = tt
 tells_then Bus a b c fewer h = tt
 
-pub tells_found : (result : Result (Option ℕ) WriteFault) (a b c d : Ram) (fault : Option WriteFault) → good_count b.blocks.table ≤ good_count a.blocks.table → good_count c.blocks.table ≤ good_count b.blocks.table → d ≡ record c { fault = fault } → IfErr result IsReadFault → Tells a d result
+pub tells_found : (result : Result (Option ℕ) WriteFault) (a b c d : Ram) (fault : Option WriteFault)
+    → good_count b.blocks.table ≤ good_count a.blocks.table → good_count c.blocks.table ≤ good_count b.blocks.table
+    → d ≡ record c { fault = fault } → IfErr result IsReadFault → Tells a d result
 tells_found (Ok row) a b c d fault first next is of_read = (let e : good_count d.blocks.table ≡ good_count c.blocks.table = ap (λ (r : Ram). good_count r.blocks.table) is in omega arith)
 tells_found (Err ReadOnly) a b c d fault first next is of_read = absurd of_read
 tells_found (Err SequenceSpent) a b c d fault first next is of_read = absurd of_read

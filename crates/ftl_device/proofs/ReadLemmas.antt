@@ -101,7 +101,9 @@ module _ {N : Type 0} (old new : Engine N) (n : ℕ) (row : Option ℕ) where
   mapping_is : (m : MappingState) → new ≡ record old { mapping = m } → new.mapping ≡ m
   mapping_is m is = ap (λ (z : Engine N). z.mapping) is
 
-  pub looked_by : (result : Result (Unit {0}) LoadFault) → IsMapping old.mapping → moved_row old.mapping n ≡ None → CanLoad old.mapping n → OnOk result (new ≡ record old { mapping = loaded old.mapping n row }) → OnErr result (new ≡ old) → (IsSome (slot_of old.mapping n) → IsOk result) → LooksUp n row old.mapping new.mapping
+  pub looked_by : (result : Result (Unit {0}) LoadFault) → IsMapping old.mapping → moved_row old.mapping n ≡ None → CanLoad old.mapping n
+      → OnOk result (new ≡ record old { mapping = loaded old.mapping n row }) → OnErr result (new ≡ old)
+      → (IsSome (slot_of old.mapping n) → IsOk result) → LooksUp n row old.mapping new.mapping
   looked_by (Ok done) v still can is same hit = rw (mapping_is (loaded old.mapping n row) is) (looked_up old.mapping n row v still can)
   looked_by (Err fault) v still can is same hit = (let e : new.mapping ≡ old.mapping = ap (λ (z : Engine N). z.mapping) same in rw e (left_out old.mapping n row (λ some. let no = hit some in let never : ⊥ = cc in never)))
 
@@ -128,7 +130,15 @@ calm_mapped a b is moved k = subst IsCalm (sym is) (record { unmarked = k.unmark
     half (Some p) h = record { within = h.within; closed = h.closed; passed = (let e : length b.mapping.moved ≡ length a.mapping.moved = ap (λ (l : List (ℕ × ℕ)). length l) moved in omega (arith, h.passed)); on_die = h.on_die }
 
 few_mapped : (extra : ℕ) (a b : Ram) → b ≡ record a { mapping = b.mapping } → b.mapping.moved ≡ a.mapping.moved → PinIsFew extra a → PinIsFew extra b
-few_mapped extra a b is moved few = subst (PinIsFew extra) (sym is) (λ p at. (let h = few p at in record { within = h.within; small = h.small; moved = (let e : length b.mapping.moved ≡ length a.mapping.moved = ap (λ (l : List (ℕ × ℕ)). length l) moved in omega (arith, h.moved)) }))
+few_mapped extra a b is moved few = subst (PinIsFew extra) (sym is)
+    (λ p at.
+    (let h = few p at in
+    record {
+      within = h.within;
+      small = h.small;
+      moved =
+          (let e : length b.mapping.moved ≡ length a.mapping.moved = ap (λ (l : List (ℕ × ℕ)). length l) moved in omega (arith, h.moved));
+    }))
 
 passed_mapped : (a b : Ram) (x : Image) → b ≡ record a { mapping = b.mapping } → PinHasPassed a x → PinHasPassed b x
 passed_mapped a b x is passed = (let P : Ram → Type 0 = λ r. PinHasPassed r x in subst P (sym is) (λ p at. passed p at))
@@ -151,7 +161,9 @@ device_mapped {N} flash d e device safe is moved =
       calm = λ f. calm_mapped (ram d.engine) (ram e) (ap (λ (z : Engine N). ram z) is) moved (device.calm (sym fault ∙ f));
     }
 
-pub read_well : {N : Type 0} (flash : N → Flash) (d new : Device N) (e : Engine N) → ram e ≡ ram d.engine → flash e.nand ≡ flash d.engine.nand → new ≡ record d { engine = record e { mapping = new.engine.mapping } } → new.engine.mapping.moved ≡ e.mapping.moved → IsWell flash d → IsTrue None (ram new.engine) (image_in flash d.engine) → IsWell flash new
+pub read_well : {N : Type 0} (flash : N → Flash) (d new : Device N) (e : Engine N) → ram e ≡ ram d.engine → flash e.nand ≡ flash d.engine.nand
+    → new ≡ record d { engine = record e { mapping = new.engine.mapping } } → new.engine.mapping.moved ≡ e.mapping.moved → IsWell flash d
+    → IsTrue None (ram new.engine) (image_in flash d.engine) → IsWell flash new
 read_well {N} flash d new e memory kept is moved well truth =
     let s : flash new.engine.nand ≡ flash d.engine.nand = ap (λ (z : Device N). flash z.engine.nand) is ∙ kept in
     let whole : ram new.engine ≡ record (ram d.engine) { mapping = new.engine.mapping } = ap (λ (z : Device N). ram z.engine) is ∙ ap (λ (r : Ram). record r { mapping = new.engine.mapping }) memory in
@@ -193,7 +205,9 @@ array_at g image n within =
     slice_get-get_or (array_of g image) n [] (omega arith) ∙ ap Some here
 
 module _ {N : Type 0} (flash : N → Flash) (d : Device N) (e : Engine N) (new : Device N) (n : ℕ) (row : Option ℕ) (bytes : List ℕ) where
-  pub read_step : n < d.engine.geometry.sectors → ram e ≡ ram d.engine → flash e.nand ≡ flash d.engine.nand → new ≡ record d { engine = record e { mapping = new.engine.mapping } } → IsRead n row bytes d.engine.geometry (image_in flash d.engine) → ReadsSector d.engine.geometry n bytes (state_in flash d) (state_in flash new)
+  pub read_step : n < d.engine.geometry.sectors → ram e ≡ ram d.engine → flash e.nand ≡ flash d.engine.nand
+      → new ≡ record d { engine = record e { mapping = new.engine.mapping } } → IsRead n row bytes d.engine.geometry (image_in flash d.engine)
+      → ReadsSector d.engine.geometry n bytes (state_in flash d) (state_in flash new)
   read_step within memory kept is read =
       let g : new.engine.geometry ≡ d.engine.geometry = ap (λ (z : Device N). z.engine.geometry) is ∙ ap (λ (r : Ram). r.geometry) memory in
       let s : flash new.engine.nand ≡ flash d.engine.nand = ap (λ (z : Device N). flash z.engine.nand) is ∙ kept in
@@ -207,7 +221,10 @@ module _ {N : Type 0} (flash : N → Flash) (d : Device N) (e : Engine N) (new :
       }
 
   -- what was found and given, and what is cached
-  pub read_done : ram e ≡ ram d.engine → new ≡ record d { engine = record e { mapping = new.engine.mapping } } → FindsRow (ram d.engine) n (page_in e.scratch) row → GivesSector d.engine.geometry n row (page_in e.page) bytes → LooksUp n row e.mapping new.engine.mapping → HasRead n (ram d.engine) (ram new.engine) (page_in new.engine.scratch) (page_in new.engine.page) bytes
+  pub read_done : ram e ≡ ram d.engine → new ≡ record d { engine = record e { mapping = new.engine.mapping } }
+      → FindsRow (ram d.engine) n (page_in e.scratch) row → GivesSector d.engine.geometry n row (page_in e.page) bytes
+      → LooksUp n row e.mapping new.engine.mapping
+      → HasRead n (ram d.engine) (ram new.engine) (page_in new.engine.scratch) (page_in new.engine.page) bytes
   read_done memory is found gives looks =
       let as_read : Device N → Type 0 = λ z. HasRead n (ram d.engine) (ram z.engine) (page_in z.engine.scratch) (page_in z.engine.page) bytes in
       let whole : ram (record e { mapping = new.engine.mapping }) ≡ record (ram d.engine) { mapping = new.engine.mapping } = ap (λ (r : Ram). record r { mapping = new.engine.mapping }) memory in

@@ -86,7 +86,9 @@ place_cleaned old new n k t s safe last page keys cleans = λ none full e is.
     let unmoved : moved_row new e.0 ≡ None = not_moved new e.0 safe (rw slot refl) in
     clean_slot e.1 (sym (pending-at new e.0 (Some e.1) None slot unmoved) ∙ lacks)
 
-pub place_made : (result : Result (Unit {0}) WriteFault) (old new : Ram) (n k e : ℕ) (s : Slot) → IsRam old → IsRam new → last_entry old.mapping.cached ≡ Some (k, s) → e ≡ entries old.geometry → keys_of new.mapping.cached ≡ keys_of old.mapping.cached → OnOk result (Cleans (per_page old.mapping) (k / e) old.mapping new.mapping) → OnOk result (CanLoad new.mapping n)
+pub place_made : (result : Result (Unit {0}) WriteFault) (old new : Ram) (n k e : ℕ) (s : Slot) → IsRam old → IsRam new
+    → last_entry old.mapping.cached ≡ Some (k, s) → e ≡ entries old.geometry → keys_of new.mapping.cached ≡ keys_of old.mapping.cached
+    → OnOk result (Cleans (per_page old.mapping) (k / e) old.mapping new.mapping) → OnOk result (CanLoad new.mapping n)
 place_made (Ok done) old new n k e s safe safe' last same keys cleans = place_cleaned old.mapping new.mapping n k (k / e) s safe'.mapping last (ap (λ x. k / x) (same ∙ ap entries (sym safe.mapping_of))) keys cleans
 place_made (Err fault) old new n k e s safe safe' last same keys cleans = tt
 

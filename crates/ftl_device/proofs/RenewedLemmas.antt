@@ -68,7 +68,9 @@ finishes g x y adds tables two only (Table u) = tables two u
 not_bus : (result : Result (Unit {0}) DeviceFault) → result ≡ Ok tt → result ≢ Err BusFault
 not_bus result done e = (let no : ⊥ = cc in no)
 
-pub flush_finishes : {N : Type 0} (flash : N → Flash) (recorded : N → Option Recording) (honest calm : N → Bool) (failed : N → ℕ) (old new : Device N) (result : Result (Unit {0}) DeviceFault) → Upkeeps flash recorded honest calm failed Flush old result new → honest old.engine.nand ≡ true → IsWell flash old
+pub flush_finishes : {N : Type 0} (flash : N → Flash) (recorded : N → Option Recording) (honest calm : N → Bool) (failed : N → ℕ) (old new : Device N)
+    (result : Result (Unit {0}) DeviceFault) → Upkeeps flash recorded honest calm failed Flush old result new → honest old.engine.nand ≡ true
+    → IsWell flash old
     → OnOk result (Finishes old.engine.geometry (image_in flash old.engine) (image_in flash new.engine))
 flush_finishes flash recorded honest calm failed old new (Ok done) k is_honest well =
     let some = not_bus (Ok done) refl in

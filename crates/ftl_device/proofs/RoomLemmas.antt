@@ -68,7 +68,10 @@ room_tells (Err SequenceSpent) a b s t goes h = h
 room_tells (Err Damaged) a b s t goes h = tt
 room_tells (Err Bus) a b s t goes h = tt
 
-pub room_made : {N : Type 0} (flushing : Bool) (result : Result (Unit {0}) WriteFault) (e f : Engine N) → OnOk result ((blocks : List ℕ) × Collects flushing (ram e) blocks (ram f)) → (9 ≤ free_count (ram e).blocks → IsOk result × (f ≡ e)) → GoesOn (ram e) (ram f) → KeepsKeys e.mapping f.mapping → OnOk result (HasRoom (ram f)) → OnOk result (IsCalm (ram f)) → OnOk result (HasMadeRoom flushing (ram e) (ram f))
+pub room_made : {N : Type 0} (flushing : Bool) (result : Result (Unit {0}) WriteFault) (e f : Engine N)
+    → OnOk result ((blocks : List ℕ) × Collects flushing (ram e) blocks (ram f)) → (9 ≤ free_count (ram e).blocks → IsOk result × (f ≡ e))
+    → GoesOn (ram e) (ram f) → KeepsKeys e.mapping f.mapping → OnOk result (HasRoom (ram f)) → OnOk result (IsCalm (ram f))
+    → OnOk result (HasMadeRoom flushing (ram e) (ram f))
 room_made flushing (Ok done) e f collects rests goes keys room calm = record { collects = collects; rests = λ nine. ap (λ (z : Engine _). ram z) (rests nine).1; goes = goes; keys = keys; room = room; calm = calm }
 room_made flushing (Err fault) e f collects rests goes keys room calm = tt
 
@@ -111,7 +114,10 @@ refused_room a b x y Damaged r few = r
 refused_room a b x y Bus r few = tt
 
 -- what is known of the pinned block then: where nothing was done it is as it was, and else none is pinned
-pub room_knows : {N : Type 0} (flash : N → Flash) (erases : N → ℕ) (result : Result (Unit {0}) WriteFault) (e f : Engine N) → OnOk result (IsCalm (ram f)) → OnOk result (RestsOrErases erases e f) → MatchResult result (λ done. IsRearranged (ram e) (image_in flash e) (ram f) (image_in flash f)) (RoomRefused (ram e) (image_in flash e) (ram f) (image_in flash f))
+pub room_knows : {N : Type 0} (flash : N → Flash) (erases : N → ℕ) (result : Result (Unit {0}) WriteFault) (e f : Engine N)
+    → OnOk result (IsCalm (ram f)) → OnOk result (RestsOrErases erases e f)
+    → MatchResult result (λ done. IsRearranged (ram e) (image_in flash e) (ram f) (image_in flash f))
+    (RoomRefused (ram e) (image_in flash e) (ram f) (image_in flash f))
     → (result ≢ Err Bus → PinIsFew 0 (ram f)) → Knows (ram e) (image_in flash e) → MatchResult result (λ done. Knows (ram f) (image_in flash f)) (λ fault. fault ≢ Bus → PinIsFew 0 (ram f))
 room_knows {N} flash erases (Ok done) e f calm (inl same) r few k = (let P : Engine N → Type 0 = λ z. Knows (ram z) (image_in flash z) in subst P (sym same) k)
 room_knows flash erases (Ok done) e f calm (inr erased) r few k = knows_none (ram f) (image_in flash f) r.truth calm erased.1
@@ -211,7 +217,9 @@ pub not_ailing : (s : State) → HasNoneAiling s → HasAiling s → ⊥
 not_ailing s none some = (let zero : live_at s some.0 ≡ 0 = none some.0 some.1.within some.1.bad in omega (arith, some.1.some))
 
 -- where some bad block had a newest page as room was made
-pub rescue_worked : {N : Type 0} (erases : N → ℕ) (a b c : Engine N) (y z : Image) (found : Bool) → IsRam (ram b) → IsRam (ram c) → HasAiling (ram a).blocks → RestsOrErases erases a b → erases c.nand ≡ erases b.nand → Goes (ram b) (ram c) → RescueCosts (ram b) (ram c) (Ok found) → IsRescued (ram b) y (ram c) z found → HasWorked (ram a) (ram c) (erases a.nand) (erases c.nand)
+pub rescue_worked : {N : Type 0} (erases : N → ℕ) (a b c : Engine N) (y z : Image) (found : Bool) → IsRam (ram b) → IsRam (ram c)
+    → HasAiling (ram a).blocks → RestsOrErases erases a b → erases c.nand ≡ erases b.nand → Goes (ram b) (ram c)
+    → RescueCosts (ram b) (ram c) (Ok found) → IsRescued (ram b) y (ram c) z found → HasWorked (ram a) (ram c) (erases a.nand) (erases c.nand)
 rescue_worked erases a b c y z found t u some (inr rose) same goes cost d = (let P : ℕ → Type 0 = λ n. HasWorked (ram a) (ram c) (erases a.nand) n in subst P (sym same) (inr rose.0))
 rescue_worked erases a b c y z true t u some (inl still) same goes cost d =
     let fewer : good_count (ram c).blocks.table ≤ good_count (ram b).blocks.table = good_fewer (ram b) (ram c) t u (goes_on (ram b) (ram c) t goes) in

@@ -27,7 +27,9 @@ use Rattle.ftl_device.specs.Begin.{is_scarce}
 use Rattle.ftl_device.proofs.CountLemmas.{short_law, lacks_short, failed_counted}
 
 -- where the device was not to change a sector
-pub shown_refused : (r : Ram) (s : Flash) {told told' : Option Recording} (w : Went r s told r s told') (ro : Bool) (n : ℕ) (fault : DeviceFault) → IsRam r → IsTrue None r s.image → stop_of r.fault ≡ None → MayNot r ro n fault → IsShown r.geometry (is_bad_by r) r.next [] w.log ro s.image fault
+pub shown_refused : (r : Ram) (s : Flash) {told told' : Option Recording} (w : Went r s told r s told') (ro : Bool) (n : ℕ) (fault : DeviceFault)
+    → IsRam r → IsTrue None r s.image → stop_of r.fault ≡ None → MayNot r ro n fault
+    → IsShown r.geometry (is_bad_by r) r.next [] w.log ro s.image fault
 shown_refused r s w ro n OutOfRange safe truth going not = tt
 shown_refused r s w ro n (ReadOnly good wanted failed) safe truth going not = (short_law r r w.log s.image good wanted failed safe safe refl w.follows truth not.short, inr (inr not.closed))
 shown_refused r s w ro n SequenceSpent safe truth going not = sym w.next ∙ not.last
@@ -36,7 +38,9 @@ shown_refused r s w ro n Damaged safe truth going not = (let no : ⊥ = cc in no
 shown_refused r s w ro n BusFault safe truth going not = (let no : ⊥ = cc in no)
 
 -- where it was stopped short
-shown_at : (old r : Ram) (s t : Flash) {told told' : Option Recording} (w : Went old s told r t told') (g : Geometry) (n : ℕ) (bytes : List ℕ) (ro : Bool) (answer : Result (Unit {0}) CallFault) → IsRam old → IsRam r → r.geometry ≡ old.geometry → CallTells old r answer → CallShort old r answer → MatchResult answer (λ _. HoldsSector g n bytes s.image r t.image) (CallRefused g s.image r t.image)
+shown_at : (old r : Ram) (s t : Flash) {told told' : Option Recording} (w : Went old s told r t told') (g : Geometry) (n : ℕ) (bytes : List ℕ)
+    (ro : Bool) (answer : Result (Unit {0}) CallFault) → IsRam old → IsRam r → r.geometry ≡ old.geometry → CallTells old r answer
+    → CallShort old r answer → MatchResult answer (λ _. HoldsSector g n bytes s.image r t.image) (CallRefused g s.image r t.image)
     → answer_of r (good_count old.blocks.table) answer ≢ Err BusFault → IfErr (answer_of r (good_count old.blocks.table) answer) (IsShown old.geometry (is_bad_by old) old.next [] w.log ro t.image)
 shown_at old r s t w g n bytes ro (Ok done) safe safe' same tells lacks so ne = tt
 shown_at old r s t w g n bytes ro (Err (call.Engine engine_fault.ReadOnly)) safe safe' same tells lacks so ne =
@@ -46,8 +50,13 @@ shown_at old r s t w g n bytes ro (Err (call.Engine engine_fault.Damaged)) safe 
 shown_at old r s t w g n bytes ro (Err (call.Engine engine_fault.Bus)) safe safe' same tells lacks so ne = ne refl
 shown_at old r s t w g n bytes ro (Err call.OutOfMemory) safe safe' same tells lacks so ne = tt
 
-pub shown_after : {N : Type 0} (flash : N → Flash) (recorded : N → Option Recording) (old e last : Engine N) (w : Went (ram old) (flash old.nand) (recorded old.nand) (ram last) (flash last.nand) (recorded last.nand)) (n : ℕ) (bytes : List ℕ) (ro : Bool) (answer : Result (Unit {0}) CallFault) (result : Result (Unit {0}) DeviceFault) (good : ℕ) → last ≡ e → IsRam (ram old) → IsRam (ram e) → e.geometry ≡ old.geometry → good ≡ good_count (ram old).blocks.table
-    → result ≡ answer_of (ram last) good answer → CallTells (ram old) (ram e) answer → CallShort (ram old) (ram e) answer → MatchResult answer (λ _. HoldsSector old.geometry n bytes (image_in flash old) (ram e) (image_in flash e)) (CallRefused old.geometry (image_in flash old) (ram e) (image_in flash e))
+pub shown_after : {N : Type 0} (flash : N → Flash) (recorded : N → Option Recording) (old e last : Engine N)
+    (w : Went (ram old) (flash old.nand) (recorded old.nand) (ram last) (flash last.nand) (recorded last.nand)) (n : ℕ) (bytes : List ℕ)
+    (ro : Bool) (answer : Result (Unit {0}) CallFault) (result : Result (Unit {0}) DeviceFault) (good : ℕ) → last ≡ e → IsRam (ram old)
+    → IsRam (ram e) → e.geometry ≡ old.geometry → good ≡ good_count (ram old).blocks.table
+    → result ≡ answer_of (ram last) good answer → CallTells (ram old) (ram e) answer → CallShort (ram old) (ram e) answer
+    → MatchResult answer (λ _. HoldsSector old.geometry n bytes (image_in flash old) (ram e) (image_in flash e))
+    (CallRefused old.geometry (image_in flash old) (ram e) (image_in flash e))
     → result ≢ Err BusFault → IfErr result (IsShown old.geometry (is_bad_by (ram old)) old.next [] w.log ro (image_in flash last))
 shown_after {N} flash recorded old e last w n bytes ro answer result good same safe safe' sized many is tells lacks so ne =
     let whole : result ≡ answer_of (ram e) (good_count (ram old).blocks.table) answer = is ∙ (ap (λ x. answer_of (ram x) good answer) same ∙ ap (λ k. answer_of (ram e) k answer) many) in
@@ -88,7 +97,9 @@ module _ (command : Command) (old r : Ram) (s t : Flash) {told told' : Option Re
   flush_left_at its good (Err (call.Engine engine_fault.Bus)) h = tt
   flush_left_at its good (Err call.OutOfMemory) h = absurd h
 
-module _ {N : Type 0} (flash : N → Flash) (recorded : N → Option Recording) (command : Command) (old e last : Engine N) (w : Went (ram old) (flash old.nand) (recorded old.nand) (ram last) (flash last.nand) (recorded last.nand)) (ro after : Bool) (answer : Result (Unit {0}) CallFault) (result : Result (Unit {0}) DeviceFault) (good : ℕ)
+module _ {N : Type 0} (flash : N → Flash) (recorded : N → Option Recording) (command : Command) (old e last : Engine N)
+    (w : Went (ram old) (flash old.nand) (recorded old.nand) (ram last) (flash last.nand) (recorded last.nand)) (ro after : Bool)
+    (answer : Result (Unit {0}) CallFault) (result : Result (Unit {0}) DeviceFault) (good : ℕ)
     (same : last ≡ e) (is : result ≡ answer_of (ram last) good answer) (safe : IsRam (ram old)) (safe' : IsRam (ram last)) (sized : e.geometry ≡ old.geometry) (flag : after ≡ is_scarce (free_count (ram last).blocks)) (on : after ≡ true) where
   abbrev Left : Result (Unit {0}) DeviceFault → Type 0
   Left x = IsLeftReadOnly command old.geometry (is_bad_by (ram old)) [] w.log ro x

@@ -109,7 +109,20 @@ module _ (known : Type 0) where
   room_refused Bus a b tells h = tt
 
   pub place_refused : (fault : WriteFault) (a b c : Ram) → AfterRoom known a b → PlaceCosts b c (Err fault) → RoomCosts {A = Option ℕ} known 1 a c (Err fault)
-  place_refused ReadOnly a b c after h = inr (record { mid = b; after = after; failed = record { mid = h.mid; geometry = h.geometry; used = record { data_pages = h.used.data_pages; meta_pages = h.used.meta_pages; few = omega (arith, h.used.few); account = h.used.account }; stream = h.stream; out = h.out } })
+  place_refused ReadOnly a b c after h = inr
+      (record {
+        mid = b;
+        after = after;
+        failed =
+            record {
+              mid = h.mid;
+              geometry = h.geometry;
+              used =
+                  record { data_pages = h.used.data_pages; meta_pages = h.used.meta_pages; few = omega (arith, h.used.few); account = h.used.account };
+              stream = h.stream;
+              out = h.out;
+            };
+      })
   place_refused SequenceSpent a b c after h = tt
   place_refused Damaged a b c after h = tt
   place_refused Bus a b c after h = tt
@@ -200,7 +213,13 @@ written_counts f (Ok done) a b c s same room p = elim room.nine [
   | inr nine ↦
       let here : Fits b.geometry.pages (counts_of b.blocks) = subst (λ (g : Geometry). Fits g.pages (counts_of b.blocks)) s.blocks_of (fits (free_count b.blocks) b.blocks s.blocks) in
       let its : IsFunded b.geometry.pages p.failures (counts_of c.blocks) = put_funded Meta b.geometry.pages p.failures (counts_of b.blocks) (counts_of c.blocks) here p.put (omega arith) in
-      inr (room.its_failures + p.failures, omega (arith, room.good, p.put.good), subst (λ (g : Geometry). IsFunded g.pages (f + (room.its_failures + p.failures)) (counts_of c.blocks)) same (slack b.geometry.pages p.failures (f + (room.its_failures + p.failures)) (counts_of c.blocks) (omega arith) its))
+      inr (
+        room.its_failures + p.failures,
+        omega (arith, room.good, p.put.good),
+        subst
+            (λ (g : Geometry). IsFunded g.pages (f + (room.its_failures + p.failures)) (counts_of c.blocks)) same
+            (slack b.geometry.pages p.failures (f + (room.its_failures + p.failures)) (counts_of c.blocks) (omega arith) its),
+      )
 ]
 written_counts f (Err ReadOnly) a b c s same room h = elim room.nine [
   | inl few ↦ inl (omega (arith, h.found.good))

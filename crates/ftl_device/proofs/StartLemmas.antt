@@ -24,7 +24,19 @@ use Rattle.ftl_device.proofs.BeginLemmas.{true_from_agreement}
 
 -- ---- the parts that an engine is made of
 
-pub begun_from : (g h : Geometry) (directory : List (Option ℕ)) (mapping : MappingState) (blocks : State) (next : ℕ) (c : Claim) (stale : List ℕ) (r : Ram) → h ≡ g → directory ≡ c.directory → mapping ≡ begun_mapping h c stale → blocks ≡ begun h c.blocks → next ≡ c.next → r ≡ record { geometry = h; directory = directory; mapping = mapping; blocks = blocks; next = next; fault = None; pin = record { block = None; marks = replicate (translation_pages h) false } } → r ≡ begun_ram g c stale
+pub begun_from : (g h : Geometry) (directory : List (Option ℕ)) (mapping : MappingState) (blocks : State) (next : ℕ) (c : Claim) (stale : List ℕ)
+    (r : Ram) → h ≡ g → directory ≡ c.directory → mapping ≡ begun_mapping h c stale → blocks ≡ begun h c.blocks → next ≡ c.next
+    → r ≡
+    record {
+      geometry = h;
+      directory = directory;
+      mapping = mapping;
+      blocks = blocks;
+      next = next;
+      fault = None;
+      pin =
+          record { block = None; marks = replicate (translation_pages h) false };
+    } → r ≡ begun_ram g c stale
 begun_from g h directory mapping blocks next c stale r same d m b n is =
     let whole : r ≡ begun_ram h c stale = cc in
     whole ∙ ap (λ x. begun_ram x c stale) same

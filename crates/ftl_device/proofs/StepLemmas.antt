@@ -176,11 +176,26 @@ ok_map (Err fault) f h = tt
 module _ {N : Type 0} (flash : N → Flash) (e f : Engine N) (block : ℕ) (is : f ≡ record e { pinned = Some (record { block = block; first = 0 }) }) where
   pub knows_pinned : IsRam (ram e) → IsCalm (ram f) → PinHasPassed (ram f) (image_in flash f) → IsWorth 3 (ram e) block → e.mapping.moved ≡ [] → Knows (ram e) (image_in flash e) → Knows (ram f) (image_in flash f)
   knows_pinned s calm passed worth none k = record {
-    truth = (let P : Engine N → Type 0 = λ z. IsTrue None (ram z) (image_in flash z) in subst P (sym is) (record { whole = k.truth.whole; one = k.truth.one; below = k.truth.below; filled = k.truth.filled; live = k.truth.live; worn = k.truth.worn; tables = k.truth.tables; maps = k.truth.maps }));
+    truth =
+        (let P : Engine N → Type 0 = λ z. IsTrue None (ram z) (image_in flash z) in subst P (sym is)
+        (record {
+          whole = k.truth.whole;
+          one = k.truth.one;
+          below = k.truth.below;
+          filled = k.truth.filled;
+          live = k.truth.live;
+          worn =
+              k.truth.worn;
+          tables = k.truth.tables;
+          maps = k.truth.maps;
+        }));
     calm = calm;
     passed = passed;
     few = (let P : Engine N → Type 0 = λ z. PinIsFew 0 (ram z) in subst P (sym is) (λ p at.
-        let its : Rattle.collection.specs.Left.IsFew 0 (ram (record e { pinned = Some (record { block = block; first = 0 }) })) (record { block = block; first = 0 }) = pin_law (ram (record e { pinned = Some (record { block = block; first = 0 }) })) (record { block = block; first = 0 }) (let lt = worth.victim.within in let many = ap (λ (g : Geometry). g.blocks) s.blocks_of in omega (arith, lt, many)) none worth.small in
+        let its : Rattle.collection.specs.Left.IsFew 0 (ram (record e { pinned = Some (record { block = block; first = 0 }) }))
+        (record { block = block; first = 0 }) = pin_law (ram (record e { pinned = Some (record { block = block; first = 0 }) }))
+        (record { block = block; first = 0 })
+        (let lt = worth.victim.within in let many = ap (λ (g : Geometry). g.blocks) s.blocks_of in omega (arith, lt, many)) none worth.small in
         let same : Some (record { block = block; first = 0 }) ≡ Some p = at in
         subst (λ q. Rattle.collection.specs.Left.IsFew 0 (ram (record e { pinned = Some (record { block = block; first = 0 }) })) q) (some_same _ p same) its));
   }
@@ -218,7 +233,11 @@ module _ {N : Type 0} (flash : N → Flash) (e f : Engine N) (block : ℕ) (is :
   pub counts_pinned : (r : Ram) (result : Result (Unit {0}) WriteFault) → StepCounts (ram f) r result → StepCounts (ram e) r result
   counts_pinned r result h = (let P : Engine N → Type 0 = λ z. StepCounts (ram z) r result → StepCounts (ram e) r result in subst P (sym is) (counts_rebuilt r result) h)
 
-  pub truth_pinned : (result : Result (Unit {0}) WriteFault) (r : Ram) (y : Image) → MatchResult result (λ done. KeepsArray f.geometry (image_in flash f) r y) (λ fault. CallRefused f.geometry (image_in flash f) r y (EngineFault fault)) → MatchResult result (λ done. KeepsArray e.geometry (image_in flash e) r y) (λ fault. CallRefused e.geometry (image_in flash e) r y (EngineFault fault))
+  pub truth_pinned : (result : Result (Unit {0}) WriteFault) (r : Ram) (y : Image)
+      → MatchResult result (λ done. KeepsArray f.geometry (image_in flash f) r y)
+      (λ fault. CallRefused f.geometry (image_in flash f) r y (EngineFault fault))
+      → MatchResult result (λ done. KeepsArray e.geometry (image_in flash e) r y)
+      (λ fault. CallRefused e.geometry (image_in flash e) r y (EngineFault fault))
   truth_pinned result r y h = (let P : Engine N → Type 0 = λ z. MatchResult result (λ done. KeepsArray z.geometry (image_in flash z) r y) (λ fault. CallRefused z.geometry (image_in flash z) r y (EngineFault fault)) in subst P is h)
 
   pub worked_pinned : (erases : N → ℕ) (new : Engine N) → HasWorked (ram f) (ram new) (erases f.nand) (erases new.nand) → HasWorked (ram e) (ram new) (erases e.nand) (erases new.nand)
@@ -240,7 +259,9 @@ module _ {N : Type 0} (flash : N → Flash) (e f : Engine N) (block : ℕ) (is :
     }) safe)
 
     -- the step after it is one of the engine before
-    pub collects_pinned : (new : Engine N) (result : Result (Unit {0}) WriteFault) → IsSafe flash e → IsSafe flash f → e.fault ≡ None → (Knows (ram e) (image_in flash e) → Knows (ram f) (image_in flash f)) → CollectsOn flash recorded honest calm erases failed f result new → CollectsOn flash recorded honest calm erases failed e result new
+    pub collects_pinned : (new : Engine N) (result : Result (Unit {0}) WriteFault) → IsSafe flash e → IsSafe flash f → e.fault ≡ None
+        → (Knows (ram e) (image_in flash e) → Knows (ram f) (image_in flash f))
+        → CollectsOn flash recorded honest calm erases failed f result new → CollectsOn flash recorded honest calm erases failed e result new
     collects_pinned new result was safe going begun k = record {
       leaves = leaves_then flash recorded honest calm failed e f new tt result (λ known w. keeps_pinned (begun w)) limits_pinned (leaves_pinned was safe going) k.leaves;
       limits = (let P : Engine N → Type 0 = λ z. HasLimitsOf z.mapping new.mapping in subst P is k.limits);
@@ -285,7 +306,9 @@ quiet_none erases e x made w = inr (λ good. made.enough (marks x) w.live good)
 -- ---- after room was made
 
 -- a turn that made room first
-pub worked_then : {N : Type 0} (erases : N → ℕ) (a b c : Engine N) → RestsOrErases erases a b → ((before : ℕ) → HasRisen before (erases b.nand) → HasRisen before (erases c.nand)) → HasWorked (ram b) (ram c) (erases b.nand) (erases c.nand) → HasWorked (ram a) (ram c) (erases a.nand) (erases c.nand)
+pub worked_then : {N : Type 0} (erases : N → ℕ) (a b c : Engine N) → RestsOrErases erases a b
+    → ((before : ℕ) → HasRisen before (erases b.nand) → HasRisen before (erases c.nand))
+    → HasWorked (ram b) (ram c) (erases b.nand) (erases c.nand) → HasWorked (ram a) (ram c) (erases a.nand) (erases c.nand)
 worked_then {N} erases a b c (inl same) risen w = (let P : Engine N → Type 0 = λ z. HasWorked (ram z) (ram c) (erases z.nand) (erases c.nand) in subst P same w)
 worked_then erases a b c (inr rose) risen w = inr (risen (erases a.nand) rose.0)
 
@@ -305,7 +328,9 @@ pub resting : {N : Type 0} (a b : Engine N) → b ≡ a → a.pinned ≡ None �
 resting {N} a b same none twelve = (let P : Engine N → Type 0 = λ z. (z.pinned ≡ None) × (12 ≤ free_count (ram z).blocks) in subst P (sym same) (none, twelve))
 
 -- a bad block had one before and has none now: it was collected, or its last newest page has left it
-pub none_worked : {N : Type 0} (erases : N → ℕ) (a b c : Engine N) → RestsOrErases erases a b → ((before : ℕ) → HasRisen before (erases b.nand) → HasRisen before (erases c.nand)) → HasNoneAiling (ram b).blocks → HasAiling (ram a).blocks → HasWorked (ram a) (ram c) (erases a.nand) (erases c.nand)
+pub none_worked : {N : Type 0} (erases : N → ℕ) (a b c : Engine N) → RestsOrErases erases a b
+    → ((before : ℕ) → HasRisen before (erases b.nand) → HasRisen before (erases c.nand)) → HasNoneAiling (ram b).blocks → HasAiling (ram a).blocks
+    → HasWorked (ram a) (ram c) (erases a.nand) (erases c.nand)
 none_worked {N} erases a b c (inl same) risen none some = absurd (not_ailing (ram b).blocks none (let P : Engine N → Type 0 = λ z. HasAiling (ram z).blocks in subst P (sym same) some))
 none_worked erases a b c (inr rose) risen none some = inr (risen (erases a.nand) rose.0)
 
@@ -407,7 +432,9 @@ collected_rescued a b c x y s t u first then r none keeps = record {
         omega (arith, keeps k there bad, zero, ailing.some)
 
 -- a page was rescued, so it has programmed
-pub rescue_works : {N : Type 0} (erases : N → ℕ) (a b c : Engine N) (y z : Image) (found : Bool) → IsRam (ram b) → IsRam (ram c) → HasAiling (ram b).blocks → RestsOrErases erases a b → erases c.nand ≡ erases b.nand → Goes (ram b) (ram c) → RescueCosts (ram b) (ram c) (Ok found) → IsRescued (ram b) y (ram c) z found → IsQuiet erases a c
+pub rescue_works : {N : Type 0} (erases : N → ℕ) (a b c : Engine N) (y z : Image) (found : Bool) → IsRam (ram b) → IsRam (ram c)
+    → HasAiling (ram b).blocks → RestsOrErases erases a b → erases c.nand ≡ erases b.nand → Goes (ram b) (ram c)
+    → RescueCosts (ram b) (ram c) (Ok found) → IsRescued (ram b) y (ram c) z found → IsQuiet erases a c
 rescue_works {N} erases a b c y z found t u some (inl still) same goes cost d =
     let was : HasAiling (ram a).blocks = (let P : Engine N → Type 0 = λ e. HasAiling (ram e).blocks in subst P still some) in
     inl (rescue_worked erases a b c y z found t u was (inl still) same goes cost d)

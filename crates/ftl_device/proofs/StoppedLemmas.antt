@@ -38,7 +38,9 @@ module _ {N : Type 0} (flash : N → Flash) (recorded : N → Option Recording) 
       subst (λ s. P s (recorded new.nand)) (sym same) (subst (λ t. P (flash mid.nand) t) (sym still) stops)
 
   -- one after another, of which the first keeps the array
-  pub stops_on : (old mid new : Engine N) → mid.geometry ≡ old.geometry → HasLimitsOf old.mapping mid.mapping → array_of old.geometry (image_in flash mid) ≡ array_of old.geometry (image_in flash old) → StopsSafely flash recorded old mid → StopsSafely flash recorded mid new → StopsSafely flash recorded old new
+  pub stops_on : (old mid new : Engine N) → mid.geometry ≡ old.geometry → HasLimitsOf old.mapping mid.mapping
+      → array_of old.geometry (image_in flash mid) ≡ array_of old.geometry (image_in flash old) → StopsSafely flash recorded old mid
+      → StopsSafely flash recorded mid new → StopsSafely flash recorded old new
   stops_on old mid new same limits kept first next = stops_then (ram old) (ram mid) (flash old.nand) (flash mid.nand) (flash new.nand) _ _ _ (record { geometry = same; capacity = limits.capacity }) kept first next
 
   -- ---- the whole call: one record, and so one log
@@ -66,7 +68,9 @@ module _ {N : Type 0} (flash : N → Flash) (recorded : N → Option Recording) 
         }
 
 -- nothing was asked, and the image is as it was
-pub stopped_none : (g : Geometry) (capacity : ℕ) (command : Command) (result : Result (Unit {0}) DeviceFault) (image after : Image) (told : Option Recording) → (capacity + g.pages ≤ 65536 → IsMountable g (capacity + g.pages) image) → SurvivesStops g capacity command result image after told []
+pub stopped_none : (g : Geometry) (capacity : ℕ) (command : Command) (result : Result (Unit {0}) DeviceFault) (image after : Image)
+    (told : Option Recording) → (capacity + g.pages ≤ 65536 → IsMountable g (capacity + g.pages) image)
+    → SurvivesStops g capacity command result image after told []
 stopped_none g capacity command result image after told mounts some left may = record {
   array = inl (ap (array_of g) may.by);
   mountable = λ most. subst (λ i. IsMountable g (capacity + g.pages) i) (sym may.by) (mounts most);

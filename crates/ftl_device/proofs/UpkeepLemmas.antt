@@ -49,7 +49,9 @@ module _ (g h : Geometry) (before after : Image) (old new : Ram) (ro on : Bool) 
   kept_now : array_of g after ≡ array_of g before → array_of h after ≡ array_of g before
   kept_now is = ap (λ x. array_of x after) same ∙ is
 
-  pub quiet_step : (answer : Result (Unit {0}) CallFault) → CallTells old new answer → MatchResult answer (λ _. KeepsArray g before new after) (CallRefused g before new after) → answer ≢ Err call.OutOfMemory → answer_of new good answer ≢ Err BusFault → QuietStep state_was (reply_of (answer_of new good answer)) state_now
+  pub quiet_step : (answer : Result (Unit {0}) CallFault) → CallTells old new answer
+      → MatchResult answer (λ _. KeepsArray g before new after) (CallRefused g before new after) → answer ≢ Err call.OutOfMemory
+      → answer_of new good answer ≢ Err BusFault → QuietStep state_was (reply_of (answer_of new good answer)) state_now
   quiet_step (Ok done) tells is some ne = record { writable = writable; array_is = kept_now is.array }
   quiet_step (Err (call.Engine engine_fault.ReadOnly)) tells is some ne = record { array_is = kept_now is.array; read_only = flag ∙ lt-ltb (free_count new.blocks) 5 tells.0 }
   quiet_step (Err (call.Engine engine_fault.SequenceSpent)) tells is some ne = record { writable = writable; array_is = kept_now is.array }
@@ -58,7 +60,9 @@ module _ (g h : Geometry) (before after : Image) (old new : Ram) (ro on : Bool) 
   quiet_step (Err call.OutOfMemory) tells is some ne = absurd (some refl)
 
 -- a command that changes no sector keeps the array, whatever it is answered
-kept_array : (g : Geometry) (before after : Image) (new q : Ram) (good : ℕ) (answer : Result (Unit {0}) CallFault) → MatchResult answer (λ _. KeepsArray g before new after) (CallRefused g before new after) → answer_of q good answer ≢ Err BusFault → array_of g after ≡ array_of g before
+kept_array : (g : Geometry) (before after : Image) (new q : Ram) (good : ℕ) (answer : Result (Unit {0}) CallFault)
+    → MatchResult answer (λ _. KeepsArray g before new after) (CallRefused g before new after) → answer_of q good answer ≢ Err BusFault
+    → array_of g after ≡ array_of g before
 kept_array g before after new q good (Ok done) h ne = h.array
 kept_array g before after new q good (Err (call.Engine engine_fault.ReadOnly)) h ne = h.array
 kept_array g before after new q good (Err (call.Engine engine_fault.SequenceSpent)) h ne = h.array
@@ -95,11 +99,17 @@ module _ {N : Type 0} (flash : N → Flash) (recorded : N → Option Recording) 
   pub record IsUpkept (answer : Result (Unit {0}) CallFault) (e : Engine N) : Type 0 where
     pub ends : EndsCall flash recorded honest calm failed old.engine answer e
     pub no_memory : answer ≢ Err call.OutOfMemory
-    pub truth : honest old.engine.nand ≡ true → Knows (ram old.engine) (image_in flash old.engine) → MatchResult answer (λ _. KeepsArray old.engine.geometry (image_in flash old.engine) (ram e) (image_in flash e)) (CallRefused old.engine.geometry (image_in flash old.engine) (ram e) (image_in flash e))
+    pub truth : honest old.engine.nand ≡ true → Knows (ram old.engine) (image_in flash old.engine)
+        → MatchResult answer (λ _. KeepsArray old.engine.geometry (image_in flash old.engine) (ram e) (image_in flash e))
+        (CallRefused old.engine.geometry (image_in flash old.engine) (ram e) (image_in flash e))
     pub lacks : honest old.engine.nand ≡ true → Knows (ram old.engine) (image_in flash old.engine) → (fault : CallFault) → answer ≡ Err fault → CallShort (ram old.engine) (ram e) answer
-    pub left : honest old.engine.nand ≡ true → Knows (ram old.engine) (image_in flash old.engine) → (w : Went (ram old.engine) (flash old.engine.nand) (recorded old.engine.nand) (ram e) (flash e.nand) (recorded e.nand)) → (ro : Bool) → ro ≡ is_scarce (free_count (ram e).blocks) → ro ≡ true
+    pub left : honest old.engine.nand ≡ true → Knows (ram old.engine) (image_in flash old.engine)
+        → (w : Went (ram old.engine) (flash old.engine.nand) (recorded old.engine.nand) (ram e) (flash e.nand) (recorded e.nand))
+        → (ro : Bool) → ro ≡ is_scarce (free_count (ram e).blocks) → ro ≡ true
         → IsLeftReadOnly command old.engine.geometry (is_bad_by (ram old.engine)) [] w.log old.read_only (answer_of (ram e) good_then answer)
-    pub worth : honest old.engine.nand ≡ true → Knows (ram old.engine) (image_in flash old.engine) → (w : Went (ram old.engine) (flash old.engine.nand) (recorded old.engine.nand) (ram e) (flash e.nand) (recorded e.nand)) → is_flush command ≡ true → OnOk answer (IsFlushedOut (first_of (ram old.engine)) w.log (image_in flash e))
+    pub worth : honest old.engine.nand ≡ true → Knows (ram old.engine) (image_in flash old.engine)
+        → (w : Went (ram old.engine) (flash old.engine.nand) (recorded old.engine.nand) (ram e) (flash e.nand) (recorded e.nand))
+        → is_flush command ≡ true → OnOk answer (IsFlushedOut (first_of (ram old.engine)) w.log (image_in flash e))
 
   module _ (new : Device N) (device : IsDevice flash old) (device' : IsDevice flash new) (may : MayFlush (ram old.engine) old.read_only)
       (takes : (reply : Reply) (s : State) → QuietStep (state_in flash old) reply s → ArrayStep old.engine.geometry (state_in flash old) command reply s) where
@@ -126,7 +136,10 @@ module _ {N : Type 0} (flash : N → Flash) (recorded : N → Option Recording) 
       means_done is_honest known ne =
           let after = well_device flash new new.engine refl (flush_well answer replied good_then _ _ _ (ram new.engine) (ram new.engine) k.ends.fault refl ne (k.truth is_honest known)) in
           record {
-            step = takes _ _ (quiet_step old.engine.geometry new.engine.geometry (image_in flash old.engine) (image_in flash new.engine) (ram old.engine) (ram new.engine) old.read_only new.read_only good_then may.writable device'.read_only k.ends.geometry answer k.ends.tells (k.truth is_honest known) k.no_memory ne);
+            step = takes _ _
+                (quiet_step old.engine.geometry new.engine.geometry (image_in flash old.engine) (image_in flash new.engine) (ram old.engine)
+                (ram new.engine) old.read_only new.read_only good_then may.writable device'.read_only k.ends.geometry answer k.ends.tells
+                (k.truth is_honest known) k.no_memory ne);
             well = after;
             versions = kept_versions old.engine.geometry (image_in flash old.engine) (image_in flash new.engine) (ram new.engine) (ram new.engine) good_then answer (k.truth is_honest known) ne;
             mountable = λ most. mountable_after flash old.engine new new.engine refl k.ends.geometry k.ends.limits device'.engine.memory after most;
@@ -147,13 +160,17 @@ module _ {N : Type 0} (flash : N → Flash) (recorded : N → Option Recording) 
       }
 
     -- the device noted nothing else
-    pub upkept_by : (mid : Engine N) (good : ℕ) (answer : Result (Unit {0}) CallFault) (result : Result (Unit {0}) DeviceFault) → new.engine ≡ mid → good ≡ good_then → result ≡ answer_of (ram new.engine) good answer → IsUpkept answer mid → Upkeeps flash recorded honest calm failed command old result new
+    pub upkept_by : (mid : Engine N) (good : ℕ) (answer : Result (Unit {0}) CallFault) (result : Result (Unit {0}) DeviceFault) → new.engine ≡ mid
+        → good ≡ good_then → result ≡ answer_of (ram new.engine) good answer → IsUpkept answer mid
+        → Upkeeps flash recorded honest calm failed command old result new
     upkept_by mid good answer result same many is kept =
         let done = upkeep_done answer (subst (IsUpkept answer) (sym same) kept) in
         subst (λ r. Upkeeps flash recorded honest calm failed command old r new) (sym (is ∙ ap (λ k. answer_of (ram new.engine) k answer) many)) done
 
 -- a flush pins no block, unless it was stopped short
-pub flush_pins : {N : Type 0} (answer : Result (Unit {0}) CallFault) (old e last : Engine N) (result : Result (Unit {0}) DeviceFault) (good : ℕ) → answer ≢ Err call.OutOfMemory → last ≡ e → result ≡ answer_of (ram last) good answer → OnOk answer (old.pinned ≡ None → e.pinned ≡ None) → old.pinned ≡ None → IsSome last.pinned → MayPin result
+pub flush_pins : {N : Type 0} (answer : Result (Unit {0}) CallFault) (old e last : Engine N) (result : Result (Unit {0}) DeviceFault) (good : ℕ)
+    → answer ≢ Err call.OutOfMemory → last ≡ e → result ≡ answer_of (ram last) good answer → OnOk answer (old.pinned ≡ None → e.pinned ≡ None)
+    → old.pinned ≡ None → IsSome last.pinned → MayPin result
 flush_pins {N} answer old e last result good memory same is pins none some =
     subst MayPin (sym is) (pins_of answer old last (ram last) good (by answer memory pins) none some)
   where

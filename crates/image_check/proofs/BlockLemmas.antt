@@ -41,7 +41,9 @@ all_same n g image compared claims reals h within few states = record {
       (get_or claims b d, at, h.each b (get_or claims b d) d l at (states.state b (omega arith)));
 }
 
-pub blocks_hold : (g : Geometry) (capacity : ℕ) (image : Image) (c : Claim) (n : ℕ) (compared : Aspect) (reals : List BlockState) → AreSame n compared c.blocks reals → n ≡ length reals → length c.blocks ≡ length reals → AreStates g image reals → Holds g capacity image c (part_for compared)
+pub blocks_hold : (g : Geometry) (capacity : ℕ) (image : Image) (c : Claim) (n : ℕ) (compared : Aspect) (reals : List BlockState)
+    → AreSame n compared c.blocks reals → n ≡ length reals → length c.blocks ≡ length reals → AreStates g image reals
+    → Holds g capacity image c (part_for compared)
 blocks_hold g capacity image c n aspect.BadSet reals h whole size states = let e = states.size in all_same g.blocks g image aspect.BadSet c.blocks reals (subst (λ k. AreSame k aspect.BadSet c.blocks reals) (whole ∙ e) h) (omega arith) (omega arith) states
 blocks_hold g capacity image c n aspect.State reals h whole size states = let e = states.size in all_same g.blocks g image aspect.State c.blocks reals (subst (λ k. AreSame k aspect.State c.blocks reals) (whole ∙ e) h) (omega arith) (omega arith) states
 blocks_hold g capacity image c n aspect.Live reals h whole size states = let e = states.size in all_same g.blocks g image aspect.Live c.blocks reals (subst (λ k. AreSame k aspect.Live c.blocks reals) (whole ∙ e) h) (omega arith) (omega arith) states
@@ -59,7 +61,10 @@ wrong_at g capacity image c aspect.State b w = record { part_is = refl; fails = 
 wrong_at g capacity image c aspect.Live b w = record { part_is = refl; fails = fails_at g image aspect.Live c.blocks b w; says = w }
 wrong_at g capacity image c aspect.Wear b w = record { part_is = refl; fails = fails_at g image aspect.Wear c.blocks b w; says = w }
 
-pub block_wrong : (g : Geometry) (capacity : ℕ) (image : Image) (c : Claim) (b : ℕ) (compared : Aspect) (reals : List BlockState) (s t : BlockState) → AreSame b compared c.blocks reals → b < length reals → length c.blocks ≡ length reals → slice_get c.blocks b ≡ Some s → slice_get reals b ≡ Some t → (IsSame compared s t → ⊥) → AreStates g image reals → IsWrong g capacity image c (part_for compared) (refusal_for compared b)
+pub block_wrong : (g : Geometry) (capacity : ℕ) (image : Image) (c : Claim) (b : ℕ) (compared : Aspect) (reals : List BlockState) (s t : BlockState)
+    → AreSame b compared c.blocks reals → b < length reals → length c.blocks ≡ length reals → slice_get c.blocks b ≡ Some s
+    → slice_get reals b ≡ Some t → (IsSame compared s t → ⊥) → AreStates g image reals
+    → IsWrong g capacity image c (part_for compared) (refusal_for compared b)
 block_wrong g capacity image c b compared reals s t h within size at_s at_t differ states =
     let e = states.size in
     let real : t ≡ block_state g image b = some_eq t (block_state g image b) (sym at_t ∙ states.state b (omega arith)) in

@@ -53,11 +53,15 @@ key_at g i d within =
       | inr past ↦
           elim (cases_lt (i - l) t) [
             | inl in_second ↦
-                let e : get_or (first ++ (second ++ third)) i d ≡ Translation (i - l) = right first (second ++ third) i (i - l) d (omega arith) ∙ (get_or_append_left second third d (i - l) (omega arith) ∙ get_or-map-range_with_len Translation 0 t (i - l) (i - l) d in_second (omega arith)) in
+                let e : get_or (first ++ (second ++ third)) i d ≡ Translation (i - l) = right first (second ++ third) i (i - l) d (omega arith) ∙
+                (get_or_append_left second third d (i - l) (omega arith)
+                ∙ get_or-map-range_with_len Translation 0 t (i - l) (i - l) d in_second (omega arith)) in
                 subst (λ k. IsKeyAt g k i) (sym e) (record { of = in_second; index = omega arith })
             | inr past_second ↦
                 let in_third : i - l - t < u = omega arith in
-                let e : get_or (first ++ (second ++ third)) i d ≡ Table (i - l - t) = right first (second ++ third) i (i - l) d (omega arith) ∙ (right second third (i - l) (i - l - t) d (omega arith) ∙ get_or-map-range_with_len Table 0 u (i - l - t) (i - l - t) d in_third (omega arith)) in
+                let e : get_or (first ++ (second ++ third)) i d ≡ Table (i - l - t) = right first (second ++ third) i (i - l) d (omega arith) ∙
+                (right second third (i - l) (i - l - t) d (omega arith)
+                ∙ get_or-map-range_with_len Table 0 u (i - l - t) (i - l - t) d in_third (omega arith)) in
                 subst (λ k. IsKeyAt g k i) (sym e) (record { of = in_third; index = omega arith })
           ]
     ]
@@ -96,7 +100,10 @@ pub counted_start : (pages : ℕ) (newest : List Newest) (counts : List ℕ) →
 counted_start pages newest counts empty = record { counted = λ b k. empty b; bounded = λ b. let z = empty b in omega arith }
 
 -- the next key adds nothing to the block
-stays : (pages : ℕ) (newest : List Newest) (i b : ℕ) (l : Newest) (row : Option ℕ) → i < length newest → l ≡ get_or newest i l → row ≡ place_in l → is_in_block pages b row ≡ false → count_by (λ latest. is_in_block pages b (place_in latest)) (take (i + 1) newest) ≡ count_by (λ latest. is_in_block pages b (place_in latest)) (take i newest)
+stays : (pages : ℕ) (newest : List Newest) (i b : ℕ) (l : Newest) (row : Option ℕ) → i < length newest → l ≡ get_or newest i l → row ≡ place_in l
+    → is_in_block pages b row ≡ false
+    → count_by (λ latest. is_in_block pages b (place_in latest)) (take (i + 1) newest) ≡ count_by (λ latest. is_in_block pages b (place_in latest))
+    (take i newest)
 stays pages newest i b l row within at is out =
     let p : Newest → Bool = λ latest. is_in_block pages b (place_in latest) in
     let none : p (get_or newest i l) ≡ false = ap p (sym at) ∙ (ap (is_in_block pages b) (sym is) ∙ out) in
@@ -104,7 +111,10 @@ stays pages newest i b l row within at is out =
     let more = take_more p newest i l within in
     rw one (more ∙ rw none (omega arith))
 
-adds : (pages : ℕ) (newest : List Newest) (i b : ℕ) (l : Newest) (row : Option ℕ) → i < length newest → l ≡ get_or newest i l → row ≡ place_in l → is_in_block pages b row ≡ true → count_by (λ latest. is_in_block pages b (place_in latest)) (take (i + 1) newest) ≡ count_by (λ latest. is_in_block pages b (place_in latest)) (take i newest) + 1
+adds : (pages : ℕ) (newest : List Newest) (i b : ℕ) (l : Newest) (row : Option ℕ) → i < length newest → l ≡ get_or newest i l → row ≡ place_in l
+    → is_in_block pages b row ≡ true
+    → count_by (λ latest. is_in_block pages b (place_in latest)) (take (i + 1) newest) ≡ count_by (λ latest. is_in_block pages b (place_in latest))
+    (take i newest) + 1
 adds pages newest i b l row within at is hit =
     let p : Newest → Bool = λ latest. is_in_block pages b (place_in latest) in
     let one_hit : p (get_or newest i l) ≡ true = ap p (sym at) ∙ (ap (is_in_block pages b) (sym is) ∙ hit) in
@@ -132,7 +142,9 @@ elsewhere : (pages : ℕ) (newest : List Newest) (i row block b : ℕ) (counts :
 elsewhere pages newest i row block b counts l n h within at is place ne k =
     get_or-set_other counts block b n 0 ne ∙ (h.counted b k ∙ sym (stays pages newest i b l (Some row) within at is (other_eqb (row / pages) b (λ e. ne (sym e ∙ sym place)))))
 
-pub counted_set : (pages : ℕ) (newest : List Newest) (i row block : ℕ) (counts : List ℕ) (l : Newest) (n : ℕ) → IsCounted pages newest i counts → i < length newest → l ≡ get_or newest i l → Some row ≡ place_in l → block ≡ row / pages → block < length counts → n ≡ get_or counts block 0 + 1 → IsCounted pages newest (i + 1) (set counts block n)
+pub counted_set : (pages : ℕ) (newest : List Newest) (i row block : ℕ) (counts : List ℕ) (l : Newest) (n : ℕ) → IsCounted pages newest i counts
+    → i < length newest → l ≡ get_or newest i l → Some row ≡ place_in l → block ≡ row / pages → block < length counts
+    → n ≡ get_or counts block 0 + 1 → IsCounted pages newest (i + 1) (set counts block n)
 counted_set pages newest i row block counts l n h within at is place in_counts sum = record {
   counted = λ b k. elim (cases_order b block) [
     | inl same ↦
@@ -149,5 +161,7 @@ counted_set pages newest i row block counts l n h within at is place in_counts s
   ];
 }
 
-pub counts_are : (g : Geometry) (image : Image) (items : List Newest) (counts : List ℕ) → SurveysKeys g image items → length counts ≡ g.blocks → ((b : ℕ) → b < length counts → get_or counts b 0 ≡ count_by (λ latest. is_in_block g.pages b (place_in latest)) items) → AreLiveCounts g image counts
+pub counts_are : (g : Geometry) (image : Image) (items : List Newest) (counts : List ℕ) → SurveysKeys g image items → length counts ≡ g.blocks
+    → ((b : ℕ) → b < length counts → get_or counts b 0 ≡ count_by (λ latest. is_in_block g.pages b (place_in latest)) items)
+    → AreLiveCounts g image counts
 counts_are g image items counts keys size h = record { count = λ b l. h b (omega arith) ∙ live_counted g image items b keys.whole keys.noted }

@@ -52,7 +52,9 @@ rows_fail g k capacity image items c passed r e keys passes distinct h =
     (subst (λ x. (capacity : ℕ) (image : Image) → SurveysKeys x image items → HasPassed (marks image) (row_count x) c.sectors passed → AreDistinct (marks image) → FailsFrom x capacity image c 4 r) e h) capacity image keys passes distinct
 
 -- the states that were made are those of the blocks
-pub states_known : (g k : Geometry) (image : Image) (s : Survey) (newest : List Newest) (looks : List Look) (counts given : List ℕ) (rows : List TableRow) (states : List BlockState) → k ≡ g → IsSorted g image s → AreInRange g (marks image) → IsTableOf g image rows → newest ≡ s.newest.items → looks ≡ s.looks.items → given ≡ counts
+pub states_known : (g k : Geometry) (image : Image) (s : Survey) (newest : List Newest) (looks : List Look) (counts given : List ℕ)
+    (rows : List TableRow) (states : List BlockState) → k ≡ g → IsSorted g image s → AreInRange g (marks image) → IsTableOf g image rows
+    → newest ≡ s.newest.items → looks ≡ s.looks.items → given ≡ counts
     → ((image : Image) → SurveysKeys k image newest → AreLiveCounts k image counts)
     → ((g : Geometry) (image : Image) → AreInRange g (marks image) → HasLooks g image (row_count g) looks → IsTableOf g image rows → AreLiveCounts g image given → AreStates g image states) → AreStates g image states
 states_known g k image s newest looks counts given rows states e sorted numbers table same_newest same_looks same_counts live make =
@@ -97,13 +99,17 @@ not_asked g capacity image c ne = fails_first g capacity image c refusals.Geomet
 all_but_last : (g : Geometry) (capacity : ℕ) (image : Image) (c : Claim) → IsAsked g capacity c → HoldBetween g capacity image c 1 11 → HoldBetween g capacity image c 0 11
 all_but_last g capacity image c asked h = hold_join g capacity image c 0 1 11 (hold_one g capacity image c Asked 0 1 refl refl asked) h
 
-pub too_stale : (g : Geometry) (capacity : ℕ) (image : Image) (c : Claim) (stale : List ℕ) (n : ℕ) → IsAsked g capacity c → HoldBetween g capacity image c 1 11 → stale ≡ stale_sectors g image → n ≡ length stale → capacity < n → IsFirstWrong g capacity image c (refusals.TooStale n capacity)
+pub too_stale : (g : Geometry) (capacity : ℕ) (image : Image) (c : Claim) (stale : List ℕ) (n : ℕ) → IsAsked g capacity c
+    → HoldBetween g capacity image c 1 11 → stale ≡ stale_sectors g image → n ≡ length stale → capacity < n
+    → IsFirstWrong g capacity image c (refusals.TooStale n capacity)
 too_stale g capacity image c stale n asked h is size over =
     let count : n ≡ stale_count g image = size ∙ ap length is in
     fails_first g capacity image c (refusals.TooStale n capacity) (fails_here g capacity image c Fresh 0 (refusals.TooStale n capacity) (all_but_last g capacity image c asked h)
     (record { part_is = refl; fails = λ (few : stale_count g image ≤ capacity). absurd (omega arith); says = (count, refl) }))
 
-pub accepted_is : (g : Geometry) (capacity : ℕ) (image : Image) (c : Claim) (stale : List ℕ) (a : Acceptance) → IsAsked g capacity c → HoldBetween g capacity image c 1 11 → stale ≡ stale_sectors g image → length stale ≤ capacity → a.claim ≡ c → a.stale ≡ stale → IsAcceptance g capacity image c a
+pub accepted_is : (g : Geometry) (capacity : ℕ) (image : Image) (c : Claim) (stale : List ℕ) (a : Acceptance) → IsAsked g capacity c
+    → HoldBetween g capacity image c 1 11 → stale ≡ stale_sectors g image → length stale ≤ capacity → a.claim ≡ c → a.stale ≡ stale
+    → IsAcceptance g capacity image c a
 accepted_is g capacity image c stale a asked h is few claim_is stale_is =
     let count : stale_count g image ≡ length stale = ap length (sym is) in
     record {

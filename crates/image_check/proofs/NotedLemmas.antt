@@ -39,7 +39,9 @@ pub kept_moved : (a b : List ℕ) (x : Noted) → a ≡ b → IsKept a x → IsK
 kept_moved a b x e h = subst (λ xs. IsKept xs x) e h
 
 -- one sector more of a range, which passes the test or not
-pub kept_more : (p : ℕ → Bool) (first n : ℕ) (before : List ℕ) (x new : Noted) → first ≤ n → p n ≡ true → IsKept (before ++ filter p (range_with_len first (n - first))) x → ((noted : List ℕ) → IsKept noted x → IsKept (noted ++ n ∷ []) new) → IsKept (before ++ filter p (range_with_len first (n + 1 - first))) new
+pub kept_more : (p : ℕ → Bool) (first n : ℕ) (before : List ℕ) (x new : Noted) → first ≤ n → p n ≡ true
+    → IsKept (before ++ filter p (range_with_len first (n - first))) x → ((noted : List ℕ) → IsKept noted x → IsKept (noted ++ n ∷ []) new)
+    → IsKept (before ++ filter p (range_with_len first (n + 1 - first))) new
 kept_more p first n before x new le test h more =
     let now : List ℕ = before ++ filter p (range_with_len first (n - first)) in
     kept_moved (now ++ n ∷ []) (before ++ filter p (range_with_len first (n + 1 - first))) new (noted_more p first n before now (now ++ n ∷ []) le refl refl test) (more now h)
@@ -167,7 +169,9 @@ noted_stays g image c row x h before = record {
 pub no_record : (g : Geometry) (image : Image) (c : Claim) (row : ℕ) (p : Page) → slice_get image row ≡ Some p → None ≡ record_of p → IsNoEntryPage g image c row
 no_record g image c row p at e = record { none = λ t l d. sequence_at-none (marks image) (Translation t) row (mark-page image row p at ∙ sym e) }
 
-pub other_key : (g : Geometry) (image : Image) (c : Claim) (row : ℕ) (p : Page) (r : Record) (k : Key) → slice_get image row ≡ Some p → Some r ≡ record_of p → k ≡ key_of r → ((t : ℕ) → t < translation_pages g → claimed c.directory t ≡ Some row → k ≢ Translation t) → IsNoEntryPage g image c row
+pub other_key : (g : Geometry) (image : Image) (c : Claim) (row : ℕ) (p : Page) (r : Record) (k : Key) → slice_get image row ≡ Some p
+    → Some r ≡ record_of p → k ≡ key_of r → ((t : ℕ) → t < translation_pages g → claimed c.directory t ≡ Some row → k ≢ Translation t)
+    → IsNoEntryPage g image c row
 other_key g image c row p r k at e same ne = record { none = λ t l d. sequence_at-other (marks image) (Translation t) row r (mark-page image row p at ∙ sym e) (λ x. ne t l d (same ∙ x)) }
 
 translation_same : (t u : ℕ) → Translation t ≡ Translation u → t ≡ u
@@ -176,7 +180,8 @@ translation_same t u e = cc
 pub past_pages : (g : Geometry) (image : Image) (c : Claim) (row t : ℕ) (p : Page) (r : Record) (k : Key) → slice_get image row ≡ Some p → Some r ≡ record_of p → k ≡ key_of r → k ≡ Translation t → translation_pages g ≤ t → IsNoEntryPage g image c row
 past_pages g image c row t p r k at e same is past = other_key g image c row p r k at e same (λ u l d x. (let both = translation_same u t (sym x ∙ is) in absurd (omega arith)))
 
-pub other_row : (g : Geometry) (image : Image) (c : Claim) (row t : ℕ) (p : Page) (r : Record) (k : Key) (d : Option ℕ) → slice_get image row ≡ Some p → Some r ≡ record_of p → k ≡ key_of r → k ≡ Translation t → claimed c.directory t ≡ d → d ≢ Some row → IsNoEntryPage g image c row
+pub other_row : (g : Geometry) (image : Image) (c : Claim) (row t : ℕ) (p : Page) (r : Record) (k : Key) (d : Option ℕ) → slice_get image row ≡ Some p
+    → Some r ≡ record_of p → k ≡ key_of r → k ≡ Translation t → claimed c.directory t ≡ d → d ≢ Some row → IsNoEntryPage g image c row
 other_row g image c row t p r k d at e same is dir ne = other_key g image c row p r k at e same (λ u l h x. (let both = translation_same u t (sym x ∙ is) in ne (sym dir ∙ (ap (claimed c.directory) (sym both) ∙ h))))
 
 -- it is that of translation page t
@@ -187,7 +192,9 @@ pub record IsEntryPage (g : Geometry) (image : Image) (c : Claim) (row t : ℕ) 
   pub others : (u : ℕ) → u ≢ t → sequence_at (marks image) (Translation u) row ≡ None
   pub bytes : body_at image row ≡ body
 
-pub entry_page : (g : Geometry) (image : Image) (c : Claim) (row t : ℕ) (p : Page) (r : Record) (k : Key) (body : List ℕ) → slice_get image row ≡ Some p → Some r ≡ record_of p → k ≡ key_of r → k ≡ Translation t → t < translation_pages g → claimed c.directory t ≡ Some row → body ≡ p.body → IsEntryPage g image c row t body
+pub entry_page : (g : Geometry) (image : Image) (c : Claim) (row t : ℕ) (p : Page) (r : Record) (k : Key) (body : List ℕ)
+    → slice_get image row ≡ Some p → Some r ≡ record_of p → k ≡ key_of r → k ≡ Translation t → t < translation_pages g
+    → claimed c.directory t ≡ Some row → body ≡ p.body → IsEntryPage g image c row t body
 entry_page g image c row t p r k body at e same is within dir bytes = record {
   within = within;
   claimed_is = dir;

@@ -98,7 +98,9 @@ surveyed_row g image items i key d whole h within at =
     tells_place (get_or items i d) (latest_below (marks image) key (row_count g)) (newest_at g (marks image) (row_count g) i items key d h within at) ∙ (ap (λ n. place_of (latest_below (marks image) key n)) rows ∙ sym (latest-newest (marks image) key))
 
 -- each sector's row is that of the survey
-pub sectors_hold : (g : Geometry) (image : Image) (items : List Newest) (rows : List (Option ℕ)) → length image ≡ row_count g → HasNewest g (marks image) (row_count g) items → ((n : ℕ) → n < g.sectors → slice_get rows n ≡ Some (place_in (get_or items n blank))) → AreNewest g image rows
+pub sectors_hold : (g : Geometry) (image : Image) (items : List Newest) (rows : List (Option ℕ)) → length image ≡ row_count g
+    → HasNewest g (marks image) (row_count g) items → ((n : ℕ) → n < g.sectors → slice_get rows n ≡ Some (place_in (get_or items n blank)))
+    → AreNewest g image rows
 sectors_hold g image items rows whole h same = record {
   newest_is = λ n k. same n k ∙ ap Some (surveyed_row g image items n (Sector n) blank whole h k refl);
 }
@@ -119,13 +121,17 @@ pub record Surveyed (g : Geometry) (image : Image) (items : List Newest) : Type 
   pub noted : HasNewest g (marks image) (row_count g) items
 
 -- a row that differs from the survey's isn't the newest
-pub differs : (g : Geometry) (image : Image) (items : List Newest) (rows : List (Option ℕ)) (place i : ℕ) (key : Key) (d : Newest) (claimed : Option ℕ) → Surveyed g image items → IsKeyOf g key → i ≡ index_of g key → slice_get rows place ≡ Some claimed → place_in (get_or items i d) ≢ claimed → slice_get rows place ≢ Some (newest (marks image) key)
+pub differs : (g : Geometry) (image : Image) (items : List Newest) (rows : List (Option ℕ)) (place i : ℕ) (key : Key) (d : Newest)
+    (claimed : Option ℕ) → Surveyed g image items → IsKeyOf g key → i ≡ index_of g key → slice_get rows place ≡ Some claimed
+    → place_in (get_or items i d) ≢ claimed → slice_get rows place ≢ Some (newest (marks image) key)
 differs g image items rows place i key d claimed h within at is ne e =
     let row = surveyed_row g image items i key d h.whole h.noted within at in
     ne (row ∙ some_same (newest (marks image) key) claimed (sym e ∙ is))
 
 -- the same for a row of the directory
-pub directory_differs : (g : Geometry) (image : Image) (items : List Newest) (rows : List (Option ℕ)) (place i : ℕ) (d : Newest) (claimed : Option ℕ) → Surveyed g image items → place < translation_pages g + table_pages g → i ≡ g.sectors + place → slice_get rows place ≡ Some claimed → place_in (get_or items i d) ≢ claimed → IsDirectoryWrong g image rows place
+pub directory_differs : (g : Geometry) (image : Image) (items : List Newest) (rows : List (Option ℕ)) (place i : ℕ) (d : Newest) (claimed : Option ℕ)
+    → Surveyed g image items → place < translation_pages g + table_pages g → i ≡ g.sectors + place → slice_get rows place ≡ Some claimed
+    → place_in (get_or items i d) ≢ claimed → IsDirectoryWrong g image rows place
 directory_differs g image items rows place i d claimed h within at is ne = elim (cases_lt place (translation_pages g)) [
   | inl below ↦ inl (below, differs g image items rows place i (Translation place) d claimed h below at is ne)
   | inr above ↦
@@ -154,7 +160,9 @@ directory_fails : (g : Geometry) (image : Image) (rows : List (Option ℕ)) (pla
 directory_fails g image rows place (inl w) all = w.1 (all.translation place w.0)
 directory_fails g image rows place (inr w) all = w.3 (ap (λ k. slice_get rows k) w.2 ∙ all.table w.0 w.1)
 
-pub directory_wrong : (g : Geometry) (capacity : ℕ) (image : Image) (items : List Newest) (c : Claim) (place i : ℕ) (d : Newest) (claimed : Option ℕ) → Surveyed g image items → place < translation_pages g + table_pages g → i ≡ g.sectors + place → slice_get c.directory place ≡ Some claimed → place_in (get_or items i d) ≢ claimed
+pub directory_wrong : (g : Geometry) (capacity : ℕ) (image : Image) (items : List Newest) (c : Claim) (place i : ℕ) (d : Newest) (claimed : Option ℕ)
+    → Surveyed g image items → place < translation_pages g + table_pages g → i ≡ g.sectors + place → slice_get c.directory place ≡ Some claimed
+    → place_in (get_or items i d) ≢ claimed
     → ((j : ℕ) → j < place → slice_get c.directory j ≡ Some (place_in (get_or items (g.sectors + j) blank))) → IsWrong g capacity image c Directory (refusals.DirectoryWrong place)
 directory_wrong g capacity image items c place i d claimed h within at is ne earlier =
     let w = directory_differs g image items c.directory place i d claimed h within at is ne in
@@ -192,7 +200,9 @@ claims_hold g image n claims passed h passes = record { page = λ m row l e. pas
 none_newest : (marks : List (Option Record)) (n row : ℕ) → sequence_at marks (Sector n) row ≡ None → newest marks (Sector n) ≡ Some row → ⊥
 none_newest marks n row none e = let is = newest-is marks (Sector n) row e in let clash : None ≡ Some is.value = sym none ∙ is.here in cc
 
-pub no_such_record : (g : Geometry) (capacity : ℕ) (image : Image) (c : Claim) (n row : ℕ) (passed : List Bool) → length image ≡ row_count g → g.sectors ≡ length c.sectors → HasPassed (marks image) (row_count g) c.sectors passed → ArePassed n c.sectors passed → n < length c.sectors → slice_get c.sectors n ≡ Some (Some row) → get_or passed n false ≡ false → IsWrong g capacity image c Sectors (refusals.NoSuchRecord n row)
+pub no_such_record : (g : Geometry) (capacity : ℕ) (image : Image) (c : Claim) (n row : ℕ) (passed : List Bool) → length image ≡ row_count g
+    → g.sectors ≡ length c.sectors → HasPassed (marks image) (row_count g) c.sectors passed → ArePassed n c.sectors passed → n < length c.sectors
+    → slice_get c.sectors n ≡ Some (Some row) → get_or passed n false ≡ false → IsWrong g capacity image c Sectors (refusals.NoSuchRecord n row)
 no_such_record g capacity image c n row passed whole size passes h within at not_passed =
     let missing : sequence_at (marks image) (Sector n) row ≡ None = elim (cases_lt row (row_count g)) [
       | inl below ↦ passes.no n row at below not_passed
@@ -217,7 +227,9 @@ has_newest marks n row distinct h none =
     let e : newest marks (Sector n) ≡ Some found.0 = newest_from marks (Sector n) found.0 found.1 in
     let clash : None ≡ Some found.0 = sym none ∙ e in cc
 
-pub not_newest : (g : Geometry) (capacity : ℕ) (image : Image) (items : List Newest) (c : Claim) (n : ℕ) (d : Newest) (seen claimed : Option ℕ) → Surveyed g image items → AreDistinct (marks image) → AreClaimed (length c.sectors) (marks image) c.sectors → length c.sectors ≡ g.sectors → n < g.sectors → slice_get c.sectors n ≡ Some claimed → seen ≡ place_in (get_or items n d) → seen ≢ claimed
+pub not_newest : (g : Geometry) (capacity : ℕ) (image : Image) (items : List Newest) (c : Claim) (n : ℕ) (d : Newest) (seen claimed : Option ℕ)
+    → Surveyed g image items → AreDistinct (marks image) → AreClaimed (length c.sectors) (marks image) c.sectors → length c.sectors ≡ g.sectors
+    → n < g.sectors → slice_get c.sectors n ≡ Some claimed → seen ≡ place_in (get_or items n d) → seen ≢ claimed
     → ((m : ℕ) → m < n → slice_get c.sectors m ≡ Some (place_in (get_or items m blank))) → IsWrong g capacity image c Sectors (refusals.NotNewest n (unwrap_or seen 0))
 not_newest g capacity image items c n d seen claimed h distinct claims size within at is ne earlier =
     by_newest (newest (marks image) (Sector n)) seen refl (is ∙ surveyed_row g image items n (Sector n) d h.whole h.noted within refl) claimed ne at

@@ -83,11 +83,15 @@ stale_noted g capacity image c whole h =
     let sectors : AreNewest g image c.sectors = h.part Sectors (omega arith) (omega arith) in
     noted_are_stale g image c whole directory sectors
 
-pub finish_stale : (g : Geometry) (capacity : ℕ) (image : Image) (c : Claim) (x : Noted) → IsAsked g capacity c → length image ≡ row_count g → HoldBetween g capacity image c 1 11 → HasNoted g image c (row_count g) x → capacity < x.count → IsFirstWrong g capacity image c (refusals.TooStale x.count capacity)
+pub finish_stale : (g : Geometry) (capacity : ℕ) (image : Image) (c : Claim) (x : Noted) → IsAsked g capacity c → length image ≡ row_count g
+    → HoldBetween g capacity image c 1 11 → HasNoted g image c (row_count g) x → capacity < x.count
+    → IsFirstWrong g capacity image c (refusals.TooStale x.count capacity)
 finish_stale g capacity image c x asked whole h noted over =
     too_stale g capacity image c (stale_sectors g image) x.count asked h refl (count_is g image c (row_count g) x noted ∙ ap length (stale_noted g capacity image c whole h)) over
 
-pub finish_accepted : (g : Geometry) (capacity : ℕ) (image : Image) (c : Claim) (x : Noted) (ys : List ℕ) (a : Acceptance) → IsAsked g capacity c → length image ≡ row_count g → HoldBetween g capacity image c 1 11 → HasNoted g image c (row_count g) x → x.count ≤ x.most → x.count ≤ capacity → IsPermutation x.kept.items ys → IsNonDecreasingBy (λ k. k) ys
+pub finish_accepted : (g : Geometry) (capacity : ℕ) (image : Image) (c : Claim) (x : Noted) (ys : List ℕ) (a : Acceptance) → IsAsked g capacity c
+    → length image ≡ row_count g → HoldBetween g capacity image c 1 11 → HasNoted g image c (row_count g) x → x.count ≤ x.most
+    → x.count ≤ capacity → IsPermutation x.kept.items ys → IsNonDecreasingBy (λ k. k) ys
     → a.claim ≡ c → a.stale ≡ ys → IsAcceptance g capacity image c a
 finish_accepted g capacity image c x ys a asked whole h noted fits few moved order claim_is stale_is =
     let are : noted_sectors g image c (row_count g) ≡ stale_sectors g image = stale_noted g capacity image c whole h in

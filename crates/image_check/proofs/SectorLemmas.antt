@@ -61,7 +61,9 @@ none_read g flash later n l bytes whole same e is filled =
     let found = none_found g flash.image n (rows_were g flash later whole same) (sym is ∙ e) in
     record { untied = found.untied; holds = filled ∙ found.holds }
 
-pub one_read : (g : Geometry) (flash later : Flash) (n row t : ℕ) (l : Latest) (p : Page) (bytes : List ℕ) → IsImage g later.image → later ≡ flash → l ≡ latest_below (marks flash.image) (key.Sector n) (row_count g) → l ≡ Once row t → slice_get later.image row ≡ Some p → bytes ≡ content g (Some p) → IsFound g flash.image n bytes
+pub one_read : (g : Geometry) (flash later : Flash) (n row t : ℕ) (l : Latest) (p : Page) (bytes : List ℕ) → IsImage g later.image → later ≡ flash
+    → l ≡ latest_below (marks flash.image) (key.Sector n) (row_count g) → l ≡ Once row t → slice_get later.image row ≡ Some p
+    → bytes ≡ content g (Some p) → IsFound g flash.image n bytes
 one_read g flash later n row t l p bytes whole same e is at holds =
     one_found g flash.image n row t p bytes (rows_were g flash later whole same) (sym is ∙ e) (sym (ap (λ s. slice_get s.image row) same) ∙ at) holds
 

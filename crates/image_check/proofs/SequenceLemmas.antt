@@ -198,7 +198,9 @@ pair_from ms (suc row) = All-append (λ (p : ℕ × ℕ). (r : Record) × (get_o
     last (Some r) e (suc k) d l = absurd (omega arith)
 
 -- two neighbours that share a sequence are a repetition
-pub repeated_at : (g : Geometry) (image : Image) (old new : List (ℕ × ℕ)) (first second : ℕ) → length image ≡ row_count g → old ≡ pairs_below (marks image) (row_count g) → IsPermutation old new → AreInOrder new → IsLowestBelow (length new) new first second → IsFirstRepeated (marks image) first second
+pub repeated_at : (g : Geometry) (image : Image) (old new : List (ℕ × ℕ)) (first second : ℕ) → length image ≡ row_count g
+    → old ≡ pairs_below (marks image) (row_count g) → IsPermutation old new → AreInOrder new → IsLowestBelow (length new) new first second
+    → IsFirstRepeated (marks image) first second
 repeated_at g image old new first second whole is moved sorted h =
     let ms = marks image in
     let x = get_or new h.place (0, 0) in
@@ -293,7 +295,9 @@ looked_kept n pairs lowest rows is one le h = let old = h.some rows is in record
 }
 
 -- they share one, and their second row is the lowest
-pub looked_found : (n : ℕ) (pairs : List (ℕ × ℕ)) (lowest : Option (ℕ × ℕ)) (p q : ℕ × ℕ) → 1 ≤ n → p ≡ get_or pairs (n - 1) (0, 0) → q ≡ get_or pairs n (0, 0) → p.0 ≡ q.0 → ((rows : ℕ × ℕ) → lowest ≡ Some rows → q.1 ≤ rows.1) → Looked n pairs lowest → Looked (n + 1) pairs (Some (p.1, q.1))
+pub looked_found : (n : ℕ) (pairs : List (ℕ × ℕ)) (lowest : Option (ℕ × ℕ)) (p q : ℕ × ℕ) → 1 ≤ n → p ≡ get_or pairs (n - 1) (0, 0)
+    → q ≡ get_or pairs n (0, 0) → p.0 ≡ q.0 → ((rows : ℕ × ℕ) → lowest ≡ Some rows → q.1 ≤ rows.1) → Looked n pairs lowest
+    → Looked (n + 1) pairs (Some (p.1, q.1))
 looked_found n pairs lowest p q one at_p at_q same low h = record {
   none = λ e. absurd cc;
   some = λ more e. let eq : (p.1, q.1) ≡ more = cc in subst (λ (r : ℕ × ℕ). IsLowestBelow (n + 1) pairs r.0 r.1) eq (found lowest low h);

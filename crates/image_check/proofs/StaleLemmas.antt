@@ -73,7 +73,9 @@ noted_more p first n old now new le h is test =
     let size : n + 1 - first ≡ n - first + 1 = omega arith in
     let at : first + (n - first) ≡ n = omega arith in
     let grown : range_with_len first (n + 1 - first) ≡ range_with_len first (n - first) ++ n ∷ [] = ap (range_with_len first) size ∙ (range_more first (n - first) ∙ ap (λ k. range_with_len first (n - first) ++ k ∷ []) at) in
-    let split : filter p (range_with_len first (n + 1 - first)) ≡ filter p (range_with_len first (n - first)) ++ n ∷ [] = ap (filter p) grown ∙ (filter-append p (range_with_len first (n - first)) (n ∷ []) ∙ ap (λ zs. filter p (range_with_len first (n - first)) ++ zs) (filter_one p n true test)) in
+    let split : filter p (range_with_len first (n + 1 - first)) ≡ filter p (range_with_len first (n - first)) ++ n ∷ [] = ap (filter p) grown ∙
+    (filter-append p (range_with_len first (n - first)) (n ∷ [])
+    ∙ ap (λ zs. filter p (range_with_len first (n - first)) ++ zs) (filter_one p n true test)) in
     is ∙ (ap (λ zs. zs ++ n ∷ []) h ∙ (append_assoc old (filter p (range_with_len first (n - first))) (n ∷ []) ∙ ap (λ zs. old ++ zs) (sym split)))
 
 -- it isn't
@@ -82,7 +84,10 @@ noted_same p first n old now le h test =
     let size : n + 1 - first ≡ n - first + 1 = omega arith in
     let at : first + (n - first) ≡ n = omega arith in
     let grown : range_with_len first (n + 1 - first) ≡ range_with_len first (n - first) ++ n ∷ [] = ap (range_with_len first) size ∙ (range_more first (n - first) ∙ ap (λ k. range_with_len first (n - first) ++ k ∷ []) at) in
-    let split : filter p (range_with_len first (n + 1 - first)) ≡ filter p (range_with_len first (n - first)) = ap (filter p) grown ∙ (filter-append p (range_with_len first (n - first)) (n ∷ []) ∙ (ap (λ zs. filter p (range_with_len first (n - first)) ++ zs) (filter_one p n false test) ∙ append_none (filter p (range_with_len first (n - first))))) in
+    let split : filter p (range_with_len first (n + 1 - first)) ≡ filter p (range_with_len first (n - first)) = ap (filter p) grown ∙
+    (filter-append p (range_with_len first (n - first)) (n ∷ [])
+    ∙ (ap (λ zs. filter p (range_with_len first (n - first)) ++ zs) (filter_one p n false test)
+    ∙ append_none (filter p (range_with_len first (n - first))))) in
     h ∙ ap (λ zs. old ++ zs) (sym split)
 
 pub none_noted : (p : ℕ → Bool) (first : ℕ) (old : List ℕ) → old ≡ old ++ filter p (range_with_len first (first - first))
@@ -160,13 +165,17 @@ place_of_sector each t n low high =
 pub record AreEntries (g : Geometry) (image : Image) (t : ℕ) (body : List ℕ) : Type 0 where
   pub entry : (i : ℕ) → i < entries g → entry_at body i ≡ entry_in image i (newest (marks image) (Translation t))
 
-pub entries_are : (g : Geometry) (image : Image) (items : List Newest) (t i : ℕ) (latest d : Newest) (body : List ℕ) → SurveysKeys g image items → t < translation_pages g → i ≡ g.sectors + t → latest ≡ get_or items i d → ((k : ℕ) → k < entries g → entry_at body k ≡ entry_in image k (place_in latest)) → AreEntries g image t body
+pub entries_are : (g : Geometry) (image : Image) (items : List Newest) (t i : ℕ) (latest d : Newest) (body : List ℕ) → SurveysKeys g image items
+    → t < translation_pages g → i ≡ g.sectors + t → latest ≡ get_or items i d
+    → ((k : ℕ) → k < entries g → entry_at body k ≡ entry_in image k (place_in latest)) → AreEntries g image t body
 entries_are g image items t i latest d body keys within at is h = record {
   entry = λ k l. h k l ∙ ap (entry_in image k) (ap place_in is ∙ surveyed_row g image items i (Translation t) d keys.whole keys.noted within at);
 }
 
 -- the same of a source that keeps its pages
-pub entries_read : (g : Geometry) (first now : Flash) (items : List Newest) (t i : ℕ) (latest d : Newest) (body : List ℕ) → SurveysKeys g first.image items → t < translation_pages g → i ≡ g.sectors + t → latest ≡ get_or items i d → now ≡ first → ((k : ℕ) → k < entries g → entry_at body k ≡ entry_in now.image k (place_in latest)) → AreEntries g first.image t body
+pub entries_read : (g : Geometry) (first now : Flash) (items : List Newest) (t i : ℕ) (latest d : Newest) (body : List ℕ)
+    → SurveysKeys g first.image items → t < translation_pages g → i ≡ g.sectors + t → latest ≡ get_or items i d → now ≡ first
+    → ((k : ℕ) → k < entries g → entry_at body k ≡ entry_in now.image k (place_in latest)) → AreEntries g first.image t body
 entries_read g first now items t i latest d body keys within at is same h =
     entries_are g first.image items t i latest d body keys within at is (λ k l. h k l ∙ ap (λ (f : Flash). entry_in f.image k (place_in latest)) same)
 
@@ -190,7 +199,9 @@ pub record AreStaleBelow (g : Geometry) (image : Image) (n : ℕ) (stale : List 
 pub stale_start : (g : Geometry) (image : Image) (stale : List ℕ) → stale ≡ [] → AreStaleBelow g image 0 stale
 stale_start g image stale e = record { is = e }
 
-pub stale_more : (g : Geometry) (image : Image) (items : List Newest) (t first end : ℕ) (body old new : List ℕ) → SurveysKeys g image items → AreEntries g image t body → first ≡ t * entries g → first ≤ end → end ≤ g.sectors → end ≤ first + entries g → AreStaleBelow g image first old
+pub stale_more : (g : Geometry) (image : Image) (items : List Newest) (t first end : ℕ) (body old new : List ℕ) → SurveysKeys g image items
+    → AreEntries g image t body → first ≡ t * entries g → first ≤ end → end ≤ g.sectors → end ≤ first + entries g
+    → AreStaleBelow g image first old
     → new ≡ old ++ filter (λ n. not (same_row (entry_at body (n - first)) (place_in (get_or items n blank)))) (range_with_len first (end - first)) → AreStaleBelow g image end new
 stale_more g image items t first end body old new keys h at order within short before is =
     let p : ℕ → Bool = λ n. not (same_row (entry_at body (n - first)) (place_in (get_or items n blank))) in
@@ -200,7 +211,9 @@ stale_more g image items t first end body old new keys h at order within short b
     let start : first ≡ 0 + first = omega arith in
     let size : first + (end - first) ≡ end = omega arith in
     let joined : filter (is_stale g image) (range_with_len 0 first) ++ filter (is_stale g image) (range_with_len first (end - first)) ≡ filter (is_stale g image) (range_with_len 0 end) =
-    sym (filter-append (is_stale g image) (range_with_len 0 first) (range_with_len first (end - first))) ∙ (ap (λ k. filter (is_stale g image) (range_with_len 0 first ++ range_with_len k (end - first))) start ∙ (ap (filter (is_stale g image)) (range_join 0 first (end - first)) ∙ ap (λ k. filter (is_stale g image) (range_with_len 0 k)) size)) in
+    sym (filter-append (is_stale g image) (range_with_len 0 first) (range_with_len first (end - first)))
+    ∙ (ap (λ k. filter (is_stale g image) (range_with_len 0 first ++ range_with_len k (end - first))) start
+    ∙ (ap (filter (is_stale g image)) (range_join 0 first (end - first)) ∙ ap (λ k. filter (is_stale g image) (range_with_len 0 k)) size)) in
     record { is = is ∙ (ap (λ zs. zs ++ filter p (range_with_len first (end - first))) before.is ∙ (ap (λ zs. filter (is_stale g image) (range_with_len 0 first) ++ zs) same ∙ joined)) }
 
 -- where a translation page begins

@@ -51,7 +51,9 @@ all_unwritten (p ∷ ps) = step (is_erased_page p) refl (all_unwritten ps)
   where
     step : (b : Bool) → is_erased_page p ≡ b → list_all is_erased_page ps ≡ eqb (written ps) 0 → (is_erased_page p && list_all is_erased_page ps) ≡ eqb (written (p ∷ ps)) 0
     step true e h = let n : written (p ∷ ps) ≡ written ps = count_by-cons is_programmed p ps ∙ (ap (λ b. bit (not b) + written ps) e ∙ omega arith) in ap (λ b. b && list_all is_erased_page ps) e ∙ (h ∙ ap (λ k. eqb k 0) (sym n))
-    step false e h = let n : written (p ∷ ps) ≡ suc (written ps) = count_by-cons is_programmed p ps ∙ (ap (λ b. bit (not b) + written ps) e ∙ omega arith) in let never : eqb (written (p ∷ ps)) 0 ≡ false = ap (λ k. eqb k 0) n ∙ suc_eqb (written ps) in ap (λ b. b && list_all is_erased_page ps) e ∙ sym never
+    step false e h = let n : written (p ∷ ps) ≡ suc (written ps) = count_by-cons is_programmed p ps
+        ∙ (ap (λ b. bit (not b) + written ps) e ∙ omega arith) in let never : eqb (written (p ∷ ps)) 0 ≡ false = ap (λ k. eqb k 0) n
+        ∙ suc_eqb (written ps) in ap (λ b. b && list_all is_erased_page ps) e ∙ sym never
 
 written_most : (ps : List Page) → written ps ≤ length ps
 written_most [] = omega arith
@@ -84,7 +86,9 @@ look_whole g image looks b h l =
     let one : suc b * g.pages ≡ b * g.pages + g.pages = omega arith in
     h.at b l ∙ ap (λ ps. Some (look_of ps)) (take_all (row_count g - b * g.pages) (block_pages g image b) (omega arith))
 
-pub seen_at : (g : Geometry) (image : Image) (rows : List TableRow) (looks : List Look) (b : ℕ) (row : TableRow) (look : Look) → IsTableOf g image rows → HasLooks g image (row_count g) looks → b < g.blocks → slice_get rows b ≡ Some row → slice_get looks b ≡ Some look → IsSeen g image b row look
+pub seen_at : (g : Geometry) (image : Image) (rows : List TableRow) (looks : List Look) (b : ℕ) (row : TableRow) (look : Look)
+    → IsTableOf g image rows → HasLooks g image (row_count g) looks → b < g.blocks → slice_get rows b ≡ Some row → slice_get looks b ≡ Some look
+    → IsSeen g image b row look
 seen_at g image rows looks b row look table h l at_row at_look =
     let word : word_of_block g image b ≡ word_of row = table.word b l ∙ ap word_or_padding at_row in
     let low = code_low row.class in
@@ -109,15 +113,22 @@ class_by code broken gap blank erased programmed first of_data =
     cond (good_by code broken gap && blank) 0 (
     cond (partial_by code broken gap erased programmed && first) (cond of_data 1 2) 3)))
 
-partial-by : (g : Geometry) (image : Image) (b : ℕ) → is_partial g image b ≡ partial_by (table_class g image b) (list_any is_broken (block_pages g image b)) (has_gap (block_pages g image b)) (list_any is_erased_page (block_pages g image b)) (list_any is_programmed (block_pages g image b))
+partial-by : (g : Geometry) (image : Image) (b : ℕ)
+    → is_partial g image b ≡ partial_by (table_class g image b) (list_any is_broken (block_pages g image b)) (has_gap (block_pages g image b))
+    (list_any is_erased_page (block_pages g image b)) (list_any is_programmed (block_pages g image b))
 unfolding is_partial is_good partial_by good_by
 partial-by g image b = refl
 
-class-by : (g : Geometry) (image : Image) (b : ℕ) → class g image b ≡ class_by (table_class g image b) (list_any is_broken (block_pages g image b)) (has_gap (block_pages g image b)) (list_all is_erased_page (block_pages g image b)) (list_any is_erased_page (block_pages g image b)) (list_any is_programmed (block_pages g image b)) (list_all (is_no_rival g image b) (range_with_len 0 g.blocks)) (is_of_data g image b)
+class-by : (g : Geometry) (image : Image) (b : ℕ)
+    → class g image b ≡ class_by (table_class g image b) (list_any is_broken (block_pages g image b)) (has_gap (block_pages g image b))
+    (list_all is_erased_page (block_pages g image b)) (list_any is_erased_page (block_pages g image b))
+    (list_any is_programmed (block_pages g image b)) (list_all (is_no_rival g image b) (range_with_len 0 g.blocks)) (is_of_data g image b)
 unfolding class is_free is_open is_partial is_good class_by partial_by good_by
 class-by g image b = refl
 
-partial_coded : (c : Class) (broken gap erased : Bool) (written last wear : ℕ) (of_data : Bool) → is_partial_seen c (record { written = written; erased = erased; broken = broken; gap = gap; of_data = of_data; last = last; wear = wear }) ≡ partial_by (code_of c) broken gap erased (nat_lt 0 written)
+partial_coded : (c : Class) (broken gap erased : Bool) (written last wear : ℕ) (of_data : Bool)
+    → is_partial_seen c (record { written = written; erased = erased; broken = broken; gap = gap; of_data = of_data; last = last; wear = wear }) ≡
+    partial_by (code_of c) broken gap erased (nat_lt 0 written)
 unfolding partial_by good_by
 partial_coded Good true gap erased written last wear of_data = refl
 partial_coded Good false true erased written last wear of_data = refl
@@ -131,7 +142,11 @@ unfolding look_of
 partial_same g image b row look h =
     let ps = block_pages g image b in
     let coded = partial_coded row.class (list_any is_broken ps) (has_gap ps) (list_any is_erased_page ps) (written ps) (last_sequence ps) (top_wear ps) (begins_data ps) in
-    ap (is_partial_seen row.class) h.look_is ∙ (coded ∙ (ap (λ p. partial_by (code_of row.class) (list_any is_broken ps) (has_gap ps) (list_any is_erased_page ps) p) (sym (any_written ps)) ∙ (ap (λ k. partial_by k (list_any is_broken ps) (has_gap ps) (list_any is_erased_page ps) (list_any is_programmed ps)) (sym h.class_is) ∙ sym (partial-by g image b))))
+    ap (is_partial_seen row.class) h.look_is
+    ∙ (coded
+    ∙ (ap (λ p. partial_by (code_of row.class) (list_any is_broken ps) (has_gap ps) (list_any is_erased_page ps) p) (sym (any_written ps))
+    ∙ (ap (λ k. partial_by k (list_any is_broken ps) (has_gap ps) (list_any is_erased_page ps) (list_any is_programmed ps))
+    (sym h.class_is) ∙ sym (partial-by g image b))))
 
 -- ---- the open blocks
 
@@ -186,7 +201,9 @@ le_true : (m n : ℕ) → m ≤ n → nat_le m n ≡ true
 le_true m n l = grind arith
 
 -- a partial block is open where its last sequence is not below the greatest of its stream
-pub first_same : (g : Geometry) (image : Image) (rows : List TableRow) (looks : List Look) (b : ℕ) (row : TableRow) (look : Look) (top : ℕ) → AreSeen g image rows looks → b < g.blocks → slice_get rows b ≡ Some row → slice_get looks b ≡ Some look → IsTop rows looks g.blocks look.of_data top
+pub first_same : (g : Geometry) (image : Image) (rows : List TableRow) (looks : List Look) (b : ℕ) (row : TableRow) (look : Look) (top : ℕ)
+    → AreSeen g image rows looks → b < g.blocks → slice_get rows b ≡ Some row → slice_get looks b ≡ Some look
+    → IsTop rows looks g.blocks look.of_data top
     → list_all (is_no_rival g image b) (range_with_len 0 g.blocks) ≡ nat_le top look.last
 unfolding look_of
 first_same g image rows looks b row look top h within at_row at_look is_top = bool_same _ _ to from
@@ -231,7 +248,9 @@ first_same g image rows looks b row look top h within at_row at_look is_top = bo
 
 -- ---- the class and the numbers
 
-class_coded : (c : Class) (broken gap erased : Bool) (written last wear top : ℕ) (of_data first : Bool) → first ≡ nat_le top last → class_seen c (record { written = written; erased = erased; broken = broken; gap = gap; of_data = of_data; last = last; wear = wear }) top ≡ class_by (code_of c) broken gap (eqb written 0) erased (nat_lt 0 written) first of_data
+class_coded : (c : Class) (broken gap erased : Bool) (written last wear top : ℕ) (of_data first : Bool) → first ≡ nat_le top last
+    → class_seen c (record { written = written; erased = erased; broken = broken; gap = gap; of_data = of_data; last = last; wear = wear }) top ≡
+    class_by (code_of c) broken gap (eqb written 0) erased (nat_lt 0 written) first of_data
 unfolding class_by partial_by good_by
 class_coded Factory broken gap erased written last wear top of_data first e = refl
 class_coded Grown broken gap erased written last wear top of_data first e = refl
@@ -241,7 +260,9 @@ class_coded Good false false erased zero last wear top of_data first e = refl
 class_coded Good false false true (suc written) last wear top of_data first e = rw (e, lt-ltb 0 (suc written) (omega arith)) refl
 class_coded Good false false false (suc written) last wear top of_data first e = refl
 
-pub class_same : (g : Geometry) (image : Image) (rows : List TableRow) (looks : List Look) (b : ℕ) (row : TableRow) (look : Look) (top : ℕ) → AreSeen g image rows looks → b < g.blocks → slice_get rows b ≡ Some row → slice_get looks b ≡ Some look → IsTop rows looks g.blocks look.of_data top → class_seen row.class look top ≡ class g image b
+pub class_same : (g : Geometry) (image : Image) (rows : List TableRow) (looks : List Look) (b : ℕ) (row : TableRow) (look : Look) (top : ℕ)
+    → AreSeen g image rows looks → b < g.blocks → slice_get rows b ≡ Some row → slice_get looks b ≡ Some look
+    → IsTop rows looks g.blocks look.of_data top → class_seen row.class look top ≡ class g image b
 unfolding look_of
 class_same g image rows looks b row look top h within at_row at_look is_top =
     let here : IsSeen g image b row look = seen_at g image rows looks b row look h.table h.looked within at_row at_look in
@@ -286,7 +307,9 @@ pointer_most g image b = let few = written_most (block_pages g image b) in let s
 least : (n most : ℕ) → n ≤ most → min n most ≡ n
 least n most l = omega arith
 
-pointer_coded : (c : Class) (broken gap erased : Bool) (written last wear : ℕ) (of_data : Bool) → written ≤ 65535 → pointer_seen c (record { written = written; erased = erased; broken = broken; gap = gap; of_data = of_data; last = last; wear = wear }) ≡ pointer_by (code_of c) broken gap written
+pointer_coded : (c : Class) (broken gap erased : Bool) (written last wear : ℕ) (of_data : Bool) → written ≤ 65535
+    → pointer_seen c (record { written = written; erased = erased; broken = broken; gap = gap; of_data = of_data; last = last; wear = wear }) ≡
+    pointer_by (code_of c) broken gap written
 unfolding pointer_by good_by
 pointer_coded Factory broken gap erased written last wear of_data l = refl
 pointer_coded Grown broken gap erased written last wear of_data l = refl
@@ -370,7 +393,9 @@ some_row : (a b : TableRow) → Some a ≡ Some b → a ≡ b
 some_row a b e = cc
 
 -- block n isn't partial
-pub tops_kept : (rows : List TableRow) (looks : List Look) (n : ℕ) (of_data : Bool) (top : ℕ) (class : Class) (look : Look) → IsTop rows looks n of_data top → IsRowAt rows n class → slice_get looks n ≡ Some look → is_partial_seen class look ≡ false → IsTop rows looks (n + 1) of_data top
+pub tops_kept : (rows : List TableRow) (looks : List Look) (n : ℕ) (of_data : Bool) (top : ℕ) (class : Class) (look : Look)
+    → IsTop rows looks n of_data top → IsRowAt rows n class → slice_get looks n ≡ Some look → is_partial_seen class look ≡ false
+    → IsTop rows looks (n + 1) of_data top
 tops_kept rows looks n of_data top class look h r at none = top_kept rows looks n of_data top h (λ other p.
     let e = some_look look other (sym at ∙ p.at_look) in
     let f = some_row r.row p.row (sym r.at ∙ p.at_row) in
@@ -379,20 +404,27 @@ tops_kept rows looks n of_data top class look h r at none = top_kept rows looks 
     cc)
 
 -- block n is partial
-tops_by : (rows : List TableRow) (looks : List Look) (n : ℕ) (of_data : Bool) (top t : ℕ) (class : Class) (look : Look) (here : Bool) → IsTop rows looks n of_data top → IsRowAt rows n class → slice_get looks n ≡ Some look → is_partial_seen class look ≡ true → (here ≡ true → look.of_data ≡ of_data) → (here ≡ false → look.of_data ≡ of_data → ⊥) → t ≡ cond here (max top look.last) top → IsTop rows looks (n + 1) of_data t
+tops_by : (rows : List TableRow) (looks : List Look) (n : ℕ) (of_data : Bool) (top t : ℕ) (class : Class) (look : Look) (here : Bool)
+    → IsTop rows looks n of_data top → IsRowAt rows n class → slice_get looks n ≡ Some look → is_partial_seen class look ≡ true
+    → (here ≡ true → look.of_data ≡ of_data) → (here ≡ false → look.of_data ≡ of_data → ⊥) → t ≡ cond here (max top look.last) top
+    → IsTop rows looks (n + 1) of_data t
 tops_by rows looks n of_data top t class look true h r at partial on off is =
     subst (λ k. IsTop rows looks (n + 1) of_data k) (sym is) (top_raised rows looks n of_data top look h (record { row = r.row; at_row = r.at; at_look = at; partial = ap (λ c. is_partial_seen c look) (sym r.class_is) ∙ partial; stream = on refl }))
 tops_by rows looks n of_data top t class look false h r at partial on off is =
     subst (λ k. IsTop rows looks (n + 1) of_data k) (sym is) (top_kept rows looks n of_data top h (λ other p. off refl (ap (λ (x : Look). x.of_data) (some_look look other (sym at ∙ p.at_look)) ∙ p.stream)))
 
-pub data_raised : (rows : List TableRow) (looks : List Look) (n : ℕ) (top t : ℕ) (class : Class) (look : Look) → IsTop rows looks n true top → IsRowAt rows n class → slice_get looks n ≡ Some look → is_partial_seen class look ≡ true → t ≡ cond look.of_data (max top look.last) top → IsTop rows looks (n + 1) true t
+pub data_raised : (rows : List TableRow) (looks : List Look) (n : ℕ) (top t : ℕ) (class : Class) (look : Look) → IsTop rows looks n true top
+    → IsRowAt rows n class → slice_get looks n ≡ Some look → is_partial_seen class look ≡ true → t ≡ cond look.of_data (max top look.last) top
+    → IsTop rows looks (n + 1) true t
 data_raised rows looks n top t class look h r at partial is = tops_by rows looks n true top t class look look.of_data h r at partial (λ e. e) (λ e f. (let clash : true ≡ false = sym f ∙ e in cc)) is
 
 meta_cond : (b : Bool) (m n : ℕ) → cond b m n ≡ cond (not b) n m
 meta_cond true m n = refl
 meta_cond false m n = refl
 
-pub meta_raised : (rows : List TableRow) (looks : List Look) (n : ℕ) (top t : ℕ) (class : Class) (look : Look) → IsTop rows looks n false top → IsRowAt rows n class → slice_get looks n ≡ Some look → is_partial_seen class look ≡ true → t ≡ cond look.of_data top (max top look.last) → IsTop rows looks (n + 1) false t
+pub meta_raised : (rows : List TableRow) (looks : List Look) (n : ℕ) (top t : ℕ) (class : Class) (look : Look) → IsTop rows looks n false top
+    → IsRowAt rows n class → slice_get looks n ≡ Some look → is_partial_seen class look ≡ true → t ≡ cond look.of_data top (max top look.last)
+    → IsTop rows looks (n + 1) false t
 meta_raised rows looks n top t class look h r at partial is =
     tops_by rows looks n false top t class look (not look.of_data) h r at partial (not-true look.of_data) (λ e f. (let clash : true ≡ false = sym (not-false look.of_data e) ∙ f in cc)) (is ∙ meta_cond look.of_data top (max top look.last))
 
@@ -432,7 +464,10 @@ slice_get-push_below [] x i l = absurd (omega arith)
 slice_get-push_below (y ∷ xs) x zero l = refl
 slice_get-push_below (y ∷ xs) x (suc i) l = slice_get-push_below xs x i (omega arith)
 
-pub states_more : (rows : List TableRow) (looks : List Look) (counts : List ℕ) (n : ℕ) (states : List BlockState) (row : TableRow) (look : Look) (top : ℕ) (new : BlockState) → AreStatesTo rows looks counts n states → slice_get rows n ≡ Some row → slice_get looks n ≡ Some look → IsTop rows looks (length looks) look.of_data top → new ≡ state_seen row.class row.wear look top (get_or counts n 0) → AreStatesTo rows looks counts (n + 1) (states ++ new ∷ [])
+pub states_more : (rows : List TableRow) (looks : List Look) (counts : List ℕ) (n : ℕ) (states : List BlockState) (row : TableRow) (look : Look)
+    (top : ℕ) (new : BlockState) → AreStatesTo rows looks counts n states → slice_get rows n ≡ Some row → slice_get looks n ≡ Some look
+    → IsTop rows looks (length looks) look.of_data top → new ≡ state_seen row.class row.wear look top (get_or counts n 0)
+    → AreStatesTo rows looks counts (n + 1) (states ++ new ∷ [])
 states_more rows looks counts n states row look top new h at_row at_look is_top is = record {
   size = length-append states (new ∷ []) ∙ ap (λ k. k + 1) h.size;
   state = λ b l. elim (cases_order b n) [
@@ -448,7 +483,9 @@ make_state c p l w = record { class = c; pointer = p; live = l; wear = w }
 same_state : (c p l w d q m x : ℕ) → c ≡ d → p ≡ q → l ≡ m → w ≡ x → make_state c p l w ≡ make_state d q m x
 same_state c p l w d q m x e f g h = cc
 
-state_same : (g : Geometry) (image : Image) (rows : List TableRow) (looks : List Look) (counts : List ℕ) (b : ℕ) (states : List BlockState) → AreInRange g (marks image) → AreSeen g image rows looks → AreLiveCounts g image counts → b < g.blocks → IsStateAt rows looks counts b states → slice_get states b ≡ Some (block_state g image b)
+state_same : (g : Geometry) (image : Image) (rows : List TableRow) (looks : List Look) (counts : List ℕ) (b : ℕ) (states : List BlockState)
+    → AreInRange g (marks image) → AreSeen g image rows looks → AreLiveCounts g image counts → b < g.blocks → IsStateAt rows looks counts b states
+    → slice_get states b ≡ Some (block_state g image b)
 state_same g image rows looks counts b states numbers h lives l s =
     let size = h.looked.size in
     let is_top : IsTop rows looks g.blocks s.look.of_data s.top = subst (λ n. IsTop rows looks n s.look.of_data s.top) size s.is_top in
@@ -461,7 +498,9 @@ state_same g image rows looks counts b states numbers h lives l s =
     let e3 : min (get_or counts b 0) 65535 ≡ live g (marks image) b = ap (λ k. min k 65535) (lives.count b l) ∙ least (live g (marks image) b) 65535 (omega arith) in
     s.is ∙ ap Some (same_state _ _ _ _ _ _ _ _ e1 e2 e3 e4)
 
-pub states_are : (g : Geometry) (image : Image) (rows : List TableRow) (looks : List Look) (counts : List ℕ) (n : ℕ) (states : List BlockState) → n ≡ length looks → length rows ≡ length looks → AreInRange g (marks image) → IsTableOf g image rows → HasLooks g image (row_count g) looks → AreLiveCounts g image counts → AreStatesTo rows looks counts n states → AreStates g image states
+pub states_are : (g : Geometry) (image : Image) (rows : List TableRow) (looks : List Look) (counts : List ℕ) (n : ℕ) (states : List BlockState)
+    → n ≡ length looks → length rows ≡ length looks → AreInRange g (marks image) → IsTableOf g image rows → HasLooks g image (row_count g) looks
+    → AreLiveCounts g image counts → AreStatesTo rows looks counts n states → AreStates g image states
 states_are g image rows looks counts n states whole size numbers table looked lives h =
     let lsize = looked.size in
     record {

@@ -53,7 +53,9 @@ index_within g (Translation t) h = omega arith
 index_within g (Table u) h = omega arith
 
 -- what is said of a key stays with a page that is not of it
-still : (g : Geometry) (marks : List (Option Record)) (row : ℕ) (key : Key) (items : List Newest) → Tells (get_or items (index_of g key) blank) (latest_below marks key row) → sequence_at marks key row ≡ None → Tells (get_or items (index_of g key) blank) (latest_below marks key (row + 1))
+still : (g : Geometry) (marks : List (Option Record)) (row : ℕ) (key : Key) (items : List Newest)
+    → Tells (get_or items (index_of g key) blank) (latest_below marks key row) → sequence_at marks key row ≡ None
+    → Tells (get_or items (index_of g key) blank) (latest_below marks key (row + 1))
 still g marks row key items h none = subst (λ l. Tells (get_or items (index_of g key) blank) l) (sym (latest_other marks key row none)) h
 
 pub newest_none : (g : Geometry) (marks : List (Option Record)) (row : ℕ) (items : List Newest) → HasNewest g marks row items → get_or marks row None ≡ None → HasNewest g marks (row + 1) items
@@ -71,7 +73,9 @@ newest_outside g marks row items r h e outside = record {
 }
 
 -- the key that the page is of
-newest_of_key : (g : Geometry) (marks : List (Option Record)) (row i : ℕ) (items : List Newest) (r : Record) (d new : Newest) → HasNewest g marks row items → get_or marks row None ≡ Some r → IsKeyOf g (key_of r) → i ≡ index_of g (key_of r) → i < length items → IsNext (get_or items i d) row r.sequence new
+newest_of_key : (g : Geometry) (marks : List (Option Record)) (row i : ℕ) (items : List Newest) (r : Record) (d new : Newest)
+    → HasNewest g marks row items → get_or marks row None ≡ Some r → IsKeyOf g (key_of r) → i ≡ index_of g (key_of r) → i < length items
+    → IsNext (get_or items i d) row r.sequence new
     → Tells (get_or (set items i new) (index_of g (key_of r)) blank) (latest_below marks (key_of r) (row + 1))
 newest_of_key g marks row i items r d new h e within at in_items next =
     let old : Latest = latest_below marks (key_of r) row in
@@ -81,7 +85,9 @@ newest_of_key g marks row i items r d new h e within at in_items next =
     let more : step old row (Some r.sequence) ≡ latest_below marks (key_of r) (row + 1) = sym (latest_more marks (key_of r) row ∙ ap (step old row) (sequence_at-key marks row r e)) in
     subst (λ l. Tells (get_or (set items i new) (index_of g (key_of r)) blank) l) more (subst (λ x. Tells x (step old row (Some r.sequence))) (sym here) told)
 
-pub newest_set : (g : Geometry) (marks : List (Option Record)) (row i : ℕ) (items : List Newest) (r : Record) (d new : Newest) → HasNewest g marks row items → get_or marks row None ≡ Some r → IsKeyOf g (key_of r) → i ≡ index_of g (key_of r) → IsNext (get_or items i d) row r.sequence new → HasNewest g marks (row + 1) (set items i new)
+pub newest_set : (g : Geometry) (marks : List (Option Record)) (row i : ℕ) (items : List Newest) (r : Record) (d new : Newest)
+    → HasNewest g marks row items → get_or marks row None ≡ Some r → IsKeyOf g (key_of r) → i ≡ index_of g (key_of r)
+    → IsNext (get_or items i d) row r.sequence new → HasNewest g marks (row + 1) (set items i new)
 newest_set g marks row i items r d new h e within at next =
     let in_items : i < length items = omega (arith, index_within g (key_of r) within, h.size, at) in
     record {
@@ -161,7 +167,9 @@ passed_none ms row claims passed h none = record {
 }
 
 -- it is of a sector for which its row is claimed
-pub passed_set : (ms : List (Option Record)) (row sector : ℕ) (claims : List (Option ℕ)) (passed : List Bool) (r : Record) → HasPassed ms row claims passed → get_or ms row None ≡ Some r → key_of r ≡ Sector sector → slice_get claims sector ≡ Some (Some row) → sector < length passed → HasPassed ms (row + 1) claims (set passed sector true)
+pub passed_set : (ms : List (Option Record)) (row sector : ℕ) (claims : List (Option ℕ)) (passed : List Bool) (r : Record)
+    → HasPassed ms row claims passed → get_or ms row None ≡ Some r → key_of r ≡ Sector sector → slice_get claims sector ≡ Some (Some row)
+    → sector < length passed → HasPassed ms (row + 1) claims (set passed sector true)
 passed_set ms row sector claims passed r h e of_key claimed within = record {
   yes = λ n k at is. elim (cases_order n sector) [
     | inl same ↦
@@ -212,7 +220,9 @@ none_past ms row sector claims r e of_key past n at =
     sequence_at-other ms (Sector n) row r e (λ x. (let both : Sector sector ≡ Sector n = sym of_key ∙ x in let same : sector ≡ n = cc in absurd (omega arith)))
 
 -- it is of a sector for which another row is claimed
-pub none_claimed : (ms : List (Option Record)) (row sector : ℕ) (claims : List (Option ℕ)) (r : Record) (claim : Option ℕ) → get_or ms row None ≡ Some r → key_of r ≡ Sector sector → slice_get claims sector ≡ Some claim → claim ≢ Some row → (n : ℕ) → slice_get claims n ≡ Some (Some row) → sequence_at ms (Sector n) row ≡ None
+pub none_claimed : (ms : List (Option Record)) (row sector : ℕ) (claims : List (Option ℕ)) (r : Record) (claim : Option ℕ)
+    → get_or ms row None ≡ Some r → key_of r ≡ Sector sector → slice_get claims sector ≡ Some claim → claim ≢ Some row → (n : ℕ)
+    → slice_get claims n ≡ Some (Some row) → sequence_at ms (Sector n) row ≡ None
 none_claimed ms row sector claims r claim e of_key claimed ne n at =
     sequence_at-other ms (Sector n) row r e (λ x.
     let both : Sector sector ≡ Sector n = sym of_key ∙ x in

@@ -51,7 +51,9 @@ pub table_stays : (g : Geometry) (image : Image) (row : ℕ) (bytes : List ℕ) 
 table_stays g image row bytes h none = record { size = h.size; at = λ u q i ku ki e. stays_other g image row u q i bytes h (none u ku) ku ki e }
 
 -- the page is of table page v, and isn't its newest
-pub table_old : (g : Geometry) (image : Image) (row v : ℕ) (bytes : List ℕ) → HasTableBytes g image row bytes → ((u : ℕ) → u ≢ v → sequence_at (marks image) (Table u) row ≡ None) → place_of (latest_below (marks image) (Table v) (row + 1)) ≢ Some row → HasTableBytes g image (row + 1) bytes
+pub table_old : (g : Geometry) (image : Image) (row v : ℕ) (bytes : List ℕ) → HasTableBytes g image row bytes
+    → ((u : ℕ) → u ≢ v → sequence_at (marks image) (Table u) row ≡ None) → place_of (latest_below (marks image) (Table v) (row + 1)) ≢ Some row
+    → HasTableBytes g image (row + 1) bytes
 table_old g image row v bytes h none older = record {
   size = h.size;
   at = λ u q i ku ki e. elim (cases_order u v) [
@@ -77,7 +79,8 @@ length_mid : (bytes w : List ℕ) (a n : ℕ) → length w ≡ n → a + n ≤ l
 length_mid bytes w a n lw lb = grind (arith, places)
 
 -- the page is the newest of table page v
-pub table_new : (g : Geometry) (image : Image) (row v : ℕ) (bytes w : List ℕ) (p : Page) → HasTableBytes g image row bytes → v < table_pages g → ((u : ℕ) → u ≢ v → sequence_at (marks image) (Table u) row ≡ None) → place_of (latest_below (marks image) (Table v) (row + 1)) ≡ Some row
+pub table_new : (g : Geometry) (image : Image) (row v : ℕ) (bytes w : List ℕ) (p : Page) → HasTableBytes g image row bytes → v < table_pages g
+    → ((u : ℕ) → u ≢ v → sequence_at (marks image) (Table u) row ≡ None) → place_of (latest_below (marks image) (Table v) (row + 1)) ≡ Some row
     → slice_get image row ≡ Some p → w ≡ p.body → length w ≡ g.data_bytes → HasTableBytes g image (row + 1) (put_mid (v * g.data_bytes) (v * g.data_bytes + g.data_bytes - v * g.data_bytes) bytes w)
 table_new g image row v bytes w p h kv none newest is_page copied size =
     let a = v * g.data_bytes in

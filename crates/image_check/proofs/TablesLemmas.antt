@@ -102,7 +102,9 @@ unfolding table_body
 table_is image u row e = ap (body_in image) e
 
 -- what the survey keeps of a table page is the page
-pub body_kept : (g : Geometry) (image : Image) (items : List Newest) (bytes : List ℕ) (u at size : ℕ) (body : List ℕ) → SurveysTables g image items bytes → HasNewestTable image u → u < table_pages g → at ≡ u * g.data_bytes → size ≡ g.data_bytes → body ≡ slice_range bytes at (at + size) → at + size ≤ length bytes → IsBodyOf g image u body
+pub body_kept : (g : Geometry) (image : Image) (items : List Newest) (bytes : List ℕ) (u at size : ℕ) (body : List ℕ)
+    → SurveysTables g image items bytes → HasNewestTable image u → u < table_pages g → at ≡ u * g.data_bytes → size ≡ g.data_bytes
+    → body ≡ slice_range bytes at (at + size) → at + size ≤ length bytes → IsBodyOf g image u body
 unfolding table_body
 body_kept g image items bytes u at size body h formatted within place is_size is room = record {
   same = λ i l.
@@ -167,7 +169,8 @@ word_right rows b = elim (cases_lt b (length rows)) [
 page_formed : (n : ℕ) (rows : List TableRow) (u : ℕ) (bytes : List ℕ) → table.IsTablePage n rows u bytes → table.IsWellFormed n (length rows) u bytes
 page_formed n rows u bytes h = record { right = λ i l. rw (h.words i l) (word_right rows (u * n + i)) }
 
-pub taken_more : (g : Geometry) (image : Image) (u : ℕ) (old new : List TableRow) (body : List ℕ) → length old ≡ g.blocks → AreTaken g image u old → IsBodyOf g image u body → table.IsTablePage (entries g) new u body → table.KeepsOthers (entries g) u old new → AreTaken g image (u + 1) new
+pub taken_more : (g : Geometry) (image : Image) (u : ℕ) (old new : List TableRow) (body : List ℕ) → length old ≡ g.blocks → AreTaken g image u old
+    → IsBodyOf g image u body → table.IsTablePage (entries g) new u body → table.KeepsOthers (entries g) u old new → AreTaken g image (u + 1) new
 taken_more g image u old new body size h kept page others = record {
   formed = λ v l. elim (cases_order v u) [
     | inl same ↦ subst (λ k. table.IsWellFormed (entries g) g.blocks k (table_body image k)) (sym same) (formed_of g image u body kept (subst (λ k. table.IsWellFormed (entries g) k u body) (others.length_same ∙ size) (page_formed (entries g) new u body page)))
@@ -214,7 +217,9 @@ table_of g image rows size h = record {
       h.taken (b / entries g) (b % entries g) (in_pages g.blocks (entries g) b some l) (omega arith) ∙ ap (table.table_word rows) parts;
 }
 
-pub tables_damaged : (g : Geometry) (capacity : ℕ) (image : Image) (claim : Claim) (u : ℕ) (rows : List TableRow) (body : List ℕ) (fault : TableFault) → ((v : ℕ) → v < table_pages g → HasNewestTable image v) → AreTaken g image u rows → u < table_pages g → IsBodyOf g image u body → table.IsFirstWrong (entries g) g.blocks u body fault → IsWrong g capacity image claim Tables (refusals.TableDamaged u)
+pub tables_damaged : (g : Geometry) (capacity : ℕ) (image : Image) (claim : Claim) (u : ℕ) (rows : List TableRow) (body : List ℕ) (fault : TableFault)
+    → ((v : ℕ) → v < table_pages g → HasNewestTable image v) → AreTaken g image u rows → u < table_pages g → IsBodyOf g image u body
+    → table.IsFirstWrong (entries g) g.blocks u body fault → IsWrong g capacity image claim Tables (refusals.TableDamaged u)
 tables_damaged g capacity image claim u rows body fault formatted taken within kept wrong = record {
   part_is = refl;
   fails = λ (all : HasTables g image). damaged_of g image u body fault kept wrong (all.formed u within);

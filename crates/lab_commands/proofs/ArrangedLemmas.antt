@@ -20,7 +20,14 @@ use Rattle.lab_commands.proofs.JsonLemmas.{fit_rest, quoted_in}
 
 -- ---- plain text
 
-arrange_flat : (f : Fit) → codes " arranged: first nandlab arrange " ++ (decimal f.data_bytes ++ (codes "," ++ (decimal f.spare_bytes ++ (codes "," ++ (decimal f.pages ++ (codes "," ++ (decimal f.blocks ++ (codes "," ++ (decimal f.sectors ++ codes " DUMP OUT --from "))))))))) ≡ arrange_words f
+arrange_flat : (f : Fit)
+    → codes " arranged: first nandlab arrange " ++
+    (decimal f.data_bytes
+    ++ (codes ","
+    ++ (decimal f.spare_bytes
+    ++ (codes ","
+    ++ (decimal f.pages ++ (codes "," ++ (decimal f.blocks ++ (codes "," ++ (decimal f.sectors ++ codes " DUMP OUT --from ")))))))))
+    ≡ arrange_words f
 arrange_flat f = simp append_assoc
 
 pub arrange_pieces : (f : Fit) (r1 r2 r3 r4 r5 : ℕ) → r1 ≡ f.data_bytes → r2 ≡ f.spare_bytes → r3 ≡ f.pages → r4 ≡ f.blocks → r5 ≡ f.sectors
@@ -114,7 +121,27 @@ plain_arrangement a =
 -- ---- the object
 
 pub rest_json : (fit : Fit) (r1 r2 r3 r4 r5 r6 r7 : ℕ) (w : List ℕ) (r8 : ℕ) → r1 ≡ fit.data_bytes → r2 ≡ fit.spare_bytes → r3 ≡ fit.pages → r4 ≡ fit.blocks → r5 ≡ fit.sectors → r6 ≡ fit.looked → r7 ≡ fit.sound.0 → w ≡ says_words fit.table → r8 ≡ fit.unsound
-    → codes "\",\"blocks_told\":" ++ (decimal fit.blocks_told ++ (codes ",\"geometry\":[" ++ (decimal r1 ++ (codes "," ++ (decimal r2 ++ (codes "," ++ (decimal r3 ++ (codes "," ++ (decimal r4 ++ (codes "," ++ (decimal r5 ++ (codes "],\"line\":\"geometry\",\"looked\":" ++ (decimal r6 ++ (codes ",\"sectors_told\":" ++ (decimal fit.sectors_told ++ (codes ",\"sound\":" ++ (decimal r7 ++ (codes ",\"table\":\"" ++ (w ++ (codes "\",\"unsound\":" ++ (decimal r8 ++ codes "}"))))))))))))))))))))) ≡ arranged_rest fit
+    → codes "\",\"blocks_told\":" ++
+    (decimal fit.blocks_told
+    ++ (codes ",\"geometry\":["
+    ++ (decimal r1
+    ++ (codes ","
+    ++ (decimal r2
+    ++ (codes ","
+    ++ (decimal r3
+    ++ (codes ","
+    ++ (decimal r4
+    ++ (codes ","
+    ++ (decimal r5
+    ++ (codes "],\"line\":\"geometry\",\"looked\":"
+    ++ (decimal r6
+    ++ (codes ",\"sectors_told\":"
+    ++ (decimal fit.sectors_told
+    ++ (codes ",\"sound\":"
+    ++ (decimal r7
+    ++ (codes ",\"table\":\""
+    ++ (w ++ (codes "\",\"unsound\":" ++ (decimal r8 ++ codes "}")))))))))))))))))))))
+    ≡ arranged_rest fit
 unfolding escape_byte
 rest_json fit r1 r2 r3 r4 r5 r6 r7 w r8 e1 e2 e3 e4 e5 e6 e7 ew e8 = rw (e1, e2, e3, e4, e5, e6, e7, ew, e8) (ap (λ t. codes "\",\"blocks_told\":" ++ (decimal fit.blocks_told ++ t)) (fit_rest fit))
 

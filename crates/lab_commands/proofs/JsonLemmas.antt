@@ -19,7 +19,27 @@ use Rattle.lab_dump.specs.Doubts.{most_older}
 use Rattle.lab_mend.specs.declared.merging.RowTally.{RowTally}
 use Rattle.lab_mend.specs.declared.pairs.BitPair.{BitPair}
 use Rattle.lab_commands.specs.Values.{age_data, age_until_data, arranged_data, block_data, corrected_data, damaged_data, doubt_data, fit_members, found_data, front_words, head_data, history_data, key_data, legible_data, lost_data, lost_row_data}
-use Rattle.lab_commands.specs.Values.{mended_count_data, mended_data, merged_data, nothing_data, page_data, pages_data, pair_data, plain_block_data, reason_pages_data, reason_table_data, repeated_data, row_data, rows_age_data, rows_data, said_data, tries_data, truth_words, turned_data}
+use
+    Rattle.lab_commands.specs.Values.{
+      mended_count_data,
+      mended_data,
+      merged_data,
+      nothing_data,
+      page_data,
+      pages_data,
+      pair_data,
+      plain_block_data,
+      reason_pages_data,
+      reason_table_data,
+      repeated_data,
+      row_data,
+      rows_age_data,
+      rows_data,
+      said_data,
+      tries_data,
+      truth_words,
+      turned_data,
+    }
 use Rattle.std.specs.Prelude.{codes, ◌==◌, if◌then◌else◌}
 use Rattle.json.specs.Print.{escape, escape_byte, quoted}
 use Rattle.lab_dump.specs.declared.fit.TableSays.{TableSays}
@@ -147,9 +167,28 @@ pub missing_json : (of : Label) (number : ℕ) (w : List ℕ) (r1 : ℕ) → w �
 unfolding escape_byte
 missing_json of number w r1 ew e1 = rw (ew, e1) (ap (λ t. codes "{\"key\":" ++ t) (sym (quoted_in (label_words of) (codes ",\"line\":\"missing\",\"number\":" ++ (decimal number ++ codes "}")) (plain_label of))))
 
-pub block_json : (block : ℕ) (state : BlockState) (unsound : ℕ) (r1 : ℕ) (w : List ℕ) (r2 : ℕ) (r3 : ℕ) (r4 : ℕ) (r5 : ℕ) → r1 ≡ block → w ≡ class_words state.class → r2 ≡ state.live → r3 ≡ state.pointer → r4 ≡ unsound → r5 ≡ state.wear → codes "{\"block\":" ++ (decimal r1 ++ (codes ",\"class\":\"" ++ (w ++ (codes "\",\"line\":\"block\",\"live\":" ++ (decimal r2 ++ (codes ",\"pointer\":" ++ (decimal r3 ++ (codes ",\"unsound\":" ++ (decimal r4 ++ (codes ",\"wear\":" ++ (decimal r5 ++ codes "}"))))))))))) ≡ compact_text (block_data block state unsound)
+pub block_json : (block : ℕ) (state : BlockState) (unsound : ℕ) (r1 : ℕ) (w : List ℕ) (r2 : ℕ) (r3 : ℕ) (r4 : ℕ) (r5 : ℕ) → r1 ≡ block
+    → w ≡ class_words state.class → r2 ≡ state.live → r3 ≡ state.pointer → r4 ≡ unsound → r5 ≡ state.wear
+    → codes "{\"block\":" ++
+    (decimal r1
+    ++ (codes ",\"class\":\""
+    ++ (w
+    ++ (codes "\",\"line\":\"block\",\"live\":"
+    ++ (decimal r2
+    ++ (codes ",\"pointer\":"
+    ++ (decimal r3 ++ (codes ",\"unsound\":" ++ (decimal r4 ++ (codes ",\"wear\":" ++ (decimal r5 ++ codes "}")))))))))))
+    ≡ compact_text (block_data block state unsound)
 unfolding escape_byte
-block_json block state unsound r1 w r2 r3 r4 r5 e1 ew e2 e3 e4 e5 = rw (e1, ew, e2, e3, e4, e5) (ap (λ t. codes "{\"block\":" ++ (decimal block ++ (codes ",\"class\":" ++ t))) (sym (quoted_in (class_words state.class) (codes ",\"line\":\"block\",\"live\":" ++ (decimal state.live ++ (codes ",\"pointer\":" ++ (decimal state.pointer ++ (codes ",\"unsound\":" ++ (decimal unsound ++ (codes ",\"wear\":" ++ (decimal state.wear ++ codes "}")))))))) (plain_class state.class))))
+block_json block state unsound r1 w r2 r3 r4 r5 e1 ew e2 e3 e4 e5 = rw (e1, ew, e2, e3, e4, e5)
+    (ap (λ t. codes "{\"block\":" ++ (decimal block ++ (codes ",\"class\":" ++ t)))
+    (sym
+    (quoted_in (class_words state.class)
+    (codes ",\"line\":\"block\",\"live\":"
+    ++ (decimal state.live
+    ++ (codes ",\"pointer\":"
+    ++ (decimal state.pointer
+    ++ (codes ",\"unsound\":" ++ (decimal unsound ++ (codes ",\"wear\":" ++ (decimal state.wear ++ codes "}"))))))))
+    (plain_class state.class))))
 
 pub plain_block_json : (block : ℕ) (unsound : ℕ) (r1 : ℕ) (r2 : ℕ) → r1 ≡ block → r2 ≡ unsound → codes "{\"block\":" ++ (decimal r1 ++ (codes ",\"line\":\"block\",\"unsound\":" ++ (decimal r2 ++ codes "}"))) ≡ compact_text (plain_block_data block unsound)
 unfolding escape_byte
@@ -160,24 +199,113 @@ unfolding escape_byte
 lost_json sector r1 e1 = rw (e1) (refl)
 
 -- the members of a geometry that fits, behind its first one and that of codes
-pub fit_rest : (fit : Fit) → codes ",\"geometry\":[" ++ (decimal fit.data_bytes ++ (codes "," ++ (decimal fit.spare_bytes ++ (codes "," ++ (decimal fit.pages ++ (codes "," ++ (decimal fit.blocks ++ (codes "," ++ (decimal fit.sectors ++ (codes "],\"line\":\"geometry\",\"looked\":" ++ (decimal fit.looked ++ (codes ",\"sectors_told\":" ++ (decimal fit.sectors_told ++ (codes ",\"sound\":" ++ (decimal fit.sound.0 ++ (codes ",\"table\":\"" ++ (says_words fit.table ++ (codes "\",\"unsound\":" ++ (decimal fit.unsound ++ codes "}"))))))))))))))))))) ≡ members_text true (fit_members fit)
+pub fit_rest : (fit : Fit)
+    → codes ",\"geometry\":[" ++
+    (decimal fit.data_bytes
+    ++ (codes ","
+    ++ (decimal fit.spare_bytes
+    ++ (codes ","
+    ++ (decimal fit.pages
+    ++ (codes ","
+    ++ (decimal fit.blocks
+    ++ (codes ","
+    ++ (decimal fit.sectors
+    ++ (codes "],\"line\":\"geometry\",\"looked\":"
+    ++ (decimal fit.looked
+    ++ (codes ",\"sectors_told\":"
+    ++ (decimal fit.sectors_told
+    ++ (codes ",\"sound\":"
+    ++ (decimal fit.sound.0
+    ++ (codes ",\"table\":\""
+    ++ (says_words fit.table
+    ++ (codes "\",\"unsound\":" ++ (decimal fit.unsound ++ codes "}")))))))))))))))))))
+    ≡ members_text true (fit_members fit)
 unfolding escape_byte
-fit_rest fit = ap (λ t. codes ",\"geometry\":[" ++ (decimal fit.data_bytes ++ (codes "," ++ (decimal fit.spare_bytes ++ (codes "," ++ (decimal fit.pages ++ (codes "," ++ (decimal fit.blocks ++ (codes "," ++ (decimal fit.sectors ++ (codes "],\"line\":\"geometry\",\"looked\":" ++ (decimal fit.looked ++ (codes ",\"sectors_told\":" ++ (decimal fit.sectors_told ++ (codes ",\"sound\":" ++ (decimal fit.sound.0 ++ (codes ",\"table\":" ++ t))))))))))))))))) (sym (quoted_in (says_words fit.table) (codes ",\"unsound\":" ++ (decimal fit.unsound ++ codes "}")) (plain_says fit.table)))
+fit_rest fit = ap
+    (λ t. codes ",\"geometry\":[" ++
+    (decimal fit.data_bytes
+    ++ (codes ","
+    ++ (decimal fit.spare_bytes
+    ++ (codes ","
+    ++ (decimal fit.pages
+    ++ (codes ","
+    ++ (decimal fit.blocks
+    ++ (codes ","
+    ++ (decimal fit.sectors
+    ++ (codes "],\"line\":\"geometry\",\"looked\":"
+    ++ (decimal fit.looked
+    ++ (codes ",\"sectors_told\":"
+    ++ (decimal fit.sectors_told
+    ++ (codes ",\"sound\":" ++ (decimal fit.sound.0 ++ (codes ",\"table\":" ++ t)))))))))))))))))
+    (sym (quoted_in (says_words fit.table) (codes ",\"unsound\":" ++ (decimal fit.unsound ++ codes "}")) (plain_says fit.table)))
     ∙ ap (λ t. codes ",\"geometry\":[" ++ t)
     (sym (list_of_five (decimal fit.data_bytes) (decimal fit.spare_bytes) (decimal fit.pages) (decimal fit.blocks) (decimal fit.sectors)
-    (codes ",\"line\":\"geometry\",\"looked\":" ++ (decimal fit.looked ++ (codes ",\"sectors_told\":" ++ (decimal fit.sectors_told ++ (codes ",\"sound\":" ++ (decimal fit.sound.0 ++ (codes ",\"table\":" ++ (quoted (says_words fit.table) ++ (codes ",\"unsound\":" ++ (decimal fit.unsound ++ codes "}"))))))))))))
+    (codes ",\"line\":\"geometry\",\"looked\":"
+    ++ (decimal fit.looked
+    ++ (codes ",\"sectors_told\":"
+    ++ (decimal fit.sectors_told
+    ++ (codes ",\"sound\":"
+    ++ (decimal fit.sound.0
+    ++ (codes ",\"table\":"
+    ++ (quoted (says_words fit.table) ++ (codes ",\"unsound\":" ++ (decimal fit.unsound ++ codes "}"))))))))))))
 
 -- with the one of codes, and without it
-fit_by : (coded : Bool) (fit : Fit) → codes "{\"blocks_told\":" ++ (decimal fit.blocks_told ++ (front_words coded ++ (decimal fit.data_bytes ++ (codes "," ++ (decimal fit.spare_bytes ++ (codes "," ++ (decimal fit.pages ++ (codes "," ++ (decimal fit.blocks ++ (codes "," ++ (decimal fit.sectors ++ (codes "],\"line\":\"geometry\",\"looked\":" ++ (decimal fit.looked ++ (codes ",\"sectors_told\":" ++ (decimal fit.sectors_told ++ (codes ",\"sound\":" ++ (decimal fit.sound.0 ++ (codes ",\"table\":\"" ++ (says_words fit.table ++ (codes "\",\"unsound\":" ++ (decimal fit.unsound ++ codes "}"))))))))))))))))))))) ≡ compact_text (found_data (found_as coded fit))
+fit_by : (coded : Bool) (fit : Fit)
+    → codes "{\"blocks_told\":" ++
+    (decimal fit.blocks_told
+    ++ (front_words coded
+    ++ (decimal fit.data_bytes
+    ++ (codes ","
+    ++ (decimal fit.spare_bytes
+    ++ (codes ","
+    ++ (decimal fit.pages
+    ++ (codes ","
+    ++ (decimal fit.blocks
+    ++ (codes ","
+    ++ (decimal fit.sectors
+    ++ (codes "],\"line\":\"geometry\",\"looked\":"
+    ++ (decimal fit.looked
+    ++ (codes ",\"sectors_told\":"
+    ++ (decimal fit.sectors_told
+    ++ (codes ",\"sound\":"
+    ++ (decimal fit.sound.0
+    ++ (codes ",\"table\":\""
+    ++ (says_words fit.table
+    ++ (codes "\",\"unsound\":" ++ (decimal fit.unsound ++ codes "}")))))))))))))))))))))
+    ≡ compact_text (found_data (found_as coded fit))
 unfolding escape_byte
 fit_by true fit = ap (λ t. codes "{\"blocks_told\":" ++ (decimal fit.blocks_told ++ (codes ",\"codes\":\"hamming\"" ++ t))) (fit_rest fit)
 fit_by false fit = ap (λ t. codes "{\"blocks_told\":" ++ (decimal fit.blocks_told ++ t)) (fit_rest fit)
 
-pub fit_json : (found : FoundFit) (v : List ℕ) (r1 : ℕ) (r2 : ℕ) (r3 : ℕ) (r4 : ℕ) (r5 : ℕ) (r6 : ℕ) (r7 : ℕ) (w : List ℕ) (r8 : ℕ) → v ≡ front_words found.coded → r1 ≡ found.fit.data_bytes → r2 ≡ found.fit.spare_bytes → r3 ≡ found.fit.pages → r4 ≡ found.fit.blocks → r5 ≡ found.fit.sectors → r6 ≡ found.fit.looked → r7 ≡ found.fit.sound.0 → w ≡ says_words found.fit.table → r8 ≡ found.fit.unsound
-    → codes "{\"blocks_told\":" ++ (decimal found.fit.blocks_told ++ (v ++ (decimal r1 ++ (codes "," ++ (decimal r2 ++ (codes "," ++ (decimal r3 ++ (codes "," ++ (decimal r4 ++ (codes "," ++ (decimal r5 ++ (codes "],\"line\":\"geometry\",\"looked\":" ++ (decimal r6 ++ (codes ",\"sectors_told\":" ++ (decimal found.fit.sectors_told ++ (codes ",\"sound\":" ++ (decimal r7 ++ (codes ",\"table\":\"" ++ (w ++ (codes "\",\"unsound\":" ++ (decimal r8 ++ codes "}"))))))))))))))))))))) ≡ compact_text (found_data found)
+pub fit_json : (found : FoundFit) (v : List ℕ) (r1 : ℕ) (r2 : ℕ) (r3 : ℕ) (r4 : ℕ) (r5 : ℕ) (r6 : ℕ) (r7 : ℕ) (w : List ℕ) (r8 : ℕ)
+    → v ≡ front_words found.coded → r1 ≡ found.fit.data_bytes → r2 ≡ found.fit.spare_bytes → r3 ≡ found.fit.pages → r4 ≡ found.fit.blocks
+    → r5 ≡ found.fit.sectors → r6 ≡ found.fit.looked → r7 ≡ found.fit.sound.0 → w ≡ says_words found.fit.table → r8 ≡ found.fit.unsound
+    → codes "{\"blocks_told\":" ++
+    (decimal found.fit.blocks_told
+    ++ (v
+    ++ (decimal r1
+    ++ (codes ","
+    ++ (decimal r2
+    ++ (codes ","
+    ++ (decimal r3
+    ++ (codes ","
+    ++ (decimal r4
+    ++ (codes ","
+    ++ (decimal r5
+    ++ (codes "],\"line\":\"geometry\",\"looked\":"
+    ++ (decimal r6
+    ++ (codes ",\"sectors_told\":"
+    ++ (decimal found.fit.sectors_told
+    ++ (codes ",\"sound\":"
+    ++ (decimal r7
+    ++ (codes ",\"table\":\""
+    ++ (w ++ (codes "\",\"unsound\":" ++ (decimal r8 ++ codes "}")))))))))))))))))))))
+    ≡ compact_text (found_data found)
 fit_json found v r1 r2 r3 r4 r5 r6 r7 w r8 ev e1 e2 e3 e4 e5 e6 e7 ew e8 = rw (ev, e1, e2, e3, e4, e5, e6, e7, ew, e8) (fit_by found.coded found.fit)
 
-pub mended_json : (made : Made) (row : ℕ) (bit : ℕ) (r1 : ℕ) (w : List ℕ) (r2 : ℕ) → r1 ≡ bit → w ≡ made_words made → r2 ≡ row → codes "{\"bit\":" ++ (decimal r1 ++ (codes ",\"line\":\"" ++ (w ++ (codes "\",\"row\":" ++ (decimal r2 ++ codes "}"))))) ≡ compact_text (mended_data made row bit)
+pub mended_json : (made : Made) (row : ℕ) (bit : ℕ) (r1 : ℕ) (w : List ℕ) (r2 : ℕ) → r1 ≡ bit → w ≡ made_words made → r2 ≡ row
+    → codes "{\"bit\":" ++ (decimal r1 ++ (codes ",\"line\":\"" ++ (w ++ (codes "\",\"row\":" ++ (decimal r2 ++ codes "}"))))) ≡ compact_text
+    (mended_data made row bit)
 unfolding escape_byte
 mended_json made row bit r1 w r2 e1 ew e2 = rw (e1, ew, e2) (ap (λ t. codes "{\"bit\":" ++ (decimal bit ++ (codes ",\"line\":" ++ t))) (sym (quoted_in (made_words made) (codes ",\"row\":" ++ (decimal row ++ codes "}")) (plain_made made))))
 
@@ -219,7 +347,15 @@ unfolding escape_byte
 unsound_json row r1 e1 = rw (e1) (refl)
 
 pub merged_json : (differ : ℕ) (tally : RowTally) (r1 : ℕ) (r2 : ℕ) (r3 : ℕ) (r4 : ℕ) (r5 : ℕ) → r1 ≡ tally.erased → r2 ≡ tally.majority → r3 ≡ tally.sound → r4 ≡ tally.turned → r5 ≡ tally.unsound
-    → codes "{\"differ\":" ++ (decimal differ ++ (codes ",\"erased\":" ++ (decimal r1 ++ (codes ",\"line\":\"merged\",\"majority\":" ++ (decimal r2 ++ (codes ",\"sound\":" ++ (decimal r3 ++ (codes ",\"turned\":" ++ (decimal r4 ++ (codes ",\"unsound\":" ++ (decimal r5 ++ codes "}"))))))))))) ≡ compact_text (merged_data differ tally)
+    → codes "{\"differ\":" ++
+    (decimal differ
+    ++ (codes ",\"erased\":"
+    ++ (decimal r1
+    ++ (codes ",\"line\":\"merged\",\"majority\":"
+    ++ (decimal r2
+    ++ (codes ",\"sound\":"
+    ++ (decimal r3 ++ (codes ",\"turned\":" ++ (decimal r4 ++ (codes ",\"unsound\":" ++ (decimal r5 ++ codes "}")))))))))))
+    ≡ compact_text (merged_data differ tally)
 unfolding escape_byte
 merged_json differ tally r1 r2 r3 r4 r5 e1 e2 e3 e4 e5 = rw (e1, e2, e3, e4, e5) (refl)
 
@@ -249,9 +385,25 @@ pub until_json : (last : ℕ) (unsound : ℕ) (r1 : ℕ) → r1 ≡ unsound → 
 unfolding escape_byte
 until_json last unsound r1 e1 = rw (e1) (refl)
 
-pub page_json : (page : SectorPage) (block : ℕ) (r1 : ℕ) (w : List ℕ) (r2 : ℕ) (r3 : ℕ) → r1 ≡ block → w ≡ wrote_words page.wrote → r2 ≡ page.row → r3 ≡ page.version → codes "{\"block\":" ++ (decimal r1 ++ (codes ",\"kind\":\"" ++ (w ++ (codes "\",\"line\":\"page\",\"row\":" ++ (decimal r2 ++ (codes ",\"sequence\":" ++ (decimal page.sequence.0 ++ (codes ",\"version\":" ++ (decimal r3 ++ codes "}"))))))))) ≡ compact_text (page_data page block)
+pub page_json : (page : SectorPage) (block : ℕ) (r1 : ℕ) (w : List ℕ) (r2 : ℕ) (r3 : ℕ) → r1 ≡ block → w ≡ wrote_words page.wrote → r2 ≡ page.row
+    → r3 ≡ page.version
+    → codes "{\"block\":" ++
+    (decimal r1
+    ++ (codes ",\"kind\":\""
+    ++ (w
+    ++ (codes "\",\"line\":\"page\",\"row\":"
+    ++ (decimal r2
+    ++ (codes ",\"sequence\":" ++ (decimal page.sequence.0 ++ (codes ",\"version\":" ++ (decimal r3 ++ codes "}"))))))))) ≡
+    compact_text (page_data page block)
 unfolding escape_byte
-page_json page block r1 w r2 r3 e1 ew e2 e3 = rw (e1, ew, e2, e3) (ap (λ t. codes "{\"block\":" ++ (decimal block ++ (codes ",\"kind\":" ++ t))) (sym (quoted_in (wrote_words page.wrote) (codes ",\"line\":\"page\",\"row\":" ++ (decimal page.row ++ (codes ",\"sequence\":" ++ (decimal page.sequence.0 ++ (codes ",\"version\":" ++ (decimal page.version ++ codes "}")))))) (plain_wrote page.wrote))))
+page_json page block r1 w r2 r3 e1 ew e2 e3 = rw (e1, ew, e2, e3)
+    (ap (λ t. codes "{\"block\":" ++ (decimal block ++ (codes ",\"kind\":" ++ t)))
+    (sym
+    (quoted_in (wrote_words page.wrote)
+    (codes ",\"line\":\"page\",\"row\":"
+    ++ (decimal page.row
+    ++ (codes ",\"sequence\":" ++ (decimal page.sequence.0 ++ (codes ",\"version\":" ++ (decimal page.version ++ codes "}"))))))
+    (plain_wrote page.wrote))))
 
 pub history_json : (pages : ℕ) (unsound : ℕ) (r1 : ℕ) → r1 ≡ unsound → codes "{\"line\":\"history\",\"pages\":" ++ (decimal pages ++ (codes ",\"unsound\":" ++ (decimal r1 ++ codes "}"))) ≡ compact_text (history_data pages unsound)
 unfolding escape_byte
@@ -271,7 +423,16 @@ truth_is false = refl
 pub said_json : (page : SaidPage) (k t : List ℕ) (r1 r2 : ℕ) → k ≡ kind_words page.says.kind → t ≡ truth_words page.newer → r1 ≡ page.says.number → r2 ≡ page.row
     → codes "{\"kind\":\"" ++ (k ++ (codes "\",\"line\":\"says\",\"newer\":" ++ (t ++ (codes ",\"number\":" ++ (decimal r1 ++ (codes ",\"row\":" ++ (decimal r2 ++ (codes ",\"sequence\":" ++ (decimal page.says.sequence ++ codes "}"))))))))) ≡ compact_text (said_data page)
 unfolding escape_byte
-said_json page k t r1 r2 ek et e1 e2 = rw (ek, et, e1, e2, truth_is page.newer) (ap (λ u. codes "{\"kind\":" ++ u) (sym (quoted_in (kind_words page.says.kind) (codes ",\"line\":\"says\",\"newer\":" ++ (compact_text (boolean page.newer) ++ (codes ",\"number\":" ++ (decimal page.says.number ++ (codes ",\"row\":" ++ (decimal page.row ++ (codes ",\"sequence\":" ++ (decimal page.says.sequence ++ codes "}")))))))) (plain_kind page.says.kind))))
+said_json page k t r1 r2 ek et e1 e2 = rw (ek, et, e1, e2, truth_is page.newer)
+    (ap (λ u. codes "{\"kind\":" ++ u)
+    (sym
+    (quoted_in (kind_words page.says.kind)
+    (codes ",\"line\":\"says\",\"newer\":"
+    ++ (compact_text (boolean page.newer)
+    ++ (codes ",\"number\":"
+    ++ (decimal page.says.number
+    ++ (codes ",\"row\":" ++ (decimal page.row ++ (codes ",\"sequence\":" ++ (decimal page.says.sequence ++ codes "}"))))))))
+    (plain_kind page.says.kind))))
 
 pub legible_json : (legible others r1 : ℕ) → r1 ≡ legible → codes "{\"legible\":" ++ (decimal r1 ++ (codes ",\"line\":\"legible\",\"others\":" ++ (decimal others ++ codes "}"))) ≡ compact_text (legible_data legible others)
 unfolding escape_byte

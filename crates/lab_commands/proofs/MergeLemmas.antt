@@ -102,7 +102,9 @@ unmerged_as a paths g out known _ _ opened of h reads writes is = absurd is
 pub no_geometry : (a : StoreAnswers) (words : MergeWords) (k : Option Store) (opens opened : Option ℕ) (broke : Bool) (out : Option (List ℕ)) (told : LabFault) → IsNoGeometry words.geometry.now told → IsMergeFault a words k k opens opened broke out out told
 no_geometry a words k opens opened broke out told h = inl (left_all k k out refl, inl h)
 
-pub not_allowed : (a : StoreAnswers) (words : MergeWords) (g : Geometry) (k after : Option Store) (opens opened : Option ℕ) (broke : Bool) (out : Option (List ℕ)) (told : LabFault) → IsGeometryAt words.geometry.now g → after ≡ k → MayNotMerge a words told → IsMergeFault a words k after opens opened broke out out told
+pub not_allowed : (a : StoreAnswers) (words : MergeWords) (g : Geometry) (k after : Option Store) (opens opened : Option ℕ) (broke : Bool)
+    (out : Option (List ℕ)) (told : LabFault) → IsGeometryAt words.geometry.now g → after ≡ k → MayNotMerge a words told
+    → IsMergeFault a words k after opens opened broke out out told
 not_allowed a words g k after opens opened broke out told is same h = inl (left_all k after out same, inr (g, is, inl h))
 
 pub not_put : (a : StoreAnswers) (words : MergeWords) (g : Geometry) (k after : Option Store) (opens opened : Option ℕ) (broke : Bool) (out : Option (List ℕ)) (told : LabFault) → IsGeometryAt words.geometry.now g → MayMerge a words → after ≡ k

@@ -61,7 +61,13 @@ pub fit_pieces : (f : Fit) (r1 r2 r3 r4 r5 r6 r7 r8 : ℕ) (w : List ℕ) → r1
 fit_pieces f r1 r2 r3 r4 r5 r6 r7 r8 w e1 e2 e3 e4 e5 e6 e7 e8 ew = rw (e1, e2, e3, e4, e5, e6, e7, e8, ew) (fit_flat f)
 
 -- what comes first of a dump with codes
-first_flat : (f : Fit) → codes " codes hamming: first nandlab correct " ++ (decimal f.data_bytes ++ (codes "," ++ (decimal f.spare_bytes ++ (codes "," ++ (decimal f.pages ++ (codes "," ++ (decimal f.blocks ++ (codes "," ++ (decimal f.sectors ++ codes " DUMP OUT"))))))))) ≡ first_words f
+first_flat : (f : Fit)
+    → codes " codes hamming: first nandlab correct " ++
+    (decimal f.data_bytes
+    ++ (codes ","
+    ++ (decimal f.spare_bytes
+    ++ (codes "," ++ (decimal f.pages ++ (codes "," ++ (decimal f.blocks ++ (codes "," ++ (decimal f.sectors ++ codes " DUMP OUT")))))))))
+    ≡ first_words f
 first_flat f = simp append_assoc
 
 pub first_pieces : (f : Fit) (r1 r2 r3 r4 r5 : ℕ) → r1 ≡ f.data_bytes → r2 ≡ f.spare_bytes → r3 ≡ f.pages → r4 ≡ f.blocks → r5 ≡ f.sectors
@@ -78,7 +84,11 @@ nonzero (suc n) h = grind arith
 
 -- what is claimed of an array, where no sector may be older
 age_whole_by : (d : Doubts) (b : Bool) → b ≡ true → codes "unsound " ++ (decimal d.unsound ++ (whole_words d.outside ++ (codes ", if no page was lost behind the last one of its block" ++ moved_words d.rewritten)))
-    ≡ codes "unsound " ++ (decimal d.unsound ++ ((if b then whole_words d.outside else (codes ": at most " ++ (decimal (most_older d) ++ codes " sectors may be older than the last write"))) ++ (codes ", if no page was lost behind the last one of its block" ++ moved_words d.rewritten)))
+    ≡ codes "unsound "
+    ++ (decimal d.unsound
+    ++ ((if b then whole_words d.outside else
+    (codes ": at most " ++ (decimal (most_older d) ++ codes " sectors may be older than the last write")))
+    ++ (codes ", if no page was lost behind the last one of its block" ++ moved_words d.rewritten)))
 age_whole_by d true is = refl
 age_whole_by d false is = absurd cc
 
@@ -89,7 +99,11 @@ age_whole d u m w v eu em is ew ev = rw (eu, ew, ev) (age_whole_by d (most_older
 -- and where some may
 age_older_by : (d : Doubts) (b : Bool) → b ≡ false
     → codes "unsound " ++ (decimal d.unsound ++ (codes ": at most " ++ (decimal (most_older d) ++ (codes " sectors may be older than the last write" ++ (codes ", if no page was lost behind the last one of its block" ++ moved_words d.rewritten)))))
-    ≡ codes "unsound " ++ (decimal d.unsound ++ ((if b then whole_words d.outside else (codes ": at most " ++ (decimal (most_older d) ++ codes " sectors may be older than the last write"))) ++ (codes ", if no page was lost behind the last one of its block" ++ moved_words d.rewritten)))
+    ≡ codes "unsound "
+    ++ (decimal d.unsound
+    ++ ((if b then whole_words d.outside else
+    (codes ": at most " ++ (decimal (most_older d) ++ codes " sectors may be older than the last write")))
+    ++ (codes ", if no page was lost behind the last one of its block" ++ moved_words d.rewritten)))
 age_older_by d true is = absurd cc
 age_older_by d false is =
     ap (λ t. codes "unsound " ++ (decimal d.unsound ++ (codes ": at most " ++ t)))

@@ -165,17 +165,25 @@ all_right false = refl
 
 below_more : (g : Geometry) (image : Image) (test block : ℕ → Bool) (n : ℕ) → below g image test block (n + 1) ≡ below g image test block n + cond (block n) (of_block g image test n) 0
 below_more g image test block n =
-    upto_sum (λ row. (test row && block (row / g.pages)) && nat_lt (row / g.pages) n) (λ row. (test row && (row / g.pages == n)) && block n) (λ row. (test row && block (row / g.pages)) && nat_lt (row / g.pages) (n + 1)) (length image) (λ row l. at row (cases_order (row / g.pages) n))
+    upto_sum (λ row. (test row && block (row / g.pages)) && nat_lt (row / g.pages) n) (λ row. (test row && (row / g.pages == n)) && block n)
+    (λ row. (test row && block (row / g.pages)) && nat_lt (row / g.pages) (n + 1)) (length image)
+    (λ row l. at row (cases_order (row / g.pages) n))
     ∙ ap (λ k. below g image test block n + k) (by (block n) refl)
   where
-    at : (row : ℕ) → (row / g.pages ≡ n) ⊎ ((row / g.pages < n) ⊎ (n < row / g.pages)) → one ((test row && block (row / g.pages)) && nat_lt (row / g.pages) (n + 1)) ≡ one ((test row && block (row / g.pages)) && nat_lt (row / g.pages) n) + one ((test row && (row / g.pages == n)) && block n)
+    at : (row : ℕ) → (row / g.pages ≡ n) ⊎ ((row / g.pages < n) ⊎ (n < row / g.pages))
+        → one ((test row && block (row / g.pages)) && nat_lt (row / g.pages) (n + 1)) ≡ one
+        ((test row && block (row / g.pages)) && nat_lt (row / g.pages) n) + one ((test row && (row / g.pages == n)) && block n)
     at row (inl same) =
-        let a : one ((test row && block (row / g.pages)) && nat_lt (row / g.pages) (n + 1)) ≡ one (test row && block n) = ap (λ b. one ((test row && block (row / g.pages)) && b)) (lt-ltb (row / g.pages) (n + 1) (omega arith)) ∙ (ap one (all_right (test row && block (row / g.pages))) ∙ ap (λ k. one (test row && block k)) same) in
+        let a : one ((test row && block (row / g.pages)) && nat_lt (row / g.pages) (n + 1)) ≡ one (test row && block n) = ap
+        (λ b. one ((test row && block (row / g.pages)) && b)) (lt-ltb (row / g.pages) (n + 1) (omega arith)) ∙
+        (ap one (all_right (test row && block (row / g.pages))) ∙ ap (λ k. one (test row && block k)) same) in
         let b : one ((test row && block (row / g.pages)) && nat_lt (row / g.pages) n) ≡ 0 = ap (λ b. one ((test row && block (row / g.pages)) && b)) (le-ltb (row / g.pages) n (omega arith)) ∙ ap one (no_right (test row && block (row / g.pages))) in
         let c : one ((test row && (row / g.pages == n)) && block n) ≡ one (test row && block n) = ap (λ b. one ((test row && b) && block n)) (eq-eqb (row / g.pages) n same) ∙ ap (λ b. one (b && block n)) (all_right (test row)) in
         omega arith
     at row (inr (inl less)) =
-        let a : one ((test row && block (row / g.pages)) && nat_lt (row / g.pages) (n + 1)) ≡ one (test row && block (row / g.pages)) = ap (λ b. one ((test row && block (row / g.pages)) && b)) (lt-ltb (row / g.pages) (n + 1) (omega arith)) ∙ ap one (all_right (test row && block (row / g.pages))) in
+        let a : one ((test row && block (row / g.pages)) && nat_lt (row / g.pages) (n + 1)) ≡ one (test row && block (row / g.pages)) = ap
+        (λ b. one ((test row && block (row / g.pages)) && b)) (lt-ltb (row / g.pages) (n + 1) (omega arith)) ∙ ap one
+        (all_right (test row && block (row / g.pages))) in
         let b : one ((test row && block (row / g.pages)) && nat_lt (row / g.pages) n) ≡ one (test row && block (row / g.pages)) = ap (λ b. one ((test row && block (row / g.pages)) && b)) (lt-ltb (row / g.pages) n less) ∙ ap one (all_right (test row && block (row / g.pages))) in
         let c : one ((test row && (row / g.pages == n)) && block n) ≡ 0 = ap (λ b. one ((test row && b) && block n)) (ne_eqb (row / g.pages) n (λ e. absurd (omega arith))) ∙ ap (λ b. one (b && block n)) (no_right (test row)) in
         omega arith
@@ -186,7 +194,9 @@ below_more g image test block n =
         omega arith
 
     by : (b : Bool) → block n ≡ b → upto (λ row. (test row && (row / g.pages == n)) && block n) (length image) ≡ cond (block n) (of_block g image test n) 0
-    by true e = upto_same (λ row. (test row && (row / g.pages == n)) && block n) (λ row. test row && (row / g.pages == n)) (length image) (λ row l. ap (λ b. (test row && (row / g.pages == n)) && b) e ∙ all_right (test row && (row / g.pages == n))) ∙ ap (λ b. cond b (of_block g image test n) 0) (sym e)
+    by true e = upto_same (λ row. (test row && (row / g.pages == n)) && block n) (λ row. test row && (row / g.pages == n)) (length image)
+        (λ row l. ap (λ b. (test row && (row / g.pages == n)) && b) e ∙ all_right (test row && (row / g.pages == n)))
+        ∙ ap (λ b. cond b (of_block g image test n) 0) (sym e)
     by false e = upto_none (λ row. (test row && (row / g.pages == n)) && block n) (length image) (λ row l. ap (λ b. (test row && (row / g.pages == n)) && b) e ∙ no_right (test row && (row / g.pages == n))) ∙ ap (λ b. cond b (of_block g image test n) 0) (sym e)
 
 below_none : (g : Geometry) (image : Image) (test block : ℕ → Bool) → below g image test block 0 ≡ 0
@@ -267,19 +277,44 @@ summed_more g image n unsound holes d new x h few is us hs e = subst (AreSummed 
         open_at f r a b = ap (λ y. not (y || is_rewritten g image n)) a ∙ ap (λ y. not (f || y)) b
 
         cases : (f r : Bool) → is_factory g image n ≡ f → is_rewritten g image n ≡ r
-            → below g image (is_unsound_at image) (λ b. not (is_excused g image b)) (n + 1) ≡ below g image (is_unsound_at image) (λ b. not (is_excused g image b)) n + cond (not (is_excused g image n)) (of_block g image (is_unsound_at image) n) 0 → below g image (is_hole g image) (λ b. not (is_excused g image b)) (n + 1) ≡ below g image (is_hole g image) (λ b. not (is_excused g image b)) n + cond (not (is_excused g image n)) (of_block g image (is_hole g image) n) 0
-            → below g image (is_unsound_at image) (is_factory g image) (n + 1) ≡ below g image (is_unsound_at image) (is_factory g image) n + cond (is_factory g image n) (of_block g image (is_unsound_at image) n) 0 → below g image (is_hole g image) (is_factory g image) (n + 1) ≡ below g image (is_hole g image) (is_factory g image) n + cond (is_factory g image n) (of_block g image (is_hole g image) n) 0
-            → below g image (is_unsound_at image) (is_rewritten g image) (n + 1) ≡ below g image (is_unsound_at image) (is_rewritten g image) n + cond (is_rewritten g image n) (of_block g image (is_unsound_at image) n) 0 → below g image (is_hole g image) (is_rewritten g image) (n + 1) ≡ below g image (is_hole g image) (is_rewritten g image) n + cond (is_rewritten g image n) (of_block g image (is_hole g image) n) 0
-            → below g image (is_unsound_at image) (λ b. not (is_excused g image b)) (n + 1) ≤ length image → below g image (is_hole g image) (λ b. not (is_excused g image b)) (n + 1) ≤ length image → below g image (is_unsound_at image) (is_factory g image) (n + 1) ≤ length image → below g image (is_hole g image) (is_factory g image) (n + 1) ≤ length image → below g image (is_unsound_at image) (is_rewritten g image) (n + 1) ≤ length image → below g image (is_hole g image) (is_rewritten g image) (n + 1) ≤ length image
+            → below g image (is_unsound_at image) (λ b. not (is_excused g image b)) (n + 1) ≡ below g image (is_unsound_at image)
+            (λ b. not (is_excused g image b)) n + cond (not (is_excused g image n)) (of_block g image (is_unsound_at image) n) 0
+            → below g image (is_hole g image) (λ b. not (is_excused g image b)) (n + 1) ≡ below g image (is_hole g image)
+            (λ b. not (is_excused g image b)) n + cond (not (is_excused g image n)) (of_block g image (is_hole g image) n) 0
+            → below g image (is_unsound_at image) (is_factory g image) (n + 1) ≡ below g image (is_unsound_at image) (is_factory g image) n + cond
+            (is_factory g image n) (of_block g image (is_unsound_at image) n) 0
+            → below g image (is_hole g image) (is_factory g image) (n + 1) ≡ below g image (is_hole g image) (is_factory g image) n + cond
+            (is_factory g image n) (of_block g image (is_hole g image) n) 0
+            → below g image (is_unsound_at image) (is_rewritten g image) (n + 1) ≡ below g image (is_unsound_at image) (is_rewritten g image) n + cond
+            (is_rewritten g image n) (of_block g image (is_unsound_at image) n) 0
+            → below g image (is_hole g image) (is_rewritten g image) (n + 1) ≡ below g image (is_hole g image) (is_rewritten g image) n + cond
+            (is_rewritten g image n) (of_block g image (is_hole g image) n) 0
+            → below g image (is_unsound_at image) (λ b. not (is_excused g image b)) (n + 1) ≤ length image
+            → below g image (is_hole g image) (λ b. not (is_excused g image b)) (n + 1) ≤ length image
+            → below g image (is_unsound_at image) (is_factory g image) (n + 1) ≤ length image
+            → below g image (is_hole g image) (is_factory g image) (n + 1) ≤ length image
+            → below g image (is_unsound_at image) (is_rewritten g image) (n + 1) ≤ length image
+            → below g image (is_hole g image) (is_rewritten g image) (n + 1) ≤ length image
             → AreSummed g image (n + 1) (added d (cond (is_factory g image n) Factory (cond (is_rewritten g image n) Rewritten Open)) unsound holes)
         cases true r is_f is_r uo ho uf hf ur hr b1 b2 b3 b4 b5 b6 =
             let none : is_rewritten g image n ≡ false = factory_alone g image n is_f in
             let o : not (is_excused g image n) ≡ false = open_at true (is_rewritten g image n) is_f refl in
-            let uo' : below g image (is_unsound_at image) (λ b. not (is_excused g image b)) (n + 1) ≡ below g image (is_unsound_at image) (λ b. not (is_excused g image b)) n + 0 = uo ∙ ap (λ y. below g image (is_unsound_at image) (λ b. not (is_excused g image b)) n + cond y (of_block g image (is_unsound_at image) n) 0) o in
-            let ho' : below g image (is_hole g image) (λ b. not (is_excused g image b)) (n + 1) ≡ below g image (is_hole g image) (λ b. not (is_excused g image b)) n + 0 = ho ∙ ap (λ y. below g image (is_hole g image) (λ b. not (is_excused g image b)) n + cond y (of_block g image (is_hole g image) n) 0) o in
-            let uf' : below g image (is_unsound_at image) (is_factory g image) (n + 1) ≡ below g image (is_unsound_at image) (is_factory g image) n + of_block g image (is_unsound_at image) n = uf ∙ ap (λ y. below g image (is_unsound_at image) (is_factory g image) n + cond y (of_block g image (is_unsound_at image) n) 0) is_f in
-            let hf' : below g image (is_hole g image) (is_factory g image) (n + 1) ≡ below g image (is_hole g image) (is_factory g image) n + of_block g image (is_hole g image) n = hf ∙ ap (λ y. below g image (is_hole g image) (is_factory g image) n + cond y (of_block g image (is_hole g image) n) 0) is_f in
-            let ur' : below g image (is_unsound_at image) (is_rewritten g image) (n + 1) ≡ below g image (is_unsound_at image) (is_rewritten g image) n + 0 = ur ∙ ap (λ y. below g image (is_unsound_at image) (is_rewritten g image) n + cond y (of_block g image (is_unsound_at image) n) 0) none in
+            let uo' : below g image (is_unsound_at image) (λ b. not (is_excused g image b)) (n + 1) ≡ below g image (is_unsound_at image)
+            (λ b. not (is_excused g image b)) n + 0 = uo ∙ ap
+            (λ y. below g image (is_unsound_at image) (λ b. not (is_excused g image b)) n + cond y (of_block g image (is_unsound_at image) n) 0) o
+            in
+            let ho' : below g image (is_hole g image) (λ b. not (is_excused g image b)) (n + 1) ≡ below g image (is_hole g image)
+            (λ b. not (is_excused g image b)) n + 0 = ho ∙ ap
+            (λ y. below g image (is_hole g image) (λ b. not (is_excused g image b)) n + cond y (of_block g image (is_hole g image) n) 0) o in
+            let uf' : below g image (is_unsound_at image) (is_factory g image) (n + 1) ≡ below g image (is_unsound_at image) (is_factory g image) n +
+            of_block g image (is_unsound_at image) n = uf ∙ ap
+            (λ y. below g image (is_unsound_at image) (is_factory g image) n + cond y (of_block g image (is_unsound_at image) n) 0) is_f in
+            let hf' : below g image (is_hole g image) (is_factory g image) (n + 1) ≡ below g image (is_hole g image) (is_factory g image) n + of_block
+            g image (is_hole g image) n = hf ∙ ap
+            (λ y. below g image (is_hole g image) (is_factory g image) n + cond y (of_block g image (is_hole g image) n) 0) is_f in
+            let ur' : below g image (is_unsound_at image) (is_rewritten g image) (n + 1) ≡ below g image (is_unsound_at image) (is_rewritten g image)
+            n + 0 = ur ∙ ap
+            (λ y. below g image (is_unsound_at image) (is_rewritten g image) n + cond y (of_block g image (is_unsound_at image) n) 0) none in
             let hr' : below g image (is_hole g image) (is_rewritten g image) (n + 1) ≡ below g image (is_hole g image) (is_rewritten g image) n + 0 = hr ∙ ap (λ y. below g image (is_hole g image) (is_rewritten g image) n + cond y (of_block g image (is_hole g image) n) 0) none in
             let u0 = h.unsound_is in
             let h0 = h.holes_is in
@@ -294,12 +329,23 @@ summed_more g image n unsound holes d new x h few is us hs e = subst (AreSummed 
             })
         cases false true is_f is_r uo ho uf hf ur hr b1 b2 b3 b4 b5 b6 =
             let o : not (is_excused g image n) ≡ false = open_at false true is_f is_r in
-            let uo' : below g image (is_unsound_at image) (λ b. not (is_excused g image b)) (n + 1) ≡ below g image (is_unsound_at image) (λ b. not (is_excused g image b)) n + 0 = uo ∙ ap (λ y. below g image (is_unsound_at image) (λ b. not (is_excused g image b)) n + cond y (of_block g image (is_unsound_at image) n) 0) o in
-            let ho' : below g image (is_hole g image) (λ b. not (is_excused g image b)) (n + 1) ≡ below g image (is_hole g image) (λ b. not (is_excused g image b)) n + 0 = ho ∙ ap (λ y. below g image (is_hole g image) (λ b. not (is_excused g image b)) n + cond y (of_block g image (is_hole g image) n) 0) o in
-            let uf' : below g image (is_unsound_at image) (is_factory g image) (n + 1) ≡ below g image (is_unsound_at image) (is_factory g image) n + 0 = uf ∙ ap (λ y. below g image (is_unsound_at image) (is_factory g image) n + cond y (of_block g image (is_unsound_at image) n) 0) is_f in
+            let uo' : below g image (is_unsound_at image) (λ b. not (is_excused g image b)) (n + 1) ≡ below g image (is_unsound_at image)
+            (λ b. not (is_excused g image b)) n + 0 = uo ∙ ap
+            (λ y. below g image (is_unsound_at image) (λ b. not (is_excused g image b)) n + cond y (of_block g image (is_unsound_at image) n) 0) o
+            in
+            let ho' : below g image (is_hole g image) (λ b. not (is_excused g image b)) (n + 1) ≡ below g image (is_hole g image)
+            (λ b. not (is_excused g image b)) n + 0 = ho ∙ ap
+            (λ y. below g image (is_hole g image) (λ b. not (is_excused g image b)) n + cond y (of_block g image (is_hole g image) n) 0) o in
+            let uf' : below g image (is_unsound_at image) (is_factory g image) (n + 1) ≡ below g image (is_unsound_at image) (is_factory g image) n +
+            0 = uf ∙ ap (λ y. below g image (is_unsound_at image) (is_factory g image) n + cond y (of_block g image (is_unsound_at image) n) 0)
+            is_f in
             let hf' : below g image (is_hole g image) (is_factory g image) (n + 1) ≡ below g image (is_hole g image) (is_factory g image) n + 0 = hf ∙ ap (λ y. below g image (is_hole g image) (is_factory g image) n + cond y (of_block g image (is_hole g image) n) 0) is_f in
-            let ur' : below g image (is_unsound_at image) (is_rewritten g image) (n + 1) ≡ below g image (is_unsound_at image) (is_rewritten g image) n + of_block g image (is_unsound_at image) n = ur ∙ ap (λ y. below g image (is_unsound_at image) (is_rewritten g image) n + cond y (of_block g image (is_unsound_at image) n) 0) is_r in
-            let hr' : below g image (is_hole g image) (is_rewritten g image) (n + 1) ≡ below g image (is_hole g image) (is_rewritten g image) n + of_block g image (is_hole g image) n = hr ∙ ap (λ y. below g image (is_hole g image) (is_rewritten g image) n + cond y (of_block g image (is_hole g image) n) 0) is_r in
+            let ur' : below g image (is_unsound_at image) (is_rewritten g image) (n + 1) ≡ below g image (is_unsound_at image) (is_rewritten g image)
+            n + of_block g image (is_unsound_at image) n = ur ∙ ap
+            (λ y. below g image (is_unsound_at image) (is_rewritten g image) n + cond y (of_block g image (is_unsound_at image) n) 0) is_r in
+            let hr' : below g image (is_hole g image) (is_rewritten g image) (n + 1) ≡ below g image (is_hole g image) (is_rewritten g image) n +
+            of_block g image (is_hole g image) n = hr ∙ ap
+            (λ y. below g image (is_hole g image) (is_rewritten g image) n + cond y (of_block g image (is_hole g image) n) 0) is_r in
             let u0 = h.unsound_is in
             let h0 = h.holes_is in
             let f0 = h.factory_is in
@@ -314,11 +360,20 @@ summed_more g image n unsound holes d new x h few is us hs e = subst (AreSummed 
             }))
         cases false false is_f is_r uo ho uf hf ur hr b1 b2 b3 b4 b5 b6 =
             let o : not (is_excused g image n) ≡ true = open_at false false is_f is_r in
-            let uo' : below g image (is_unsound_at image) (λ b. not (is_excused g image b)) (n + 1) ≡ below g image (is_unsound_at image) (λ b. not (is_excused g image b)) n + of_block g image (is_unsound_at image) n = uo ∙ ap (λ y. below g image (is_unsound_at image) (λ b. not (is_excused g image b)) n + cond y (of_block g image (is_unsound_at image) n) 0) o in
-            let ho' : below g image (is_hole g image) (λ b. not (is_excused g image b)) (n + 1) ≡ below g image (is_hole g image) (λ b. not (is_excused g image b)) n + of_block g image (is_hole g image) n = ho ∙ ap (λ y. below g image (is_hole g image) (λ b. not (is_excused g image b)) n + cond y (of_block g image (is_hole g image) n) 0) o in
-            let uf' : below g image (is_unsound_at image) (is_factory g image) (n + 1) ≡ below g image (is_unsound_at image) (is_factory g image) n + 0 = uf ∙ ap (λ y. below g image (is_unsound_at image) (is_factory g image) n + cond y (of_block g image (is_unsound_at image) n) 0) is_f in
+            let uo' : below g image (is_unsound_at image) (λ b. not (is_excused g image b)) (n + 1) ≡ below g image (is_unsound_at image)
+            (λ b. not (is_excused g image b)) n + of_block g image (is_unsound_at image) n = uo ∙ ap
+            (λ y. below g image (is_unsound_at image) (λ b. not (is_excused g image b)) n + cond y (of_block g image (is_unsound_at image) n) 0) o
+            in
+            let ho' : below g image (is_hole g image) (λ b. not (is_excused g image b)) (n + 1) ≡ below g image (is_hole g image)
+            (λ b. not (is_excused g image b)) n + of_block g image (is_hole g image) n = ho ∙ ap
+            (λ y. below g image (is_hole g image) (λ b. not (is_excused g image b)) n + cond y (of_block g image (is_hole g image) n) 0) o in
+            let uf' : below g image (is_unsound_at image) (is_factory g image) (n + 1) ≡ below g image (is_unsound_at image) (is_factory g image) n +
+            0 = uf ∙ ap (λ y. below g image (is_unsound_at image) (is_factory g image) n + cond y (of_block g image (is_unsound_at image) n) 0)
+            is_f in
             let hf' : below g image (is_hole g image) (is_factory g image) (n + 1) ≡ below g image (is_hole g image) (is_factory g image) n + 0 = hf ∙ ap (λ y. below g image (is_hole g image) (is_factory g image) n + cond y (of_block g image (is_hole g image) n) 0) is_f in
-            let ur' : below g image (is_unsound_at image) (is_rewritten g image) (n + 1) ≡ below g image (is_unsound_at image) (is_rewritten g image) n + 0 = ur ∙ ap (λ y. below g image (is_unsound_at image) (is_rewritten g image) n + cond y (of_block g image (is_unsound_at image) n) 0) is_r in
+            let ur' : below g image (is_unsound_at image) (is_rewritten g image) (n + 1) ≡ below g image (is_unsound_at image) (is_rewritten g image)
+            n + 0 = ur ∙ ap
+            (λ y. below g image (is_unsound_at image) (is_rewritten g image) n + cond y (of_block g image (is_unsound_at image) n) 0) is_r in
             let hr' : below g image (is_hole g image) (is_rewritten g image) (n + 1) ≡ below g image (is_hole g image) (is_rewritten g image) n + 0 = hr ∙ ap (λ y. below g image (is_hole g image) (is_rewritten g image) n + cond y (of_block g image (is_hole g image) n) 0) is_r in
             let u0 = h.unsound_is in
             let h0 = h.holes_is in
@@ -364,7 +419,9 @@ pub outside_are : (g : Geometry) (image : Image) (d : Doubting) → length image
 outside_are g image d size h = h.outside_is ∙ ap (count_by (λ p. is_outside g (record_of p))) (ap (λ n. take n image) (sym size) ∙ take-length image)
 
 -- why a block leaves nothing open, by what was seen
-pub excuse_seen : (g : Geometry) (image : Image) (dt : Doubting) (plain : Bool) (n class : ℕ) (kept : Bool) (x : Excuse) → IsSeen g image dt plain → n < g.blocks → class ≡ table_class g image n → kept ≡ get_or dt.kept.items n false → x ≡ excuse_by class plain kept → x ≡ excuse_of g image n
+pub excuse_seen : (g : Geometry) (image : Image) (dt : Doubting) (plain : Bool) (n class : ℕ) (kept : Bool) (x : Excuse) → IsSeen g image dt plain
+    → n < g.blocks → class ≡ table_class g image n → kept ≡ get_or dt.kept.items n false → x ≡ excuse_by class plain kept
+    → x ≡ excuse_of g image n
 excuse_seen g image dt plain n class kept x h within class_is kept_is x_is = excuse_is g image n class plain kept x x_is class_is h.plain_is (kept_is ∙ h.kept_is n within)
 
 -- all was seen, and summed up
@@ -438,7 +495,9 @@ once_law g image d is = rw is (
     omega arith)
   where
     pairs : (test : ℕ → Bool) → upto (λ row. test row && not (is_rewritten g image (row / g.pages))) (length image) ≡ upto (λ row. test row && not (is_excused g image (row / g.pages))) (length image) + upto (λ row. test row && is_factory g image (row / g.pages)) (length image)
-    pairs test = upto_sum (λ row. test row && not (is_excused g image (row / g.pages))) (λ row. test row && is_factory g image (row / g.pages)) (λ row. test row && not (is_rewritten g image (row / g.pages))) (length image) (λ row l. two (test row) (is_factory g image (row / g.pages)) (is_rewritten g image (row / g.pages)) (factory_alone g image (row / g.pages)))
+    pairs test = upto_sum (λ row. test row && not (is_excused g image (row / g.pages))) (λ row. test row && is_factory g image (row / g.pages))
+        (λ row. test row && not (is_rewritten g image (row / g.pages))) (length image)
+        (λ row l. two (test row) (is_factory g image (row / g.pages)) (is_rewritten g image (row / g.pages)) (factory_alone g image (row / g.pages)))
       where
         two : (t f r : Bool) → (f ≡ true → r ≡ false) → one (t && not r) ≡ one (t && not (f || r)) + one (t && f)
         two true true true e = absurd (true≢false (e refl))
@@ -455,5 +514,8 @@ once_law g image d is = rw is (
         either true false = refl
         either false r = refl
 
-    three : (test : ℕ → Bool) → upto test (length image) ≡ upto (λ row. test row && not (is_excused g image (row / g.pages))) (length image) + upto (λ row. test row && is_factory g image (row / g.pages)) (length image) + upto (λ row. test row && is_rewritten g image (row / g.pages)) (length image)
+    three : (test : ℕ → Bool)
+        → upto test (length image) ≡ upto (λ row. test row && not (is_excused g image (row / g.pages))) (length image) + upto
+        (λ row. test row && is_factory g image (row / g.pages)) (length image) + upto (λ row. test row && is_rewritten g image (row / g.pages))
+        (length image)
     three test = let a = pairs test in let b = rest test in omega arith

@@ -127,7 +127,9 @@ unsound_none g image row p items h is e = record {
   at = λ b l. h.at b l ∙ sym (below_same g image row b (ap (λ t. (row / g.pages == b) && t) (at_row image row p false is e) ∙ no_right (row / g.pages == b)));
 }
 
-pub unsound_set : (g : Geometry) (image : Image) (row b d new : ℕ) (p : Page) (items : List ℕ) → HasUnsound g image row items → slice_get image row ≡ Some p → is_broken p ≡ true → b ≡ row / g.pages → b < g.blocks → new ≡ get_or items b d + 1 → HasUnsound g image (row + 1) (set items b new)
+pub unsound_set : (g : Geometry) (image : Image) (row b d new : ℕ) (p : Page) (items : List ℕ) → HasUnsound g image row items
+    → slice_get image row ≡ Some p → is_broken p ≡ true → b ≡ row / g.pages → b < g.blocks → new ≡ get_or items b d + 1
+    → HasUnsound g image (row + 1) (set items b new)
 unsound_set g image row b d new p items h is e block within more =
     let in_items : b < length items = omega (arith, h.size) in
     record {
@@ -175,7 +177,9 @@ kind_one kind.Trim = refl
 kind_one kind.Translation = refl
 kind_one kind.Table = refl
 
-sort_one : (found : Option Record) (erased : Bool) → (erased ≡ true → found ≡ None) → one (is_of_kind kind.Sector found) + one (is_of_kind kind.Trim found) + one (is_of_kind kind.Translation found) + one (is_of_kind kind.Table found) + one erased + one (not erased && not (is_some found)) ≡ 1
+sort_one : (found : Option Record) (erased : Bool) → (erased ≡ true → found ≡ None)
+    → one (is_of_kind kind.Sector found) + one (is_of_kind kind.Trim found) + one (is_of_kind kind.Translation found) + one
+    (is_of_kind kind.Table found) + one erased + one (not erased && not (is_some found)) ≡ 1
 sort_one None true h = refl
 sort_one None false h = refl
 sort_one (Some r) true h = absurd (let clash : Some r ≡ None = h refl in cc)
@@ -185,7 +189,10 @@ pub sorts : SortsLaw
 unfolding page_counts_of
 sorts g image c e = rw e (sum image)
   where
-    sum : (ps : List Page) → count_by (λ p. is_of_kind kind.Sector (record_of p)) ps + count_by (λ p. is_of_kind kind.Trim (record_of p)) ps + count_by (λ p. is_of_kind kind.Translation (record_of p)) ps + count_by (λ p. is_of_kind kind.Table (record_of p)) ps + count_by is_erased_page ps + count_by is_broken ps ≡ length ps
+    sum : (ps : List Page)
+        → count_by (λ p. is_of_kind kind.Sector (record_of p)) ps + count_by (λ p. is_of_kind kind.Trim (record_of p)) ps + count_by
+        (λ p. is_of_kind kind.Translation (record_of p)) ps + count_by (λ p. is_of_kind kind.Table (record_of p)) ps + count_by is_erased_page ps
+        + count_by is_broken ps ≡ length ps
     sum [] = refl
     sum (p ∷ ps) =
         let rest = sum ps in

@@ -37,7 +37,9 @@ use Rattle.lab_dump.proofs.TraceLemmas.{tells_state}
 abbrev pub Says : Geometry → Image → ℕ → ℕ → Bool → Type 0
 Says g image u row is = (is ≡ true) ↔ IsWellFormed (entries g) g.blocks u (body_at image row)
 
-stays_other : (g : Geometry) (image : Image) (row u q : ℕ) (formed : List Bool) → HasFormed g image row formed → sequence_at (marks image) (Table u) row ≡ None → u < table_pages g → place_of (latest_below (marks image) (Table u) (row + 1)) ≡ Some q → Says g image u q (get_or formed u false)
+stays_other : (g : Geometry) (image : Image) (row u q : ℕ) (formed : List Bool) → HasFormed g image row formed
+    → sequence_at (marks image) (Table u) row ≡ None → u < table_pages g → place_of (latest_below (marks image) (Table u) (row + 1)) ≡ Some q
+    → Says g image u q (get_or formed u false)
 stays_other g image row u q formed h none ku e = h.at u q ku (ap place_of (sym (latest_other (marks image) (Table u) row none)) ∙ e)
 
 -- the page isn't sound, or it is of another kind or out of range
@@ -45,7 +47,9 @@ pub formed_stays : (g : Geometry) (image : Image) (row : ℕ) (formed : List Boo
 formed_stays g image row formed h none = record { size = h.size; at = λ u q ku e. stays_other g image row u q formed h (none u ku) ku e }
 
 -- the page is of table page v, and isn't its newest
-pub formed_old : (g : Geometry) (image : Image) (row v : ℕ) (formed : List Bool) → HasFormed g image row formed → ((u : ℕ) → u ≢ v → sequence_at (marks image) (Table u) row ≡ None) → place_of (latest_below (marks image) (Table v) (row + 1)) ≢ Some row → HasFormed g image (row + 1) formed
+pub formed_old : (g : Geometry) (image : Image) (row v : ℕ) (formed : List Bool) → HasFormed g image row formed
+    → ((u : ℕ) → u ≢ v → sequence_at (marks image) (Table u) row ≡ None) → place_of (latest_below (marks image) (Table v) (row + 1)) ≢ Some row
+    → HasFormed g image (row + 1) formed
 formed_old g image row v formed h none older = record {
   size = h.size;
   at = λ u q ku e. elim (cases_eq u v) [
@@ -60,7 +64,8 @@ formed_old g image row v formed h none older = record {
 }
 
 -- the page is the newest of table page v
-pub formed_new : (g : Geometry) (image : Image) (row v : ℕ) (formed : List Bool) (is : Bool) → HasFormed g image row formed → v < table_pages g → ((u : ℕ) → u ≢ v → sequence_at (marks image) (Table u) row ≡ None) → place_of (latest_below (marks image) (Table v) (row + 1)) ≡ Some row
+pub formed_new : (g : Geometry) (image : Image) (row v : ℕ) (formed : List Bool) (is : Bool) → HasFormed g image row formed → v < table_pages g
+    → ((u : ℕ) → u ≢ v → sequence_at (marks image) (Table u) row ≡ None) → place_of (latest_below (marks image) (Table v) (row + 1)) ≡ Some row
     → Says g image v row is → HasFormed g image (row + 1) (set formed v is)
 formed_new g image row v formed is h kv none newest says =
     let in_items : v < length formed = omega (arith, h.size) in
@@ -140,7 +145,9 @@ place_found image key e = by (latest_below (marks image) key (length image)) ref
     by (Once q s) is p = record { row = q; newest_is = latest-newest (marks image) key ∙ ap place_of (ap (latest_below (marks image) key) (length-marks image) ∙ is) }
     by (Tied a b s) is p = absurd cc
 
-pub formed_all : (g : Geometry) (image : Image) (formed : List Bool) → length image ≡ row_count g → HasFormed g image (row_count g) formed → (u : ℕ) → u < table_pages g → key_state image (Table u) ≡ Found → (get_or formed u false ≡ true) ↔ IsWellFormed (entries g) g.blocks u (table_body image u)
+pub formed_all : (g : Geometry) (image : Image) (formed : List Bool) → length image ≡ row_count g → HasFormed g image (row_count g) formed → (u : ℕ)
+    → u < table_pages g → key_state image (Table u) ≡ Found
+    → (get_or formed u false ≡ true) ↔ IsWellFormed (entries g) g.blocks u (table_body image u)
 formed_all g image formed whole h u within found =
     let at = place_found image (Table u) found in
     let latest : place_of (latest_below (marks image) (Table u) (row_count g)) ≡ Some at.row = ap (λ n. place_of (latest_below (marks image) (Table u) n)) (sym (length-marks image ∙ whole)) ∙ (sym (latest-newest (marks image) (Table u)) ∙ at.newest_is) in

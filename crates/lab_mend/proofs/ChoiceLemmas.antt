@@ -244,7 +244,9 @@ majority_means : (g : Geometry) (ps : List Page) → NoneSound ps → OriginMean
 unfolding by_majority
 majority_means g ps none = by (nat_le 3 (length ps) && is_sound (majority g ps)) refl
   where
-    by : (b : Bool) → (nat_le 3 (length ps) && is_sound (majority g ps)) ≡ b → OriginMeans g ps (cond b (chosen (majority g ps) Majority) (by_programmed g ps (filter is_programmed ps))).its (cond b (chosen (majority g ps) Majority) (by_programmed g ps (filter is_programmed ps))).origin
+    by : (b : Bool) → (nat_le 3 (length ps) && is_sound (majority g ps)) ≡ b
+        → OriginMeans g ps (cond b (chosen (majority g ps) Majority) (by_programmed g ps (filter is_programmed ps))).its
+        (cond b (chosen (majority g ps) Majority) (by_programmed g ps (filter is_programmed ps))).origin
     by true is =
         let both = and_parts (nat_le 3 (length ps)) (is_sound (majority g ps)) is in
         (none, leb-true 3 (length ps) both.0, refl, both.1)

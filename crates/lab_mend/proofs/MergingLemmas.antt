@@ -23,7 +23,31 @@ use Rattle.lab_mend.specs.Majority.{majority}
 use Rattle.lab_mend.specs.Trial.{bits_apart, with_turned, is_tried}
 use Rattle.lab_mend.specs.Choice.{Choice, is_same, zero_page, chosen, by_found, by_turns, by_trial, by_programmed, by_majority, by_sound, choice}
 use Rattle.lab_mend.specs.Found.{WritesChoice}
-use Rattle.lab_mend.specs.Merging.{named, counted, origin_place, is_from, is_turned, with_unsound, as_tried, tried_row, with_tried, conflicts_below, unsound_below, tried_below, tally_below, piece_of, Shows, AreOwn, AreListed, AreTried, AreFew, HasRoom, HasTriedRoom, MergingStands}
+use
+    Rattle.lab_mend.specs.Merging.{
+      named,
+      counted,
+      origin_place,
+      is_from,
+      is_turned,
+      with_unsound,
+      as_tried,
+      tried_row,
+      with_tried,
+      conflicts_below,
+      unsound_below,
+      tried_below,
+      tally_below,
+      piece_of,
+      Shows,
+      AreOwn,
+      AreListed,
+      AreTried,
+      AreFew,
+      HasRoom,
+      HasTriedRoom,
+      MergingStands,
+    }
 use Rattle.lab_mend.proofs.MajorityLemmas.{range_more}
 
 -- ---- the rows that are named

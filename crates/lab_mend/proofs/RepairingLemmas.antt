@@ -99,7 +99,9 @@ listed_noted ms row (Some k) h =
       rising = all_pairs_push (λ (a b : Mend). a.row < b.row) ms m h.rising h.within;
     }
 
-pub own_noted : (g : Geometry) (asked : RepairAsked) (row : ℕ) (ms : List Mend) (o : Option Turn) (piece : List ℕ) (ps : List (List ℕ)) → row < row_count g → AreListed row ms → IsOwn g asked row o piece → AreOwn g asked row ms ps → AreOwn g asked (row + 1) (noted ms row o) (set ps row piece)
+pub own_noted : (g : Geometry) (asked : RepairAsked) (row : ℕ) (ms : List Mend) (o : Option Turn) (piece : List ℕ) (ps : List (List ℕ))
+    → row < row_count g → AreListed row ms → IsOwn g asked row o piece → AreOwn g asked row ms ps
+    → AreOwn g asked (row + 1) (noted ms row o) (set ps row piece)
 own_noted g asked row ms o piece ps within listed own h = record {
   size = length-set ps row piece ∙ h.size;
   each = λ j l. elim (cases_eq row j) [

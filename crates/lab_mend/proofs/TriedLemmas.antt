@@ -246,7 +246,9 @@ tried_many p bits many =
     ap (λ b. cond b (by_turns p bits (range_with_len 1 (length bits))) (chosen p Unsound)) (and_right (nat_le 1 (length bits)) (nat_le (length bits) 16) (lt-leb (length bits) 16 many))
 
 -- the first of the pages at these places, and all of them
-pub programmed_first : (g : Geometry) (bytes places : List ℕ) (pages programmed : List Page) → 0 < length places → pages_at g bytes places ≡ programmed → by_programmed g pages programmed ≡ by_trial (first_at g bytes places) (bits_apart (first_at g bytes places) (pages_at g bytes places))
+pub programmed_first : (g : Geometry) (bytes places : List ℕ) (pages programmed : List Page) → 0 < length places
+    → pages_at g bytes places ≡ programmed
+    → by_programmed g pages programmed ≡ by_trial (first_at g bytes places) (bits_apart (first_at g bytes places) (pages_at g bytes places))
 programmed_first g bytes [] pages programmed some are = absurd (omega arith)
 programmed_first g bytes (x ∷ xs) pages programmed some are = ap (by_programmed g pages) (sym are)
 

@@ -162,7 +162,12 @@ uncut_words a tried other =
     (built_first spares _ a.header a.tail a.spares a.spare_first
     (built_spares before _ a.header a.tail a.spares (built_around a.header a.tail tried.around))))) in
     let is : made a.header a.tail a.spares a.spare_first a.swapped a.inverted a.planes ≡ a = same_whole a tried.whole in
-    said planes words a (subst (Built planes words) is (subst (λ t. Built planes t (made a.header a.tail a.spares a.spare_first a.swapped a.inverted a.planes)) (together (around_words a.header a.tail) (spares_words before a.spares) (flag_words spares a.spare_first (codes "spare-first")) (flag_words first a.swapped (codes "swapped")) (flag_words swapped a.inverted (codes "inverted")) (flag_words inverted a.planes (codes "planes=2"))) built)) other
+    said planes words a
+    (subst (Built planes words) is
+    (subst (λ t. Built planes t (made a.header a.tail a.spares a.spare_first a.swapped a.inverted a.planes))
+    (together (around_words a.header a.tail) (spares_words before a.spares) (flag_words spares a.spare_first (codes "spare-first"))
+    (flag_words first a.swapped (codes "swapped")) (flag_words swapped a.inverted (codes "inverted"))
+    (flag_words inverted a.planes (codes "planes=2"))) built)) other
   where
     same_whole : (b : Arrangement) → b.cut ≡ None → made b.header b.tail b.spares b.spare_first b.swapped b.inverted b.planes ≡ b
     same_whole b e = ap (λ c. record { header = b.header; tail = b.tail; cut = c; spares = b.spares; spare_first = b.spare_first; swapped = b.swapped; inverted = b.inverted; planes = b.planes }) (sym e)

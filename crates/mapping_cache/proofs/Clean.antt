@@ -77,7 +77,9 @@ module _ (first i : ℕ) where
   pub clean_missing : (es : List (ℕ × Slot)) → lookup (eqb (first + i)) (map (clean_between first i) es) ≡ None → map (clean_between first (i + 1)) es ≡ map (clean_between first i) es
   clean_missing es h = clean_apart es (passes_from_map _ first i es (none_passes_from_lookup _ _ h))
 
-  pub clean_found : (es : List (ℕ × Slot)) (s : Slot) → IsDistinct eqb (keys_of es) → lookup (eqb (first + i)) (map (clean_between first i) es) ≡ Some s → map (clean_between first (i + 1)) es ≡ set_value (eqb (first + i)) (map (clean_between first i) es) (record { row = s.row; dirty = false })
+  pub clean_found : (es : List (ℕ × Slot)) (s : Slot) → IsDistinct eqb (keys_of es)
+      → lookup (eqb (first + i)) (map (clean_between first i) es) ≡ Some s
+      → map (clean_between first (i + 1)) es ≡ set_value (eqb (first + i)) (map (clean_between first i) es) (record { row = s.row; dirty = false })
   clean_found [] s d h = cc
   clean_found (e ∷ es) s d h = by_test (eqb (first + i) e.0)
       (λ y.

@@ -22,7 +22,9 @@ use Rattle.mapping_cache.proofs.Clean.{passes_from_keys, of_page_at, in_page_at}
 use Rattle.mapping_cache.proofs.Steps.{pending-at, known-pending}
 
 -- ---- one row goes into its entry: g has the entries after f
-pub row_written : (per_page t s : ℕ) (row : Option ℕ) (left : List (ℕ × Option ℕ)) (f g : ℕ → Option ℕ) → AreRowsOf per_page t ((s, row) ∷ left) → g (s % per_page) ≡ row → ((k : ℕ) → k ≢ s % per_page → g k ≡ f k) → (i : ℕ) → i < per_page → unwrap_or (lookup (eqb (t * per_page + i)) left) (g i) ≡ unwrap_or (lookup (eqb (t * per_page + i)) ((s, row) ∷ left)) (f i)
+pub row_written : (per_page t s : ℕ) (row : Option ℕ) (left : List (ℕ × Option ℕ)) (f g : ℕ → Option ℕ) → AreRowsOf per_page t ((s, row) ∷ left)
+    → g (s % per_page) ≡ row → ((k : ℕ) → k ≢ s % per_page → g k ≡ f k) → (i : ℕ) → i < per_page
+    → unwrap_or (lookup (eqb (t * per_page + i)) left) (g i) ≡ unwrap_or (lookup (eqb (t * per_page + i)) ((s, row) ∷ left)) (f i)
 row_written per_page t s row left f g rows here others i within =
     by_test (eqb (t * per_page + i) s)
     (λ y.
@@ -133,11 +135,17 @@ module _ (es : List (ℕ × Slot)) where
       let ih = lookup-dirty_from n (first + 1) count (omega arith) (omega arith) in
       away f ih (option_and_then dirty_row (lookup (eqb first) es)))
     where
-      here : n ≡ first → lookup (eqb n) (dirty_from es (first + 1) count) ≡ None → (o : Option (Option ℕ)) → option_and_then dirty_row (lookup (eqb first) es) ≡ o → lookup (eqb n) (cons_option (option_map (λ row. (first, row)) o) (dirty_from es (first + 1) count)) ≡ option_and_then dirty_row (lookup (eqb n) es)
+      here : n ≡ first → lookup (eqb n) (dirty_from es (first + 1) count) ≡ None → (o : Option (Option ℕ))
+          → option_and_then dirty_row (lookup (eqb first) es) ≡ o
+          → lookup (eqb n) (cons_option (option_map (λ row. (first, row)) o) (dirty_from es (first + 1) count)) ≡ option_and_then dirty_row
+          (lookup (eqb n) es)
       here same gone None e = gone ∙ sym (ap (λ k. option_and_then dirty_row (lookup (eqb k) es)) same ∙ e)
       here same gone (Some row) e = cond-true _ _ _ (eq-eqb n first same) ∙ sym (ap (λ k. option_and_then dirty_row (lookup (eqb k) es)) same ∙ e)
 
-      away : eqb n first ≡ false → lookup (eqb n) (dirty_from es (first + 1) count) ≡ option_and_then dirty_row (lookup (eqb n) es) → (o : Option (Option ℕ)) → lookup (eqb n) (cons_option (option_map (λ row. (first, row)) o) (dirty_from es (first + 1) count)) ≡ option_and_then dirty_row (lookup (eqb n) es)
+      away : eqb n first ≡ false → lookup (eqb n) (dirty_from es (first + 1) count) ≡ option_and_then dirty_row (lookup (eqb n) es)
+          → (o : Option (Option ℕ))
+          → lookup (eqb n) (cons_option (option_map (λ row. (first, row)) o) (dirty_from es (first + 1) count)) ≡ option_and_then dirty_row
+          (lookup (eqb n) es)
       away f ih None = ih
       away f ih (Some row) = cond-false _ _ _ f ∙ ih
 
@@ -223,7 +231,9 @@ module _ (m : MappingState) (t : ℕ) (v : IsMapping m) where
     rows = AreRowsOf-lacking;
     each = λ n of.
         let page : eqb (n / per_page m) t ≡ true = eq-eqb _ _ of in
-        let moved : lookup (eqb n) (some_rows (moved_in (per_page m) t m.moved)) ≡ option_map (λ r. Some r) (moved_row m n) = lookup-some_rows (eqb n) (moved_in (per_page m) t m.moved) ∙ ap (option_map (λ r. Some r)) (lookup-filter-keys (eqb n) (λ x. eqb (x / per_page m) t) true (λ x e. rw (← eqb-true n x e) page) m.moved) in
+        let moved : lookup (eqb n) (some_rows (moved_in (per_page m) t m.moved)) ≡ option_map (λ r. Some r) (moved_row m n) = lookup-some_rows (eqb n)
+        (moved_in (per_page m) t m.moved) ∙ ap (option_map (λ r. Some r))
+        (lookup-filter-keys (eqb n) (λ x. eqb (x / per_page m) t) true (λ x e. rw (← eqb-true n x e) page) m.moved) in
         let dirty = lookup-dirty_from m.cached n (t * per_page m) (per_page m) (in_page n of).0 (in_page n of).1 in
         lookup-append (eqb n) (some_rows (moved_in (per_page m) t m.moved)) (dirty_from m.cached (t * per_page m) (per_page m)) _ moved ∙ rw dirty (either (slot_of m n) (moved_row m n)) ∙ sym (pending-at m n (slot_of m n) (moved_row m n) refl refl);
   }

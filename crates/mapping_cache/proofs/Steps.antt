@@ -36,7 +36,9 @@ unfolding pending
 pending-at m n s r e f = ap (λ o. pending_by o (moved_row m n)) e ∙ ap (pending_by s) f
 
 -- what is known stays in range where one sector has a new row
-pub rows_after : (g : Geometry) (m' m : MappingState) (k : ℕ) (row : Option ℕ) → IsEntryOf g k row → known m' k ≡ Some row → ((n : ℕ) → n ≢ k → ForSome (known m' n) (λ r. known m n ≡ Some r)) → ((n : ℕ) → ForSome (known m n) (IsEntryOf g n)) → (n : ℕ) → ForSome (known m' n) (IsEntryOf g n)
+pub rows_after : (g : Geometry) (m' m : MappingState) (k : ℕ) (row : Option ℕ) → IsEntryOf g k row → known m' k ≡ Some row
+    → ((n : ℕ) → n ≢ k → ForSome (known m' n) (λ r. known m n ≡ Some r)) → ((n : ℕ) → ForSome (known m n) (IsEntryOf g n)) → (n : ℕ)
+    → ForSome (known m' n) (IsEntryOf g n)
 rows_after g m' m k row fits here others old n r e = by_test (eqb n k)
     (λ t.
     let key = eqb-true n k t in

@@ -40,7 +40,9 @@ tables_of g image h = (h 0 (no_claim g)).part Tables (omega arith) (omega arith)
 
 -- ---- the certificate
 
-pub parts_fit : (g : Geometry) (capacity : ℕ) (shown : Shown) (directory sectors : List ℕ) → 1 ≤ capacity → capacity ≤ 65536 → IsShownSized g shown → HasWords shown.newest.items 0 g.sectors sectors → HasWords shown.newest.items g.sectors (translation_pages g + table_pages g) directory → FitTogether g capacity shown.blocks.items directory sectors
+pub parts_fit : (g : Geometry) (capacity : ℕ) (shown : Shown) (directory sectors : List ℕ) → 1 ≤ capacity → capacity ≤ 65536 → IsShownSized g shown
+    → HasWords shown.newest.items 0 g.sectors sectors → HasWords shown.newest.items g.sectors (translation_pages g + table_pages g) directory
+    → FitTogether g capacity shown.blocks.items directory sectors
 parts_fit g capacity shown directory sectors least most h s d =
     let keys = h.newest in
     record {
@@ -63,7 +65,10 @@ same_fact = (λ x. x, λ x. x)
 each : (g : Geometry) (image : Image) (states : List BlockState) (P : ℕ → BlockState → Type 0) → AreStates g image states → ((b : ℕ) → P b (block_state g image b)) → EachState g.blocks states P
 each g image states P h p = record { state = λ b l. (block_state g image b, h.state b l, p b) }
 
-pub mounted : (g : Geometry) (capacity : ℕ) (image : Image) (shown : Shown) (directory sectors stale : List ℕ) → IsShownSized g shown → IsShown g image shown → HasWords shown.newest.items 0 g.sectors sectors → HasWords shown.newest.items g.sectors (translation_pages g + table_pages g) directory → stale ≡ stale_sectors g image → length stale ≤ capacity
+pub mounted : (g : Geometry) (capacity : ℕ) (image : Image) (shown : Shown) (directory sectors stale : List ℕ) → IsShownSized g shown
+    → IsShown g image shown → HasWords shown.newest.items 0 g.sectors sectors
+    → HasWords shown.newest.items g.sectors (translation_pages g + table_pages g) directory → stale ≡ stale_sectors g image
+    → length stale ≤ capacity
     → IsMounted g capacity image (claim_from (sizes_of g) capacity shown.next shown.blocks.items directory sectors)
 mounted g capacity image shown directory sectors stale sized h s d is few =
     let c : Claim = claim_from (sizes_of g) capacity shown.next shown.blocks.items directory sectors in

@@ -82,7 +82,9 @@ refused_of g capacity image r kind h = by_case (h (no_claim g))
     })
 
 -- the same where the geometry goes by another name
-pub survey_refused : (g k : Geometry) (capacity : ℕ) (image : Image) (s : Survey) (r : Refusal) → k ≡ g → Surveys g image s → IsOfImage r → ((capacity : ℕ) (image : Image) (claim : Claim) → Surveys k image s → IsMemory r ⊎ FailsFrom k capacity image claim 1 r) → Refuses g capacity image r
+pub survey_refused : (g k : Geometry) (capacity : ℕ) (image : Image) (s : Survey) (r : Refusal) → k ≡ g → Surveys g image s → IsOfImage r
+    → ((capacity : ℕ) (image : Image) (claim : Claim) → Surveys k image s → IsMemory r ⊎ FailsFrom k capacity image claim 1 r)
+    → Refuses g capacity image r
 survey_refused g k capacity image s r e surveys kind h =
     refused_of g capacity image r kind (λ claim. (subst (λ x. (capacity : ℕ) (image : Image) (claim : Claim) → Surveys x image s → IsMemory r ⊎ FailsFrom x capacity image claim 1 r) e h) capacity image claim surveys)
 

@@ -35,7 +35,9 @@ row_below : (g : Geometry) (newest : List Newest) (i : ℕ) → All (λ x. IsRow
 row_below g newest i within l = within i blank l
 
 -- the row that a word stands for is that of the key's newest page
-pub row_told : (g : Geometry) (newest : List Newest) (first n : ℕ) (words : List ℕ) (i : ℕ) → HasWords newest first n words → All (λ x. IsRowOf (row_count g) (place_in x)) newest → first + n ≤ length newest → i < n → slice_get (map row_of_word words) i ≡ Some (place_in (get_or newest (first + i) blank))
+pub row_told : (g : Geometry) (newest : List Newest) (first n : ℕ) (words : List ℕ) (i : ℕ) → HasWords newest first n words
+    → All (λ x. IsRowOf (row_count g) (place_in x)) newest → first + n ≤ length newest → i < n
+    → slice_get (map row_of_word words) i ≡ Some (place_in (get_or newest (first + i) blank))
 row_told g newest first n words i h within room l =
     let few = few_rows g in
     slice_get-map row_of_word words i _ (h.word i l) ∙ ap Some (word_read (row_count g) (place_in (get_or newest (first + i) blank)) few (row_below g newest (first + i) within (omega arith)))

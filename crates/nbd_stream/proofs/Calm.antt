@@ -12,7 +12,9 @@ use Rattle.nbd_stream.proofs.RunLemmas.{done_law}
 use Rattle.nbd_stream.proofs.UntilLemmas.{stays_law}
 use Rattle.nbd_stream.specs.Memory.{ServesBytes}
 
-pub of_calm : {D : Type 0} (contents : D → Contents) (honest calm : D → Bool) (does : D → Task → Result (Unit {0}) DiskFault → D → Type 0) (rests : D → Result (Unit {0}) DiskFault → D → Type 0) (e : Export) (limit : ℕ) (old new : D) (u v b a : Option (List ℕ)) (result : Result StreamEnd ServeFault)
+pub of_calm : {D : Type 0} (contents : D → Contents) (honest calm : D → Bool) (does : D → Task → Result (Unit {0}) DiskFault → D → Type 0)
+    (rests : D → Result (Unit {0}) DiskFault → D → Type 0) (e : Export) (limit : ℕ) (old new : D) (u v b a : Option (List ℕ))
+    (result : Result StreamEnd ServeFault)
     → Serves contents honest calm does rests e limit old new u v b a result → honest old ≡ true → calm old ≡ true → ServesBytes e limit (contents old).bytes (contents new).bytes u v b a result
 of_calm contents honest calm does rests e limit old new u v b a result (inl (same, negotiated)) holds calmly = inl (ap (λ d. (contents d).bytes) same, negotiated)
 of_calm contents honest calm does rests e limit old new u v b a result (inr begun) holds calmly =

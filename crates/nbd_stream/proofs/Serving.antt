@@ -57,7 +57,9 @@ module _ {D : Type 0} (contents : D → Contents) (honest calm : D → Bool) (do
         ap (λ (n : ℕ). take n buffer) (sym long) ∙ sym (stands (omega arith))
 
     -- it was asked of the disk
-    performed : (answer : Result (List ℕ) RequestError) → PerformsTask contents honest calm task (take (count_taken task) buffer) old answer new → HasDone does task old answer new → SendsBytes b a (reply_bytes h.cookie answer (bytes_in answer)) result → Replies contents honest calm does e old (request_at h body) new b a result
+    performed : (answer : Result (List ℕ) RequestError) → PerformsTask contents honest calm task (take (count_taken task) buffer) old answer new
+        → HasDone does task old answer new → SendsBytes b a (reply_bytes h.cookie answer (bytes_in answer)) result
+        → Replies contents honest calm does e old (request_at h body) new b a result
     unfolding asked_of
     performed answer performs done sends =
         let x : Exchange = record { request = request_at h body; answer = answer } in
@@ -75,7 +77,9 @@ module _ {D : Type 0} (contents : D → Contents) (honest calm : D → Bool) (do
         (record { done = done; told = sym (ap (λ r. answer_from r gave) ok); does_so = does_so })
         (subst (λ (l : List ℕ). SendsBytes b a (reply_header_bytes 0 h.cookie ++ l) result) same sends)
 
-    pub performed_err : (done : Result (Unit {0}) DiskFault) (f : DiskFault) (gave : List ℕ) (error : RequestError) → done ≡ Err f → error ≡ error_for f → PerformsTask contents honest calm task (take (count_taken task) buffer) old (answer_from done gave) new → does old (asked_as task) done new
+    pub performed_err : (done : Result (Unit {0}) DiskFault) (f : DiskFault) (gave : List ℕ) (error : RequestError) → done ≡ Err f
+        → error ≡ error_for f → PerformsTask contents honest calm task (take (count_taken task) buffer) old (answer_from done gave) new
+        → does old (asked_as task) done new
         → SendsBytes b a (reply_bytes h.cookie (refusal error) []) result → Replies contents honest calm does e old (request_at h body) new b a result
     performed_err done f gave error err same performs does_so sends =
         performed (Err (error_for f)) (subst (λ (r : Result (Unit {0}) DiskFault). PerformsTask contents honest calm task (take (count_taken task) buffer) old (answer_from r gave) new) err performs)
@@ -232,7 +236,8 @@ module _ {D : Type 0} (contents : D → Contents) (honest calm : D → Bool) (do
     ends_so Disconnected tail left (long, good, ends) =
         (omega (arith, length-append tail left, long), ap is_header (take_at tail left 28 long) ∙ good, ap is_end (take_at tail left 28 long) ∙ ends)
 
-    splits_so : (all w : Option (List ℕ)) (end : StreamEnd) (tail : List ℕ) → ReadsNbdRequests all w (requests_in (exchanges_in so_far.rounds)) tail → Rests end tail w → IfSome all (λ input. SplitsTransmission input (requests_in (exchanges_in so_far.rounds)) end (tail ++ left_of w))
+    splits_so : (all w : Option (List ℕ)) (end : StreamEnd) (tail : List ℕ) → ReadsNbdRequests all w (requests_in (exchanges_in so_far.rounds)) tail
+        → Rests end tail w → IfSome all (λ input. SplitsTransmission input (requests_in (exchanges_in so_far.rounds)) end (tail ++ left_of w))
     splits_so None w end tail reads rest = tt
     splits_so (Some input) None end tail reads rest = absurd reads.bytes
     splits_so (Some input) (Some left) end tail reads rest = record {

@@ -78,7 +78,9 @@ confirm_noted die honest recorded called a b code out due h is con s =
     let does : Does due (die a) (die m) = subst (λ d. Does d (die a) (die m)) is (s.4.step h) in
     let note : Notes due (recorded a) (die m) (recorded m) = subst (λ d. Notes d (recorded a) (die m) (recorded m)) is (s.4.noted h) in
     let at : (die m).phase ≡ Ready NoOutput = confirm_ready due (die a) (die m) con does in
-    let rest = quiet die honest recorded called m b (Command 0x70 ∷ DataOut 1 ∷ []) s.2 (Ready StatusOut) (s.4.as_honest ∙ h) (subst (λ p. LeadTo (die m).flash.geometry p (Command 0x70 ∷ DataOut 1 ∷ []) (Ready StatusOut)) (sym at) (status_leads (die m).flash.geometry NoOutput)) s.5 in
+    let rest = quiet die honest recorded called m b (Command 0x70 ∷ DataOut 1 ∷ []) s.2 (Ready StatusOut) (s.4.as_honest ∙ h)
+    (subst (λ p. LeadTo (die m).flash.geometry p (Command 0x70 ∷ DataOut 1 ∷ []) (Ready StatusOut)) (sym at)
+    (status_leads (die m).flash.geometry NoOutput)) s.5 in
     subst (λ t. Notes due (recorded a) (die b) t) (sym rest.1) (noted_at due (recorded a) (recorded m) (die m) (die b) (Ready StatusOut) rest.0 note)
 
 -- cycles that lead to a confirm cycle, and that
@@ -136,7 +138,9 @@ erase_noted die honest recorded called a b block byte g out r same lt s taken re
     (λ outcome ok h at.
     let row : ℕ = block * g.pages in
     let ends = erase_spelling (die a) (die b) block at (subst (λ t. block < t.blocks) (sym (same h)) lt) (subst (λ t. Taken (die a) (erase_cycles t block) (die b)) (sym (same h)) (taken h)) in
-    let lead : LeadTo (die a).flash.geometry (Ready at.0) (Command 0x60 ∷ row_address row) (Confirming ForErase row 0) = subst (λ t. LeadTo t (Ready at.0) (Command 0x60 ∷ row_address row) (Confirming ForErase row 0)) (sym (same h)) (erase_leads g at.0 row (first_row g block lt)) in
+    let lead : LeadTo (die a).flash.geometry (Ready at.0) (Command 0x60 ∷ row_address row) (Confirming ForErase row 0) = subst
+    (λ t. LeadTo t (Ready at.0) (Command 0x60 ∷ row_address row) (Confirming ForErase row 0)) (sym (same h))
+    (erase_leads g at.0 row (first_row g block lt)) in
     let due : command_due (die a).flash.geometry (Confirming ForErase row 0) 0xD0 ≡ Erases block = ap (λ t. command_due t (Confirming ForErase row 0) 0xD0) (same h) ∙ erase_due g block in
     let note = operation_noted die honest recorded called a b (Command 0x60 ∷ row_address row) (Confirming ForErase row 0) 0xD0 (Erases block) out h (lead_at (die a) at.0 (Command 0x60 ∷ row_address row) (Confirming ForErase row 0) at.1 lead) due tt s in
     subst (λ p. RecordsOrEnds (recorded a) (Erase block p (block_at (die b).flash block) ∷ []) (recorded b)) (told_passed ends.passed byte (die b).status outcome ends.status (read h ends.phase) (ok ∙ is)) note)

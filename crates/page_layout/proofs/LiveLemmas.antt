@@ -153,7 +153,9 @@ live_same g ms ns block same =
     (λ k. ap (λ o. is_in_block g.pages block o) (same k))
 
 -- one key has another newest page: its old block has one less, its new block one more
-pub live_changed : (g : Geometry) (ms ns : List (Option Record)) (block : ℕ) (key : Key) → IsKeyOf g key → ((k : Key) → key ≢ k → newest ns k ≡ newest ms k) → live g ns block + bit (is_in_block g.pages block (newest ms key)) ≡ live g ms block + bit (is_in_block g.pages block (newest ns key))
+pub live_changed : (g : Geometry) (ms ns : List (Option Record)) (block : ℕ) (key : Key) → IsKeyOf g key
+    → ((k : Key) → key ≢ k → newest ns k ≡ newest ms k)
+    → live g ns block + bit (is_in_block g.pages block (newest ms key)) ≡ live g ms block + bit (is_in_block g.pages block (newest ns key))
 unfolding live
 live_changed g ms ns block key within same =
     let p : Key → Bool = λ k. is_in_block g.pages block (newest ms k) in
@@ -165,7 +167,10 @@ live_changed g ms ns block key within same =
     omega (arith, at_one)
 
 -- a page is programmed with a record that becomes the newest of its key
-pub live_programmed : (g : Geometry) (marks : List (Option Record)) (row block : ℕ) (r : Record) → row < length marks → get_or marks row None ≡ None → IsKeyOf g (key_of r) → ((q s : ℕ) → sequence_at marks (key_of r) q ≡ Some s → s < r.sequence) → live g (set marks row (Some r)) block + bit (is_in_block g.pages block (newest marks (key_of r))) ≡ live g marks block + bit (eqb (row / g.pages) block)
+pub live_programmed : (g : Geometry) (marks : List (Option Record)) (row block : ℕ) (r : Record) → row < length marks → get_or marks row None ≡ None
+    → IsKeyOf g (key_of r) → ((q s : ℕ) → sequence_at marks (key_of r) q ≡ Some s → s < r.sequence)
+    → live g (set marks row (Some r)) block + bit (is_in_block g.pages block (newest marks (key_of r))) ≡ live g marks block + bit
+    (eqb (row / g.pages) block)
 live_programmed g marks row block r within was in_range above =
     let changed = live_changed g marks (set marks row (Some r)) block (key_of r) in_range (λ k ne. newest_other_key marks row r k within was ne) in
     let now : newest (set marks row (Some r)) (key_of r) ≡ Some row = newest_programmed marks row r within above in

@@ -68,7 +68,9 @@ raw_image_whole g bytes whole fits = record {
 }
 
 -- the same, as the code has the numbers
-pub raw_page : (g : Geometry) (bytes : List ℕ) (row d s : ℕ) → row < row_count g → d ≡ g.data_bytes → s ≡ g.spare_bytes → slice_get (raw_image g bytes) row ≡ Some (page (slice_range bytes (row * (d + s)) (row * (d + s) + d)) (slice_range bytes (row * (d + s) + d) (row * (d + s) + (d + s))))
+pub raw_page : (g : Geometry) (bytes : List ℕ) (row d s : ℕ) → row < row_count g → d ≡ g.data_bytes → s ≡ g.spare_bytes
+    → slice_get (raw_image g bytes) row ≡ Some
+    (page (slice_range bytes (row * (d + s)) (row * (d + s) + d)) (slice_range bytes (row * (d + s) + d) (row * (d + s) + (d + s))))
 raw_page g bytes row d s within a b = rw (a, b) (raw_image-at g bytes row within)
 
 -- ---- the bytes of a raw image

@@ -120,7 +120,9 @@ has_seal-head_of v r body tail seal k is =
     rw (seal_of (head_of v r) seal tail (seal_size v) refl k, ← is) (bytes_eq-same seal)
 
 -- what `write_version` writes is a sound page with its record
-pub sound-head_of : (v : ℕ) (r : Record) (body seal : List ℕ) (n : ℕ) → Fits r → length seal ≡ seal_size v → seal ≡ take (seal_size v) (sha256 (body ++ head_of v r)) → IsRoomFor v (length (head_of v r ++ (seal ++ replicate n 255))) → record_of (page body (head_of v r ++ (seal ++ replicate n 255))) ≡ Some r
+pub sound-head_of : (v : ℕ) (r : Record) (body seal : List ℕ) (n : ℕ) → Fits r → length seal ≡ seal_size v
+    → seal ≡ take (seal_size v) (sha256 (body ++ head_of v r)) → IsRoomFor v (length (head_of v r ++ (seal ++ replicate n 255)))
+    → record_of (page body (head_of v r ++ (seal ++ replicate n 255))) ≡ Some r
 unfolding record_of
 sound-head_of v r body seal n fits k is room =
     let spare : List ℕ = head_of v r ++ (seal ++ replicate n 255) in

@@ -155,7 +155,9 @@ passed_below row old new p r within is below same =
     })
 
 -- passed, with a record that is newer than all
-pub passed_writes : (g : Geometry) (row : ℕ) (old new : Image) (p : Page) (r : Record) → HasOneArray g old → row < length old → IsUnsoundAt old row → record_of p ≡ Some r → version_of p ≡ Some (version_for g) → AreBelow (marks old) r.sequence → IsKeyOf g (key_of r) → new ≡ set old row p → Writes g r row p.body old new
+pub passed_writes : (g : Geometry) (row : ℕ) (old new : Image) (p : Page) (r : Record) → HasOneArray g old → row < length old → IsUnsoundAt old row
+    → record_of p ≡ Some r → version_of p ≡ Some (version_for g) → AreBelow (marks old) r.sequence → IsKeyOf g (key_of r) → new ≡ set old row p
+    → Writes g r row p.body old new
 passed_writes g row old new p r one within was is version below in_range same =
     let newer : IsNewer old r = record {
       above = λ q s at.

@@ -113,7 +113,9 @@ same_entries : (n : ℕ) (old new : List ℕ) → length old ≡ 4 * n → lengt
 same_entries n old new l m f g same =
     translation_bytes-entries_of n new m g ∙ ap translation_bytes (entries_from-same old new 0 n same) ∙ sym (translation_bytes-entries_of n old l f)
 
-pub translation_bytes-patched : (es : List (Option ℕ)) (old new : List ℕ) (i : ℕ) (row : Option ℕ) → IsRow row → old ≡ translation_bytes es → length new ≡ length old → ((k : ℕ) → get_or new k 0 < 256) → 4 * i + 4 ≤ length old → entry_at new i ≡ row → ((k : ℕ) → k ≢ i → entry_at new k ≡ entry_at old k) → new ≡ translation_bytes (set es i row)
+pub translation_bytes-patched : (es : List (Option ℕ)) (old new : List ℕ) (i : ℕ) (row : Option ℕ) → IsRow row → old ≡ translation_bytes es
+    → length new ≡ length old → ((k : ℕ) → get_or new k 0 < 256) → 4 * i + 4 ≤ length old → entry_at new i ≡ row
+    → ((k : ℕ) → k ≢ i → entry_at new k ≡ entry_at old k) → new ≡ translation_bytes (set es i row)
 translation_bytes-patched es old new i row h e l fits within here others =
     let count : length old ≡ 4 * length es = ap length e ∙ length-translation_bytes es in
     let inside : i < length es = omega arith in

@@ -20,14 +20,22 @@ pub returns-in-Ok-served-clause-served : goal.returns-in-Ok-served-clause-served
 returns-in-Ok-served-clause-served g c =
     let its = c.in-Ok.ensures in
     let begun = c.in-Ok-start.ensures in
-    is_served g.N.PageSource.flash g.N.PageSource.recorded g.N.PageSource.honest g.N.PageSource.calm g.N.PageSource.failed g.N.PageSource.erases c.args.nand c.check.new.source c.into_nand-nand.result c.args.geometry.now c.args.capacity c.args.certificate.now c.in-Ok.accepted c.in-Ok-start.device
-    c.requires.same_geometry its.only_reads.geometry_is its.only_reads.honest_is its.only_reads.calm_is its.only_reads.failed_is (its.same (not_refused c.in-Ok.accepted Source)) (its.told (not_refused c.in-Ok.accepted Source)) its.whole its.accepted.0 its.ok begun.device begun.nand begun.begun begun.truth begun.free begun.accounts c.serve-served.new.device c.into_nand-nand.ensures
+    is_served g.N.PageSource.flash g.N.PageSource.recorded g.N.PageSource.honest g.N.PageSource.calm g.N.PageSource.failed g.N.PageSource.erases
+    c.args.nand c.check.new.source c.into_nand-nand.result c.args.geometry.now c.args.capacity c.args.certificate.now c.in-Ok.accepted
+    c.in-Ok-start.device
+    c.requires.same_geometry its.only_reads.geometry_is its.only_reads.honest_is its.only_reads.calm_is its.only_reads.failed_is
+    (its.same (not_refused c.in-Ok.accepted Source)) (its.told (not_refused c.in-Ok.accepted Source)) its.whole its.accepted.0 its.ok begun.device
+    begun.nand begun.begun begun.truth begun.free begun.accounts c.serve-served.new.device c.into_nand-nand.ensures
     _ _ _ _ _ c.serve-served.ensures.calm c.in-Ok-served.ensures.session
 
 pub returns-in-Err-served-clause-fault : goal.returns-in-Err-served-clause-fault
 returns-in-Err-served-clause-fault g c =
     let its = c.in-Ok.ensures in
     let begun = c.in-Ok-start.ensures in
-    is_served g.N.PageSource.flash g.N.PageSource.recorded g.N.PageSource.honest g.N.PageSource.calm g.N.PageSource.failed g.N.PageSource.erases c.args.nand c.check.new.source c.into_nand-nand.result c.args.geometry.now c.args.capacity c.args.certificate.now c.in-Ok.accepted c.in-Ok-start.device
-    c.requires.same_geometry its.only_reads.geometry_is its.only_reads.honest_is its.only_reads.calm_is its.only_reads.failed_is (its.same (not_refused c.in-Ok.accepted Source)) (its.told (not_refused c.in-Ok.accepted Source)) its.whole its.accepted.0 its.ok begun.device begun.nand begun.begun begun.truth begun.free begun.accounts c.serve-served.new.device c.into_nand-nand.ensures
+    is_served g.N.PageSource.flash g.N.PageSource.recorded g.N.PageSource.honest g.N.PageSource.calm g.N.PageSource.failed g.N.PageSource.erases
+    c.args.nand c.check.new.source c.into_nand-nand.result c.args.geometry.now c.args.capacity c.args.certificate.now c.in-Ok.accepted
+    c.in-Ok-start.device
+    c.requires.same_geometry its.only_reads.geometry_is its.only_reads.honest_is its.only_reads.calm_is its.only_reads.failed_is
+    (its.same (not_refused c.in-Ok.accepted Source)) (its.told (not_refused c.in-Ok.accepted Source)) its.whole its.accepted.0 its.ok begun.device
+    begun.nand begun.begun begun.truth begun.free begun.accounts c.serve-served.new.device c.into_nand-nand.ensures
     _ _ _ _ _ c.serve-served.ensures.calm c.in-Err-served.ensures.session

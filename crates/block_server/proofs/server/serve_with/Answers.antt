@@ -12,7 +12,10 @@ loop-replies-init g c = (c.requires.body, c.requires.bytes, serving_none g.N.Pag
 pub returns-in_err-serve_next-clause-session : goal.returns-in_err-serve_next-clause-session
 returns-in_err-serve_next-clause-session g c =
     let p = err_from_is_err_and c.from_residual.result c.from_residual.ensures.1 in
-    rw (p.1, p.2) (stopped g.N.PageSource.flash g.N.PageSource.recorded g.N.PageSource.honest g.N.PageSource.failed g.N.PageSource.erases c.args.device.now c.loop-replies.device _ _ _ _ c.loop-replies.replies c.requires.device c.loop-replies.invariant.2 c.serve_next.new.device _ _ c.in_err-serve_next.field-0.0 c.in_err-serve_next.ensures.serves)
+    rw (p.1, p.2)
+    (stopped g.N.PageSource.flash g.N.PageSource.recorded g.N.PageSource.honest g.N.PageSource.failed g.N.PageSource.erases c.args.device.now
+    c.loop-replies.device _ _ _ _ c.loop-replies.replies c.requires.device c.loop-replies.invariant.2 c.serve_next.new.device _ _
+    c.in_err-serve_next.field-0.0 c.in_err-serve_next.ensures.serves)
 
 pub returns-in_err-serve_next-clause-never : goal.returns-in_err-serve_next-clause-never
 returns-in_err-serve_next-clause-never g c =
@@ -24,7 +27,9 @@ loop-replies-preserved g c =
     let one = rw c.in-None.is at c.in_ok-serve_next.ensures.serves in (
       search rules,
       search rules,
-      serving_more g.N.PageSource.flash g.N.PageSource.recorded g.N.PageSource.honest g.N.PageSource.failed g.N.PageSource.erases c.args.device.now c.loop-replies.device _ _ _ _ c.loop-replies.replies c.requires.device c.loop-replies.invariant.2 c.serve_next.new.device _ _ (Appends _ _) one
+      serving_more g.N.PageSource.flash g.N.PageSource.recorded g.N.PageSource.honest g.N.PageSource.failed g.N.PageSource.erases c.args.device.now
+          c.loop-replies.device _ _ _ _ c.loop-replies.replies c.requires.device c.loop-replies.invariant.2 c.serve_next.new.device _ _ (Appends _ _)
+          one
           (λ front bytes wrote more. Appends-trans _ _ _ front bytes wrote more),
       c.serve_next.ensures.calm ∙ c.loop-replies.invariant.3,
     )
@@ -32,7 +37,9 @@ loop-replies-preserved g c =
 pub returns-in-Some-clause-session : goal.returns-in-Some-clause-session
 returns-in-Some-clause-session g c =
     let none = rw c.in-Some.is at c.in_ok-serve_next.ensures.serves in
-    finished g.N.PageSource.flash g.N.PageSource.recorded g.N.PageSource.honest g.N.PageSource.failed g.N.PageSource.erases c.args.device.now c.loop-replies.device _ _ _ _ c.loop-replies.replies c.requires.device c.loop-replies.invariant.2 c.serve_next.new.device _ _ _ c.in-Some.end none
+    finished g.N.PageSource.flash g.N.PageSource.recorded g.N.PageSource.honest g.N.PageSource.failed g.N.PageSource.erases c.args.device.now
+    c.loop-replies.device _ _ _ _ c.loop-replies.replies c.requires.device c.loop-replies.invariant.2 c.serve_next.new.device _ _ _ c.in-Some.end
+    none
     c.in_ok-last-in-Some.last c.in_ok-last-in-Some.ensures.sends c.in_ok-last-in-Some.ensures.count
 
 pub returns-in_err-last-in-Some-clause-session : goal.returns-in_err-last-in-Some-clause-session
@@ -40,7 +47,10 @@ returns-in_err-last-in-Some-clause-session g c =
     let p = err_from_is_err_and c.from_residual-in_err-last-in-Some.result c.from_residual-in_err-last-in-Some.ensures.1 in
     let none = rw c.in-Some.is at c.in_ok-serve_next.ensures.serves in
     let bad : c.in-Some.end ≡ BadFrame = search rules in
-    rw (p.1, p.2) (unfinished g.N.PageSource.flash g.N.PageSource.recorded g.N.PageSource.honest g.N.PageSource.failed g.N.PageSource.erases c.args.device.now c.loop-replies.device _ _ _ _ c.loop-replies.replies c.requires.device c.loop-replies.invariant.2 c.serve_next.new.device _ _ _ c.in-Some.end none
+    rw (p.1, p.2)
+    (unfinished g.N.PageSource.flash g.N.PageSource.recorded g.N.PageSource.honest g.N.PageSource.failed g.N.PageSource.erases c.args.device.now
+    c.loop-replies.device _ _ _ _ c.loop-replies.replies c.requires.device c.loop-replies.invariant.2 c.serve_next.new.device _ _ _
+    c.in-Some.end none
     c.in_err-last-in-Some.field-0.0 bad c.in_err-last-in-Some.ensures.sends.0 c.in_err-last-in-Some.ensures.sends.1)
 
 pub returns-in_err-last-in-Some-clause-never : goal.returns-in_err-last-in-Some-clause-never

@@ -46,10 +46,16 @@ loop-call-preserved g c =
     }
 
 pub returns-clause-told : goal.returns-clause-told
-returns-clause-told g c = all_told g.N.PageSource.flash g.N.PageSource.recorded g.N.PageSource.honest g.N.PageSource.failed g.N.PageSource.erases c.args.device.now c.loop-call.device c.args.calls.now c.loop-call.calls c.loop-call.call-index (omega (arith, c.loop-call-test.false)) c.loop-call.invariant.running
+returns-clause-told g c = all_told g.N.PageSource.flash g.N.PageSource.recorded g.N.PageSource.honest g.N.PageSource.failed g.N.PageSource.erases
+    c.args.device.now c.loop-call.device c.args.calls.now c.loop-call.calls c.loop-call.call-index (omega (arith, c.loop-call-test.false))
+    c.loop-call.invariant.running
 
 pub returns-clause-answered : goal.returns-clause-answered
-returns-clause-answered g c = all_answered g.N.PageSource.flash g.N.PageSource.recorded g.N.PageSource.honest g.N.PageSource.failed g.N.PageSource.erases c.args.device.now c.loop-call.device c.args.calls.now c.loop-call.calls c.loop-call.call-index (omega (arith, c.loop-call-test.false)) c.loop-call.invariant.running
+returns-clause-answered g c = all_answered g.N.PageSource.flash g.N.PageSource.recorded g.N.PageSource.honest g.N.PageSource.failed
+    g.N.PageSource.erases c.args.device.now c.loop-call.device c.args.calls.now c.loop-call.calls c.loop-call.call-index
+    (omega (arith, c.loop-call-test.false)) c.loop-call.invariant.running
 
 pub returns-clause-kept : goal.returns-clause-kept
-returns-clause-kept g c = all_kept g.N.PageSource.flash g.N.PageSource.recorded g.N.PageSource.honest g.N.PageSource.failed g.N.PageSource.erases c.args.device.now c.loop-call.device c.args.calls.now c.loop-call.calls c.loop-call.call-index (omega (arith, c.loop-call-test.false)) c.loop-call.invariant.running
+returns-clause-kept g c = all_kept g.N.PageSource.flash g.N.PageSource.recorded g.N.PageSource.honest g.N.PageSource.failed g.N.PageSource.erases
+    c.args.device.now c.loop-call.device c.args.calls.now c.loop-call.calls c.loop-call.call-index (omega (arith, c.loop-call-test.false))
+    c.loop-call.invariant.running

@@ -17,7 +17,9 @@ returns-in_err-migrate_one-clause-renews g c =
     let new = c.migrate_one.new.self in
     let its = c.in_err-migrate_one.ensures in
     let is : c.from_residual.result ≡ Err fault = search rules in
-    let call = calls_as n.flash n.recorded n.honest n.calm n.programs n.erases n.failed c.args.geometry.now c.args.device.now c.calls.device new c.calls.count (Err fault) c.requires.roomy c.calls.invariant its.upkeeps its.migrates its.rests its.brought its.brings its.stays its.moves_on in
+    let call = calls_as n.flash n.recorded n.honest n.calm n.programs n.erases n.failed c.args.geometry.now c.args.device.now c.calls.device new
+    c.calls.count (Err fault) c.requires.roomy c.calls.invariant its.upkeeps its.migrates its.rests its.brought its.brings its.stays its.moves_on
+    in
     let P : Result ℕ DeviceFault → Type 0 = λ r. RenewsAll n.flash n.recorded n.honest n.calm n.programs n.erases n.failed c.args.device.now r new in
     subst P (sym is) (ends_refused n.flash n.recorded n.honest n.calm n.programs n.erases n.failed c.args.geometry.now c.args.device.now c.calls.device new c.calls.count fault c.calls.invariant call).renews
 
@@ -28,7 +30,9 @@ returns-in_err-migrate_one-clause-keeps g c =
     let new = c.migrate_one.new.self in
     let its = c.in_err-migrate_one.ensures in
     let is : c.from_residual.result ≡ Err fault = search rules in
-    let call = calls_as n.flash n.recorded n.honest n.calm n.programs n.erases n.failed c.args.geometry.now c.args.device.now c.calls.device new c.calls.count (Err fault) c.requires.roomy c.calls.invariant its.upkeeps its.migrates its.rests its.brought its.brings its.stays its.moves_on in
+    let call = calls_as n.flash n.recorded n.honest n.calm n.programs n.erases n.failed c.args.geometry.now c.args.device.now c.calls.device new
+    c.calls.count (Err fault) c.requires.roomy c.calls.invariant its.upkeeps its.migrates its.rests its.brought its.brings its.stays its.moves_on
+    in
     let P : Result ℕ DeviceFault → Type 0 = λ r. r ≢ Err BusFault → KeepsAll n.flash n.recorded c.args.device.now new in
     subst P (sym is) (ends_refused n.flash n.recorded n.honest n.calm n.programs n.erases n.failed c.args.geometry.now c.args.device.now c.calls.device new c.calls.count fault c.calls.invariant call).keeps
 
@@ -37,7 +41,9 @@ returns-then-not-branch-clause-renews g c =
     let n = g.N.PageSource in
     let new = c.migrate_one.new.self in
     let its = c.in_ok-migrate_one.ensures in
-    let call = calls_as n.flash n.recorded n.honest n.calm n.programs n.erases n.failed c.args.geometry.now c.args.device.now c.calls.device new c.calls.count (Ok c.in_ok-migrate_one.field-0) c.requires.roomy c.calls.invariant its.upkeeps its.migrates its.rests its.brought its.brings its.stays its.moves_on in
+    let call = calls_as n.flash n.recorded n.honest n.calm n.programs n.erases n.failed c.args.geometry.now c.args.device.now c.calls.device new
+    c.calls.count (Ok c.in_ok-migrate_one.field-0) c.requires.roomy c.calls.invariant its.upkeeps its.migrates its.rests its.brought its.brings
+    its.stays its.moves_on in
     let P : Bool → Type 0 = λ b. CallsMigrate n.flash n.recorded n.honest n.calm n.programs n.erases n.failed c.calls.device (Ok b) new in
     (ends_done n.flash n.recorded n.honest n.calm n.programs n.erases n.failed c.args.geometry.now c.args.device.now c.calls.device new c.calls.count c.calls.invariant (subst P c.if-not-branch.true call)).renews
 
@@ -46,7 +52,9 @@ returns-then-not-branch-clause-keeps g c =
     let n = g.N.PageSource in
     let new = c.migrate_one.new.self in
     let its = c.in_ok-migrate_one.ensures in
-    let call = calls_as n.flash n.recorded n.honest n.calm n.programs n.erases n.failed c.args.geometry.now c.args.device.now c.calls.device new c.calls.count (Ok c.in_ok-migrate_one.field-0) c.requires.roomy c.calls.invariant its.upkeeps its.migrates its.rests its.brought its.brings its.stays its.moves_on in
+    let call = calls_as n.flash n.recorded n.honest n.calm n.programs n.erases n.failed c.args.geometry.now c.args.device.now c.calls.device new
+    c.calls.count (Ok c.in_ok-migrate_one.field-0) c.requires.roomy c.calls.invariant its.upkeeps its.migrates its.rests its.brought its.brings
+    its.stays its.moves_on in
     let P : Bool → Type 0 = λ b. CallsMigrate n.flash n.recorded n.honest n.calm n.programs n.erases n.failed c.calls.device (Ok b) new in
     (ends_done n.flash n.recorded n.honest n.calm n.programs n.erases n.failed c.args.geometry.now c.args.device.now c.calls.device new c.calls.count c.calls.invariant (subst P c.if-not-branch.true call)).keeps
 
@@ -55,6 +63,8 @@ calls-preserved g c =
     let n = g.N.PageSource in
     let new = c.migrate_one.new.self in
     let its = c.in_ok-migrate_one.ensures in
-    let call = calls_as n.flash n.recorded n.honest n.calm n.programs n.erases n.failed c.args.geometry.now c.args.device.now c.calls.device new c.calls.count (Ok c.in_ok-migrate_one.field-0) c.requires.roomy c.calls.invariant its.upkeeps its.migrates its.rests its.brought its.brings its.stays its.moves_on in
+    let call = calls_as n.flash n.recorded n.honest n.calm n.programs n.erases n.failed c.args.geometry.now c.args.device.now c.calls.device new
+    c.calls.count (Ok c.in_ok-migrate_one.field-0) c.requires.roomy c.calls.invariant its.upkeeps its.migrates its.rests its.brought its.brings
+    its.stays its.moves_on in
     let P : Bool → Type 0 = λ b. CallsMigrate n.flash n.recorded n.honest n.calm n.programs n.erases n.failed c.calls.device (Ok b) new in
     goes_on n.flash n.recorded n.honest n.calm n.programs n.erases n.failed c.args.geometry.now c.args.device.now c.calls.device new c.calls.count c.requires.roomy c.calls.invariant (subst P c.if-not-branch.false call) its.device its.geometry

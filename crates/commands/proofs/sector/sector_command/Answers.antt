@@ -47,8 +47,17 @@ returns-in-Err-Sector-clause-does g c =
       whole = ap length (sym c.deref.ensures.value) ∙ c.in-Ok.ensures.accepted.0 refl;
     } in
     let P : PrintFault → Type 0 = λ f. IsUnprinted (sector_line c.in-Ok.image.flash.geometry c.in-Ok.image.flash.image c.in_ok-sector.sector) f (g.W.Write.contents c.args.out.now) (g.W.Write.contents c.print_sector.new.out) in
-    let Q : PrintFault → Type 0 = λ f. IsPrintFault c.in-Ok.image.flash.geometry c.in-Ok.image.flash.image c.in_ok-sector.sector f in
-    (subst P c.in-Err-Sector.field-0-is c.in-Err-Sector.ensures.unprinted, (geometry, c.in_ok-sector.sector, bytes, image, unreadable_in c.in-Ok.image.flash geometry c.deref.result.now bytes c.in_ok-sector.sector c.in-Err-Sector.fault c.in-Ok.ensures.image c.deref.ensures.value (subst Q c.in-Err-Sector.field-0-is c.in-Err-Sector.ensures.fault)))
+    let Q : PrintFault → Type 0 = λ f. IsPrintFault c.in-Ok.image.flash.geometry c.in-Ok.image.flash.image c.in_ok-sector.sector f in (
+      subst P c.in-Err-Sector.field-0-is c.in-Err-Sector.ensures.unprinted,
+      (
+        geometry,
+        c.in_ok-sector.sector,
+        bytes,
+        image,
+        unreadable_in c.in-Ok.image.flash geometry c.deref.result.now bytes c.in_ok-sector.sector
+            c.in-Err-Sector.fault c.in-Ok.ensures.image c.deref.ensures.value (subst Q c.in-Err-Sector.field-0-is c.in-Err-Sector.ensures.fault),
+      ),
+    )
 
 pub returns-in-Err-Write-clause-does : goal.returns-in-Err-Write-clause-does
 returns-in-Err-Write-clause-does g c =
@@ -82,5 +91,14 @@ returns-clause-does g c =
       whole = ap length (sym c.deref.ensures.value) ∙ c.in-Ok.ensures.accepted.0 refl;
     } in
     let P : PrintFault → Type 0 = λ f. IsUnprinted (sector_line c.in-Ok.image.flash.geometry c.in-Ok.image.flash.image c.in_ok-sector.sector) f (g.W.Write.contents c.args.out.now) (g.W.Write.contents c.print_sector.new.out) in
-    let Q : PrintFault → Type 0 = λ f. IsPrintFault c.in-Ok.image.flash.geometry c.in-Ok.image.flash.image c.in_ok-sector.sector f in
-    (subst P c.in-Err-OutOfMemory.field-0-is c.in-Err-OutOfMemory.ensures.unprinted, inr (geometry, c.in_ok-sector.sector, bytes, image, readable_in c.in-Ok.image.flash geometry c.deref.result.now bytes c.in_ok-sector.sector c.in-Ok.ensures.image c.deref.ensures.value (subst Q c.in-Err-OutOfMemory.field-0-is c.in-Err-OutOfMemory.ensures.fault)))
+    let Q : PrintFault → Type 0 = λ f. IsPrintFault c.in-Ok.image.flash.geometry c.in-Ok.image.flash.image c.in_ok-sector.sector f in (
+      subst P c.in-Err-OutOfMemory.field-0-is c.in-Err-OutOfMemory.ensures.unprinted,
+      inr (
+        geometry,
+        c.in_ok-sector.sector,
+        bytes,
+        image,
+        readable_in c.in-Ok.image.flash geometry c.deref.result.now bytes c.in_ok-sector.sector
+            c.in-Ok.ensures.image c.deref.ensures.value (subst Q c.in-Err-OutOfMemory.field-0-is c.in-Err-OutOfMemory.ensures.fault),
+      ),
+    )

@@ -15,7 +15,9 @@ pub returns-in-Err-Serve-clause-ok : goal.returns-in-Err-Serve-clause-ok
 returns-in-Err-Serve-clause-ok g c =
     let its = rw c.in-Err-Serve.field-0-is at c.in-Err-Serve.ensures.fault in
     die_served c.args.driver _ c.args.asked.now.geometry _ _ _ _ _ _ _ _ _ _ _
-    its (c.into_bus-in-Err-Serve.ensures.counted refl) refl (c.into_bus-in-Err-Serve.ensures.flash refl) (ap (λ (f : Flash). f.geometry) (c.into_bus-in-Err-Serve.ensures.flash refl) ∙ its.back.sized) (steady_spared c.into_bus-in-Err-Serve.result.die c.into_bus-in-Err-Serve.result.steady)
+    its (c.into_bus-in-Err-Serve.ensures.counted refl) refl (c.into_bus-in-Err-Serve.ensures.flash refl)
+    (ap (λ (f : Flash). f.geometry) (c.into_bus-in-Err-Serve.ensures.flash refl) ∙ its.back.sized)
+    (steady_spared c.into_bus-in-Err-Serve.result.die c.into_bus-in-Err-Serve.result.steady)
     refl c.image_into-in-Err-Serve.ensures.pages c.image_into-in-Err-Serve.ensures.bytes
 
 pub returns-in-Err-Refused-clause-fault : goal.returns-in-Err-Refused-clause-fault

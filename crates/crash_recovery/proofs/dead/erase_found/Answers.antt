@@ -9,21 +9,32 @@ find_dead-requires-clause-whole g c = subst (λ (x : Geometry). IsCertificateOf 
 
 pub returns-then-not-is_any_dead-clause-none : goal.returns-then-not-is_any_dead-clause-none
 returns-then-not-is_any_dead-clause-none g c h capacity agrees e =
-    dead_none c.geometry-geometry.result (g.S.Store.held c.args.store.now) c.find_dead.new.dead c.find_dead.new.dead c.geometry-geometry.ensures.geometry refl (c.find_dead.auto.dead ∙ (c.requires.blocks ∙ ap (λ (x : Geometry). x.blocks) (sym c.geometry-geometry.ensures.geometry)))
+    dead_none c.geometry-geometry.result (g.S.Store.held c.args.store.now) c.find_dead.new.dead c.find_dead.new.dead
+    c.geometry-geometry.ensures.geometry refl
+    (c.find_dead.auto.dead ∙ (c.requires.blocks ∙ ap (λ (x : Geometry). x.blocks) (sym c.geometry-geometry.ensures.geometry)))
     (c.in_ok-find_dead.ensures.finds h capacity (subst (λ (x : Geometry). Agrees x capacity (g.S.Store.held c.args.store.now).pages c.args.certificate.now) (sym c.geometry-geometry.ensures.geometry) agrees))
     (c.is_any_dead.ensures.none (search rules))
 
 pub returns-in_err-clear_blocks-clause-takes : goal.returns-in_err-clear_blocks-clause-takes
 returns-in_err-clear_blocks-clause-takes g c h capacity agrees =
     let honest = c.find_dead.ensures.looks.as_honest ∙ h in
-    inr (inr (dead_goes c.geometry-geometry.result _ _ _ _ c.find_dead.new.dead c.find_dead.new.dead c.geometry-geometry.ensures.geometry (c.find_dead.ensures.looks.same h) refl (c.find_dead.auto.dead ∙ (c.requires.blocks ∙ ap (λ (x : Geometry). x.blocks) (sym c.geometry-geometry.ensures.geometry)))
+    inr
+    (inr
+    (dead_goes c.geometry-geometry.result _ _ _ _ c.find_dead.new.dead c.find_dead.new.dead c.geometry-geometry.ensures.geometry
+    (c.find_dead.ensures.looks.same h) refl
+    (c.find_dead.auto.dead ∙ (c.requires.blocks ∙ ap (λ (x : Geometry). x.blocks) (sym c.geometry-geometry.ensures.geometry)))
     (c.in_ok-find_dead.ensures.finds h capacity (subst (λ (x : Geometry). Agrees x capacity (g.S.Store.held c.args.store.now).pages c.args.certificate.now) (sym c.geometry-geometry.ensures.geometry) agrees))
     (c.in_ok-sync.ensures.syncs honest) c.sync.ensures.geometry (c.clear_blocks.ensures.takes (c.sync.ensures.honest ∙ honest))))
 
 pub returns-in_err-sync-2-clause-takes : goal.returns-in_err-sync-2-clause-takes
 returns-in_err-sync-2-clause-takes g c h capacity agrees =
     let honest = c.find_dead.ensures.looks.as_honest ∙ h in
-    inr (inr (cut_syncs _ _ _ _ _ (dead_goes c.geometry-geometry.result _ _ _ _ c.find_dead.new.dead c.find_dead.new.dead c.geometry-geometry.ensures.geometry (c.find_dead.ensures.looks.same h) refl (c.find_dead.auto.dead ∙ (c.requires.blocks ∙ ap (λ (x : Geometry). x.blocks) (sym c.geometry-geometry.ensures.geometry)))
+    inr
+    (inr
+    (cut_syncs _ _ _ _ _
+    (dead_goes c.geometry-geometry.result _ _ _ _ c.find_dead.new.dead c.find_dead.new.dead c.geometry-geometry.ensures.geometry
+    (c.find_dead.ensures.looks.same h) refl
+    (c.find_dead.auto.dead ∙ (c.requires.blocks ∙ ap (λ (x : Geometry). x.blocks) (sym c.geometry-geometry.ensures.geometry)))
     (c.in_ok-find_dead.ensures.finds h capacity (subst (λ (x : Geometry). Agrees x capacity (g.S.Store.held c.args.store.now).pages c.args.certificate.now) (sym c.geometry-geometry.ensures.geometry) agrees))
     (c.in_ok-sync.ensures.syncs honest) c.sync.ensures.geometry (c.clear_blocks.ensures.takes (c.sync.ensures.honest ∙ honest)))
     (c.sync-2.ensures.syncs (c.clear_blocks.ensures.honest ∙ (c.sync.ensures.honest ∙ honest))) c.sync-2.ensures.geometry))
@@ -31,7 +42,12 @@ returns-in_err-sync-2-clause-takes g c h capacity agrees =
 pub returns-clause-takes : goal.returns-clause-takes
 returns-clause-takes g c h capacity agrees =
     let honest = c.find_dead.ensures.looks.as_honest ∙ h in
-    inr (inr (cut_syncs _ _ _ _ _ (dead_goes c.geometry-geometry.result _ _ _ _ c.find_dead.new.dead c.find_dead.new.dead c.geometry-geometry.ensures.geometry (c.find_dead.ensures.looks.same h) refl (c.find_dead.auto.dead ∙ (c.requires.blocks ∙ ap (λ (x : Geometry). x.blocks) (sym c.geometry-geometry.ensures.geometry)))
+    inr
+    (inr
+    (cut_syncs _ _ _ _ _
+    (dead_goes c.geometry-geometry.result _ _ _ _ c.find_dead.new.dead c.find_dead.new.dead c.geometry-geometry.ensures.geometry
+    (c.find_dead.ensures.looks.same h) refl
+    (c.find_dead.auto.dead ∙ (c.requires.blocks ∙ ap (λ (x : Geometry). x.blocks) (sym c.geometry-geometry.ensures.geometry)))
     (c.in_ok-find_dead.ensures.finds h capacity (subst (λ (x : Geometry). Agrees x capacity (g.S.Store.held c.args.store.now).pages c.args.certificate.now) (sym c.geometry-geometry.ensures.geometry) agrees))
     (c.in_ok-sync.ensures.syncs honest) c.sync.ensures.geometry (c.clear_blocks.ensures.takes (c.sync.ensures.honest ∙ honest)))
     (c.sync-2.ensures.syncs (c.clear_blocks.ensures.honest ∙ (c.sync.ensures.honest ∙ honest))) c.sync-2.ensures.geometry))
@@ -39,7 +55,9 @@ returns-clause-takes g c h capacity agrees =
 pub returns-clause-erased : goal.returns-clause-erased
 returns-clause-erased g c h capacity agrees e =
     let honest = c.find_dead.ensures.looks.as_honest ∙ h in
-    dead_ends c.geometry-geometry.result _ _ _ _ _ c.find_dead.new.dead c.find_dead.new.dead c.geometry-geometry.ensures.geometry (c.find_dead.ensures.looks.same h) refl (c.find_dead.auto.dead ∙ (c.requires.blocks ∙ ap (λ (x : Geometry). x.blocks) (sym c.geometry-geometry.ensures.geometry)))
+    dead_ends c.geometry-geometry.result _ _ _ _ _ c.find_dead.new.dead c.find_dead.new.dead c.geometry-geometry.ensures.geometry
+    (c.find_dead.ensures.looks.same h) refl
+    (c.find_dead.auto.dead ∙ (c.requires.blocks ∙ ap (λ (x : Geometry). x.blocks) (sym c.geometry-geometry.ensures.geometry)))
     (c.in_ok-find_dead.ensures.finds h capacity (subst (λ (x : Geometry). Agrees x capacity (g.S.Store.held c.args.store.now).pages c.args.certificate.now) (sym c.geometry-geometry.ensures.geometry) agrees))
     (c.in_ok-sync.ensures.syncs honest) c.sync.ensures.geometry (c.clear_blocks.ensures.takes (c.sync.ensures.honest ∙ honest)) (c.in_ok-clear_blocks.ensures.erased (c.sync.ensures.honest ∙ honest)) c.clear_blocks.ensures.geometry
     (c.in_ok-sync-2.ensures.syncs (c.clear_blocks.ensures.honest ∙ (c.sync.ensures.honest ∙ honest))) c.sync-2.ensures.geometry

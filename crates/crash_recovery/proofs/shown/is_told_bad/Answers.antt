@@ -7,7 +7,10 @@ directory_row-requires g c = key_within c.args.geometry.now c.args.block c.trans
 
 pub returns-in_default-clause-named : goal.returns-in_default-clause-named
 returns-in_default-clause-named g c h capacity agrees =
-    absurd (table_there c.args.geometry.now capacity _ c.args.certificate.now c.args.block c.translation_pages.result c.entries-entries.result c.directory_row.result agrees c.requires.in_range c.translation_pages.ensures c.entries-entries.ensures c.directory_row.ensures.is c.in_default.is)
+    absurd
+    (table_there c.args.geometry.now capacity _ c.args.certificate.now c.args.block c.translation_pages.result c.entries-entries.result
+    c.directory_row.result agrees c.requires.in_range c.translation_pages.ensures c.entries-entries.ensures c.directory_row.ensures.is
+    c.in_default.is)
 
 pub returns-clause-named : goal.returns-clause-named
 returns-clause-named g c h capacity agrees =

@@ -18,7 +18,9 @@ returns-clause-flushed g c = λ honest w.
     let spells = c.in_ok-write_tables.ensures.truth (c.make_room.ensures.leaves.honest_is ∙ (c.flush_translations.ensures.leaves.honest_is ∙ honest)) (c.in_ok-make_room.ensures.pinned (c.flush_translations.ensures.leaves.honest_is ∙ honest) first.truth) in
     let same = c.make_room.ensures.leaves.geometry ∙ c.flush_translations.ensures.leaves.geometry in
     flushed_by c.args.engine.now.geometry c.make_room.new.engine.geometry c.make_room.new.engine.mapping (ram c.write_tables.new.engine) _ _ (c.write_tables.ensures.leaves.geometry ∙ same) same
-    (clean_then c.args.engine.now.geometry c.flush_translations.new.engine.geometry c.flush_translations.new.engine.mapping c.make_room.new.engine.mapping c.flush_translations.ensures.leaves.geometry c.in_ok-flush_translations.ensures.clean (c.in_ok-make_room.ensures.cleans refl))
+    (clean_then c.args.engine.now.geometry c.flush_translations.new.engine.geometry c.flush_translations.new.engine.mapping
+    c.make_room.new.engine.mapping c.flush_translations.ensures.leaves.geometry c.in_ok-flush_translations.ensures.clean
+    (c.in_ok-make_room.ensures.cleans refl))
     c.write_tables.ensures.mapping spells
 
 pub returns-clause-renewed : goal.returns-clause-renewed
@@ -36,18 +38,25 @@ returns-in_err-flush_translations-clause-count g c =
 pub returns-in_err-make_room-clause-count : goal.returns-in_err-make_room-clause-count
 returns-in_err-make_room-clause-count g c =
     let p = err_from_is_err_and c.from_residual-in_err-make_room.result c.from_residual-in_err-make_room.ensures.1 in
-    rw (p.1, p.2) (λ known. flush_room _ (ram c.args.engine.now) (ram c.flush_translations.new.engine) (ram c.make_room.new.engine) c.flush_translations.ensures.leaves.geometry c.in_err-make_room.ensures.leaves.tells (c.in_ok-flush_translations.ensures.count known.0 known.1 0 known.2)
+    rw (p.1, p.2)
+    (λ known. flush_room _ (ram c.args.engine.now) (ram c.flush_translations.new.engine) (ram c.make_room.new.engine)
+    c.flush_translations.ensures.leaves.geometry c.in_err-make_room.ensures.leaves.tells
+    (c.in_ok-flush_translations.ensures.count known.0 known.1 0 known.2)
     (c.in_err-make_room.ensures.count (c.flush_translations.ensures.leaves.honest_is ∙ known.0) (c.in_ok-flush_translations.ensures.truth known.0 known.1).truth))
 
 pub returns-in_err-write_tables-clause-count : goal.returns-in_err-write_tables-clause-count
 returns-in_err-write_tables-clause-count g c =
     let p = err_from_is_err_and c.from_residual-in_err-write_tables.result c.from_residual-in_err-write_tables.ensures.1 in
     rw (p.1, p.2) (λ known. flush_tables _ (ram c.args.engine.now) (ram c.make_room.new.engine) (ram c.write_tables.new.engine) c.in_err-write_tables.ensures.leaves.tells
-    (λ is less. flush_stuck (ram c.args.engine.now) (ram c.flush_translations.new.engine) (ram c.make_room.new.engine) (ram c.write_tables.new.engine) c.flush_translations.ensures.leaves.geometry c.in_ok-make_room.ensures.leaves.tells (c.in_ok-flush_translations.ensures.count known.0 known.1 0 known.2)
+    (λ is less. flush_stuck (ram c.args.engine.now) (ram c.flush_translations.new.engine) (ram c.make_room.new.engine) (ram c.write_tables.new.engine)
+    c.flush_translations.ensures.leaves.geometry c.in_ok-make_room.ensures.leaves.tells
+    (c.in_ok-flush_translations.ensures.count known.0 known.1 0 known.2)
     (c.in_ok-make_room.ensures.count (c.flush_translations.ensures.leaves.honest_is ∙ known.0) (c.in_ok-flush_translations.ensures.truth known.0 known.1).truth) less (c.in_err-write_tables.ensures.out is)))
 
 pub returns-clause-count : goal.returns-clause-count
-returns-clause-count g c = λ known. flush_done (ram c.args.engine.now) (ram c.flush_translations.new.engine) (ram c.make_room.new.engine) (ram c.write_tables.new.engine) c.flush_translations.ensures.leaves.geometry c.in_ok-make_room.ensures.leaves.tells (c.in_ok-flush_translations.ensures.count known.0 known.1 0 known.2)
+returns-clause-count g c = λ known. flush_done (ram c.args.engine.now) (ram c.flush_translations.new.engine) (ram c.make_room.new.engine)
+    (ram c.write_tables.new.engine) c.flush_translations.ensures.leaves.geometry c.in_ok-make_room.ensures.leaves.tells
+    (c.in_ok-flush_translations.ensures.count known.0 known.1 0 known.2)
     (c.in_ok-make_room.ensures.count (c.flush_translations.ensures.leaves.honest_is ∙ known.0) (c.in_ok-flush_translations.ensures.truth known.0 known.1).truth) c.in_ok-write_tables.ensures.leaves.tells c.in_ok-write_tables.ensures.cost
 
 pub returns-in_err-flush_translations-clause-ends : goal.returns-in_err-flush_translations-clause-ends
@@ -58,24 +67,43 @@ returns-in_err-flush_translations-clause-ends g c =
 pub returns-in_err-make_room-clause-ends : goal.returns-in_err-make_room-clause-ends
 returns-in_err-make_room-clause-ends g c =
     let p = err_from_is_err_and c.from_residual-in_err-make_room.result c.from_residual-in_err-make_room.ensures.1 in
-    rw (p.1, p.2) (leaves_stuck g.N.PageSource.flash g.N.PageSource.recorded g.N.PageSource.honest g.N.PageSource.calm g.N.PageSource.failed c.args.engine.now c.make_room.new.engine _ (leaves_then g.N.PageSource.flash g.N.PageSource.recorded g.N.PageSource.honest g.N.PageSource.calm g.N.PageSource.failed c.args.engine.now c.flush_translations.new.engine c.make_room.new.engine _ _ (λ honest k. c.in_ok-flush_translations.ensures.truth honest k) c.flush_translations.ensures.limits c.in_ok-flush_translations.ensures.leaves c.in_err-make_room.ensures.leaves)
+    rw (p.1, p.2)
+    (leaves_stuck g.N.PageSource.flash g.N.PageSource.recorded g.N.PageSource.honest g.N.PageSource.calm g.N.PageSource.failed c.args.engine.now
+    c.make_room.new.engine _
+    (leaves_then g.N.PageSource.flash g.N.PageSource.recorded g.N.PageSource.honest g.N.PageSource.calm g.N.PageSource.failed
+    c.args.engine.now c.flush_translations.new.engine c.make_room.new.engine _ _
+    (λ honest k. c.in_ok-flush_translations.ensures.truth honest k) c.flush_translations.ensures.limits
+    c.in_ok-flush_translations.ensures.leaves c.in_err-make_room.ensures.leaves)
     (limits_then _ _ _ c.flush_translations.ensures.limits c.make_room.ensures.keys.limits))
 
 pub returns-in_err-write_tables-clause-ends : goal.returns-in_err-write_tables-clause-ends
 returns-in_err-write_tables-clause-ends g c =
     let p = err_from_is_err_and c.from_residual-in_err-write_tables.result c.from_residual-in_err-write_tables.ensures.1 in
-    rw (p.1, p.2) (leaves_stuck g.N.PageSource.flash g.N.PageSource.recorded g.N.PageSource.honest g.N.PageSource.calm g.N.PageSource.failed c.args.engine.now c.write_tables.new.engine _ (leaves_then g.N.PageSource.flash g.N.PageSource.recorded g.N.PageSource.honest g.N.PageSource.calm g.N.PageSource.failed c.args.engine.now c.flush_translations.new.engine c.write_tables.new.engine _ _ (λ honest k. c.in_ok-flush_translations.ensures.truth honest k) c.flush_translations.ensures.limits c.in_ok-flush_translations.ensures.leaves
+    rw (p.1, p.2)
+    (leaves_stuck g.N.PageSource.flash g.N.PageSource.recorded g.N.PageSource.honest g.N.PageSource.calm g.N.PageSource.failed c.args.engine.now
+    c.write_tables.new.engine _
+    (leaves_then g.N.PageSource.flash g.N.PageSource.recorded g.N.PageSource.honest g.N.PageSource.calm g.N.PageSource.failed
+    c.args.engine.now c.flush_translations.new.engine c.write_tables.new.engine _ _
+    (λ honest k. c.in_ok-flush_translations.ensures.truth honest k) c.flush_translations.ensures.limits
+    c.in_ok-flush_translations.ensures.leaves
     (leaves_then g.N.PageSource.flash g.N.PageSource.recorded g.N.PageSource.honest g.N.PageSource.calm g.N.PageSource.failed c.flush_translations.new.engine c.make_room.new.engine c.write_tables.new.engine _ _
     (λ honest k. keeps_room (ram c.flush_translations.new.engine) (ram c.make_room.new.engine) _ _ (c.in_ok-make_room.ensures.truth honest k) (c.in_ok-make_room.ensures.pinned honest k)) c.make_room.ensures.keys.limits
     c.in_ok-make_room.ensures.leaves c.in_err-write_tables.ensures.leaves))
     (limits_then _ _ _ (limits_then _ _ _ c.flush_translations.ensures.limits c.make_room.ensures.keys.limits) (limits_same _ _ c.write_tables.ensures.mapping)))
 
 pub returns-clause-ends : goal.returns-clause-ends
-returns-clause-ends g c = leaves_ends g.N.PageSource.flash g.N.PageSource.recorded g.N.PageSource.honest g.N.PageSource.calm g.N.PageSource.failed c.args.engine.now c.write_tables.new.engine (Ok tt) (leaves_then g.N.PageSource.flash g.N.PageSource.recorded g.N.PageSource.honest g.N.PageSource.calm g.N.PageSource.failed c.args.engine.now c.flush_translations.new.engine c.write_tables.new.engine _ _ (λ honest k. c.in_ok-flush_translations.ensures.truth honest k) c.flush_translations.ensures.limits c.in_ok-flush_translations.ensures.leaves
+returns-clause-ends g c = leaves_ends g.N.PageSource.flash g.N.PageSource.recorded g.N.PageSource.honest g.N.PageSource.calm g.N.PageSource.failed
+    c.args.engine.now c.write_tables.new.engine (Ok tt)
+    (leaves_then g.N.PageSource.flash g.N.PageSource.recorded g.N.PageSource.honest g.N.PageSource.calm g.N.PageSource.failed c.args.engine.now
+    c.flush_translations.new.engine c.write_tables.new.engine _ _ (λ honest k. c.in_ok-flush_translations.ensures.truth honest k)
+    c.flush_translations.ensures.limits c.in_ok-flush_translations.ensures.leaves
     (leaves_then g.N.PageSource.flash g.N.PageSource.recorded g.N.PageSource.honest g.N.PageSource.calm g.N.PageSource.failed c.flush_translations.new.engine c.make_room.new.engine c.write_tables.new.engine _ _
     (λ honest k. keeps_room (ram c.flush_translations.new.engine) (ram c.make_room.new.engine) _ _ (c.in_ok-make_room.ensures.truth honest k) (c.in_ok-make_room.ensures.pinned honest k)) c.make_room.ensures.keys.limits
     c.in_ok-make_room.ensures.leaves c.in_ok-write_tables.ensures.leaves))
-    (limits_then _ _ _ (limits_then _ _ _ c.flush_translations.ensures.limits c.make_room.ensures.keys.limits) (limits_same _ _ c.write_tables.ensures.mapping)) (λ none. calm_law (ram c.make_room.new.engine) (ram c.write_tables.new.engine) c.write_tables.ensures.beside c.in_ok-make_room.ensures.made.calm)
+    (limits_then _ _ _ (limits_then _ _ _ c.flush_translations.ensures.limits c.make_room.ensures.keys.limits)
+    (limits_same _ _ c.write_tables.ensures.mapping))
+    (λ none. calm_law (ram c.make_room.new.engine) (ram c.write_tables.new.engine) c.write_tables.ensures.beside
+    c.in_ok-make_room.ensures.made.calm)
 
 pub returns-clause-truth : goal.returns-clause-truth
 returns-clause-truth g c = λ honest w.
@@ -84,7 +112,9 @@ returns-clause-truth g c = λ honest w.
     let room = c.in_ok-make_room.ensures.truth still first.truth in
     let knows = c.in_ok-make_room.ensures.pinned still first.truth in
     let spells = c.in_ok-write_tables.ensures.truth (c.make_room.ensures.leaves.honest_is ∙ still) knows in
-    keeps_then _ _ _ _ _ _ (c.make_room.ensures.leaves.geometry ∙ c.flush_translations.ensures.leaves.geometry) (keeps_then _ _ _ _ _ _ c.flush_translations.ensures.leaves.geometry first (keeps_room (ram c.flush_translations.new.engine) (ram c.make_room.new.engine) _ _ room knows)) spells.keeps
+    keeps_then _ _ _ _ _ _ (c.make_room.ensures.leaves.geometry ∙ c.flush_translations.ensures.leaves.geometry)
+    (keeps_then _ _ _ _ _ _ c.flush_translations.ensures.leaves.geometry first
+    (keeps_room (ram c.flush_translations.new.engine) (ram c.make_room.new.engine) _ _ room knows)) spells.keeps
 
 pub returns-in_err-make_room-clause-truth : goal.returns-in_err-make_room-clause-truth
 returns-in_err-make_room-clause-truth g c =
@@ -92,7 +122,10 @@ returns-in_err-make_room-clause-truth g c =
     rw (p.1, p.2) (λ honest w.
     let first = c.in_ok-flush_translations.ensures.truth honest w in
     let still = c.flush_translations.ensures.leaves.honest_is ∙ honest in
-    keeps_refused c.args.engine.now.geometry (ram c.flush_translations.new.engine) (ram c.make_room.new.engine) _ _ _ _ c.flush_translations.ensures.leaves.geometry first (refused_room (ram c.flush_translations.new.engine) (ram c.make_room.new.engine) _ _ _ (c.in_err-make_room.ensures.truth still first.truth) (c.in_err-make_room.ensures.pinned still first.truth)))
+    keeps_refused c.args.engine.now.geometry (ram c.flush_translations.new.engine) (ram c.make_room.new.engine) _ _ _ _
+    c.flush_translations.ensures.leaves.geometry first
+    (refused_room (ram c.flush_translations.new.engine) (ram c.make_room.new.engine) _ _ _ (c.in_err-make_room.ensures.truth still first.truth)
+    (c.in_err-make_room.ensures.pinned still first.truth)))
 
 pub returns-in_err-write_tables-clause-truth : goal.returns-in_err-write_tables-clause-truth
 returns-in_err-write_tables-clause-truth g c =
@@ -102,7 +135,11 @@ returns-in_err-write_tables-clause-truth g c =
     let still = c.flush_translations.ensures.leaves.honest_is ∙ honest in
     let room = c.in_ok-make_room.ensures.truth still first.truth in
     let knows = c.in_ok-make_room.ensures.pinned still first.truth in
-    keeps_refused c.args.engine.now.geometry (ram c.make_room.new.engine) (ram c.write_tables.new.engine) _ _ _ _ (c.make_room.ensures.leaves.geometry ∙ c.flush_translations.ensures.leaves.geometry) (keeps_then _ _ _ _ _ _ c.flush_translations.ensures.leaves.geometry first (keeps_room (ram c.flush_translations.new.engine) (ram c.make_room.new.engine) _ _ room knows)) (c.in_err-write_tables.ensures.truth (c.make_room.ensures.leaves.honest_is ∙ still) knows))
+    keeps_refused c.args.engine.now.geometry (ram c.make_room.new.engine) (ram c.write_tables.new.engine) _ _ _ _
+    (c.make_room.ensures.leaves.geometry ∙ c.flush_translations.ensures.leaves.geometry)
+    (keeps_then _ _ _ _ _ _ c.flush_translations.ensures.leaves.geometry first
+    (keeps_room (ram c.flush_translations.new.engine) (ram c.make_room.new.engine) _ _ room knows))
+    (c.in_err-write_tables.ensures.truth (c.make_room.ensures.leaves.honest_is ∙ still) knows))
 
 pub returns-clause-pins : goal.returns-clause-pins
 returns-clause-pins g c = λ none. ap (λ p. p.block) c.write_tables.ensures.beside.pin ∙ room_pins g.N.PageSource.erases c.flush_translations.new.engine c.make_room.new.engine c.in_ok-make_room.ensures.erases (c.in_ok-flush_translations.ensures.pins none)

@@ -11,7 +11,9 @@ use Rattle.ftl_device.proofs.LeaveLemmas.{leaves_by, leaves_same, leaves_then, b
 use Rattle.ftl_device.proofs.flush.flush_translation.Goals as goal
 
 pub returns-clause-calm : goal.returns-clause-calm
-returns-clause-calm g c = λ none. calm_law (ram c.make_room.new.engine) (ram c.write_back.new.self) (beside_back c.write_back.result (ram c.make_room.new.engine) (ram c.write_back.new.self) _ c.write_back.ensures.pin c.write_back.ensures.goes c.write_back.ensures.cleaned c.write_back.ensures.mapping) c.in_ok-make_room.ensures.made.calm
+returns-clause-calm g c = λ none. calm_law (ram c.make_room.new.engine) (ram c.write_back.new.self)
+    (beside_back c.write_back.result (ram c.make_room.new.engine) (ram c.write_back.new.self) _ c.write_back.ensures.pin c.write_back.ensures.goes
+    c.write_back.ensures.cleaned c.write_back.ensures.mapping) c.in_ok-make_room.ensures.made.calm
 
 pub returns-then-not-lacks-clause-truth : goal.returns-then-not-lacks-clause-truth
 returns-then-not-lacks-clause-truth g c = λ honest w. keeps_same (ram c.args.engine.now) _ w
@@ -24,7 +26,10 @@ returns-in_err-make_room-clause-truth g c =
 pub returns-clause-truth : goal.returns-clause-truth
 returns-clause-truth g c = λ honest w.
     let room = c.in_ok-make_room.ensures.truth honest w in
-    back_after c.write_back.result _ c.args.engine.now.geometry (ram c.make_room.new.engine) (ram c.write_back.new.self) _ _ _ c.make_room.ensures.leaves.geometry c.make_room.ensures.leaves.safe.memory c.write_back.ensures.stands.safe.memory (beside_back c.write_back.result (ram c.make_room.new.engine) (ram c.write_back.new.self) _ c.write_back.ensures.pin c.write_back.ensures.goes c.write_back.ensures.cleaned c.write_back.ensures.mapping)
+    back_after c.write_back.result _ c.args.engine.now.geometry (ram c.make_room.new.engine) (ram c.write_back.new.self) _ _ _
+    c.make_room.ensures.leaves.geometry c.make_room.ensures.leaves.safe.memory c.write_back.ensures.stands.safe.memory
+    (beside_back c.write_back.result (ram c.make_room.new.engine) (ram c.write_back.new.self) _ c.write_back.ensures.pin c.write_back.ensures.goes
+    c.write_back.ensures.cleaned c.write_back.ensures.mapping)
     (keeps_room (ram c.args.engine.now) (ram c.make_room.new.engine) _ _ room (c.in_ok-make_room.ensures.pinned honest w)) (c.write_back.ensures.truth (c.make_room.ensures.leaves.honest_is ∙ honest) c.in_ok-make_room.ensures.leaves.fault room.truth)
 
 pub returns-clause-cleans : goal.returns-clause-cleans
@@ -39,7 +44,9 @@ returns-in_err-make_room-clause-count g c =
     rw (p.1, p.2) (λ honest w failures funded. unroomed_counts failures _ (ram c.args.engine.now) (ram c.make_room.new.engine) (c.in_err-make_room.ensures.count honest w failures funded))
 
 pub returns-clause-count : goal.returns-clause-count
-returns-clause-count g c = λ honest w failures funded. written_counts failures c.write_back.result (ram c.args.engine.now) (ram c.make_room.new.engine) (ram c.write_back.new.self) c.make_room.ensures.leaves.safe.memory c.make_room.ensures.leaves.geometry (c.in_ok-make_room.ensures.count honest w failures funded) (c.write_back.ensures.cost c.in_ok-make_room.ensures.leaves.fault)
+returns-clause-count g c = λ honest w failures funded. written_counts failures c.write_back.result (ram c.args.engine.now)
+    (ram c.make_room.new.engine) (ram c.write_back.new.self) c.make_room.ensures.leaves.safe.memory c.make_room.ensures.leaves.geometry
+    (c.in_ok-make_room.ensures.count honest w failures funded) (c.write_back.ensures.cost c.in_ok-make_room.ensures.leaves.fault)
 
 pub returns-then-not-lacks-clause-leaves : goal.returns-then-not-lacks-clause-leaves
 returns-then-not-lacks-clause-leaves g c = leaves_same g.N.PageSource.flash g.N.PageSource.recorded g.N.PageSource.honest g.N.PageSource.calm g.N.PageSource.failed c.args.engine.now c.requires.safe c.requires.going
@@ -53,21 +60,32 @@ pub returns-clause-leaves : goal.returns-clause-leaves
 returns-clause-leaves g c = leaves_then g.N.PageSource.flash g.N.PageSource.recorded g.N.PageSource.honest g.N.PageSource.calm g.N.PageSource.failed c.args.engine.now c.make_room.new.engine c.write_back.new.self _ c.write_back.result
     (λ honest k. keeps_room (ram c.args.engine.now) (ram c.make_room.new.engine) _ _ (c.in_ok-make_room.ensures.truth honest k) (c.in_ok-make_room.ensures.pinned honest k)) c.make_room.ensures.keys.limits
     c.in_ok-make_room.ensures.leaves
-    (leaves_by g.N.PageSource.flash g.N.PageSource.recorded g.N.PageSource.honest g.N.PageSource.calm g.N.PageSource.failed c.make_room.new.engine c.write_back.new.self c.write_back.result c.in_ok-make_room.ensures.leaves.fault c.write_back.ensures.stands c.write_back.ensures.goes.geometry (back_told c.write_back.result (ram c.make_room.new.engine) (ram c.write_back.new.self) (c.write_back.ensures.cost c.in_ok-make_room.ensures.leaves.fault))
+    (leaves_by g.N.PageSource.flash g.N.PageSource.recorded g.N.PageSource.honest g.N.PageSource.calm g.N.PageSource.failed c.make_room.new.engine
+    c.write_back.new.self c.write_back.result c.in_ok-make_room.ensures.leaves.fault c.write_back.ensures.stands
+    c.write_back.ensures.goes.geometry
+    (back_told c.write_back.result (ram c.make_room.new.engine) (ram c.write_back.new.self)
+    (c.write_back.ensures.cost c.in_ok-make_room.ensures.leaves.fault))
     (λ honest k ne. c.write_back.ensures.stops honest c.in_ok-make_room.ensures.leaves.fault k.truth ne))
 
 pub returns-clause-pins : goal.returns-clause-pins
 returns-clause-pins g c = ok_any c.write_back.result (λ none. ap (λ p. p.block) c.write_back.ensures.pin ∙ room_pins g.N.PageSource.erases c.args.engine.now c.make_room.new.engine c.in_ok-make_room.ensures.erases none)
 
 pub returns-then-not-lacks-clause-page : goal.returns-then-not-lacks-clause-page
-returns-then-not-lacks-clause-page g c = page_clean g.N.PageSource.flash g.N.PageSource.recorded g.N.PageSource.honest g.N.PageSource.calm g.N.PageSource.failed c.args.t c.args.engine.now (clean_by c.args.engine.now.geometry c.args.t c.args.engine.now.mapping c.requires.safe.memory.mapping_of (c.lacks.ensures.none c.if-not-lacks.true))
+returns-then-not-lacks-clause-page g c = page_clean g.N.PageSource.flash g.N.PageSource.recorded g.N.PageSource.honest g.N.PageSource.calm
+    g.N.PageSource.failed c.args.t c.args.engine.now
+    (clean_by c.args.engine.now.geometry c.args.t c.args.engine.now.mapping c.requires.safe.memory.mapping_of
+    (c.lacks.ensures.none c.if-not-lacks.true))
 
 pub returns-clause-page : goal.returns-clause-page
 returns-clause-page g c =
     let cleared = cleared_by g.N.PageSource.flash g.N.PageSource.recorded g.N.PageSource.honest g.N.PageSource.calm g.N.PageSource.failed c.args.engine.now c.make_room.new.engine _ c.in_ok-make_room.ensures.leaves c.in_ok-make_room.ensures.made
     (λ honest k. keeps_room (ram c.args.engine.now) (ram c.make_room.new.engine) _ _ (c.in_ok-make_room.ensures.truth honest k) (c.in_ok-make_room.ensures.pinned honest k)) in
-    let back = written_back g.N.PageSource.flash g.N.PageSource.recorded g.N.PageSource.honest g.N.PageSource.calm g.N.PageSource.failed c.args.t c.make_room.new.engine c.write_back.new.self c.write_back.result c.make_room.ensures.leaves.safe.memory c.write_back.ensures.stands.safe.memory
-    (beside_back c.write_back.result (ram c.make_room.new.engine) (ram c.write_back.new.self) _ c.write_back.ensures.pin c.write_back.ensures.goes c.write_back.ensures.cleaned c.write_back.ensures.mapping) c.write_back.ensures.goes c.write_back.ensures.stands c.write_back.ensures.cleaned c.write_back.ensures.programmed
+    let back = written_back g.N.PageSource.flash g.N.PageSource.recorded g.N.PageSource.honest g.N.PageSource.calm g.N.PageSource.failed c.args.t
+    c.make_room.new.engine c.write_back.new.self c.write_back.result c.make_room.ensures.leaves.safe.memory
+    c.write_back.ensures.stands.safe.memory
+    (beside_back c.write_back.result (ram c.make_room.new.engine) (ram c.write_back.new.self) _ c.write_back.ensures.pin c.write_back.ensures.goes
+    c.write_back.ensures.cleaned c.write_back.ensures.mapping) c.write_back.ensures.goes c.write_back.ensures.stands
+    c.write_back.ensures.cleaned c.write_back.ensures.programmed
     (c.write_back.ensures.cost c.in_ok-make_room.ensures.leaves.fault) (λ honest true_of. c.write_back.ensures.truth honest c.in_ok-make_room.ensures.leaves.fault true_of) in
     page_flushed g.N.PageSource.flash g.N.PageSource.recorded g.N.PageSource.honest g.N.PageSource.calm g.N.PageSource.failed c.args.t c.args.engine.now c.make_room.new.engine c.write_back.new.self c.write_back.result
     (lacks_by c.args.engine.now.geometry c.args.t c.args.engine.now.mapping c.requires.safe.memory.mapping_of (c.lacks.ensures.some c.if-not-lacks.false)) cleared back

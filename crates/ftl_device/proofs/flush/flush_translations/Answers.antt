@@ -24,13 +24,16 @@ translations-init g c = record {
 
 pub translations-preserved : goal.translations-preserved
 translations-preserved g c = record {
-  leaves = leaves_then g.N.PageSource.flash g.N.PageSource.recorded g.N.PageSource.honest g.N.PageSource.calm g.N.PageSource.failed c.args.engine.now c.translations.engine c.flush_translation.new.engine _ _ (λ honest k. c.translations.invariant.truth honest k) c.translations.invariant.limits c.translations.invariant.leaves c.in_ok-flush_translation.ensures.leaves;
+  leaves = leaves_then g.N.PageSource.flash g.N.PageSource.recorded g.N.PageSource.honest g.N.PageSource.calm g.N.PageSource.failed c.args.engine.now
+      c.translations.engine c.flush_translation.new.engine _ _ (λ honest k. c.translations.invariant.truth honest k) c.translations.invariant.limits
+      c.translations.invariant.leaves c.in_ok-flush_translation.ensures.leaves;
   pins = λ none. c.in_ok-flush_translation.ensures.pins (c.translations.invariant.pins none);
   keys = c.flush_translation.ensures.keys ∙ c.translations.invariant.keys;
   limits = limits_then _ _ _ c.translations.invariant.limits c.flush_translation.ensures.limits;
   calm = c.flush_translation.ensures.calm c.in_ok-flush_translation.ensures.leaves.fault;
   clean = clean_more c.translations.t _ _ _ _ c.translations.invariant.leaves.geometry (omega arith) c.translations.invariant.clean c.in_ok-flush_translation.ensures.cleans c.in_ok-flush_translation.ensures.clean;
-  pages = pages_then g.N.PageSource.flash g.N.PageSource.recorded g.N.PageSource.honest g.N.PageSource.calm g.N.PageSource.failed c.translations.t c.args.engine.now c.translations.engine c.flush_translation.new.engine c.translations.invariant.pages c.in_ok-flush_translation.ensures.page;
+  pages = pages_then g.N.PageSource.flash g.N.PageSource.recorded g.N.PageSource.honest g.N.PageSource.calm g.N.PageSource.failed c.translations.t
+      c.args.engine.now c.translations.engine c.flush_translation.new.engine c.translations.invariant.pages c.in_ok-flush_translation.ensures.page;
   count = λ honest w failures funded.
       counts_then failures (Ok tt) (ram c.args.engine.now) (ram c.translations.engine) (ram c.flush_translation.new.engine) c.translations.invariant.leaves.geometry c.in_ok-flush_translation.ensures.leaves.tells (c.translations.invariant.count honest w failures funded)
       (c.in_ok-flush_translation.ensures.count (c.translations.invariant.leaves.honest_is ∙ honest) (c.translations.invariant.truth honest w).truth);
@@ -47,13 +50,19 @@ returns-clause-pages g c =
 pub returns-in_err-flush_translation-clause-count : goal.returns-in_err-flush_translation-clause-count
 returns-in_err-flush_translation-clause-count g c =
     let p = err_from_is_err_and c.from_residual.result c.from_residual.ensures.1 in
-    rw (p.1, p.2) (λ honest w failures funded. counts_then failures (Err _) (ram c.args.engine.now) (ram c.translations.engine) (ram c.flush_translation.new.engine) c.translations.invariant.leaves.geometry c.in_err-flush_translation.ensures.leaves.tells (c.translations.invariant.count honest w failures funded)
+    rw (p.1, p.2)
+    (λ honest w failures funded. counts_then failures (Err _) (ram c.args.engine.now) (ram c.translations.engine)
+    (ram c.flush_translation.new.engine) c.translations.invariant.leaves.geometry c.in_err-flush_translation.ensures.leaves.tells
+    (c.translations.invariant.count honest w failures funded)
     (c.in_err-flush_translation.ensures.count (c.translations.invariant.leaves.honest_is ∙ honest) (c.translations.invariant.truth honest w).truth))
 
 pub returns-in_err-flush_translation-clause-leaves : goal.returns-in_err-flush_translation-clause-leaves
 returns-in_err-flush_translation-clause-leaves g c =
     let p = err_from_is_err_and c.from_residual.result c.from_residual.ensures.1 in
-    rw (p.1, p.2) (leaves_then g.N.PageSource.flash g.N.PageSource.recorded g.N.PageSource.honest g.N.PageSource.calm g.N.PageSource.failed c.args.engine.now c.translations.engine c.flush_translation.new.engine _ _ (λ honest k. c.translations.invariant.truth honest k) c.translations.invariant.limits c.translations.invariant.leaves c.in_err-flush_translation.ensures.leaves)
+    rw (p.1, p.2)
+    (leaves_then g.N.PageSource.flash g.N.PageSource.recorded g.N.PageSource.honest g.N.PageSource.calm g.N.PageSource.failed c.args.engine.now
+    c.translations.engine c.flush_translation.new.engine _ _ (λ honest k. c.translations.invariant.truth honest k)
+    c.translations.invariant.limits c.translations.invariant.leaves c.in_err-flush_translation.ensures.leaves)
 
 pub returns-in_err-flush_translation-clause-truth : goal.returns-in_err-flush_translation-clause-truth
 returns-in_err-flush_translation-clause-truth g c =

@@ -21,6 +21,9 @@ invariant-translations g l = record {
   calm : IsCalm (ram l.engine);
   clean : (t : ℕ) → t < l.t → IsClean l.initial.engine.geometry t l.engine.mapping;
   pages : FlushesPages g.N.PageSource.flash g.N.PageSource.recorded g.N.PageSource.honest l.t l.initial.engine l.engine;
-  count : g.N.PageSource.honest l.initial.engine.nand ≡ true → Knows (ram l.initial.engine) (image_in g.N.PageSource.flash l.initial.engine) → (failures : ℕ) → IsFunded l.initial.engine.geometry.pages failures (counts_of (ram l.initial.engine).blocks) → FlushFunded failures (ram l.initial.engine) (ram l.engine);
-  truth : g.N.PageSource.honest l.initial.engine.nand ≡ true → Knows (ram l.initial.engine) (image_in g.N.PageSource.flash l.initial.engine) → KeepsArray l.initial.engine.geometry (image_in g.N.PageSource.flash l.initial.engine) (ram l.engine) (image_in g.N.PageSource.flash l.engine);
+  count : g.N.PageSource.honest l.initial.engine.nand ≡ true → Knows (ram l.initial.engine) (image_in g.N.PageSource.flash l.initial.engine)
+      → (failures : ℕ) → IsFunded l.initial.engine.geometry.pages failures (counts_of (ram l.initial.engine).blocks)
+      → FlushFunded failures (ram l.initial.engine) (ram l.engine);
+  truth : g.N.PageSource.honest l.initial.engine.nand ≡ true → Knows (ram l.initial.engine) (image_in g.N.PageSource.flash l.initial.engine)
+      → KeepsArray l.initial.engine.geometry (image_in g.N.PageSource.flash l.initial.engine) (ram l.engine) (image_in g.N.PageSource.flash l.engine);
 }

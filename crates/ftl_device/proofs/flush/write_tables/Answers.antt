@@ -21,20 +21,32 @@ rounds-init g c = record {
 
 pub rounds-preserved : goal.rounds-preserved
 rounds-preserved g c = record {
-  leaves = leaves_then g.N.PageSource.flash g.N.PageSource.recorded g.N.PageSource.honest g.N.PageSource.calm g.N.PageSource.failed c.args.engine.now c.rounds.engine c.write_tables_once-in-rounds.new.engine _ _ (λ honest k. (c.rounds.invariant.truth honest k).keeps) (limits_same _ _ c.rounds.invariant.mapping) c.rounds.invariant.leaves c.in_ok-write_tables_once-2.ensures.leaves;
+  leaves = leaves_then g.N.PageSource.flash g.N.PageSource.recorded g.N.PageSource.honest g.N.PageSource.calm g.N.PageSource.failed c.args.engine.now
+      c.rounds.engine c.write_tables_once-in-rounds.new.engine _ _ (λ honest k. (c.rounds.invariant.truth honest k).keeps)
+      (limits_same _ _ c.rounds.invariant.mapping) c.rounds.invariant.leaves c.in_ok-write_tables_once-2.ensures.leaves;
   mapping = c.write_tables_once-in-rounds.ensures.mapping ∙ c.rounds.invariant.mapping;
   beside = beside_then _ _ _ c.rounds.invariant.beside c.write_tables_once-in-rounds.ensures.beside;
   most = omega (arith, c.good-good-in-rounds.ensures, c.rounds.invariant.fewer, c.rounds.invariant.most);
   fewer = omega (arith, c.good-good-in-rounds.ensures, c.write_tables_once-in-rounds.ensures.table.fewer);
-  cost = next_round c.rounds.good c.good-good-in-rounds.result (ram c.args.engine.now) (ram c.rounds.engine) (ram c.write_tables_once-in-rounds.new.engine) c.rounds.invariant.leaves.geometry c.good-good-in-rounds.ensures (omega (arith, c.good.ensures, c.good-good-in-rounds.ensures, c.rounds-test.true)) c.rounds.invariant.cost c.in_ok-write_tables_once-2.ensures.cost;
-  rounds = rounds_next g.N.PageSource.flash g.N.PageSource.recorded g.N.PageSource.honest g.N.PageSource.calm g.N.PageSource.failed c.rounds.good c.good-good-in-rounds.result c.args.engine.now c.rounds.engine c.write_tables_once-in-rounds.new.engine c.good-good-in-rounds.ensures (omega (arith, c.good.ensures, c.good-good-in-rounds.ensures, c.rounds-test.true)) c.rounds.invariant.rounds c.in_ok-write_tables_once-2.ensures.round;
+  cost = next_round c.rounds.good c.good-good-in-rounds.result (ram c.args.engine.now) (ram c.rounds.engine)
+      (ram c.write_tables_once-in-rounds.new.engine) c.rounds.invariant.leaves.geometry c.good-good-in-rounds.ensures
+      (omega (arith, c.good.ensures, c.good-good-in-rounds.ensures, c.rounds-test.true)) c.rounds.invariant.cost
+      c.in_ok-write_tables_once-2.ensures.cost;
+  rounds = rounds_next g.N.PageSource.flash g.N.PageSource.recorded g.N.PageSource.honest g.N.PageSource.calm g.N.PageSource.failed c.rounds.good
+      c.good-good-in-rounds.result c.args.engine.now c.rounds.engine c.write_tables_once-in-rounds.new.engine c.good-good-in-rounds.ensures
+      (omega (arith, c.good.ensures, c.good-good-in-rounds.ensures, c.rounds-test.true)) c.rounds.invariant.rounds
+      c.in_ok-write_tables_once-2.ensures.round;
   truth = λ honest w.
       let before = c.rounds.invariant.truth honest w in
-      spells_next c.good-good-in-rounds.result c.args.engine.now.geometry (ram c.rounds.engine) (ram c.write_tables_once-in-rounds.new.engine) _ _ _ c.rounds.invariant.leaves.geometry c.good-good-in-rounds.ensures before.keeps (c.in_ok-write_tables_once-2.ensures.truth (c.rounds.invariant.leaves.honest_is ∙ honest) before.keeps.truth);
+      spells_next c.good-good-in-rounds.result c.args.engine.now.geometry (ram c.rounds.engine) (ram c.write_tables_once-in-rounds.new.engine) _ _ _
+      c.rounds.invariant.leaves.geometry c.good-good-in-rounds.ensures before.keeps
+      (c.in_ok-write_tables_once-2.ensures.truth (c.rounds.invariant.leaves.honest_is ∙ honest) before.keeps.truth);
 }
 
 pub returns-clause-rounds : goal.returns-clause-rounds
-returns-clause-rounds g c = rounds_last g.N.PageSource.flash g.N.PageSource.recorded g.N.PageSource.honest g.N.PageSource.calm g.N.PageSource.failed c.rounds.good c.args.engine.now c.rounds.engine c.rounds.invariant.rounds (omega (arith, c.good.ensures, c.rounds-test.false)) c.rounds.invariant.fewer
+returns-clause-rounds g c = rounds_last g.N.PageSource.flash g.N.PageSource.recorded g.N.PageSource.honest g.N.PageSource.calm g.N.PageSource.failed
+    c.rounds.good c.args.engine.now c.rounds.engine c.rounds.invariant.rounds (omega (arith, c.good.ensures, c.rounds-test.false))
+    c.rounds.invariant.fewer
 
 pub returns-clause-cost : goal.returns-clause-cost
 returns-clause-cost g c = last_round c.rounds.good (ram c.args.engine.now) (ram c.rounds.engine) c.rounds.invariant.cost c.rounds.invariant.fewer
@@ -47,12 +59,19 @@ returns-in_err-write_tables_once-clause-out g c =
 pub returns-in_err-write_tables_once-2-clause-out : goal.returns-in_err-write_tables_once-2-clause-out
 returns-in_err-write_tables_once-2-clause-out g c =
     let p = err_from_is_err_and c.from_residual-in_err-write_tables_once-2.result c.from_residual-in_err-write_tables_once-2.ensures.1 in
-    rw (p.1, p.2) (λ is. later_fails c.rounds.good c.good-good-in-rounds.result (ram c.args.engine.now) (ram c.rounds.engine) (ram c.write_tables_once-in-rounds.new.engine) c.rounds.invariant.leaves.geometry c.good-good-in-rounds.ensures (omega (arith, c.good.ensures, c.good-good-in-rounds.ensures, c.rounds-test.true)) c.rounds.invariant.cost (c.in_err-write_tables_once-2.ensures.out is))
+    rw (p.1, p.2)
+    (λ is. later_fails c.rounds.good c.good-good-in-rounds.result (ram c.args.engine.now) (ram c.rounds.engine)
+    (ram c.write_tables_once-in-rounds.new.engine) c.rounds.invariant.leaves.geometry c.good-good-in-rounds.ensures
+    (omega (arith, c.good.ensures, c.good-good-in-rounds.ensures, c.rounds-test.true)) c.rounds.invariant.cost
+    (c.in_err-write_tables_once-2.ensures.out is))
 
 pub returns-in_err-write_tables_once-2-clause-leaves : goal.returns-in_err-write_tables_once-2-clause-leaves
 returns-in_err-write_tables_once-2-clause-leaves g c =
     let p = err_from_is_err_and c.from_residual-in_err-write_tables_once-2.result c.from_residual-in_err-write_tables_once-2.ensures.1 in
-    rw (p.1, p.2) (leaves_then g.N.PageSource.flash g.N.PageSource.recorded g.N.PageSource.honest g.N.PageSource.calm g.N.PageSource.failed c.args.engine.now c.rounds.engine c.write_tables_once-in-rounds.new.engine _ _ (λ honest k. (c.rounds.invariant.truth honest k).keeps) (limits_same _ _ c.rounds.invariant.mapping) c.rounds.invariant.leaves c.in_err-write_tables_once-2.ensures.leaves)
+    rw (p.1, p.2)
+    (leaves_then g.N.PageSource.flash g.N.PageSource.recorded g.N.PageSource.honest g.N.PageSource.calm g.N.PageSource.failed c.args.engine.now
+    c.rounds.engine c.write_tables_once-in-rounds.new.engine _ _ (λ honest k. (c.rounds.invariant.truth honest k).keeps)
+    (limits_same _ _ c.rounds.invariant.mapping) c.rounds.invariant.leaves c.in_err-write_tables_once-2.ensures.leaves)
 
 pub returns-in_err-write_tables_once-2-clause-beside : goal.returns-in_err-write_tables_once-2-clause-beside
 returns-in_err-write_tables_once-2-clause-beside g c = beside_then _ _ _ c.rounds.invariant.beside c.write_tables_once-in-rounds.ensures.beside

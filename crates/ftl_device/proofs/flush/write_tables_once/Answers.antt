@@ -26,19 +26,32 @@ pages-init g c = record {
 
 pub pages-preserved : goal.pages-preserved
 pages-preserved g c = record {
-  leaves = leaves_then g.N.PageSource.flash g.N.PageSource.recorded g.N.PageSource.honest g.N.PageSource.calm g.N.PageSource.failed c.args.engine.now c.pages.engine c.write_table.new.self _ (Ok tt) (λ honest k. (c.pages.invariant.truth honest k).keeps) (limits_same _ _ c.pages.invariant.mapping) c.pages.invariant.leaves
-      (leaves_by g.N.PageSource.flash g.N.PageSource.recorded g.N.PageSource.honest g.N.PageSource.calm g.N.PageSource.failed c.pages.engine c.write_table.new.self (Ok tt) c.pages.invariant.leaves.fault c.in_ok-write_table.ensures.stands c.write_table.ensures.goes.geometry (page_told Meta (Ok tt) (ram c.pages.engine) (ram c.write_table.new.self) (c.in_ok-write_table.ensures.cost c.pages.invariant.leaves.fault))
+  leaves = leaves_then g.N.PageSource.flash g.N.PageSource.recorded g.N.PageSource.honest g.N.PageSource.calm g.N.PageSource.failed c.args.engine.now
+      c.pages.engine c.write_table.new.self _ (Ok tt) (λ honest k. (c.pages.invariant.truth honest k).keeps)
+      (limits_same _ _ c.pages.invariant.mapping) c.pages.invariant.leaves
+      (leaves_by g.N.PageSource.flash g.N.PageSource.recorded g.N.PageSource.honest g.N.PageSource.calm g.N.PageSource.failed c.pages.engine
+      c.write_table.new.self (Ok tt) c.pages.invariant.leaves.fault c.in_ok-write_table.ensures.stands c.write_table.ensures.goes.geometry
+      (page_told Meta (Ok tt) (ram c.pages.engine) (ram c.write_table.new.self) (c.in_ok-write_table.ensures.cost c.pages.invariant.leaves.fault))
       (λ honest k ne. c.in_ok-write_table.ensures.stops honest c.pages.invariant.leaves.fault k.truth ne));
   mapping = c.write_table.ensures.mapping ∙ c.pages.invariant.mapping;
   beside = beside_then _ _ _ c.pages.invariant.beside (beside_mapping (ram c.pages.engine) (ram c.write_table.new.self) c.write_table.ensures.pin c.write_table.ensures.goes c.write_table.ensures.mapping);
   table = table_then _ _ _ c.pages.invariant.table c.write_table.ensures.table;
   cost = pages_more c.pages.u (ram c.args.engine.now) _ (ram c.write_table.new.self) c.pages.invariant.leaves.geometry c.pages.invariant.cost (c.in_ok-write_table.ensures.cost c.pages.invariant.leaves.fault);
   written = tables_then g.N.PageSource.flash g.N.PageSource.recorded g.N.PageSource.honest g.N.PageSource.calm g.N.PageSource.failed c.pages.u c.args.engine.now c.pages.engine c.write_table.new.self c.pages.invariant.written
-      (table_written g.N.PageSource.flash g.N.PageSource.recorded g.N.PageSource.honest g.N.PageSource.calm g.N.PageSource.failed c.pages.u c.pages.engine c.write_table.new.self tt c.pages.invariant.leaves.safe.memory c.write_table.ensures.stands.safe.memory (beside_mapping (ram c.pages.engine) (ram c.write_table.new.self) c.write_table.ensures.pin c.write_table.ensures.goes c.write_table.ensures.mapping)
-      c.write_table.ensures.goes c.in_ok-write_table.ensures.stands c.write_table.ensures.mapping c.in_ok-write_table.ensures.programmed (c.write_table.ensures.spelled c.pages.invariant.leaves.fault) (c.in_ok-write_table.ensures.cost c.pages.invariant.leaves.fault) (λ honest true_of. c.in_ok-write_table.ensures.truth honest c.pages.invariant.leaves.fault true_of));
+      (table_written g.N.PageSource.flash g.N.PageSource.recorded g.N.PageSource.honest g.N.PageSource.calm g.N.PageSource.failed c.pages.u
+      c.pages.engine c.write_table.new.self tt c.pages.invariant.leaves.safe.memory c.write_table.ensures.stands.safe.memory
+      (beside_mapping (ram c.pages.engine) (ram c.write_table.new.self) c.write_table.ensures.pin c.write_table.ensures.goes
+      c.write_table.ensures.mapping)
+      c.write_table.ensures.goes c.in_ok-write_table.ensures.stands c.write_table.ensures.mapping c.in_ok-write_table.ensures.programmed
+      (c.write_table.ensures.spelled c.pages.invariant.leaves.fault) (c.in_ok-write_table.ensures.cost c.pages.invariant.leaves.fault)
+      (λ honest true_of. c.in_ok-write_table.ensures.truth honest c.pages.invariant.leaves.fault true_of));
   truth = λ honest w.
       let before = c.pages.invariant.truth honest w in
-      tables_more c.pages.u (ram c.args.engine.now) _ (ram c.write_table.new.self) _ _ _ c.pages.invariant.leaves.geometry c.pages.invariant.leaves.safe.memory c.write_table.ensures.stands.safe.memory (beside_mapping (ram c.pages.engine) (ram c.write_table.new.self) c.write_table.ensures.pin c.write_table.ensures.goes c.write_table.ensures.mapping) c.pages.invariant.table c.write_table.ensures.table before (c.in_ok-write_table.ensures.truth (c.pages.invariant.leaves.honest_is ∙ honest) c.pages.invariant.leaves.fault before.keeps.truth.truth);
+      tables_more c.pages.u (ram c.args.engine.now) _ (ram c.write_table.new.self) _ _ _ c.pages.invariant.leaves.geometry
+      c.pages.invariant.leaves.safe.memory c.write_table.ensures.stands.safe.memory
+      (beside_mapping (ram c.pages.engine) (ram c.write_table.new.self) c.write_table.ensures.pin c.write_table.ensures.goes
+      c.write_table.ensures.mapping) c.pages.invariant.table c.write_table.ensures.table before
+      (c.in_ok-write_table.ensures.truth (c.pages.invariant.leaves.honest_is ∙ honest) c.pages.invariant.leaves.fault before.keeps.truth.truth);
 }
 
 pub returns-clause-round : goal.returns-clause-round
@@ -54,13 +67,21 @@ returns-clause-cost g c =
 pub returns-in_err-write_table-clause-out : goal.returns-in_err-write_table-clause-out
 returns-in_err-write_table-clause-out g c =
     let p = err_from_is_err_and c.from_residual.result c.from_residual.ensures.1 in
-    rw (p.1, p.2) (λ is. page_fails c.pages.u (table_pages c.args.engine.now.geometry) (ram c.args.engine.now) (ram c.pages.engine) (ram c.write_table.new.self) _ c.pages.invariant.leaves.geometry (omega arith) c.pages.invariant.table c.pages.invariant.cost (c.in_err-write_table.ensures.cost c.pages.invariant.leaves.fault) is)
+    rw (p.1, p.2)
+    (λ is. page_fails c.pages.u (table_pages c.args.engine.now.geometry) (ram c.args.engine.now) (ram c.pages.engine) (ram c.write_table.new.self)
+    _ c.pages.invariant.leaves.geometry (omega arith) c.pages.invariant.table c.pages.invariant.cost
+    (c.in_err-write_table.ensures.cost c.pages.invariant.leaves.fault) is)
 
 pub returns-in_err-write_table-clause-leaves : goal.returns-in_err-write_table-clause-leaves
 returns-in_err-write_table-clause-leaves g c =
     let p = err_from_is_err_and c.from_residual.result c.from_residual.ensures.1 in
-    rw (p.1, p.2) (leaves_then g.N.PageSource.flash g.N.PageSource.recorded g.N.PageSource.honest g.N.PageSource.calm g.N.PageSource.failed c.args.engine.now c.pages.engine c.write_table.new.self _ (Err _) (λ honest k. (c.pages.invariant.truth honest k).keeps) (limits_same _ _ c.pages.invariant.mapping) c.pages.invariant.leaves
-    (leaves_by g.N.PageSource.flash g.N.PageSource.recorded g.N.PageSource.honest g.N.PageSource.calm g.N.PageSource.failed c.pages.engine c.write_table.new.self (Err _) c.pages.invariant.leaves.fault c.in_err-write_table.ensures.stands c.write_table.ensures.goes.geometry (page_told Meta (Err _) (ram c.pages.engine) (ram c.write_table.new.self) (c.in_err-write_table.ensures.cost c.pages.invariant.leaves.fault))
+    rw (p.1, p.2)
+    (leaves_then g.N.PageSource.flash g.N.PageSource.recorded g.N.PageSource.honest g.N.PageSource.calm g.N.PageSource.failed c.args.engine.now
+    c.pages.engine c.write_table.new.self _ (Err _) (λ honest k. (c.pages.invariant.truth honest k).keeps)
+    (limits_same _ _ c.pages.invariant.mapping) c.pages.invariant.leaves
+    (leaves_by g.N.PageSource.flash g.N.PageSource.recorded g.N.PageSource.honest g.N.PageSource.calm g.N.PageSource.failed c.pages.engine
+    c.write_table.new.self (Err _) c.pages.invariant.leaves.fault c.in_err-write_table.ensures.stands c.write_table.ensures.goes.geometry
+    (page_told Meta (Err _) (ram c.pages.engine) (ram c.write_table.new.self) (c.in_err-write_table.ensures.cost c.pages.invariant.leaves.fault))
     (λ honest k ne. c.in_err-write_table.ensures.stops honest c.pages.invariant.leaves.fault k.truth ne)))
 
 pub returns-in_err-write_table-clause-beside : goal.returns-in_err-write_table-clause-beside
@@ -71,4 +92,8 @@ returns-in_err-write_table-clause-truth g c =
     let p = err_from_is_err_and c.from_residual.result c.from_residual.ensures.1 in
     rw (p.1, p.2) (λ honest w.
     let before = c.pages.invariant.truth honest w in
-    tabled_refused c.pages.u (ram c.args.engine.now) (ram c.pages.engine) (ram c.write_table.new.self) _ _ _ _ c.pages.invariant.leaves.geometry c.pages.invariant.leaves.safe.memory c.write_table.ensures.stands.safe.memory (beside_mapping (ram c.pages.engine) (ram c.write_table.new.self) c.write_table.ensures.pin c.write_table.ensures.goes c.write_table.ensures.mapping) before (c.in_err-write_table.ensures.truth (c.pages.invariant.leaves.honest_is ∙ honest) c.pages.invariant.leaves.fault before.keeps.truth.truth))
+    tabled_refused c.pages.u (ram c.args.engine.now) (ram c.pages.engine) (ram c.write_table.new.self) _ _ _ _ c.pages.invariant.leaves.geometry
+    c.pages.invariant.leaves.safe.memory c.write_table.ensures.stands.safe.memory
+    (beside_mapping (ram c.pages.engine) (ram c.write_table.new.self) c.write_table.ensures.pin c.write_table.ensures.goes
+    c.write_table.ensures.mapping) before
+    (c.in_err-write_table.ensures.truth (c.pages.invariant.leaves.honest_is ∙ honest) c.pages.invariant.leaves.fault before.keeps.truth.truth))

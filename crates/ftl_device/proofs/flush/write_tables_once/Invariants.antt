@@ -16,5 +16,7 @@ invariant-pages g l = record {
   table : KeepsTable (ram l.initial.engine).blocks (ram l.engine).blocks;
   cost : AddsPages l.u (ram l.initial.engine) (ram l.engine);
   written : WritesFirst g.N.PageSource.flash g.N.PageSource.recorded g.N.PageSource.honest l.u l.initial.engine l.engine;
-  truth : g.N.PageSource.honest l.initial.engine.nand ≡ true → Knows (ram l.initial.engine) (image_in g.N.PageSource.flash l.initial.engine) → KeepsTables l.u (ram l.initial.engine) (image_in g.N.PageSource.flash l.initial.engine) (ram l.engine) (image_in g.N.PageSource.flash l.engine);
+  truth : g.N.PageSource.honest l.initial.engine.nand ≡ true → Knows (ram l.initial.engine) (image_in g.N.PageSource.flash l.initial.engine)
+      → KeepsTables l.u (ram l.initial.engine) (image_in g.N.PageSource.flash l.initial.engine) (ram l.engine)
+      (image_in g.N.PageSource.flash l.engine);
 }

@@ -32,19 +32,33 @@ returns-in_err-renew_at-clause-truth g c =
     rw (p.1, p.2) (λ honest w.
     let room = c.in_ok-make_room.ensures.truth honest w in
     let knows = c.in_ok-make_room.ensures.pinned honest w in
-    keeps_refused c.args.engine.now.geometry (ram c.make_room.new.engine) (ram c.renew_at.new.self) _ _ _ _ c.make_room.ensures.leaves.geometry (keeps_room (ram c.args.engine.now) (ram c.make_room.new.engine) _ _ room knows) (rescue_refused (ram c.make_room.new.engine) (ram c.renew_at.new.self) _ _ c.make_room.ensures.leaves.safe.memory c.renew_at.ensures.stands.safe.memory c.renew_at.ensures.goes c.renew_at.ensures.pin c.renew_at.ensures.one_more knows _ (c.in_err-renew_at.ensures.truth (c.make_room.ensures.leaves.honest_is ∙ honest) c.in_ok-make_room.ensures.leaves.fault room.truth (moved_less (ram c.make_room.new.engine) _ knows))))
+    keeps_refused c.args.engine.now.geometry (ram c.make_room.new.engine) (ram c.renew_at.new.self) _ _ _ _ c.make_room.ensures.leaves.geometry
+    (keeps_room (ram c.args.engine.now) (ram c.make_room.new.engine) _ _ room knows)
+    (rescue_refused (ram c.make_room.new.engine) (ram c.renew_at.new.self) _ _ c.make_room.ensures.leaves.safe.memory
+    c.renew_at.ensures.stands.safe.memory c.renew_at.ensures.goes c.renew_at.ensures.pin c.renew_at.ensures.one_more knows _
+    (c.in_err-renew_at.ensures.truth (c.make_room.ensures.leaves.honest_is ∙ honest) c.in_ok-make_room.ensures.leaves.fault room.truth
+    (moved_less (ram c.make_room.new.engine) _ knows))))
 
 pub returns-in_err-renew_at-clause-count : goal.returns-in_err-renew_at-clause-count
 returns-in_err-renew_at-clause-count g c =
     let p = err_from_is_err_and c.from_residual-in_err-renew_at.result c.from_residual-in_err-renew_at.ensures.1 in
-    rw (p.1, p.2) (λ known five. rescue_stuck (ram c.args.engine.now) (ram c.make_room.new.engine) (ram c.renew_at.new.self) c.requires.safe.memory c.make_room.ensures.leaves.safe.memory c.renew_at.ensures.stands.safe.memory c.in_ok-make_room.ensures.made c.renew_at.ensures.goes (c.in_ok-make_room.ensures.count known.0 known.1 0 known.2) _ (c.in_err-renew_at.ensures.cost c.in_ok-make_room.ensures.leaves.fault))
+    rw (p.1, p.2)
+    (λ known five. rescue_stuck (ram c.args.engine.now) (ram c.make_room.new.engine) (ram c.renew_at.new.self) c.requires.safe.memory
+    c.make_room.ensures.leaves.safe.memory c.renew_at.ensures.stands.safe.memory c.in_ok-make_room.ensures.made c.renew_at.ensures.goes
+    (c.in_ok-make_room.ensures.count known.0 known.1 0 known.2) _ (c.in_err-renew_at.ensures.cost c.in_ok-make_room.ensures.leaves.fault))
 
 pub returns-in_err-renew_at-clause-ends : goal.returns-in_err-renew_at-clause-ends
 returns-in_err-renew_at-clause-ends g c =
     let p = err_from_is_err_and c.from_residual-in_err-renew_at.result c.from_residual-in_err-renew_at.ensures.1 in
-    rw (p.1, p.2) (leaves_stuck g.N.PageSource.flash g.N.PageSource.recorded g.N.PageSource.honest g.N.PageSource.calm g.N.PageSource.failed c.args.engine.now c.renew_at.new.self _ (leaves_then g.N.PageSource.flash g.N.PageSource.recorded g.N.PageSource.honest g.N.PageSource.calm g.N.PageSource.failed c.args.engine.now c.make_room.new.engine c.renew_at.new.self _ _
+    rw (p.1, p.2)
+    (leaves_stuck g.N.PageSource.flash g.N.PageSource.recorded g.N.PageSource.honest g.N.PageSource.calm g.N.PageSource.failed c.args.engine.now
+    c.renew_at.new.self _
+    (leaves_then g.N.PageSource.flash g.N.PageSource.recorded g.N.PageSource.honest g.N.PageSource.calm g.N.PageSource.failed
+    c.args.engine.now c.make_room.new.engine c.renew_at.new.self _ _
     (λ honest k. keeps_room (ram c.args.engine.now) (ram c.make_room.new.engine) _ _ (c.in_ok-make_room.ensures.truth honest k) (c.in_ok-make_room.ensures.pinned honest k)) c.make_room.ensures.keys.limits
-    c.in_ok-make_room.ensures.leaves (leaves_by g.N.PageSource.flash g.N.PageSource.recorded g.N.PageSource.honest g.N.PageSource.calm g.N.PageSource.failed c.make_room.new.engine c.renew_at.new.self (Err _) c.in_ok-make_room.ensures.leaves.fault c.in_err-renew_at.ensures.stands c.renew_at.ensures.goes.geometry
+    c.in_ok-make_room.ensures.leaves
+    (leaves_by g.N.PageSource.flash g.N.PageSource.recorded g.N.PageSource.honest g.N.PageSource.calm g.N.PageSource.failed c.make_room.new.engine
+    c.renew_at.new.self (Err _) c.in_ok-make_room.ensures.leaves.fault c.in_err-renew_at.ensures.stands c.renew_at.ensures.goes.geometry
     (rescue_told (Err _) (ram c.make_room.new.engine) (ram c.renew_at.new.self) c.make_room.ensures.leaves.safe.memory c.renew_at.ensures.stands.safe.memory c.renew_at.ensures.goes (c.in_err-renew_at.ensures.cost c.in_ok-make_room.ensures.leaves.fault))
     (λ honest k ne. c.in_err-renew_at.ensures.stops honest c.in_ok-make_room.ensures.leaves.fault k.truth ne))) (limits_then _ _ _ c.make_room.ensures.keys.limits c.renew_at.ensures.keys.limits))
 
@@ -53,13 +67,24 @@ returns-clause-truth g c = λ honest w.
     let room = c.in_ok-make_room.ensures.truth honest w in
     let knows = c.in_ok-make_room.ensures.pinned honest w in
     let one = c.in_ok-renew_at.ensures.truth (c.make_room.ensures.leaves.honest_is ∙ honest) c.in_ok-make_room.ensures.leaves.fault room.truth (moved_less (ram c.make_room.new.engine) _ knows) in
-    engine_keeps c.args.engine.now.geometry (ram c.make_room.new.engine) (ram c.renew_at.new.self) _ _ _ c.make_room.ensures.leaves.geometry c.make_room.ensures.leaves.safe.memory c.renew_at.ensures.stands.safe.memory c.in_ok-renew_at.ensures.beside (keeps_room (ram c.args.engine.now) (ram c.make_room.new.engine) _ _ room knows) (renewed_same c.args.row (ram c.make_room.new.engine) (ram c.renew_at.new.self) _ _ c.in_ok-renew_at.field-0 one)
+    engine_keeps c.args.engine.now.geometry (ram c.make_room.new.engine) (ram c.renew_at.new.self) _ _ _ c.make_room.ensures.leaves.geometry
+    c.make_room.ensures.leaves.safe.memory c.renew_at.ensures.stands.safe.memory c.in_ok-renew_at.ensures.beside
+    (keeps_room (ram c.args.engine.now) (ram c.make_room.new.engine) _ _ room knows)
+    (renewed_same c.args.row (ram c.make_room.new.engine) (ram c.renew_at.new.self) _ _ c.in_ok-renew_at.field-0 one)
 
 pub returns-clause-count : goal.returns-clause-count
-returns-clause-count g c = λ known five. rescue_short (ram c.args.engine.now) (ram c.make_room.new.engine) (ram c.renew_at.new.self) c.requires.safe.memory c.make_room.ensures.leaves.safe.memory c.renew_at.ensures.stands.safe.memory c.in_ok-make_room.ensures.made c.renew_at.ensures.goes (c.in_ok-make_room.ensures.count known.0 known.1 0 known.2) _ (c.in_ok-renew_at.ensures.cost c.in_ok-make_room.ensures.leaves.fault)
+returns-clause-count g c = λ known five. rescue_short (ram c.args.engine.now) (ram c.make_room.new.engine) (ram c.renew_at.new.self)
+    c.requires.safe.memory c.make_room.ensures.leaves.safe.memory c.renew_at.ensures.stands.safe.memory c.in_ok-make_room.ensures.made
+    c.renew_at.ensures.goes (c.in_ok-make_room.ensures.count known.0 known.1 0 known.2) _
+    (c.in_ok-renew_at.ensures.cost c.in_ok-make_room.ensures.leaves.fault)
 
 pub returns-clause-ends : goal.returns-clause-ends
-returns-clause-ends g c = leaves_ends g.N.PageSource.flash g.N.PageSource.recorded g.N.PageSource.honest g.N.PageSource.calm g.N.PageSource.failed c.args.engine.now c.renew_at.new.self (Ok tt) (leaves_done g.N.PageSource.flash g.N.PageSource.recorded g.N.PageSource.honest g.N.PageSource.calm g.N.PageSource.failed c.args.engine.now c.renew_at.new.self _ tt (leaves_then g.N.PageSource.flash g.N.PageSource.recorded g.N.PageSource.honest g.N.PageSource.calm g.N.PageSource.failed c.args.engine.now c.make_room.new.engine c.renew_at.new.self _ _
+returns-clause-ends g c = leaves_ends g.N.PageSource.flash g.N.PageSource.recorded g.N.PageSource.honest g.N.PageSource.calm g.N.PageSource.failed
+    c.args.engine.now c.renew_at.new.self (Ok tt)
+    (leaves_done g.N.PageSource.flash g.N.PageSource.recorded g.N.PageSource.honest g.N.PageSource.calm g.N.PageSource.failed c.args.engine.now
+    c.renew_at.new.self _ tt
+    (leaves_then g.N.PageSource.flash g.N.PageSource.recorded g.N.PageSource.honest g.N.PageSource.calm g.N.PageSource.failed c.args.engine.now
+    c.make_room.new.engine c.renew_at.new.self _ _
     (λ honest k. keeps_room (ram c.args.engine.now) (ram c.make_room.new.engine) _ _ (c.in_ok-make_room.ensures.truth honest k) (c.in_ok-make_room.ensures.pinned honest k)) c.make_room.ensures.keys.limits
     c.in_ok-make_room.ensures.leaves
     (leaves_by g.N.PageSource.flash g.N.PageSource.recorded g.N.PageSource.honest g.N.PageSource.calm g.N.PageSource.failed c.make_room.new.engine c.renew_at.new.self (Ok _) c.in_ok-make_room.ensures.leaves.fault c.in_ok-renew_at.ensures.stands c.renew_at.ensures.goes.geometry
@@ -83,4 +108,6 @@ returns-clause-brings g c = λ honest w.
     let knows = c.in_ok-make_room.ensures.pinned honest w in
     let one = c.in_ok-renew_at.ensures.truth (c.make_room.ensures.leaves.honest_is ∙ honest) c.in_ok-make_room.ensures.leaves.fault room.truth (moved_less (ram c.make_room.new.engine) _ knows) in
     let made = made_room g.N.PageSource.flash g.N.PageSource.recorded c.args.engine.now c.make_room.new.engine c.in_ok-make_room.ensures.made (λ nine. (c.make_room.ensures.rests nine).1) room (c.in_ok-make_room.ensures.leaves.went honest (λ bus. (let no : ⊥ = cc in no))) in
-    brings_by g.N.PageSource.flash g.N.PageSource.recorded c.args.row c.args.engine.now c.make_room.new.engine c.renew_at.new.self c.in_ok-renew_at.field-0 made c.renew_at.ensures.goes c.renew_at.ensures.keys (c.in_ok-renew_at.ensures.cost c.in_ok-make_room.ensures.leaves.fault) one
+    brings_by g.N.PageSource.flash g.N.PageSource.recorded c.args.row c.args.engine.now c.make_room.new.engine c.renew_at.new.self
+    c.in_ok-renew_at.field-0 made c.renew_at.ensures.goes c.renew_at.ensures.keys
+    (c.in_ok-renew_at.ensures.cost c.in_ok-make_room.ensures.leaves.fault) one

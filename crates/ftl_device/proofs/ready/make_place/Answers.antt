@@ -12,7 +12,9 @@ pub write_back-requires-clause-page : goal.write_back-requires-clause-page
 write_back-requires-clause-page g c = least_page (ram c.args.engine.now) c.in-Some.least c.entries.result _ c.requires.safe.memory (sym c.least_recent.ensures ∙ c.in-Some.is) c.entries.ensures
 
 pub returns-in-Some-clause-place : goal.returns-in-Some-clause-place
-returns-in-Some-clause-place g c = place_made c.write_back.result (ram c.args.engine.now) (ram c.write_back.new.self) c.args.sector c.in-Some.least c.entries.result _ c.requires.safe.memory c.write_back.ensures.stands.safe.memory (sym c.least_recent.ensures ∙ c.in-Some.is) c.entries.ensures c.write_back.ensures.keys c.write_back.ensures.cleans
+returns-in-Some-clause-place g c = place_made c.write_back.result (ram c.args.engine.now) (ram c.write_back.new.self) c.args.sector c.in-Some.least
+    c.entries.result _ c.requires.safe.memory c.write_back.ensures.stands.safe.memory (sym c.least_recent.ensures ∙ c.in-Some.is) c.entries.ensures
+    c.write_back.ensures.keys c.write_back.ensures.cleans
 
 pub returns-then-can_load-clause-cost : goal.returns-then-can_load-clause-cost
 returns-then-can_load-clause-cost g c = place_there c.args.sector (ram c.args.engine.now) (c.can_load.ensures.0 c.if-can_load.true)
@@ -36,7 +38,10 @@ pub returns-in-None-clause-leaves : goal.returns-in-None-clause-leaves
 returns-in-None-clause-leaves g c = leaves_same g.N.PageSource.flash g.N.PageSource.recorded g.N.PageSource.honest g.N.PageSource.calm g.N.PageSource.failed c.args.engine.now c.requires.safe c.requires.going
 
 pub returns-in-Some-clause-leaves : goal.returns-in-Some-clause-leaves
-returns-in-Some-clause-leaves g c = leaves_by g.N.PageSource.flash g.N.PageSource.recorded g.N.PageSource.honest g.N.PageSource.calm g.N.PageSource.failed c.args.engine.now c.write_back.new.self c.write_back.result c.requires.going c.write_back.ensures.stands c.write_back.ensures.goes.geometry (back_told c.write_back.result (ram c.args.engine.now) (ram c.write_back.new.self) (c.write_back.ensures.cost c.requires.going))
+returns-in-Some-clause-leaves g c = leaves_by g.N.PageSource.flash g.N.PageSource.recorded g.N.PageSource.honest g.N.PageSource.calm
+    g.N.PageSource.failed c.args.engine.now c.write_back.new.self c.write_back.result c.requires.going c.write_back.ensures.stands
+    c.write_back.ensures.goes.geometry
+    (back_told c.write_back.result (ram c.args.engine.now) (ram c.write_back.new.self) (c.write_back.ensures.cost c.requires.going))
     (λ honest k ne. c.write_back.ensures.stops honest c.requires.going k.truth ne)
 
 pub returns-then-can_load-clause-beside : goal.returns-then-can_load-clause-beside

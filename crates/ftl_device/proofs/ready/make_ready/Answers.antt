@@ -19,7 +19,10 @@ use Rattle.ftl_device.proofs.ready.make_ready.Goals as goal
 pub returns-in_err-row-clause-ends : goal.returns-in_err-row-clause-ends
 returns-in_err-row-clause-ends g c =
     let p = err_from_is_err_and c.from_residual.result c.from_residual.ensures.1 in
-    rw (p.1, p.2) (ends_refused g.N.PageSource.flash g.N.PageSource.recorded g.N.PageSource.honest g.N.PageSource.calm g.N.PageSource.failed c.args.engine.now c.prepare.new.engine _ c.prepare.ensures.leaves.safe c.in_err-row.ensures.leaves.fault c.prepare.ensures.leaves.geometry c.prepare.ensures.leaves.honest_is c.prepare.ensures.leaves.calm_is c.prepare.ensures.leaves.failed_is
+    rw (p.1, p.2)
+    (ends_refused g.N.PageSource.flash g.N.PageSource.recorded g.N.PageSource.honest g.N.PageSource.calm g.N.PageSource.failed c.args.engine.now
+    c.prepare.new.engine _ c.prepare.ensures.leaves.safe c.in_err-row.ensures.leaves.fault c.prepare.ensures.leaves.geometry
+    c.prepare.ensures.leaves.honest_is c.prepare.ensures.leaves.calm_is c.prepare.ensures.leaves.failed_is
     (λ is. c.in_err-row.ensures.leaves.rose (ap Err is)) c.prepare.ensures.limits c.in_err-row.ensures.leaves.tells (λ honest ne. c.in_err-row.ensures.leaves.went honest (λ e. ne (cc))) (λ honest k ne. c.in_err-row.ensures.leaves.stops honest k (λ e. ne (cc))))
 
 pub returns-in_err-row-clause-readies : goal.returns-in_err-row-clause-readies
@@ -50,8 +53,14 @@ cache_sector-requires-clause-entry g c =
 pub returns-in_err-cache_sector-clause-ends : goal.returns-in_err-cache_sector-clause-ends
 returns-in_err-cache_sector-clause-ends g c =
     let p = err_from_is_err_and c.from_residual-in_err-cache_sector.result c.from_residual-in_err-cache_sector.ensures.1 in
-    rw (p.1, p.2) (ends_memory g.N.PageSource.flash g.N.PageSource.recorded g.N.PageSource.honest g.N.PageSource.calm g.N.PageSource.failed c.args.engine.now c.prepare.new.engine c.prepare.ensures.leaves.safe c.in_ok-row.ensures.leaves.fault c.prepare.ensures.leaves.geometry c.prepare.ensures.leaves.honest_is c.prepare.ensures.leaves.calm_is c.prepare.ensures.leaves.failed_is
-    c.prepare.ensures.limits c.in_ok-row.ensures.calm c.in_ok-row.ensures.leaves.tells (λ honest. c.in_ok-row.ensures.leaves.went honest (λ e. (let no : ⊥ = cc in no))) (λ honest k. c.in_ok-row.ensures.leaves.stops honest k (λ e. (let no : ⊥ = cc in no))) c.cache_sector.new.self c.in_err-cache_sector.ensures.refused)
+    rw (p.1, p.2)
+    (ends_memory g.N.PageSource.flash g.N.PageSource.recorded g.N.PageSource.honest g.N.PageSource.calm g.N.PageSource.failed c.args.engine.now
+    c.prepare.new.engine c.prepare.ensures.leaves.safe c.in_ok-row.ensures.leaves.fault c.prepare.ensures.leaves.geometry
+    c.prepare.ensures.leaves.honest_is c.prepare.ensures.leaves.calm_is c.prepare.ensures.leaves.failed_is
+    c.prepare.ensures.limits c.in_ok-row.ensures.calm c.in_ok-row.ensures.leaves.tells
+    (λ honest. c.in_ok-row.ensures.leaves.went honest (λ e. (let no : ⊥ = cc in no)))
+    (λ honest k. c.in_ok-row.ensures.leaves.stops honest k (λ e. (let no : ⊥ = cc in no))) c.cache_sector.new.self
+    c.in_err-cache_sector.ensures.refused)
 
 pub returns-in_err-cache_sector-clause-readies : goal.returns-in_err-cache_sector-clause-readies
 returns-in_err-cache_sector-clause-readies g c =
@@ -59,10 +68,15 @@ returns-in_err-cache_sector-clause-readies g c =
     rw (p.1, p.2) (record {
       recent = tt;
       keys = tt;
-      unwritten = λ _. ready_then c.args.sector (ram c.args.engine.now) (ram c.prepare.new.engine) (ram c.cache_sector.new.self) (ap (λ e. e.geometry) c.in_err-cache_sector.ensures.refused) (ap (λ e. (ram e).blocks) c.in_err-cache_sector.ensures.refused) (ap (λ e. e.next) c.in_err-cache_sector.ensures.refused) c.in_ok-row.ensures.cost;
+      unwritten = λ _. ready_then c.args.sector (ram c.args.engine.now) (ram c.prepare.new.engine) (ram c.cache_sector.new.self)
+          (ap (λ e. e.geometry) c.in_err-cache_sector.ensures.refused) (ap (λ e. (ram e).blocks) c.in_err-cache_sector.ensures.refused)
+          (ap (λ e. e.next) c.in_err-cache_sector.ensures.refused) c.in_ok-row.ensures.cost;
       same_keys = λ _. ap (λ e. keys_of e.mapping.cached) c.in_err-cache_sector.ensures.refused ∙ c.prepare.ensures.keys;
       cached = λ some _. (let done = c.in_err-cache_sector.ensures.cached (same_slots c.args.sector c.args.engine.now.mapping c.prepare.new.engine.mapping c.prepare.ensures.keys some) in let no : ⊥ = cc in no);
-      costs = room_kept (HasFunds (g.N.PageSource.honest c.args.engine.now.nand) (ram c.args.engine.now) (image_in g.N.PageSource.flash c.args.engine.now)) 1 (ram c.args.engine.now) (ram c.prepare.new.engine) (ram c.cache_sector.new.self) (ap (λ e. (ram e).blocks) c.in_err-cache_sector.ensures.refused) c.in_ok-row.ensures.costs;
+      costs = room_kept
+          (HasFunds (g.N.PageSource.honest c.args.engine.now.nand) (ram c.args.engine.now) (image_in g.N.PageSource.flash c.args.engine.now)) 1
+          (ram c.args.engine.now) (ram c.prepare.new.engine) (ram c.cache_sector.new.self)
+          (ap (λ e. (ram e).blocks) c.in_err-cache_sector.ensures.refused) c.in_ok-row.ensures.costs;
       pins = λ none. ap (λ e. e.pinned) c.in_err-cache_sector.ensures.refused ∙ c.in_ok-row.ensures.pins none;
     })
 
@@ -75,8 +89,13 @@ returns-in_err-cache_sector-clause-truth g c =
 
 pub returns-clause-ends : goal.returns-clause-ends
 returns-clause-ends g c =
-    ends_loaded g.N.PageSource.flash g.N.PageSource.recorded g.N.PageSource.honest g.N.PageSource.calm g.N.PageSource.failed c.args.engine.now c.prepare.new.engine c.prepare.ensures.leaves.safe c.in_ok-row.ensures.leaves.fault c.prepare.ensures.leaves.geometry c.prepare.ensures.leaves.honest_is c.prepare.ensures.leaves.calm_is c.prepare.ensures.leaves.failed_is
-    c.prepare.ensures.limits c.in_ok-row.ensures.calm c.in_ok-row.ensures.leaves.tells (λ honest. c.in_ok-row.ensures.leaves.went honest (λ e. (let no : ⊥ = cc in no))) (λ honest k. c.in_ok-row.ensures.leaves.stops honest k (λ e. (let no : ⊥ = cc in no))) c.cache_sector.new.self c.args.sector _ c.in_ok-cache_sector.ensures.loaded c.cache_sector.ensures.safe
+    ends_loaded g.N.PageSource.flash g.N.PageSource.recorded g.N.PageSource.honest g.N.PageSource.calm g.N.PageSource.failed c.args.engine.now
+    c.prepare.new.engine c.prepare.ensures.leaves.safe c.in_ok-row.ensures.leaves.fault c.prepare.ensures.leaves.geometry
+    c.prepare.ensures.leaves.honest_is c.prepare.ensures.leaves.calm_is c.prepare.ensures.leaves.failed_is
+    c.prepare.ensures.limits c.in_ok-row.ensures.calm c.in_ok-row.ensures.leaves.tells
+    (λ honest. c.in_ok-row.ensures.leaves.went honest (λ e. (let no : ⊥ = cc in no)))
+    (λ honest k. c.in_ok-row.ensures.leaves.stops honest k (λ e. (let no : ⊥ = cc in no))) c.cache_sector.new.self c.args.sector _
+    c.in_ok-cache_sector.ensures.loaded c.cache_sector.ensures.safe
 
 pub returns-clause-readies : goal.returns-clause-readies
 returns-clause-readies g c = record {
@@ -85,12 +104,17 @@ returns-clause-readies g c = record {
   unwritten = λ e. (let no : ⊥ = cc in absurd no);
   same_keys = λ e. (let no : ⊥ = cc in absurd no);
   cached = λ some e. (let no : ⊥ = cc in absurd no);
-  costs = room_kept (HasFunds (g.N.PageSource.honest c.args.engine.now.nand) (ram c.args.engine.now) (image_in g.N.PageSource.flash c.args.engine.now)) 1 (ram c.args.engine.now) (ram c.prepare.new.engine) (ram c.cache_sector.new.self) (ap (λ e. (ram e).blocks) c.in_ok-cache_sector.ensures.loaded) c.in_ok-row.ensures.costs;
+  costs = room_kept
+      (HasFunds (g.N.PageSource.honest c.args.engine.now.nand) (ram c.args.engine.now) (image_in g.N.PageSource.flash c.args.engine.now)) 1
+      (ram c.args.engine.now) (ram c.prepare.new.engine) (ram c.cache_sector.new.self) (ap (λ e. (ram e).blocks) c.in_ok-cache_sector.ensures.loaded)
+      c.in_ok-row.ensures.costs;
   pins = λ none. ap (λ e. e.pinned) c.in_ok-cache_sector.ensures.loaded ∙ c.in_ok-row.ensures.pins none;
 }
 
 pub returns-clause-cost : goal.returns-clause-cost
-returns-clause-cost g c = ready_then c.args.sector (ram c.args.engine.now) (ram c.prepare.new.engine) (ram c.cache_sector.new.self) (ap (λ e. e.geometry) c.in_ok-cache_sector.ensures.loaded) (ap (λ e. (ram e).blocks) c.in_ok-cache_sector.ensures.loaded) (ap (λ e. e.next) c.in_ok-cache_sector.ensures.loaded) c.in_ok-row.ensures.cost
+returns-clause-cost g c = ready_then c.args.sector (ram c.args.engine.now) (ram c.prepare.new.engine) (ram c.cache_sector.new.self)
+    (ap (λ e. e.geometry) c.in_ok-cache_sector.ensures.loaded) (ap (λ e. (ram e).blocks) c.in_ok-cache_sector.ensures.loaded)
+    (ap (λ e. e.next) c.in_ok-cache_sector.ensures.loaded) c.in_ok-row.ensures.cost
 
 pub returns-clause-checked : goal.returns-clause-checked
 returns-clause-checked g c = is_looked_up (ram c.args.engine.now) c.prepare.new.engine c.cache_sector.new.self c.args.sector c.in_ok-row.row c.in_ok-cache_sector.ensures.loaded c.in_ok-row.ensures.prepared c.in_ok-row.ensures.checked
@@ -98,4 +122,6 @@ returns-clause-checked g c = is_looked_up (ram c.args.engine.now) c.prepare.new.
 pub returns-clause-truth : goal.returns-clause-truth
 returns-clause-truth g c = λ honest w.
     let found = c.in_ok-row.ensures.truth honest w in
-    keeps_loaded c.prepare.new.engine c.cache_sector.new.self c.args.sector _ c.in_ok-cache_sector.ensures.loaded g.N.PageSource.flash _ _ c.prepare.ensures.leaves.safe.memory c.cache_sector.ensures.safe.memory found.keeps (c.cache_sector.ensures.truth _ found.keeps.truth.truth found.row_is)
+    keeps_loaded c.prepare.new.engine c.cache_sector.new.self c.args.sector _ c.in_ok-cache_sector.ensures.loaded g.N.PageSource.flash _ _
+    c.prepare.ensures.leaves.safe.memory c.cache_sector.ensures.safe.memory found.keeps
+    (c.cache_sector.ensures.truth _ found.keeps.truth.truth found.row_is)

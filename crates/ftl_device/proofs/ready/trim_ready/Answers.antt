@@ -29,13 +29,23 @@ returns-in_err-make_ready-clause-readies g c =
 pub returns-in_err-trim_sector-clause-ends : goal.returns-in_err-trim_sector-clause-ends
 returns-in_err-trim_sector-clause-ends g c =
     let p = err_from_is_err_and c.from_residual-in_err-trim_sector.result c.from_residual-in_err-trim_sector.ensures.1 in
-    rw (p.1, p.2) (ends_page g.N.PageSource.flash g.N.PageSource.recorded g.N.PageSource.honest g.N.PageSource.calm g.N.PageSource.failed c.args.engine.now c.make_ready.new.engine c.trim_sector.new.self _ c.in_ok-make_ready.ensures.ends c.trim_sector.ensures.stands.safe c.trim_sector.ensures.goes c.trim_sector.ensures.stands.honest_is c.trim_sector.ensures.stands.calm_is
-    c.trim_sector.ensures.stands.failed_is (beside_same (ram c.make_ready.new.engine) (ram c.trim_sector.new.self) c.trim_sector.ensures.pin c.trim_sector.ensures.goes c.trim_sector.ensures.moved c.trim_sector.ensures.no_more.limits) c.trim_sector.ensures.no_more (Err _) c.in_err-trim_sector.ensures.stands.fault c.in_err-trim_sector.ensures.stands.rose c.in_err-trim_sector.ensures.cost c.in_err-trim_sector.ensures.stands.went (λ honest k. c.in_ok-make_ready.ensures.truth honest k) c.in_err-trim_sector.ensures.stops)
+    rw (p.1, p.2)
+    (ends_page g.N.PageSource.flash g.N.PageSource.recorded g.N.PageSource.honest g.N.PageSource.calm g.N.PageSource.failed c.args.engine.now
+    c.make_ready.new.engine c.trim_sector.new.self _ c.in_ok-make_ready.ensures.ends c.trim_sector.ensures.stands.safe
+    c.trim_sector.ensures.goes c.trim_sector.ensures.stands.honest_is c.trim_sector.ensures.stands.calm_is
+    c.trim_sector.ensures.stands.failed_is
+    (beside_same (ram c.make_ready.new.engine) (ram c.trim_sector.new.self) c.trim_sector.ensures.pin c.trim_sector.ensures.goes
+    c.trim_sector.ensures.moved c.trim_sector.ensures.no_more.limits) c.trim_sector.ensures.no_more (Err _)
+    c.in_err-trim_sector.ensures.stands.fault c.in_err-trim_sector.ensures.stands.rose c.in_err-trim_sector.ensures.cost
+    c.in_err-trim_sector.ensures.stands.went (λ honest k. c.in_ok-make_ready.ensures.truth honest k) c.in_err-trim_sector.ensures.stops)
 
 pub returns-in_err-trim_sector-clause-readies : goal.returns-in_err-trim_sector-clause-readies
 returns-in_err-trim_sector-clause-readies g c =
     let p = err_from_is_err_and c.from_residual-in_err-trim_sector.result c.from_residual-in_err-trim_sector.ensures.1 in
-    rw (p.1, p.2) (readies_page g.N.PageSource.flash g.N.PageSource.honest c.args.sector c.args.engine.now c.make_ready.new.engine c.trim_sector.new.self c.in_ok-make_ready.ensures.ends.geometry _ c.in_ok-make_ready.ensures.readies (ap (λ p. p.block) c.trim_sector.ensures.pin) c.trim_sector.ensures.keys
+    rw (p.1, p.2)
+    (readies_page g.N.PageSource.flash g.N.PageSource.honest c.args.sector c.args.engine.now c.make_ready.new.engine c.trim_sector.new.self
+    c.in_ok-make_ready.ensures.ends.geometry _ c.in_ok-make_ready.ensures.readies (ap (λ p. p.block) c.trim_sector.ensures.pin)
+    c.trim_sector.ensures.keys
     (Err _) (c.in_err-trim_sector.ensures.cost c.in_ok-make_ready.ensures.ends.fault))
 
 pub returns-in_err-trim_sector-clause-truth : goal.returns-in_err-trim_sector-clause-truth
@@ -43,24 +53,39 @@ returns-in_err-trim_sector-clause-truth g c =
     let p = err_from_is_err_and c.from_residual-in_err-trim_sector.result c.from_residual-in_err-trim_sector.ensures.1 in
     rw (p.1, p.2) (λ honest w.
     let kept = c.in_ok-make_ready.ensures.truth honest w in
-    engine_refused c.args.engine.now.geometry (ram c.make_ready.new.engine) (ram c.trim_sector.new.self) _ _ _ _ c.in_ok-make_ready.ensures.ends.geometry c.in_ok-make_ready.ensures.ends.safe.memory c.trim_sector.ensures.stands.safe.memory (beside_same (ram c.make_ready.new.engine) (ram c.trim_sector.new.self) c.trim_sector.ensures.pin c.trim_sector.ensures.goes c.trim_sector.ensures.moved c.trim_sector.ensures.no_more.limits) kept (c.in_err-trim_sector.ensures.truth (c.in_ok-make_ready.ensures.ends.honest_is ∙ honest) c.in_ok-make_ready.ensures.ends.fault kept.truth.truth))
+    engine_refused c.args.engine.now.geometry (ram c.make_ready.new.engine) (ram c.trim_sector.new.self) _ _ _ _
+    c.in_ok-make_ready.ensures.ends.geometry c.in_ok-make_ready.ensures.ends.safe.memory c.trim_sector.ensures.stands.safe.memory
+    (beside_same (ram c.make_ready.new.engine) (ram c.trim_sector.new.self) c.trim_sector.ensures.pin c.trim_sector.ensures.goes
+    c.trim_sector.ensures.moved c.trim_sector.ensures.no_more.limits) kept
+    (c.in_err-trim_sector.ensures.truth (c.in_ok-make_ready.ensures.ends.honest_is ∙ honest) c.in_ok-make_ready.ensures.ends.fault
+    kept.truth.truth))
 
 -- ---- it was programmed
 
 pub returns-clause-ends : goal.returns-clause-ends
 returns-clause-ends g c =
-    ends_page g.N.PageSource.flash g.N.PageSource.recorded g.N.PageSource.honest g.N.PageSource.calm g.N.PageSource.failed c.args.engine.now c.make_ready.new.engine c.trim_sector.new.self _ c.in_ok-make_ready.ensures.ends c.trim_sector.ensures.stands.safe c.trim_sector.ensures.goes c.trim_sector.ensures.stands.honest_is c.trim_sector.ensures.stands.calm_is
-    c.trim_sector.ensures.stands.failed_is (beside_same (ram c.make_ready.new.engine) (ram c.trim_sector.new.self) c.trim_sector.ensures.pin c.trim_sector.ensures.goes c.trim_sector.ensures.moved c.trim_sector.ensures.no_more.limits) c.trim_sector.ensures.no_more (Ok _) c.in_ok-trim_sector.ensures.stands.fault c.in_ok-trim_sector.ensures.stands.rose c.in_ok-trim_sector.ensures.cost c.in_ok-trim_sector.ensures.stands.went (λ honest k. c.in_ok-make_ready.ensures.truth honest k) c.in_ok-trim_sector.ensures.stops
+    ends_page g.N.PageSource.flash g.N.PageSource.recorded g.N.PageSource.honest g.N.PageSource.calm g.N.PageSource.failed c.args.engine.now
+    c.make_ready.new.engine c.trim_sector.new.self _ c.in_ok-make_ready.ensures.ends c.trim_sector.ensures.stands.safe c.trim_sector.ensures.goes
+    c.trim_sector.ensures.stands.honest_is c.trim_sector.ensures.stands.calm_is
+    c.trim_sector.ensures.stands.failed_is
+    (beside_same (ram c.make_ready.new.engine) (ram c.trim_sector.new.self) c.trim_sector.ensures.pin c.trim_sector.ensures.goes
+    c.trim_sector.ensures.moved c.trim_sector.ensures.no_more.limits) c.trim_sector.ensures.no_more (Ok _)
+    c.in_ok-trim_sector.ensures.stands.fault c.in_ok-trim_sector.ensures.stands.rose c.in_ok-trim_sector.ensures.cost
+    c.in_ok-trim_sector.ensures.stands.went (λ honest k. c.in_ok-make_ready.ensures.truth honest k) c.in_ok-trim_sector.ensures.stops
 
 pub returns-clause-readies : goal.returns-clause-readies
-returns-clause-readies g c = readies_page g.N.PageSource.flash g.N.PageSource.honest c.args.sector c.args.engine.now c.make_ready.new.engine c.trim_sector.new.self c.in_ok-make_ready.ensures.ends.geometry _ c.in_ok-make_ready.ensures.readies (ap (λ p. p.block) c.trim_sector.ensures.pin) c.trim_sector.ensures.keys
+returns-clause-readies g c = readies_page g.N.PageSource.flash g.N.PageSource.honest c.args.sector c.args.engine.now c.make_ready.new.engine
+    c.trim_sector.new.self c.in_ok-make_ready.ensures.ends.geometry _ c.in_ok-make_ready.ensures.readies (ap (λ p. p.block) c.trim_sector.ensures.pin)
+    c.trim_sector.ensures.keys
     (Ok _) (c.in_ok-trim_sector.ensures.cost c.in_ok-make_ready.ensures.ends.fault)
 
 pub returns-clause-cost : goal.returns-clause-cost
 returns-clause-cost g c = cost_of c.args.sector (ram c.args.engine.now) (ram c.make_ready.new.engine) (ram c.trim_sector.new.self) c.in_ok-make_ready.ensures.cost (c.in_ok-trim_sector.ensures.cost c.in_ok-make_ready.ensures.ends.fault)
 
 pub returns-clause-checked : goal.returns-clause-checked
-returns-clause-checked g c = looked_up_before c.args.engine.now c.make_ready.new.engine c.trim_sector.new.self c.args.sector c.in_ok-make_ready.ensures.cost c.in_ok-make_ready.ensures.checked c.trim_sector.ensures.scratch (c.in_ok-trim_sector.ensures.cost c.in_ok-make_ready.ensures.ends.fault) c.in_ok-trim_sector.ensures.settled
+returns-clause-checked g c = looked_up_before c.args.engine.now c.make_ready.new.engine c.trim_sector.new.self c.args.sector
+    c.in_ok-make_ready.ensures.cost c.in_ok-make_ready.ensures.checked c.trim_sector.ensures.scratch
+    (c.in_ok-trim_sector.ensures.cost c.in_ok-make_ready.ensures.ends.fault) c.in_ok-trim_sector.ensures.settled
 
 pub returns-clause-page : goal.returns-clause-page
 returns-clause-page g c = (c.in_ok-trim_sector.ensures.programmed, c.trim_sector.ensures.page c.in_ok-make_ready.ensures.ends.fault ∙ ap zeros c.in_ok-make_ready.ensures.ends.geometry)
@@ -68,11 +93,18 @@ returns-clause-page g c = (c.in_ok-trim_sector.ensures.programmed, c.trim_sector
 pub returns-clause-newest : goal.returns-clause-newest
 returns-clause-newest g c = λ honest well.
     let kept = c.in_ok-make_ready.ensures.truth honest well in
-    let held = page_held Trim c.args.sector (zeros c.make_ready.new.engine.geometry) (ram c.make_ready.new.engine) _ (ram c.trim_sector.new.self) _ refl (c.in_ok-trim_sector.ensures.truth (c.in_ok-make_ready.ensures.ends.honest_is ∙ honest) c.in_ok-make_ready.ensures.ends.fault kept.truth.truth) in
+    let held = page_held Trim c.args.sector (zeros c.make_ready.new.engine.geometry) (ram c.make_ready.new.engine) _ (ram c.trim_sector.new.self) _
+    refl
+    (c.in_ok-trim_sector.ensures.truth (c.in_ok-make_ready.ensures.ends.honest_is ∙ honest) c.in_ok-make_ready.ensures.ends.fault kept.truth.truth)
+    in
     subst (λ h. HasPage Trim c.args.sector (zeros h) (ram c.trim_sector.new.self) (image_in g.N.PageSource.flash c.trim_sector.new.self)) c.in_ok-make_ready.ensures.ends.geometry held
 
 pub returns-clause-truth : goal.returns-clause-truth
 returns-clause-truth g c = λ honest well.
     let kept = c.in_ok-make_ready.ensures.truth honest well in
-    written_ready c.args.engine.now.geometry c.args.sector Trim (zeros c.make_ready.new.engine.geometry) (ram c.make_ready.new.engine) (ram c.trim_sector.new.self) _ _ _ c.in_ok-make_ready.ensures.ends.geometry c.in_ok-make_ready.ensures.ends.safe.memory c.trim_sector.ensures.stands.safe.memory (beside_same (ram c.make_ready.new.engine) (ram c.trim_sector.new.self) c.trim_sector.ensures.pin c.trim_sector.ensures.goes c.trim_sector.ensures.moved c.trim_sector.ensures.no_more.limits) kept
+    written_ready c.args.engine.now.geometry c.args.sector Trim (zeros c.make_ready.new.engine.geometry) (ram c.make_ready.new.engine)
+    (ram c.trim_sector.new.self) _ _ _ c.in_ok-make_ready.ensures.ends.geometry c.in_ok-make_ready.ensures.ends.safe.memory
+    c.trim_sector.ensures.stands.safe.memory
+    (beside_same (ram c.make_ready.new.engine) (ram c.trim_sector.new.self) c.trim_sector.ensures.pin c.trim_sector.ensures.goes
+    c.trim_sector.ensures.moved c.trim_sector.ensures.no_more.limits) kept
     (c.in_ok-trim_sector.ensures.truth (c.in_ok-make_ready.ensures.ends.honest_is ∙ honest) c.in_ok-make_ready.ensures.ends.fault kept.truth.truth)

@@ -27,13 +27,23 @@ returns-in_err-make_ready-clause-readies g c =
 pub returns-in_err-write_sector-clause-ends : goal.returns-in_err-write_sector-clause-ends
 returns-in_err-write_sector-clause-ends g c =
     let p = err_from_is_err_and c.from_residual-in_err-write_sector.result c.from_residual-in_err-write_sector.ensures.1 in
-    rw (p.1, p.2) (ends_page g.N.PageSource.flash g.N.PageSource.recorded g.N.PageSource.honest g.N.PageSource.calm g.N.PageSource.failed c.args.engine.now c.make_ready.new.engine c.write_sector.new.self _ c.in_ok-make_ready.ensures.ends c.write_sector.ensures.stands.safe c.write_sector.ensures.goes c.write_sector.ensures.stands.honest_is c.write_sector.ensures.stands.calm_is
-    c.write_sector.ensures.stands.failed_is (beside_same (ram c.make_ready.new.engine) (ram c.write_sector.new.self) c.write_sector.ensures.pin c.write_sector.ensures.goes c.write_sector.ensures.moved c.write_sector.ensures.no_more.limits) c.write_sector.ensures.no_more (Err _) c.in_err-write_sector.ensures.stands.fault c.in_err-write_sector.ensures.stands.rose c.in_err-write_sector.ensures.cost c.in_err-write_sector.ensures.stands.went (λ honest k. c.in_ok-make_ready.ensures.truth honest k) c.in_err-write_sector.ensures.stops)
+    rw (p.1, p.2)
+    (ends_page g.N.PageSource.flash g.N.PageSource.recorded g.N.PageSource.honest g.N.PageSource.calm g.N.PageSource.failed c.args.engine.now
+    c.make_ready.new.engine c.write_sector.new.self _ c.in_ok-make_ready.ensures.ends c.write_sector.ensures.stands.safe
+    c.write_sector.ensures.goes c.write_sector.ensures.stands.honest_is c.write_sector.ensures.stands.calm_is
+    c.write_sector.ensures.stands.failed_is
+    (beside_same (ram c.make_ready.new.engine) (ram c.write_sector.new.self) c.write_sector.ensures.pin c.write_sector.ensures.goes
+    c.write_sector.ensures.moved c.write_sector.ensures.no_more.limits) c.write_sector.ensures.no_more (Err _)
+    c.in_err-write_sector.ensures.stands.fault c.in_err-write_sector.ensures.stands.rose c.in_err-write_sector.ensures.cost
+    c.in_err-write_sector.ensures.stands.went (λ honest k. c.in_ok-make_ready.ensures.truth honest k) c.in_err-write_sector.ensures.stops)
 
 pub returns-in_err-write_sector-clause-readies : goal.returns-in_err-write_sector-clause-readies
 returns-in_err-write_sector-clause-readies g c =
     let p = err_from_is_err_and c.from_residual-in_err-write_sector.result c.from_residual-in_err-write_sector.ensures.1 in
-    rw (p.1, p.2) (readies_page g.N.PageSource.flash g.N.PageSource.honest c.args.sector c.args.engine.now c.make_ready.new.engine c.write_sector.new.self c.in_ok-make_ready.ensures.ends.geometry _ c.in_ok-make_ready.ensures.readies (ap (λ p. p.block) c.write_sector.ensures.pin) c.write_sector.ensures.keys
+    rw (p.1, p.2)
+    (readies_page g.N.PageSource.flash g.N.PageSource.honest c.args.sector c.args.engine.now c.make_ready.new.engine c.write_sector.new.self
+    c.in_ok-make_ready.ensures.ends.geometry _ c.in_ok-make_ready.ensures.readies (ap (λ p. p.block) c.write_sector.ensures.pin)
+    c.write_sector.ensures.keys
     (Err _) (c.in_err-write_sector.ensures.cost c.in_ok-make_ready.ensures.ends.fault))
 
 pub returns-in_err-write_sector-clause-truth : goal.returns-in_err-write_sector-clause-truth
@@ -41,24 +51,39 @@ returns-in_err-write_sector-clause-truth g c =
     let p = err_from_is_err_and c.from_residual-in_err-write_sector.result c.from_residual-in_err-write_sector.ensures.1 in
     rw (p.1, p.2) (λ honest w.
     let kept = c.in_ok-make_ready.ensures.truth honest w in
-    engine_refused c.args.engine.now.geometry (ram c.make_ready.new.engine) (ram c.write_sector.new.self) _ _ _ _ c.in_ok-make_ready.ensures.ends.geometry c.in_ok-make_ready.ensures.ends.safe.memory c.write_sector.ensures.stands.safe.memory (beside_same (ram c.make_ready.new.engine) (ram c.write_sector.new.self) c.write_sector.ensures.pin c.write_sector.ensures.goes c.write_sector.ensures.moved c.write_sector.ensures.no_more.limits) kept (c.in_err-write_sector.ensures.truth (c.in_ok-make_ready.ensures.ends.honest_is ∙ honest) c.in_ok-make_ready.ensures.ends.fault kept.truth.truth))
+    engine_refused c.args.engine.now.geometry (ram c.make_ready.new.engine) (ram c.write_sector.new.self) _ _ _ _
+    c.in_ok-make_ready.ensures.ends.geometry c.in_ok-make_ready.ensures.ends.safe.memory c.write_sector.ensures.stands.safe.memory
+    (beside_same (ram c.make_ready.new.engine) (ram c.write_sector.new.self) c.write_sector.ensures.pin c.write_sector.ensures.goes
+    c.write_sector.ensures.moved c.write_sector.ensures.no_more.limits) kept
+    (c.in_err-write_sector.ensures.truth (c.in_ok-make_ready.ensures.ends.honest_is ∙ honest) c.in_ok-make_ready.ensures.ends.fault
+    kept.truth.truth))
 
 -- ---- it was programmed
 
 pub returns-clause-ends : goal.returns-clause-ends
 returns-clause-ends g c =
-    ends_page g.N.PageSource.flash g.N.PageSource.recorded g.N.PageSource.honest g.N.PageSource.calm g.N.PageSource.failed c.args.engine.now c.make_ready.new.engine c.write_sector.new.self _ c.in_ok-make_ready.ensures.ends c.write_sector.ensures.stands.safe c.write_sector.ensures.goes c.write_sector.ensures.stands.honest_is c.write_sector.ensures.stands.calm_is
-    c.write_sector.ensures.stands.failed_is (beside_same (ram c.make_ready.new.engine) (ram c.write_sector.new.self) c.write_sector.ensures.pin c.write_sector.ensures.goes c.write_sector.ensures.moved c.write_sector.ensures.no_more.limits) c.write_sector.ensures.no_more (Ok _) c.in_ok-write_sector.ensures.stands.fault c.in_ok-write_sector.ensures.stands.rose c.in_ok-write_sector.ensures.cost c.in_ok-write_sector.ensures.stands.went (λ honest k. c.in_ok-make_ready.ensures.truth honest k) c.in_ok-write_sector.ensures.stops
+    ends_page g.N.PageSource.flash g.N.PageSource.recorded g.N.PageSource.honest g.N.PageSource.calm g.N.PageSource.failed c.args.engine.now
+    c.make_ready.new.engine c.write_sector.new.self _ c.in_ok-make_ready.ensures.ends c.write_sector.ensures.stands.safe
+    c.write_sector.ensures.goes c.write_sector.ensures.stands.honest_is c.write_sector.ensures.stands.calm_is
+    c.write_sector.ensures.stands.failed_is
+    (beside_same (ram c.make_ready.new.engine) (ram c.write_sector.new.self) c.write_sector.ensures.pin c.write_sector.ensures.goes
+    c.write_sector.ensures.moved c.write_sector.ensures.no_more.limits) c.write_sector.ensures.no_more (Ok _)
+    c.in_ok-write_sector.ensures.stands.fault c.in_ok-write_sector.ensures.stands.rose c.in_ok-write_sector.ensures.cost
+    c.in_ok-write_sector.ensures.stands.went (λ honest k. c.in_ok-make_ready.ensures.truth honest k) c.in_ok-write_sector.ensures.stops
 
 pub returns-clause-readies : goal.returns-clause-readies
-returns-clause-readies g c = readies_page g.N.PageSource.flash g.N.PageSource.honest c.args.sector c.args.engine.now c.make_ready.new.engine c.write_sector.new.self c.in_ok-make_ready.ensures.ends.geometry _ c.in_ok-make_ready.ensures.readies (ap (λ p. p.block) c.write_sector.ensures.pin) c.write_sector.ensures.keys
+returns-clause-readies g c = readies_page g.N.PageSource.flash g.N.PageSource.honest c.args.sector c.args.engine.now c.make_ready.new.engine
+    c.write_sector.new.self c.in_ok-make_ready.ensures.ends.geometry _ c.in_ok-make_ready.ensures.readies
+    (ap (λ p. p.block) c.write_sector.ensures.pin) c.write_sector.ensures.keys
     (Ok _) (c.in_ok-write_sector.ensures.cost c.in_ok-make_ready.ensures.ends.fault)
 
 pub returns-clause-cost : goal.returns-clause-cost
 returns-clause-cost g c = cost_of c.args.sector (ram c.args.engine.now) (ram c.make_ready.new.engine) (ram c.write_sector.new.self) c.in_ok-make_ready.ensures.cost (c.in_ok-write_sector.ensures.cost c.in_ok-make_ready.ensures.ends.fault)
 
 pub returns-clause-checked : goal.returns-clause-checked
-returns-clause-checked g c = looked_up_before c.args.engine.now c.make_ready.new.engine c.write_sector.new.self c.args.sector c.in_ok-make_ready.ensures.cost c.in_ok-make_ready.ensures.checked c.write_sector.ensures.scratch (c.in_ok-write_sector.ensures.cost c.in_ok-make_ready.ensures.ends.fault) c.in_ok-write_sector.ensures.settled
+returns-clause-checked g c = looked_up_before c.args.engine.now c.make_ready.new.engine c.write_sector.new.self c.args.sector
+    c.in_ok-make_ready.ensures.cost c.in_ok-make_ready.ensures.checked c.write_sector.ensures.scratch
+    (c.in_ok-write_sector.ensures.cost c.in_ok-make_ready.ensures.ends.fault) c.in_ok-write_sector.ensures.settled
 
 pub returns-clause-page : goal.returns-clause-page
 returns-clause-page g c = (c.in_ok-write_sector.ensures.programmed, c.write_sector.ensures.page c.in_ok-make_ready.ensures.ends.fault)
@@ -71,5 +96,8 @@ returns-clause-newest g c = λ honest well.
 pub returns-clause-truth : goal.returns-clause-truth
 returns-clause-truth g c = λ honest well.
     let kept = c.in_ok-make_ready.ensures.truth honest well in
-    written_ready c.args.engine.now.geometry c.args.sector Sector c.args.body.now (ram c.make_ready.new.engine) (ram c.write_sector.new.self) _ _ _ c.in_ok-make_ready.ensures.ends.geometry c.in_ok-make_ready.ensures.ends.safe.memory c.write_sector.ensures.stands.safe.memory (beside_same (ram c.make_ready.new.engine) (ram c.write_sector.new.self) c.write_sector.ensures.pin c.write_sector.ensures.goes c.write_sector.ensures.moved c.write_sector.ensures.no_more.limits) kept
+    written_ready c.args.engine.now.geometry c.args.sector Sector c.args.body.now (ram c.make_ready.new.engine) (ram c.write_sector.new.self) _ _ _
+    c.in_ok-make_ready.ensures.ends.geometry c.in_ok-make_ready.ensures.ends.safe.memory c.write_sector.ensures.stands.safe.memory
+    (beside_same (ram c.make_ready.new.engine) (ram c.write_sector.new.self) c.write_sector.ensures.pin c.write_sector.ensures.goes
+    c.write_sector.ensures.moved c.write_sector.ensures.no_more.limits) kept
     (c.in_ok-write_sector.ensures.truth (c.in_ok-make_ready.ensures.ends.honest_is ∙ honest) c.in_ok-make_ready.ensures.ends.fault kept.truth.truth)

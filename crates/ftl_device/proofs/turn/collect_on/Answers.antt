@@ -41,7 +41,9 @@ pub returns-clause-collects : goal.returns-clause-collects
 returns-clause-collects g c =
     let none = none_pinned c.args.engine.now.pinned c.is_some.result c.is_some.ensures c.if-is_some.false in
     let idle = unpinned_idle (ram c.args.engine.now) c.requires.calm none in
-    collects_pinned g.N.PageSource.flash c.args.engine.now c.pin.new.self c.in-Some.block c.pin.ensures.pinned g.N.PageSource.recorded g.N.PageSource.honest g.N.PageSource.calm g.N.PageSource.erases g.N.PageSource.failed c.step_pinned-2.new.engine c.step_pinned-2.result c.requires.safe c.pin.ensures.safe c.requires.going
+    collects_pinned g.N.PageSource.flash c.args.engine.now c.pin.new.self c.in-Some.block c.pin.ensures.pinned g.N.PageSource.recorded
+    g.N.PageSource.honest g.N.PageSource.calm g.N.PageSource.erases g.N.PageSource.failed c.step_pinned-2.new.engine c.step_pinned-2.result
+    c.requires.safe c.pin.ensures.safe c.requires.going
     (knows_pinned g.N.PageSource.flash c.args.engine.now c.pin.new.self c.in-Some.block c.pin.ensures.pinned c.requires.safe.memory (c.pin.ensures.calm idle) (c.pin.ensures.passed _) c.in-Some.ensures idle.moved)
     c.step_pinned-2.ensures.collects
 
@@ -58,5 +60,8 @@ returns-clause-falls g c = λ honest k.
     let calm = c.pin.ensures.calm idle in
     let known = knows_pinned g.N.PageSource.flash c.args.engine.now c.pin.new.self c.in-Some.block c.pin.ensures.pinned c.requires.safe.memory calm (c.pin.ensures.passed _) c.in-Some.ensures idle.moved k in
     ok_map c.step_pinned-2.result
-    (λ h. inr (less_pinned g.N.PageSource.flash c.args.engine.now c.pin.new.self c.in-Some.block c.pin.ensures.pinned g.N.PageSource.erases c.step_pinned-2.new.engine none c.pin.ensures.safe.memory (pinned_half (ram c.pin.new.self) _ calm (ap (λ z. z.pinned) c.pin.ensures.pinned)) known h))
+    (λ h. inr
+    (less_pinned g.N.PageSource.flash c.args.engine.now c.pin.new.self c.in-Some.block c.pin.ensures.pinned g.N.PageSource.erases
+    c.step_pinned-2.new.engine none c.pin.ensures.safe.memory
+    (pinned_half (ram c.pin.new.self) _ calm (ap (λ z. z.pinned) c.pin.ensures.pinned)) known h))
     (c.step_pinned-2.ensures.less (ap (λ z. g.N.PageSource.honest z.nand) c.pin.ensures.pinned ∙ honest) known)

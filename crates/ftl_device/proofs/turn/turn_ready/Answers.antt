@@ -36,19 +36,33 @@ returns-in_err-rescue_one-clause-truth g c =
     rw (p.1, p.2) (λ honest w.
     let room = c.in_ok-make_room.ensures.truth honest w in
     let knows = c.in_ok-make_room.ensures.pinned honest w in
-    keeps_refused c.args.engine.now.geometry (ram c.make_room.new.engine) (ram c.rescue_one.new.self) _ _ _ _ c.make_room.ensures.leaves.geometry (keeps_room (ram c.args.engine.now) (ram c.make_room.new.engine) _ _ room knows) (rescue_refused (ram c.make_room.new.engine) (ram c.rescue_one.new.self) _ _ c.make_room.ensures.leaves.safe.memory c.rescue_one.ensures.stands.safe.memory c.rescue_one.ensures.goes c.rescue_one.ensures.pin c.rescue_one.ensures.one_more knows _ (c.in_err-rescue_one.ensures.truth (c.make_room.ensures.leaves.honest_is ∙ honest) c.in_ok-make_room.ensures.leaves.fault room.truth (moved_less (ram c.make_room.new.engine) _ knows))))
+    keeps_refused c.args.engine.now.geometry (ram c.make_room.new.engine) (ram c.rescue_one.new.self) _ _ _ _ c.make_room.ensures.leaves.geometry
+    (keeps_room (ram c.args.engine.now) (ram c.make_room.new.engine) _ _ room knows)
+    (rescue_refused (ram c.make_room.new.engine) (ram c.rescue_one.new.self) _ _ c.make_room.ensures.leaves.safe.memory
+    c.rescue_one.ensures.stands.safe.memory c.rescue_one.ensures.goes c.rescue_one.ensures.pin c.rescue_one.ensures.one_more knows _
+    (c.in_err-rescue_one.ensures.truth (c.make_room.ensures.leaves.honest_is ∙ honest) c.in_ok-make_room.ensures.leaves.fault room.truth
+    (moved_less (ram c.make_room.new.engine) _ knows))))
 
 pub returns-in_err-rescue_one-clause-count : goal.returns-in_err-rescue_one-clause-count
 returns-in_err-rescue_one-clause-count g c =
     let p = err_from_is_err_and c.from_residual-in_err-rescue_one.result c.from_residual-in_err-rescue_one.ensures.1 in
-    rw (p.1, p.2) (λ known five. rescue_stuck (ram c.args.engine.now) (ram c.make_room.new.engine) (ram c.rescue_one.new.self) c.requires.safe.memory c.make_room.ensures.leaves.safe.memory c.rescue_one.ensures.stands.safe.memory c.in_ok-make_room.ensures.made c.rescue_one.ensures.goes (c.in_ok-make_room.ensures.count known.0 known.1 0 known.2) _ (c.in_err-rescue_one.ensures.cost c.in_ok-make_room.ensures.leaves.fault))
+    rw (p.1, p.2)
+    (λ known five. rescue_stuck (ram c.args.engine.now) (ram c.make_room.new.engine) (ram c.rescue_one.new.self) c.requires.safe.memory
+    c.make_room.ensures.leaves.safe.memory c.rescue_one.ensures.stands.safe.memory c.in_ok-make_room.ensures.made c.rescue_one.ensures.goes
+    (c.in_ok-make_room.ensures.count known.0 known.1 0 known.2) _ (c.in_err-rescue_one.ensures.cost c.in_ok-make_room.ensures.leaves.fault))
 
 pub returns-in_err-rescue_one-clause-ends : goal.returns-in_err-rescue_one-clause-ends
 returns-in_err-rescue_one-clause-ends g c =
     let p = err_from_is_err_and c.from_residual-in_err-rescue_one.result c.from_residual-in_err-rescue_one.ensures.1 in
-    rw (p.1, p.2) (leaves_stuck g.N.PageSource.flash g.N.PageSource.recorded g.N.PageSource.honest g.N.PageSource.calm g.N.PageSource.failed c.args.engine.now c.rescue_one.new.self _ (leaves_then g.N.PageSource.flash g.N.PageSource.recorded g.N.PageSource.honest g.N.PageSource.calm g.N.PageSource.failed c.args.engine.now c.make_room.new.engine c.rescue_one.new.self _ _
+    rw (p.1, p.2)
+    (leaves_stuck g.N.PageSource.flash g.N.PageSource.recorded g.N.PageSource.honest g.N.PageSource.calm g.N.PageSource.failed c.args.engine.now
+    c.rescue_one.new.self _
+    (leaves_then g.N.PageSource.flash g.N.PageSource.recorded g.N.PageSource.honest g.N.PageSource.calm g.N.PageSource.failed
+    c.args.engine.now c.make_room.new.engine c.rescue_one.new.self _ _
     (λ honest k. keeps_room (ram c.args.engine.now) (ram c.make_room.new.engine) _ _ (c.in_ok-make_room.ensures.truth honest k) (c.in_ok-make_room.ensures.pinned honest k)) c.make_room.ensures.keys.limits
-    c.in_ok-make_room.ensures.leaves (leaves_by g.N.PageSource.flash g.N.PageSource.recorded g.N.PageSource.honest g.N.PageSource.calm g.N.PageSource.failed c.make_room.new.engine c.rescue_one.new.self (Err _) c.in_ok-make_room.ensures.leaves.fault c.in_err-rescue_one.ensures.stands c.rescue_one.ensures.goes.geometry
+    c.in_ok-make_room.ensures.leaves
+    (leaves_by g.N.PageSource.flash g.N.PageSource.recorded g.N.PageSource.honest g.N.PageSource.calm g.N.PageSource.failed c.make_room.new.engine
+    c.rescue_one.new.self (Err _) c.in_ok-make_room.ensures.leaves.fault c.in_err-rescue_one.ensures.stands c.rescue_one.ensures.goes.geometry
     (rescue_told (Err _) (ram c.make_room.new.engine) (ram c.rescue_one.new.self) c.make_room.ensures.leaves.safe.memory c.rescue_one.ensures.stands.safe.memory c.rescue_one.ensures.goes (c.in_err-rescue_one.ensures.cost c.in_ok-make_room.ensures.leaves.fault))
     (λ honest k ne. c.in_err-rescue_one.ensures.stops honest c.in_ok-make_room.ensures.leaves.fault k.truth ne))) (limits_then _ _ _ c.make_room.ensures.keys.limits c.rescue_one.ensures.keys.limits))
 
@@ -59,7 +73,9 @@ returns-then-needs_rescue-clause-truth g c = λ honest w.
     let room = c.in_ok-make_room.ensures.truth honest w in
     let knows = c.in_ok-make_room.ensures.pinned honest w in
     let one = c.in_ok-rescue_one.ensures.truth (c.make_room.ensures.leaves.honest_is ∙ honest) c.in_ok-make_room.ensures.leaves.fault room.truth (moved_less (ram c.make_room.new.engine) _ knows) in
-    engine_keeps c.args.engine.now.geometry (ram c.make_room.new.engine) (ram c.rescue_one.new.self) _ _ _ c.make_room.ensures.leaves.geometry c.make_room.ensures.leaves.safe.memory c.rescue_one.ensures.stands.safe.memory c.in_ok-rescue_one.ensures.beside (keeps_room (ram c.args.engine.now) (ram c.make_room.new.engine) _ _ room knows) one.same
+    engine_keeps c.args.engine.now.geometry (ram c.make_room.new.engine) (ram c.rescue_one.new.self) _ _ _ c.make_room.ensures.leaves.geometry
+    c.make_room.ensures.leaves.safe.memory c.rescue_one.ensures.stands.safe.memory c.in_ok-rescue_one.ensures.beside
+    (keeps_room (ram c.args.engine.now) (ram c.make_room.new.engine) _ _ room knows) one.same
 
 pub returns-then-needs_rescue-clause-rescued : goal.returns-then-needs_rescue-clause-rescued
 returns-then-needs_rescue-clause-rescued g c = λ honest w.
@@ -71,7 +87,9 @@ pub returns-then-needs_rescue-clause-worked : goal.returns-then-needs_rescue-cla
 returns-then-needs_rescue-clause-worked g c = λ honest w some.
     let room = c.in_ok-make_room.ensures.truth honest w in
     let one = c.in_ok-rescue_one.ensures.truth (c.make_room.ensures.leaves.honest_is ∙ honest) c.in_ok-make_room.ensures.leaves.fault room.truth (moved_less (ram c.make_room.new.engine) _ (c.in_ok-make_room.ensures.pinned honest w)) in
-    rescue_worked g.N.PageSource.erases c.args.engine.now c.make_room.new.engine c.rescue_one.new.self _ _ _ c.make_room.ensures.leaves.safe.memory c.rescue_one.ensures.stands.safe.memory some c.in_ok-make_room.ensures.erases c.rescue_one.ensures.erases c.rescue_one.ensures.goes (c.in_ok-rescue_one.ensures.cost c.in_ok-make_room.ensures.leaves.fault) one
+    rescue_worked g.N.PageSource.erases c.args.engine.now c.make_room.new.engine c.rescue_one.new.self _ _ _ c.make_room.ensures.leaves.safe.memory
+    c.rescue_one.ensures.stands.safe.memory some c.in_ok-make_room.ensures.erases c.rescue_one.ensures.erases c.rescue_one.ensures.goes
+    (c.in_ok-rescue_one.ensures.cost c.in_ok-make_room.ensures.leaves.fault) one
 
 pub returns-then-needs_rescue-clause-turned : goal.returns-then-needs_rescue-clause-turned
 returns-then-needs_rescue-clause-turned g c = record {
@@ -91,19 +109,30 @@ pub returns-then-needs_rescue-clause-quiet : goal.returns-then-needs_rescue-clau
 returns-then-needs_rescue-clause-quiet g c = λ honest w.
     let room = c.in_ok-make_room.ensures.truth honest w in
     let one = c.in_ok-rescue_one.ensures.truth (c.make_room.ensures.leaves.honest_is ∙ honest) c.in_ok-make_room.ensures.leaves.fault room.truth (moved_less (ram c.make_room.new.engine) _ (c.in_ok-make_room.ensures.pinned honest w)) in
-    rescue_works g.N.PageSource.erases c.args.engine.now c.make_room.new.engine c.rescue_one.new.self _ _ _ c.make_room.ensures.leaves.safe.memory c.rescue_one.ensures.stands.safe.memory (c.if-needs_rescue.ensures.some) c.in_ok-make_room.ensures.erases c.rescue_one.ensures.erases c.rescue_one.ensures.goes (c.in_ok-rescue_one.ensures.cost c.in_ok-make_room.ensures.leaves.fault) one
+    rescue_works g.N.PageSource.erases c.args.engine.now c.make_room.new.engine c.rescue_one.new.self _ _ _ c.make_room.ensures.leaves.safe.memory
+    c.rescue_one.ensures.stands.safe.memory (c.if-needs_rescue.ensures.some) c.in_ok-make_room.ensures.erases c.rescue_one.ensures.erases
+    c.rescue_one.ensures.goes (c.in_ok-rescue_one.ensures.cost c.in_ok-make_room.ensures.leaves.fault) one
 
 pub returns-then-needs_rescue-clause-falls : goal.returns-then-needs_rescue-clause-falls
 returns-then-needs_rescue-clause-falls g c = λ honest w none. rescue_falls g.N.PageSource.flash g.N.PageSource.erases c.args.engine.now c.make_room.new.engine c.rescue_one.new.self c.in_ok-make_room.ensures.erases c.rescue_one.ensures.erases c.if-needs_rescue.ensures.some none
 
 pub returns-then-needs_rescue-clause-count : goal.returns-then-needs_rescue-clause-count
-returns-then-needs_rescue-clause-count g c = λ known five. rescue_short (ram c.args.engine.now) (ram c.make_room.new.engine) (ram c.rescue_one.new.self) c.requires.safe.memory c.make_room.ensures.leaves.safe.memory c.rescue_one.ensures.stands.safe.memory c.in_ok-make_room.ensures.made c.rescue_one.ensures.goes (c.in_ok-make_room.ensures.count known.0 known.1 0 known.2) _ (c.in_ok-rescue_one.ensures.cost c.in_ok-make_room.ensures.leaves.fault)
+returns-then-needs_rescue-clause-count g c = λ known five. rescue_short (ram c.args.engine.now) (ram c.make_room.new.engine)
+    (ram c.rescue_one.new.self) c.requires.safe.memory c.make_room.ensures.leaves.safe.memory c.rescue_one.ensures.stands.safe.memory
+    c.in_ok-make_room.ensures.made c.rescue_one.ensures.goes (c.in_ok-make_room.ensures.count known.0 known.1 0 known.2) _
+    (c.in_ok-rescue_one.ensures.cost c.in_ok-make_room.ensures.leaves.fault)
 
 pub returns-then-needs_rescue-clause-ends : goal.returns-then-needs_rescue-clause-ends
-returns-then-needs_rescue-clause-ends g c = leaves_ends g.N.PageSource.flash g.N.PageSource.recorded g.N.PageSource.honest g.N.PageSource.calm g.N.PageSource.failed c.args.engine.now c.rescue_one.new.self (Ok tt) (leaves_done g.N.PageSource.flash g.N.PageSource.recorded g.N.PageSource.honest g.N.PageSource.calm g.N.PageSource.failed c.args.engine.now c.rescue_one.new.self _ tt (leaves_then g.N.PageSource.flash g.N.PageSource.recorded g.N.PageSource.honest g.N.PageSource.calm g.N.PageSource.failed c.args.engine.now c.make_room.new.engine c.rescue_one.new.self _ _
+returns-then-needs_rescue-clause-ends g c = leaves_ends g.N.PageSource.flash g.N.PageSource.recorded g.N.PageSource.honest g.N.PageSource.calm
+    g.N.PageSource.failed c.args.engine.now c.rescue_one.new.self (Ok tt)
+    (leaves_done g.N.PageSource.flash g.N.PageSource.recorded g.N.PageSource.honest g.N.PageSource.calm g.N.PageSource.failed c.args.engine.now
+    c.rescue_one.new.self _ tt
+    (leaves_then g.N.PageSource.flash g.N.PageSource.recorded g.N.PageSource.honest g.N.PageSource.calm g.N.PageSource.failed c.args.engine.now
+    c.make_room.new.engine c.rescue_one.new.self _ _
     (λ honest k. keeps_room (ram c.args.engine.now) (ram c.make_room.new.engine) _ _ (c.in_ok-make_room.ensures.truth honest k) (c.in_ok-make_room.ensures.pinned honest k)) c.make_room.ensures.keys.limits
     c.in_ok-make_room.ensures.leaves
-    (leaves_by g.N.PageSource.flash g.N.PageSource.recorded g.N.PageSource.honest g.N.PageSource.calm g.N.PageSource.failed c.make_room.new.engine c.rescue_one.new.self (Ok _) c.in_ok-make_room.ensures.leaves.fault c.in_ok-rescue_one.ensures.stands c.rescue_one.ensures.goes.geometry
+    (leaves_by g.N.PageSource.flash g.N.PageSource.recorded g.N.PageSource.honest g.N.PageSource.calm g.N.PageSource.failed c.make_room.new.engine
+    c.rescue_one.new.self (Ok _) c.in_ok-make_room.ensures.leaves.fault c.in_ok-rescue_one.ensures.stands c.rescue_one.ensures.goes.geometry
     (rescue_told (Ok _) (ram c.make_room.new.engine) (ram c.rescue_one.new.self) c.make_room.ensures.leaves.safe.memory c.rescue_one.ensures.stands.safe.memory c.rescue_one.ensures.goes (c.in_ok-rescue_one.ensures.cost c.in_ok-make_room.ensures.leaves.fault))
     (λ honest k ne. c.in_ok-rescue_one.ensures.stops honest c.in_ok-make_room.ensures.leaves.fault k.truth ne))))
     (limits_then _ _ _ c.make_room.ensures.keys.limits c.rescue_one.ensures.keys.limits) (λ none. calm_law (ram c.make_room.new.engine) (ram c.rescue_one.new.self) c.in_ok-rescue_one.ensures.beside c.in_ok-make_room.ensures.made.calm)
@@ -116,17 +145,27 @@ returns-in_err-collect_on-clause-truth g c =
     rw (p.1, p.2) (λ honest w.
     let room = c.in_ok-make_room.ensures.truth honest w in
     let knows = c.in_ok-make_room.ensures.pinned honest w in
-    keeps_refused c.args.engine.now.geometry (ram c.make_room.new.engine) (ram c.collect_on.new.engine) _ _ _ _ c.make_room.ensures.leaves.geometry (keeps_room (ram c.args.engine.now) (ram c.make_room.new.engine) _ _ room knows) (c.in_err-collect_on.ensures.collects.truth (c.make_room.ensures.leaves.honest_is ∙ honest) knows))
+    keeps_refused c.args.engine.now.geometry (ram c.make_room.new.engine) (ram c.collect_on.new.engine) _ _ _ _ c.make_room.ensures.leaves.geometry
+    (keeps_room (ram c.args.engine.now) (ram c.make_room.new.engine) _ _ room knows)
+    (c.in_err-collect_on.ensures.collects.truth (c.make_room.ensures.leaves.honest_is ∙ honest) knows))
 
 pub returns-in_err-collect_on-clause-count : goal.returns-in_err-collect_on-clause-count
 returns-in_err-collect_on-clause-count g c =
     let p = err_from_is_err_and c.from_residual-in_err-collect_on.result c.from_residual-in_err-collect_on.ensures.1 in
-    rw (p.1, p.2) (λ known five. step_short_of (ram c.args.engine.now) (ram c.make_room.new.engine) (ram c.collect_on.new.engine) c.requires.safe.memory c.make_room.ensures.leaves.safe.memory c.collect_on.ensures.collects.leaves.safe.memory c.in_ok-make_room.ensures.made c.collect_on.ensures.collects.goes (c.in_ok-make_room.ensures.count known.0 known.1 0 known.2) _ c.in_err-collect_on.ensures.collects.counts)
+    rw (p.1, p.2)
+    (λ known five. step_short_of (ram c.args.engine.now) (ram c.make_room.new.engine) (ram c.collect_on.new.engine) c.requires.safe.memory
+    c.make_room.ensures.leaves.safe.memory c.collect_on.ensures.collects.leaves.safe.memory c.in_ok-make_room.ensures.made
+    c.collect_on.ensures.collects.goes (c.in_ok-make_room.ensures.count known.0 known.1 0 known.2) _
+    c.in_err-collect_on.ensures.collects.counts)
 
 pub returns-in_err-collect_on-clause-ends : goal.returns-in_err-collect_on-clause-ends
 returns-in_err-collect_on-clause-ends g c =
     let p = err_from_is_err_and c.from_residual-in_err-collect_on.result c.from_residual-in_err-collect_on.ensures.1 in
-    rw (p.1, p.2) (leaves_stuck g.N.PageSource.flash g.N.PageSource.recorded g.N.PageSource.honest g.N.PageSource.calm g.N.PageSource.failed c.args.engine.now c.collect_on.new.engine _ (leaves_then g.N.PageSource.flash g.N.PageSource.recorded g.N.PageSource.honest g.N.PageSource.calm g.N.PageSource.failed c.args.engine.now c.make_room.new.engine c.collect_on.new.engine _ _
+    rw (p.1, p.2)
+    (leaves_stuck g.N.PageSource.flash g.N.PageSource.recorded g.N.PageSource.honest g.N.PageSource.calm g.N.PageSource.failed c.args.engine.now
+    c.collect_on.new.engine _
+    (leaves_then g.N.PageSource.flash g.N.PageSource.recorded g.N.PageSource.honest g.N.PageSource.calm g.N.PageSource.failed
+    c.args.engine.now c.make_room.new.engine c.collect_on.new.engine _ _
     (λ honest k. keeps_room (ram c.args.engine.now) (ram c.make_room.new.engine) _ _ (c.in_ok-make_room.ensures.truth honest k) (c.in_ok-make_room.ensures.pinned honest k)) c.make_room.ensures.keys.limits
     c.in_ok-make_room.ensures.leaves c.in_err-collect_on.ensures.collects.leaves) (limits_then _ _ _ c.make_room.ensures.keys.limits c.collect_on.ensures.collects.limits))
 
@@ -140,7 +179,10 @@ returns-clause-truth g c = λ honest w.
 
 pub returns-clause-rescued : goal.returns-clause-rescued
 returns-clause-rescued g c = λ honest w.
-    collected_rescued (ram c.args.engine.now) (ram c.make_room.new.engine) (ram c.collect_on.new.engine) _ _ c.requires.safe.memory c.make_room.ensures.leaves.safe.memory c.collect_on.ensures.collects.leaves.safe.memory c.in_ok-make_room.ensures.made.goes c.collect_on.ensures.collects.goes (c.in_ok-make_room.ensures.truth honest w) c.if-needs_rescue.ensures.none (c.in_ok-collect_on.ensures.collects.bad (c.make_room.ensures.leaves.honest_is ∙ honest) (c.in_ok-make_room.ensures.pinned honest w))
+    collected_rescued (ram c.args.engine.now) (ram c.make_room.new.engine) (ram c.collect_on.new.engine) _ _ c.requires.safe.memory
+    c.make_room.ensures.leaves.safe.memory c.collect_on.ensures.collects.leaves.safe.memory c.in_ok-make_room.ensures.made.goes
+    c.collect_on.ensures.collects.goes (c.in_ok-make_room.ensures.truth honest w) c.if-needs_rescue.ensures.none
+    (c.in_ok-collect_on.ensures.collects.bad (c.make_room.ensures.leaves.honest_is ∙ honest) (c.in_ok-make_room.ensures.pinned honest w))
 
 pub returns-clause-worked : goal.returns-clause-worked
 returns-clause-worked g c = λ honest w some. none_worked g.N.PageSource.erases c.args.engine.now c.make_room.new.engine c.collect_on.new.engine c.in_ok-make_room.ensures.erases c.in_ok-collect_on.ensures.collects.risen c.if-needs_rescue.ensures.none some
@@ -159,16 +201,25 @@ returns-clause-lowest g c = λ honest w.
     lowest_none g.N.PageSource.flash g.N.PageSource.recorded c.args.engine.now c.make_room.new.engine c.collect_on.new.engine made c.if-needs_rescue.ensures.none
 
 pub returns-clause-quiet : goal.returns-clause-quiet
-returns-clause-quiet g c = λ honest w. quiet_then g.N.PageSource.erases c.args.engine.now c.make_room.new.engine c.collect_on.new.engine c.in_ok-make_room.ensures.erases c.in_ok-collect_on.ensures.collects.risen (c.in_ok-collect_on.ensures.quiet (c.make_room.ensures.leaves.honest_is ∙ honest) (c.in_ok-make_room.ensures.pinned honest w))
+returns-clause-quiet g c = λ honest w. quiet_then g.N.PageSource.erases c.args.engine.now c.make_room.new.engine c.collect_on.new.engine
+    c.in_ok-make_room.ensures.erases c.in_ok-collect_on.ensures.collects.risen
+    (c.in_ok-collect_on.ensures.quiet (c.make_room.ensures.leaves.honest_is ∙ honest) (c.in_ok-make_room.ensures.pinned honest w))
 
 pub returns-clause-falls : goal.returns-clause-falls
-returns-clause-falls g c = λ honest w none. fallen_then g.N.PageSource.flash g.N.PageSource.erases c.args.engine.now c.make_room.new.engine c.collect_on.new.engine c.in_ok-make_room.ensures.erases c.in_ok-collect_on.ensures.collects.risen (c.in_ok-collect_on.ensures.falls (c.make_room.ensures.leaves.honest_is ∙ honest) (c.in_ok-make_room.ensures.pinned honest w))
+returns-clause-falls g c = λ honest w none. fallen_then g.N.PageSource.flash g.N.PageSource.erases c.args.engine.now c.make_room.new.engine
+    c.collect_on.new.engine c.in_ok-make_room.ensures.erases c.in_ok-collect_on.ensures.collects.risen
+    (c.in_ok-collect_on.ensures.falls (c.make_room.ensures.leaves.honest_is ∙ honest) (c.in_ok-make_room.ensures.pinned honest w))
 
 pub returns-clause-count : goal.returns-clause-count
-returns-clause-count g c = λ known five. step_short (ram c.args.engine.now) (ram c.make_room.new.engine) (ram c.collect_on.new.engine) c.requires.safe.memory c.make_room.ensures.leaves.safe.memory c.collect_on.ensures.collects.leaves.safe.memory c.in_ok-make_room.ensures.made c.collect_on.ensures.collects.goes (c.in_ok-make_room.ensures.count known.0 known.1 0 known.2) c.in_ok-collect_on.ensures.collects.counts
+returns-clause-count g c = λ known five. step_short (ram c.args.engine.now) (ram c.make_room.new.engine) (ram c.collect_on.new.engine)
+    c.requires.safe.memory c.make_room.ensures.leaves.safe.memory c.collect_on.ensures.collects.leaves.safe.memory c.in_ok-make_room.ensures.made
+    c.collect_on.ensures.collects.goes (c.in_ok-make_room.ensures.count known.0 known.1 0 known.2) c.in_ok-collect_on.ensures.collects.counts
 
 pub returns-clause-ends : goal.returns-clause-ends
-returns-clause-ends g c = leaves_ends g.N.PageSource.flash g.N.PageSource.recorded g.N.PageSource.honest g.N.PageSource.calm g.N.PageSource.failed c.args.engine.now c.collect_on.new.engine (Ok tt) (leaves_then g.N.PageSource.flash g.N.PageSource.recorded g.N.PageSource.honest g.N.PageSource.calm g.N.PageSource.failed c.args.engine.now c.make_room.new.engine c.collect_on.new.engine _ _
+returns-clause-ends g c = leaves_ends g.N.PageSource.flash g.N.PageSource.recorded g.N.PageSource.honest g.N.PageSource.calm g.N.PageSource.failed
+    c.args.engine.now c.collect_on.new.engine (Ok tt)
+    (leaves_then g.N.PageSource.flash g.N.PageSource.recorded g.N.PageSource.honest g.N.PageSource.calm g.N.PageSource.failed c.args.engine.now
+    c.make_room.new.engine c.collect_on.new.engine _ _
     (λ honest k. keeps_room (ram c.args.engine.now) (ram c.make_room.new.engine) _ _ (c.in_ok-make_room.ensures.truth honest k) (c.in_ok-make_room.ensures.pinned honest k)) c.make_room.ensures.keys.limits
     c.in_ok-make_room.ensures.leaves c.in_ok-collect_on.ensures.collects.leaves) (limits_then _ _ _ c.make_room.ensures.keys.limits c.collect_on.ensures.collects.limits) c.collect_on.ensures.collects.calm_memory
 
@@ -184,7 +235,9 @@ pub returns-then-needs_rescue-clause-rests : goal.returns-then-needs_rescue-clau
 returns-then-needs_rescue-clause-rests g c = λ none unpinned twelve. absurd (no_rescue c.args.engine.now c.make_room.new.engine (c.in_ok-make_room.ensures.rests (omega (arith, twelve))).1 none (c.if-needs_rescue.ensures.some))
 
 pub returns-in_err-collect_on-clause-rests : goal.returns-in_err-collect_on-clause-rests
-returns-in_err-collect_on-clause-rests g c = λ none unpinned twelve. (let at = resting c.args.engine.now c.make_room.new.engine (c.in_ok-make_room.ensures.rests (omega (arith, twelve))).1 unpinned twelve in let failed = (c.in_err-collect_on.ensures.rests at.0 at.1).0 in let never : ⊥ = cc in absurd never)
+returns-in_err-collect_on-clause-rests g c = λ none unpinned twelve.
+    (let at = resting c.args.engine.now c.make_room.new.engine (c.in_ok-make_room.ensures.rests (omega (arith, twelve))).1 unpinned twelve in let
+    failed = (c.in_err-collect_on.ensures.rests at.0 at.1).0 in let never : ⊥ = cc in absurd never)
 
 pub returns-clause-rests : goal.returns-clause-rests
 returns-clause-rests g c = λ none unpinned twelve.

@@ -17,4 +17,6 @@ returns-clause-states c = λ image h.
     let done = c.in_ok-judge_image.ensures in
     let sorted : IsSorted g image s = sorted_of image c.args.survey.now s h done.others done.permutation in
     let counted : (with_items c.args.scratch.now.counts c.count_live.new.counts).items ≡ c.count_live.new.counts = with_items_is c.args.scratch.now.counts c.count_live.new.counts (c.count_live.auto.counts ∙ c.deref_mut.ensures.len) in
-    states_known g s.geometry image s c.deref.result.now c.deref-2.result.now c.count_live.new.counts c.deref-3.result.now c.judge_image.new.table c.block_states.new.states.items sorted.geometry_is sorted (numbers_any g image (λ claim. done.ok 0 image claim h)) (done.rows image h) c.deref.ensures.value c.deref-2.ensures.value (c.deref-3.ensures.value ∙ counted) c.count_live.ensures c.block_states.ensures.states
+    states_known g s.geometry image s c.deref.result.now c.deref-2.result.now c.count_live.new.counts c.deref-3.result.now c.judge_image.new.table
+    c.block_states.new.states.items sorted.geometry_is sorted (numbers_any g image (λ claim. done.ok 0 image claim h)) (done.rows image h)
+    c.deref.ensures.value c.deref-2.ensures.value (c.deref-3.ensures.value ∙ counted) c.count_live.ensures c.block_states.ensures.states

@@ -24,7 +24,9 @@ loop-page-preserved g c =
       spare_whole = omega arith;
       same = λ honest. read.same (inv.only_reads.honest_is ∙ honest) ∙ inv.same honest;
       noted = λ honest keys.
-          let entry : AreEntries geo first_flash.image t c.read_translation.new.body = entries_read geo first_flash (g.S.PageSource.flash c.loop-page.source) c.args.newest.now t (c.sectors-sectors.result + t) _ _ c.read_translation.new.body keys (omega arith) (omega arith) refl (inv.same honest) (read.entries (inv.only_reads.honest_is ∙ honest)) in
+          let entry : AreEntries geo first_flash.image t c.read_translation.new.body = entries_read geo first_flash
+          (g.S.PageSource.flash c.loop-page.source) c.args.newest.now t (c.sectors-sectors.result + t) _ _ c.read_translation.new.body keys
+          (omega arith) (omega arith) refl (inv.same honest) (read.entries (inv.only_reads.honest_is ∙ honest)) in
           subst (λ k. AreStaleBelow geo first_flash.image k c.note_stale.new.stale.items) (sym finish)
           (stale_more geo first_flash.image c.args.newest.now t first end c.read_translation.new.body c.loop-page.stale.items c.note_stale.new.stale.items keys entry (ap (λ k. t * k) c.entries-entries.ensures) (omega arith) (omega arith) (omega arith)
           (subst (λ k. AreStaleBelow geo first_flash.image k c.loop-page.stale.items) start (inv.noted honest keys)) c.in_ok-note_stale.ensures.noted);

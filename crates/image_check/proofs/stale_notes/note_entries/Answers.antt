@@ -10,17 +10,25 @@ returns-in_default-clause-noted c = λ image p h at e b.
 
 pub returns-in_default-key : goal.returns-in_default-key
 returns-in_default-key c = record {
-  noted = λ image p h at e b. noted_stays c.args.geometry.now image c.args.certificate.now c.args.row c.args.noted.now (other_key c.args.geometry.now image c.args.certificate.now c.args.row p c.in-Some.found c.key.result at (sym c.in-Some.is ∙ e) c.key.ensures (λ t l d x. c.in_default-key.not-Translation t x)) h;
+  noted = λ image p h at e b. noted_stays c.args.geometry.now image c.args.certificate.now c.args.row c.args.noted.now
+      (other_key c.args.geometry.now image c.args.certificate.now c.args.row p c.in-Some.found c.key.result at (sym c.in-Some.is ∙ e) c.key.ensures
+      (λ t l d x. c.in_default-key.not-Translation t x)) h;
   most = refl;
 }
 
 pub returns-then-page-translation_pages-clause-noted : goal.returns-then-page-translation_pages-clause-noted
 returns-then-page-translation_pages-clause-noted c = λ image p h at e b.
-    noted_stays c.args.geometry.now image c.args.certificate.now c.args.row c.args.noted.now (past_pages c.args.geometry.now image c.args.certificate.now c.args.row c.in-Translation.page p c.in-Some.found c.key.result at (sym c.in-Some.is ∙ e) c.key.ensures c.in-Translation.is (omega arith)) h
+    noted_stays c.args.geometry.now image c.args.certificate.now c.args.row c.args.noted.now
+    (past_pages c.args.geometry.now image c.args.certificate.now c.args.row c.in-Translation.page p c.in-Some.found c.key.result at
+    (sym c.in-Some.is ∙ e) c.key.ensures c.in-Translation.is (omega arith)) h
 
 pub returns-then-not-same_row-clause-noted : goal.returns-then-not-same_row-clause-noted
 returns-then-not-same_row-clause-noted c = λ image p h at e b.
-    noted_stays c.args.geometry.now image c.args.certificate.now c.args.row c.args.noted.now (other_row c.args.geometry.now image c.args.certificate.now c.args.row c.in-Translation.page p c.in-Some.found c.key.result c.directory_row.result at (sym c.in-Some.is ∙ e) c.key.ensures c.in-Translation.is (claimed_at c.args.certificate.now.directory c.in-Translation.page c.directory_row.result c.directory_row.ensures.is) (c.same_row.ensures.no c.if-not-same_row.true)) h
+    noted_stays c.args.geometry.now image c.args.certificate.now c.args.row c.args.noted.now
+    (other_row c.args.geometry.now image c.args.certificate.now c.args.row c.in-Translation.page p c.in-Some.found c.key.result
+    c.directory_row.result at (sym c.in-Some.is ∙ e) c.key.ensures c.in-Translation.is
+    (claimed_at c.args.certificate.now.directory c.in-Translation.page c.directory_row.result c.directory_row.ensures.is)
+    (c.same_row.ensures.no c.if-not-same_row.true)) h
 
 pub returns-clause-noted : goal.returns-clause-noted
 returns-clause-noted c = λ image p h at e b.

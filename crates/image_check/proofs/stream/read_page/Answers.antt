@@ -18,4 +18,6 @@ returns-clause-cut g c =
     let a = g.R.Read.remaining c.args.reader.now in
     let b = g.R.Read.remaining c.fill.new.reader in
     let d = g.R.Read.remaining c.fill-2.new.reader in
-    err_map (IsCut (length c.fill-2.new.buffer) b d) (IsCut (length c.fill.new.buffer + length c.fill-2.new.buffer) a d) c.fill-2.result (λ cut h. cut_after (length c.fill-2.new.buffer) (length c.fill.new.buffer + length c.fill-2.new.buffer) a b d c.fill.new.buffer cut c.in_ok-fill.ensures.whole (omega arith) h) c.fill-2.ensures.cut
+    err_map (IsCut (length c.fill-2.new.buffer) b d) (IsCut (length c.fill.new.buffer + length c.fill-2.new.buffer) a d) c.fill-2.result
+    (λ cut h. cut_after (length c.fill-2.new.buffer) (length c.fill.new.buffer + length c.fill-2.new.buffer) a b d c.fill.new.buffer cut
+    c.in_ok-fill.ensures.whole (omega arith) h) c.fill-2.ensures.cut

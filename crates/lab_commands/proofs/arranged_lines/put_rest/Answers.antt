@@ -5,4 +5,9 @@ use Rattle.lab_commands.proofs.arranged_lines.put_rest.Goals as goal
 
 pub returns : goal.returns
 returns g c =
-    subst (λ (t : List ℕ). Prints (g.W.Output.failed c.put_pieces.new.out) (g.W.Output.contents c.args.out.now) (g.W.Output.contents c.put_pieces.new.out) t c.put_pieces.result) (rest_json c.args.fit c.from.result c.from-2.result c.from-3.result c.from-4.result c.from-5.result c.from-6.result c.from-7.result c.says_text.result.now c.from-8.result c.from.ensures c.from-2.ensures c.from-3.ensures c.from-4.ensures c.from-5.ensures c.from-6.ensures c.from-7.ensures c.says_text.ensures c.from-8.ensures) c.put_pieces.ensures
+    subst
+    (λ (t : List ℕ). Prints (g.W.Output.failed c.put_pieces.new.out) (g.W.Output.contents c.args.out.now)
+    (g.W.Output.contents c.put_pieces.new.out) t c.put_pieces.result)
+    (rest_json c.args.fit c.from.result c.from-2.result c.from-3.result c.from-4.result c.from-5.result c.from-6.result c.from-7.result
+    c.says_text.result.now c.from-8.result c.from.ensures c.from-2.ensures c.from-3.ensures c.from-4.ensures c.from-5.ensures c.from-6.ensures
+    c.from-7.ensures c.says_text.ensures c.from-8.ensures) c.put_pieces.ensures

@@ -109,7 +109,9 @@ returns-in_err-room-clause-fault g c =
     let o = g.W.Output.contents c.args.out.now in
     let broke = g.W.Output.failed c.args.out.now in
     handed_on (IsArrayFault a c.args.words k (g.F.LabFiles.kept c.allow_both.new.files) n (g.F.LabFiles.opened c.allow_both.new.files) broke o o) _ fault.OutOfMemory c.from_residual-in_err-room.ensures.1
-    (not_put a c.args.words c.in_ok-geometry.geometry c.in_ok-last.last k _ n _ broke o _ c.in_ok-geometry.ensures.ok c.in_ok-last.ensures.ok c.in_ok-allow_both.ensures.ok (ap g.F.LabFiles.kept c.in_ok-allow_both.ensures.same) (inl (refl, ap g.F.LabFiles.opened c.in_ok-allow_both.ensures.same)))
+    (not_put a c.args.words c.in_ok-geometry.geometry c.in_ok-last.last k _ n _ broke o _ c.in_ok-geometry.ensures.ok c.in_ok-last.ensures.ok
+    c.in_ok-allow_both.ensures.ok (ap g.F.LabFiles.kept c.in_ok-allow_both.ensures.same)
+    (inl (refl, ap g.F.LabFiles.opened c.in_ok-allow_both.ensures.same)))
 
 pub returns-in-Ok-clause-ok : goal.returns-in-Ok-clause-ok
 returns-in-Ok-clause-ok g c =
@@ -171,5 +173,8 @@ returns-clause-fault g c =
       put,
       half_printed c.in-Err.fault _ _ _ _ _ c.unprinted.ensures
           (subst (λ f. StopsPrinting c.in-Err.fault (g.W.Output.failed c.print_array.new.out) (g.W.Output.contents c.args.out.now) (g.W.Output.contents c.print_array.new.out) (array_text f geometry last (map shown_in held) left)) c.printer-printer.ensures
-          (subst (λ (hs : List Held). StopsPrinting c.in-Err.fault (g.W.Output.failed c.print_array.new.out) (g.W.Output.contents c.args.out.now) (g.W.Output.contents c.print_array.new.out) (array_text c.printer-printer.result.form geometry last (map shown_in hs) left)) c.deref-2.ensures.value c.in-Err.ensures)),
+          (subst
+          (λ (hs : List Held). StopsPrinting c.in-Err.fault (g.W.Output.failed c.print_array.new.out) (g.W.Output.contents c.args.out.now)
+          (g.W.Output.contents c.print_array.new.out) (array_text c.printer-printer.result.form geometry last (map shown_in hs) left))
+          c.deref-2.ensures.value c.in-Err.ensures)),
     ))

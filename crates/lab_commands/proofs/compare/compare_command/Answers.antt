@@ -80,5 +80,8 @@ returns-clause-fault g c =
       sizes = c.in_ok-told.ensures.sizes;
       compared = compared_before a b c.args.words.dump.now c.in_ok-geometry.geometry c.in_ok-certificate.certificate c.in_ok-told.told has.no_more c.in_ok-told.ensures.ok;
     } in
-    let stops = subst (λ f. StopsPrinting c.in-Err.fault (g.W.Output.failed c.print_compared.new.out) (g.W.Output.contents c.args.out.now) (g.W.Output.contents c.print_compared.new.out) (compare_text f c.in_ok-geometry.geometry c.in_ok-told.told)) c.printer.ensures c.in-Err.ensures in
+    let stops = subst
+    (λ f. StopsPrinting c.in-Err.fault (g.W.Output.failed c.print_compared.new.out) (g.W.Output.contents c.args.out.now)
+    (g.W.Output.contents c.print_compared.new.out) (compare_text f c.in_ok-geometry.geometry c.in_ok-told.told)) c.printer.ensures
+    c.in-Err.ensures in
     inr (c.in_ok-told.ensures.kept ∙ has.kept, (c.in_ok-geometry.geometry, c.in_ok-told.told, compared, half_printed c.in-Err.fault _ _ _ _ _ c.unprinted.ensures stops))

@@ -30,7 +30,9 @@ returns-in_err-chip-clause-fault g c =
     let k = g.F.LabFiles.kept c.args.files.now in
     let o = g.W.Output.contents c.args.out.now in
     let broke = g.W.Output.failed c.args.out.now in
-    handed_on (IsCorrectFault a c.args.words k k (g.F.LabFiles.opened c.args.files.now) (g.F.LabFiles.opened c.args.files.now) broke o o) _ _ c.from_residual-in_err-chip.ensures.1 (no_chip a c.args.words c.in_ok-geometry.geometry k _ _ broke o _ c.in_ok-geometry.ensures.ok c.in_err-chip.ensures.fault)
+    handed_on (IsCorrectFault a c.args.words k k (g.F.LabFiles.opened c.args.files.now) (g.F.LabFiles.opened c.args.files.now) broke o o) _ _
+    c.from_residual-in_err-chip.ensures.1
+    (no_chip a c.args.words c.in_ok-geometry.geometry k _ _ broke o _ c.in_ok-geometry.ensures.ok c.in_err-chip.ensures.fault)
 
 pub returns-in_err-allow_both-clause-fault : goal.returns-in_err-allow_both-clause-fault
 returns-in_err-allow_both-clause-fault g c =
@@ -106,7 +108,9 @@ returns-in_err-room-clause-fault g c =
     let o = g.W.Output.contents c.args.out.now in
     let broke = g.W.Output.failed c.args.out.now in
     handed_on (IsCorrectFault a c.args.words k (g.F.LabFiles.kept c.allow_both.new.files) n (g.F.LabFiles.opened c.allow_both.new.files) broke o o) _ fault.OutOfMemory c.from_residual-in_err-room.ensures.1
-    (not_put a c.args.words c.in_ok-geometry.geometry c.in_ok-chip.chip.raw k _ n _ broke o _ c.in_ok-geometry.ensures.ok c.in_ok-chip.ensures.ok c.in_ok-allow_both.ensures.ok (ap g.F.LabFiles.kept c.in_ok-allow_both.ensures.same) (inl (refl, ap g.F.LabFiles.opened c.in_ok-allow_both.ensures.same)))
+    (not_put a c.args.words c.in_ok-geometry.geometry c.in_ok-chip.chip.raw k _ n _ broke o _ c.in_ok-geometry.ensures.ok c.in_ok-chip.ensures.ok
+    c.in_ok-allow_both.ensures.ok (ap g.F.LabFiles.kept c.in_ok-allow_both.ensures.same)
+    (inl (refl, ap g.F.LabFiles.opened c.in_ok-allow_both.ensures.same)))
 
 pub returns-in-Ok-clause-ok : goal.returns-in-Ok-clause-ok
 returns-in-Ok-clause-ok g c =

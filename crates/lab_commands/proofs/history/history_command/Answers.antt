@@ -24,7 +24,9 @@ returns-in_err-sector-clause-fault g c =
     let k = g.F.LabFiles.kept c.args.files.now in
     let o = g.W.Output.contents c.args.out.now in
     let broke = g.W.Output.failed c.args.out.now in
-    handed_on (IsHistoryFault a c.args.words k k (g.F.LabFiles.opened c.args.files.now) (g.F.LabFiles.opened c.args.files.now) broke o o) _ _ c.from_residual-in_err-sector.ensures.1 (no_sector a c.args.words c.in_ok-geometry.geometry k _ _ broke o _ c.in_ok-geometry.ensures.ok c.in_err-sector.ensures.fault)
+    handed_on (IsHistoryFault a c.args.words k k (g.F.LabFiles.opened c.args.files.now) (g.F.LabFiles.opened c.args.files.now) broke o o) _ _
+    c.from_residual-in_err-sector.ensures.1
+    (no_sector a c.args.words c.in_ok-geometry.geometry k _ _ broke o _ c.in_ok-geometry.ensures.ok c.in_err-sector.ensures.fault)
 
 pub returns-in_err-history-clause-fault : goal.returns-in_err-history-clause-fault
 returns-in_err-history-clause-fault g c =
@@ -56,7 +58,14 @@ returns-in-Ok-clause-ok g c = record {
 
 pub returns-clause-fault : goal.returns-clause-fault
 returns-clause-fault g c =
-    let has : HasHistory (g.F.LabFiles.answers c.args.files.now) c.args.words c.in_ok-geometry.geometry c.in_ok-history.history = record { sector = c.in_ok-sector.sector; geometry_is = c.in_ok-geometry.ensures.ok; sector_is = c.in_ok-sector.ensures.ok; recalled = c.in_ok-history.ensures.recalled } in
+    let has : HasHistory (g.F.LabFiles.answers c.args.files.now) c.args.words c.in_ok-geometry.geometry c.in_ok-history.history =
+    record {
+      sector = c.in_ok-sector.sector;
+      geometry_is = c.in_ok-geometry.ensures.ok;
+      sector_is = c.in_ok-sector.ensures.ok;
+      recalled =
+          c.in_ok-history.ensures.recalled;
+    } in
     let o = g.W.Output.contents c.args.out.now in
     let after = g.W.Output.contents c.print_history.new.out in
     let broke = g.W.Output.failed c.print_history.new.out in

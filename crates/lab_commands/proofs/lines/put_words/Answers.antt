@@ -19,19 +19,28 @@ pub returns-in-NotFormatted : goal.returns-in-NotFormatted
 unfolding line_words
 returns-in-NotFormatted g c =
     subst (λ l. Prints (g.W.Output.failed c.put_one-in-NotFormatted.new.out) (g.W.Output.contents c.args.out.now) (g.W.Output.contents c.put_one-in-NotFormatted.new.out) (line_words l) c.put_one-in-NotFormatted.result) (sym c.in-NotFormatted.is)
-    (subst (λ (n : ℕ). Prints (g.W.Output.failed c.put_one-in-NotFormatted.new.out) (g.W.Output.contents c.args.out.now) (g.W.Output.contents c.put_one-in-NotFormatted.new.out) (codes "reason NotFormatted table " ++ decimal n) c.put_one-in-NotFormatted.result) c.from-in-NotFormatted.ensures c.put_one-in-NotFormatted.ensures)
+    (subst
+    (λ (n : ℕ). Prints (g.W.Output.failed c.put_one-in-NotFormatted.new.out) (g.W.Output.contents c.args.out.now)
+    (g.W.Output.contents c.put_one-in-NotFormatted.new.out) (codes "reason NotFormatted table " ++ decimal n) c.put_one-in-NotFormatted.result)
+    c.from-in-NotFormatted.ensures c.put_one-in-NotFormatted.ensures)
 
 pub returns-in-TableDamaged : goal.returns-in-TableDamaged
 unfolding line_words
 returns-in-TableDamaged g c =
     subst (λ l. Prints (g.W.Output.failed c.put_one-in-TableDamaged.new.out) (g.W.Output.contents c.args.out.now) (g.W.Output.contents c.put_one-in-TableDamaged.new.out) (line_words l) c.put_one-in-TableDamaged.result) (sym c.in-TableDamaged.is)
-    (subst (λ (n : ℕ). Prints (g.W.Output.failed c.put_one-in-TableDamaged.new.out) (g.W.Output.contents c.args.out.now) (g.W.Output.contents c.put_one-in-TableDamaged.new.out) (codes "reason TableDamaged table " ++ decimal n) c.put_one-in-TableDamaged.result) c.from-in-TableDamaged.ensures c.put_one-in-TableDamaged.ensures)
+    (subst
+    (λ (n : ℕ). Prints (g.W.Output.failed c.put_one-in-TableDamaged.new.out) (g.W.Output.contents c.args.out.now)
+    (g.W.Output.contents c.put_one-in-TableDamaged.new.out) (codes "reason TableDamaged table " ++ decimal n) c.put_one-in-TableDamaged.result)
+    c.from-in-TableDamaged.ensures c.put_one-in-TableDamaged.ensures)
 
 pub returns-in-LastSequence : goal.returns-in-LastSequence
 unfolding line_words
 returns-in-LastSequence g c =
     subst (λ l. Prints (g.W.Output.failed c.put_one-in-LastSequence.new.out) (g.W.Output.contents c.args.out.now) (g.W.Output.contents c.put_one-in-LastSequence.new.out) (line_words l) c.put_one-in-LastSequence.result) (sym c.in-LastSequence.is)
-    (subst (λ (n : ℕ). Prints (g.W.Output.failed c.put_one-in-LastSequence.new.out) (g.W.Output.contents c.args.out.now) (g.W.Output.contents c.put_one-in-LastSequence.new.out) (codes "reason NextSequence pages " ++ decimal n) c.put_one-in-LastSequence.result) c.from-in-LastSequence.ensures c.put_one-in-LastSequence.ensures)
+    (subst
+    (λ (n : ℕ). Prints (g.W.Output.failed c.put_one-in-LastSequence.new.out) (g.W.Output.contents c.args.out.now)
+    (g.W.Output.contents c.put_one-in-LastSequence.new.out) (codes "reason NextSequence pages " ++ decimal n) c.put_one-in-LastSequence.result)
+    c.from-in-LastSequence.ensures c.put_one-in-LastSequence.ensures)
 
 pub returns-in-Lost : goal.returns-in-Lost
 unfolding line_words
@@ -43,19 +52,28 @@ pub returns-in-Arranged : goal.returns-in-Arranged
 unfolding line_words
 returns-in-Arranged g c =
     subst (λ l. Prints (g.W.Output.failed c.put_one-in-Arranged.new.out) (g.W.Output.contents c.args.out.now) (g.W.Output.contents c.put_one-in-Arranged.new.out) (line_words l) c.put_one-in-Arranged.result) (sym c.in-Arranged.is)
-    (subst (λ (n : ℕ). Prints (g.W.Output.failed c.put_one-in-Arranged.new.out) (g.W.Output.contents c.args.out.now) (g.W.Output.contents c.put_one-in-Arranged.new.out) (codes "arranged " ++ decimal n) c.put_one-in-Arranged.result) c.from-in-Arranged.ensures c.put_one-in-Arranged.ensures)
+    (subst
+    (λ (n : ℕ). Prints (g.W.Output.failed c.put_one-in-Arranged.new.out) (g.W.Output.contents c.args.out.now)
+    (g.W.Output.contents c.put_one-in-Arranged.new.out) (codes "arranged " ++ decimal n) c.put_one-in-Arranged.result)
+    c.from-in-Arranged.ensures c.put_one-in-Arranged.ensures)
 
 pub returns-in-Differ : goal.returns-in-Differ
 unfolding line_words
 returns-in-Differ g c =
     subst (λ l. Prints (g.W.Output.failed c.put_one-in-Differ.new.out) (g.W.Output.contents c.args.out.now) (g.W.Output.contents c.put_one-in-Differ.new.out) (line_words l) c.put_one-in-Differ.result) (sym c.in-Differ.is)
-    (subst (λ (n : ℕ). Prints (g.W.Output.failed c.put_one-in-Differ.new.out) (g.W.Output.contents c.args.out.now) (g.W.Output.contents c.put_one-in-Differ.new.out) (codes "differ row " ++ decimal n) c.put_one-in-Differ.result) c.from-in-Differ.ensures c.put_one-in-Differ.ensures)
+    (subst
+    (λ (n : ℕ). Prints (g.W.Output.failed c.put_one-in-Differ.new.out) (g.W.Output.contents c.args.out.now)
+    (g.W.Output.contents c.put_one-in-Differ.new.out) (codes "differ row " ++ decimal n) c.put_one-in-Differ.result) c.from-in-Differ.ensures
+    c.put_one-in-Differ.ensures)
 
 pub returns-in-Unsound : goal.returns-in-Unsound
 unfolding line_words
 returns-in-Unsound g c =
     subst (λ l. Prints (g.W.Output.failed c.put_one-in-Unsound.new.out) (g.W.Output.contents c.args.out.now) (g.W.Output.contents c.put_one-in-Unsound.new.out) (line_words l) c.put_one-in-Unsound.result) (sym c.in-Unsound.is)
-    (subst (λ (n : ℕ). Prints (g.W.Output.failed c.put_one-in-Unsound.new.out) (g.W.Output.contents c.args.out.now) (g.W.Output.contents c.put_one-in-Unsound.new.out) (codes "unsound row " ++ decimal n) c.put_one-in-Unsound.result) c.from-in-Unsound.ensures c.put_one-in-Unsound.ensures)
+    (subst
+    (λ (n : ℕ). Prints (g.W.Output.failed c.put_one-in-Unsound.new.out) (g.W.Output.contents c.args.out.now)
+    (g.W.Output.contents c.put_one-in-Unsound.new.out) (codes "unsound row " ++ decimal n) c.put_one-in-Unsound.result)
+    c.from-in-Unsound.ensures c.put_one-in-Unsound.ensures)
 
 pub returns-in-ArrangedFit : goal.returns-in-ArrangedFit
 unfolding line_words

@@ -25,4 +25,8 @@ returns-in-Err-clause-fault g c =
     let found = failed_one g.F.Reader.DumpReader.failed _ i (subst (IsPinned failed written) is pinned) in
     c.in_ok-open_all.ensures.fails some found.0 found.1 in
     let writes : f ≡ merge.Target → a.writes_fail = λ is. c.in_ok-open_all.ensures.no_more.writes_same (c.in_ok-target.ensures.fails c.in-Err.unmerged.target (subst (IsPinned failed written) is pinned)) in
-    inr (inr (unmerged_as a (dumps_of words) c.args.geometry.now words.out.now (map g.F.Reader.DumpReader.remaining c.open_all.new.readers.items) f c.merge_told.result (search rules) (subst (λ (n : ℕ). IsOfReading n f) count c.in-Err.ensures.reading) (search rules) reads writes (search rules)))
+    inr
+    (inr
+    (unmerged_as a (dumps_of words) c.args.geometry.now words.out.now (map g.F.Reader.DumpReader.remaining c.open_all.new.readers.items) f
+    c.merge_told.result (search rules) (subst (λ (n : ℕ). IsOfReading n f) count c.in-Err.ensures.reading) (search rules) reads writes
+    (search rules)))

@@ -118,7 +118,17 @@ returns-clause-fault g c =
       put,
       half_printed c.in-Err.fault _ _ _ _ _ c.unprinted.ensures
           (subst (λ f. StopsPrinting c.in-Err.fault (g.W.Output.failed c.print_merged.new.out) (g.W.Output.contents c.args.out.now) (g.W.Output.contents c.print_merged.new.out) (merge_text f conflicts unsound tried tally)) c.printer-printer.ensures
-          (subst (λ (rows : List TriedRow). StopsPrinting c.in-Err.fault (g.W.Output.failed c.print_merged.new.out) (g.W.Output.contents c.args.out.now) (g.W.Output.contents c.print_merged.new.out) (merge_text c.printer-printer.result.form conflicts unsound rows tally)) c.deref-3.ensures.value
-          (subst (λ (rows : List ℕ). StopsPrinting c.in-Err.fault (g.W.Output.failed c.print_merged.new.out) (g.W.Output.contents c.args.out.now) (g.W.Output.contents c.print_merged.new.out) (merge_text c.printer-printer.result.form conflicts rows c.deref-3.result.now tally)) c.deref-2.ensures.value
-          (subst (λ (rows : List ℕ). StopsPrinting c.in-Err.fault (g.W.Output.failed c.print_merged.new.out) (g.W.Output.contents c.args.out.now) (g.W.Output.contents c.print_merged.new.out) (merge_text c.printer-printer.result.form rows c.deref-2.result.now c.deref-3.result.now tally)) c.deref.ensures.value c.in-Err.ensures)))),
+          (subst
+          (λ (rows : List TriedRow). StopsPrinting c.in-Err.fault (g.W.Output.failed c.print_merged.new.out) (g.W.Output.contents c.args.out.now)
+          (g.W.Output.contents c.print_merged.new.out) (merge_text c.printer-printer.result.form conflicts unsound rows tally))
+          c.deref-3.ensures.value
+          (subst
+          (λ (rows : List ℕ). StopsPrinting c.in-Err.fault (g.W.Output.failed c.print_merged.new.out) (g.W.Output.contents c.args.out.now)
+          (g.W.Output.contents c.print_merged.new.out) (merge_text c.printer-printer.result.form conflicts rows c.deref-3.result.now tally))
+          c.deref-2.ensures.value
+          (subst
+          (λ (rows : List ℕ). StopsPrinting c.in-Err.fault (g.W.Output.failed c.print_merged.new.out) (g.W.Output.contents c.args.out.now)
+          (g.W.Output.contents c.print_merged.new.out)
+          (merge_text c.printer-printer.result.form rows c.deref-2.result.now c.deref-3.result.now tally)) c.deref.ensures.value
+          c.in-Err.ensures)))),
     )

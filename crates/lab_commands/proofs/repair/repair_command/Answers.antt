@@ -26,7 +26,9 @@ returns-in_err-rows-clause-fault g c =
     let k = g.F.LabFiles.kept c.args.files.now in
     let o = g.W.Output.contents c.args.out.now in
     let broke = g.W.Output.failed c.args.out.now in
-    handed_on (IsRepairFault a c.args.words k k (g.F.LabFiles.opened c.args.files.now) (g.F.LabFiles.opened c.args.files.now) broke o o) _ _ c.from_residual-in_err-rows.ensures.1 (no_rows a c.args.words c.in_ok-geometry.geometry k _ _ broke o _ c.in_ok-geometry.ensures.ok c.in_err-rows.ensures.fault)
+    handed_on (IsRepairFault a c.args.words k k (g.F.LabFiles.opened c.args.files.now) (g.F.LabFiles.opened c.args.files.now) broke o o) _ _
+    c.from_residual-in_err-rows.ensures.1
+    (no_rows a c.args.words c.in_ok-geometry.geometry k _ _ broke o _ c.in_ok-geometry.ensures.ok c.in_err-rows.ensures.fault)
 
 pub returns-in_err-bits-clause-fault : goal.returns-in_err-bits-clause-fault
 returns-in_err-bits-clause-fault g c =
@@ -34,7 +36,10 @@ returns-in_err-bits-clause-fault g c =
     let k = g.F.LabFiles.kept c.args.files.now in
     let o = g.W.Output.contents c.args.out.now in
     let broke = g.W.Output.failed c.args.out.now in
-    handed_on (IsRepairFault a c.args.words k k (g.F.LabFiles.opened c.args.files.now) (g.F.LabFiles.opened c.args.files.now) broke o o) _ _ c.from_residual-in_err-bits.ensures.1 (no_bits a c.args.words c.in_ok-geometry.geometry c.in_ok-rows.rows k _ _ broke o _ c.in_ok-geometry.ensures.ok c.in_ok-rows.ensures.ok c.in_err-bits.ensures.fault)
+    handed_on (IsRepairFault a c.args.words k k (g.F.LabFiles.opened c.args.files.now) (g.F.LabFiles.opened c.args.files.now) broke o o) _ _
+    c.from_residual-in_err-bits.ensures.1
+    (no_bits a c.args.words c.in_ok-geometry.geometry c.in_ok-rows.rows k _ _ broke o _ c.in_ok-geometry.ensures.ok c.in_ok-rows.ensures.ok
+    c.in_err-bits.ensures.fault)
 
 pub returns-in_err-allow-clause-fault : goal.returns-in_err-allow-clause-fault
 returns-in_err-allow-clause-fault g c =
@@ -66,7 +71,9 @@ returns-in_err-keep-clause-fault g c =
     let same = c.in_ok-allow.ensures.same in
     let more : AnswersNoMore a b = subst (λ f. AnswersNoMore (g.F.LabFiles.answers f) b) same c.in_ok-repaired.ensures.no_more in
     handed_on (IsRepairFault a c.args.words k (g.F.LabFiles.kept c.keep.new.files) (g.F.LabFiles.opened c.args.files.now) (g.F.LabFiles.opened c.keep.new.files) broke o o) _ _ c.from_residual-in_err-keep.ensures.1
-    (not_put a c.args.words c.in_ok-geometry.geometry c.in_ok-rows.rows c.in_ok-bits.bits k _ _ _ broke o _ c.in_ok-geometry.ensures.ok c.in_ok-rows.ensures.ok c.in_ok-bits.ensures.ok c.in_ok-allow.ensures.ok (c.in_err-keep.ensures.kept ∙ (c.in_ok-repaired.ensures.beside ∙ ap g.F.LabFiles.kept same))
+    (not_put a c.args.words c.in_ok-geometry.geometry c.in_ok-rows.rows c.in_ok-bits.bits k _ _ _ broke o _ c.in_ok-geometry.ensures.ok
+    c.in_ok-rows.ensures.ok c.in_ok-bits.ensures.ok c.in_ok-allow.ensures.ok
+    (c.in_err-keep.ensures.kept ∙ (c.in_ok-repaired.ensures.beside ∙ ap g.F.LabFiles.kept same))
     (inr (inr (unplaced_before a b c.args.words.out.now c.args.words.force _ more c.in_err-keep.ensures.fault))))
 
 pub returns-in_err-room-clause-fault : goal.returns-in_err-room-clause-fault
@@ -77,7 +84,9 @@ returns-in_err-room-clause-fault g c =
     let o = g.W.Output.contents c.args.out.now in
     let broke = g.W.Output.failed c.args.out.now in
     handed_on (IsRepairFault a c.args.words k (g.F.LabFiles.kept c.allow.new.files) n (g.F.LabFiles.opened c.allow.new.files) broke o o) _ fault.OutOfMemory c.from_residual-in_err-room.ensures.1
-    (not_put a c.args.words c.in_ok-geometry.geometry c.in_ok-rows.rows c.in_ok-bits.bits k _ n _ broke o _ c.in_ok-geometry.ensures.ok c.in_ok-rows.ensures.ok c.in_ok-bits.ensures.ok c.in_ok-allow.ensures.ok (ap g.F.LabFiles.kept c.in_ok-allow.ensures.same) (inl (refl, ap g.F.LabFiles.opened c.in_ok-allow.ensures.same)))
+    (not_put a c.args.words c.in_ok-geometry.geometry c.in_ok-rows.rows c.in_ok-bits.bits k _ n _ broke o _ c.in_ok-geometry.ensures.ok
+    c.in_ok-rows.ensures.ok c.in_ok-bits.ensures.ok c.in_ok-allow.ensures.ok (ap g.F.LabFiles.kept c.in_ok-allow.ensures.same)
+    (inl (refl, ap g.F.LabFiles.opened c.in_ok-allow.ensures.same)))
 
 pub returns-in-Ok-clause-ok : goal.returns-in-Ok-clause-ok
 returns-in-Ok-clause-ok g c =

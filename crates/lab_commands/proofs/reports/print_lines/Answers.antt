@@ -10,7 +10,10 @@ pub returns-in_err-line : goal.returns-in_err-line
 unfolding survey_lines
 returns-in_err-line g c =
     failed c.in_err-line.field-0.0 c.from_residual.result (g.W.Output.failed c.line.new.out) _ _ _ c.from_residual.ensures.1
-    (stops_more c.in_err-line.field-0.0 (g.W.Output.failed c.line.new.out) _ _ _ _ (subst (λ l. StopsPrinting c.in_err-line.field-0.0 (g.W.Output.failed c.line.new.out) (g.W.Output.contents c.args.out.now) (g.W.Output.contents c.line.new.out) (if_text c.args.printer.form l)) c.rows_line.ensures c.in_err-line.ensures))
+    (stops_more c.in_err-line.field-0.0 (g.W.Output.failed c.line.new.out) _ _ _ _
+    (subst
+    (λ l. StopsPrinting c.in_err-line.field-0.0 (g.W.Output.failed c.line.new.out) (g.W.Output.contents c.args.out.now)
+    (g.W.Output.contents c.line.new.out) (if_text c.args.printer.form l)) c.rows_line.ensures c.in_err-line.ensures))
 
 pub returns-in_err-print_counts : goal.returns-in_err-print_counts
 unfolding survey_lines
@@ -29,7 +32,9 @@ returns-in_err-print_keys g c =
     let keys = subst (λ (fs : List Bool). StopsPrinting c.in_err-print_keys.field-0.0 (g.W.Output.failed c.print_keys.new.out) (o c.print_counts.new.out) (o c.print_keys.new.out) (keys_text form geo c.args.survey.now.keys.items fs)) c.deref-2.ensures.value
     (subst (λ (ss : List KeyState). StopsPrinting c.in_err-print_keys.field-0.0 (g.W.Output.failed c.print_keys.new.out) (o c.print_counts.new.out) (o c.print_keys.new.out) (keys_text form geo ss c.deref-2.result.now)) c.deref.ensures.value c.in_err-print_keys.ensures) in
     failed c.in_err-print_keys.field-0.0 c.from_residual-in_err-print_keys.result (g.W.Output.failed c.print_keys.new.out) _ _ _ c.from_residual-in_err-print_keys.ensures.1
-    (stops_after c.in_err-print_keys.field-0.0 (g.W.Output.failed c.print_keys.new.out) _ _ _ _ _ rows (stops_after c.in_err-print_keys.field-0.0 (g.W.Output.failed c.print_keys.new.out) _ _ _ _ _ c.in_ok-print_counts.ensures (stops_more c.in_err-print_keys.field-0.0 (g.W.Output.failed c.print_keys.new.out) _ _ _ _ keys)))
+    (stops_after c.in_err-print_keys.field-0.0 (g.W.Output.failed c.print_keys.new.out) _ _ _ _ _ rows
+    (stops_after c.in_err-print_keys.field-0.0 (g.W.Output.failed c.print_keys.new.out) _ _ _ _ _ c.in_ok-print_counts.ensures
+    (stops_more c.in_err-print_keys.field-0.0 (g.W.Output.failed c.print_keys.new.out) _ _ _ _ keys)))
 
 pub returns-in_err-print_blocks : goal.returns-in_err-print_blocks
 unfolding survey_lines

@@ -11,7 +11,10 @@ pub returns-in_err-list-2 : goal.returns-in_err-list-2
 returns-in_err-list-2 g c = failed _ c.from_residual-in_err-list-2.result _ _ _ _ c.from_residual-in_err-list-2.ensures.1 (stops_after _ _ _ _ _ _ _ c.in_ok-begin.ensures (stops_after _ _ _ _ _ _ _ c.in_ok-list.ensures (stops_more _ _ _ _ _ _ c.in_err-list-2.ensures)))
 
 pub returns-in_err-list-3 : goal.returns-in_err-list-3
-returns-in_err-list-3 g c = failed _ c.from_residual-in_err-list-3.result _ _ _ _ c.from_residual-in_err-list-3.ensures.1 (stops_after _ _ _ _ _ _ _ c.in_ok-begin.ensures (stops_after _ _ _ _ _ _ _ c.in_ok-list.ensures (stops_after _ _ _ _ _ _ _ c.in_ok-list-2.ensures (stops_more _ _ _ _ _ _ c.in_err-list-3.ensures))))
+returns-in_err-list-3 g c = failed _ c.from_residual-in_err-list-3.result _ _ _ _ c.from_residual-in_err-list-3.ensures.1
+    (stops_after _ _ _ _ _ _ _ c.in_ok-begin.ensures
+    (stops_after _ _ _ _ _ _ _ c.in_ok-list.ensures
+    (stops_after _ _ _ _ _ _ _ c.in_ok-list-2.ensures (stops_more _ _ _ _ _ _ c.in_err-list-3.ensures))))
 
 pub returns-in_err-print_tries : goal.returns-in_err-print_tries
 returns-in_err-print_tries g c =
@@ -21,7 +24,11 @@ returns-in_err-print_tries g c =
 pub returns-in_err-line : goal.returns-in_err-line
 returns-in_err-line g c =
     failed _ c.from_residual-in_err-line.result _ _ _ _ c.from_residual-in_err-line.ensures.1
-    (stops_after _ _ _ _ _ _ _ c.in_ok-begin.ensures (stops_after _ _ _ _ _ _ _ c.in_ok-list.ensures (stops_after _ _ _ _ _ _ _ c.in_ok-list-2.ensures (stops_after _ _ _ _ _ _ _ c.in_ok-list-3.ensures (stops_after _ _ _ _ _ _ _ c.in_ok-print_tries.ensures (stops_more _ _ _ _ _ _ c.in_err-line.ensures))))))
+    (stops_after _ _ _ _ _ _ _ c.in_ok-begin.ensures
+    (stops_after _ _ _ _ _ _ _ c.in_ok-list.ensures
+    (stops_after _ _ _ _ _ _ _ c.in_ok-list-2.ensures
+    (stops_after _ _ _ _ _ _ _ c.in_ok-list-3.ensures
+    (stops_after _ _ _ _ _ _ _ c.in_ok-print_tries.ensures (stops_more _ _ _ _ _ _ c.in_err-line.ensures))))))
 
 pub returns : goal.returns
 returns g c =

@@ -23,7 +23,9 @@ returns-in_err-rows-clause-fault g c =
     let k = g.F.LabFiles.kept c.args.files.now in
     let o = g.W.Output.contents c.args.out.now in
     let broke = g.W.Output.failed c.args.out.now in
-    handed_on (IsSurveyFault a c.args.words k k (g.F.LabFiles.opened c.args.files.now) (g.F.LabFiles.opened c.args.files.now) broke o o) _ _ c.from_residual-in_err-rows.ensures.1 (no_rows a c.args.words c.in_ok-geometry.geometry k _ _ broke o _ c.in_ok-geometry.ensures.ok c.in_err-rows.ensures.fault)
+    handed_on (IsSurveyFault a c.args.words k k (g.F.LabFiles.opened c.args.files.now) (g.F.LabFiles.opened c.args.files.now) broke o o) _ _
+    c.from_residual-in_err-rows.ensures.1
+    (no_rows a c.args.words c.in_ok-geometry.geometry k _ _ broke o _ c.in_ok-geometry.ensures.ok c.in_err-rows.ensures.fault)
 
 pub returns-in_err-survey-clause-fault : goal.returns-in_err-survey-clause-fault
 returns-in_err-survey-clause-fault g c =
@@ -56,5 +58,8 @@ returns-in-Ok-clause-ok g c = record {
 pub returns-clause-fault : goal.returns-clause-fault
 returns-clause-fault g c =
     let has : HasSurvey (g.F.LabFiles.answers c.args.files.now) c.args.words c.in_ok-geometry.geometry c.in_ok-rows.rows c.in_ok-survey.survey = record { geometry_is = c.in_ok-geometry.ensures.ok; rows_are = c.in_ok-rows.ensures.ok; seen = c.in_ok-survey.ensures.seen } in
-    let stops = subst (λ f. StopsPrinting c.in-Err.fault (g.W.Output.failed c.print_survey.new.out) (g.W.Output.contents c.args.out.now) (g.W.Output.contents c.print_survey.new.out) (survey_text f c.in_ok-geometry.geometry c.in_ok-rows.rows c.in_ok-survey.survey)) c.printer.ensures c.in-Err.ensures in
+    let stops = subst
+    (λ f. StopsPrinting c.in-Err.fault (g.W.Output.failed c.print_survey.new.out) (g.W.Output.contents c.args.out.now)
+    (g.W.Output.contents c.print_survey.new.out) (survey_text f c.in_ok-geometry.geometry c.in_ok-rows.rows c.in_ok-survey.survey))
+    c.printer.ensures c.in-Err.ensures in
     inr (c.in_ok-survey.ensures.kept, (c.in_ok-geometry.geometry, c.in_ok-rows.rows, c.in_ok-survey.survey, has, half_printed c.in-Err.fault _ _ _ _ _ c.unprinted.ensures stops))

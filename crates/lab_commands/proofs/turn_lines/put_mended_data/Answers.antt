@@ -5,4 +5,8 @@ use Rattle.lab_commands.proofs.turn_lines.put_mended_data.Goals as goal
 
 pub returns : goal.returns
 returns g c =
-    subst (λ (t : List ℕ). Prints (g.W.Output.failed c.put_pieces.new.out) (g.W.Output.contents c.args.out.now) (g.W.Output.contents c.put_pieces.new.out) t c.put_pieces.result) (mended_json c.args.made c.args.row c.args.bit c.from.result c.made_text.result.now c.from-2.result c.from.ensures c.made_text.ensures c.from-2.ensures) c.put_pieces.ensures
+    subst
+    (λ (t : List ℕ). Prints (g.W.Output.failed c.put_pieces.new.out) (g.W.Output.contents c.args.out.now)
+    (g.W.Output.contents c.put_pieces.new.out) t c.put_pieces.result)
+    (mended_json c.args.made c.args.row c.args.bit c.from.result c.made_text.result.now c.from-2.result c.from.ensures c.made_text.ensures
+    c.from-2.ensures) c.put_pieces.ensures

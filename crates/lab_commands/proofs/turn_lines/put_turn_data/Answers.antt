@@ -14,4 +14,6 @@ pub returns-in-Tied : goal.returns-in-Tied
 returns-in-Tied g c = subst (λ t. Prints (g.W.Output.failed c.put_tied_data.new.out) (g.W.Output.contents c.args.out.now) (g.W.Output.contents c.put_tied_data.new.out) (compact_text (turn_data c.args.row t)) c.put_tied_data.result) (sym c.in-Tied.is) c.put_tied_data.ensures
 
 pub returns-in-Nothing : goal.returns-in-Nothing
-returns-in-Nothing g c = subst (λ t. Prints (g.W.Output.failed c.put_tried_data.new.out) (g.W.Output.contents c.args.out.now) (g.W.Output.contents c.put_tried_data.new.out) (compact_text (turn_data c.args.row t)) c.put_tried_data.result) (sym c.in-Nothing.is) c.put_tried_data.ensures
+returns-in-Nothing g c = subst
+    (λ t. Prints (g.W.Output.failed c.put_tried_data.new.out) (g.W.Output.contents c.args.out.now) (g.W.Output.contents c.put_tried_data.new.out)
+    (compact_text (turn_data c.args.row t)) c.put_tried_data.result) (sym c.in-Nothing.is) c.put_tried_data.ensures

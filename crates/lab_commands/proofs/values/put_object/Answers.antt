@@ -10,7 +10,9 @@ returns-in-Pages g c = subst (λ l. Prints (g.W.Output.failed c.put_pages.new.ou
 
 pub returns-in-NumberRange : goal.returns-in-NumberRange
 unfolding line_data
-returns-in-NumberRange g c = subst (λ l. Prints (g.W.Output.failed c.put_number_range.new.out) (g.W.Output.contents c.args.out.now) (g.W.Output.contents c.put_number_range.new.out) (compact_text (line_data l)) c.put_number_range.result) (sym c.in-NumberRange.is) c.put_number_range.ensures
+returns-in-NumberRange g c = subst
+    (λ l. Prints (g.W.Output.failed c.put_number_range.new.out) (g.W.Output.contents c.args.out.now) (g.W.Output.contents c.put_number_range.new.out)
+    (compact_text (line_data l)) c.put_number_range.result) (sym c.in-NumberRange.is) c.put_number_range.ensures
 
 pub returns-in-Repeated : goal.returns-in-Repeated
 unfolding line_data
@@ -18,15 +20,24 @@ returns-in-Repeated g c = subst (λ l. Prints (g.W.Output.failed c.put_repeated.
 
 pub returns-in-NotFormatted : goal.returns-in-NotFormatted
 unfolding line_data
-returns-in-NotFormatted g c = subst (λ l. Prints (g.W.Output.failed c.put_not_formatted.new.out) (g.W.Output.contents c.args.out.now) (g.W.Output.contents c.put_not_formatted.new.out) (compact_text (line_data l)) c.put_not_formatted.result) (sym c.in-NotFormatted.is) c.put_not_formatted.ensures
+returns-in-NotFormatted g c = subst
+    (λ l. Prints (g.W.Output.failed c.put_not_formatted.new.out) (g.W.Output.contents c.args.out.now)
+    (g.W.Output.contents c.put_not_formatted.new.out) (compact_text (line_data l)) c.put_not_formatted.result) (sym c.in-NotFormatted.is)
+    c.put_not_formatted.ensures
 
 pub returns-in-TableDamaged : goal.returns-in-TableDamaged
 unfolding line_data
-returns-in-TableDamaged g c = subst (λ l. Prints (g.W.Output.failed c.put_table_damaged.new.out) (g.W.Output.contents c.args.out.now) (g.W.Output.contents c.put_table_damaged.new.out) (compact_text (line_data l)) c.put_table_damaged.result) (sym c.in-TableDamaged.is) c.put_table_damaged.ensures
+returns-in-TableDamaged g c = subst
+    (λ l. Prints (g.W.Output.failed c.put_table_damaged.new.out) (g.W.Output.contents c.args.out.now)
+    (g.W.Output.contents c.put_table_damaged.new.out) (compact_text (line_data l)) c.put_table_damaged.result) (sym c.in-TableDamaged.is)
+    c.put_table_damaged.ensures
 
 pub returns-in-LastSequence : goal.returns-in-LastSequence
 unfolding line_data
-returns-in-LastSequence g c = subst (λ l. Prints (g.W.Output.failed c.put_last_sequence.new.out) (g.W.Output.contents c.args.out.now) (g.W.Output.contents c.put_last_sequence.new.out) (compact_text (line_data l)) c.put_last_sequence.result) (sym c.in-LastSequence.is) c.put_last_sequence.ensures
+returns-in-LastSequence g c = subst
+    (λ l. Prints (g.W.Output.failed c.put_last_sequence.new.out) (g.W.Output.contents c.args.out.now)
+    (g.W.Output.contents c.put_last_sequence.new.out) (compact_text (line_data l)) c.put_last_sequence.result) (sym c.in-LastSequence.is)
+    c.put_last_sequence.ensures
 
 pub returns-in-Tied : goal.returns-in-Tied
 unfolding line_data
@@ -42,7 +53,9 @@ returns-in-Block g c = subst (λ l. Prints (g.W.Output.failed c.put_block.new.ou
 
 pub returns-in-PlainBlock : goal.returns-in-PlainBlock
 unfolding line_data
-returns-in-PlainBlock g c = subst (λ l. Prints (g.W.Output.failed c.put_plain_block.new.out) (g.W.Output.contents c.args.out.now) (g.W.Output.contents c.put_plain_block.new.out) (compact_text (line_data l)) c.put_plain_block.result) (sym c.in-PlainBlock.is) c.put_plain_block.ensures
+returns-in-PlainBlock g c = subst
+    (λ l. Prints (g.W.Output.failed c.put_plain_block.new.out) (g.W.Output.contents c.args.out.now) (g.W.Output.contents c.put_plain_block.new.out)
+    (compact_text (line_data l)) c.put_plain_block.result) (sym c.in-PlainBlock.is) c.put_plain_block.ensures
 
 pub returns-in-Lost : goal.returns-in-Lost
 unfolding line_data
@@ -58,7 +71,9 @@ returns-in-Mended g c = subst (λ l. Prints (g.W.Output.failed c.put_turn_data.n
 
 pub returns-in-MendedCount : goal.returns-in-MendedCount
 unfolding line_data
-returns-in-MendedCount g c = subst (λ l. Prints (g.W.Output.failed c.put_mended_count.new.out) (g.W.Output.contents c.args.out.now) (g.W.Output.contents c.put_mended_count.new.out) (compact_text (line_data l)) c.put_mended_count.result) (sym c.in-MendedCount.is) c.put_mended_count.ensures
+returns-in-MendedCount g c = subst
+    (λ l. Prints (g.W.Output.failed c.put_mended_count.new.out) (g.W.Output.contents c.args.out.now) (g.W.Output.contents c.put_mended_count.new.out)
+    (compact_text (line_data l)) c.put_mended_count.result) (sym c.in-MendedCount.is) c.put_mended_count.ensures
 
 pub returns-in-LostRow : goal.returns-in-LostRow
 unfolding line_data
@@ -90,7 +105,9 @@ returns-in-Age g c = subst (λ l. Prints (g.W.Output.failed c.put_age.new.out) (
 
 pub returns-in-AgeOfRows : goal.returns-in-AgeOfRows
 unfolding line_data
-returns-in-AgeOfRows g c = subst (λ l. Prints (g.W.Output.failed c.put_age_of_rows.new.out) (g.W.Output.contents c.args.out.now) (g.W.Output.contents c.put_age_of_rows.new.out) (compact_text (line_data l)) c.put_age_of_rows.result) (sym c.in-AgeOfRows.is) c.put_age_of_rows.ensures
+returns-in-AgeOfRows g c = subst
+    (λ l. Prints (g.W.Output.failed c.put_age_of_rows.new.out) (g.W.Output.contents c.args.out.now) (g.W.Output.contents c.put_age_of_rows.new.out)
+    (compact_text (line_data l)) c.put_age_of_rows.result) (sym c.in-AgeOfRows.is) c.put_age_of_rows.ensures
 
 pub returns-in-OfRows : goal.returns-in-OfRows
 unfolding line_data

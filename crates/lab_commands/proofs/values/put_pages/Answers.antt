@@ -5,4 +5,7 @@ use Rattle.lab_commands.proofs.values.put_pages.Goals as goal
 
 pub returns : goal.returns
 returns g c =
-    subst (λ (t : List ℕ). Prints (g.W.Output.failed c.put_pieces.new.out) (g.W.Output.contents c.args.out.now) (g.W.Output.contents c.put_pieces.new.out) t c.put_pieces.result) (pages_json c.args.sort c.args.pages c.from.result c.text.result.now c.from.ensures c.text.ensures) c.put_pieces.ensures
+    subst
+    (λ (t : List ℕ). Prints (g.W.Output.failed c.put_pieces.new.out) (g.W.Output.contents c.args.out.now)
+    (g.W.Output.contents c.put_pieces.new.out) t c.put_pieces.result)
+    (pages_json c.args.sort c.args.pages c.from.result c.text.result.now c.from.ensures c.text.ensures) c.put_pieces.ensures

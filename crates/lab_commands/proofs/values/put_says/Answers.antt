@@ -5,4 +5,8 @@ use Rattle.lab_commands.proofs.values.put_says.Goals as goal
 
 pub returns : goal.returns
 returns g c =
-    subst (λ (t : List ℕ). Prints (g.W.Output.failed c.put_pieces.new.out) (g.W.Output.contents c.args.out.now) (g.W.Output.contents c.put_pieces.new.out) t c.put_pieces.result) (said_json c.args.page c.kind_text.result.now c.truth_text.result.now c.from.result c.from-2.result c.kind_text.ensures c.truth_text.ensures c.from.ensures c.from-2.ensures) c.put_pieces.ensures
+    subst
+    (λ (t : List ℕ). Prints (g.W.Output.failed c.put_pieces.new.out) (g.W.Output.contents c.args.out.now)
+    (g.W.Output.contents c.put_pieces.new.out) t c.put_pieces.result)
+    (said_json c.args.page c.kind_text.result.now c.truth_text.result.now c.from.result c.from-2.result c.kind_text.ensures c.truth_text.ensures
+    c.from.ensures c.from-2.ensures) c.put_pieces.ensures

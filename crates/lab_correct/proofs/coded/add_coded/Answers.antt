@@ -16,7 +16,9 @@ loop-data_bytes-preserved g c =
       raw_room = (let a = inv.raw_room in omega arith);
       room = (let a = inv.room in omega arith);
       same = c.add_coded_data.ensures.same ∙ inv.same;
-      added = λ all told size. more_at (coded_data_fits all) c.args.fits.now.items data_sizes i 0 (get_or c.data_sizes-data_bytes-items.result i 0) c.loop-data_bytes.fits.items _ c.loop-data_bytes-test.true (ap (λ l. get_or l i 0) inv.items) (inv.added all told size) (c.in_ok-add_coded_data.ensures.added all (inv.same ∙ told) size);
+      added = λ all told size. more_at (coded_data_fits all) c.args.fits.now.items data_sizes i 0 (get_or c.data_sizes-data_bytes-items.result i 0)
+          c.loop-data_bytes.fits.items _ c.loop-data_bytes-test.true (ap (λ l. get_or l i 0) inv.items) (inv.added all told size)
+          (c.in_ok-add_coded_data.ensures.added all (inv.same ∙ told) size);
       any = adds_then (1575 * i) 1575 (1575 * (i + 1)) _ _ _ inv.any c.in_ok-add_coded_data.ensures.any (omega arith);
       places = c.in_ok-add_coded_data.ensures.places ∙ inv.places;
     }

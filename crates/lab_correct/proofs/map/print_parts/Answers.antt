@@ -10,7 +10,9 @@ loop-i-init g c = parts_none (page_bytes c.args.geometry.now) c.args.losses.now 
 
 pub loop-i-preserved : goal.loop-i-preserved
 loop-i-preserved g c =
-    parts_then (page_bytes c.args.geometry.now) c.args.losses.now c.loop-i.i _ _ (g.W.MapWriter.contents c.args.out.now) (g.W.MapWriter.contents c.loop-i.out) (g.W.MapWriter.contents c.print_loss.new.out) c.next_row.ensures.is c.row_at.ensures.is c.loop-i.invariant c.in_ok-print_loss.ensures.printed
+    parts_then (page_bytes c.args.geometry.now) c.args.losses.now c.loop-i.i _ _ (g.W.MapWriter.contents c.args.out.now)
+    (g.W.MapWriter.contents c.loop-i.out) (g.W.MapWriter.contents c.print_loss.new.out) c.next_row.ensures.is c.row_at.ensures.is
+    c.loop-i.invariant c.in_ok-print_loss.ensures.printed
 
 pub returns-clause-printed : goal.returns-clause-printed
 returns-clause-printed g c =

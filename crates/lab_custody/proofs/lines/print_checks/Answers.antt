@@ -20,5 +20,7 @@ returns-in_err-put_checks g c =
 pub returns : goal.returns
 returns g c =
     let checks = c.args.checks.now in
-    all_of_three _ _ _ _ _ (begin_text c.args.form) (checks_text c.args.form checks) (verified_text c.args.form (length checks) (changed_count checks)) _ c.as_bytes.result.now (verified_text c.args.form (length checks) c.args.changed) c.put_verified.result refl (c.as_bytes.ensures.value ∙ c.begin.ensures)
+    all_of_three _ _ _ _ _ (begin_text c.args.form) (checks_text c.args.form checks)
+    (verified_text c.args.form (length checks) (changed_count checks)) _ c.as_bytes.result.now
+    (verified_text c.args.form (length checks) c.args.changed) c.put_verified.result refl (c.as_bytes.ensures.value ∙ c.begin.ensures)
     (ap (verified_text c.args.form (length checks)) c.requires) c.in_ok-put.ensures c.in_ok-put_checks.ensures c.put_verified.ensures

@@ -16,7 +16,9 @@ loop-place-preserved g c =
       no_more = no_more_then a b (g.F.LabFiles.answers c.note_file.new.files) inv.no_more c.in-Ok.ensures.no_more;
       kept = c.in-Ok.ensures.kept ∙ inv.kept;
       noted =
-          one_noted a b (g.F.LabFiles.kept c.args.files.now) (g.F.LabFiles.kept c.loop-place.files) c.args.paths.now c.loop-place.place _ c.loop-place.notes.items c.push_reserved.new.self.items _ (omega arith) inv.no_more inv.kept inv.noted c.in-Ok.ensures.noted c.push_reserved.ensures.items;
+          one_noted a b (g.F.LabFiles.kept c.args.files.now) (g.F.LabFiles.kept c.loop-place.files) c.args.paths.now c.loop-place.place _
+          c.loop-place.notes.items c.push_reserved.new.self.items _ (omega arith) inv.no_more inv.kept inv.noted c.in-Ok.ensures.noted
+          c.push_reserved.ensures.items;
       count = omega (arith, c.push_reserved.ensures.len);
       room = c.push_reserved.ensures.capacity ∙ inv.room;
       size = omega arith;

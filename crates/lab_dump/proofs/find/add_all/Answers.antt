@@ -15,7 +15,9 @@ loop-data_bytes-preserved g c =
       items = inv.items;
       room = (let a = inv.room in omega arith);
       same = c.add_data.ensures.same ∙ inv.same;
-      added = λ all told size. more_at (data_fits all) c.args.fits.now.items data_sizes i 0 (get_or c.data_sizes-data_bytes-items.result i 0) c.loop-data_bytes.fits.items _ c.loop-data_bytes-test.true (ap (λ l. get_or l i 0) inv.items) (inv.added all told size) (c.in_ok-add_data.ensures.added all (inv.same ∙ told) size);
+      added = λ all told size. more_at (data_fits all) c.args.fits.now.items data_sizes i 0 (get_or c.data_sizes-data_bytes-items.result i 0)
+          c.loop-data_bytes.fits.items _ c.loop-data_bytes-test.true (ap (λ l. get_or l i 0) inv.items) (inv.added all told size)
+          (c.in_ok-add_data.ensures.added all (inv.same ∙ told) size);
       any = adds_then (1575 * i) 1575 (1575 * (i + 1)) _ _ _ inv.any c.in_ok-add_data.ensures.any (omega arith);
       places = c.in_ok-add_data.ensures.places ∙ inv.places;
     }

@@ -12,7 +12,9 @@ loop-pages-preserved c =
     record {
       counts = inv.counts;
       items = inv.items;
-      added = more_at (shape_fits c.args.size c.args.data_bytes c.args.spare_bytes c.args.sample c.args.told) c.args.fits.now.items page_counts i 0 (get_or c.page_counts-pages-items.result i 0) c.loop-pages.fits.items _ c.loop-pages-test.true (ap (λ l. get_or l i 0) inv.items) inv.added c.add_shape.ensures.added;
+      added = more_at (shape_fits c.args.size c.args.data_bytes c.args.spare_bytes c.args.sample c.args.told) c.args.fits.now.items page_counts i 0
+          (get_or c.page_counts-pages-items.result i 0) c.loop-pages.fits.items _ c.loop-pages-test.true (ap (λ l. get_or l i 0) inv.items) inv.added
+          c.add_shape.ensures.added;
       any = adds_then i 1 (i + 1) _ _ _ inv.any c.add_shape.ensures.any (omega arith);
       places = c.add_shape.ensures.places ∙ inv.places;
     }

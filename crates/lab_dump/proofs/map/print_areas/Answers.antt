@@ -17,7 +17,9 @@ loop-sector-preserved g c =
     let d = g.W.MapWriter.contents c.print_end.new.out in
     record {
       first_is = c.in_ok-first.ensures.next;
-      printed = subst (λ t. Appends a d t) (below_more c.args.geometry.now marks c.loop-sector.sector) (Appends-trans a (g.W.MapWriter.contents c.loop-sector.out) d (areas_below c.args.geometry.now marks c.loop-sector.sector) (area_line c.args.geometry.now marks c.loop-sector.sector) c.loop-sector.invariant.printed c.in_ok-first.ensures.printed);
+      printed = subst (λ t. Appends a d t) (below_more c.args.geometry.now marks c.loop-sector.sector)
+          (Appends-trans a (g.W.MapWriter.contents c.loop-sector.out) d (areas_below c.args.geometry.now marks c.loop-sector.sector)
+          (area_line c.args.geometry.now marks c.loop-sector.sector) c.loop-sector.invariant.printed c.in_ok-first.ensures.printed);
     }
 
 pub returns-clause-printed : goal.returns-clause-printed

@@ -9,4 +9,9 @@ loop-i-init c = record { places = places_none c.args.geometry.now c.args.pages.n
 pub loop-i-preserved : goal.loop-i-preserved
 loop-i-preserved c =
     let inv = c.loop-i.invariant in
-    record { places = places_more c.args.geometry.now c.args.pages.now c.loop-i.places.items c.list_place.new.places.items c.loop-i.i inv.places (omega (arith, page_end c.loop-i.i c.args.count (page_bytes c.args.geometry.now) (omega arith))) c.list_place.ensures.listed; room = c.list_place.ensures.room ∙ inv.room }
+    record {
+      places = places_more c.args.geometry.now c.args.pages.now c.loop-i.places.items c.list_place.new.places.items c.loop-i.i inv.places
+          (omega (arith, page_end c.loop-i.i c.args.count (page_bytes c.args.geometry.now) (omega arith))) c.list_place.ensures.listed;
+      room =
+          c.list_place.ensures.room ∙ inv.room;
+    }

@@ -22,6 +22,8 @@ returns-clause-ok g c = λ files tell.
     let geo = c.args.geometry.now in
     let first = tell_first (map g.R.DumpReader.remaining c.args.readers.now) files tell in
     let merging = c.merge_rows.new.merging in
-    merged geo files merging.conflicts.items merging.unsound.items merging.tried.items merging.tally merging.scratch.items (g.T.Pieces.pieces merging.target) c.in_ok-merge_rows.ensures.stands (c.in_ok-merge_rows.ensures.shows files first) (c.in_ok-merge_rows.ensures.unsound files first)
+    merged geo files merging.conflicts.items merging.unsound.items merging.tried.items merging.tally merging.scratch.items
+    (g.T.Pieces.pieces merging.target) c.in_ok-merge_rows.ensures.stands (c.in_ok-merge_rows.ensures.shows files first)
+    (c.in_ok-merge_rows.ensures.unsound files first)
     (c.in_ok-merge_rows.ensures.tried files first)
     (c.in_ok-expect_ends.ensures.ended files (image_bytes geo) (c.in_ok-merge_rows.ensures.read files first))

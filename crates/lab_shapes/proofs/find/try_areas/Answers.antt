@@ -26,7 +26,9 @@ loop-pages-preserved g c =
       room = c.try_shape.ensures.room;
       same = c.try_shape.ensures.same ∙ inv.same;
       possible = possible_then _ _ _ inv.possible c.in_ok-try_shape.ensures.possible;
-      better = λ all told size. improves_more (InAreas all c.args.way.now c.args.data_bytes c.args.spare_bytes) pages_of page_counts i 0 (get_or c.page_counts-pages-items.result i 0) _ _ _ c.loop-pages-test.true (ap (λ l. get_or l i 0) inv.items) (inv.better all told size) (c.in_ok-try_shape.ensures.better all (inv.same ∙ told) size);
+      better = λ all told size. improves_more (InAreas all c.args.way.now c.args.data_bytes c.args.spare_bytes) pages_of page_counts i 0
+          (get_or c.page_counts-pages-items.result i 0) _ _ _ c.loop-pages-test.true (ap (λ l. get_or l i 0) inv.items) (inv.better all told size)
+          (c.in_ok-try_shape.ensures.better all (inv.same ∙ told) size);
     }
 
 pub returns-clause-better : goal.returns-clause-better

@@ -23,7 +23,10 @@ returns-in-Some-found-clause-better g c = λ all told size.
     let geo = c.in-Some.geometry in
     let a = c.in-Some.arrangement in
     one_fits all w geo a c.in-Some-found.found c.args.size d s p (least_turns c.args.room.now.best) c.args.room.now.best (Some c.better.result) c.requires.tried size
-    (subst (IsShapeIn c.args.size w d s p) c.in-Some.is c.shape_in.ensures) (subst (IsFoundAs all (least_turns c.args.room.now.best) geo a) c.in-Some-found.is (subst (λ n. IsFoundAs all n geo a c.in_ok-found.found) c.least_turns.ensures (c.in_ok-found.ensures.found all told size))) c.better.ensures.better
+    (subst (IsShapeIn c.args.size w d s p) c.in-Some.is c.shape_in.ensures)
+    (subst (IsFoundAs all (least_turns c.args.room.now.best) geo a) c.in-Some-found.is
+    (subst (λ n. IsFoundAs all n geo a c.in_ok-found.found) c.least_turns.ensures (c.in_ok-found.ensures.found all told size)))
+    c.better.ensures.better
 
 pub returns-in_default-found-clause-better : goal.returns-in_default-found-clause-better
 returns-in_default-found-clause-better g c = λ all told size.
@@ -34,12 +37,16 @@ returns-in_default-found-clause-better g c = λ all told size.
     let geo = c.in-Some.geometry in
     let a = c.in-Some.arrangement in
     none_fits all w geo a c.args.size d s p c.args.room.now.best c.requires.tried size
-    (subst (IsShapeIn c.args.size w d s p) c.in-Some.is c.shape_in.ensures) (subst (IsFoundAs all (least_turns c.args.room.now.best) geo a) c.in_default-found.is (subst (λ n. IsFoundAs all n geo a c.in_ok-found.found) c.least_turns.ensures (c.in_ok-found.ensures.found all told size)))
+    (subst (IsShapeIn c.args.size w d s p) c.in-Some.is c.shape_in.ensures)
+    (subst (IsFoundAs all (least_turns c.args.room.now.best) geo a) c.in_default-found.is
+    (subst (λ n. IsFoundAs all n geo a c.in_ok-found.found) c.least_turns.ensures (c.in_ok-found.ensures.found all told size)))
 
 pub fit_as-requires-clause-tried : goal.fit_as-requires-clause-tried
 fit_as-requires-clause-tried g c =
     let w = c.args.way.now in
-    tried_of_way w c.in-Some.arrangement c.requires.tried (let is : IsShapeIn c.args.size w c.args.data_bytes c.args.spare_bytes c.args.pages (Some (c.in-Some.geometry, c.in-Some.arrangement)) = subst (IsShapeIn c.args.size w c.args.data_bytes c.args.spare_bytes c.args.pages) c.in-Some.is c.shape_in.ensures in is.of_way)
+    tried_of_way w c.in-Some.arrangement c.requires.tried
+    (let is : IsShapeIn c.args.size w c.args.data_bytes c.args.spare_bytes c.args.pages (Some (c.in-Some.geometry, c.in-Some.arrangement)) = subst
+    (IsShapeIn c.args.size w c.args.data_bytes c.args.spare_bytes c.args.pages) c.in-Some.is c.shape_in.ensures in is.of_way)
 
 pub returns-in-Some-found-clause-possible : goal.returns-in-Some-found-clause-possible
 returns-in-Some-found-clause-possible g c = c.better.ensures.possible (subst (λ o. IfSome o IsPossibleAs) c.in-Some-found.is c.in_ok-found.ensures.possible)

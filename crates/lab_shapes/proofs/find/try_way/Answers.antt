@@ -26,7 +26,9 @@ loop-data_bytes-preserved g c =
       room = c.try_data.ensures.room;
       same = c.try_data.ensures.same ∙ inv.same;
       possible = possible_then _ _ _ inv.possible c.in_ok-try_data.ensures.possible;
-      better = λ all told size. improves_more (InWay all c.args.way.now) data_of data_sizes i 0 (get_or c.data_sizes-data_bytes-items.result i 0) _ _ _ c.loop-data_bytes-test.true (ap (λ l. get_or l i 0) inv.items) (inv.better all told size) (c.in_ok-try_data.ensures.better all (inv.same ∙ told) size);
+      better = λ all told size. improves_more (InWay all c.args.way.now) data_of data_sizes i 0 (get_or c.data_sizes-data_bytes-items.result i 0) _ _
+          _ c.loop-data_bytes-test.true (ap (λ l. get_or l i 0) inv.items) (inv.better all told size)
+          (c.in_ok-try_data.ensures.better all (inv.same ∙ told) size);
     }
 
 pub returns-clause-better : goal.returns-clause-better

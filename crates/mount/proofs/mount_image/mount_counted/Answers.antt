@@ -28,7 +28,9 @@ returns-clause-ok g c = λ honest.
     let same = c.in_ok-shown.ensures.same (λ e. cc) honest in
     let stale = stale_after geo first (g.S.PageSource.flash c.show_pages.new.source) c.deref.result.now c.find_stale.new.stale.items same keys (c.in_ok-find_stale.ensures.stale (c.in_ok-shown.ensures.only_reads.honest_is ∙ honest)) in
     subst (λ claim. IsMounted geo c.args.capacity first.image claim) (sym c.new-certificate.ensures.is)
-    (mounted geo c.args.capacity first.image shown c.put_directory.new.words.items c.put_sectors.new.words.items c.find_stale.new.stale.items c.in_ok-shown.ensures.sized told c.put_sectors.ensures c.put_directory.ensures stale (omega (arith, c.find_stale.new.stale.ok.0, c.len-count.ensures, c.if-count-capacity.false)))
+    (mounted geo c.args.capacity first.image shown c.put_directory.new.words.items c.put_sectors.new.words.items c.find_stale.new.stale.items
+    c.in_ok-shown.ensures.sized told c.put_sectors.ensures c.put_directory.ensures stale
+    (omega (arith, c.find_stale.new.stale.ok.0, c.len-count.ensures, c.if-count-capacity.false)))
 
 pub returns-clause-stale : goal.returns-clause-stale
 returns-clause-stale g c = λ honest.

@@ -35,7 +35,9 @@ loop-row-preserved g c =
       same = λ honest. read.same (inv.only_reads.honest_is ∙ honest) ∙ inv.same honest;
       whole = λ below honest. whole_of c.args.geometry.now (g.S.PageSource.flash c.read_page.new.self) (read.geometry ∙ inv.only_reads.geometry_is ∙ inv.geometry_was) (read.whole (inv.only_reads.honest_is ∙ honest));
       reads = omega arith;
-      seen = λ honest. seen c.args.geometry.now (g.S.PageSource.flash c.args.source.now) (g.S.PageSource.flash c.loop-row.source) c.loop-row.row c.loop-row.survey c.see.new.self _ (inv.seen honest) (inv.same honest) (read.page (inv.only_reads.honest_is ∙ honest)) inv.sized.geometry_is c.see.ensures.survey;
+      seen = λ honest. seen c.args.geometry.now (g.S.PageSource.flash c.args.source.now) (g.S.PageSource.flash c.loop-row.source) c.loop-row.row
+          c.loop-row.survey c.see.new.self _ (inv.seen honest) (inv.same honest) (read.page (inv.only_reads.honest_is ∙ honest)) inv.sized.geometry_is
+          c.see.ensures.survey;
     }
 
 pub returns-clause-surveys : goal.returns-clause-surveys

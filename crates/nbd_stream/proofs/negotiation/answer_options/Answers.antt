@@ -38,7 +38,9 @@ returns-in_err-answer_next-clause-answers g c =
     rw (p.1, p.2) (subst (λ k. AnswersOptions c.args.export.now c.args.no_zeroes k (g.R.Read.remaining c.args.reader.now) (g.R.Read.remaining c.answer_next.new.reader) (g.W.Write.contents c.args.writer.now) (g.W.Write.contents c.answer_next.new.writer) (Err stop)) (sym long)
     (negotiating_stopped c.args.export.now c.args.no_zeroes (length c.args.body.now) (g.R.Read.remaining c.args.reader.now) (g.W.Write.contents c.args.writer.now)
     (g.R.Read.remaining c.loop.reader) (g.W.Write.contents c.loop.writer) (g.R.Read.remaining c.answer_next.new.reader) (g.W.Write.contents c.answer_next.new.writer) c.loop.invariant.1 stop
-    (subst (λ k. AnswersNext c.args.export.now c.args.no_zeroes k (g.R.Read.remaining c.loop.reader) (g.R.Read.remaining c.answer_next.new.reader) (g.W.Write.contents c.loop.writer) (g.W.Write.contents c.answer_next.new.writer) (Err stop)) long c.in_err-answer_next.ensures.answers)))
+    (subst
+    (λ k. AnswersNext c.args.export.now c.args.no_zeroes k (g.R.Read.remaining c.loop.reader) (g.R.Read.remaining c.answer_next.new.reader)
+    (g.W.Write.contents c.loop.writer) (g.W.Write.contents c.answer_next.new.writer) (Err stop)) long c.in_err-answer_next.ensures.answers)))
 
 pub returns-clause-answers : goal.returns-clause-answers
 returns-clause-answers g c =

@@ -11,4 +11,7 @@ returns-clause-spells g c h =
     (c.in_ok-command.ensures.cycle h) (c.read_status.ensures.spells (c.command.ensures.honest ∙ h))
 
 pub returns-clause-sends : goal.returns-clause-sends
-returns-clause-sends g c = sends_more (Calls g.B.Bus.die g.B.Bus.honest g.B.Bus.recorded g.B.Bus.called) _ c.command.new.self c.read_status.new.bus (Command c.args.code) (Command 0x70 ∷ DataOut 1 ∷ []) (λ byte. byte ∷ []) _ (let e' = c.in_ok-command.ensures in record { said = e'.called; as_honest = e'.honest; step = e'.cycle; noted = e'.recorded }) c.read_status.ensures.sends
+returns-clause-sends g c = sends_more (Calls g.B.Bus.die g.B.Bus.honest g.B.Bus.recorded g.B.Bus.called) _ c.command.new.self c.read_status.new.bus
+    (Command c.args.code) (Command 0x70 ∷ DataOut 1 ∷ []) (λ byte. byte ∷ []) _
+    (let e' = c.in_ok-command.ensures in record { said = e'.called; as_honest = e'.honest; step = e'.cycle; noted = e'.recorded })
+    c.read_status.ensures.sends

@@ -54,7 +54,9 @@ returns-in_err-data_out-clause-sends g c =
     let body = DataOut (length c.args.body.now) in
     let spare = DataOut (length c.args.spare.now) in
     rw (e.1, e.2) (until_more (Calls g.B.Bus.die g.B.Bus.honest g.B.Bus.recorded g.B.Bus.called) a b d (Command 0x30) (body ∷ spare ∷ []) [] fault (let e' = c.in_ok-command.ensures in record { said = e'.called; as_honest = e'.honest; step = e'.cycle; noted = e'.recorded })
-    (until_first (Calls g.B.Bus.die g.B.Bus.honest g.B.Bus.recorded g.B.Bus.called) b d (body ∷ []) (spare ∷ []) fault (until_one (Calls g.B.Bus.die g.B.Bus.honest g.B.Bus.recorded g.B.Bus.called) b d body _ fault (let e' = c.in_err-data_out.ensures in record { said = e'.called; as_honest = e'.honest; step = e'.cycle; noted = e'.recorded }))))
+    (until_first (Calls g.B.Bus.die g.B.Bus.honest g.B.Bus.recorded g.B.Bus.called) b d (body ∷ []) (spare ∷ []) fault
+    (until_one (Calls g.B.Bus.die g.B.Bus.honest g.B.Bus.recorded g.B.Bus.called) b d body _ fault
+    (let e' = c.in_err-data_out.ensures in record { said = e'.called; as_honest = e'.honest; step = e'.cycle; noted = e'.recorded }))))
 
 pub returns-clause-sends : goal.returns-clause-sends
 returns-clause-sends g c =
@@ -66,4 +68,7 @@ returns-clause-sends g c =
     let spare = DataOut (length c.args.spare.now) in
     let r = c.data_out-2.result in
     sends_more (Calls g.B.Bus.die g.B.Bus.honest g.B.Bus.recorded g.B.Bus.called) a b d (Command 0x30) (body ∷ spare ∷ []) (λ _. _) r (let e' = c.in_ok-command.ensures in record { said = e'.called; as_honest = e'.honest; step = e'.cycle; noted = e'.recorded })
-    (sends_after (Calls g.B.Bus.die g.B.Bus.honest g.B.Bus.recorded g.B.Bus.called) b m d body (spare ∷ []) _ _ r (let e' = c.in_ok-data_out.ensures in record { said = e'.called; as_honest = e'.honest; step = e'.cycle; noted = e'.recorded }) (sends_one (Calls g.B.Bus.die g.B.Bus.honest g.B.Bus.recorded g.B.Bus.called) m d spare _ r (let e' = c.data_out-2.ensures in record { said = e'.called; as_honest = e'.honest; step = e'.cycle; noted = e'.recorded })))
+    (sends_after (Calls g.B.Bus.die g.B.Bus.honest g.B.Bus.recorded g.B.Bus.called) b m d body (spare ∷ []) _ _ r
+    (let e' = c.in_ok-data_out.ensures in record { said = e'.called; as_honest = e'.honest; step = e'.cycle; noted = e'.recorded })
+    (sends_one (Calls g.B.Bus.die g.B.Bus.honest g.B.Bus.recorded g.B.Bus.called) m d spare _ r
+    (let e' = c.data_out-2.ensures in record { said = e'.called; as_honest = e'.honest; step = e'.cycle; noted = e'.recorded })))

@@ -59,7 +59,11 @@ returns-in_err-start-clause-sends g c =
     let b = c.start.new.bus in
     let fault = c.in_err-start.field-0.0 in
     let failed = subst (λ xs. SentUntil (Calls g.B.Bus.die g.B.Bus.honest g.B.Bus.recorded g.B.Bus.called) a (Command 0x00 ∷ xs) fault b) c.page_bytes.ensures c.in_err-start.ensures.sends in
-    rw (e.1, e.2) (until_weaker (Calls g.B.Bus.die g.B.Bus.honest g.B.Bus.recorded g.B.Bus.called) g.B.Bus.called (λ x y r o z call. call.said) a b ((Command 0x00 ∷ page_address c.args.row) ++ fetch_cycles (length c.args.body.now) (length c.args.spare.now)) fault (until_first (Calls g.B.Bus.die g.B.Bus.honest g.B.Bus.recorded g.B.Bus.called) a b (Command 0x00 ∷ page_address c.args.row) (fetch_cycles (length c.args.body.now) (length c.args.spare.now)) fault failed))
+    rw (e.1, e.2)
+    (until_weaker (Calls g.B.Bus.die g.B.Bus.honest g.B.Bus.recorded g.B.Bus.called) g.B.Bus.called (λ x y r o z call. call.said) a b
+    ((Command 0x00 ∷ page_address c.args.row) ++ fetch_cycles (length c.args.body.now) (length c.args.spare.now)) fault
+    (until_first (Calls g.B.Bus.die g.B.Bus.honest g.B.Bus.recorded g.B.Bus.called) a b (Command 0x00 ∷ page_address c.args.row)
+    (fetch_cycles (length c.args.body.now) (length c.args.spare.now)) fault failed))
 
 pub returns-clause-sends : goal.returns-clause-sends
 unfolding read_cycles
@@ -68,8 +72,12 @@ returns-clause-sends g c =
     let b = c.start.new.bus in
     let d = c.fetch.new.bus in
     let taken = subst (λ xs. Sent (Calls g.B.Bus.die g.B.Bus.honest g.B.Bus.recorded g.B.Bus.called) a (Command 0x00 ∷ xs) [] b) c.page_bytes.ensures c.in_ok-start.ensures.sends in
-    sends_weaker (Calls g.B.Bus.die g.B.Bus.honest g.B.Bus.recorded g.B.Bus.called) g.B.Bus.called (λ x y r o z call. call.said) a d ((Command 0x00 ∷ page_address c.args.row) ++ fetch_cycles (length c.args.body.now) (length c.args.spare.now)) (λ _. c.fetch.new.body ++ c.fetch.new.spare) c.fetch.result
-    (sends_then (Calls g.B.Bus.die g.B.Bus.honest g.B.Bus.recorded g.B.Bus.called) a b d (Command 0x00 ∷ page_address c.args.row) (fetch_cycles (length c.args.body.now) (length c.args.spare.now)) (λ _. c.fetch.new.body ++ c.fetch.new.spare) c.fetch.result taken c.fetch.ensures.sends)
+    sends_weaker (Calls g.B.Bus.die g.B.Bus.honest g.B.Bus.recorded g.B.Bus.called) g.B.Bus.called (λ x y r o z call. call.said) a d
+    ((Command 0x00 ∷ page_address c.args.row) ++ fetch_cycles (length c.args.body.now) (length c.args.spare.now))
+    (λ _. c.fetch.new.body ++ c.fetch.new.spare) c.fetch.result
+    (sends_then (Calls g.B.Bus.die g.B.Bus.honest g.B.Bus.recorded g.B.Bus.called) a b d (Command 0x00 ∷ page_address c.args.row)
+    (fetch_cycles (length c.args.body.now) (length c.args.spare.now)) (λ _. c.fetch.new.body ++ c.fetch.new.spare) c.fetch.result taken
+    c.fetch.ensures.sends)
 
 pub returns-clause-recorded : goal.returns-clause-recorded
 unfolding read_cycles
@@ -80,4 +88,6 @@ returns-clause-recorded g c =
     let d = c.fetch.new.bus in
     let taken = subst (λ xs. Sent (Calls g.B.Bus.die g.B.Bus.honest g.B.Bus.recorded g.B.Bus.called) a (Command 0x00 ∷ xs) [] b) c.page_bytes.ensures c.in_ok-start.ensures.sends in
     read_noted g.B.Bus.die g.B.Bus.honest g.B.Bus.recorded g.B.Bus.called a d c.args.row _ _ (λ _. c.fetch.new.body ++ c.fetch.new.spare) c.fetch.result q.row_in q.body_whole q.spare_whole
-    (sends_then (Calls g.B.Bus.die g.B.Bus.honest g.B.Bus.recorded g.B.Bus.called) a b d (Command 0x00 ∷ page_address c.args.row) (fetch_cycles (length c.args.body.now) (length c.args.spare.now)) (λ _. c.fetch.new.body ++ c.fetch.new.spare) c.fetch.result taken c.fetch.ensures.sends)
+    (sends_then (Calls g.B.Bus.die g.B.Bus.honest g.B.Bus.recorded g.B.Bus.called) a b d (Command 0x00 ∷ page_address c.args.row)
+    (fetch_cycles (length c.args.body.now) (length c.args.spare.now)) (λ _. c.fetch.new.body ++ c.fetch.new.spare) c.fetch.result taken
+    c.fetch.ensures.sends)

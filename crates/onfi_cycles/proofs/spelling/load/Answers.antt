@@ -60,7 +60,10 @@ returns-in_err-data_in-clause-sends g c =
     let fault = c.in_err-data_in.field-0.0 in
     rw (e.1, e.2) (until_then (Calls g.B.Bus.die g.B.Bus.honest g.B.Bus.recorded g.B.Bus.called) a b d (Command 0x80 ∷ page_address c.args.row) (DataIn c.args.body.now ∷ DataIn c.args.spare.now ∷ []) [] fault
     (subst (λ xs. Sent (Calls g.B.Bus.die g.B.Bus.honest g.B.Bus.recorded g.B.Bus.called) a (Command 0x80 ∷ xs) [] b) c.page_bytes.ensures c.in_ok-start.ensures.sends)
-    (until_first (Calls g.B.Bus.die g.B.Bus.honest g.B.Bus.recorded g.B.Bus.called) b d (DataIn c.args.body.now ∷ []) (DataIn c.args.spare.now ∷ []) fault (until_one (Calls g.B.Bus.die g.B.Bus.honest g.B.Bus.recorded g.B.Bus.called) b d (DataIn c.args.body.now) [] fault (let e' = c.in_err-data_in.ensures in record { said = e'.called; as_honest = e'.honest; step = e'.cycle; noted = e'.recorded }))))
+    (until_first (Calls g.B.Bus.die g.B.Bus.honest g.B.Bus.recorded g.B.Bus.called) b d (DataIn c.args.body.now ∷ []) (DataIn c.args.spare.now ∷ [])
+    fault
+    (until_one (Calls g.B.Bus.die g.B.Bus.honest g.B.Bus.recorded g.B.Bus.called) b d (DataIn c.args.body.now) [] fault
+    (let e' = c.in_err-data_in.ensures in record { said = e'.called; as_honest = e'.honest; step = e'.cycle; noted = e'.recorded }))))
 
 pub returns-clause-sends : goal.returns-clause-sends
 returns-clause-sends g c =
@@ -72,4 +75,7 @@ returns-clause-sends g c =
     let spare = DataIn c.args.spare.now in
     sends_then (Calls g.B.Bus.die g.B.Bus.honest g.B.Bus.recorded g.B.Bus.called) a b d (Command 0x80 ∷ page_address c.args.row) (body ∷ spare ∷ []) (λ _. []) c.data_in-2.result
     (subst (λ xs. Sent (Calls g.B.Bus.die g.B.Bus.honest g.B.Bus.recorded g.B.Bus.called) a (Command 0x80 ∷ xs) [] b) c.page_bytes.ensures c.in_ok-start.ensures.sends)
-    (sends_more (Calls g.B.Bus.die g.B.Bus.honest g.B.Bus.recorded g.B.Bus.called) b m d body (spare ∷ []) (λ _. []) c.data_in-2.result (let e' = c.in_ok-data_in.ensures in record { said = e'.called; as_honest = e'.honest; step = e'.cycle; noted = e'.recorded }) (sends_one (Calls g.B.Bus.die g.B.Bus.honest g.B.Bus.recorded g.B.Bus.called) m d spare [] c.data_in-2.result (let e' = c.data_in-2.ensures in record { said = e'.called; as_honest = e'.honest; step = e'.cycle; noted = e'.recorded })))
+    (sends_more (Calls g.B.Bus.die g.B.Bus.honest g.B.Bus.recorded g.B.Bus.called) b m d body (spare ∷ []) (λ _. []) c.data_in-2.result
+    (let e' = c.in_ok-data_in.ensures in record { said = e'.called; as_honest = e'.honest; step = e'.cycle; noted = e'.recorded })
+    (sends_one (Calls g.B.Bus.die g.B.Bus.honest g.B.Bus.recorded g.B.Bus.called) m d spare [] c.data_in-2.result
+    (let e' = c.data_in-2.ensures in record { said = e'.called; as_honest = e'.honest; step = e'.cycle; noted = e'.recorded })))

@@ -29,7 +29,11 @@ pub returns-in_err-data_out-clause-sends : goal.returns-in_err-data_out-clause-s
 returns-in_err-data_out-clause-sends g c =
     let e = err_from_is_err_and c.from_residual-in_err-data_out.result c.from_residual-in_err-data_out.ensures.1 in
     let mid = c.command.new.self in
-    rw (e.1, e.2) (until_more (Calls g.B.Bus.die g.B.Bus.honest g.B.Bus.recorded g.B.Bus.called) _ mid _ (Command 0x70) (DataOut 1 ∷ []) [] _ (let e' = c.in_ok-command.ensures in record { said = e'.called; as_honest = e'.honest; step = e'.cycle; noted = e'.recorded }) (until_one (Calls g.B.Bus.die g.B.Bus.honest g.B.Bus.recorded g.B.Bus.called) mid _ (DataOut 1) _ _ (let e' = c.in_err-data_out.ensures in record { said = e'.called; as_honest = e'.honest; step = e'.cycle; noted = e'.recorded })))
+    rw (e.1, e.2)
+    (until_more (Calls g.B.Bus.die g.B.Bus.honest g.B.Bus.recorded g.B.Bus.called) _ mid _ (Command 0x70) (DataOut 1 ∷ []) [] _
+    (let e' = c.in_ok-command.ensures in record { said = e'.called; as_honest = e'.honest; step = e'.cycle; noted = e'.recorded })
+    (until_one (Calls g.B.Bus.die g.B.Bus.honest g.B.Bus.recorded g.B.Bus.called) mid _ (DataOut 1) _ _
+    (let e' = c.in_err-data_out.ensures in record { said = e'.called; as_honest = e'.honest; step = e'.cycle; noted = e'.recorded })))
 
 pub returns-clause-sends : goal.returns-clause-sends
 returns-clause-sends g c =

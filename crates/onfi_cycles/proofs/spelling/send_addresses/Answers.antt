@@ -20,7 +20,8 @@ loop-byte-preserved g c =
           i.on h r end (rw (left_from c.args.bytes.now c.loop-byte.byte-index byte c.loop-byte-test.true refl) more);
       sends_on = λ r end t.
           let byte = get_or c.args.bytes.now c.loop-byte.byte-index 0 in
-          let more = sends_more (Calls g.B.Bus.die g.B.Bus.honest g.B.Bus.recorded g.B.Bus.called) _ c.address.new.self end (Address byte) _ (λ _. []) r (let e' = c.in_ok-address.ensures in record { said = e'.called; as_honest = e'.honest; step = e'.cycle; noted = e'.recorded }) t in
+          let more = sends_more (Calls g.B.Bus.die g.B.Bus.honest g.B.Bus.recorded g.B.Bus.called) _ c.address.new.self end (Address byte) _ (λ _. [])
+          r (let e' = c.in_ok-address.ensures in record { said = e'.called; as_honest = e'.honest; step = e'.cycle; noted = e'.recorded }) t in
           i.sends_on r end (rw (left_from c.args.bytes.now c.loop-byte.byte-index byte c.loop-byte-test.true refl) more);
     }
 

@@ -6,7 +6,11 @@ use Rattle.collection.proofs.Costs.{not_bus}
 use Rattle.collection.proofs.engine.Engine.append.Goals as goal
 
 pub returns-clause-truth : goal.returns-clause-truth
-returns-clause-truth g c = λ honest w. appended (ram c.args.self.now) _ _ _ c.args.kind c.args.sector c.in_ok-replace.field-0 _ c.requires.kind c.requires.sector c.in_ok-replace.ensures.row (c.in_ok-replace.ensures.truth honest (may_append (ram c.args.self.now) _ c.args.kind c.args.sector c.row_of_key-old_row.result _ w c.requires.kind (c.row_of_key-old_row.ensures.newest _ w)))
+returns-clause-truth g c = λ honest w. appended (ram c.args.self.now) _ _ _ c.args.kind c.args.sector c.in_ok-replace.field-0 _ c.requires.kind
+    c.requires.sector c.in_ok-replace.ensures.row
+    (c.in_ok-replace.ensures.truth honest
+    (may_append (ram c.args.self.now) _ c.args.kind c.args.sector c.row_of_key-old_row.result _ w c.requires.kind
+    (c.row_of_key-old_row.ensures.newest _ w)))
 
 pub returns-clause-moved : goal.returns-clause-moved
 returns-clause-moved g c = moved_still _ c.args.sector c.in_ok-replace.field-0 c.args.self.now.mapping _ c.requires.kind c.requires.cached c.in_ok-replace.ensures.mapping

@@ -21,21 +21,43 @@ pub returns-clause-cost : goal.returns-clause-cost
 returns-clause-cost g c = cost_from (ram c.args.self.now) _ _ c.args.flushing c.args.block _ c.collect_from.ensures.cost
 
 pub returns-clause-sparing : goal.returns-clause-sparing
-returns-clause-sparing g c = λ honest w. sparing_from (ram c.args.self.now) (ram c.collect_from.new.self) (Some (record { block = c.args.block; first = 0 })) c.args.flushing c.args.block c.collect_from.result (c.collect_from.ensures.sparing honest (true_from (ram c.args.self.now) (ram c.args.self.now) (Some (record { block = c.args.block; first = 0 })) None _ w) (passed_none (ram c.args.self.now) _ c.args.block) (idle_law c.args.flushing (ram c.args.self.now) c.requires.idle))
+returns-clause-sparing g c = λ honest w. sparing_from (ram c.args.self.now) (ram c.collect_from.new.self)
+    (Some (record { block = c.args.block; first = 0 })) c.args.flushing c.args.block c.collect_from.result
+    (c.collect_from.ensures.sparing honest
+    (true_from (ram c.args.self.now) (ram c.args.self.now) (Some (record { block = c.args.block; first = 0 })) None _ w)
+    (passed_none (ram c.args.self.now) _ c.args.block) (idle_law c.args.flushing (ram c.args.self.now) c.requires.idle))
 
 pub returns-clause-truth : goal.returns-clause-truth
-returns-clause-truth g c = λ honest w. emptied_from (ram c.args.self.now) (ram c.collect_from.new.self) (Some (record { block = c.args.block; first = 0 })) c.args.block _ _ c.collect_from.result (c.collect_from.ensures.truth honest (true_from (ram c.args.self.now) (ram c.args.self.now) (Some (record { block = c.args.block; first = 0 })) None _ w) (passed_none (ram c.args.self.now) _ c.args.block))
+returns-clause-truth g c = λ honest w. emptied_from (ram c.args.self.now) (ram c.collect_from.new.self)
+    (Some (record { block = c.args.block; first = 0 })) c.args.block _ _ c.collect_from.result
+    (c.collect_from.ensures.truth honest
+    (true_from (ram c.args.self.now) (ram c.args.self.now) (Some (record { block = c.args.block; first = 0 })) None _ w)
+    (passed_none (ram c.args.self.now) _ c.args.block))
 
 pub returns-clause-count : goal.returns-clause-count
-returns-clause-count g c = λ honest w small. counts_from (ram c.args.self.now) (ram c.collect_from.new.self) (Some (record { block = c.args.block; first = 0 })) c.collect_from.result (c.collect_from.ensures.count honest (true_from (ram c.args.self.now) (ram c.args.self.now) (Some (record { block = c.args.block; first = 0 })) None _ w) (passed_none (ram c.args.self.now) _ c.args.block) (idle_few (ram c.args.self.now) c.args.block (Some (record { block = c.args.block; first = 0 })) c.requires.block c.requires.idle small))
+returns-clause-count g c = λ honest w small. counts_from (ram c.args.self.now) (ram c.collect_from.new.self)
+    (Some (record { block = c.args.block; first = 0 })) c.collect_from.result
+    (c.collect_from.ensures.count honest
+    (true_from (ram c.args.self.now) (ram c.args.self.now) (Some (record { block = c.args.block; first = 0 })) None _ w)
+    (passed_none (ram c.args.self.now) _ c.args.block)
+    (idle_few (ram c.args.self.now) c.args.block (Some (record { block = c.args.block; first = 0 })) c.requires.block c.requires.idle small))
 
 pub returns-clause-thrifty : goal.returns-clause-thrifty
-returns-clause-thrifty g c = λ honest w small ne. c.collect_from.ensures.thrifty honest (true_from (ram c.args.self.now) (ram c.args.self.now) (Some (record { block = c.args.block; first = 0 })) None _ w) (passed_none (ram c.args.self.now) _ c.args.block) (idle_few (ram c.args.self.now) c.args.block (Some (record { block = c.args.block; first = 0 })) c.requires.block c.requires.idle small) ne
+returns-clause-thrifty g c = λ honest w small ne. c.collect_from.ensures.thrifty honest
+    (true_from (ram c.args.self.now) (ram c.args.self.now) (Some (record { block = c.args.block; first = 0 })) None _ w)
+    (passed_none (ram c.args.self.now) _ c.args.block)
+    (idle_few (ram c.args.self.now) c.args.block (Some (record { block = c.args.block; first = 0 })) c.requires.block c.requires.idle small) ne
 
 pub returns-clause-few : goal.returns-clause-few
-returns-clause-few g c = λ honest w small ne. c.collect_from.ensures.few honest (true_from (ram c.args.self.now) (ram c.args.self.now) (Some (record { block = c.args.block; first = 0 })) None _ w) (passed_none (ram c.args.self.now) _ c.args.block) (idle_few (ram c.args.self.now) c.args.block (Some (record { block = c.args.block; first = 0 })) c.requires.block c.requires.idle small) ne
+returns-clause-few g c = λ honest w small ne. c.collect_from.ensures.few honest
+    (true_from (ram c.args.self.now) (ram c.args.self.now) (Some (record { block = c.args.block; first = 0 })) None _ w)
+    (passed_none (ram c.args.self.now) _ c.args.block)
+    (idle_few (ram c.args.self.now) c.args.block (Some (record { block = c.args.block; first = 0 })) c.requires.block c.requires.idle small) ne
 
 -- ---- what a stop leaves
 
 pub returns-clause-stops : goal.returns-clause-stops
-returns-clause-stops g c = λ honest w ne. stops_sized (ram c.args.self.now) _ _ _ _ _ (record { geometry = refl; capacity = refl }) (c.collect_from.ensures.stops honest (true_from (ram c.args.self.now) (ram c.args.self.now) (Some (record { block = c.args.block; first = 0 })) None _ w) (passed_none (ram c.args.self.now) _ c.args.block) ne)
+returns-clause-stops g c = λ honest w ne. stops_sized (ram c.args.self.now) _ _ _ _ _ (record { geometry = refl; capacity = refl })
+    (c.collect_from.ensures.stops honest
+    (true_from (ram c.args.self.now) (ram c.args.self.now) (Some (record { block = c.args.block; first = 0 })) None _ w)
+    (passed_none (ram c.args.self.now) _ c.args.block) ne)

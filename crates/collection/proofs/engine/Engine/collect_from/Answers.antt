@@ -57,8 +57,13 @@ steps-preserved g c =
       pinned = c.in_ok-step.ensures.next ∙ pin_next c.args.pinned.block _ c.in-Some.next c.in_ok-step.step (ap (λ p. next_of p c.in_ok-step.step) (ap (λ x. x.pages) i.goes.geometry) ∙ (ap (λ p. next_of p c.in_ok-step.step) (sym c.pages-pages.ensures) ∙ is));
       room = room_next c.args.flushing c.args.pinned.block c.steps.first c.in-Some.next _ now new c.in_ok-step.step c.step_on.ensures.acts.safe.memory (c.pages-pages.ensures ∙ ap (λ x. x.pages) (sym (goes.geometry ∙ i.goes.geometry))) i.room is c.in_ok-step.ensures.cost;
       closed = closed_still c.args.pinned.block now new goes (rw i.goes.geometry c.requires.half_done.within) i.closed;
-      reads = read_more c.args.flushing c.args.pinned.block c.args.pinned.first c.steps.first c.in-Some.next old now new _ _ _ c.in_ok-step.step i.goes.geometry (goes.geometry ∙ i.goes.geometry) i.reads (ap (λ p. next_of p c.in_ok-step.step) (sym c.pages-pages.ensures) ∙ is) c.in_ok-step.ensures.cost c.step_on.ensures.reads c.in_ok-step.ensures.copied_reads;
-      under_way = stepped c.args.flushing c.args.pinned.block c.steps.first c.in-Some.next old now new _ _ _ _ i.acts.safe.memory c.step_on.ensures.acts.safe.memory i.goes c.requires.half_done.within i.under_way c.in_ok-step.step c.in_ok-step.ensures.goes_still (ap (λ p. next_of p c.in_ok-step.step) (sym c.pages-pages.ensures) ∙ is) c.in_ok-step.ensures.cost (λ k w none. c.in_ok-step.ensures.truth (i.acts.honest_is ∙ k.0) w none);
+      reads = read_more c.args.flushing c.args.pinned.block c.args.pinned.first c.steps.first c.in-Some.next old now new _ _ _ c.in_ok-step.step
+          i.goes.geometry (goes.geometry ∙ i.goes.geometry) i.reads (ap (λ p. next_of p c.in_ok-step.step) (sym c.pages-pages.ensures) ∙ is)
+          c.in_ok-step.ensures.cost c.step_on.ensures.reads c.in_ok-step.ensures.copied_reads;
+      under_way = stepped c.args.flushing c.args.pinned.block c.steps.first c.in-Some.next old now new _ _ _ _ i.acts.safe.memory
+          c.step_on.ensures.acts.safe.memory i.goes c.requires.half_done.within i.under_way c.in_ok-step.step c.in_ok-step.ensures.goes_still
+          (ap (λ p. next_of p c.in_ok-step.step) (sym c.pages-pages.ensures) ∙ is) c.in_ok-step.ensures.cost
+          (λ k w none. c.in_ok-step.ensures.truth (i.acts.honest_is ∙ k.0) w none);
       stops = λ honest w passed.
           let so = i.under_way.truth (honest, w, passed) in
           let sized : IsSized (ram c.args.self.now) (ram c.steps.self) = record { geometry = i.goes.geometry; capacity = i.keys.limits.capacity } in
@@ -106,7 +111,9 @@ returns-in_default-clause-cost g c =
     let now = ram c.steps.self in
     let new = ram c.step_on.new.self in
     let e = ends_erased _ c.in_ok-step.step (sym c.next_page-going_on.ensures ∙ none_from c.next_page-going_on.result c.in_default.not-Some) in
-    collected_cost c.args.flushing c.args.pinned.block c.steps.first old now new _ _ _ i.under_way (none_due_by c.args.flushing c.args.pinned.block c.steps.first now new c.in_ok-step.step e c.in_ok-step.ensures.cost) (erased_by c.args.flushing c.args.pinned.block c.steps.first now new c.in_ok-step.step e c.in_ok-step.ensures.cost)
+    collected_cost c.args.flushing c.args.pinned.block c.steps.first old now new _ _ _ i.under_way
+    (none_due_by c.args.flushing c.args.pinned.block c.steps.first now new c.in_ok-step.step e c.in_ok-step.ensures.cost)
+    (erased_by c.args.flushing c.args.pinned.block c.steps.first now new c.in_ok-step.step e c.in_ok-step.ensures.cost)
 
 pub returns-in_default-clause-sparing : goal.returns-in_default-clause-sparing
 returns-in_default-clause-sparing g c = λ honest w passed idle.
@@ -115,7 +122,9 @@ returns-in_default-clause-sparing g c = λ honest w passed idle.
     let now = ram c.steps.self in
     let new = ram c.step_on.new.self in
     let e = ends_erased _ c.in_ok-step.step (sym c.next_page-going_on.ensures ∙ none_from c.next_page-going_on.result c.in_default.not-Some) in
-    collected_few c.args.flushing c.args.pinned.block c.steps.first old now new _ _ _ (honest, w, passed) idle i.under_way (none_due_by c.args.flushing c.args.pinned.block c.steps.first now new c.in_ok-step.step e c.in_ok-step.ensures.cost) (erased_by c.args.flushing c.args.pinned.block c.steps.first now new c.in_ok-step.step e c.in_ok-step.ensures.cost)
+    collected_few c.args.flushing c.args.pinned.block c.steps.first old now new _ _ _ (honest, w, passed) idle i.under_way
+    (none_due_by c.args.flushing c.args.pinned.block c.steps.first now new c.in_ok-step.step e c.in_ok-step.ensures.cost)
+    (erased_by c.args.flushing c.args.pinned.block c.steps.first now new c.in_ok-step.step e c.in_ok-step.ensures.cost)
 
 pub returns-in_default-clause-less_work : goal.returns-in_default-clause-less_work
 returns-in_default-clause-less_work g c =
@@ -137,7 +146,9 @@ returns-in_default-clause-truth g c = λ honest w passed.
     let new = ram c.step_on.new.self in
     let e = ends_erased _ c.in_ok-step.step (sym c.next_page-going_on.ensures ∙ none_from c.next_page-going_on.result c.in_default.not-Some) in
     let so = i.under_way.truth (honest, w, passed) in
-    emptied_then c.args.pinned.block c.steps.first _ old now new _ _ _ i.goes c.step_on.ensures.goes.geometry so (emptied_by c.args.pinned.block now new _ _ c.in_ok-step.step e (c.in_ok-step.ensures.truth (i.acts.honest_is ∙ honest) so.same.truth (let n = so.none in rw i.goes.geometry n)))
+    emptied_then c.args.pinned.block c.steps.first _ old now new _ _ _ i.goes c.step_on.ensures.goes.geometry so
+    (emptied_by c.args.pinned.block now new _ _ c.in_ok-step.step e
+    (c.in_ok-step.ensures.truth (i.acts.honest_is ∙ honest) so.same.truth (let n = so.none in rw i.goes.geometry n)))
 
 pub returns-in_default-clause-count : goal.returns-in_default-clause-count
 returns-in_default-clause-count g c = λ honest w passed small.
@@ -146,7 +157,10 @@ returns-in_default-clause-count g c = λ honest w passed small.
     let now = ram c.steps.self in
     let new = ram c.step_on.new.self in
     let e = ends_erased _ c.in_ok-step.step (sym c.next_page-going_on.ensures ∙ none_from c.next_page-going_on.result c.in_default.not-Some) in
-    counts_collected c.args.flushing c.args.pinned.block c.steps.first old now new _ _ _ c.step_on.ensures.acts.safe.memory (c.step_on.ensures.goes.geometry ∙ i.goes.geometry) (honest, w, passed) small.moved (due_few c.args.flushing (ram c.args.self.now) c.requires.unmarked) i.under_way (erased_by c.args.flushing c.args.pinned.block c.steps.first now new c.in_ok-step.step e c.in_ok-step.ensures.cost)
+    counts_collected c.args.flushing c.args.pinned.block c.steps.first old now new _ _ _ c.step_on.ensures.acts.safe.memory
+    (c.step_on.ensures.goes.geometry ∙ i.goes.geometry) (honest, w, passed) small.moved
+    (due_few c.args.flushing (ram c.args.self.now) c.requires.unmarked) i.under_way
+    (erased_by c.args.flushing c.args.pinned.block c.steps.first now new c.in_ok-step.step e c.in_ok-step.ensures.cost)
 
 pub returns-in_default-clause-thrifty : goal.returns-in_default-clause-thrifty
 returns-in_default-clause-thrifty g c = λ honest w passed small ne.
@@ -155,7 +169,9 @@ returns-in_default-clause-thrifty g c = λ honest w passed small ne.
     let now = ram c.steps.self in
     let new = ram c.step_on.new.self in
     let e = ends_erased _ c.in_ok-step.step (sym c.next_page-going_on.ensures ∙ none_from c.next_page-going_on.result c.in_default.not-Some) in
-    thrifty_erased c.args.flushing c.args.pinned.block c.steps.first old now new _ _ _ (honest, w, passed) small.moved (due_few c.args.flushing (ram c.args.self.now) c.requires.unmarked) i.under_way (erased_by c.args.flushing c.args.pinned.block c.steps.first now new c.in_ok-step.step e c.in_ok-step.ensures.cost)
+    thrifty_erased c.args.flushing c.args.pinned.block c.steps.first old now new _ _ _ (honest, w, passed) small.moved
+    (due_few c.args.flushing (ram c.args.self.now) c.requires.unmarked) i.under_way
+    (erased_by c.args.flushing c.args.pinned.block c.steps.first now new c.in_ok-step.step e c.in_ok-step.ensures.cost)
 
 pub returns-in_default-clause-few : goal.returns-in_default-clause-few
 returns-in_default-clause-few g c = λ honest w passed small ne.
@@ -202,7 +218,11 @@ returns-in_err-step-clause-count g c = λ honest w passed small.
     let new = ram c.step_on.new.self in
     let so = i.under_way.truth (honest, w, passed) in
     let p = err_from_is_err_and c.from_residual.result c.from_residual.ensures.1 in
-    rw (p.1, p.2) (refused_counts c.args.flushing c.args.pinned.block c.steps.first old now new _ _ _ _ _ (honest, w, passed) small.moved (due_few c.args.flushing (ram c.args.self.now) c.requires.unmarked) i.under_way (λ is. c.in_err-step.ensures.owed (ap (λ f. Err f) is)) c.in_err-step.ensures.cost (c.in_err-step.ensures.truth (i.acts.honest_is ∙ honest) so.same.truth (let n = so.none in rw i.goes.geometry n)))
+    rw (p.1, p.2)
+    (refused_counts c.args.flushing c.args.pinned.block c.steps.first old now new _ _ _ _ _ (honest, w, passed) small.moved
+    (due_few c.args.flushing (ram c.args.self.now) c.requires.unmarked) i.under_way (λ is. c.in_err-step.ensures.owed (ap (λ f. Err f) is))
+    c.in_err-step.ensures.cost
+    (c.in_err-step.ensures.truth (i.acts.honest_is ∙ honest) so.same.truth (let n = so.none in rw i.goes.geometry n)))
 
 pub returns-in_err-step-clause-thrifty : goal.returns-in_err-step-clause-thrifty
 returns-in_err-step-clause-thrifty g c = λ honest w passed small.
@@ -212,7 +232,11 @@ returns-in_err-step-clause-thrifty g c = λ honest w passed small.
     let new = ram c.step_on.new.self in
     let so = i.under_way.truth (honest, w, passed) in
     let p = err_from_is_err_and c.from_residual.result c.from_residual.ensures.1 in
-    rw (p.1, p.2) (λ ne. thrifty_refused c.args.flushing c.args.pinned.block c.steps.first old now new _ _ _ _ (honest, w, passed) small.moved (due_few c.args.flushing (ram c.args.self.now) c.requires.unmarked) i.under_way c.in_err-step.ensures.cost (undamaged _ _ _ _ _ (c.in_err-step.ensures.truth (i.acts.honest_is ∙ honest) so.same.truth (let n = so.none in rw i.goes.geometry n))) (λ e. ne (ap (λ f. Err f) e)))
+    rw (p.1, p.2)
+    (λ ne. thrifty_refused c.args.flushing c.args.pinned.block c.steps.first old now new _ _ _ _ (honest, w, passed) small.moved
+    (due_few c.args.flushing (ram c.args.self.now) c.requires.unmarked) i.under_way c.in_err-step.ensures.cost
+    (undamaged _ _ _ _ _ (c.in_err-step.ensures.truth (i.acts.honest_is ∙ honest) so.same.truth (let n = so.none in rw i.goes.geometry n)))
+    (λ e. ne (ap (λ f. Err f) e)))
 
 pub returns-in_err-step-clause-few : goal.returns-in_err-step-clause-few
 returns-in_err-step-clause-few g c = λ honest w passed small.
@@ -221,7 +245,12 @@ returns-in_err-step-clause-few g c = λ honest w passed small.
     let new = ram c.step_on.new.self in
     let so = i.under_way.truth (honest, w, passed) in
     let p = err_from_is_err_and c.from_residual.result c.from_residual.ensures.1 in
-    rw (p.1, p.2) (λ ne. few_left (ram c.args.self.now) now new c.args.pinned c.steps.first _ _ _ i.acts.safe.memory c.step_on.ensures.acts.safe.memory i.goes.geometry c.step_on.ensures.goes.geometry c.requires.half_done.within i.closed (ap (λ m. length m.moved) c.in_err-step.ensures.unmoved) (c.in_err-step.ensures.next ∙ i.pinned) small so.same.truth _ so.copies_left so.few (c.in_err-step.ensures.truth (i.acts.honest_is ∙ honest) so.same.truth (let n = so.none in rw i.goes.geometry n)) (λ e. ne (ap (λ f. Err f) e)))
+    rw (p.1, p.2)
+    (λ ne. few_left (ram c.args.self.now) now new c.args.pinned c.steps.first _ _ _ i.acts.safe.memory c.step_on.ensures.acts.safe.memory
+    i.goes.geometry c.step_on.ensures.goes.geometry c.requires.half_done.within i.closed
+    (ap (λ m. length m.moved) c.in_err-step.ensures.unmoved) (c.in_err-step.ensures.next ∙ i.pinned) small so.same.truth _ so.copies_left
+    so.few (c.in_err-step.ensures.truth (i.acts.honest_is ∙ honest) so.same.truth (let n = so.none in rw i.goes.geometry n))
+    (λ e. ne (ap (λ f. Err f) e)))
 
 -- ---- what a stop leaves
 

@@ -21,7 +21,10 @@ invariant-steps g l = record {
   room : length l.self.mapping.moved ≤ l.first;
   closed : is_closed (ram l.self).blocks l.fn.pinned.block ≡ true;
   reads : HasRead l.flushing l.fn.pinned.first l.first (ram l.fn.self) (ram l.self) (g.N.PageSource.reads l.fn.self.nand) (g.N.PageSource.reads l.self.nand);
-  under_way : IsUnderWay l.flushing l.fn.pinned.block l.first (ram l.fn.self) (ram l.self) ((g.N.PageSource.honest l.fn.self.nand ≡ true) × IsTrue None (ram l.fn.self) (image_in g.N.PageSource.flash l.fn.self) × HasPassed (ram l.fn.self) (image_in g.N.PageSource.flash l.fn.self) l.fn.pinned) (image_in g.N.PageSource.flash l.fn.self) (image_in g.N.PageSource.flash l.self);
+  under_way : IsUnderWay l.flushing l.fn.pinned.block l.first (ram l.fn.self) (ram l.self)
+      ((g.N.PageSource.honest l.fn.self.nand ≡ true) × IsTrue None (ram l.fn.self) (image_in g.N.PageSource.flash l.fn.self)
+      × HasPassed (ram l.fn.self) (image_in g.N.PageSource.flash l.fn.self) l.fn.pinned) (image_in g.N.PageSource.flash l.fn.self)
+      (image_in g.N.PageSource.flash l.self);
   stops : g.N.PageSource.honest l.fn.self.nand ≡ true → IsTrue None (ram l.fn.self) (image_in g.N.PageSource.flash l.fn.self) → HasPassed (ram l.fn.self) (image_in g.N.PageSource.flash l.fn.self) l.fn.pinned
       → Stops g.N.PageSource.flash g.N.PageSource.recorded (IsLeftByStop (ram l.fn.self) (image_in g.N.PageSource.flash l.fn.self) (image_in g.N.PageSource.flash l.self)) l.fn.self l.self;
 }

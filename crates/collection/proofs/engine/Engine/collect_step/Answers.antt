@@ -35,7 +35,10 @@ returns-in_err-written-clause-truth g c = λ honest w none.
     let same = c.in_ok-copied.ensures.none (ap Ok is_none) in
     let first = found_none c.args.block (ram c.args.self.now) (ram c.copy_lowest.new.self) _ _ c.in_ok-copied.copied (c.in_ok-copied.ensures.truth honest w none) is_none in
     let p = err_from_is_err_and c.from_residual-in_err-written.result c.from_residual-in_err-written.ensures.1 in
-    rw (p.1, p.2) (refused_written c.args.block (ram c.args.self.now) (ram c.copy_lowest.new.self) _ _ same c.copy_lowest.ensures.goes c.requires.closed c.requires.block first (ram c.write_back_lowest.new.self) _ _ c.write_back_lowest.ensures.goes.geometry (c.in_err-written.ensures.truth (c.copy_lowest.ensures.acts.honest_is ∙ honest) first.0.truth))
+    rw (p.1, p.2)
+    (refused_written c.args.block (ram c.args.self.now) (ram c.copy_lowest.new.self) _ _ same c.copy_lowest.ensures.goes c.requires.closed
+    c.requires.block first (ram c.write_back_lowest.new.self) _ _ c.write_back_lowest.ensures.goes.geometry
+    (c.in_err-written.ensures.truth (c.copy_lowest.ensures.acts.honest_is ∙ honest) first.0.truth))
 
 -- ---- one was written
 
@@ -57,7 +60,9 @@ returns-then-written-clause-truth g c = λ honest w none.
     let is_none = none_from c.in_ok-copied.copied c.in_default.not-Some in
     let same = c.in_ok-copied.ensures.none (ap Ok is_none) in
     let first = found_none c.args.block (ram c.args.self.now) (ram c.copy_lowest.new.self) _ _ c.in_ok-copied.copied (c.in_ok-copied.ensures.truth honest w none) is_none in
-    emptied_written c.args.block (ram c.args.self.now) (ram c.copy_lowest.new.self) _ _ same c.copy_lowest.ensures.goes c.requires.closed c.requires.block first (ram c.write_back_lowest.new.self) _ c.write_back_lowest.ensures.acts.safe.memory c.write_back_lowest.ensures.goes.geometry (c.in_ok-written.ensures.truth (c.copy_lowest.ensures.acts.honest_is ∙ honest) first.0.truth)
+    emptied_written c.args.block (ram c.args.self.now) (ram c.copy_lowest.new.self) _ _ same c.copy_lowest.ensures.goes c.requires.closed
+    c.requires.block first (ram c.write_back_lowest.new.self) _ c.write_back_lowest.ensures.acts.safe.memory
+    c.write_back_lowest.ensures.goes.geometry (c.in_ok-written.ensures.truth (c.copy_lowest.ensures.acts.honest_is ∙ honest) first.0.truth)
 
 -- ---- the block was erased
 
@@ -101,8 +106,15 @@ returns-clause-truth g c = λ honest w none_below.
     let none = c.in_ok-written.ensures.none (ap Ok c.if-written.false) in
     let first = found_none c.args.block (ram c.args.self.now) (ram c.copy_lowest.new.self) _ _ c.in_ok-copied.copied (c.in_ok-copied.ensures.truth honest w none_below) is_none in
     let held = none_now c.args.block (ram c.args.self.now) (ram c.copy_lowest.new.self) _ _ same c.copy_lowest.ensures.goes c.requires.closed c.requires.block first in
-    let kept = c.in_ok-erase_block.ensures.truth (c.write_back_lowest.ensures.acts.honest_is ∙ (c.copy_lowest.ensures.acts.honest_is ∙ honest)) (subst (λ e. IsTrue None (ram e) (image_in g.N.PageSource.flash e)) (sym none.1) first.0.truth) (subst (λ e. HoldsNone (ram e).geometry.pages c.args.block (image_in g.N.PageSource.flash e)) (sym none.1) held) in
-    emptied_erased c.args.block (ram c.args.self.now) (ram c.copy_lowest.new.self) _ _ same c.copy_lowest.ensures.goes c.requires.closed c.requires.block first (ram c.erase_block.new.self) _ c.erase_block.ensures.acts.safe.memory (c.erase_block.ensures.goes.geometry ∙ ap (λ e. (ram e).geometry) none.1) (subst (λ e. IsImageKept (ram e) (image_in g.N.PageSource.flash e) (ram c.erase_block.new.self) (image_in g.N.PageSource.flash c.erase_block.new.self)) none.1 kept)
+    let kept = c.in_ok-erase_block.ensures.truth (c.write_back_lowest.ensures.acts.honest_is ∙ (c.copy_lowest.ensures.acts.honest_is ∙ honest))
+    (subst (λ e. IsTrue None (ram e) (image_in g.N.PageSource.flash e)) (sym none.1) first.0.truth)
+    (subst (λ e. HoldsNone (ram e).geometry.pages c.args.block (image_in g.N.PageSource.flash e)) (sym none.1) held) in
+    emptied_erased c.args.block (ram c.args.self.now) (ram c.copy_lowest.new.self) _ _ same c.copy_lowest.ensures.goes c.requires.closed
+    c.requires.block first (ram c.erase_block.new.self) _ c.erase_block.ensures.acts.safe.memory
+    (c.erase_block.ensures.goes.geometry ∙ ap (λ e. (ram e).geometry) none.1)
+    (subst
+    (λ e. IsImageKept (ram e) (image_in g.N.PageSource.flash e) (ram c.erase_block.new.self)
+    (image_in g.N.PageSource.flash c.erase_block.new.self)) none.1 kept)
 
 -- ---- what a stop leaves
 
@@ -146,5 +158,12 @@ returns-clause-stops g c = λ honest w none_in ne.
     let sized : IsSized (ram c.args.self.now) (ram c.copy_lowest.new.self) = record { geometry = c.copy_lowest.ensures.goes.geometry; capacity = c.copy_lowest.ensures.keys.limits.capacity } in
     let now = c.copy_lowest.ensures.acts.honest_is ∙ honest in
     let held = none_now c.args.block (ram c.args.self.now) (ram c.copy_lowest.new.self) _ _ same c.copy_lowest.ensures.goes c.requires.closed c.requires.block first in
-    let erased = c.in_ok-erase_block.ensures.stops (c.write_back_lowest.ensures.acts.honest_is ∙ now) (subst (λ e. IsTrue None (ram e) (image_in g.N.PageSource.flash e)) (sym none.1) first.0.truth) (subst (λ e. HoldsNone (ram e).geometry.pages c.args.block (image_in g.N.PageSource.flash e)) (sym none.1) held) (ok_not_bus _) in
-    stops_then (ram c.args.self.now) (ram c.copy_lowest.new.self) _ _ _ _ _ _ sized first.0.array (c.in_ok-copied.ensures.stops honest w (ok_not_bus _)) (subst (λ e. Stops g.N.PageSource.flash g.N.PageSource.recorded (IsLeftByStop (ram e) (image_in g.N.PageSource.flash e) (image_in g.N.PageSource.flash c.erase_block.new.self)) e c.erase_block.new.self) none.1 erased)
+    let erased = c.in_ok-erase_block.ensures.stops (c.write_back_lowest.ensures.acts.honest_is ∙ now)
+    (subst (λ e. IsTrue None (ram e) (image_in g.N.PageSource.flash e)) (sym none.1) first.0.truth)
+    (subst (λ e. HoldsNone (ram e).geometry.pages c.args.block (image_in g.N.PageSource.flash e)) (sym none.1) held) (ok_not_bus _) in
+    stops_then (ram c.args.self.now) (ram c.copy_lowest.new.self) _ _ _ _ _ _ sized first.0.array
+    (c.in_ok-copied.ensures.stops honest w (ok_not_bus _))
+    (subst
+    (λ e. Stops g.N.PageSource.flash g.N.PageSource.recorded
+    (IsLeftByStop (ram e) (image_in g.N.PageSource.flash e) (image_in g.N.PageSource.flash c.erase_block.new.self)) e
+    c.erase_block.new.self) none.1 erased)

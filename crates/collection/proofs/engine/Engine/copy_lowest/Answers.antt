@@ -48,12 +48,18 @@ returns-clause-copied_reads g c = λ page is.
 pub returns-clause-truth : goal.returns-clause-truth
 returns-clause-truth g c = λ honest w none.
     let still = ap (λ f. f.image) (c.in_ok-live.ensures.looks.same honest (ok_not_bus _)) in
-    copied_from (ram c.args.self.now) (ram c.first_live.new.self) (ram c.copy_page.new.self) _ _ _ c.args.block c.args.first c.in-Some.page c.row-row.result c.in-Some.found _ c.in_ok-live.live w c.first_live.ensures.looks.memory still c.row-row.ensures.is (c.in_ok-live.ensures.within _ c.in-Some.is).1 c.requires.closed none (c.in_ok-live.ensures.truth honest w) c.in-Some.is (c.in_ok-copy_page.ensures.truth (c.first_live.ensures.looks.only_reads.honest_is ∙ honest))
+    copied_from (ram c.args.self.now) (ram c.first_live.new.self) (ram c.copy_page.new.self) _ _ _ c.args.block c.args.first c.in-Some.page
+    c.row-row.result c.in-Some.found _ c.in_ok-live.live w c.first_live.ensures.looks.memory still c.row-row.ensures.is
+    (c.in_ok-live.ensures.within _ c.in-Some.is).1 c.requires.closed none (c.in_ok-live.ensures.truth honest w) c.in-Some.is
+    (c.in_ok-copy_page.ensures.truth (c.first_live.ensures.looks.only_reads.honest_is ∙ honest))
 
 pub returns-clause-touched : goal.returns-clause-touched
 returns-clause-touched g c = λ honest w.
     let still = ap (λ f. f.image) (c.in_ok-live.ensures.looks.same honest (ok_not_bus _)) in
-    touched_from c.args.flushing (ram c.args.self.now) (ram c.first_live.new.self) (ram c.copy_page.new.self) _ _ c.args.block c.args.first c.in-Some.page c.row-row.result c.in-Some.found _ c.in_ok-live.live w c.first_live.ensures.looks.memory still c.row-row.ensures.is (c.in_ok-live.ensures.within _ c.in-Some.is).1 (c.in_ok-live.ensures.truth honest w) c.in-Some.is (c.in_ok-copy_page.ensures.touched (c.first_live.ensures.looks.only_reads.honest_is ∙ honest))
+    touched_from c.args.flushing (ram c.args.self.now) (ram c.first_live.new.self) (ram c.copy_page.new.self) _ _ c.args.block c.args.first
+    c.in-Some.page c.row-row.result c.in-Some.found _ c.in_ok-live.live w c.first_live.ensures.looks.memory still c.row-row.ensures.is
+    (c.in_ok-live.ensures.within _ c.in-Some.is).1 (c.in_ok-live.ensures.truth honest w) c.in-Some.is
+    (c.in_ok-copy_page.ensures.touched (c.first_live.ensures.looks.only_reads.honest_is ∙ honest))
 
 -- ---- what a stop leaves
 
@@ -74,14 +80,18 @@ returns-in_err-copy_page-clause-stops g c =
     rw (p.1, p.2) (λ honest w ne.
     let looks = c.in_ok-live.ensures.looks in
     let still = looks.same honest (ok_not_bus _) in
-    let known = live_known (ram c.args.self.now) (ram c.first_live.new.self) _ _ c.args.block c.args.first c.in-Some.page c.row-row.result c.in-Some.found _ c.in_ok-live.live w looks.memory (ap (λ f. f.image) still) c.row-row.ensures.is (c.in_ok-live.ensures.truth honest w) c.in-Some.is in
+    let known = live_known (ram c.args.self.now) (ram c.first_live.new.self) _ _ c.args.block c.args.first c.in-Some.page c.row-row.result
+    c.in-Some.found _ c.in_ok-live.live w looks.memory (ap (λ f. f.image) still) c.row-row.ensures.is (c.in_ok-live.ensures.truth honest w)
+    c.in-Some.is in
     stops_looked (ram c.args.self.now) (ram c.first_live.new.self) _ _ _ _ _ _ looks.memory still (looks.told honest (ok_not_bus _)) (c.in_err-copy_page.ensures.stops (looks.only_reads.honest_is ∙ honest) known.0 known.1 (not_bus _ ne)))
 
 pub returns-clause-stops : goal.returns-clause-stops
 returns-clause-stops g c = λ honest w ne.
     let looks = c.in_ok-live.ensures.looks in
     let still = looks.same honest (ok_not_bus _) in
-    let known = live_known (ram c.args.self.now) (ram c.first_live.new.self) _ _ c.args.block c.args.first c.in-Some.page c.row-row.result c.in-Some.found _ c.in_ok-live.live w looks.memory (ap (λ f. f.image) still) c.row-row.ensures.is (c.in_ok-live.ensures.truth honest w) c.in-Some.is in
+    let known = live_known (ram c.args.self.now) (ram c.first_live.new.self) _ _ c.args.block c.args.first c.in-Some.page c.row-row.result
+    c.in-Some.found _ c.in_ok-live.live w looks.memory (ap (λ f. f.image) still) c.row-row.ensures.is (c.in_ok-live.ensures.truth honest w)
+    c.in-Some.is in
     stops_looked (ram c.args.self.now) (ram c.first_live.new.self) _ _ _ _ _ _ looks.memory still (looks.told honest (ok_not_bus _)) (c.in_ok-copy_page.ensures.stops (looks.only_reads.honest_is ∙ honest) known.0 known.1 (ok_not_bus _))
 
 pub returns-then-live-eq0-clause-acts : goal.returns-then-live-eq0-clause-acts

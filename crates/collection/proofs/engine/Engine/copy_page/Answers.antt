@@ -24,16 +24,26 @@ pub returns-clause-goes : goal.returns-clause-goes
 returns-clause-goes g c = goes_marked c.args.flushing c.key.result 0 (ram c.args.self.now) (ram c.replace.new.self) _ c.mark.ensures.marked c.replace.ensures.goes
 
 pub returns-clause-refreshes : goal.returns-clause-refreshes
-returns-clause-refreshes g c = λ on. refreshes_marked c.args.flushing (key_of c.args.found.now) c.in_ok-replace.field-0 (ram c.args.self.now) (ram c.replace.new.self) _ (marked_at c.args.flushing (key_of c.args.found.now) c.key.result (ram c.replace.new.self) _ c.key.ensures c.mark.ensures.marked) on c.requires.safe.memory c.requires.key c.replace.ensures.goes.geometry c.replace.ensures.pin c.in_ok-replace.ensures.mapping
+returns-clause-refreshes g c = λ on. refreshes_marked c.args.flushing (key_of c.args.found.now) c.in_ok-replace.field-0 (ram c.args.self.now)
+    (ram c.replace.new.self) _
+    (marked_at c.args.flushing (key_of c.args.found.now) c.key.result (ram c.replace.new.self) _ c.key.ensures c.mark.ensures.marked) on
+    c.requires.safe.memory c.requires.key c.replace.ensures.goes.geometry c.replace.ensures.pin c.in_ok-replace.ensures.mapping
 
 pub returns-clause-cost : goal.returns-clause-cost
-returns-clause-cost g c = cost_marked c.args.flushing (key_of c.args.found.now) c.in_ok-replace.field-0 (ram c.args.self.now) (ram c.replace.new.self) _ (marked_at c.args.flushing (key_of c.args.found.now) c.key.result (ram c.replace.new.self) _ c.key.ensures c.mark.ensures.marked) (stream_of c.args.found.now.kind) c.requires.safe.memory c.requires.key c.in_ok-replace.ensures.cost c.replace.ensures.goes.geometry c.replace.ensures.pin c.in_ok-replace.ensures.mapping
+returns-clause-cost g c = cost_marked c.args.flushing (key_of c.args.found.now) c.in_ok-replace.field-0 (ram c.args.self.now) (ram c.replace.new.self)
+    _ (marked_at c.args.flushing (key_of c.args.found.now) c.key.result (ram c.replace.new.self) _ c.key.ensures c.mark.ensures.marked)
+    (stream_of c.args.found.now.kind) c.requires.safe.memory c.requires.key c.in_ok-replace.ensures.cost c.replace.ensures.goes.geometry
+    c.replace.ensures.pin c.in_ok-replace.ensures.mapping
 
 pub returns-clause-pinned : goal.returns-clause-pinned
 returns-clause-pinned g c = λ off. pin_marked c.args.flushing c.key.result 0 (ram c.args.self.now) (ram c.replace.new.self) _ c.mark.ensures.marked off ∙ c.replace.ensures.pin
 
 pub returns-clause-touched : goal.returns-clause-touched
-returns-clause-touched g c = λ honest w live. copied_touches c.args.flushing (key_of c.args.found.now) c.args.row c.in_ok-replace.field-0 (ram c.args.self.now) _ _ c.requires.safe.memory c.requires.key live.newest (followed c.args.flushing (key_of c.args.found.now) c.in_ok-replace.field-0 (ram c.args.self.now) (ram c.replace.new.self) _ (marked_at c.args.flushing (key_of c.args.found.now) c.key.result (ram c.replace.new.self) _ c.key.ensures c.mark.ensures.marked) c.replace.ensures.goes.geometry c.replace.ensures.pin c.in_ok-replace.ensures.mapping)
+returns-clause-touched g c = λ honest w live. copied_touches c.args.flushing (key_of c.args.found.now) c.args.row c.in_ok-replace.field-0
+    (ram c.args.self.now) _ _ c.requires.safe.memory c.requires.key live.newest
+    (followed c.args.flushing (key_of c.args.found.now) c.in_ok-replace.field-0 (ram c.args.self.now) (ram c.replace.new.self) _
+    (marked_at c.args.flushing (key_of c.args.found.now) c.key.result (ram c.replace.new.self) _ c.key.ensures c.mark.ensures.marked)
+    c.replace.ensures.goes.geometry c.replace.ensures.pin c.in_ok-replace.ensures.mapping)
 
 pub returns-clause-programmed : goal.returns-clause-programmed
 returns-clause-programmed g c = last_marked c.args.found.now.kind c.args.found.now.number (ram c.replace.new.self) _ _ _ (ap (λ r. r.next) c.mark.ensures.marked) (ap page_in c.mark.ensures.page) c.in_ok-replace.ensures.programmed
@@ -45,7 +55,9 @@ returns-clause-truth g c = λ honest w shut live.
     let old = (g.N.PageSource.flash c.args.self.now.nand).image in
     let new = (g.N.PageSource.flash c.replace.new.self.nand).image in
     let replaced = c.in_ok-replace.ensures.truth honest (may_copy r _ c.args.row c.args.found.now _ w c.requires.key live) in
-    let moved = moved_out r b old new c.args.row c.in_ok-replace.field-0 c.args.found.now c.args.self.now.page.body.items c.requires.safe.memory c.replace.ensures.acts.safe.memory c.replace.ensures.goes.geometry w live c.requires.key c.requires.row shut c.in_ok-replace.ensures.row replaced in
+    let moved = moved_out r b old new c.args.row c.in_ok-replace.field-0 c.args.found.now c.args.self.now.page.body.items c.requires.safe.memory
+    c.replace.ensures.acts.safe.memory c.replace.ensures.goes.geometry w live c.requires.key c.requires.row shut c.in_ok-replace.ensures.row
+    replaced in
     rw c.mark.ensures.nand (moved_marked c.args.flushing c.key.result c.in_ok-replace.field-0 r b _ c.mark.ensures.marked c.args.row old new moved)
 
 pub returns-clause-renews : goal.returns-clause-renews

@@ -21,7 +21,17 @@ retire-requires-clause-good g c = closed_good (state c.args.self.now.blocks) c.a
 pub returns-in-Ok-Passed-clause-acts : goal.returns-in-Ok-Passed-clause-acts
 returns-in-Ok-Passed-clause-acts g c = record {
   safe = record {
-    memory = cleared_ram c.args.block (ram c.args.self.now) _ c.requires.safe.memory (record { geometry = refl; directory = refl; mapping = refl; next = refl; block = refl; marks = ap length c.clear_marks.ensures ∙ length-replicate (length c.args.self.now.marks.items) false }) (ended_by true (ram c.args.self.now) c.args.block _ c.requires.safe.memory c.requires.block c.requires.closed c.freed.ensures.is).made;
+    memory = cleared_ram c.args.block (ram c.args.self.now) _ c.requires.safe.memory
+        (record {
+          geometry = refl;
+          directory = refl;
+          mapping = refl;
+          next = refl;
+          block = refl;
+          marks = ap length c.clear_marks.ensures
+              ∙ length-replicate (length c.args.self.now.marks.items) false;
+        })
+        (ended_by true (ram c.args.self.now) c.args.block _ c.requires.safe.memory c.requires.block c.requires.closed c.freed.ensures.is).made;
     geometry = c.erase.ensures.geometry ∙ c.requires.safe.geometry;
     page = c.requires.safe.page;
     scratch = c.requires.safe.scratch;
@@ -35,12 +45,26 @@ returns-in-Ok-Passed-clause-acts g c = record {
       let before = g.N.PageSource.flash c.args.self.now.nand in
       let after = g.N.PageSource.flash c.erase.new.self in
       let step = at_outcome (λ o. Steps before (Erase c.args.block (is_passed o) (block_at after c.args.block)) after) c.in-Ok-Passed.field-0 Passed (c.in-Ok-Passed.ensures.step honest) c.in-Ok-Passed.field-0-is in
-      let records = at_outcome (λ o. Records (g.N.PageSource.recorded c.args.self.now.nand) (Erase c.args.block (is_passed o) (block_at after c.args.block) ∷ []) (g.N.PageSource.recorded c.erase.new.self)) c.in-Ok-Passed.field-0 Passed (c.in-Ok-Passed.ensures.recorded honest) c.in-Ok-Passed.field-0-is in
+      let records = at_outcome
+      (λ o. Records (g.N.PageSource.recorded c.args.self.now.nand) (Erase c.args.block (is_passed o) (block_at after c.args.block) ∷ [])
+      (g.N.PageSource.recorded c.erase.new.self)) c.in-Ok-Passed.field-0 Passed (c.in-Ok-Passed.ensures.recorded honest)
+      c.in-Ok-Passed.field-0-is in
       went_erase (ram c.args.self.now) _ before after _ _ c.args.block true (block_at after c.args.block) step records (ended_by true (ram c.args.self.now) c.args.block _ c.requires.safe.memory c.requires.block c.requires.closed c.freed.ensures.is) refl;
 }
 
 pub returns-in-Ok-Passed-clause-goes : goal.returns-in-Ok-Passed-clause-goes
-returns-in-Ok-Passed-clause-goes g c = (cleared_goes c.args.block (ram c.args.self.now) _ (record { geometry = refl; directory = refl; mapping = refl; next = refl; block = refl; marks = ap length c.clear_marks.ensures ∙ length-replicate (length c.args.self.now.marks.items) false }) (ended_by true (ram c.args.self.now) c.args.block _ c.requires.safe.memory c.requires.block c.requires.closed c.freed.ensures.is).made)
+returns-in-Ok-Passed-clause-goes g c =
+    (cleared_goes c.args.block (ram c.args.self.now) _
+    (record {
+      geometry = refl;
+      directory = refl;
+      mapping = refl;
+      next = refl;
+      block = refl;
+      marks = ap length c.clear_marks.ensures
+          ∙ length-replicate (length c.args.self.now.marks.items) false;
+    })
+    (ended_by true (ram c.args.self.now) c.args.block _ c.requires.safe.memory c.requires.block c.requires.closed c.freed.ensures.is).made)
 
 pub returns-in-Ok-Passed-clause-released : goal.returns-in-Ok-Passed-clause-released
 returns-in-Ok-Passed-clause-released g c = released true c.args.block _ _ (ended_by true (ram c.args.self.now) c.args.block _ c.requires.safe.memory c.requires.block c.requires.closed c.freed.ensures.is)
@@ -51,14 +75,35 @@ returns-in-Ok-Passed-clause-truth g c = λ honest w none.
     let after = g.N.PageSource.flash c.erase.new.self in
     let step = at_outcome (λ o. Steps before (Erase c.args.block (is_passed o) (block_at after c.args.block)) after) c.in-Ok-Passed.field-0 Passed (c.in-Ok-Passed.ensures.step honest) c.in-Ok-Passed.field-0-is in
     let whole : IsImage c.args.self.now.geometry after.image = subst (λ x. IsImage x after.image) (c.erase.ensures.geometry ∙ c.requires.safe.geometry) (c.in-Ok-Passed.ensures.whole honest).image_whole in
-    (ended_kept (ram c.args.self.now) _ before after c.args.block true (block_at after c.args.block) c.requires.safe.memory w c.requires.safe.geometry none step whole (record { geometry = refl; directory = refl; mapping = refl; next = refl; block = refl; marks = ap length c.clear_marks.ensures ∙ length-replicate (length c.args.self.now.marks.items) false }) (ended_by true (ram c.args.self.now) c.args.block _ c.requires.safe.memory c.requires.block c.requires.closed c.freed.ensures.is))
+    (ended_kept (ram c.args.self.now) _ before after c.args.block true (block_at after c.args.block) c.requires.safe.memory w c.requires.safe.geometry
+    none step whole
+    (record {
+      geometry = refl;
+      directory = refl;
+      mapping = refl;
+      next = refl;
+      block = refl;
+      marks = ap length c.clear_marks.ensures
+          ∙ length-replicate (length c.args.self.now.marks.items) false;
+    })
+    (ended_by true (ram c.args.self.now) c.args.block _ c.requires.safe.memory c.requires.block c.requires.closed c.freed.ensures.is))
 
 -- ---- it failed
 
 pub returns-in-Ok-Failed-clause-acts : goal.returns-in-Ok-Failed-clause-acts
 returns-in-Ok-Failed-clause-acts g c = record {
   safe = record {
-    memory = cleared_ram c.args.block (ram c.args.self.now) _ c.requires.safe.memory (record { geometry = refl; directory = refl; mapping = refl; next = refl; block = refl; marks = ap length c.clear_marks-in-Ok-Failed.ensures ∙ length-replicate (length c.args.self.now.marks.items) false }) (ended_by false (ram c.args.self.now) c.args.block _ c.requires.safe.memory c.requires.block c.requires.closed c.retire.ensures.is).made;
+    memory = cleared_ram c.args.block (ram c.args.self.now) _ c.requires.safe.memory
+        (record {
+          geometry = refl;
+          directory = refl;
+          mapping = refl;
+          next = refl;
+          block = refl;
+          marks = ap length c.clear_marks-in-Ok-Failed.ensures
+              ∙ length-replicate (length c.args.self.now.marks.items) false;
+        })
+        (ended_by false (ram c.args.self.now) c.args.block _ c.requires.safe.memory c.requires.block c.requires.closed c.retire.ensures.is).made;
     geometry = c.erase.ensures.geometry ∙ c.requires.safe.geometry;
     page = c.requires.safe.page;
     scratch = c.requires.safe.scratch;
@@ -72,12 +117,26 @@ returns-in-Ok-Failed-clause-acts g c = record {
       let before = g.N.PageSource.flash c.args.self.now.nand in
       let after = g.N.PageSource.flash c.erase.new.self in
       let step = at_outcome (λ o. Steps before (Erase c.args.block (is_passed o) (block_at after c.args.block)) after) c.in-Ok-Failed.field-0 Failed (c.in-Ok-Failed.ensures.step honest) c.in-Ok-Failed.field-0-is in
-      let records = at_outcome (λ o. Records (g.N.PageSource.recorded c.args.self.now.nand) (Erase c.args.block (is_passed o) (block_at after c.args.block) ∷ []) (g.N.PageSource.recorded c.erase.new.self)) c.in-Ok-Failed.field-0 Failed (c.in-Ok-Failed.ensures.recorded honest) c.in-Ok-Failed.field-0-is in
+      let records = at_outcome
+      (λ o. Records (g.N.PageSource.recorded c.args.self.now.nand) (Erase c.args.block (is_passed o) (block_at after c.args.block) ∷ [])
+      (g.N.PageSource.recorded c.erase.new.self)) c.in-Ok-Failed.field-0 Failed (c.in-Ok-Failed.ensures.recorded honest)
+      c.in-Ok-Failed.field-0-is in
       went_erase (ram c.args.self.now) _ before after _ _ c.args.block false (block_at after c.args.block) step records (ended_by false (ram c.args.self.now) c.args.block _ c.requires.safe.memory c.requires.block c.requires.closed c.retire.ensures.is) refl;
 }
 
 pub returns-in-Ok-Failed-clause-goes : goal.returns-in-Ok-Failed-clause-goes
-returns-in-Ok-Failed-clause-goes g c = (cleared_goes c.args.block (ram c.args.self.now) _ (record { geometry = refl; directory = refl; mapping = refl; next = refl; block = refl; marks = ap length c.clear_marks-in-Ok-Failed.ensures ∙ length-replicate (length c.args.self.now.marks.items) false }) (ended_by false (ram c.args.self.now) c.args.block _ c.requires.safe.memory c.requires.block c.requires.closed c.retire.ensures.is).made)
+returns-in-Ok-Failed-clause-goes g c =
+    (cleared_goes c.args.block (ram c.args.self.now) _
+    (record {
+      geometry = refl;
+      directory = refl;
+      mapping = refl;
+      next = refl;
+      block = refl;
+      marks = ap length c.clear_marks-in-Ok-Failed.ensures
+          ∙ length-replicate (length c.args.self.now.marks.items) false;
+    })
+    (ended_by false (ram c.args.self.now) c.args.block _ c.requires.safe.memory c.requires.block c.requires.closed c.retire.ensures.is).made)
 
 pub returns-in-Ok-Failed-clause-released : goal.returns-in-Ok-Failed-clause-released
 returns-in-Ok-Failed-clause-released g c = released false c.args.block _ _ (ended_by false (ram c.args.self.now) c.args.block _ c.requires.safe.memory c.requires.block c.requires.closed c.retire.ensures.is)
@@ -88,15 +147,30 @@ returns-in-Ok-Failed-clause-truth g c = λ honest w none.
     let after = g.N.PageSource.flash c.erase.new.self in
     let step = at_outcome (λ o. Steps before (Erase c.args.block (is_passed o) (block_at after c.args.block)) after) c.in-Ok-Failed.field-0 Failed (c.in-Ok-Failed.ensures.step honest) c.in-Ok-Failed.field-0-is in
     let whole : IsImage c.args.self.now.geometry after.image = subst (λ x. IsImage x after.image) (c.erase.ensures.geometry ∙ c.requires.safe.geometry) (c.in-Ok-Failed.ensures.whole honest).image_whole in
-    (ended_kept (ram c.args.self.now) _ before after c.args.block false (block_at after c.args.block) c.requires.safe.memory w c.requires.safe.geometry none step whole (record { geometry = refl; directory = refl; mapping = refl; next = refl; block = refl; marks = ap length c.clear_marks-in-Ok-Failed.ensures ∙ length-replicate (length c.args.self.now.marks.items) false }) (ended_by false (ram c.args.self.now) c.args.block _ c.requires.safe.memory c.requires.block c.requires.closed c.retire.ensures.is))
+    (ended_kept (ram c.args.self.now) _ before after c.args.block false (block_at after c.args.block) c.requires.safe.memory w
+    c.requires.safe.geometry none step whole
+    (record {
+      geometry = refl;
+      directory = refl;
+      mapping = refl;
+      next = refl;
+      block = refl;
+      marks = ap length c.clear_marks-in-Ok-Failed.ensures
+          ∙ length-replicate (length c.args.self.now.marks.items) false;
+    })
+    (ended_by false (ram c.args.self.now) c.args.block _ c.requires.safe.memory c.requires.block c.requires.closed c.retire.ensures.is))
 
 -- ---- what a stop leaves
 
 pub returns-in-Ok-Passed-clause-stops : goal.returns-in-Ok-Passed-clause-stops
-returns-in-Ok-Passed-clause-stops g c = λ honest w none ne. erase_stops (ram c.args.self.now) _ c.args.block _ _ _ _ _ _ c.requires.safe.geometry c.requires.safe.memory w none (c.in-Ok-Passed.ensures.step honest) (c.in-Ok-Passed.ensures.recorded honest) (returns-in-Ok-Passed-clause-truth g c honest w none)
+returns-in-Ok-Passed-clause-stops g c = λ honest w none ne. erase_stops (ram c.args.self.now) _ c.args.block _ _ _ _ _ _ c.requires.safe.geometry
+    c.requires.safe.memory w none (c.in-Ok-Passed.ensures.step honest) (c.in-Ok-Passed.ensures.recorded honest)
+    (returns-in-Ok-Passed-clause-truth g c honest w none)
 
 pub returns-in-Ok-Failed-clause-stops : goal.returns-in-Ok-Failed-clause-stops
-returns-in-Ok-Failed-clause-stops g c = λ honest w none ne. erase_stops (ram c.args.self.now) _ c.args.block _ _ _ _ _ _ c.requires.safe.geometry c.requires.safe.memory w none (c.in-Ok-Failed.ensures.step honest) (c.in-Ok-Failed.ensures.recorded honest) (returns-in-Ok-Failed-clause-truth g c honest w none)
+returns-in-Ok-Failed-clause-stops g c = λ honest w none ne. erase_stops (ram c.args.self.now) _ c.args.block _ _ _ _ _ _ c.requires.safe.geometry
+    c.requires.safe.memory w none (c.in-Ok-Failed.ensures.step honest) (c.in-Ok-Failed.ensures.recorded honest)
+    (returns-in-Ok-Failed-clause-truth g c honest w none)
 
 pub returns-in-Err-clause-stops : goal.returns-in-Err-clause-stops
 returns-in-Err-clause-stops g c = λ honest w none ne. absurd (ne refl)

@@ -32,7 +32,9 @@ returns-in-Some-clause-makes g c =
     }
 
 pub returns-in-Some-clause-count : goal.returns-in-Some-clause-count
-returns-in-Some-clause-count g c = λ honest w passed few failures funded. finished_counts failures (ram c.args.self.now) (ram c.collect_from.new.self) c.collect_from.result c.requires.safe.memory funded (c.collect_from.ensures.count honest w (passed c.in-Some.pinned c.in-Some.is) (few c.in-Some.pinned c.in-Some.is))
+returns-in-Some-clause-count g c = λ honest w passed few failures funded. finished_counts failures (ram c.args.self.now) (ram c.collect_from.new.self)
+    c.collect_from.result c.requires.safe.memory funded
+    (c.collect_from.ensures.count honest w (passed c.in-Some.pinned c.in-Some.is) (few c.in-Some.pinned c.in-Some.is))
 
 pub returns-in_default-clause-acts : goal.returns-in_default-clause-acts
 returns-in_default-clause-acts g c = acts_same c.args.self.now c.requires.safe

@@ -9,7 +9,10 @@ use Rattle.collection.proofs.Looks.{ok_not_bus}
 use Rattle.collection.proofs.engine.Engine.first_ailing.Goals as goal
 
 pub returns-in-Some-clause-checked : goal.returns-in-Some-clause-checked
-returns-in-Some-clause-checked g c = found_at (ram c.args.self.now) (ram c.numbers.self) _ _ c.row.result _ c.in-Some.found c.numbers.invariant.looks.memory (c.row.ensures.is ∙ ap (λ r. c.numbers.block * r.geometry.pages + c.in-Some.page) c.first_live.ensures.looks.memory) (c.in_ok-live.ensures.checked _ c.in-Some.is)
+returns-in-Some-clause-checked g c = found_at (ram c.args.self.now) (ram c.numbers.self) _ _ c.row.result _ c.in-Some.found
+    c.numbers.invariant.looks.memory
+    (c.row.ensures.is ∙ ap (λ r. c.numbers.block * r.geometry.pages + c.in-Some.page) c.first_live.ensures.looks.memory)
+    (c.in_ok-live.ensures.checked _ c.in-Some.is)
 
 pub returns-in-Some-clause-row : goal.returns-in-Some-clause-row
 returns-in-Some-clause-row g c = λ x e.
@@ -17,7 +20,9 @@ returns-in-Some-clause-row g c = λ x e.
     let blocks = ap (λ r. r.geometry.blocks) i.looks.memory in
     let pages = ap (λ r. r.geometry.pages) i.looks.memory in
     let within = (c.in_ok-live.ensures.within _ c.in-Some.is).1 in
-    row_found (ram c.args.self.now) (ram c.numbers.self) c.numbers.block c.in-Some.page c.row.result c.in-Some.found x i.looks.memory (omega (arith, blocks, c.blocks-block-end.ensures, c.numbers-test.true)) (omega (arith, pages, within)) (c.row.ensures.is ∙ ap (λ r. c.numbers.block * r.geometry.pages + c.in-Some.page) c.first_live.ensures.looks.memory) e
+    row_found (ram c.args.self.now) (ram c.numbers.self) c.numbers.block c.in-Some.page c.row.result c.in-Some.found x i.looks.memory
+    (omega (arith, blocks, c.blocks-block-end.ensures, c.numbers-test.true)) (omega (arith, pages, within))
+    (c.row.ensures.is ∙ ap (λ r. c.numbers.block * r.geometry.pages + c.in-Some.page) c.first_live.ensures.looks.memory) e
 
 pub numbers-preserved : goal.numbers-preserved
 numbers-preserved g c =
@@ -40,5 +45,13 @@ returns-in-Some-clause-truth g c = λ honest w.
     let now = ram c.numbers.self in
     let still = ap (λ f. f.image) (i.looks.same honest (ok_not_bus _)) in
     let w_now = true_over old now _ _ w i.looks.memory still in
-    let first = first_by now _ c.numbers.block c.in-Some.page c.row.result c.in-Some.found _ c.in_ok-live.live i.looks.safe.memory w_now (c.row.ensures.is ∙ ap (λ r. c.numbers.block * r.geometry.pages + c.in-Some.page) c.first_live.ensures.looks.memory) (c.in_ok-live.ensures.within _ c.in-Some.is).1 c.if-not-is_ailing.ensures.some (λ b lt bad. ap (λ r. live_at r.blocks b) i.looks.memory ∙ i.truth honest w b lt (sym (ap (λ r. is_good_at r.blocks.table b) i.looks.memory) ∙ bad)) (c.in_ok-live.ensures.truth (i.looks.only_reads.honest_is ∙ honest) w_now) c.in-Some.is in
-    subst (λ x. IsFirstAiling old.blocks c.row.result c.first_live.new.self.page.body.items c.in-Some.found x) still (subst (λ z. IsFirstAiling z.blocks c.row.result c.first_live.new.self.page.body.items c.in-Some.found (g.N.PageSource.flash c.numbers.self.nand).image) i.looks.memory first)
+    let first = first_by now _ c.numbers.block c.in-Some.page c.row.result c.in-Some.found _ c.in_ok-live.live i.looks.safe.memory w_now
+    (c.row.ensures.is ∙ ap (λ r. c.numbers.block * r.geometry.pages + c.in-Some.page) c.first_live.ensures.looks.memory)
+    (c.in_ok-live.ensures.within _ c.in-Some.is).1 c.if-not-is_ailing.ensures.some
+    (λ b lt bad. ap (λ r. live_at r.blocks b) i.looks.memory ∙ i.truth honest w b lt
+    (sym (ap (λ r. is_good_at r.blocks.table b) i.looks.memory) ∙ bad))
+    (c.in_ok-live.ensures.truth (i.looks.only_reads.honest_is ∙ honest) w_now) c.in-Some.is in
+    subst (λ x. IsFirstAiling old.blocks c.row.result c.first_live.new.self.page.body.items c.in-Some.found x) still
+    (subst
+    (λ z. IsFirstAiling z.blocks c.row.result c.first_live.new.self.page.body.items c.in-Some.found
+    (g.N.PageSource.flash c.numbers.self.nand).image) i.looks.memory first)

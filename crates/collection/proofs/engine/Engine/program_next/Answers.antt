@@ -114,7 +114,10 @@ returns-in-Ok-Passed-clause-truth g c = λ honest may.
     let means = at_outcome (λ o. ProgramMeans r.geometry written row c.deref.result.now (is_passed o) before.image after.image) c.in-Ok-Passed.field-0 Passed (c.in-Ok-Passed.ensures.means honest can) c.in-Ok-Passed.field-0-is in
     let writes = subst (λ bytes. Writes r.geometry written row bytes before.image after.image) c.deref.ensures.value means in
     let whole = c.in-Ok-Passed.ensures.image honest in
-    passed_put c.of.result b row r t c.requires.safe.memory is c.args.kind c.args.number c.args.old_row c.args.self.now.page.body.items before.image may c.requires.key _ (record { geometry = refl; directory = refl; mapping = refl; pin = refl; next = refl }) after.image whole (step_others row Passed before after told told' step) c.wear.result (c.wear.ensures.is ∙ ap (λ x. wear_at x b) c.table.ensures) c.count_move.ensures c.requires.old_row writes
+    passed_put c.of.result b row r t c.requires.safe.memory is c.args.kind c.args.number c.args.old_row c.args.self.now.page.body.items before.image
+    may c.requires.key _ (record { geometry = refl; directory = refl; mapping = refl; pin = refl; next = refl }) after.image whole
+    (step_others row Passed before after told told' step) c.wear.result (c.wear.ensures.is ∙ ap (λ x. wear_at x b) c.table.ensures)
+    c.count_move.ensures c.requires.old_row writes
 
 -- ---- it failed
 
@@ -174,7 +177,9 @@ returns-in-Ok-Failed-clause-truth g c = λ honest may.
     let can = may_program c.of.result b row r t c.requires.safe.memory is c.args.kind c.args.number c.args.old_row c.args.self.now.page.body.items before.image may c.requires.key c.wear.result in
     let keeps = at_outcome (λ o. ProgramMeans r.geometry written row c.deref.result.now (is_passed o) before.image after.image) c.in-Ok-Failed.field-0 Failed (c.in-Ok-Failed.ensures.means honest can) c.in-Ok-Failed.field-0-is in
     let whole = c.in-Ok-Failed.ensures.image honest in
-    failed_kept c.of.result b row r t c.requires.safe.memory is c.args.kind c.args.number c.args.old_row c.args.self.now.page.body.items before.image may c.requires.key _ (record { geometry = refl; directory = refl; mapping = refl; pin = refl; next = refl }) after.image whole (step_others row Failed before after told told' step) c.retire.ensures.is keeps
+    failed_kept c.of.result b row r t c.requires.safe.memory is c.args.kind c.args.number c.args.old_row c.args.self.now.page.body.items before.image
+    may c.requires.key _ (record { geometry = refl; directory = refl; mapping = refl; pin = refl; next = refl }) after.image whole
+    (step_others row Failed before after told told' step) c.retire.ensures.is keeps
 
 -- ---- the die answered nothing
 

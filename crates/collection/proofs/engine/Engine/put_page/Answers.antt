@@ -60,7 +60,9 @@ pub returns-in-Some-clause-truth : goal.returns-in-Some-clause-truth
 returns-in-Some-clause-truth g c = λ honest may.
     let kept = c.tries.invariant.truth honest may in
     let now = may_still c.args.kind c.args.number c.args.old_row _ _ _ _ _ _ may (ap (λ v. v.items) c.tries.invariant.page) c.tries.invariant.goes kept in
-    put_after _ _ _ _ _ _ c.tries.invariant.goes.goes c.program_next.ensures.goes.goes.geometry c.args.kind c.args.number c.in-Some.row _ kept (attempted_some _ _ c.in-Some.row _ _ _ _ _ _ c.in_ok-tried.tried (c.in_ok-tried.ensures.truth (c.tries.invariant.acts.honest_is ∙ honest) now) c.in-Some.is (ap (λ v. v.items) c.tries.invariant.page))
+    put_after _ _ _ _ _ _ c.tries.invariant.goes.goes c.program_next.ensures.goes.goes.geometry c.args.kind c.args.number c.in-Some.row _ kept
+    (attempted_some _ _ c.in-Some.row _ _ _ _ _ _ c.in_ok-tried.tried
+    (c.in_ok-tried.ensures.truth (c.tries.invariant.acts.honest_is ∙ honest) now) c.in-Some.is (ap (λ v. v.items) c.tries.invariant.page))
 
 -- ---- a try failed
 

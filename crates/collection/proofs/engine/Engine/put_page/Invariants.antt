@@ -16,7 +16,9 @@ invariant-tries g l = record {
   scratch : l.self.scratch ≡ l.initial.self.scratch;
   only_programs : OnlyPrograms g.N.PageSource.reads g.N.PageSource.erases l.initial.self.nand l.self.nand;
   tried : HasTried (stream_of l.kind) (ram l.initial.self) (ram l.self);
-  truth : g.N.PageSource.honest l.initial.self.nand ≡ true → MayPut l.kind l.number l.old_row l.initial.self.page.body.items (ram l.initial.self) (image_in g.N.PageSource.flash l.initial.self) → IsImageKept (ram l.initial.self) (image_in g.N.PageSource.flash l.initial.self) (ram l.self) (image_in g.N.PageSource.flash l.self);
+  truth : g.N.PageSource.honest l.initial.self.nand ≡ true
+      → MayPut l.kind l.number l.old_row l.initial.self.page.body.items (ram l.initial.self) (image_in g.N.PageSource.flash l.initial.self)
+      → IsImageKept (ram l.initial.self) (image_in g.N.PageSource.flash l.initial.self) (ram l.self) (image_in g.N.PageSource.flash l.self);
   stops : g.N.PageSource.honest l.initial.self.nand ≡ true → MayPut l.kind l.number l.old_row l.initial.self.page.body.items (ram l.initial.self) (image_in g.N.PageSource.flash l.initial.self)
       → Stops g.N.PageSource.flash g.N.PageSource.recorded (Keeps l.initial.self.geometry (image_in g.N.PageSource.flash l.initial.self)) l.initial.self l.self;
 }

@@ -19,7 +19,10 @@ returns-in_default-clause-truth g c = λ honest w. read_none c.args.self.now.geo
 pub returns-clause-truth : goal.returns-clause-truth
 returns-clause-truth g c = λ honest w.
     let read = ap (λ f. slice_get f.image c.in-Some.row) (sym (c.in_ok-found.ensures.looks.same honest (ok_not_bus c.in_ok-found.found))) ∙ c.in_ok-written.ensures.page (c.row_of_sector.ensures.looks.only_reads.honest_is ∙ honest) in
-    read_some c.args.self.now.geometry _ c.args.sector c.in-Some.row c.in_ok-found.found (page c.read_of.new.buffer.body.items c.read_of.new.buffer.spare.items) c.in_ok-written.written _ c.deref.result.now _ (c.in_ok-found.ensures.truth honest w) c.in-Some.is read c.in_ok-written.ensures.checked c.deref.ensures.value c.copy_sector.ensures.sector c.copy_sector.ensures.others c.requires.whole
+    read_some c.args.self.now.geometry _ c.args.sector c.in-Some.row c.in_ok-found.found
+    (page c.read_of.new.buffer.body.items c.read_of.new.buffer.spare.items) c.in_ok-written.written _ c.deref.result.now _
+    (c.in_ok-found.ensures.truth honest w) c.in-Some.is read c.in_ok-written.ensures.checked c.deref.ensures.value c.copy_sector.ensures.sector
+    c.copy_sector.ensures.others c.requires.whole
 
 pub returns-clause-looked_up : goal.returns-clause-looked_up
 returns-clause-looked_up g c =
@@ -27,4 +30,6 @@ returns-clause-looked_up g c =
     subst (FindsRow (ram c.args.self.now) c.args.sector (page_in c.row_of_sector.new.self.scratch)) c.in-Some.is found
 
 pub returns-clause-checked : goal.returns-clause-checked
-returns-clause-checked g c = gives_some c.args.self.now.geometry c.args.sector c.in-Some.row (Some c.in-Some.row) (page_in c.read_of.new.buffer) c.in_ok-written.written _ c.deref.result.now _ refl c.in_ok-written.ensures.checked c.deref.ensures.value c.copy_sector.ensures.sector c.copy_sector.ensures.others c.requires.whole
+returns-clause-checked g c = gives_some c.args.self.now.geometry c.args.sector c.in-Some.row (Some c.in-Some.row) (page_in c.read_of.new.buffer)
+    c.in_ok-written.written _ c.deref.result.now _ refl c.in_ok-written.ensures.checked c.deref.ensures.value c.copy_sector.ensures.sector
+    c.copy_sector.ensures.others c.requires.whole

@@ -109,7 +109,10 @@ returns-in_err-collect_block-clause-count g c = λ honest w passed few failures 
     let i = c.rounds.invariant in
     let worth = made_some (ram c.rounds.self) c.worth-worth.result c.in-Some.block c.worth-worth.ensures c.in-Some.is in
     let p = err_from_is_err_and c.from_residual-in_err-collect_block.result c.from_residual-in_err-collect_block.ensures.1 in
-    rw (p.1, p.2) (refused_room failures (ram c.args.self.now) (ram c.rounds.self) (ram c.collect_block.new.self) _ i.acts.safe.memory i.makes.goes.geometry (i.count honest w passed few failures enough) (c.in_err-collect_block.ensures.count (i.acts.honest_is ∙ honest) (i.makes.truth honest w passed).truth worth.small))
+    rw (p.1, p.2)
+    (refused_room failures (ram c.args.self.now) (ram c.rounds.self) (ram c.collect_block.new.self) _ i.acts.safe.memory i.makes.goes.geometry
+    (i.count honest w passed few failures enough)
+    (c.in_err-collect_block.ensures.count (i.acts.honest_is ∙ honest) (i.makes.truth honest w passed).truth worth.small))
 
 -- ---- what a stop leaves
 

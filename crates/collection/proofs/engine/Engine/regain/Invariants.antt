@@ -16,7 +16,9 @@ invariant-rounds g l = record {
   acts : EngineActs {A = Unit {0}} g.N.PageSource.flash g.N.PageSource.recorded g.N.PageSource.honest g.N.PageSource.calm g.N.PageSource.failed l.fn.self l.self (Ok tt);
   makes : MakesRoom g.N.PageSource.flash g.N.PageSource.honest g.N.PageSource.erases l.flushing l.fn.self l.self (Ok tt);
   unpinned : (9 ≤ free_count (ram l.self).blocks) ⊎ (l.self.pinned ≡ None);
-  count : g.N.PageSource.honest l.fn.self.nand ≡ true → IsTrue None (ram l.fn.self) (image_in g.N.PageSource.flash l.fn.self) → PinHasPassed (ram l.fn.self) (image_in g.N.PageSource.flash l.fn.self) → PinIsFew 0 (ram l.fn.self) → (failures : ℕ) → IsFunded l.fn.self.geometry.pages failures (counts_of (ram l.fn.self).blocks) → IsFundedOn failures (ram l.fn.self) (ram l.self);
+  count : g.N.PageSource.honest l.fn.self.nand ≡ true → IsTrue None (ram l.fn.self) (image_in g.N.PageSource.flash l.fn.self)
+      → PinHasPassed (ram l.fn.self) (image_in g.N.PageSource.flash l.fn.self) → PinIsFew 0 (ram l.fn.self) → (failures : ℕ)
+      → IsFunded l.fn.self.geometry.pages failures (counts_of (ram l.fn.self).blocks) → IsFundedOn failures (ram l.fn.self) (ram l.self);
   stops : g.N.PageSource.honest l.fn.self.nand ≡ true → IsTrue None (ram l.fn.self) (image_in g.N.PageSource.flash l.fn.self) → PinHasPassed (ram l.fn.self) (image_in g.N.PageSource.flash l.fn.self)
       → Stops g.N.PageSource.flash g.N.PageSource.recorded (IsLeftByStop (ram l.fn.self) (image_in g.N.PageSource.flash l.fn.self) (image_in g.N.PageSource.flash l.self)) l.fn.self l.self;
 }

@@ -76,7 +76,9 @@ follow_moved-requires-clause-key g c =
     subst (IsKeyOf c.copy_page.new.self.geometry) (sym c.key.ensures) (subst (λ x. IsKeyOf x (key_of c.in-Some.found)) (sym geometry) of_key)
 
 pub returns-in_err-follow_moved-clause-goes : goal.returns-in_err-follow_moved-clause-goes
-returns-in_err-follow_moved-clause-goes g c = goes_then (ram c.args.self.now) (ram c.copy_page.new.self) _ (goes_from (ram c.args.self.now) (ram c.due_record.new.self) (ram c.copy_page.new.self) c.due_record.ensures.looks.memory c.copy_page.ensures.goes) c.follow_moved.ensures.goes
+returns-in_err-follow_moved-clause-goes g c = goes_then (ram c.args.self.now) (ram c.copy_page.new.self) _
+    (goes_from (ram c.args.self.now) (ram c.due_record.new.self) (ram c.copy_page.new.self) c.due_record.ensures.looks.memory c.copy_page.ensures.goes)
+    c.follow_moved.ensures.goes
 
 pub returns-in_err-follow_moved-clause-cost : goal.returns-in_err-follow_moved-clause-cost
 returns-in_err-follow_moved-clause-cost g c =
@@ -105,10 +107,14 @@ pub returns-clause-goes : goal.returns-clause-goes
 returns-clause-goes g c = goes_then (ram c.args.self.now) (ram c.copy_page.new.self) _ (goes_from (ram c.args.self.now) (ram c.due_record.new.self) (ram c.copy_page.new.self) c.due_record.ensures.looks.memory c.copy_page.ensures.goes) c.follow_moved.ensures.goes
 
 pub returns-clause-cost : goal.returns-clause-cost
-returns-clause-cost g c = rescued_cost (key_of c.in-Some.found) c.key.result (ram c.args.self.now) (ram c.due_record.new.self) (ram c.copy_page.new.self) (ram c.follow_moved.new.self) c.requires.safe.memory c.due_record.ensures.looks.memory c.copy_page.ensures.goes.geometry c.in_ok-copy_page.ensures.cost c.in_ok-copy_page.ensures.settled c.key.ensures c.in_ok-follow_moved.ensures.cost c.in_ok-follow_moved.ensures.followed
+returns-clause-cost g c = rescued_cost (key_of c.in-Some.found) c.key.result (ram c.args.self.now) (ram c.due_record.new.self)
+    (ram c.copy_page.new.self) (ram c.follow_moved.new.self) c.requires.safe.memory c.due_record.ensures.looks.memory
+    c.copy_page.ensures.goes.geometry c.in_ok-copy_page.ensures.cost c.in_ok-copy_page.ensures.settled c.key.ensures c.in_ok-follow_moved.ensures.cost
+    c.in_ok-follow_moved.ensures.followed
 
 pub returns-clause-acts : goal.returns-clause-acts
-returns-clause-acts g c = acts_then _ _ _ _ _ (ap (λ r. r.geometry) c.due_record.ensures.looks.memory) (looked _ _ _ c.in_ok-due.ensures.looks) (acts_then _ _ _ _ _ c.copy_page.ensures.goes.geometry c.in_ok-copy_page.ensures.acts (acts_ok _ _ _ _ c.in_ok-follow_moved.ensures.acts))
+returns-clause-acts g c = acts_then _ _ _ _ _ (ap (λ r. r.geometry) c.due_record.ensures.looks.memory) (looked _ _ _ c.in_ok-due.ensures.looks)
+    (acts_then _ _ _ _ _ c.copy_page.ensures.goes.geometry c.in_ok-copy_page.ensures.acts (acts_ok _ _ _ _ c.in_ok-follow_moved.ensures.acts))
 
 pub returns-clause-truth : goal.returns-clause-truth
 returns-clause-truth g c = λ honest w room.
@@ -120,10 +126,17 @@ returns-clause-truth g c = λ honest w room.
     let now = c.due_record.ensures.looks.only_reads.honest_is ∙ honest in
     let finds = c.in_ok-due.ensures.truth honest w in
     let m = renewed_as a b _ _ c.args.row c.in-Some.found _ c.in_ok-due.due c.due_record.ensures.looks.memory still w finds c.in-Some.is (λ r i. IsRenewed (key_of c.in-Some.found) r i n y) (c.in_ok-copy_page.ensures.renews now) in
-    renewed_at a b _ _ c.args.row c.in-Some.found _ c.in_ok-due.due c.due_record.ensures.looks.memory still w finds c.in-Some.is n (ram c.follow_moved.new.self) y _ (goes_from a b n c.due_record.ensures.looks.memory c.copy_page.ensures.goes) (c.copy_page.ensures.keys.keys ∙ ap (λ r. keys_of r.mapping.cached) c.due_record.ensures.looks.memory) c.follow_moved.ensures.goes.geometry m (λ t. subst (λ k. IsFollowedBy k n y (ram c.follow_moved.new.self) (g.N.PageSource.flash c.follow_moved.new.self.nand).image) c.key.ensures (c.in_ok-follow_moved.ensures.truth (c.copy_page.ensures.acts.honest_is ∙ now) t))
+    renewed_at a b _ _ c.args.row c.in-Some.found _ c.in_ok-due.due c.due_record.ensures.looks.memory still w finds c.in-Some.is n
+    (ram c.follow_moved.new.self) y _ (goes_from a b n c.due_record.ensures.looks.memory c.copy_page.ensures.goes)
+    (c.copy_page.ensures.keys.keys ∙ ap (λ r. keys_of r.mapping.cached) c.due_record.ensures.looks.memory) c.follow_moved.ensures.goes.geometry m
+    (λ t. subst (λ k. IsFollowedBy k n y (ram c.follow_moved.new.self) (g.N.PageSource.flash c.follow_moved.new.self.nand).image) c.key.ensures
+    (c.in_ok-follow_moved.ensures.truth (c.copy_page.ensures.acts.honest_is ∙ now) t))
 
 pub returns-clause-beside : goal.returns-clause-beside
-returns-clause-beside g c = rescued_beside (key_of c.in-Some.found) c.key.result (ram c.args.self.now) (ram c.due_record.new.self) (ram c.copy_page.new.self) (ram c.follow_moved.new.self) c.due_record.ensures.looks.memory (returns-clause-goes g c) c.in_ok-copy_page.ensures.settled c.copy_page.ensures.keys (c.copy_page.ensures.pinned refl) c.key.ensures c.in_ok-follow_moved.ensures.followed c.follow_moved.ensures.keys c.follow_moved.ensures.pin
+returns-clause-beside g c = rescued_beside (key_of c.in-Some.found) c.key.result (ram c.args.self.now) (ram c.due_record.new.self)
+    (ram c.copy_page.new.self) (ram c.follow_moved.new.self) c.due_record.ensures.looks.memory (returns-clause-goes g c)
+    c.in_ok-copy_page.ensures.settled c.copy_page.ensures.keys (c.copy_page.ensures.pinned refl) c.key.ensures c.in_ok-follow_moved.ensures.followed
+    c.follow_moved.ensures.keys c.follow_moved.ensures.pin
 
 pub returns-clause-one_more : goal.returns-clause-one_more
 returns-clause-one_more g c = (let b = returns-clause-beside g c in omega (arith, b.fewer))

@@ -17,7 +17,9 @@ pub returns-clause-cost : goal.returns-clause-cost
 returns-clause-cost g c = settled_cost _ _ _ _ (key_from c.args.kind c.args.number) c.in_ok-row.row c.in_ok-row.ensures.cost c.settle.ensures.settles
 
 pub returns-clause-truth : goal.returns-clause-truth
-returns-clause-truth g c = λ honest may. replaced_by c.args.kind c.args.number c.in_ok-row.row _ _ _ _ _ _ _ (c.in_ok-row.ensures.truth honest may) (ap (λ n. (g.N.PageSource.flash n).image) c.settle.ensures.nand) c.put_page.ensures.acts.safe.memory c.requires.key c.put_page.ensures.goes.goes c.settle.ensures.settles
+returns-clause-truth g c = λ honest may. replaced_by c.args.kind c.args.number c.in_ok-row.row _ _ _ _ _ _ _ (c.in_ok-row.ensures.truth honest may)
+    (ap (λ n. (g.N.PageSource.flash n).image) c.settle.ensures.nand) c.put_page.ensures.acts.safe.memory c.requires.key c.put_page.ensures.goes.goes
+    c.settle.ensures.settles
 
 pub returns-clause-directory : goal.returns-clause-directory
 returns-clause-directory g c =
@@ -35,13 +37,18 @@ returns-in_err-row-clause-stops g c =
     let p = err_from_is_err_and c.from_residual.result c.from_residual.ensures.1 in
     rw (p.1, p.2) (λ honest may ne.
     let same = refused_same _ _ _ _ _ (fault_not_bus _ ne) (c.in_err-row.ensures.truth honest may) in
-    put_left (ram c.args.self.now) (ram c.put_page.new.self) _ _ _ _ (record { geometry = c.put_page.ensures.goes.goes.geometry; capacity = ap (λ m. m.capacity) c.put_page.ensures.goes.mapping }) c.requires.safe.memory c.put_page.ensures.acts.safe.memory may.truth same.truth (c.in_err-row.ensures.stops honest may (not_bus _ ne)))
+    put_left (ram c.args.self.now) (ram c.put_page.new.self) _ _ _ _
+    (record { geometry = c.put_page.ensures.goes.goes.geometry; capacity = ap (λ m. m.capacity) c.put_page.ensures.goes.mapping })
+    c.requires.safe.memory c.put_page.ensures.acts.safe.memory may.truth same.truth (c.in_err-row.ensures.stops honest may (not_bus _ ne)))
 
 pub returns-clause-stops : goal.returns-clause-stops
 returns-clause-stops g c = λ honest may ne.
     let now = returns-clause-truth g c honest may in
     let old = c.args.self.now in
-    let stops = subst (λ n. LeavesOnly (g.N.PageSource.flash old.nand) (g.N.PageSource.flash n) (g.N.PageSource.recorded old.nand) (g.N.PageSource.recorded n) (IsKeptOr old.geometry (g.N.PageSource.flash old.nand).image (g.N.PageSource.flash n).image)) (sym c.settle.ensures.nand) (c.in_ok-row.ensures.stops honest may (ok_not_bus _)) in
+    let stops = subst
+    (λ n. LeavesOnly (g.N.PageSource.flash old.nand) (g.N.PageSource.flash n) (g.N.PageSource.recorded old.nand) (g.N.PageSource.recorded n)
+    (IsKeptOr old.geometry (g.N.PageSource.flash old.nand).image (g.N.PageSource.flash n).image)) (sym c.settle.ensures.nand)
+    (c.in_ok-row.ensures.stops honest may (ok_not_bus _)) in
     put_left (ram old) (ram c.settle.new.self) _ _ _ _ (record {
       geometry = c.settle.ensures.settles.geometry ∙ c.put_page.ensures.goes.goes.geometry;
       capacity = sets_capacity (key_from c.args.kind c.args.number) c.in_ok-row.row _ _ c.settle.ensures.settles.mapping ∙ ap (λ m. m.capacity) c.put_page.ensures.goes.mapping;

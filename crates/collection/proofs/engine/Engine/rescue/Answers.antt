@@ -75,7 +75,9 @@ follow_moved-requires-clause-key g c =
     subst (IsKeyOf c.copy_page.new.self.geometry) (sym c.key.ensures) (subst (λ x. IsKeyOf x (key_of c.in-Some.found)) (sym geometry) of_key)
 
 pub returns-in_err-follow_moved-clause-goes : goal.returns-in_err-follow_moved-clause-goes
-returns-in_err-follow_moved-clause-goes g c = goes_then (ram c.args.self.now) (ram c.copy_page.new.self) _ (goes_from (ram c.args.self.now) (ram c.first_ailing.new.self) (ram c.copy_page.new.self) c.first_ailing.ensures.looks.memory c.copy_page.ensures.goes) c.follow_moved.ensures.goes
+returns-in_err-follow_moved-clause-goes g c = goes_then (ram c.args.self.now) (ram c.copy_page.new.self) _
+    (goes_from (ram c.args.self.now) (ram c.first_ailing.new.self) (ram c.copy_page.new.self) c.first_ailing.ensures.looks.memory
+    c.copy_page.ensures.goes) c.follow_moved.ensures.goes
 
 pub returns-in_err-follow_moved-clause-cost : goal.returns-in_err-follow_moved-clause-cost
 returns-in_err-follow_moved-clause-cost g c =
@@ -85,7 +87,9 @@ returns-in_err-follow_moved-clause-cost g c =
 pub returns-in_err-follow_moved-clause-acts : goal.returns-in_err-follow_moved-clause-acts
 returns-in_err-follow_moved-clause-acts g c =
     let p = err_from_is_err_and c.from_residual-in_err-follow_moved.result c.from_residual-in_err-follow_moved.ensures.1 in
-    rw (p.1, p.2) (acts_then _ _ _ _ _ (ap (λ r. r.geometry) c.first_ailing.ensures.looks.memory) (looked _ _ _ c.in_ok-ailing.ensures.looks) (acts_then _ _ _ _ _ c.copy_page.ensures.goes.geometry c.in_ok-copy_page.ensures.acts (acts_err _ _ _ c.in_err-follow_moved.ensures.acts)))
+    rw (p.1, p.2)
+    (acts_then _ _ _ _ _ (ap (λ r. r.geometry) c.first_ailing.ensures.looks.memory) (looked _ _ _ c.in_ok-ailing.ensures.looks)
+    (acts_then _ _ _ _ _ c.copy_page.ensures.goes.geometry c.in_ok-copy_page.ensures.acts (acts_err _ _ _ c.in_err-follow_moved.ensures.acts)))
 
 pub returns-in_err-follow_moved-clause-truth : goal.returns-in_err-follow_moved-clause-truth
 returns-in_err-follow_moved-clause-truth g c =
@@ -97,17 +101,22 @@ returns-in_err-follow_moved-clause-truth g c =
     let y = (g.N.PageSource.flash c.copy_page.new.self.nand).image in
     let still = ap (λ f. f.image) (c.in_ok-ailing.ensures.looks.same honest (ok_not_bus _)) in
     let now = c.first_ailing.ensures.looks.only_reads.honest_is ∙ honest in
-    let m = copied_as a b _ _ c.in-Some.row c.in-Some.found _ c.in_ok-ailing.ailing c.requires.safe.memory c.first_ailing.ensures.looks.memory still w (c.in_ok-ailing.ensures.truth honest w) c.in-Some.is (λ r i. IsMovedOut c.in-Some.row r i n y) (c.in_ok-copy_page.ensures.truth now) in
+    let m = copied_as a b _ _ c.in-Some.row c.in-Some.found _ c.in_ok-ailing.ailing c.requires.safe.memory c.first_ailing.ensures.looks.memory still w
+    (c.in_ok-ailing.ensures.truth honest w) c.in-Some.is (λ r i. IsMovedOut c.in-Some.row r i n y) (c.in_ok-copy_page.ensures.truth now) in
     refused_then a n (ram c.follow_moved.new.self) _ y _ (goes_from a b n c.first_ailing.ensures.looks.memory c.copy_page.ensures.goes) c.follow_moved.ensures.goes.geometry _ m.same (c.in_err-follow_moved.ensures.truth (c.copy_page.ensures.acts.honest_is ∙ now) m.same.truth))
 
 pub returns-clause-goes : goal.returns-clause-goes
 returns-clause-goes g c = goes_then (ram c.args.self.now) (ram c.copy_page.new.self) _ (goes_from (ram c.args.self.now) (ram c.first_ailing.new.self) (ram c.copy_page.new.self) c.first_ailing.ensures.looks.memory c.copy_page.ensures.goes) c.follow_moved.ensures.goes
 
 pub returns-clause-cost : goal.returns-clause-cost
-returns-clause-cost g c = rescued_cost (key_of c.in-Some.found) c.key.result (ram c.args.self.now) (ram c.first_ailing.new.self) (ram c.copy_page.new.self) (ram c.follow_moved.new.self) c.requires.safe.memory c.first_ailing.ensures.looks.memory c.copy_page.ensures.goes.geometry c.in_ok-copy_page.ensures.cost c.in_ok-copy_page.ensures.settled c.key.ensures c.in_ok-follow_moved.ensures.cost c.in_ok-follow_moved.ensures.followed
+returns-clause-cost g c = rescued_cost (key_of c.in-Some.found) c.key.result (ram c.args.self.now) (ram c.first_ailing.new.self)
+    (ram c.copy_page.new.self) (ram c.follow_moved.new.self) c.requires.safe.memory c.first_ailing.ensures.looks.memory
+    c.copy_page.ensures.goes.geometry c.in_ok-copy_page.ensures.cost c.in_ok-copy_page.ensures.settled c.key.ensures c.in_ok-follow_moved.ensures.cost
+    c.in_ok-follow_moved.ensures.followed
 
 pub returns-clause-acts : goal.returns-clause-acts
-returns-clause-acts g c = acts_then _ _ _ _ _ (ap (λ r. r.geometry) c.first_ailing.ensures.looks.memory) (looked _ _ _ c.in_ok-ailing.ensures.looks) (acts_then _ _ _ _ _ c.copy_page.ensures.goes.geometry c.in_ok-copy_page.ensures.acts (acts_ok _ _ _ _ c.in_ok-follow_moved.ensures.acts))
+returns-clause-acts g c = acts_then _ _ _ _ _ (ap (λ r. r.geometry) c.first_ailing.ensures.looks.memory) (looked _ _ _ c.in_ok-ailing.ensures.looks)
+    (acts_then _ _ _ _ _ c.copy_page.ensures.goes.geometry c.in_ok-copy_page.ensures.acts (acts_ok _ _ _ _ c.in_ok-follow_moved.ensures.acts))
 
 pub returns-clause-truth : goal.returns-clause-truth
 returns-clause-truth g c = λ honest w room.
@@ -119,10 +128,19 @@ returns-clause-truth g c = λ honest w room.
     let now = c.first_ailing.ensures.looks.only_reads.honest_is ∙ honest in
     let finds = c.in_ok-ailing.ensures.truth honest w in
     let m = copied_as a b _ _ c.in-Some.row c.in-Some.found _ c.in_ok-ailing.ailing c.requires.safe.memory c.first_ailing.ensures.looks.memory still w finds c.in-Some.is (λ r i. IsMovedOut c.in-Some.row r i n y) (c.in_ok-copy_page.ensures.truth now) in
-    rescued a b _ _ c.in-Some.row c.in-Some.found _ c.in_ok-ailing.ailing c.requires.safe.memory c.first_ailing.ensures.looks.memory still w finds c.in-Some.is n (ram c.follow_moved.new.self) y _ c.copy_page.ensures.acts.safe.memory c.follow_moved.ensures.acts.safe.memory (goes_from a b n c.first_ailing.ensures.looks.memory c.copy_page.ensures.goes) (c.copy_page.ensures.keys.keys ∙ ap (λ r. keys_of r.mapping.cached) c.first_ailing.ensures.looks.memory) c.follow_moved.ensures.goes.geometry m (λ t. subst (λ k. IsFollowedBy k n y (ram c.follow_moved.new.self) (g.N.PageSource.flash c.follow_moved.new.self.nand).image) c.key.ensures (c.in_ok-follow_moved.ensures.truth (c.copy_page.ensures.acts.honest_is ∙ now) t))
+    rescued a b _ _ c.in-Some.row c.in-Some.found _ c.in_ok-ailing.ailing c.requires.safe.memory c.first_ailing.ensures.looks.memory still w finds
+    c.in-Some.is n (ram c.follow_moved.new.self) y _ c.copy_page.ensures.acts.safe.memory c.follow_moved.ensures.acts.safe.memory
+    (goes_from a b n c.first_ailing.ensures.looks.memory c.copy_page.ensures.goes)
+    (c.copy_page.ensures.keys.keys ∙ ap (λ r. keys_of r.mapping.cached) c.first_ailing.ensures.looks.memory) c.follow_moved.ensures.goes.geometry
+    m
+    (λ t. subst (λ k. IsFollowedBy k n y (ram c.follow_moved.new.self) (g.N.PageSource.flash c.follow_moved.new.self.nand).image) c.key.ensures
+    (c.in_ok-follow_moved.ensures.truth (c.copy_page.ensures.acts.honest_is ∙ now) t))
 
 pub returns-clause-beside : goal.returns-clause-beside
-returns-clause-beside g c = rescued_beside (key_of c.in-Some.found) c.key.result (ram c.args.self.now) (ram c.first_ailing.new.self) (ram c.copy_page.new.self) (ram c.follow_moved.new.self) c.first_ailing.ensures.looks.memory (returns-clause-goes g c) c.in_ok-copy_page.ensures.settled c.copy_page.ensures.keys (c.copy_page.ensures.pinned refl) c.key.ensures c.in_ok-follow_moved.ensures.followed c.follow_moved.ensures.keys c.follow_moved.ensures.pin
+returns-clause-beside g c = rescued_beside (key_of c.in-Some.found) c.key.result (ram c.args.self.now) (ram c.first_ailing.new.self)
+    (ram c.copy_page.new.self) (ram c.follow_moved.new.self) c.first_ailing.ensures.looks.memory (returns-clause-goes g c)
+    c.in_ok-copy_page.ensures.settled c.copy_page.ensures.keys (c.copy_page.ensures.pinned refl) c.key.ensures c.in_ok-follow_moved.ensures.followed
+    c.follow_moved.ensures.keys c.follow_moved.ensures.pin
 
 pub returns-clause-one_more : goal.returns-clause-one_more
 returns-clause-one_more g c = (let b = returns-clause-beside g c in omega (arith, b.fewer))

@@ -11,7 +11,12 @@ pub returns-clause-stands : goal.returns-clause-stands
 returns-clause-stands g c = rw (c.noted.ensures.same, c.noted.ensures.noted) (acts_noted _ _ _ (not_standing _ _ c.in_ok-standing.ensures) c.advance-answer.ensures.acts)
 
 pub returns-clause-advances : goal.returns-clause-advances
-returns-clause-advances g c = λ none. rw (c.noted.ensures.same, c.noted.ensures.noted) (of_pinned (λ q. Advances g.N.PageSource.flash g.N.PageSource.honest g.N.PageSource.reads g.N.PageSource.erases c.args.flushing q c.args.self.now _ c.advance-answer.result) c.args.self.now.pinned c.unwrap-pinned.result c.unwrap-pinned.ensures (advances_noted c.args.flushing c.unwrap-pinned.result c.args.self.now c.advance-answer.new.self c.advance-answer.result c.advance-answer.ensures.advances))
+returns-clause-advances g c = λ none. rw (c.noted.ensures.same, c.noted.ensures.noted)
+    (of_pinned
+    (λ q. Advances g.N.PageSource.flash g.N.PageSource.honest g.N.PageSource.reads g.N.PageSource.erases c.args.flushing q c.args.self.now _
+    c.advance-answer.result) c.args.self.now.pinned c.unwrap-pinned.result c.unwrap-pinned.ensures
+    (advances_noted c.args.flushing c.unwrap-pinned.result c.args.self.now c.advance-answer.new.self c.advance-answer.result
+    c.advance-answer.ensures.advances))
 
 -- ---- what a stop leaves
 

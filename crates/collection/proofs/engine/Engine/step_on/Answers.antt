@@ -14,7 +14,9 @@ returns-clause-refreshes g c = λ on. refreshes_pinned (ram c.args.self.now) (ra
 pub returns-clause-half_done : goal.returns-clause-half_done
 returns-clause-half_done g c = λ q is.
     let next = c.next_pin-next.ensures ∙ ap (λ n. pin_after c.args.pinned.block n c.in_ok-progress.progress) (c.pages.ensures ∙ ap (λ k. k.pages) c.collect_step.ensures.goes.geometry) in
-    let half = half_on c.args.flushing (ram c.args.self.now) (ram c.collect_step.new.self) c.args.pinned c.in_ok-progress.progress c.requires.half_done (λ ne. c.in_ok-progress.ensures.goes_still (λ same. ne (let s : c.in_ok-progress.progress ≡ step.Erased = cc in s))) c.in_ok-progress.ensures.cost in
+    let half = half_on c.args.flushing (ram c.args.self.now) (ram c.collect_step.new.self) c.args.pinned c.in_ok-progress.progress
+    c.requires.half_done (λ ne. c.in_ok-progress.ensures.goes_still (λ same. ne (let s : c.in_ok-progress.progress ≡ step.Erased = cc in s)))
+    c.in_ok-progress.ensures.cost in
     half_pinned (ram c.args.self.now) (ram c.collect_step.new.self) c.next_pin-next.result q (half q (sym next ∙ is))
 
 -- ---- what a stop leaves

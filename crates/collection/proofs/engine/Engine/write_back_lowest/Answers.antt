@@ -14,20 +14,34 @@ pub returns-in_err-write_page_back-clause-owed : goal.returns-in_err-write_page_
 returns-in_err-write_page_back-clause-owed g c = λ is. due_positive c.args.flushing (ram c.args.self.now) c.in-Some.t (due_some c.args.flushing (ram c.args.self.now) c.lowest_due-due.result c.in-Some.t c.lowest_due-due.ensures c.in-Some.is)
 
 pub returns-in_err-write_page_back-clause-reads : goal.returns-in_err-write_page_back-clause-reads
-returns-in_err-write_page_back-clause-reads g c = (let some = due_positive c.args.flushing (ram c.args.self.now) c.in-Some.t (due_some c.args.flushing (ram c.args.self.now) c.lowest_due-due.result c.in-Some.t c.lowest_due-due.ensures c.in-Some.is) in omega (arith, some, c.write_page_back.ensures.reads))
+returns-in_err-write_page_back-clause-reads g c =
+    (let some = due_positive c.args.flushing (ram c.args.self.now) c.in-Some.t
+    (due_some c.args.flushing (ram c.args.self.now) c.lowest_due-due.result c.in-Some.t c.lowest_due-due.ensures c.in-Some.is) in omega
+    (arith, some, c.write_page_back.ensures.reads))
 
 pub returns-clause-reads : goal.returns-clause-reads
-returns-clause-reads g c = (let some = due_positive c.args.flushing (ram c.args.self.now) c.in-Some.t (due_some c.args.flushing (ram c.args.self.now) c.lowest_due-due.result c.in-Some.t c.lowest_due-due.ensures c.in-Some.is) in omega (arith, some, c.write_page_back.ensures.reads))
+returns-clause-reads g c =
+    (let some = due_positive c.args.flushing (ram c.args.self.now) c.in-Some.t
+    (due_some c.args.flushing (ram c.args.self.now) c.lowest_due-due.result c.in-Some.t c.lowest_due-due.ensures c.in-Some.is) in omega
+    (arith, some, c.write_page_back.ensures.reads))
 
 pub returns-clause-refreshes : goal.returns-clause-refreshes
 returns-clause-refreshes g c = λ on.
     let low = due_some c.args.flushing (ram c.args.self.now) c.lowest_due-due.result c.in-Some.t c.lowest_due-due.ensures c.in-Some.is in
-    written_refreshes c.in-Some.t (ram c.args.self.now) _ c.requires.safe.memory low.within (record { geometry = c.write_page_back.ensures.goes.geometry; mapping = c.in_ok-write_page_back.ensures.cleaned; marks = c.set_mark.ensures ∙ ap (λ p. set p.marks c.in-Some.t false) c.write_page_back.ensures.pin }) c.in_ok-write_page_back.ensures.cleans
+    written_refreshes c.in-Some.t (ram c.args.self.now) _ c.requires.safe.memory low.within
+    (record {
+      geometry = c.write_page_back.ensures.goes.geometry;
+      mapping = c.in_ok-write_page_back.ensures.cleaned;
+      marks = c.set_mark.ensures
+          ∙ ap (λ p. set p.marks c.in-Some.t false) c.write_page_back.ensures.pin;
+    }) c.in_ok-write_page_back.ensures.cleans
 
 pub returns-clause-cost : goal.returns-clause-cost
 returns-clause-cost g c = λ on.
     let low = due_some c.args.flushing (ram c.args.self.now) c.lowest_due-due.result c.in-Some.t c.lowest_due-due.ensures c.in-Some.is in
-    written_cost c.args.flushing c.in-Some.t (ram c.args.self.now) (ram c.write_page_back.new.self) _ c.requires.safe.memory low c.in_ok-write_page_back.ensures.cost c.write_page_back.ensures.no_more c.write_page_back.ensures.goes.geometry c.in_ok-write_page_back.ensures.cleaned (c.set_mark.ensures ∙ ap (λ p. set p.marks c.in-Some.t false) c.write_page_back.ensures.pin)
+    written_cost c.args.flushing c.in-Some.t (ram c.args.self.now) (ram c.write_page_back.new.self) _ c.requires.safe.memory low
+    c.in_ok-write_page_back.ensures.cost c.write_page_back.ensures.no_more c.write_page_back.ensures.goes.geometry
+    c.in_ok-write_page_back.ensures.cleaned (c.set_mark.ensures ∙ ap (λ p. set p.marks c.in-Some.t false) c.write_page_back.ensures.pin)
 
 pub returns-clause-truth : goal.returns-clause-truth
 returns-clause-truth g c = λ honest w. same_pinned (ram c.args.self.now) (ram c.write_page_back.new.self) _ _ _ (c.in_ok-write_page_back.ensures.truth honest w).same

@@ -26,7 +26,9 @@ pub returns-clause-cleaned : goal.returns-clause-cleaned
 returns-clause-cleaned g c = c.clean.ensures.cleaned ∙ ap (λ m. cleaned m c.args.t) (c.in_ok-replace.ensures.mapping ∙ ap (λ r. r.mapping) c.fill_translation.ensures.looks.memory)
 
 pub returns-clause-cleans : goal.returns-clause-cleans
-returns-clause-cleans g c = cleans_by c.args.self.now.mapping c.replace.new.self.mapping c.clean.new.self c.args.t (c.in_ok-replace.ensures.mapping ∙ ap (λ r. r.mapping) c.fill_translation.ensures.looks.memory) (record { clean = c.clean.ensures.clean; others = c.clean.ensures.others_pending; knows = λ n row is. c.clean.ensures.same_known n row is })
+returns-clause-cleans g c = cleans_by c.args.self.now.mapping c.replace.new.self.mapping c.clean.new.self c.args.t
+    (c.in_ok-replace.ensures.mapping ∙ ap (λ r. r.mapping) c.fill_translation.ensures.looks.memory)
+    (record { clean = c.clean.ensures.clean; others = c.clean.ensures.others_pending; knows = λ n row is. c.clean.ensures.same_known n row is })
 
 pub returns-clause-cost : goal.returns-clause-cost
 returns-clause-cost g c = cleaned_cost (ram c.args.self.now) (ram c.fill_translation.new.self) (ram c.replace.new.self) c.clean.new.self c.fill_translation.ensures.looks.memory c.in_ok-replace.ensures.cost
@@ -40,14 +42,23 @@ returns-clause-truth g c = λ honest w.
     let filled = c.in_ok-fill_translation.ensures.truth honest w newest_is in
     let still = ap (λ f. f.image) (c.in_ok-fill_translation.ensures.looks.same honest (ok_not_bus _)) in
     let may = may_write_back r r1 _ _ c.args.t c.row_of-row.result _ w c.fill_translation.ensures.looks.memory still filled newest_is in
-    written_back_by r r1 r2 c.clean.new.self _ _ _ c.args.t c.in_ok-replace.field-0 _ c.fill_translation.ensures.looks.memory still filled (c.in_ok-replace.ensures.truth (c.fill_translation.ensures.looks.only_reads.honest_is ∙ honest) may) c.replace.ensures.goes.geometry c.replace.ensures.acts.safe.memory.mapping_of (record { clean = c.clean.ensures.clean; others = c.clean.ensures.others_pending; knows = λ n row is. c.clean.ensures.same_known n row is }) c.in_ok-replace.ensures.row
+    written_back_by r r1 r2 c.clean.new.self _ _ _ c.args.t c.in_ok-replace.field-0 _ c.fill_translation.ensures.looks.memory still filled
+    (c.in_ok-replace.ensures.truth (c.fill_translation.ensures.looks.only_reads.honest_is ∙ honest) may) c.replace.ensures.goes.geometry
+    c.replace.ensures.acts.safe.memory.mapping_of
+    (record { clean = c.clean.ensures.clean; others = c.clean.ensures.others_pending; knows = λ n row is. c.clean.ensures.same_known n row is })
+    c.in_ok-replace.ensures.row
 
 -- ---- what a stop leaves
 
 pub returns-in_err-fill_translation-clause-stops : goal.returns-in_err-fill_translation-clause-stops
 returns-in_err-fill_translation-clause-stops g c =
     let p = err_from_is_err_and c.from_residual.result c.from_residual.ensures.1 in
-    rw (p.1, p.2) (λ honest w ne. absurd (fault_not_bus _ ne (c.in_err-fill_translation.ensures.truth honest w (directory_row c.args.self.now.geometry _ c.args.self.now.directory c.args.self.now.mapping c.args.t c.row_of-row.result w.maps c.requires.page c.row_of-row.ensures.value))))
+    rw (p.1, p.2)
+    (λ honest w ne. absurd
+    (fault_not_bus _ ne
+    (c.in_err-fill_translation.ensures.truth honest w
+    (directory_row c.args.self.now.geometry _ c.args.self.now.directory c.args.self.now.mapping c.args.t c.row_of-row.result w.maps
+    c.requires.page c.row_of-row.ensures.value))))
 
 pub returns-in_err-replace-clause-stops : goal.returns-in_err-replace-clause-stops
 returns-in_err-replace-clause-stops g c =

@@ -8,7 +8,15 @@ pub returns-in-Ok-None-clause-undamaged : goal.returns-in-Ok-None-clause-undamag
 returns-in-Ok-None-clause-undamaged g c = λ honest is. absurd (not_unsound _ c.args.key c.args.row (page c.read_sound.new.body c.read_sound.new.spare) is (c.in-Ok-None.ensures.page honest) (sym c.in-Ok-None.ensures.record ∙ c.in-Ok-None.field-0-is))
 
 pub returns-in-Ok-Some-clause-undamaged : goal.returns-in-Ok-Some-clause-undamaged
-returns-in-Ok-Some-clause-undamaged g c = λ honest is. absurd (not_other _ c.args.key c.args.row (page c.read_sound.new.body c.read_sound.new.spare) c.in-Ok-Some.found is (c.in-Ok-Some.ensures.page honest) (sym c.in-Ok-Some.ensures.record ∙ c.in-Ok-Some.field-0-is) (ap is_some (sym c.sequence_of.ensures) ∙ c.if-is_none.ensures))
+returns-in-Ok-Some-clause-undamaged g c = λ honest is. absurd
+    (not_other _ c.args.key c.args.row (page c.read_sound.new.body c.read_sound.new.spare) c.in-Ok-Some.found is (c.in-Ok-Some.ensures.page honest)
+    (sym c.in-Ok-Some.ensures.record ∙ c.in-Ok-Some.field-0-is) (ap is_some (sym c.sequence_of.ensures) ∙ c.if-is_none.ensures))
 
 pub returns-in-Ok-Some-2-clause-checked : goal.returns-in-Ok-Some-2-clause-checked
-returns-in-Ok-Some-2-clause-checked g c = rw (with_items_is c.args.buffer.now.body c.read_sound.new.body (c.read_sound.auto.body ∙ c.deref_mut.ensures.len), with_items_is c.args.buffer.now.spare c.read_sound.new.spare (c.read_sound.auto.spare ∙ c.deref_mut-2.ensures.len)) (page_of c.args.key (page c.read_sound.new.body c.read_sound.new.spare) c.in-Ok-Some.found (sym c.in-Ok-Some.ensures.record ∙ c.in-Ok-Some.field-0-is) (ap is_some (sym c.sequence_of.ensures) ∙ c.if-is_none.ensures))
+returns-in-Ok-Some-2-clause-checked g c = rw (
+  with_items_is c.args.buffer.now.body c.read_sound.new.body (c.read_sound.auto.body ∙ c.deref_mut.ensures.len),
+  with_items_is
+      c.args.buffer.now.spare c.read_sound.new.spare (c.read_sound.auto.spare ∙ c.deref_mut-2.ensures.len),
+)
+    (page_of c.args.key (page c.read_sound.new.body c.read_sound.new.spare) c.in-Ok-Some.found
+    (sym c.in-Ok-Some.ensures.record ∙ c.in-Ok-Some.field-0-is) (ap is_some (sym c.sequence_of.ensures) ∙ c.if-is_none.ensures))

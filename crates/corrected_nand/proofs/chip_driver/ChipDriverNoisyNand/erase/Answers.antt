@@ -45,4 +45,8 @@ returns-clause-whole g c =
 
 pub returns-clause-recorded : goal.returns-clause-recorded
 returns-clause-recorded g c =
-    rw (← c.self.view_is) (gains (g.B.ChipBus.keeps c.self.inside.driver.bus) c.erase-answer.result (λ outcome. Erase c.args.block (is_passed outcome) (block_at (seen c.self.inside.geometry (g.B.ChipBus.chip c.erase-answer.new.self.bus)) c.args.block)) c.self.inside.history.told c.of-self-inside.result.told c.of-self-inside.ensures)
+    rw (← c.self.view_is)
+    (gains (g.B.ChipBus.keeps c.self.inside.driver.bus) c.erase-answer.result
+    (λ outcome. Erase c.args.block (is_passed outcome)
+    (block_at (seen c.self.inside.geometry (g.B.ChipBus.chip c.erase-answer.new.self.bus)) c.args.block)) c.self.inside.history.told
+    c.of-self-inside.result.told c.of-self-inside.ensures)

@@ -45,4 +45,8 @@ returns-clause-whole g c =
 
 pub returns-clause-recorded : goal.returns-clause-recorded
 returns-clause-recorded g c =
-    rw (← c.self.view_is) (gains (g.B.ChipBus.keeps c.self.inside.driver.bus) c.program-answer.result (λ outcome. Program c.args.row (page c.args.body.now (take c.self.inside.geometry.spare_bytes c.args.outer.now)) (is_passed outcome) (page_at (g.B.ChipBus.chip c.program-answer.new.self.bus) c.args.row)) c.self.inside.history.told c.of-self-inside.result.told c.of-self-inside.ensures)
+    rw (← c.self.view_is)
+    (gains (g.B.ChipBus.keeps c.self.inside.driver.bus) c.program-answer.result
+    (λ outcome. Program c.args.row (page c.args.body.now (take c.self.inside.geometry.spare_bytes c.args.outer.now)) (is_passed outcome)
+    (page_at (g.B.ChipBus.chip c.program-answer.new.self.bus) c.args.row)) c.self.inside.history.told c.of-self-inside.result.told
+    c.of-self-inside.ensures)

@@ -39,7 +39,9 @@ returns g c =
     let passes = change.ensures.passed ∙ ap (λ b. b && not false) (sym change.ensures.legal) in
     elim c.if-change.branch [
       | then-change+in_ok-put w ↦ program_done held honest g.S.Store.failed d w.put.new.self c.end.new.self row block _ (turn_of c.turn-turn.result) (turn_of c.programmed.result) change.result.legal change.result.passed
-          fit c.requires.in_range is_block due w.if-change.true passes c.turn-turn.ensures.turn c.programmed.ensures w.in_ok-put.ensures.others (c.end.ensures ∙ ap (ended block (turn_of c.programmed.result) change.result.legal change.result.passed) w.self-is) w.in_ok-put.ensures.asks w.in_ok-put.ensures.programs
+          fit c.requires.in_range is_block due w.if-change.true passes c.turn-turn.ensures.turn c.programmed.ensures w.in_ok-put.ensures.others
+          (c.end.ensures ∙ ap (ended block (turn_of c.programmed.result) change.result.legal change.result.passed) w.self-is)
+          w.in_ok-put.ensures.asks w.in_ok-put.ensures.programs
       | else-change w ↦ program_refused held honest g.S.Store.failed d c.end.new.self row block _ (turn_of c.turn-turn.result) (turn_of c.programmed.result) change.result.legal change.result.passed
           fit c.requires.in_range is_block due w.if-change.false passes c.turn-turn.ensures.turn c.programmed.ensures (c.end.ensures ∙ ap (ended block (turn_of c.programmed.result) change.result.legal change.result.passed) w.self-is)
     ]

@@ -44,7 +44,9 @@ returns-clause-kept g c reads =
     let at_is = (rw (← c.self.view_is) at c.offset-start.ensures) ∙ ap (λ n. n * i.size) (c.row.ensures.is ∙ zero_at) in
     let blank = c.deref.ensures.value ∙ c.self.invariant.blank in
     let l = block_within_rows i.geometry i.size c.args.block c.offset-start.result c.deref.result.now (rw (← c.self.view_is) at c.requires.in_range) at_is blank in
-    rw (← c.self.view_is) (kept_settled g.F.ByteFile.held g.F.ByteFile.honest g.F.ByteFile.tells _ c.settle.new.self c.write_all-answer.new.file c.settle.ensures.file c.write_all-answer.ensures.honest c.write_all-answer.ensures.tells c.settle.ensures.size c.settle.ensures.sync_failed
+    rw (← c.self.view_is)
+    (kept_settled g.F.ByteFile.held g.F.ByteFile.honest g.F.ByteFile.tells _ c.settle.new.self c.write_all-answer.new.file c.settle.ensures.file
+    c.write_all-answer.ensures.honest c.write_all-answer.ensures.tells c.settle.ensures.size c.settle.ensures.sync_failed
     (λ h. (c.write_all-answer.ensures.writes h (omega (arith, l, c.self.invariant.whole h))).syncs) reads)
 
 pub returns-clause-full : goal.returns-clause-full

@@ -23,13 +23,17 @@ returns-clause-loads g c reads e =
     let room : length c.args.to.now ≡ i.size = rw (← c.self.view_is) at c.requires.room in
     let long : length given ≡ i.size = c.read_all-answer.auto.to ∙ room in
     let filled : done ≡ true → (k : ℕ) → k < i.size → slice_get given k ≡ slice_get s.bytes (c.offset-start.result + k) = λ d k lt. c.read_all-answer.ensures.reads d kept.0 k (subst (λ n. k < n) (sym room) lt) in
-    let all = loads reads i.geometry i.size c.args.row c.offset-start.result given done s (held c.read_all-answer.new.file) (rw (← c.self.view_is) at c.requires.in_range) (rw (← c.self.view_is) at c.offset-start.ensures) (c.self.invariant.whole kept.0) long filled (c.read_all-answer.ensures.same kept.0) in
+    let all = loads reads i.geometry i.size c.args.row c.offset-start.result given done s (held c.read_all-answer.new.file)
+    (rw (← c.self.view_is) at c.requires.in_range) (rw (← c.self.view_is) at c.offset-start.ensures) (c.self.invariant.whole kept.0) long filled
+    (c.read_all-answer.ensures.same kept.0) in
     let settled = subst (λ (h : Held). Loads (rows_held reads i.geometry i.size s) c.args.row (reads given) done h) (held_is held reads c.settle.new.self c.read_all-answer.new.file i.geometry i.size c.settle.ensures.file c.settle.ensures.geometry c.settle.ensures.size) all in
     rw (← c.self.view_is) (subst (λ (d : Bool). Loads (rows_held reads i.geometry i.size s) c.args.row (reads given) d (held_in held reads c.settle.new.self)) (sym c.settle.ensures.answer) settled)
 
 pub returns-clause-kept : goal.returns-clause-kept
 returns-clause-kept g c reads =
-    rw (← c.self.view_is) (kept_settled g.F.ByteFile.held g.F.ByteFile.honest g.F.ByteFile.tells _ c.settle.new.self c.read_all-answer.new.file c.settle.ensures.file c.read_all-answer.ensures.honest c.read_all-answer.ensures.tells c.settle.ensures.size c.settle.ensures.sync_failed
+    rw (← c.self.view_is)
+    (kept_settled g.F.ByteFile.held g.F.ByteFile.honest g.F.ByteFile.tells _ c.settle.new.self c.read_all-answer.new.file c.settle.ensures.file
+    c.read_all-answer.ensures.honest c.read_all-answer.ensures.tells c.settle.ensures.size c.settle.ensures.sync_failed
     (λ h. ap (λ (s : Bytes). s.failed_syncs) (c.read_all-answer.ensures.same h)) reads)
 
 pub returns-clause-gave : goal.returns-clause-gave

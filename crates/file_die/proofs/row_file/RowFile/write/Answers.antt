@@ -38,7 +38,9 @@ pub returns-clause-kept : goal.returns-clause-kept
 returns-clause-kept g c reads =
     let i = c.self.inside in
     let l = row_within c.args.row _ i.size c.offset-start.result c.args.bytes.now (rw (← c.self.view_is) at c.requires.in_range) (rw (← c.self.view_is) at c.offset-start.ensures) (rw (← c.self.view_is) at c.requires.whole) in
-    rw (← c.self.view_is) (kept_settled g.F.ByteFile.held g.F.ByteFile.honest g.F.ByteFile.tells _ c.settle.new.self c.write_all-answer.new.file c.settle.ensures.file c.write_all-answer.ensures.honest c.write_all-answer.ensures.tells c.settle.ensures.size c.settle.ensures.sync_failed
+    rw (← c.self.view_is)
+    (kept_settled g.F.ByteFile.held g.F.ByteFile.honest g.F.ByteFile.tells _ c.settle.new.self c.write_all-answer.new.file c.settle.ensures.file
+    c.write_all-answer.ensures.honest c.write_all-answer.ensures.tells c.settle.ensures.size c.settle.ensures.sync_failed
     (λ h. (c.write_all-answer.ensures.writes h (omega (arith, l, c.self.invariant.whole h))).syncs) reads)
 
 pub returns-clause-written : goal.returns-clause-written

@@ -28,7 +28,10 @@ returns-then-spare_bytes-lt-SPARE_FOR_VERSION_2-clause-upkeeps g c =
     let may = c.in_ok-may_flush.ensures.may in
     let five = five_free (ram d.engine) d.read_only c.requires.device.read_only may.writable in
     upkept_by g.N.PageSource.flash g.N.PageSource.recorded g.N.PageSource.honest g.N.PageSource.calm g.N.PageSource.failed step.Turn d d c.requires.device c.requires.device may (λ reply s h. h) d.engine _ (Ok tt) (Ok tt) refl refl refl (record {
-      ends = leaves_ends g.N.PageSource.flash g.N.PageSource.recorded g.N.PageSource.honest g.N.PageSource.calm g.N.PageSource.failed d.engine d.engine (Ok tt) (leaves_same g.N.PageSource.flash g.N.PageSource.recorded g.N.PageSource.honest g.N.PageSource.calm g.N.PageSource.failed d.engine c.requires.device.engine may.going) (record { geometry = refl; capacity = refl }) c.requires.device.calm;
+      ends = leaves_ends g.N.PageSource.flash g.N.PageSource.recorded g.N.PageSource.honest g.N.PageSource.calm g.N.PageSource.failed d.engine
+          d.engine (Ok tt)
+          (leaves_same g.N.PageSource.flash g.N.PageSource.recorded g.N.PageSource.honest g.N.PageSource.calm g.N.PageSource.failed d.engine
+          c.requires.device.engine may.going) (record { geometry = refl; capacity = refl }) c.requires.device.calm;
       no_memory = λ e. (let no : ⊥ = cc in no);
       truth = λ honest w. keeps_same (ram d.engine) (image_in g.N.PageSource.flash d.engine) w;
       lacks = λ honest w fault e. (let no : ⊥ = cc in absurd no);
@@ -47,7 +50,9 @@ returns-in_err-finish-clause-upkeeps g c =
     c.migrate_ready-answer.ensures.ends c.migrate_ready-answer.ensures.memory c.migrate_ready-answer.ensures.truth c.migrate_ready-answer.ensures.count))
 
 pub returns-in_default-clause-upkeeps : goal.returns-in_default-clause-upkeeps
-returns-in_default-clause-upkeeps g c = upkept_by g.N.PageSource.flash g.N.PageSource.recorded g.N.PageSource.honest g.N.PageSource.calm g.N.PageSource.failed step.Turn c.args.self.now c.finish.new.self c.requires.device c.finish.ensures.device c.in_ok-may_flush.ensures.may (λ reply s h. h)
+returns-in_default-clause-upkeeps g c = upkept_by g.N.PageSource.flash g.N.PageSource.recorded g.N.PageSource.honest g.N.PageSource.calm
+    g.N.PageSource.failed step.Turn c.args.self.now c.finish.new.self c.requires.device c.finish.ensures.device c.in_ok-may_flush.ensures.may
+    (λ reply s h. h)
     c.migrate_ready-answer.new.engine c.good-good.result c.migrate_ready-answer.result (Ok tt) c.finish.ensures.engine c.good-good.ensures c.in_ok-finish.ensures.answer
     (kept_ready g.N.PageSource.flash g.N.PageSource.recorded g.N.PageSource.honest g.N.PageSource.calm g.N.PageSource.failed c.args.self.now c.migrate_ready-answer.new.engine c.migrate_ready-answer.result c.requires.device c.in_ok-may_flush.ensures.may
     c.migrate_ready-answer.ensures.ends c.migrate_ready-answer.ensures.memory c.migrate_ready-answer.ensures.truth c.migrate_ready-answer.ensures.count)
@@ -58,7 +63,9 @@ pub returns-clause-device : goal.returns-clause-device
 returns-clause-device g c = device_at g.N.PageSource.flash c.finish.new.self (c.in-Some.row + 1) c.finish.ensures.device
 
 pub returns-clause-upkeeps : goal.returns-clause-upkeeps
-returns-clause-upkeeps g c = upkept_by g.N.PageSource.flash g.N.PageSource.recorded g.N.PageSource.honest g.N.PageSource.calm g.N.PageSource.failed step.Turn c.args.self.now (record c.finish.new.self { cursor = c.in-Some.row + 1 }) c.requires.device (device_at g.N.PageSource.flash c.finish.new.self (c.in-Some.row + 1) c.finish.ensures.device) c.in_ok-may_flush.ensures.may (λ reply s h. h)
+returns-clause-upkeeps g c = upkept_by g.N.PageSource.flash g.N.PageSource.recorded g.N.PageSource.honest g.N.PageSource.calm g.N.PageSource.failed
+    step.Turn c.args.self.now (record c.finish.new.self { cursor = c.in-Some.row + 1 }) c.requires.device
+    (device_at g.N.PageSource.flash c.finish.new.self (c.in-Some.row + 1) c.finish.ensures.device) c.in_ok-may_flush.ensures.may (λ reply s h. h)
     c.migrate_ready-answer.new.engine c.good-good.result c.migrate_ready-answer.result (Ok tt) c.finish.ensures.engine c.good-good.ensures c.in_ok-finish.ensures.answer
     (kept_ready g.N.PageSource.flash g.N.PageSource.recorded g.N.PageSource.honest g.N.PageSource.calm g.N.PageSource.failed c.args.self.now c.migrate_ready-answer.new.engine c.migrate_ready-answer.result c.requires.device c.in_ok-may_flush.ensures.may
     c.migrate_ready-answer.ensures.ends c.migrate_ready-answer.ensures.memory c.migrate_ready-answer.ensures.truth c.migrate_ready-answer.ensures.count)
@@ -66,11 +73,19 @@ returns-clause-upkeeps g c = upkept_by g.N.PageSource.flash g.N.PageSource.recor
 -- ---- what it brought
 
 pub returns-clause-brought : goal.returns-clause-brought
-returns-clause-brought g c = λ done. done_after (λ e. ForSome c.migrate_ready-answer.new.found (λ _. HasBrought (ram c.args.self.now.engine) (ram e))) c.migrate_ready-answer.new.engine c.finish.new.self.engine c.migrate_ready-answer.result (Ok tt) c.good-good.result c.finish.ensures.engine c.in_ok-finish.ensures.answer c.migrate_ready-answer.ensures.brought c.in-Some.row c.in-Some.is
+returns-clause-brought g c = λ done. done_after (λ e. ForSome c.migrate_ready-answer.new.found (λ _. HasBrought (ram c.args.self.now.engine) (ram e)))
+    c.migrate_ready-answer.new.engine c.finish.new.self.engine c.migrate_ready-answer.result (Ok tt) c.good-good.result c.finish.ensures.engine
+    c.in_ok-finish.ensures.answer c.migrate_ready-answer.ensures.brought c.in-Some.row c.in-Some.is
 
 pub returns-clause-brings : goal.returns-clause-brings
 returns-clause-brings g c = λ honest w done.
     let known = knows_well g.N.PageSource.flash c.args.self.now c.requires.device w c.in_ok-may_flush.ensures.may.going in
-    let page = done_after (λ e. ForSome c.migrate_ready-answer.new.found (λ row. BringsPage g.N.PageSource.flash g.N.PageSource.recorded row c.args.self.now.engine e)) c.migrate_ready-answer.new.engine c.finish.new.self.engine c.migrate_ready-answer.result (Ok tt) c.good-good.result c.finish.ensures.engine c.in_ok-finish.ensures.answer (c.migrate_ready-answer.ensures.brings honest known) c.in-Some.row c.in-Some.is in
-    let found = done_after (λ _. FindsFrom c.args.self.now.cursor (image_in g.N.PageSource.flash c.args.self.now.engine) c.migrate_ready-answer.new.found) c.migrate_ready-answer.new.engine c.finish.new.self.engine c.migrate_ready-answer.result (Ok tt) c.good-good.result c.finish.ensures.engine c.in_ok-finish.ensures.answer (c.migrate_ready-answer.ensures.next honest known) in
+    let page = done_after
+    (λ e. ForSome c.migrate_ready-answer.new.found (λ row. BringsPage g.N.PageSource.flash g.N.PageSource.recorded row c.args.self.now.engine e))
+    c.migrate_ready-answer.new.engine c.finish.new.self.engine c.migrate_ready-answer.result (Ok tt) c.good-good.result c.finish.ensures.engine
+    c.in_ok-finish.ensures.answer (c.migrate_ready-answer.ensures.brings honest known) c.in-Some.row c.in-Some.is in
+    let found = done_after
+    (λ _. FindsFrom c.args.self.now.cursor (image_in g.N.PageSource.flash c.args.self.now.engine) c.migrate_ready-answer.new.found)
+    c.migrate_ready-answer.new.engine c.finish.new.self.engine c.migrate_ready-answer.result (Ok tt) c.good-good.result c.finish.ensures.engine
+    c.in_ok-finish.ensures.answer (c.migrate_ready-answer.ensures.next honest known) in
     record { row = c.in-Some.row; found = subst (FindsFrom c.args.self.now.cursor (image_in g.N.PageSource.flash c.args.self.now.engine)) c.in-Some.is found; brings = page; cursor_is = refl }

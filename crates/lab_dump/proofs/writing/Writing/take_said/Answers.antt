@@ -31,7 +31,9 @@ returns-in-Ok-clause-shows g c = λ image said reads shown unmarked mark here.
     let its = within_is geo says n (sym c.sector_in.ensures ∙ c.in-Some.is) in
     let change = c.step_said-held.result.1 in
     let pieces = g.T.Pieces.pieces c.args.self.now.target in
-    let noted = said_noted geo c.args.row image said reads c.args.self.now.held.items pieces says (content_of_kind geo says.kind c.args.body.now) n c.index.result.now c.step_said-held.result.0 change shown stands.sized stands.size its.1 unmarked mark its.0 here c.index.ensures c.step_said-held.ensures.tells c.step_said-held.ensures.moves in
+    let noted = said_noted geo c.args.row image said reads c.args.self.now.held.items pieces says (content_of_kind geo says.kind c.args.body.now) n
+    c.index.result.now c.step_said-held.result.0 change shown stands.sized stands.size its.1 unmarked mark its.0 here c.index.ensures
+    c.step_said-held.ensures.tells c.step_said-held.ensures.moves in
     subst (λ ps. Shows geo (c.args.row + 1) image said reads (set c.args.self.now.held.items n c.step_said-held.result.0) ps) (sym c.in-Ok.ensures.written) noted
 
 pub put_said-requires-clause-says : goal.put_said-requires-clause-says

@@ -18,7 +18,10 @@ returns-in-None-clause-shows g c = λ image h at.
     let last = c.args.self.now.until in
     let p = page c.args.body.now c.args.spare.now in
     let none : counted last (record_of p) ≡ None = ap (counted last) (sym c.read_record-found.ensures) ∙ (sym c.counted.ensures ∙ c.in-None.is) in (
-      nothing_noted geo c.args.row (until geo last image) _ _ _ _ h.0 (unmarked_none geo (marks (until geo last image)) c.args.row (mark-page (until geo last image) c.args.row (page_until geo last p) (until_page geo last image c.args.row p at) ∙ (counted_record geo last p ∙ none))) (unmarked_none geo [] c.args.row refl),
+      nothing_noted geo c.args.row (until geo last image) _ _ _ _ h.0
+          (unmarked_none geo (marks (until geo last image)) c.args.row
+          (mark-page (until geo last image) c.args.row (page_until geo last p) (until_page geo last image c.args.row p at)
+          ∙ (counted_record geo last p ∙ none))) (unmarked_none geo [] c.args.row refl),
       c.step.ensures.is image h.1 at,
     )
 

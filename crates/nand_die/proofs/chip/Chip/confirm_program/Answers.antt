@@ -38,7 +38,18 @@ returns c register column at =
     let change = c.program_into-change in
     let counts = c.counts_after-self-inside in
     let strike = c.next_strike-strike in
-    let new : ChipValue = the_view (record { geometry = i.geometry; bytes = with_items i.bytes change.new.bytes; register = i.register; turns = with_items i.turns change.new.turns; bus_state = Ready Nothing; passed = change.result.passed; faults = i.faults; counts = counts.result }) in
+    let new : ChipValue = the_view
+    (record {
+      geometry = i.geometry;
+      bytes = with_items i.bytes change.new.bytes;
+      register = i.register;
+      turns = with_items i.turns
+          change.new.turns;
+      bus_state = Ready Nothing;
+      passed = change.result.passed;
+      faults = i.faults;
+      counts = counts.result;
+    }) in
     let same : i.register.items ≡ register = loading_register i.register.items i.bus_state c.args.row column register (ap (λ (d : ChipValue). d.state.phase) c.self.view_is ∙ at) in
     subst (λ ws. Acts {A = Unit {0}} (Programs c.args.row (page_of c.args.self.now.state.flash.geometry ws)) c.args.self.now new (Ok tt)) same
     (rw (← c.self.view_is) (acts_closed (Programs c.args.row (page_of i.geometry i.register.items)) i change.new.bytes _ change.new.turns _ counts.result.abuse counts.result.asked counts.result.changes change.result.passed tt
