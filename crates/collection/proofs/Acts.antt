@@ -5,8 +5,8 @@ use Rattle.page_layout.specs.Recording.{Recording}
 use Rattle.page_layout.specs.OnlyReads.{OnlyReads}
 use Rattle.collection.specs.declared.engine.Buffer.{Buffer}
 use Rattle.collection.specs.declared.engine.Engine.{Engine}
-use Rattle.collection.specs.declared.fault.WriteFault.{WriteFault}
-use Rattle.collection.specs.declared.fault.WriteFault.TheVariants.{Bus}
+use Rattle.collection.specs.declared.fault.EngineFault.{EngineFault}
+use Rattle.collection.specs.declared.fault.EngineFault.TheVariants.{Bus}
 use Rattle.collection.specs.Safe.{IsSafe, ram}
 use Rattle.collection.specs.Acts.{EngineLooks, EngineActs, Stands}
 use Rattle.collection.specs.Results.{fault_after}
@@ -17,16 +17,16 @@ use Rattle.collection.proofs.Looks.{ok_not_bus}
 use Rattle.collection.proofs.WriteBacks.{read_went}
 
 -- an answer, of faults
-abbrev pub ok_as : {A : Type 0} → A → Result A WriteFault
+abbrev pub ok_as : {A : Type 0} → A → Result A EngineFault
 ok_as x = Ok x
 
 -- what the answer of no fault tells
-pub not_standing : {A : Type 0} (fault : Option WriteFault) (x : A) → MatchOption fault (IsOk (ok_as x)) (λ f. ok_as x ≡ Err f) → fault ≡ None
+pub not_standing : {A : Type 0} (fault : Option EngineFault) (x : A) → MatchOption fault (IsOk (ok_as x)) (λ f. ok_as x ≡ Err f) → fault ≡ None
 not_standing None x is = refl
 not_standing (Some f) x is = (let never : ⊥ = cc in absurd never)
 
 -- what the answer of a fault tells
-pub is_standing : (fault : Option WriteFault) (e : WriteFault) → MatchOption fault (IsOk (err_as (Unit {0}) e)) (λ f. err_as (Unit {0}) e ≡ Err f) → fault ≡ Some e
+pub is_standing : (fault : Option EngineFault) (e : EngineFault) → MatchOption fault (IsOk (err_as (Unit {0}) e)) (λ f. err_as (Unit {0}) e ≡ Err f) → fault ≡ Some e
 is_standing None e is = (let never : ⊥ = cc in absurd never)
 is_standing (Some f) e is = (let same : e ≡ f = cc in ap Some (sym same))
 
@@ -44,7 +44,7 @@ module _ {N : Type 0} {flash : N → Flash} {recorded : N → Option Recording} 
     went = λ known ne. went_same (ram a) (flash a.nand) (recorded a.nand);
   }
 
-  pub acts_then : {A B : Type 0} (a b c : Engine N) (x : A) (result : Result B WriteFault) → (ram b).geometry ≡ (ram a).geometry
+  pub acts_then : {A B : Type 0} (a b c : Engine N) (x : A) (result : Result B EngineFault) → (ram b).geometry ≡ (ram a).geometry
       → EngineActs flash recorded honest calm failed a b (Ok x) → EngineActs flash recorded honest calm failed b c result
       → EngineActs flash recorded honest calm failed a c result
   acts_then a b c x result same p q = record {
@@ -69,7 +69,7 @@ module _ {N : Type 0} {flash : N → Flash} {recorded : N → Option Recording} 
     went = λ known ne. p.went known (ok_not_bus x);
   }
 
-  pub acts_err : {A B : Type 0} (a b : Engine N) (fault : WriteFault) → EngineActs flash recorded honest calm failed a b (err_as A fault) → EngineActs flash recorded honest calm failed a b (err_as B fault)
+  pub acts_err : {A B : Type 0} (a b : Engine N) (fault : EngineFault) → EngineActs flash recorded honest calm failed a b (err_as A fault) → EngineActs flash recorded honest calm failed a b (err_as B fault)
   acts_err {A} {B} a b fault p = record {
     safe = p.safe;
     fault = p.fault;
@@ -81,7 +81,7 @@ module _ {N : Type 0} {flash : N → Flash} {recorded : N → Option Recording} 
   }
 
   -- a call that is refused for another reason than the die
-  pub acts_end : {A B : Type 0} (a b : Engine N) (x : A) (fault : WriteFault) → fault ≢ Bus → EngineActs flash recorded honest calm failed a b (Ok x) → EngineActs flash recorded honest calm failed a b (err_as B fault)
+  pub acts_end : {A B : Type 0} (a b : Engine N) (x : A) (fault : EngineFault) → fault ≢ Bus → EngineActs flash recorded honest calm failed a b (Ok x) → EngineActs flash recorded honest calm failed a b (err_as B fault)
   acts_end {A} {B} a b x fault other p = record {
     safe = p.safe;
     fault = p.fault;
@@ -93,7 +93,7 @@ module _ {N : Type 0} {flash : N → Flash} {recorded : N → Option Recording} 
   }
 
   -- a call that first filled the page buffer
-  pub acts_filled : {A : Type 0} (a b : Engine N) (page : Buffer) (result : Result A WriteFault) → EngineActs flash recorded honest calm failed (record a { page = page }) b result → EngineActs flash recorded honest calm failed a b result
+  pub acts_filled : {A : Type 0} (a b : Engine N) (page : Buffer) (result : Result A EngineFault) → EngineActs flash recorded honest calm failed (record a { page = page }) b result → EngineActs flash recorded honest calm failed a b result
   acts_filled a b page result p = record {
     safe = p.safe;
     fault = p.fault;
@@ -107,7 +107,7 @@ module _ {N : Type 0} {flash : N → Flash} {recorded : N → Option Recording} 
   -- ---- a fault that stands
 
   -- it is answered again
-  pub stands_still : {A : Type 0} (a : Engine N) (fault : WriteFault) → IsSafe flash a → a.fault ≡ Some fault → Stands flash recorded honest calm failed a a (err_as A fault)
+  pub stands_still : {A : Type 0} (a : Engine N) (fault : EngineFault) → IsSafe flash a → a.fault ≡ Some fault → Stands flash recorded honest calm failed a a (err_as A fault)
   stands_still {A} a fault safe is = record {
     safe = safe;
     standing = λ other e. ((let same : fault ≡ other = cc in ap (λ f. Err f) same), refl);
@@ -120,7 +120,7 @@ module _ {N : Type 0} {flash : N → Flash} {recorded : N → Option Recording} 
   }
 
   -- it is noted
-  pub acts_noted : {A : Type 0} (a b : Engine N) (result : Result A WriteFault) → a.fault ≡ None → EngineActs flash recorded honest calm failed a b result → Stands flash recorded honest calm failed a (record b { fault = fault_after b.fault result }) result
+  pub acts_noted : {A : Type 0} (a b : Engine N) (result : Result A EngineFault) → a.fault ≡ None → EngineActs flash recorded honest calm failed a b result → Stands flash recorded honest calm failed a (record b { fault = fault_after b.fault result }) result
   acts_noted a b result none p = record {
     safe = record { memory = ram_noted _ (ram b) p.safe.memory; geometry = p.safe.geometry; page = p.safe.page; scratch = p.safe.scratch };
     standing = λ fault is. (let never : ⊥ = cc in absurd never);
@@ -157,7 +157,7 @@ module _ {N : Type 0} {flash : N → Flash} {recorded : N → Option Recording} 
     told = λ known ne. refl;
   }
 
-  pub looks_then : {A B : Type 0} (a b c : Engine N) (x : A) (result : Result B WriteFault)
+  pub looks_then : {A B : Type 0} (a b c : Engine N) (x : A) (result : Result B EngineFault)
       → EngineLooks flash recorded honest calm programs erases failed a b (Ok x)
       → EngineLooks flash recorded honest calm programs erases failed b c result
       → EngineLooks flash recorded honest calm programs erases failed a c result
@@ -182,7 +182,7 @@ module _ {N : Type 0} {flash : N → Flash} {recorded : N → Option Recording} 
     told = λ known ne. p.told known (ok_not_bus x);
   }
 
-  pub looks_err : {A B : Type 0} (a b : Engine N) (fault : WriteFault) → EngineLooks flash recorded honest calm programs erases failed a b (err_as A fault) → EngineLooks flash recorded honest calm programs erases failed a b (err_as B fault)
+  pub looks_err : {A B : Type 0} (a b : Engine N) (fault : EngineFault) → EngineLooks flash recorded honest calm programs erases failed a b (err_as A fault) → EngineLooks flash recorded honest calm programs erases failed a b (err_as B fault)
   looks_err {A} {B} a b fault p = record {
     safe = p.safe;
     memory = p.memory;
@@ -194,7 +194,7 @@ module _ {N : Type 0} {flash : N → Flash} {recorded : N → Option Recording} 
   }
 
   -- a call that only looks acts in no other way
-  pub looked : {A : Type 0} (a b : Engine N) (result : Result A WriteFault) → EngineLooks flash recorded honest calm programs erases failed a b result → EngineActs flash recorded honest calm failed a b result
+  pub looked : {A : Type 0} (a b : Engine N) (result : Result A EngineFault) → EngineLooks flash recorded honest calm programs erases failed a b result → EngineActs flash recorded honest calm failed a b result
   looked a b result p = record {
     safe = p.safe;
     fault = ap (λ r. r.fault) p.memory;

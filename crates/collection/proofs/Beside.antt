@@ -4,7 +4,7 @@ use Rattle.std.proofs.lemmas.Bool.{ne_eqb}
 use Rattle.page_layout.specs.Geometry.{entries}
 use Rattle.mapping_cache.specs.declared.slot.Slot.{Slot}
 use Rattle.mapping_cache.specs.Mapping.{MappingState, HasLimitsOf, per_page, moved_in, loaded, loaded_by, slot_of, cleaned}
-use Rattle.collection.specs.declared.fault.WriteFault.{WriteFault}
+use Rattle.collection.specs.declared.fault.EngineFault.{EngineFault}
 use Rattle.collection.specs.State.{Ram}
 use Rattle.collection.specs.Results.{Goes}
 use Rattle.collection.specs.Left.{LeavesPin}
@@ -87,10 +87,10 @@ beside_then a b c x y = record {
 }
 
 -- a fault that is noted changes nothing of it
-pub beside_noted : (fault : Option WriteFault) (a b : Ram) → LeavesPin a b → LeavesPin a (record b { fault = fault })
+pub beside_noted : (fault : Option EngineFault) (a b : Ram) → LeavesPin a b → LeavesPin a (record b { fault = fault })
 beside_noted fault a b x = record { pin = x.pin; goes = (let g = x.goes in record { geometry = g.geometry; next = g.next; shut = g.shut }); fewer = x.fewer; moved = x.moved }
 
 -- also where nothing is said of a refused call
-pub beside_noted_ok : {A : Type 0} (fault : Option WriteFault) (a b : Ram) (result : Result A WriteFault) → OnOk result (LeavesPin a b) → OnOk result (LeavesPin a (record b { fault = fault }))
+pub beside_noted_ok : {A : Type 0} (fault : Option EngineFault) (a b : Ram) (result : Result A EngineFault) → OnOk result (LeavesPin a b) → OnOk result (LeavesPin a (record b { fault = fault }))
 beside_noted_ok fault a b (Ok u) x = beside_noted fault a b x
 beside_noted_ok fault a b (Err f) x = tt

@@ -19,7 +19,7 @@ use Rattle.bad_blocks.specs.TablePage.{IsWellFormed}
 use Rattle.mapping_cache.specs.Mapping.{MappingState}
 use Rattle.translation_pages.specs.TranslationPage.{entry_at}
 use Rattle.allocation.specs.State.{live_at}
-use Rattle.collection.specs.declared.fault.WriteFault.{WriteFault}
+use Rattle.collection.specs.declared.fault.EngineFault.{EngineFault}
 use Rattle.collection.specs.State.{Ram, Pin}
 use Rattle.collection.specs.Safe.{IsRam, IsOutside, is_shut}
 use Rattle.collection.specs.Pages.{newest_row}
@@ -31,7 +31,7 @@ use Rattle.collection.specs.Cost.{HasPut, PutCosts}
 use Rattle.collection.specs.Settle.{HasPlace, SetsMapping}
 use Rattle.page_layout.proofs.VersionLemmas.{written_not_old}
 use Rattle.collection.specs.Collect.{IsMovedOut, IsRenewed, KeepsKeys, HasCopied, FaultCosts, Refreshes, IsUpToDate, marks_after}
-use Rattle.collection.specs.declared.fault.WriteFault.TheVariants.{ReadOnly, SequenceSpent, Damaged, Bus}
+use Rattle.collection.specs.declared.fault.EngineFault.TheVariants.{ReadOnly, SequenceSpent, Damaged, Bus}
 use Rattle.budget.specs.declared.stream.Stream.{Stream}
 use Rattle.page_layout.proofs.GeometryLemmas.{sector_entry}
 use Rattle.std.specs.Map.{keys_of}
@@ -204,7 +204,7 @@ refreshes_same a b m p = record { each = λ t within fresh unmarked. (let P : Ma
 pub refreshes_then : (a b c : Ram) → b.geometry ≡ a.geometry → Refreshes a b → Refreshes b c → Refreshes a c
 refreshes_then a b c same x y = record { each = λ t within fresh. y.each t (rw same within) (x.each t within fresh) }
 
-pub fault_costs : (stream : Stream) (r b : Ram) (fault : WriteFault) → PutCosts stream r b (Err fault) → FaultCosts r b fault
+pub fault_costs : (stream : Stream) (r b : Ram) (fault : EngineFault) → PutCosts stream r b (Err fault) → FaultCosts r b fault
 fault_costs stream r b ReadOnly cost = record { stream = stream; out = cost }
 fault_costs stream r b SequenceSpent cost = record { stream = stream; spent = cost }
 fault_costs stream r b Damaged cost = absurd cost

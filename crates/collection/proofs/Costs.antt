@@ -11,8 +11,8 @@ use Rattle.allocation.proofs.OtherLemmas.{none_counts}
 use Rattle.collection.specs.State.{Ram}
 use Rattle.collection.specs.Safe.{IsRam}
 use Rattle.page_layout.specs.Counter.{HasRisen}
-use Rattle.collection.specs.declared.fault.WriteFault.{WriteFault}
-use Rattle.collection.specs.declared.fault.WriteFault.TheVariants.{ReadOnly, SequenceSpent, Damaged, Bus}
+use Rattle.collection.specs.declared.fault.EngineFault.{EngineFault}
+use Rattle.collection.specs.declared.fault.EngineFault.TheVariants.{ReadOnly, SequenceSpent, Damaged, Bus}
 use Rattle.collection.specs.Cost.{FailsTry, PassesTry, FindsNoRow, TryCosts, HasTried, HasPut, HasRunOut, HasSpent, PutCosts}
 
 pub not_tried : (stream : Stream) (r : Ram) → HasTried stream r r
@@ -56,7 +56,7 @@ tries_none stream a b o t is = (let P : Option ℕ → Type 0 = λ v. TryCosts s
 pub tries_some : (stream : Stream) (a b : Ram) (row : ℕ) (o : Option ℕ) → TryCosts stream a b (Ok o) → o ≡ Some row → PassesTry stream a b
 tries_some stream a b row o t is = (let P : Option ℕ → Type 0 = λ v. TryCosts stream a b (Ok v) in subst P is t)
 
-pub costs_then : (stream : Stream) (a b c : Ram) (fault : WriteFault) → HasTried stream a b → b.next < 2 ^ 64 - 1 → TryCosts stream b c (Err fault) → PutCosts stream a c (Err fault)
+pub costs_then : (stream : Stream) (a b c : Ram) (fault : EngineFault) → HasTried stream a b → b.next < 2 ^ 64 - 1 → TryCosts stream b c (Err fault) → PutCosts stream a c (Err fault)
 costs_then stream a b c ReadOnly h lt t = has_run_out stream a b c h lt t
 costs_then stream a b c SequenceSpent h lt t = absurd t
 costs_then stream a b c Damaged h lt t = t
@@ -72,8 +72,8 @@ risen_over a b c le (inl lt) = inl (omega arith)
 risen_over a b c le (inr top) = inr top
 
 -- a fault of one call is another's
-abbrev pub err_as : (A : Type 0) → WriteFault → Result A WriteFault
+abbrev pub err_as : (A : Type 0) → EngineFault → Result A EngineFault
 err_as A f = Err f
 
-pub not_bus : {A B : Type 0} (f : WriteFault) → err_as A f ≢ err_as A Bus → err_as B f ≢ err_as B Bus
+pub not_bus : {A B : Type 0} (f : EngineFault) → err_as A f ≢ err_as A Bus → err_as B f ≢ err_as B Bus
 not_bus {A} {B} f ne e = (let same : f ≡ Bus = cc in ne (ap (err_as A) same))

@@ -13,8 +13,8 @@ use Rattle.page_layout.specs.Recording.{Recording}
 use Rattle.budget.specs.declared.stream.Stream.{Stream}
 use Rattle.mapping_cache.specs.Mapping.{MappingState, known, slot_of, moved_row, known_by}
 use Rattle.mapping_cache.specs.declared.slot.Slot.{Slot}
-use Rattle.collection.specs.declared.fault.WriteFault.{WriteFault}
-use Rattle.collection.specs.declared.fault.WriteFault.TheVariants.{ReadOnly, SequenceSpent, Damaged, Bus}
+use Rattle.collection.specs.declared.fault.EngineFault.{EngineFault}
+use Rattle.collection.specs.declared.fault.EngineFault.TheVariants.{ReadOnly, SequenceSpent, Damaged, Bus}
 use Rattle.collection.specs.State.{Ram}
 use Rattle.collection.specs.Pages.{directory_place, newest_row}
 use Rattle.collection.specs.Truth.{IsTrue}
@@ -26,7 +26,7 @@ use Rattle.collection.proofs.MapLemmas.{none_not}
 
 -- ---- the fault is in none of the facts
 
-module _ (fault : Option WriteFault) where
+module _ (fault : Option EngineFault) where
   with_fault : Ram → Ram
   with_fault r = record r { fault = fault }
 
@@ -48,7 +48,7 @@ module _ (fault : Option WriteFault) where
   pub same_noted : (a b : Ram) (x y : Image) → IsSame a x b y → IsSame a x (record b { fault = fault }) y
   same_noted a b x y k = record { truth = true_noted None b y k.truth; array = k.array; leaves = k.leaves }
 
-  pub refused_noted : (a b : Ram) (x y : Image) (f : WriteFault) → Refused a x b y f → Refused a x (record b { fault = fault }) y f
+  pub refused_noted : (a b : Ram) (x y : Image) (f : EngineFault) → Refused a x b y f → Refused a x (record b { fault = fault }) y f
   refused_noted a b x y ReadOnly k = same_noted a b x y k
   refused_noted a b x y SequenceSpent k = same_noted a b x y k
   refused_noted a b x y Damaged k = k
@@ -60,14 +60,14 @@ module _ (fault : Option WriteFault) where
   tried_noted : (stream : Stream) (a b : Ram) → HasTried stream a b → HasTried stream a (record b { fault = fault })
   tried_noted stream a b h = record { failures = h.failures; tries = h.tries; next = h.next }
 
-  pub costs_noted : (stream : Stream) (a b : Ram) (result : Result ℕ WriteFault) → PutCosts stream a b result → PutCosts stream a (record b { fault = fault }) result
+  pub costs_noted : (stream : Stream) (a b : Ram) (result : Result ℕ EngineFault) → PutCosts stream a b result → PutCosts stream a (record b { fault = fault }) result
   costs_noted stream a b (Ok row) h = record { failures = h.failures; put = h.put; next = h.next }
   costs_noted stream a b (Err ReadOnly) h = record { failures = h.failures; found = h.found; none = h.none; next = h.next; sequence = h.sequence }
   costs_noted stream a b (Err SequenceSpent) h = record { tried = tried_noted stream a b h.tried; last = h.last }
   costs_noted stream a b (Err Damaged) h = h
   costs_noted stream a b (Err Bus) h = tt
 
-  pub result_noted : (kind : Kind) (n : ℕ) (body : List ℕ) (a b : Ram) (x y : Image) (result : Result ℕ WriteFault)
+  pub result_noted : (kind : Kind) (n : ℕ) (body : List ℕ) (a b : Ram) (x y : Image) (result : Result ℕ EngineFault)
       → MatchResult result (λ row. IsPut kind n row body a x b y) (Refused a x b y)
       → MatchResult result (λ row. IsPut kind n row body a x (record b { fault = fault }) y) (Refused a x (record b { fault = fault }) y)
   result_noted kind n body a b x y (Ok row) p = is_put_noted kind n row body a b x y p

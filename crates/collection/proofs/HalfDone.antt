@@ -20,8 +20,8 @@ use Rattle.collection.specs.declared.engine.collect_steps.Progress.{Progress}
 use Rattle.collection.specs.declared.engine.collect_steps.Progress.TheVariants as step_is
 use Rattle.collection.specs.declared.engine.collect_in_turns.Step.{Step}
 use Rattle.collection.specs.declared.engine.collect_in_turns.Step.TheVariants as steps
-use Rattle.collection.specs.declared.fault.WriteFault.{WriteFault}
-use Rattle.collection.specs.declared.fault.WriteFault.TheVariants.{ReadOnly, SequenceSpent, Damaged, Bus}
+use Rattle.collection.specs.declared.fault.EngineFault.{EngineFault}
+use Rattle.collection.specs.declared.fault.EngineFault.TheVariants.{ReadOnly, SequenceSpent, Damaged, Bus}
 use Rattle.collection.specs.State.{Ram}
 use Rattle.collection.specs.declared.engine.Engine.{Engine}
 use Rattle.collection.specs.Safe.{IsRam, IsIdle, ram}
@@ -84,7 +84,7 @@ pub due_first : (flushing : Bool) (r : Ram) (p : Pinned) → r.pin.marks ≡ rep
 due_first flushing r p unmarked half = omega (arith, due_few flushing r unmarked, half.passed)
 
 -- a step that was refused leaves few pages
-pub few_left : (old now new : Ram) (p : Pinned) (first : ℕ) (y z : Image) (fault : WriteFault) → IsRam now → IsRam new → now.geometry ≡ old.geometry
+pub few_left : (old now new : Ram) (p : Pinned) (first : ℕ) (y z : Image) (fault : EngineFault) → IsRam now → IsRam new → now.geometry ≡ old.geometry
     → new.geometry ≡ now.geometry → p.block < old.geometry.blocks → is_closed now.blocks p.block ≡ true
     → length new.mapping.moved ≡ length now.mapping.moved → new.pin.block ≡ Some (record { block = p.block; first = first }) → IsFew 0 old p
     → IsTrue None now y → (copies : ℕ) → copies + live_at now.blocks p.block ≤ live_at old.blocks p.block
@@ -100,7 +100,7 @@ few_left old now new p first y z fault s s' same still within closed moved pin f
     } in
     subst (IsFew 0 new) (sym e) at
   where
-    refused_fewer : (now new : Ram) (block : ℕ) (y z : Image) (fault : WriteFault) → IsRam now → IsRam new → new.geometry ≡ now.geometry
+    refused_fewer : (now new : Ram) (block : ℕ) (y z : Image) (fault : EngineFault) → IsRam now → IsRam new → new.geometry ≡ now.geometry
         → IsTrue None now y → block < now.geometry.blocks → is_closed now.blocks block ≡ true → Refused now y new z fault → fault ≢ Bus
         → live_at new.blocks block ≤ live_at now.blocks block
     refused_fewer now new block y z ReadOnly s s' same w lt closed k ne = shut_fewer now new y z block s s' same w k.truth k.leaves lt (shut_closed now.blocks block closed)
@@ -145,17 +145,17 @@ module _ (a b : Ram) (to : Option Pinned) where
   same_from : (x y : Image) → IsSame (pinned_to to a) x b y → IsSame a x b y
   same_from x y k = record { truth = k.truth; array = k.array; leaves = record { each = k.leaves.each; versions = k.leaves.versions } }
 
-  refused_from : (x y : Image) (fault : WriteFault) → Refused (pinned_to to a) x b y fault → Refused a x b y fault
+  refused_from : (x y : Image) (fault : EngineFault) → Refused (pinned_to to a) x b y fault → Refused a x b y fault
   refused_from x y ReadOnly k = same_from x y k
   refused_from x y SequenceSpent k = same_from x y k
   refused_from x y Damaged k = k
   refused_from x y Bus k = k
 
-  pub emptied_from : (block : ℕ) (x y : Image) (result : Result (Unit {0}) WriteFault) → MatchResult result (λ u. IsEmptied block (pinned_to to a) x b y) (Refused (pinned_to to a) x b y) → MatchResult result (λ u. IsEmptied block a x b y) (Refused a x b y)
+  pub emptied_from : (block : ℕ) (x y : Image) (result : Result (Unit {0}) EngineFault) → MatchResult result (λ u. IsEmptied block (pinned_to to a) x b y) (Refused (pinned_to to a) x b y) → MatchResult result (λ u. IsEmptied block a x b y) (Refused a x b y)
   emptied_from block x y (Ok u) k = record { same = same_from x y k.same; none = k.none }
   emptied_from block x y (Err fault) k = refused_from x y fault k
 
-  pub counts_from : (result : Result (Unit {0}) WriteFault) → CollectCounts (pinned_to to a) b result → CollectCounts a b result
+  pub counts_from : (result : Result (Unit {0}) EngineFault) → CollectCounts (pinned_to to a) b result → CollectCounts a b result
   counts_from (Ok u) k = k
   counts_from (Err ReadOnly) k = k
   counts_from (Err SequenceSpent) k = k
@@ -165,14 +165,14 @@ module _ (a b : Ram) (to : Option Pinned) where
   pub went_from : (x y : Flash) (told told' : Option Recording) → Went (pinned_to to a) x told b y told' → Went a x told b y told'
   went_from x y told told' w = record { log = w.log; leads = w.leads; records = w.records; follows = w.follows; next = w.next; wears = w.wears }
 
-pub cost_from : (a b : Ram) (to : Option Pinned) (flushing : Bool) (block : ℕ) (result : Result (Unit {0}) WriteFault) → CollectCosts flushing block (pinned_to to a) b result → CollectCosts flushing block a b result
+pub cost_from : (a b : Ram) (to : Option Pinned) (flushing : Bool) (block : ℕ) (result : Result (Unit {0}) EngineFault) → CollectCosts flushing block (pinned_to to a) b result → CollectCosts flushing block a b result
 cost_from a b to flushing block (Ok u) k = record { mid = k.mid; ledger = ledger_from a k.mid to flushing k.ledger; none = k.none; erase = k.erase }
 cost_from a b to flushing block (Err ReadOnly) k = record { mid = k.mid; ledger = ledger_from a k.mid to flushing k.ledger; out = k.out }
 cost_from a b to flushing block (Err SequenceSpent) k = record { mid = k.mid; ledger = ledger_from a k.mid to flushing k.ledger; out = k.out }
 cost_from a b to flushing block (Err Damaged) k = k
 cost_from a b to flushing block (Err Bus) k = k
 
-pub sparing_from : (a b : Ram) (to : Option Pinned) (flushing : Bool) (block : ℕ) (result : Result (Unit {0}) WriteFault) → OnOk result (CollectsFew flushing block (pinned_to to a) b) → OnOk result (CollectsFew flushing block a b)
+pub sparing_from : (a b : Ram) (to : Option Pinned) (flushing : Bool) (block : ℕ) (result : Result (Unit {0}) EngineFault) → OnOk result (CollectsFew flushing block (pinned_to to a) b) → OnOk result (CollectsFew flushing block a b)
 sparing_from a b to flushing block (Ok u) k =
     let c = k.collected in
     let l = c.ledger in
@@ -202,7 +202,7 @@ sparing_from a b to flushing block (Ok u) k =
 sparing_from a b to flushing block (Err fault) k = tt
 
 pub acts_from : {A N : Type 0} {flash : N → Flash} {recorded : N → Option Recording} {honest calm : N → Bool} {failed : N → ℕ} (a b : Engine N)
-    (to : Option Pinned) (result : Result A WriteFault) → EngineActs flash recorded honest calm failed (record a { pinned = to }) b result
+    (to : Option Pinned) (result : Result A EngineFault) → EngineActs flash recorded honest calm failed (record a { pinned = to }) b result
     → EngineActs flash recorded honest calm failed a b result
 acts_from a b to result p = record {
   safe = p.safe;
@@ -233,7 +233,7 @@ calm_half r p calm is = (let P : Option Pinned → Type 0 = λ o. MatchOption o 
 pub calm_by : (r : Ram) → IsIdle r → r.pin.block ≡ None → IsCalm r
 calm_by r idle none = record { unmarked = idle.unmarked; pinned = (let P : Option Pinned → Type 0 = λ o. MatchOption o (r.mapping.moved ≡ []) (IsHalfDone r) in subst P (sym none) idle.moved) }
 
-pub calm_ok : (r : Ram) (result : Result (Unit {0}) WriteFault) → OnOk result (IsIdle r) → OnOk result (r.pin.block ≡ None) → OnOk result (IsCalm r)
+pub calm_ok : (r : Ram) (result : Result (Unit {0}) EngineFault) → OnOk result (IsIdle r) → OnOk result (r.pin.block ≡ None) → OnOk result (IsCalm r)
 calm_ok r (Ok u) idle none = calm_by r idle none
 calm_ok r (Err fault) idle none = tt
 
@@ -246,15 +246,15 @@ calm_idle r calm (inr none) few = unpinned_idle r calm none
 
 -- ---- the pinned block is finished
 
-pub finished_unpinned : (r : Ram) (result : Result (Unit {0}) WriteFault) → OnOk result (r.pin.block ≡ None) → OnOk result ((9 ≤ free_count r.blocks) ⊎ (r.pin.block ≡ None))
+pub finished_unpinned : (r : Ram) (result : Result (Unit {0}) EngineFault) → OnOk result (r.pin.block ≡ None) → OnOk result ((9 ≤ free_count r.blocks) ⊎ (r.pin.block ≡ None))
 finished_unpinned r (Ok u) none = inr none
 finished_unpinned r (Err fault) none = tt
 
-pub finished_erases : {N : Type 0} (erases : N → ℕ) (a c : Engine N) (result : Result (Unit {0}) WriteFault) → OnOk result (erases c.nand ≡ counted (erases a.nand)) → OnOk result (c.pinned ≡ None) → OnOk result (RestsOrErases erases a c)
+pub finished_erases : {N : Type 0} (erases : N → ℕ) (a c : Engine N) (result : Result (Unit {0}) EngineFault) → OnOk result (erases c.nand ≡ counted (erases a.nand)) → OnOk result (c.pinned ≡ None) → OnOk result (RestsOrErases erases a c)
 finished_erases erases a c (Ok u) is none = erased_more erases a a c (inl refl) is none
 finished_erases erases a c (Err fault) is none = tt
 
-pub finished_tells : (flushing : Bool) (block : ℕ) (a c : Ram) (result : Result (Unit {0}) WriteFault) → CollectCosts flushing block a c result → IfErr result (RoomTells c)
+pub finished_tells : (flushing : Bool) (block : ℕ) (a c : Ram) (result : Result (Unit {0}) EngineFault) → CollectCosts flushing block a c result → IfErr result (RoomTells c)
 finished_tells flushing block a c (Ok u) cost = tt
 finished_tells flushing block a c (Err fault) cost = room_tells flushing block a c fault cost
 
@@ -269,17 +269,17 @@ collects_more flushing block a b c before none worth cost =
     (let P : Option Pinned → Type 0 = λ o. MatchOption o (IsWorth 0 b block) (λ q. q.block ≡ block) in
     (block ∷ before.0, (b, before.1, record { scarce = omega (arith, worth.scarce); which = subst P (sym none) worth }, cost)))
 
-pub finished_collects : (flushing : Bool) (p : Pinned) (a c : Ram) (result : Result (Unit {0}) WriteFault) → a.pin.block ≡ Some p → free_count a.blocks < 9 → CollectCosts flushing p.block a c result → OnOk result ((blocks : List ℕ) × Collects flushing a blocks c)
+pub finished_collects : (flushing : Bool) (p : Pinned) (a c : Ram) (result : Result (Unit {0}) EngineFault) → a.pin.block ≡ Some p → free_count a.blocks < 9 → CollectCosts flushing p.block a c result → OnOk result ((blocks : List ℕ) × Collects flushing a blocks c)
 finished_collects flushing p a c (Ok u) is scarce cost = (let P : Option Pinned → Type 0 = λ o. MatchOption o (IsWorth 0 a p.block) (λ q. q.block ≡ p.block) in (p.block ∷ [], (a, refl, record { scarce = scarce; which = subst P (sym is) refl }, cost)))
 finished_collects flushing p a c (Err fault) is scarce cost = tt
 
-pub finished_truth : (block : ℕ) (a c : Ram) (x z : Image) (result : Result (Unit {0}) WriteFault) → IsRam a → IsRam c → c.geometry ≡ a.geometry
+pub finished_truth : (block : ℕ) (a c : Ram) (x z : Image) (result : Result (Unit {0}) EngineFault) → IsRam a → IsRam c → c.geometry ≡ a.geometry
     → IsTrue None a x → MatchResult result (λ u. IsEmptied block a x c z) (Refused a x c z)
     → MatchResult result (λ u. IsRearranged a x c z) (RoomRefused a x c z)
 finished_truth block a c x z (Ok u) s s' same w k = rearranged_then a a c x x z s s' (on_same a) same (rearranged_same a x w) k.same
 finished_truth block a c x z (Err fault) s s' same w k = room_refused a a c x x z fault s s' (on_same a) same (rearranged_same a x w) k
 
-pub finished_counts : (failures : ℕ) (a c : Ram) (result : Result (Unit {0}) WriteFault) → IsRam a
+pub finished_counts : (failures : ℕ) (a c : Ram) (result : Result (Unit {0}) EngineFault) → IsRam a
     → IsFunded a.geometry.pages failures (counts_of a.blocks) → CollectCounts a c result
     → MatchResult result (λ u. IsFundedOn failures a c) (λ fault. RoomCounts failures a c (Err fault))
 finished_counts failures a c (Ok u) s funded k = funded_then failures a a c refl (funded_same failures a funded) k

@@ -27,8 +27,8 @@ use Rattle.collection.specs.Collect.{CollectsFew, HasNoneDue, IsEmptied, IsThrif
 use Rattle.bad_blocks.specs.declared.table.TableRow.{TableRow}
 use Rattle.bad_blocks.specs.Table.{most_wear}
 use Rattle.collection.specs.Whole.{next_of, erases_after, step_within, busy_of, work_left, IsSoFar, IsUnderWay}
-use Rattle.collection.specs.declared.fault.WriteFault.{WriteFault}
-use Rattle.collection.specs.declared.fault.WriteFault.TheVariants.{ReadOnly, SequenceSpent, Damaged, Bus}
+use Rattle.collection.specs.declared.fault.EngineFault.{EngineFault}
+use Rattle.collection.specs.declared.fault.EngineFault.TheVariants.{ReadOnly, SequenceSpent, Damaged, Bus}
 use Rattle.collection.specs.declared.engine.collect_steps.Progress.{Progress}
 use Rattle.collection.specs.declared.engine.collect_steps.Progress.TheVariants as step_is
 use Rattle.collection.specs.declared.engine.collect_in_turns.Step.TheVariants as steps
@@ -256,7 +256,7 @@ pub thrifty_erased : (flushing : Bool) (block first : ℕ) (old now new : Ram) (
     → IsUnderWay flushing block first old now known x y → HasErased block now new → IsThrifty old new
 thrifty_erased flushing block first old now new known x y k small begin u e = (let t = thrift flushing block first old now known x y k small begin u in omega (arith, t, e.next, e.counts.good))
 
-pub thrifty_refused : (flushing : Bool) (block first : ℕ) (old now new : Ram) (known : Type 0) (x y : Image) (fault : WriteFault) → known
+pub thrifty_refused : (flushing : Bool) (block first : ℕ) (old now new : Ram) (known : Type 0) (x y : Image) (fault : EngineFault) → known
     → live_at old.blocks block + length old.mapping.moved ≤ vmax old.geometry + 0 → due_count flushing old ≤ length old.mapping.moved
     → IsUnderWay flushing block first old now known x y → FaultCosts now new fault → fault ≢ Damaged → fault ≢ Bus → IsThrifty old new
 thrifty_refused flushing block first old now new known x y ReadOnly k small begin u out nd nb = (let t = thrift flushing block first old now known x y k small begin u in omega (arith, t, out.out.next, out.out.found.good))
@@ -264,13 +264,13 @@ thrifty_refused flushing block first old now new known x y SequenceSpent k small
 thrifty_refused flushing block first old now new known x y Damaged k small begin u out nd nb = absurd (nd refl)
 thrifty_refused flushing block first old now new known x y Bus k small begin u out nd nb = absurd (nb refl)
 
-pub refused_cost : (flushing : Bool) (block first : ℕ) (old now new : Ram) (known : Type 0) (x y : Image) (fault : WriteFault) → IsUnderWay flushing block first old now known x y → FaultCosts now new fault → CollectCosts flushing block old new (Err fault)
+pub refused_cost : (flushing : Bool) (block first : ℕ) (old now new : Ram) (known : Type 0) (x y : Image) (fault : EngineFault) → IsUnderWay flushing block first old now known x y → FaultCosts now new fault → CollectCosts flushing block old new (Err fault)
 refused_cost flushing block first old now new known x y ReadOnly u out = record { mid = now; ledger = u.ledger; out = out }
 refused_cost flushing block first old now new known x y SequenceSpent u out = record { mid = now; ledger = u.ledger; out = out }
 refused_cost flushing block first old now new known x y Damaged u out = tt
 refused_cost flushing block first old now new known x y Bus u out = tt
 
-pub refused_counts : (flushing : Bool) (block first : ℕ) (old now new : Ram) (known : Type 0) (x y : Image) (z : Image) (fault : WriteFault) → known
+pub refused_counts : (flushing : Bool) (block first : ℕ) (old now new : Ram) (known : Type 0) (x y : Image) (z : Image) (fault : EngineFault) → known
     → live_at old.blocks block + length old.mapping.moved ≤ vmax old.geometry + 0 → due_count flushing old ≤ length old.mapping.moved
     → IsUnderWay flushing block first old now known x y → (fault ≡ ReadOnly → (0 < live_at now.blocks block) ⊎ (0 < due_count flushing now))
     → FaultCosts now new fault → Refused now y new z fault → CollectCounts old new (Err fault)
@@ -281,7 +281,7 @@ refused_counts flushing block first old now new known x y z Bus k small begin u 
 
 -- ---- a step, whichever it was
 
-abbrev pub ok_step : Progress → Result Progress WriteFault
+abbrev pub ok_step : Progress → Result Progress EngineFault
 ok_step step = Ok step
 
 pub some_steps : (g : Geometry) → 1 < g.pages
@@ -374,7 +374,7 @@ released_from block a b c goes within closed (inl r) =
     inl (r.0, r.1 ∙ ap (λ (t : TableRow). min (t.wear + 1) most_wear) row)
 released_from block a b c goes within closed (inr r) = inr r
 
-pub undamaged : (a b : Ram) (y z : Image) (fault : WriteFault) → Refused a y b z fault → fault ≢ Damaged
+pub undamaged : (a b : Ram) (y z : Image) (fault : EngineFault) → Refused a y b z fault → fault ≢ Damaged
 undamaged a b y z ReadOnly r e = (let no : ⊥ = cc in no)
 undamaged a b y z SequenceSpent r e = (let no : ⊥ = cc in no)
 undamaged a b y z Damaged r e = r

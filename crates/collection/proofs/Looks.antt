@@ -25,8 +25,8 @@ use Rattle.collection.specs.Pages.{newest_row}
 use Rattle.collection.specs.Maps.{Maps}
 use Rattle.collection.specs.State.{Ram}
 use Rattle.collection.specs.Looks.{IsPageOf, IsRead, GivesRow, FindsRow, GivesSector}
-use Rattle.collection.specs.declared.fault.WriteFault.{WriteFault}
-use Rattle.collection.specs.declared.fault.WriteFault.TheVariants.{Bus}
+use Rattle.collection.specs.declared.fault.EngineFault.{EngineFault}
+use Rattle.collection.specs.declared.fault.EngineFault.TheVariants.{Bus}
 use Rattle.page_layout.proofs.GeometryLemmas.{sector_entry}
 use Rattle.collection.proofs.MapLemmas.{entry_here, entry_none, none_not}
 use Rattle.collection.proofs.Truths.{newest_in}
@@ -100,7 +100,7 @@ module _ (g : Geometry) (image : Image) (directory : List (Option ℕ)) (m : Map
       ap (λ k. entry_at p.body (n % k)) same ∙ (ap (λ b. entry_at b (n % entries g)) (sym holds) ∙ (sym (entry_here g image n at (page_at (Some at) is)) ∙ right))
 
   -- and the test of it passes
-  pub found_by : (at : ℕ) (p : Page) (lent : List ℕ) (result : Result (Option ℕ) WriteFault) → length image ≡ row_count g
+  pub found_by : (at : ℕ) (p : Page) (lent : List ℕ) (result : Result (Option ℕ) EngineFault) → length image ≡ row_count g
       → newest_row image (Translation (n / e)) ≡ Some at → slice_get image at ≡ Some p → lent ≡ p.body
       → IfOk result (λ row. row ≡ entry_at lent (n % e)) → (ForSome (entry_at lent (n % e)) (λ r. r < row_count g) → OnErr result ⊥)
       → MatchResult result (λ row. row ≡ newest_row image (Sector n)) (λ fault. fault ≡ Bus)
@@ -137,7 +137,7 @@ gives_some g n at row p its bytes lent size is checked is_lent written cleared w
     subst P (sym is) given
 
 -- what is told of a look-up, by what memory knows
-abbrev found_row : Option ℕ → Result (Option ℕ) WriteFault
+abbrev found_row : Option ℕ → Result (Option ℕ) EngineFault
 found_row row = Ok row
 
 pub finds_row : {A : Type 0} (r : Ram) (n : ℕ) (p : Page) (row : Option ℕ) → ForSome (known r.mapping n) (λ its. (found_row row ≡ found_row its) × A) → (known r.mapping n ≡ None → GivesRow r.geometry r.directory n p row) → FindsRow r n p row

@@ -4,8 +4,8 @@ use Rattle.std.specs.Prelude.{IfErr}
 use Rattle.page_layout.specs.Flash.{Flash}
 use Rattle.allocation.specs.State.{free_count}
 use Rattle.collection.specs.declared.engine.Engine.{Engine}
-use Rattle.collection.specs.declared.fault.WriteFault.{WriteFault}
-use Rattle.collection.specs.declared.fault.WriteFault.TheVariants.{ReadOnly}
+use Rattle.collection.specs.declared.fault.EngineFault.{EngineFault}
+use Rattle.collection.specs.declared.fault.EngineFault.TheVariants.{ReadOnly}
 use Rattle.collection.specs.Safe.{ram}
 use Rattle.collection.specs.Left.{IsCalm}
 use Rattle.collection.specs.Results.{fault_after}
@@ -36,7 +36,7 @@ module _ {N : Type 0} {flash : N → Flash} {honest : N → Bool} {erases : N �
   not_resting a b k scarce nine = (let still : free_count (ram b).blocks ≡ free_count (ram a).blocks = ap (λ (e : Engine N). free_count (ram e).blocks) (k.rests nine).1 in omega (arith, scarce, nine, still))
 
   -- the answer of the last look at the free blocks
-  pub enough_made : (a b : Engine N) (result : Result (Unit {0}) WriteFault) → IfErr result (λ fault. (fault ≡ ReadOnly) × (free_count (ram b).blocks < 5)) → MakesRoom flash honest erases flushing a b (Ok tt) → MakesRoom flash honest erases flushing a b result
+  pub enough_made : (a b : Engine N) (result : Result (Unit {0}) EngineFault) → IfErr result (λ fault. (fault ≡ ReadOnly) × (free_count (ram b).blocks < 5)) → MakesRoom flash honest erases flushing a b (Ok tt) → MakesRoom flash honest erases flushing a b result
   enough_made a b (Ok u) e k = k
   enough_made a b (Err fault) e k =
       let few : free_count (ram b).blocks < 5 = e.1 in
@@ -54,7 +54,7 @@ module _ {N : Type 0} {flash : N → Flash} {honest : N → Bool} {erases : N �
         few = λ known w passed few ne. k.few known w passed few (ok_not_bus tt);
       }
 
-  pub makes_noted : (a b : Engine N) (result : Result (Unit {0}) WriteFault) → MakesRoom flash honest erases flushing a b result → MakesRoom flash honest erases flushing a (record b { fault = fault_after b.fault result }) result
+  pub makes_noted : (a b : Engine N) (result : Result (Unit {0}) EngineFault) → MakesRoom flash honest erases flushing a b result → MakesRoom flash honest erases flushing a (record b { fault = fault_after b.fault result }) result
   makes_noted a b (Ok u) k = k
   makes_noted a b (Err f) k = record {
     calm = tt;

@@ -14,8 +14,8 @@ use Rattle.page_layout.specs.Change.{Keeps, Writes}
 use Rattle.page_layout.proofs.KeyLemmas.{cases_key}
 use Rattle.page_layout.proofs.StepLemmas.{Keeps-refl, Keeps-trans, Keeps-Writes, array_kept, array_written, array_unwritten}
 use Rattle.mapping_cache.specs.Mapping.{MappingState}
-use Rattle.collection.specs.declared.fault.WriteFault.{WriteFault}
-use Rattle.collection.specs.declared.fault.WriteFault.TheVariants.{ReadOnly, SequenceSpent, Damaged, Bus}
+use Rattle.collection.specs.declared.fault.EngineFault.{EngineFault}
+use Rattle.collection.specs.declared.fault.EngineFault.TheVariants.{ReadOnly, SequenceSpent, Damaged, Bus}
 use Rattle.collection.specs.State.{Ram}
 use Rattle.page_layout.specs.Sound.{version_for}
 use Rattle.page_layout.specs.Newest.{newest}
@@ -105,7 +105,7 @@ module _ (a b c : Ram) (x y z : Image) (goes : Goes a b) (after : c.geometry ≡
   pub same_then : IsSame a x b y → IsSame b y c z → IsSame a x c z
   same_then k l = record { truth = l.truth; array = (let P : Geometry → Type 0 = λ g. array_of g z ≡ array_of g y in subst P goes.geometry l.array ∙ k.array); leaves = leaves_then l.truth k.leaves l.leaves }
 
-  pub refused_then : (fault : WriteFault) → IsSame a x b y → Refused b y c z fault → Refused a x c z fault
+  pub refused_then : (fault : EngineFault) → IsSame a x b y → Refused b y c z fault → Refused a x c z fault
   refused_then ReadOnly k l = same_then k l
   refused_then SequenceSpent k l = same_then k l
   refused_then Damaged k l = l
@@ -150,7 +150,7 @@ array_put kind.Translation n row body a b x y lt p = array_unwritten a.geometry 
 array_put kind.Table n row body a b x y lt p = array_unwritten a.geometry (last_record kind.Table n row b) row body x y (λ k e. (let no : ⊥ = cc in no)) p.writes
 
 -- whatever the answer is
-pub array_result : (kind : Kind) (n : ℕ) (body : List ℕ) (a b : Ram) (x y : Image) (result : Result ℕ WriteFault)
+pub array_result : (kind : Kind) (n : ℕ) (body : List ℕ) (a b : Ram) (x y : Image) (result : Result ℕ EngineFault)
     → IsKeyOf a.geometry (key_from kind n) → MatchResult result (λ row. IsPut kind n row body a x b y) (Refused a x b y)
     → OnOk result (array_of a.geometry y ≡ array_after a.geometry kind n body (array_of a.geometry x))
 array_result kind n body a b x y (Ok row) lt p = array_put kind n row body a b x y lt p

@@ -9,8 +9,8 @@ use Rattle.bad_blocks.specs.Table.{is_good_at}
 use Rattle.allocation.specs.State.{live_at}
 use Rattle.collection.specs.State.{Ram}
 use Rattle.collection.specs.Safe.{IsRam, is_shut}
-use Rattle.collection.specs.declared.fault.WriteFault.{WriteFault}
-use Rattle.collection.specs.declared.fault.WriteFault.TheVariants.{ReadOnly, SequenceSpent, Damaged, Bus}
+use Rattle.collection.specs.declared.fault.EngineFault.{EngineFault}
+use Rattle.collection.specs.declared.fault.EngineFault.TheVariants.{ReadOnly, SequenceSpent, Damaged, Bus}
 use Rattle.budget.specs.declared.stream.Stream.TheVariants.{Meta}
 use Rattle.budget.specs.Spending.{data_of, meta_of}
 use Rattle.budget.proofs.AccountLemmas.{no_page}
@@ -231,7 +231,7 @@ followed_by key n a b x y is uncached k = record {
 }
 
 -- whatever was answered
-pub followed_result : (key : Key) (n e : ℕ) (a b : Ram) (x y : Image) (result : Result (Unit {0}) WriteFault) → key ≡ Sector n
+pub followed_result : (key : Key) (n e : ℕ) (a b : Ram) (x y : Image) (result : Result (Unit {0}) EngineFault) → key ≡ Sector n
     → slot_of a.mapping n ≡ None → e ≡ entries a.geometry → MatchResult result (λ _. IsWrittenBack (n / e) a x b y) (Refused a x b y)
     → MatchResult result (λ _. IsFollowedBy key a x b y) (Refused a x b y)
 followed_result key n e a b x y (Ok done) is none same k = followed_by key n a b x y is none (subst (λ s. IsWrittenBack (n / s) a x b y) same k)
@@ -297,24 +297,24 @@ rescued_cost key key' a b c d s same g cost sets is behind mapping =
     rescued_page key a c d s (g ∙ ap (λ (z : Ram). z.geometry) same) (subst P same cost) (subst Q same sets) (subst B is behind) (subst F is mapping)
 
 -- the copy was refused
-pub uncopied_cost : (a b c : Ram) (fault : WriteFault) → IsRam a → b ≡ a → FaultCosts b c fault → RescueCosts a c (Err fault)
+pub uncopied_cost : (a b c : Ram) (fault : EngineFault) → IsRam a → b ≡ a → FaultCosts b c fault → RescueCosts a c (Err fault)
 uncopied_cost a b c ReadOnly s same out = record { mid = a; data_pages = 0; meta_pages = 0; few = omega arith; programmed = none_programmed a s; out = (let P : Ram → Type 0 = λ z. StreamRunsOut z c in subst P same out) }
 uncopied_cost a b c SequenceSpent s same spent = record { mid = a; data_pages = 0; meta_pages = 0; few = omega arith; programmed = none_programmed a s; spent = (let P : Ram → Type 0 = λ z. StreamSpends z c in subst P same spent) }
 uncopied_cost a b c Damaged s same k = tt
 uncopied_cost a b c Bus s same k = tt
 
 -- or the translation page
-pub unfollowed_cost : (a b c d : Ram) (fault : WriteFault) → IsRam a → b ≡ a → HasCopied false b c → FaultCosts c d fault → RescueCosts a d (Err fault)
+pub unfollowed_cost : (a b c d : Ram) (fault : EngineFault) → IsRam a → b ≡ a → HasCopied false b c → FaultCosts c d fault → RescueCosts a d (Err fault)
 unfollowed_cost a b c d ReadOnly s same cost out = record { mid = c; data_pages = 0 + data_of cost.stream; meta_pages = 0 + meta_of cost.stream; few = omega (arith, one_of cost.stream); programmed = one_programmed a b c s same cost; out = out }
 unfollowed_cost a b c d SequenceSpent s same cost spent = record { mid = c; data_pages = 0 + data_of cost.stream; meta_pages = 0 + meta_of cost.stream; few = omega (arith, one_of cost.stream); programmed = one_programmed a b c s same cost; spent = spent }
 unfollowed_cost a b c d Damaged s same cost k = tt
 unfollowed_cost a b c d Bus s same cost k = tt
 
-pub unread_rescue : (a b : Ram) (fault : WriteFault) → IsReadFault fault → RescueCosts a b (Err fault)
+pub unread_rescue : (a b : Ram) (fault : EngineFault) → IsReadFault fault → RescueCosts a b (Err fault)
 unread_rescue a b ReadOnly is = absurd is
 unread_rescue a b SequenceSpent is = absurd is
 unread_rescue a b Damaged is = tt
 unread_rescue a b Bus is = tt
 
-pub unread_refused : (a b : Ram) (x y : Image) (fault : WriteFault) → fault ≡ Bus → Refused a x b y fault
-unread_refused a b x y fault is = (let P : WriteFault → Type 0 = λ f. Refused a x b y f in subst P (sym is) tt)
+pub unread_refused : (a b : Ram) (x y : Image) (fault : EngineFault) → fault ≡ Bus → Refused a x b y fault
+unread_refused a b x y fault is = (let P : EngineFault → Type 0 = λ f. Refused a x b y f in subst P (sym is) tt)

@@ -25,8 +25,8 @@ use Rattle.allocation.specs.Step.{IsVictim}
 use Rattle.allocation.specs.Counts.{counts_of, IsLiveExact}
 use Rattle.allocation.specs.Laws.{IsLeftButLive}
 use Rattle.allocation.proofs.SafeLemmas.{closed_parts}
-use Rattle.collection.specs.declared.fault.WriteFault.{WriteFault}
-use Rattle.collection.specs.declared.fault.WriteFault.TheVariants.{ReadOnly, SequenceSpent, Damaged, Bus}
+use Rattle.collection.specs.declared.fault.EngineFault.{EngineFault}
+use Rattle.collection.specs.declared.fault.EngineFault.TheVariants.{ReadOnly, SequenceSpent, Damaged, Bus}
 use Rattle.collection.specs.State.{Ram}
 use Rattle.collection.specs.Safe.{IsRam, is_shut}
 use Rattle.collection.specs.Pages.{newest_row}
@@ -195,7 +195,7 @@ rearranged_then a b c x y z s s' on same k e = record {
   versions = λ two key row at. k.versions two key row (e.leaves.versions (ap version_for on.geometry ∙ two) key row at);
 }
 
-pub room_refused : (a b c : Ram) (x y z : Image) (fault : WriteFault) → IsRam b → IsRam c → GoesOn a b → c.geometry ≡ b.geometry → IsRearranged a x b y → Refused b y c z fault → RoomRefused a x c z fault
+pub room_refused : (a b c : Ram) (x y z : Image) (fault : EngineFault) → IsRam b → IsRam c → GoesOn a b → c.geometry ≡ b.geometry → IsRearranged a x b y → Refused b y c z fault → RoomRefused a x c z fault
 room_refused a b c x y z ReadOnly s s' on same k e = rearranged_then a b c x y z s s' on same k e
 room_refused a b c x y z SequenceSpent s s' on same k e = rearranged_then a b c x y z s s' on same k e
 room_refused a b c x y z Damaged s s' on same k e = e
@@ -203,7 +203,7 @@ room_refused a b c x y z Bus s s' on same k e = tt
 
 -- ---- what a refusal tells
 
-pub room_tells : (flushing : Bool) (block : ℕ) (b c : Ram) (fault : WriteFault) → CollectCosts flushing block b c (Err fault) → RoomTells c fault
+pub room_tells : (flushing : Bool) (block : ℕ) (b c : Ram) (fault : EngineFault) → CollectCosts flushing block b c (Err fault) → RoomTells c fault
 room_tells flushing block b c ReadOnly cost = (let z = cost.out.out.none.none_free in omega arith)
 room_tells flushing block b c SequenceSpent cost = cost.out.spent.last
 room_tells flushing block b c Damaged cost = tt
@@ -223,7 +223,7 @@ funded_then failures a b c same f k =
       funded = (let e : failures + (f.its_failures + k'.failures) ≡ failures + f.its_failures + k'.failures = omega arith in rw e (collected_funded a.geometry.pages (failures + f.its_failures) (counts_of b.blocks) (counts_of c.blocks) f.funded k'));
     }
 
-pub refused_room : (failures : ℕ) (a b c : Ram) (fault : WriteFault) → IsRam b → b.geometry ≡ a.geometry → IsFundedOn failures a b → CollectCounts b c (Err fault) → RoomCounts failures a c (Err fault)
+pub refused_room : (failures : ℕ) (a b c : Ram) (fault : EngineFault) → IsRam b → b.geometry ≡ a.geometry → IsFundedOn failures a b → CollectCounts b c (Err fault) → RoomCounts failures a c (Err fault)
 refused_room failures a b c ReadOnly s same f k =
     let fits_b : Fits a.geometry.pages (counts_of b.blocks) = (let P : Geometry → Type 0 = λ g. Fits g.pages (counts_of b.blocks) in subst P same (fit b s)) in
     let n = never_stuck a.geometry.pages (failures + f.its_failures) (counts_of b.blocks) (counts_of c.blocks) fits_b f.funded k in
@@ -248,13 +248,13 @@ made_none r o m is = (let P : Option ℕ → Type 0 = λ x. MatchOption x (IsMad
 pub made_some : (r : Ram) (o : Option ℕ) (block : ℕ) → MatchOption o (IsMade 0 r) (IsWorth 0 r) → o ≡ Some block → IsWorth 0 r block
 made_some r o block m is = (let P : Option ℕ → Type 0 = λ x. MatchOption x (IsMade 0 r) (IsWorth 0 r) in subst P is m)
 
-pub final_counts : (failures : ℕ) (a b : Ram) (y : Image) (result : Result (Unit {0}) WriteFault) → IsTrue None b y → b.geometry ≡ a.geometry
+pub final_counts : (failures : ℕ) (a b : Ram) (y : Image) (result : Result (Unit {0}) EngineFault) → IsTrue None b y → b.geometry ≡ a.geometry
     → IsMade 0 b → IsFundedOn failures a b → IfErr result (λ fault. (fault ≡ ReadOnly) × (free_count b.blocks < 5))
     → RoomCounts failures a b result
 final_counts failures a b y (Ok u) w same room f few = regained failures a b y w same room f
-final_counts failures a b y (Err fault) w same room f few = (let P : WriteFault → Type 0 = λ e. RoomCounts failures a b (Err e) in subst P (sym few.0) (too_few failures a b y w same room few.1))
+final_counts failures a b y (Err fault) w same room f few = (let P : EngineFault → Type 0 = λ e. RoomCounts failures a b (Err e) in subst P (sym few.0) (too_few failures a b y w same room few.1))
 
 -- the answer of the last look at the free blocks
-pub enough_truth : (a b : Ram) (x y : Image) (result : Result (Unit {0}) WriteFault) → IsRearranged a x b y → IfErr result (λ fault. (fault ≡ ReadOnly) × (free_count b.blocks < 5)) → MatchResult result (λ u. IsRearranged a x b y) (RoomRefused a x b y)
+pub enough_truth : (a b : Ram) (x y : Image) (result : Result (Unit {0}) EngineFault) → IsRearranged a x b y → IfErr result (λ fault. (fault ≡ ReadOnly) × (free_count b.blocks < 5)) → MatchResult result (λ u. IsRearranged a x b y) (RoomRefused a x b y)
 enough_truth a b x y (Ok u) k few = k
-enough_truth a b x y (Err fault) k few = (let P : WriteFault → Type 0 = λ f. RoomRefused a x b y f in subst P (sym few.0) k)
+enough_truth a b x y (Err fault) k few = (let P : EngineFault → Type 0 = λ f. RoomRefused a x b y f in subst P (sym few.0) k)

@@ -19,8 +19,8 @@ use Rattle.allocation.specs.State.{live_at, is_closed}
 use Rattle.collection.specs.State.{Ram}
 use Rattle.collection.specs.Safe.{IsRam, IsIdle, is_shut}
 use Rattle.collection.specs.Truth.{IsTrue}
-use Rattle.collection.specs.declared.fault.WriteFault.{WriteFault}
-use Rattle.collection.specs.declared.fault.WriteFault.TheVariants.{Bus}
+use Rattle.collection.specs.declared.fault.EngineFault.{EngineFault}
+use Rattle.collection.specs.declared.fault.EngineFault.TheVariants.{Bus}
 use Rattle.collection.specs.Results.{IsSame, IsImageKept, LeavesNewest, Goes, Refused}
 use Rattle.collection.specs.Collect.{has_moved, is_due, HasNoneDue, GoesBut, IsEmptied, IsCopiedOr, HasErased, FaultCosts, Refreshes}
 use Rattle.collection.proofs.Puts.{same_then, same_kept, refused_then}
@@ -37,7 +37,7 @@ pub at_start : (P : Ram → Type 0) (a b : Ram) → b ≡ a → P b → P a
 at_start P a b same p = subst P same p
 
 -- a fault of one answer is another's
-pub err_same : {A B : Type 0} (f h : WriteFault) → err_as A f ≡ err_as A h → err_as B f ≡ err_as B h
+pub err_same : {A B : Type 0} (f h : EngineFault) → err_as A f ≡ err_as A h → err_as B f ≡ err_as B h
 err_same {A} {B} f h e = (let same : f ≡ h = cc in ap (err_as B) same)
 
 pub found_none : (block : ℕ) (r r1 : Ram) (x x1 : Image) (o : Option ℕ) → IsCopiedOr block r x r1 x1 o → o ≡ None → IsSame r x r1 x1 × HoldsNone r.geometry.pages block x1
@@ -93,7 +93,7 @@ module _ (block : ℕ) (r r1 : Ram) (x x1 : Image) (same : r1 ≡ r) (goes : Goe
         none = live_none r3 x3 block s3 k.truth (rw g within) (let P : Geometry → Type 0 = λ y. HoldsNone y.pages block x3 in subst P (sym after) h);
       }
 
-  pub refused_written : (r2 : Ram) (x2 : Image) (fault : WriteFault) → r2.geometry ≡ r1.geometry → Refused r1 x1 r2 x2 fault → Refused r x r2 x2 fault
+  pub refused_written : (r2 : Ram) (x2 : Image) (fault : EngineFault) → r2.geometry ≡ r1.geometry → Refused r1 x1 r2 x2 fault → Refused r x r2 x2 fault
   refused_written r2 x2 fault after k = refused_then r r1 r2 x x1 x2 goes after fault first.0 k
 
 -- ---- none has to be written any more
@@ -132,5 +132,5 @@ idle_by flushing block r r' s none e unmarked = record {
 pub erased_fresh : (flushing : Bool) (block : ℕ) (r r' : Ram) → flushing ≡ true → HasNoneDue flushing r → HasErased block r r' → Refreshes r r'
 erased_fresh flushing block r r' on none e = erased_refreshes r r' (let P : Bool → Type 0 = λ b. HasNoneDue b r in subst P on none) e.geometry e.mapping
 
-pub read_fault : (a b : Ram) (fault : WriteFault) → fault ≡ Bus → FaultCosts a b fault
-read_fault a b fault is = (let P : WriteFault → Type 0 = λ f. FaultCosts a b f in subst P (sym is) tt)
+pub read_fault : (a b : Ram) (fault : EngineFault) → fault ≡ Bus → FaultCosts a b fault
+read_fault a b fault is = (let P : EngineFault → Type 0 = λ f. FaultCosts a b f in subst P (sym is) tt)

@@ -19,8 +19,8 @@ use Rattle.promises.specs.Stop.{LeavesOnly}
 use Rattle.promises.proofs.StopLemmas.{leaves_nothing, leaves_one, leaves_join}
 use Rattle.image_check.specs.Mountable.{IsOrderly}
 use Rattle.image_check.proofs.TornLemmas.{orderly_kept}
-use Rattle.collection.specs.declared.fault.WriteFault.{WriteFault}
-use Rattle.collection.specs.declared.fault.WriteFault.TheVariants.{ReadOnly, SequenceSpent, Damaged, Bus}
+use Rattle.collection.specs.declared.fault.EngineFault.{EngineFault}
+use Rattle.collection.specs.declared.fault.EngineFault.TheVariants.{ReadOnly, SequenceSpent, Damaged, Bus}
 use Rattle.mapping_cache.specs.Mapping.{MappingState}
 use Rattle.collection.specs.Settle.{SetsMapping}
 use Rattle.collection.specs.Collect.{IsRearranged, RoomRefused}
@@ -143,7 +143,7 @@ stops_then a b x y z rx ry rz s e p q = leaves_join x y z rx ry rz (IsLeftByStop
     (leaves_more y z ry rz (IsLeftByStop b y.image z.image) (IsLeftByStop a x.image z.image) (λ i l. later_left a b x.image y.image z.image i s e l) q)
 
 -- what a refused call knows, where the die gave no fault
-pub refused_same : (a b : Ram) (x y : Image) (fault : WriteFault) → fault ≢ Bus → Refused a x b y fault → IsSame a x b y
+pub refused_same : (a b : Ram) (x y : Image) (fault : EngineFault) → fault ≢ Bus → Refused a x b y fault → IsSame a x b y
 refused_same a b x y ReadOnly ne k = k
 refused_same a b x y SequenceSpent ne k = k
 refused_same a b x y Damaged ne k = absurd k
@@ -186,11 +186,11 @@ sets_capacity (Translation t) row old new s = ap (λ m. m.capacity) s
 sets_capacity (Table u) row old new s = ap (λ m. m.capacity) s
 
 -- an answer that is no fault of the die
-pub fault_not_bus : {A : Type 0} (f : WriteFault) → err_as A f ≢ err_as A Bus → f ≢ Bus
+pub fault_not_bus : {A : Type 0} (f : EngineFault) → err_as A f ≢ err_as A Bus → f ≢ Bus
 fault_not_bus {A} f ne is = ne (ap (err_as A) is)
 
 -- what making room knows where it is refused
-pub room_same : (a b : Ram) (x y : Image) (fault : WriteFault) → fault ≢ Bus → RoomRefused a x b y fault → IsRearranged a x b y
+pub room_same : (a b : Ram) (x y : Image) (fault : EngineFault) → fault ≢ Bus → RoomRefused a x b y fault → IsRearranged a x b y
 room_same a b x y ReadOnly ne k = k
 room_same a b x y SequenceSpent ne k = k
 room_same a b x y Damaged ne k = absurd k

@@ -15,8 +15,8 @@ use Rattle.collection.specs.declared.engine.collect_steps.Progress.{Progress}
 use Rattle.collection.specs.declared.engine.collect_steps.Progress.TheVariants as step
 use Rattle.collection.specs.declared.engine.collect_in_turns.Step.{Step}
 use Rattle.collection.specs.declared.engine.collect_in_turns.Step.TheVariants.{Copied, Erased}
-use Rattle.collection.specs.declared.fault.WriteFault.{WriteFault}
-use Rattle.collection.specs.declared.fault.WriteFault.TheVariants.{ReadOnly, SequenceSpent, Damaged, Bus}
+use Rattle.collection.specs.declared.fault.EngineFault.{EngineFault}
+use Rattle.collection.specs.declared.fault.EngineFault.TheVariants.{ReadOnly, SequenceSpent, Damaged, Bus}
 use Rattle.collection.specs.State.{Ram}
 use Rattle.collection.specs.Safe.{IsRam, IsIdle, ram}
 use Rattle.collection.specs.Truth.{IsTrue}
@@ -93,7 +93,7 @@ told_erased step.WroteBack is = (let no : ⊥ = cc in absurd no)
 told_erased step.Erased is = refl
 
 -- an answer of a step
-abbrev pub ok_as : (A : Type 0) → A → Result A WriteFault
+abbrev pub ok_as : (A : Type 0) → A → Result A EngineFault
 ok_as A x = Ok x
 
 pub ok_told : (done : Progress) → ok_as Progress done ≡ ok_as Progress step.Erased → ok_as Step (told done) ≡ ok_as Step Erased
@@ -196,14 +196,14 @@ of_pinned P o p is h = λ q at. subst P (some_same p q (sym is ∙ at)) h
 
 -- ---- a fault of it is noted
 
-fault_noted : (a b : Ram) (fault : Option WriteFault) (f : WriteFault) → FaultCosts a b f → FaultCosts a (record b { fault = fault }) f
+fault_noted : (a b : Ram) (fault : Option EngineFault) (f : EngineFault) → FaultCosts a b f → FaultCosts a (record b { fault = fault }) f
 fault_noted a b fault ReadOnly k = record { stream = k.stream; out = record { failures = k.out.failures; found = k.out.found; none = k.out.none; next = k.out.next; sequence = k.out.sequence } }
 fault_noted a b fault SequenceSpent k = record { stream = k.stream; spent = record { tried = record { failures = k.spent.tried.failures; tries = k.spent.tried.tries; next = k.spent.tried.next }; last = k.spent.last } }
 fault_noted a b fault Damaged k = k
 fault_noted a b fault Bus k = tt
 
 module _ {N : Type 0} {flash : N → Flash} {honest : N → Bool} {reads erases : N → ℕ} (flushing : Bool) (p : Pinned) where
-  pub advances_noted : (a b : Engine N) (result : Result Step WriteFault) → Advances flash honest reads erases flushing p a b result → Advances flash honest reads erases flushing p a (record b { fault = fault_after b.fault result }) result
+  pub advances_noted : (a b : Engine N) (result : Result Step EngineFault) → Advances flash honest reads erases flushing p a b result → Advances flash honest reads erases flushing p a (record b { fault = fault_after b.fault result }) result
   advances_noted a b (Ok done) k = k
   advances_noted a b (Err f) k = record {
     goes = but_noted (Some f) p.block (ram a) (ram b) k.goes;

@@ -19,8 +19,8 @@ use Rattle.mapping_cache.specs.Mapping.{MappingState, per_page, pending}
 use Rattle.mapping_cache.proofs.CallerLemmas.{row_from_pending}
 use Rattle.translation_pages.specs.TranslationPage.{entry_at, word_at, row_of_word}
 use Rattle.budget.specs.declared.stream.Stream.TheVariants.{Meta}
-use Rattle.collection.specs.declared.fault.WriteFault.{WriteFault}
-use Rattle.collection.specs.declared.fault.WriteFault.TheVariants.{ReadOnly, SequenceSpent, Damaged, Bus}
+use Rattle.collection.specs.declared.fault.EngineFault.{EngineFault}
+use Rattle.collection.specs.declared.fault.EngineFault.TheVariants.{ReadOnly, SequenceSpent, Damaged, Bus}
 use Rattle.collection.specs.State.{Ram}
 use Rattle.translation_pages.specs.Entry.{entry_of}
 use Rattle.collection.specs.Pages.{newest_row}
@@ -99,7 +99,7 @@ brought_up_by r r1 image t body lent body' w same is_lent loaded rows padded =
 
 -- ---- what follows a page read, which leaves the memory and the die as they were
 
-pub read_costs : (a b : Ram) (fault : WriteFault) → b ≡ a → IsReadFault fault → WriteBackCosts a b (Err fault)
+pub read_costs : (a b : Ram) (fault : EngineFault) → b ≡ a → IsReadFault fault → WriteBackCosts a b (Err fault)
 read_costs a b ReadOnly same is = absurd is
 read_costs a b SequenceSpent same is = absurd is
 read_costs a b Damaged same is = ap (λ r. r.next) same
@@ -108,13 +108,13 @@ read_costs a b Bus same is = tt
 pub read_went : (a b : Ram) (x y : Flash) (told told' : Option Recording) → b ≡ a → y ≡ x → told' ≡ told → Went a x told b y told'
 read_went a b x y told told' same still kept = rw (same, still, kept) (went_same a x told)
 
-pub put_costs : (a b c : Ram) (fault : WriteFault) → b ≡ a → PutCosts Meta b c (Err fault) → WriteBackCosts a c (Err fault)
+pub put_costs : (a b c : Ram) (fault : EngineFault) → b ≡ a → PutCosts Meta b c (Err fault) → WriteBackCosts a c (Err fault)
 put_costs a b c ReadOnly same cost = (let P : Ram → Type 0 = λ z. HasRunOut Meta z c in subst P same cost)
 put_costs a b c SequenceSpent same cost = (let P : Ram → Type 0 = λ z. HasSpent Meta z c in subst P same cost)
 put_costs a b c Damaged same cost = absurd cost
 put_costs a b c Bus same cost = tt
 
-pub refused_after : (a b c : Ram) (x y z : Image) (fault : WriteFault) → b ≡ a → y ≡ x → Refused b y c z fault → Refused a x c z fault
+pub refused_after : (a b c : Ram) (x y z : Image) (fault : EngineFault) → b ≡ a → y ≡ x → Refused b y c z fault → Refused a x c z fault
 refused_after a b c x y z fault same still w = (let P : Ram → Type 0 = λ r. Refused r x c z fault in let Q : Image → Type 0 = λ i. Refused b i c z fault in subst P same (subst Q still w))
 
 pub may_write_back : (r r1 : Ram) (x x1 : Image) (t : ℕ) (row : Option ℕ) (body : List ℕ) → IsTrue None r x → r1 ≡ r → x1 ≡ x → IsFilled t body r.geometry x → newest_row x (Translation t) ≡ row → MayPut kind.Translation t row body r1 x1

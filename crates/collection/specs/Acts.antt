@@ -7,8 +7,8 @@ use Rattle.page_layout.specs.Recording.{Recording}
 use Rattle.page_layout.specs.Counter.{HasRisen}
 use Rattle.page_layout.specs.OnlyReads.{OnlyReads}
 use Rattle.collection.specs.declared.engine.Engine.{Engine}
-use Rattle.collection.specs.declared.fault.WriteFault.{WriteFault}
-use Rattle.collection.specs.declared.fault.WriteFault.TheVariants.{Bus}
+use Rattle.collection.specs.declared.fault.EngineFault.{EngineFault}
+use Rattle.collection.specs.declared.fault.EngineFault.TheVariants.{Bus}
 use Rattle.collection.specs.Safe.{IsSafe, ram}
 use Rattle.collection.specs.Looks.{IsReadFault}
 use Rattle.collection.specs.Log.{Went}
@@ -16,7 +16,7 @@ use Rattle.collection.specs.Results.{fault_after}
 
 -- A CALL THAT LOOKS: memory stays, the die is only read, and an honest one stays as it is, and so does what it tells, unless it gave a fault
 pub record EngineLooks {A N : Type 0} (flash : N → Flash) (recorded : N → Option Recording) (honest calm : N → Bool) (programs erases failed : N → ℕ)
-    (old new : Engine N) (result : Result A WriteFault) : Type 0 where
+    (old new : Engine N) (result : Result A EngineFault) : Type 0 where
   pub safe : IsSafe flash new
   pub memory : ram new ≡ ram old
   pub only_reads : OnlyReads flash honest calm programs erases failed old.nand new.nand
@@ -26,7 +26,7 @@ pub record EngineLooks {A N : Type 0} (flash : N → Flash) (recorded : N → Op
   pub told : honest old.nand ≡ true → result ≢ Err Bus → recorded new.nand ≡ recorded old.nand
 
 -- A CALL THAT ACTS, and notes no fault: what an honest die did is one log, unless the die gave a fault, and that is counted
-pub record EngineActs {A N : Type 0} (flash : N → Flash) (recorded : N → Option Recording) (honest calm : N → Bool) (failed : N → ℕ) (old new : Engine N) (result : Result A WriteFault) : Type 0 where
+pub record EngineActs {A N : Type 0} (flash : N → Flash) (recorded : N → Option Recording) (honest calm : N → Bool) (failed : N → ℕ) (old new : Engine N) (result : Result A EngineFault) : Type 0 where
   pub safe : IsSafe flash new
   pub fault : new.fault ≡ old.fault
   pub honest_is : honest new.nand ≡ honest old.nand
@@ -37,7 +37,7 @@ pub record EngineActs {A N : Type 0} (flash : N → Flash) (recorded : N → Opt
 
 -- A CALL THAT A STANDING FAULT STOPS: such a fault is answered again and nothing changes; else the call acts, and a fault that it answers
 -- stands from then on
-pub record Stands {A N : Type 0} (flash : N → Flash) (recorded : N → Option Recording) (honest calm : N → Bool) (failed : N → ℕ) (old new : Engine N) (result : Result A WriteFault) : Type 0 where
+pub record Stands {A N : Type 0} (flash : N → Flash) (recorded : N → Option Recording) (honest calm : N → Bool) (failed : N → ℕ) (old new : Engine N) (result : Result A EngineFault) : Type 0 where
   pub safe : IsSafe flash new
   pub standing : ForSome old.fault (λ fault. (result ≡ Err fault) × (new ≡ old))
   pub fault : new.fault ≡ fault_after old.fault result

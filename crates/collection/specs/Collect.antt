@@ -25,8 +25,8 @@ use Rattle.allocation.specs.State.{State, live_at, is_closed, is_free, free_coun
 use Rattle.allocation.specs.Step.{erased, without}
 use Rattle.allocation.specs.Counts.{counts_of}
 use Rattle.allocation.specs.Laws.{IsLeftButLive}
-use Rattle.collection.specs.declared.fault.WriteFault.{WriteFault}
-use Rattle.collection.specs.declared.fault.WriteFault.TheVariants.{ReadOnly, SequenceSpent, Damaged, Bus}
+use Rattle.collection.specs.declared.fault.EngineFault.{EngineFault}
+use Rattle.collection.specs.declared.fault.EngineFault.TheVariants.{ReadOnly, SequenceSpent, Damaged, Bus}
 use Rattle.collection.specs.declared.engine.collect_steps.Progress.{Progress}
 use Rattle.collection.specs.declared.engine.collect_steps.Progress.TheVariants as step
 use Rattle.collection.specs.State.{Ram}
@@ -150,14 +150,14 @@ pub record StreamSpends (old new : Ram) : Type 0 where
   pub spent : HasSpent stream old new
 
 -- what a refused call costs that programs one page at most
-abbrev pub FaultCosts : Ram → Ram → WriteFault → Type 0
+abbrev pub FaultCosts : Ram → Ram → EngineFault → Type 0
 FaultCosts old new ReadOnly = StreamRunsOut old new
 FaultCosts old new SequenceSpent = StreamSpends old new
 FaultCosts old new Damaged = new.next ≡ old.next
 FaultCosts old new Bus = Unit {0}
 
 -- what a step costs, by what it answers; from this page on, none before it counts
-abbrev pub StepCosts : Bool → (block first : ℕ) → Ram → Ram → Result Progress WriteFault → Type 0
+abbrev pub StepCosts : Bool → (block first : ℕ) → Ram → Ram → Result Progress EngineFault → Type 0
 StepCosts flushing block first old new (Ok (step.Copied page)) = (first ≤ page) × (page < old.geometry.pages) × HasCopied flushing old new × (new.fault ≡ old.fault)
 StepCosts flushing block first old new (Ok step.WroteBack) = HasWritten flushing old new
 StepCosts flushing block first old new (Ok step.Erased) = HasNoneDue flushing old × HasErased block old new
@@ -271,7 +271,7 @@ pub record HasSpentIn (flushing : Bool) (old new : Ram) : Type 0 where
   pub ledger : Ledger flushing old mid
   pub out : StreamSpends mid new
 
-abbrev pub CollectCosts : Bool → ℕ → Ram → Ram → Result (Unit {0}) WriteFault → Type 0
+abbrev pub CollectCosts : Bool → ℕ → Ram → Ram → Result (Unit {0}) EngineFault → Type 0
 CollectCosts flushing block old new (Ok done) = HasCollected flushing block old new
 CollectCosts flushing block old new (Err ReadOnly) = HasStuck flushing old new
 CollectCosts flushing block old new (Err SequenceSpent) = HasSpentIn flushing old new
@@ -285,7 +285,7 @@ abbrev pub IsThrifty : Ram → Ram → Type 0
 IsThrifty old new = new.next + (counts_of new.blocks).good + 1 ≤ old.next + (counts_of old.blocks).good + old.geometry.pages
 
 -- what a collection brings, and where it found no free block, how few there were
-abbrev pub CollectCounts : Ram → Ram → Result (Unit {0}) WriteFault → Type 0
+abbrev pub CollectCounts : Ram → Ram → Result (Unit {0}) EngineFault → Type 0
 CollectCounts old new (Ok done) = Collected old.geometry.pages (counts_of old.blocks) (counts_of new.blocks)
 CollectCounts old new (Err ReadOnly) = Stuck (counts_of old.blocks) (counts_of new.blocks)
 CollectCounts old new (Err SequenceSpent) = Unit {0}
@@ -304,7 +304,7 @@ pub record HasRoom (r : Ram) : Type 0 where
   pub nine : (9 ≤ free_count r.blocks) ⊎ HasNoneWorth r
 
 -- why there is none, whatever the die does
-abbrev pub RoomTells : Ram → WriteFault → Type 0
+abbrev pub RoomTells : Ram → EngineFault → Type 0
 RoomTells new ReadOnly = free_count new.blocks < 5
 RoomTells new SequenceSpent = new.next ≡ 2 ^ 64 - 1
 RoomTells new Damaged = Unit {0}
@@ -318,7 +318,7 @@ pub record IsRearranged (old : Ram) (before : Image) (new : Ram) (after : Image)
   pub versions : AddsNoOld old.geometry before after
 
 -- after a fault
-abbrev pub RoomRefused : Ram → Image → Ram → Image → WriteFault → Type 0
+abbrev pub RoomRefused : Ram → Image → Ram → Image → EngineFault → Type 0
 RoomRefused old before new after ReadOnly = IsRearranged old before new after
 RoomRefused old before new after SequenceSpent = IsRearranged old before new after
 RoomRefused old before new after Damaged = ⊥
@@ -333,7 +333,7 @@ pub record HasRegained (failures : ℕ) (old new : Ram) : Type 0 where
   pub nine : ((counts_of new.blocks).good < need old.geometry) ⊎ (9 ≤ (counts_of new.blocks).free)
 
 -- refused: fewer than `need` blocks are good, or three have failed, here and before
-abbrev pub RoomCounts : ℕ → Ram → Ram → Result (Unit {0}) WriteFault → Type 0
+abbrev pub RoomCounts : ℕ → Ram → Ram → Result (Unit {0}) EngineFault → Type 0
 RoomCounts failures old new (Ok done) = HasRegained failures old new
 RoomCounts failures old new (Err ReadOnly) = ((counts_of new.blocks).good < need old.geometry) ⊎ (3 + (counts_of new.blocks).good ≤ failures + (counts_of old.blocks).good)
 RoomCounts failures old new (Err SequenceSpent) = Unit {0}
@@ -386,7 +386,7 @@ PutsBehind (Translation t) old new = new ≡ old
 PutsBehind (Table u) old new = new ≡ old
 
 -- by what is answered
-abbrev pub FollowCosts : Key → Ram → Ram → Result (Unit {0}) WriteFault → Type 0
+abbrev pub FollowCosts : Key → Ram → Ram → Result (Unit {0}) EngineFault → Type 0
 FollowCosts key old new (Ok done) = PutsBehind key old new
 FollowCosts key old new (Err fault) = FaultCosts old new fault
 
@@ -422,7 +422,7 @@ pub record HasRescuedPage (old new : Ram) : Type 0 where
   pub programmed : HasProgrammed old new data_pages meta_pages
 
 -- what it costs, whatever the die does: nothing where there was none, else a page or two
-abbrev pub RescueCosts : Ram → Ram → Result Bool WriteFault → Type 0
+abbrev pub RescueCosts : Ram → Ram → Result Bool EngineFault → Type 0
 RescueCosts old new (Ok false) = new ≡ old
 RescueCosts old new (Ok true) = HasRescuedPage old new
 RescueCosts old new (Err ReadOnly) = RescueRunsOut old new

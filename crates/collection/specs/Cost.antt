@@ -7,8 +7,8 @@ use Rattle.budget.specs.Put.{Tries, StreamPut, FindsNone}
 use Rattle.allocation.specs.State.{State, live_at}
 use Rattle.allocation.specs.Step.{HasNone, with_live, most_live}
 use Rattle.allocation.specs.Counts.{counts_of}
-use Rattle.collection.specs.declared.fault.WriteFault.{WriteFault}
-use Rattle.collection.specs.declared.fault.WriteFault.TheVariants.{ReadOnly, SequenceSpent, Damaged, Bus}
+use Rattle.collection.specs.declared.fault.EngineFault.{EngineFault}
+use Rattle.collection.specs.declared.fault.EngineFault.TheVariants.{ReadOnly, SequenceSpent, Damaged, Bus}
 use Rattle.collection.specs.State.{Ram}
 
 -- ---- live pages
@@ -39,7 +39,7 @@ pub record FindsNoRow (stream : Stream) (old new : Ram) : Type 0 where
   pub same : new ≡ old
 
 -- what one try costs, by what it answers
-abbrev pub TryCosts : Stream → Ram → Ram → Result (Option ℕ) WriteFault → Type 0
+abbrev pub TryCosts : Stream → Ram → Ram → Result (Option ℕ) EngineFault → Type 0
 TryCosts stream old new (Ok None) = FailsTry stream old new
 TryCosts stream old new (Ok (Some row)) = PassesTry stream old new
 TryCosts stream old new (Err ReadOnly) = FindsNoRow stream old new
@@ -75,7 +75,7 @@ pub record HasSpent (stream : Stream) (old new : Ram) : Type 0 where
   pub last : new.next ≡ 2 ^ 64 - 1
 
 -- what a page costs, by what it answers
-abbrev pub PutCosts : Stream → Ram → Ram → Result ℕ WriteFault → Type 0
+abbrev pub PutCosts : Stream → Ram → Ram → Result ℕ EngineFault → Type 0
 PutCosts stream old new (Ok row) = HasPut stream old new
 PutCosts stream old new (Err ReadOnly) = HasRunOut stream old new
 PutCosts stream old new (Err SequenceSpent) = HasSpent stream old new
@@ -83,7 +83,7 @@ PutCosts stream old new (Err Damaged) = ⊥
 PutCosts stream old new (Err Bus) = Unit {0}
 
 -- the same of a call that answers no row
-abbrev pub PageCosts : Stream → Ram → Ram → Result (Unit {0}) WriteFault → Type 0
+abbrev pub PageCosts : Stream → Ram → Ram → Result (Unit {0}) EngineFault → Type 0
 PageCosts stream old new (Ok done) = HasPut stream old new
 PageCosts stream old new (Err ReadOnly) = HasRunOut stream old new
 PageCosts stream old new (Err SequenceSpent) = HasSpent stream old new
@@ -91,7 +91,7 @@ PageCosts stream old new (Err Damaged) = ⊥
 PageCosts stream old new (Err Bus) = Unit {0}
 
 -- the same of a translation page that is written back: where it was damaged there was no try
-abbrev pub WriteBackCosts : Ram → Ram → Result (Unit {0}) WriteFault → Type 0
+abbrev pub WriteBackCosts : Ram → Ram → Result (Unit {0}) EngineFault → Type 0
 WriteBackCosts old new (Ok done) = HasPut Meta old new
 WriteBackCosts old new (Err ReadOnly) = HasRunOut Meta old new
 WriteBackCosts old new (Err SequenceSpent) = HasSpent Meta old new

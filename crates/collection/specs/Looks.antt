@@ -11,8 +11,8 @@ use Rattle.page_layout.specs.Array.{zeros, content_of_kind, sector_of}
 use Rattle.page_layout.specs.Geometry.{entries}
 use Rattle.mapping_cache.specs.Mapping.{MappingState, known, pending}
 use Rattle.translation_pages.specs.TranslationPage.{entry_at}
-use Rattle.collection.specs.declared.fault.WriteFault.{WriteFault}
-use Rattle.collection.specs.declared.fault.WriteFault.TheVariants.{ReadOnly, SequenceSpent, Damaged, Bus}
+use Rattle.collection.specs.declared.fault.EngineFault.{EngineFault}
+use Rattle.collection.specs.declared.fault.EngineFault.TheVariants.{ReadOnly, SequenceSpent, Damaged, Bus}
 use Rattle.translation_pages.specs.Entry.{entry_of}
 use Rattle.collection.specs.State.{Ram}
 use Rattle.collection.specs.Pages.{newest_row}
@@ -78,7 +78,7 @@ GivesSector g n None p bytes = bytes ≡ zeros g
 GivesSector g n (Some row) p bytes = HoldsSector g n p bytes
 
 -- the faults of a read: it programs nothing, so there is always room and a sequence for it
-abbrev pub IsReadFault : WriteFault → Type 0
+abbrev pub IsReadFault : EngineFault → Type 0
 IsReadFault ReadOnly = ⊥
 IsReadFault SequenceSpent = ⊥
 IsReadFault Damaged = Unit {0}

@@ -22,8 +22,8 @@ use Rattle.bad_blocks.specs.Table.{wear_at, good_count}
 use Rattle.bad_blocks.specs.declared.table.TableRow.{TableRow}
 use Rattle.allocation.specs.State.{State}
 use Rattle.allocation.specs.Laws.{IsLeftButLive}
-use Rattle.collection.specs.declared.fault.WriteFault.{WriteFault}
-use Rattle.collection.specs.declared.fault.WriteFault.TheVariants.{ReadOnly, SequenceSpent, Damaged, Bus}
+use Rattle.collection.specs.declared.fault.EngineFault.{EngineFault}
+use Rattle.collection.specs.declared.fault.EngineFault.TheVariants.{ReadOnly, SequenceSpent, Damaged, Bus}
 use Rattle.collection.specs.State.{Ram}
 use Rattle.collection.specs.Pages.{newest_row}
 use Rattle.collection.specs.Maps.{IsPageFor}
@@ -102,7 +102,7 @@ pub record IsSame (old : Ram) (before : Image) (new : Ram) (after : Image) : Typ
   pub leaves : LeavesNewest old before after
 
 -- after a fault: where the die gave none, nothing that counts has changed, and nothing was damaged
-abbrev pub Refused : Ram → Image → Ram → Image → WriteFault → Type 0
+abbrev pub Refused : Ram → Image → Ram → Image → EngineFault → Type 0
 Refused old before new after ReadOnly = IsSame old before new after
 Refused old before new after SequenceSpent = IsSame old before new after
 Refused old before new after Damaged = ⊥
@@ -169,6 +169,6 @@ pub record GoesPut (old new : Ram) : Type 0 where
 -- ---- the fault that stands
 
 -- the fault after a call: the one that it answers, or the one that stood
-abbrev pub fault_after : {A : Type 0} → Option WriteFault → Result A WriteFault → Option WriteFault
+abbrev pub fault_after : {A : Type 0} → Option EngineFault → Result A EngineFault → Option EngineFault
 fault_after fault (Ok answer) = fault
 fault_after fault (Err new) = Some new

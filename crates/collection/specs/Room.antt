@@ -11,8 +11,8 @@ use Rattle.allocation.specs.Counts.{counts_of, IsLiveExact}
 use Rattle.collection.specs.declared.engine.Engine.{Engine}
 use Rattle.collection.specs.declared.engine.room.Reserve.{Reserve}
 use Rattle.collection.specs.declared.engine.room.Reserve.TheVariants.{Call, Turn}
-use Rattle.collection.specs.declared.fault.WriteFault.{WriteFault}
-use Rattle.collection.specs.declared.fault.WriteFault.TheVariants.{Bus}
+use Rattle.collection.specs.declared.fault.EngineFault.{EngineFault}
+use Rattle.collection.specs.declared.fault.EngineFault.TheVariants.{Bus}
 use Rattle.collection.specs.State.{Ram}
 use Rattle.collection.specs.Safe.{ram, image_in}
 use Rattle.collection.specs.Truth.{IsTrue}
@@ -60,7 +60,7 @@ pub record IsFundedOn (failures : ℕ) (old now : Ram) : Type 0 where
 
 -- MAKING ROOM, where no fault stood: the cache stays, and bad blocks do; the pinned block was collected first, and then each time the next
 -- victim; nothing was done where nine blocks were free. Where the die is honest, the array is as it was.
-pub record MakesRoom {N : Type 0} (flash : N → Flash) (honest : N → Bool) (erases : N → ℕ) (flushing : Bool) (old new : Engine N) (result : Result (Unit {0}) WriteFault) : Type 0 where
+pub record MakesRoom {N : Type 0} (flash : N → Flash) (honest : N → Bool) (erases : N → ℕ) (flushing : Bool) (old new : Engine N) (result : Result (Unit {0}) EngineFault) : Type 0 where
   pub calm : OnOk result (IsCalm (ram new))
   pub goes : GoesOn (ram old) (ram new)
   pub keys : KeepsKeys old.mapping new.mapping

@@ -4,7 +4,7 @@ use Rattle.page_layout.specs.declared.geometry.Geometry.{Geometry}
 use Rattle.mapping_cache.specs.Mapping.{MappingState}
 use Rattle.allocation.specs.State.{State}
 use Rattle.collection.specs.declared.engine.Pinned.{Pinned}
-use Rattle.collection.specs.declared.fault.WriteFault.{WriteFault}
+use Rattle.collection.specs.declared.fault.EngineFault.{EngineFault}
 
 -- what is being collected
 pub record Pin : Type 0 where
@@ -22,5 +22,5 @@ pub record Ram : Type 0 where
   -- the sequence of the page that is programmed next
   pub next : ℕ
   -- the fault that every call answers again that programs or makes room
-  pub fault : Option WriteFault
+  pub fault : Option EngineFault
   pub pin : Pin

@@ -7,7 +7,7 @@ use Rattle.collection.specs.declared.engine.Engine.{Engine}
 use Rattle.collection.specs.declared.engine.Pinned.{Pinned}
 use Rattle.collection.specs.declared.engine.collect_in_turns.Step.{Step}
 use Rattle.collection.specs.declared.engine.collect_in_turns.Step.TheVariants.{Copied, WroteBack, Erased}
-use Rattle.collection.specs.declared.fault.WriteFault.{WriteFault}
+use Rattle.collection.specs.declared.fault.EngineFault.{EngineFault}
 use Rattle.collection.specs.Safe.{IsIdle, ram, image_in}
 use Rattle.collection.specs.Truth.{IsTrue}
 use Rattle.collection.specs.Results.{Goes, Refused}
@@ -21,7 +21,7 @@ erases_told WroteBack erases = erases
 erases_told Erased erases = counted erases
 
 -- A STEP OF THE PINNED BLOCK, where no fault stood
-pub record Advances {N : Type 0} (flash : N → Flash) (honest : N → Bool) (reads erases : N → ℕ) (flushing : Bool) (p : Pinned) (old new : Engine N) (result : Result Step WriteFault) : Type 0 where
+pub record Advances {N : Type 0} (flash : N → Flash) (honest : N → Bool) (reads erases : N → ℕ) (flushing : Bool) (p : Pinned) (old new : Engine N) (result : Result Step EngineFault) : Type 0 where
   pub goes : GoesBut p.block (ram old) (ram new)
   pub goes_still : result ≢ Ok Erased → Goes (ram old) (ram new)
   pub keys : KeepsKeys old.mapping new.mapping

@@ -1,5 +1,5 @@
 //! The engine's memory.
-use crate::fault::WriteFault;
+use crate::fault::EngineFault;
 use allocation::Blocks;
 use mapping_cache::Mapping;
 use onfi_cycles::Nand;
@@ -71,7 +71,7 @@ pub struct Engine<N: Nand> {
     /// The sequence of the page that is programmed next.
     pub next: u64,
     /// The fault that every call answers again that programs or makes room.
-    pub fault: Option<WriteFault>,
+    pub fault: Option<EngineFault>,
     /// The page that is programmed next.
     pub page: Buffer,
     /// A page that is looked at.

@@ -4,12 +4,12 @@ ghost use Rattle.collection.specs.Faults.{number_of};
 
 use thiserror::Error;
 
-/// Why a call of the engine was refused. The first fault of a `put`, `write_back`, `collect`,
+/// Why an operation on the die, or a call of the engine that asks for some, was refused. The first fault of a `put`, `write_back`, `collect`,
 /// `make_room`, `rescue_one`, `write_sector`, `trim_sector` or `write_table` stands: each of these
 /// answers it again from then on, and asks nothing of the die. `row_of_sector`, `read_sector` and
 /// `cache_sector` neither note a fault nor heed the one that stands. (This project.)
 #[derive(Clone, Copy, Debug, PartialEq, Eq, Error)]
-pub enum WriteFault {
+pub enum EngineFault {
     /// There are too few free blocks.
     #[error("ReadOnly")]
     ReadOnly = 2,
@@ -25,7 +25,7 @@ pub enum WriteFault {
     Bus = 6,
 }
 
-impl WriteFault {
+impl EngineFault {
     /// The fault's number among those of a device. (This project.)
     pub fn number(self) -> u8
         ensures { result ≡ number_of self }
@@ -33,3 +33,6 @@ impl WriteFault {
         self as u8
     }
 }
+
+/// The name of the fault for the calls that program or erase.
+pub type WriteFault = EngineFault;

@@ -11,5 +11,5 @@ mod fault;
 mod laws;
 
 pub use engine::{Buffer, Engine, LEAST_FREE, Pinned, Reserve, Step};
-pub use fault::WriteFault;
+pub use fault::{EngineFault, WriteFault};
 pub use laws::{left_laws, rescue_laws, stop_laws};

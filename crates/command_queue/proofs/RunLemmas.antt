@@ -332,10 +332,7 @@ module _ {N : Type 0} (flash : N → Flash) (recorded : N → Option Recording) 
         let here : Rescues old.engine.geometry (is_bad_by (ram mid.engine)) h.went.log (image_in flash mid.engine) (image_in flash new.engine) = subst
         (λ (g : Geometry). Rescues g (is_bad_by (ram mid.engine)) h.went.log (image_in flash mid.engine) (image_in flash new.engine)) sized
         (h.rescues is done) in
-        rescues_as old.engine.geometry (is_bad_by (ram mid.engine))
-        (bad_of old.engine.geometry.pages (is_bad_by (ram old.engine)) (log_of ran.run.events))
-        (λ b lt. bad_now_law (ram old.engine) (ram mid.engine) (log_of ran.run.events) b safe.blocks_of ran.follows lt) h.went.log
-        (image_in flash mid.engine) (image_in flash new.engine) here;
+        rescues_as old.engine.geometry (is_bad_by (ram mid.engine)) (bad_of old.engine.geometry.pages (is_bad_by (ram old.engine)) (log_of ran.run.events)) (λ b lt. bad_now_law (ram old.engine) (ram mid.engine) (log_of ran.run.events) b safe.blocks_of ran.follows lt) h.went.log (image_in flash mid.engine) (image_in flash new.engine) here;
     quiet = λ is done.
         let here : LeavesTwelve old.engine.geometry (is_bad_by (ram mid.engine)) h.went.log (image_in flash new.engine) = subst (λ (g : Geometry). LeavesTwelve g (is_bad_by (ram mid.engine)) h.went.log (image_in flash new.engine)) sized (h.quiet is done) in
         twelve_as old.engine.geometry (is_bad_by (ram mid.engine))

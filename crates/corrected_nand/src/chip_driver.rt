@@ -13,7 +13,7 @@ use crate::chip_told::{ErasedChip, ProgrammedChip, UntouchedChip};
 use crate::corrected::Corrected;
 use crate::errors::ReadErrors;
 use crate::noisy::NoisyNand;
-use die_history::History;
+use die_history::DieHistory;
 use onfi_cycles::{Bus, BusFault, Driver, Nand, Outcome};
 use page_code::chip::ChipGeometry;
 use page_layout::geometry::Geometry;
@@ -53,7 +53,7 @@ pub trait ChipBus: Bus {
 #[derive(Drop)]
 pub struct ChipDriver<B: ChipBus> {
     driver: Driver<B>,
-    history: History,
+    history: DieHistory,
     geometry: Geometry,
 }
 
@@ -93,7 +93,7 @@ impl<B: ChipBus> ChipDriver<B> {
     {
         match Driver::new(bus, *chip.raw()) {
             Ok(driver) => {
-                let history = History::of(&UntouchedChip { driver: &driver });
+                let history = DieHistory::of(&UntouchedChip { driver: &driver });
                 Ok(ChipDriver {
                     driver,
                     history,
@@ -146,7 +146,7 @@ impl<B: ChipBus> NoisyNand for ChipDriver<B> {
 
     fn program(&mut self, row: u32, body: &[u8], outer: &[u8]) -> Result<Outcome, BusFault> {
         let answer = self.driver.program(row, body, outer);
-        self.history = History::of(&ProgrammedChip {
+        self.history = DieHistory::of(&ProgrammedChip {
             before: &self.history,
             driver: &self.driver,
             geometry: self.geometry,
@@ -160,7 +160,7 @@ impl<B: ChipBus> NoisyNand for ChipDriver<B> {
 
     fn erase(&mut self, block: u32) -> Result<Outcome, BusFault> {
         let answer = self.driver.erase(block);
-        self.history = History::of(&ErasedChip {
+        self.history = DieHistory::of(&ErasedChip {
             before: &self.history,
             driver: &self.driver,
             geometry: self.geometry,

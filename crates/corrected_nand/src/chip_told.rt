@@ -1,6 +1,6 @@
 //! What a driver for a chip with bit errors tells its history, at each operation.
 use crate::chip_driver::ChipBus;
-use die_history::{History, Tells};
+use die_history::{DieHistory, Moment};
 use onfi_cycles::{BusFault, Driver, Outcome};
 use page_layout::geometry::Geometry;
 
@@ -10,7 +10,7 @@ pub(crate) struct UntouchedChip<'a, B: ChipBus> {
     pub(crate) driver: &'a Driver<B>,
 }
 
-impl<'a, B: ChipBus> Tells for UntouchedChip<'a, B> {
+impl<'a, B: ChipBus> Moment for UntouchedChip<'a, B> {
     ghost use Rattle.onfi_cycles.specs.Driver.{untouched};
 
     ghost recording = { λ u. untouched (B.chip u.driver.now.bus) };
@@ -19,7 +19,7 @@ impl<'a, B: ChipBus> Tells for UntouchedChip<'a, B> {
 /// A program, its answer, and the driver after it.
 #[derive(Drop)]
 pub(crate) struct ProgrammedChip<'a, B: ChipBus> {
-    pub(crate) before: &'a History,
+    pub(crate) before: &'a DieHistory,
     pub(crate) driver: &'a Driver<B>,
     pub(crate) geometry: Geometry,
     pub(crate) row: u32,
@@ -28,7 +28,7 @@ pub(crate) struct ProgrammedChip<'a, B: ChipBus> {
     pub(crate) answer: Result<Outcome, BusFault>,
 }
 
-impl<'a, B: ChipBus> Tells for ProgrammedChip<'a, B> {
+impl<'a, B: ChipBus> Moment for ProgrammedChip<'a, B> {
     ghost use Rattle.std.specs.Prelude.{take};
     ghost use Rattle.page_layout.specs.Flash.{Program, page_at};
     ghost use Rattle.page_layout.specs.Page.{page};
@@ -41,14 +41,14 @@ impl<'a, B: ChipBus> Tells for ProgrammedChip<'a, B> {
 /// An erase, its answer, and the driver after it.
 #[derive(Drop)]
 pub(crate) struct ErasedChip<'a, B: ChipBus> {
-    pub(crate) before: &'a History,
+    pub(crate) before: &'a DieHistory,
     pub(crate) driver: &'a Driver<B>,
     pub(crate) geometry: Geometry,
     pub(crate) block: u32,
     pub(crate) answer: Result<Outcome, BusFault>,
 }
 
-impl<'a, B: ChipBus> Tells for ErasedChip<'a, B> {
+impl<'a, B: ChipBus> Moment for ErasedChip<'a, B> {
     ghost use Rattle.page_layout.specs.Flash.{Erase, block_at};
     ghost use Rattle.onfi_cycles.specs.Outcomes.{is_passed};
     ghost use Rattle.onfi_cycles.specs.Driver.{seen};

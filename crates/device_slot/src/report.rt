@@ -7,7 +7,7 @@ ghost use Rattle.ftl_device.specs.Device.{IsDevice};
 ghost use Rattle.device_slot.specs.Slot.{DeviceStands, IsMostWorn};
 
 use bad_blocks::Table;
-use collection::WriteFault;
+use collection::EngineFault;
 use ftl_device::{Device, DeviceFault};
 use onfi_cycles::Nand;
 
@@ -41,13 +41,13 @@ fn most_worn(table: &Table, blocks: u32) -> u32
 }
 
 // The fault that stopped it.
-fn stop_for(fault: Option<WriteFault>) -> Option<DeviceFault>
+fn stop_for(fault: Option<EngineFault>) -> Option<DeviceFault>
     ensures { result ≡ stop_of fault }
 {
     match fault {
-        Some(WriteFault::Damaged) => Some(DeviceFault::Damaged),
-        Some(WriteFault::Bus) => Some(DeviceFault::BusFault),
-        None | Some(WriteFault::ReadOnly | WriteFault::SequenceSpent) => None,
+        Some(EngineFault::Damaged) => Some(DeviceFault::Damaged),
+        Some(EngineFault::Bus) => Some(DeviceFault::BusFault),
+        None | Some(EngineFault::ReadOnly | EngineFault::SequenceSpent) => None,
     }
 }
 

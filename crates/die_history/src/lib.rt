@@ -3,4 +3,4 @@
 
 mod history;
 
-pub use history::{History, Tells};
+pub use history::{DieHistory, Moment};

@@ -16,8 +16,8 @@ use Rattle.nbd_stream.specs.declared.task.Task.TheVariants.{Write, Flush, Trim}
 use Rattle.nbd_stream.specs.Disk.{Idles, MayAnswer, IsOfChange, PerformsTask, answer_from, count_given, error_for, with_bytes}
 use Rattle.disk_server.specs.Flat.{AreSectors, flat}
 use Rattle.disk_server.proofs.FlatLemmas.{flat_law}
-use Rattle.collection.specs.declared.fault.WriteFault.{WriteFault}
-use Rattle.collection.specs.declared.fault.WriteFault.TheVariants as engine_fault
+use Rattle.collection.specs.declared.fault.EngineFault.{EngineFault}
+use Rattle.collection.specs.declared.fault.EngineFault.TheVariants as engine_fault
 use Rattle.collection.specs.State.{Ram}
 use Rattle.collection.specs.Safe.{ram}
 use Rattle.ftl_device.specs.declared.device.Device.{Device}
@@ -91,7 +91,7 @@ rest_stops old new (Err OutOfMemory) says failed = (let no : ⊥ = cc in absurd 
 rest_stops old new (Err Damaged) says failed = subst (λ (o : Option DeviceFault). IsSome o) (sym says) refl
 rest_stops old new (Err BusFault) says failed = subst (λ (o : Option DeviceFault). IsSome o) (sym says) refl
 
-rest_stopped : (f : Option WriteFault) (result : Result (Unit {0}) DeviceFault) → ForSome (stop_of f) (λ fault. result ≡ Err fault) → IsSome (stop_of f) → rest_answer result ≡ Err fault.Failed
+rest_stopped : (f : Option EngineFault) (result : Result (Unit {0}) DeviceFault) → ForSome (stop_of f) (λ fault. result ≡ Err fault) → IsSome (stop_of f) → rest_answer result ≡ Err fault.Failed
 rest_stopped None result standing some = (let no : ⊥ = cc in absurd no)
 rest_stopped (Some engine_fault.ReadOnly) result standing some = (let no : ⊥ = cc in absurd no)
 rest_stopped (Some engine_fault.SequenceSpent) result standing some = (let no : ⊥ = cc in absurd no)

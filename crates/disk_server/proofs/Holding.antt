@@ -7,8 +7,8 @@ use Rattle.page_layout.specs.Array.{zeros}
 use Rattle.page_layout.specs.Flash.{Flash}
 use Rattle.disk_server.specs.Flat.{AreSectors, flat}
 use Rattle.disk_server.proofs.FlatLemmas.{flat_law}
-use Rattle.collection.specs.declared.fault.WriteFault.{WriteFault}
-use Rattle.collection.specs.declared.fault.WriteFault.TheVariants as engine_fault
+use Rattle.collection.specs.declared.fault.EngineFault.{EngineFault}
+use Rattle.collection.specs.declared.fault.EngineFault.TheVariants as engine_fault
 use Rattle.ftl_device.specs.declared.device.Device.{Device}
 use Rattle.ftl_device.specs.declared.fault.DeviceFault.{DeviceFault}
 use Rattle.ftl_device.specs.declared.fault.DeviceFault.TheVariants.{Damaged, BusFault}
@@ -28,7 +28,7 @@ none_of None e = refl
 none_of (Some fault) e = (let no : ⊥ = cc in absurd no)
 
 -- a fault that stops a device is one of these
-still_going : (f : Option WriteFault) (result : Result (Unit {0}) DeviceFault) → ForSome (stop_of f) (λ fault. result ≡ Err fault)
+still_going : (f : Option EngineFault) (result : Result (Unit {0}) DeviceFault) → ForSome (stop_of f) (λ fault. result ≡ Err fault)
     → result ≢ Err Damaged → result ≢ Err BusFault → stop_of f ≡ None
 still_going None result standing no_damage no_bus = refl
 still_going (Some engine_fault.ReadOnly) result standing no_damage no_bus = refl
@@ -56,7 +56,7 @@ module _ {N : Type 0} (honest : N → Bool) where
   -- the fault is the same one, or none
   pub holds_still : (old new : Device N) → honest new.engine.nand ≡ honest old.engine.nand → new.engine.fault ≡ old.engine.fault → holds honest new ≡ holds honest old
   holds_still old new same is =
-      ap (λ (f : Option WriteFault). honest new.engine.nand && is_none (stop_of f)) is ∙ ap (λ (b : Bool). b && is_none (stop_of old.engine.fault)) same
+      ap (λ (f : Option EngineFault). honest new.engine.nand && is_none (stop_of f)) is ∙ ap (λ (b : Bool). b && is_none (stop_of old.engine.fault)) same
 
   -- one that was stopped does not go on
   back_by : (old new : Device N) (result : Result (Unit {0}) DeviceFault) → honest new.engine.nand ≡ honest old.engine.nand

@@ -8,8 +8,8 @@ use Rattle.page_layout.specs.Recording.{Recording}
 use Rattle.mapping_cache.specs.Mapping.{HasLimitsOf}
 use Rattle.image_check.specs.Mountable.{IsMountable}
 use Rattle.collection.specs.declared.engine.Engine.{Engine}
-use Rattle.collection.specs.declared.fault.WriteFault.{WriteFault}
-use Rattle.collection.specs.declared.fault.WriteFault.TheVariants as engine_fault
+use Rattle.collection.specs.declared.fault.EngineFault.{EngineFault}
+use Rattle.collection.specs.declared.fault.EngineFault.TheVariants as engine_fault
 use Rattle.collection.specs.State.{Ram}
 use Rattle.collection.specs.Safe.{IsRam, ram, image_in}
 use Rattle.collection.specs.Truth.{IsTrue}
@@ -22,7 +22,7 @@ use Rattle.ftl_device.specs.declared.fault.DeviceFault.TheVariants.{BusFault, Ou
 use Rattle.ftl_device.specs.Calls.{stop_of, PinIsTrue, IsWell, HoldsSector, CallRefused, standing_after, answer_of, IsMostRecent}
 use Rattle.ftl_device.proofs.MountableLemmas.{restart_law}
 
-pub pin_at : (r : Ram) (image : Image) (fault : Option WriteFault) → r.fault ≡ fault → PinIsTrue fault r image → PinIsTrue r.fault r image
+pub pin_at : (r : Ram) (image : Image) (fault : Option EngineFault) → r.fault ≡ fault → PinIsTrue fault r image → PinIsTrue r.fault r image
 pin_at r image fault is h = subst (λ f. PinIsTrue f r image) (sym is) h
 
 -- the engine isn't stopped, and what it knows is so

@@ -15,7 +15,7 @@ use Rattle.bad_blocks.specs.Table.{good_count}
 use Rattle.allocation.specs.State.{free_count}
 use Rattle.promises.specs.Step.{State, Command, Reply, WriteStep, ArrayStep}
 use Rattle.collection.specs.declared.engine.Engine.{Engine}
-use Rattle.collection.specs.declared.fault.WriteFault.TheVariants as engine_fault
+use Rattle.collection.specs.declared.fault.EngineFault.TheVariants as engine_fault
 use Rattle.collection.specs.State.{Ram}
 use Rattle.collection.specs.Safe.{ram, image_in, page_in}
 use Rattle.collection.proofs.Logs.{went_same}

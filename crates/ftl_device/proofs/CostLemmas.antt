@@ -16,8 +16,8 @@ use Rattle.mapping_cache.specs.declared.slot.Slot.{Slot}
 use Rattle.mapping_cache.specs.Mapping.{MappingState, CanLoad, slot_of, used, loaded, loaded_by}
 use Rattle.mapping_cache.proofs.Entries.{by_test}
 use Rattle.collection.specs.declared.engine.Engine.{Engine}
-use Rattle.collection.specs.declared.fault.WriteFault.{WriteFault}
-use Rattle.collection.specs.declared.fault.WriteFault.TheVariants as engine_fault
+use Rattle.collection.specs.declared.fault.EngineFault.{EngineFault}
+use Rattle.collection.specs.declared.fault.EngineFault.TheVariants as engine_fault
 use Rattle.collection.specs.State.{Ram}
 use Rattle.collection.specs.Safe.{ram}
 use Rattle.collection.specs.Cost.{HasPut, PageCosts, WriteBackCosts}
@@ -114,7 +114,7 @@ pub place_there : (n : ℕ) (r : Ram) → CanLoad r.mapping n → HasMadePlace n
 place_there n r can = record { geometry = refl; free = λ _. (refl, refl); taken = λ no. absurd (no can) }
 
 -- else the translation page of one is written back
-pub place_taken : (result : Result (Unit {0}) WriteFault) (n : ℕ) (old new : Ram) → (CanLoad old.mapping n → ⊥) → new.geometry ≡ old.geometry → WriteBackCosts old new result → OnOk result (HasMadePlace n old new)
+pub place_taken : (result : Result (Unit {0}) EngineFault) (n : ℕ) (old new : Ram) → (CanLoad old.mapping n → ⊥) → new.geometry ≡ old.geometry → WriteBackCosts old new result → OnOk result (HasMadePlace n old new)
 place_taken (Ok done) n old new full geometry cost = record { geometry = geometry; free = λ can. absurd (full can); taken = λ _. cost }
 place_taken (Err fault) n old new full geometry cost = tt
 
@@ -129,7 +129,7 @@ place_then n old mid new geometry blocks next p = record {
 pub ready_then : (n : ℕ) (old mid new : Ram) → new.geometry ≡ mid.geometry → new.blocks ≡ mid.blocks → new.next ≡ mid.next → IsReady n old mid → IsReady n old new
 ready_then n old mid new geometry blocks next p = record { mid = p.mid; room = p.room; place = place_then n p.mid mid new geometry blocks next p.place }
 
-pub ready_found : (result : Result (Option ℕ) WriteFault) (n : ℕ) (old first mid new : Ram) (fault : Option WriteFault) → HasMadeRoom false old first → new ≡ record mid { fault = fault } → HasMadePlace n first mid → OnOk result (IsReady n old new)
+pub ready_found : (result : Result (Option ℕ) EngineFault) (n : ℕ) (old first mid new : Ram) (fault : Option EngineFault) → HasMadeRoom false old first → new ≡ record mid { fault = fault } → HasMadePlace n first mid → OnOk result (IsReady n old new)
 ready_found (Ok row) n old first mid new fault room is p = record { mid = first; room = room; place = place_then n first mid new (ap (λ (r : Ram). r.geometry) is) (ap (λ (r : Ram). r.blocks) is) (ap (λ (r : Ram). r.next) is) p }
 ready_found (Err f) n old first mid new fault room is p = tt
 
@@ -144,7 +144,7 @@ pub cost_of : (n : ℕ) (old mid new : Ram) → IsReady n old mid → HasPut Dat
 cost_of n old mid new p page = record { mid = p.mid; room = p.room; put = put_of n p.mid mid new p.place page }
 
 -- what the engine's memory tells of a page that was refused
-pub page_tells : (fault : WriteFault) (a b c : Ram) → good_count b.blocks.table ≤ good_count a.blocks.table → PageCosts Data b c (Err fault) → CallTells {A = Unit {0}} a c (Err (call.Engine fault))
+pub page_tells : (fault : EngineFault) (a b c : Ram) → good_count b.blocks.table ≤ good_count a.blocks.table → PageCosts Data b c (Err fault) → CallTells {A = Unit {0}} a c (Err (call.Engine fault))
 page_tells engine_fault.ReadOnly a b c fewer h = (omega (arith, h.none.none_free), omega (arith, h.found.good))
 page_tells engine_fault.SequenceSpent a b c fewer h = h.last
 page_tells engine_fault.Damaged a b c fewer h = tt

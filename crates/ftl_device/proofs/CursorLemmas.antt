@@ -8,8 +8,8 @@ use Rattle.page_layout.specs.Page.{Image}
 use Rattle.allocation.specs.State.{free_count}
 use Rattle.promises.specs.Step as step
 use Rattle.collection.specs.declared.engine.Engine.{Engine}
-use Rattle.collection.specs.declared.fault.WriteFault.{WriteFault}
-use Rattle.collection.specs.declared.fault.WriteFault.TheVariants.{Bus}
+use Rattle.collection.specs.declared.fault.EngineFault.{EngineFault}
+use Rattle.collection.specs.declared.fault.EngineFault.TheVariants.{Bus}
 use Rattle.collection.specs.State.{Ram}
 use Rattle.collection.specs.Safe.{ram, image_in}
 use Rattle.collection.specs.Acts.{Stands}
@@ -78,7 +78,7 @@ goes_on cursor row image ge due (Some next) (inr behind) = absurd (due_or_none r
 
 module _ {N : Type 0} (flash : N → Flash) (recorded : N → Option Recording) (honest calm : N → Bool) (failed : N → ℕ) where
   -- a look leaves the engine as a call that wants no room does
-  pub leaves_look : {A : Type 0} (old new : Engine N) (result : Result A WriteFault) → old.fault ≡ None → Stands flash recorded honest calm failed old new result → ram new ≡ record (ram old) { fault = new.fault } → IfErr result IsReadFault
+  pub leaves_look : {A : Type 0} (old new : Engine N) (result : Result A EngineFault) → old.fault ≡ None → Stands flash recorded honest calm failed old new result → ram new ≡ record (ram old) { fault = new.fault } → IfErr result IsReadFault
       → (honest old.nand ≡ true → Knows (ram old) (image_in flash old) → result ≢ Err Bus → StopsSafely flash recorded old new) → EngineLeaves flash recorded honest calm failed old result new
   leaves_look old new result none stands still faults stops = leaves_by flash recorded honest calm failed old new result none stands (ap (λ (r : Ram). r.geometry) still) (look_tells result (ram old) (ram new) (ap (λ (r : Ram). r.blocks) still) faults) stops
 

@@ -8,8 +8,8 @@ use Rattle.bad_blocks.specs.Table.{good_count}
 use Rattle.budget.specs.declared.stream.Stream.TheVariants.{Data}
 use Rattle.mapping_cache.specs.Mapping.{HasLimitsOf, loaded}
 use Rattle.collection.specs.declared.engine.Engine.{Engine}
-use Rattle.collection.specs.declared.fault.WriteFault.{WriteFault}
-use Rattle.collection.specs.declared.fault.WriteFault.TheVariants.{ReadOnly, SequenceSpent, Damaged, Bus}
+use Rattle.collection.specs.declared.fault.EngineFault.{EngineFault}
+use Rattle.collection.specs.declared.fault.EngineFault.TheVariants.{ReadOnly, SequenceSpent, Damaged, Bus}
 use Rattle.collection.specs.State.{Ram}
 use Rattle.collection.specs.Safe.{IsSafe, ram, image_in, page_in}
 use Rattle.collection.specs.Left.{IsCalm, LeavesPin}
@@ -37,14 +37,14 @@ use Rattle.ftl_device.proofs.StoppedLemmas.{KeepsOn, stops_still, stops_on}
 use Rattle.ftl_device.proofs.SpentLemmas.{room_page, page_refused, call_kept}
 
 -- the fault of a call as that of one that may want memory too
-pub call_tells : (fault : WriteFault) (a b : Ram) → Tells {A = Option ℕ} a b (Err fault) → CallTells {A = Unit {0}} a b (Err (call.Engine fault))
+pub call_tells : (fault : EngineFault) (a b : Ram) → Tells {A = Option ℕ} a b (Err fault) → CallTells {A = Unit {0}} a b (Err (call.Engine fault))
 call_tells ReadOnly a b h = h
 call_tells SequenceSpent a b h = h
 call_tells Damaged a b h = tt
 call_tells Bus a b h = tt
 
 -- an answer of the engine as one of such a call
-abbrev pub call_of : Result (Unit {0}) WriteFault → Result (Unit {0}) CallFault
+abbrev pub call_of : Result (Unit {0}) EngineFault → Result (Unit {0}) CallFault
 call_of (Ok done) = Ok tt
 call_of (Err fault) = Err (call.Engine fault)
 
@@ -54,7 +54,7 @@ ended fault = Err fault
 module _ {N : Type 0} (flash : N → Flash) (recorded : N → Option Recording) (honest calm : N → Bool) (failed : N → ℕ) where
   -- ---- nothing was made ready
 
-  pub ends_refused : (old new : Engine N) (fault : WriteFault) → IsSafe flash new → new.fault ≡ Some fault → new.geometry ≡ old.geometry → honest new.nand ≡ honest old.nand → calm new.nand ≡ calm old.nand → failed old.nand ≤ failed new.nand
+  pub ends_refused : (old new : Engine N) (fault : EngineFault) → IsSafe flash new → new.fault ≡ Some fault → new.geometry ≡ old.geometry → honest new.nand ≡ honest old.nand → calm new.nand ≡ calm old.nand → failed old.nand ≤ failed new.nand
       → (fault ≡ Bus → HasRisen (failed old.nand) (failed new.nand)) → HasLimitsOf old.mapping new.mapping → Tells {A = Option ℕ} (ram old) (ram new) (Err fault)
       → (honest old.nand ≡ true → fault ≢ Bus → Went (ram old) (flash old.nand) (recorded old.nand) (ram new) (flash new.nand) (recorded new.nand))
       → (honest old.nand ≡ true → Knows (ram old) (image_in flash old) → fault ≢ Bus → StopsSafely flash recorded old new) → EndsCall flash recorded honest calm failed old (Err (call.Engine fault)) new
@@ -115,23 +115,23 @@ module _ {N : Type 0} (flash : N → Flash) (recorded : N → Option Recording) 
 
   module _ (old mid new : Engine N) (made : Unit {0}) (before : EndsCall flash recorded honest calm failed old (Ok made) mid) (safe : IsSafe flash new) (goes : Goes (ram mid) (ram new)) (as_honest : honest new.nand ≡ honest mid.nand) (as_calm : calm new.nand ≡ calm mid.nand)
       (more : failed mid.nand ≤ failed new.nand) (beside : LeavesPin (ram mid) (ram new)) (no_more : HasNoMore mid.mapping new.mapping) where
-    ended_fault : (answer : Result (Unit {0}) WriteFault) → new.fault ≡ fault_after mid.fault answer → new.fault ≡ standing_after (call_of answer)
+    ended_fault : (answer : Result (Unit {0}) EngineFault) → new.fault ≡ fault_after mid.fault answer → new.fault ≡ standing_after (call_of answer)
     ended_fault (Ok done) is = is ∙ before.fault
     ended_fault (Err fault) is = is
 
-    ended_rose : (answer : Result (Unit {0}) WriteFault) → (answer ≡ Err Bus → HasRisen (failed mid.nand) (failed new.nand)) → call_of answer ≡ Err (call.Engine Bus) → HasRisen (failed mid.nand) (failed new.nand)
+    ended_rose : (answer : Result (Unit {0}) EngineFault) → (answer ≡ Err Bus → HasRisen (failed mid.nand) (failed new.nand)) → call_of answer ≡ Err (call.Engine Bus) → HasRisen (failed mid.nand) (failed new.nand)
     ended_rose (Ok done) rose e = (let no : ⊥ = cc in absurd no)
     ended_rose (Err fault) rose e = (let same : fault ≡ Bus = cc in rose (ap Err same))
 
-    ended_tells : (answer : Result (Unit {0}) WriteFault) → PageCosts Data (ram mid) (ram new) answer → CallTells (ram old) (ram new) (call_of answer)
+    ended_tells : (answer : Result (Unit {0}) EngineFault) → PageCosts Data (ram mid) (ram new) answer → CallTells (ram old) (ram new) (call_of answer)
     ended_tells (Ok done) p = omega (arith, p.put.good, before.tells)
     ended_tells (Err fault) p = page_tells fault (ram old) (ram mid) (ram new) before.tells p
 
-    ended_went : (answer : Result (Unit {0}) WriteFault) → (answer ≢ Err Bus → Went (ram mid) (flash mid.nand) (recorded mid.nand) (ram new) (flash new.nand) (recorded new.nand)) → honest old.nand ≡ true → call_of answer ≢ Err (call.Engine Bus)
+    ended_went : (answer : Result (Unit {0}) EngineFault) → (answer ≢ Err Bus → Went (ram mid) (flash mid.nand) (recorded mid.nand) (ram new) (flash new.nand) (recorded new.nand)) → honest old.nand ≡ true → call_of answer ≢ Err (call.Engine Bus)
         → Went (ram old) (flash old.nand) (recorded old.nand) (ram new) (flash new.nand) (recorded new.nand)
     ended_went answer went is_honest ne = went_then (ram old) (ram mid) (ram new) _ _ _ _ _ _ before.geometry (before.went is_honest (λ e. (let no : ⊥ = cc in no))) (went (λ bus. ne (ap call_of bus)))
 
-    pub ends_page : (answer : Result (Unit {0}) WriteFault) → new.fault ≡ fault_after mid.fault answer → (mid.fault ≡ None → answer ≡ Err Bus → HasRisen (failed mid.nand) (failed new.nand)) → (mid.fault ≡ None → PageCosts Data (ram mid) (ram new) answer)
+    pub ends_page : (answer : Result (Unit {0}) EngineFault) → new.fault ≡ fault_after mid.fault answer → (mid.fault ≡ None → answer ≡ Err Bus → HasRisen (failed mid.nand) (failed new.nand)) → (mid.fault ≡ None → PageCosts Data (ram mid) (ram new) answer)
         → (honest mid.nand ≡ true → answer ≢ Err Bus → Went (ram mid) (flash mid.nand) (recorded mid.nand) (ram new) (flash new.nand) (recorded new.nand)) → KeepsOn flash honest old mid
         → (honest mid.nand ≡ true → mid.fault ≡ None → IsTrue None (ram mid) (image_in flash mid) → answer ≢ Err Bus → StopsSafely flash recorded mid new) → EndsCall flash recorded honest calm failed old (call_of answer) new
     ends_page answer fault rose cost went keeps stops = record {
@@ -165,7 +165,7 @@ module _ {N : Type 0} (flash : N → Flash) (honest : N → Bool) (n : ℕ) wher
   }
 
   module _ (old mid new : Engine N) (same : mid.geometry ≡ old.geometry) (made : Unit {0}) (before : Readies flash honest n 1 old (Ok made) mid) (pin : new.pinned ≡ mid.pinned) (keys : keys_of new.mapping.cached ≡ keys_of mid.mapping.cached) where
-    pub readies_page : (answer : Result (Unit {0}) WriteFault) → PageCosts Data (ram mid) (ram new) answer → Readies flash honest n 2 old (call_of answer) new
+    pub readies_page : (answer : Result (Unit {0}) EngineFault) → PageCosts Data (ram mid) (ram new) answer → Readies flash honest n 2 old (call_of answer) new
     readies_page (Ok done) p = record {
       recent = recent_kept n mid.mapping new.mapping keys before.recent;
       keys = keys ∙ before.keys;

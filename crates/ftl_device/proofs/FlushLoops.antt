@@ -22,8 +22,8 @@ use Rattle.mapping_cache.specs.Mapping.{MappingState, HasLimitsOf, per_page, pen
 use Rattle.collection.specs.Settle.{Cleans}
 use Rattle.allocation.specs.State.{free_count}
 use Rattle.allocation.specs.Counts.{counts_of}
-use Rattle.collection.specs.declared.fault.WriteFault.{WriteFault}
-use Rattle.collection.specs.declared.fault.WriteFault.TheVariants.{ReadOnly, SequenceSpent, Damaged, Bus}
+use Rattle.collection.specs.declared.fault.EngineFault.{EngineFault}
+use Rattle.collection.specs.declared.fault.EngineFault.TheVariants.{ReadOnly, SequenceSpent, Damaged, Bus}
 use Rattle.collection.specs.State.{Ram}
 use Rattle.collection.specs.Tables.{SpellsTable}
 use Rattle.collection.specs.Safe.{IsRam}
@@ -42,7 +42,7 @@ keeps_same r image w = record { truth = w; array = refl; versions = λ two key r
 pub keeps_then : (g : Geometry) (b c : Ram) (x y z : Image) → b.geometry ≡ g → KeepsArray g x b y → KeepsArray b.geometry y c z → KeepsArray g x c z
 keeps_then g b c x y z same k l = record { truth = l.truth; array = (let P : Geometry → Type 0 = λ h. array_of h z ≡ array_of h y in subst P same l.array ∙ k.array); versions = adds_then g b.geometry x y z same k.versions l.versions }
 
-pub keeps_refused : (g : Geometry) (b c : Ram) (x y z : Image) (fault : WriteFault) → b.geometry ≡ g → KeepsArray g x b y → CallRefused b.geometry y c z (Engine fault) → CallRefused g x c z (Engine fault)
+pub keeps_refused : (g : Geometry) (b c : Ram) (x y z : Image) (fault : EngineFault) → b.geometry ≡ g → KeepsArray g x b y → CallRefused b.geometry y c z (Engine fault) → CallRefused g x c z (Engine fault)
 keeps_refused g b c x y z ReadOnly same k l = record { truth = l.truth; array = (let P : Geometry → Type 0 = λ h. array_of h z ≡ array_of h y in subst P same l.array ∙ k.array); versions = adds_then g b.geometry x y z same k.versions l.versions }
 keeps_refused g b c x y z SequenceSpent same k l = record { truth = l.truth; array = (let P : Geometry → Type 0 = λ h. array_of h z ≡ array_of h y in subst P same l.array ∙ k.array); versions = adds_then g b.geometry x y z same k.versions l.versions; few = l.few }
 keeps_refused g b c x y z Damaged same k l = l
@@ -52,11 +52,11 @@ keeps_refused g b c x y z Bus same k l = tt
 pub engine_keeps : (g : Geometry) (b c : Ram) (x y z : Image) → b.geometry ≡ g → IsRam b → IsRam c → LeavesPin b c → KeepsArray g x b y → IsSame b y c z → KeepsArray g x c z
 engine_keeps g b c x y z same s t beside k l = keeps_then g b c x y z same k (keeps_beside b c y z s t beside k.truth l)
 
-pub engine_refused : (g : Geometry) (b c : Ram) (x y z : Image) (fault : WriteFault) → b.geometry ≡ g → IsRam b → IsRam c → LeavesPin b c → KeepsArray g x b y → Refused b y c z fault → CallRefused g x c z (Engine fault)
+pub engine_refused : (g : Geometry) (b c : Ram) (x y z : Image) (fault : EngineFault) → b.geometry ≡ g → IsRam b → IsRam c → LeavesPin b c → KeepsArray g x b y → Refused b y c z fault → CallRefused g x c z (Engine fault)
 engine_refused g b c x y z fault same s t beside k l = keeps_refused g b c x y z fault same k (refused_beside b c y z s t beside k.truth fault l)
 
 -- a translation page was written back
-pub back_after : (result : Result (Unit {0}) WriteFault) (t : ℕ) (g : Geometry) (b c : Ram) (x y z : Image) → b.geometry ≡ g → IsRam b → IsRam c
+pub back_after : (result : Result (Unit {0}) EngineFault) (t : ℕ) (g : Geometry) (b c : Ram) (x y z : Image) → b.geometry ≡ g → IsRam b → IsRam c
     → LeavesPin b c → KeepsArray g x b y → MatchResult result (λ done. IsWrittenBack t b y c z) (Refused b y c z)
     → MatchResult result (λ done. KeepsArray g x c z) (λ fault. CallRefused g x c z (Engine fault))
 back_after (Ok done) t g b c x y z same s s' beside k l = engine_keeps g b c x y z same s s' beside k l.same
@@ -104,7 +104,7 @@ tables_more k a b c x y z same s s' beside before after h t = record {
       ];
 }
 
-pub tabled_refused : (k : ℕ) (a b c : Ram) (x y z : Image) (fault : WriteFault) → b.geometry ≡ a.geometry → IsRam b → IsRam c → LeavesPin b c → KeepsTables k a x b y → Refused b y c z fault → CallRefused a.geometry x c z (Engine fault)
+pub tabled_refused : (k : ℕ) (a b c : Ram) (x y z : Image) (fault : EngineFault) → b.geometry ≡ a.geometry → IsRam b → IsRam c → LeavesPin b c → KeepsTables k a x b y → Refused b y c z fault → CallRefused a.geometry x c z (Engine fault)
 tabled_refused k a b c x y z fault same s t beside h l = engine_refused a.geometry b c x y z fault same s t beside h.keeps l
 
 -- ---- translation pages
@@ -116,7 +116,7 @@ clean_more k g h a b same within before keeps now t lt = elim (cases_eq t k) [
 ]
 
 -- room is made, and then a page is written back
-pub keeps_cleaned : (result : Result (Unit {0}) WriteFault) (g : Geometry) (a b c : MappingState) (t : ℕ) → KeepsClean g a b → OnOk result (Cleans (per_page b) t b c) → OnOk result (KeepsClean g a c)
+pub keeps_cleaned : (result : Result (Unit {0}) EngineFault) (g : Geometry) (a b c : MappingState) (t : ℕ) → KeepsClean g a b → OnOk result (Cleans (per_page b) t b c) → OnOk result (KeepsClean g a c)
 keeps_cleaned (Ok done) g a b c t k x = record {
   still = λ p within was. record {
     none = λ n of_page. elim (cases_eq (n / per_page b) t) [ inl here ↦ x.clean n here | inr other ↦ x.others n other ∙ (k.still p within was).none n of_page ];
@@ -177,16 +177,16 @@ spells_last good g x b y h le ge = record { keeps = h.keeps; tables = h.tables (
 
 -- ---- no block is left
 
-abbrev refused : WriteFault → Result (Unit {0}) WriteFault
+abbrev refused : EngineFault → Result (Unit {0}) EngineFault
 refused fault = Err fault
 
-fails_by : (b c : Ram) (fault : WriteFault) → PageCosts Meta b c (Err fault) → refused fault ≡ refused ReadOnly → HasRunOut Meta b c
+fails_by : (b c : Ram) (fault : EngineFault) → PageCosts Meta b c (Err fault) → refused fault ≡ refused ReadOnly → HasRunOut Meta b c
 fails_by b c ReadOnly h e = h
 fails_by b c SequenceSpent h e = (let no : ⊥ = cc in absurd no)
 fails_by b c Damaged h e = (let no : ⊥ = cc in absurd no)
 fails_by b c Bus h e = (let no : ⊥ = cc in absurd no)
 
-pub page_fails : (k most : ℕ) (a b c : Ram) (fault : WriteFault) → b.geometry ≡ a.geometry → k < most → KeepsTable a.blocks b.blocks → AddsPages k a b → PageCosts Meta b c (Err fault) → refused fault ≡ refused ReadOnly → FailsAmong most a c
+pub page_fails : (k most : ℕ) (a b c : Ram) (fault : EngineFault) → b.geometry ≡ a.geometry → k < most → KeepsTable a.blocks b.blocks → AddsPages k a b → PageCosts Meta b c (Err fault) → refused fault ≡ refused ReadOnly → FailsAmong most a c
 page_fails k most a b c fault same lt table used cost is = record { mid = b; geometry = same; pages = k; few = omega arith; fewer = table.fewer; used = used; out = fails_by b c fault cost is }
 
 pub free_most : (failures free left : ℕ) → NoneFree failures free left → free ≤ failures

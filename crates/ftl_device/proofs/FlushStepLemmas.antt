@@ -18,7 +18,7 @@ use Rattle.mapping_cache.specs.Mapping.{MappingState, per_page, pending, cleaned
 use Rattle.allocation.specs.State.{free_count}
 use Rattle.allocation.specs.Counts.{counts_of}
 use Rattle.collection.specs.declared.engine.Engine.{Engine}
-use Rattle.collection.specs.declared.fault.WriteFault.{WriteFault}
+use Rattle.collection.specs.declared.fault.EngineFault.{EngineFault}
 use Rattle.collection.specs.State.{Ram}
 use Rattle.collection.specs.Safe.{IsRam, ram, image_in, page_in}
 use Rattle.collection.specs.Truth.{IsTrue}
@@ -66,7 +66,7 @@ module _ {N : Type 0} (flash : N → Flash) (recorded : N → Option Recording) 
   }
 
   -- a translation page was written back
-  pub written_back : (t : ℕ) (mid new : Engine N) (result : Result (Unit {0}) WriteFault) → IsRam (ram mid) → IsRam (ram new) → LeavesPin (ram mid) (ram new) → Goes (ram mid) (ram new) → Stands flash recorded honest calm failed mid new result
+  pub written_back : (t : ℕ) (mid new : Engine N) (result : Result (Unit {0}) EngineFault) → IsRam (ram mid) → IsRam (ram new) → LeavesPin (ram mid) (ram new) → Goes (ram mid) (ram new) → Stands flash recorded honest calm failed mid new result
       → OnOk result (new.mapping ≡ cleaned mid.mapping t) → OnOk result (IsLastPage kind.Translation t (ram new) (page_in new.page)) → WriteBackCosts (ram mid) (ram new) result
       → (honest mid.nand ≡ true → IsTrue None (ram mid) (image_in flash mid) → MatchResult result (λ done. IsWrittenBack t (ram mid) (image_in flash mid) (ram new) (image_in flash new)) (Refused (ram mid) (image_in flash mid) (ram new) (image_in flash new)))
       → OnOk result (WritesBack flash recorded honest t mid new)
@@ -85,7 +85,7 @@ module _ {N : Type 0} (flash : N → Flash) (recorded : N → Option Recording) 
   written_back t mid new (Err fault) s s' beside blocks stands mapping page cost truth = tt
 
   -- room first, and then the page, which lacked a row
-  pub page_flushed : (t : ℕ) (old mid new : Engine N) (result : Result (Unit {0}) WriteFault) → (IsClean old.geometry t old.mapping → ⊥) → HasCleared flash recorded honest old mid → OnOk result (WritesBack flash recorded honest t mid new)
+  pub page_flushed : (t : ℕ) (old mid new : Engine N) (result : Result (Unit {0}) EngineFault) → (IsClean old.geometry t old.mapping → ⊥) → HasCleared flash recorded honest old mid → OnOk result (WritesBack flash recorded honest t mid new)
       → OnOk result (FlushesPage flash recorded honest t old new)
   page_flushed t old mid new (Ok done) lacks cleared back = record { clean = λ is. absurd (lacks is); lacking = λ also. record { mid = mid; cleared = cleared; back = back } }
   page_flushed t old mid new (Err fault) lacks cleared back = tt

@@ -5,8 +5,8 @@ use Rattle.page_layout.specs.Flash.{Flash}
 use Rattle.page_layout.specs.Recording.{Recording}
 use Rattle.mapping_cache.specs.Mapping.{MappingState, HasLimitsOf}
 use Rattle.collection.specs.declared.engine.Engine.{Engine}
-use Rattle.collection.specs.declared.fault.WriteFault.{WriteFault}
-use Rattle.collection.specs.declared.fault.WriteFault.TheVariants.{ReadOnly, SequenceSpent, Damaged, Bus}
+use Rattle.collection.specs.declared.fault.EngineFault.{EngineFault}
+use Rattle.collection.specs.declared.fault.EngineFault.TheVariants.{ReadOnly, SequenceSpent, Damaged, Bus}
 use Rattle.collection.specs.State.{Ram}
 use Rattle.collection.specs.Safe.{IsSafe, ram, image_in}
 use Rattle.collection.specs.Stops.{StopsSafely}
@@ -23,33 +23,33 @@ use Rattle.ftl_device.specs.Changes.{EngineLeaves, EndsCall}
 use Rattle.ftl_device.proofs.EndLemmas.{call_of}
 use Rattle.ftl_device.proofs.StoppedLemmas.{KeepsOn, stops_same, stops_on}
 
-pub tells_then : {B : Type 0} (a b c : Ram) (result : Result B WriteFault) → good_count b.blocks.table ≤ good_count a.blocks.table → Tells b c result → Tells a c result
+pub tells_then : {B : Type 0} (a b c : Ram) (result : Result B EngineFault) → good_count b.blocks.table ≤ good_count a.blocks.table → Tells b c result → Tells a c result
 tells_then a b c (Ok answer) fewer h = omega (arith, fewer, h)
 tells_then a b c (Err ReadOnly) fewer h = (h.0, omega (arith, fewer, h.1))
 tells_then a b c (Err SequenceSpent) fewer h = h
 tells_then a b c (Err Damaged) fewer h = tt
 tells_then a b c (Err Bus) fewer h = tt
 
-fault_noted : {A : Type 0} (result : Result A WriteFault) (old new : Ram) → old.fault ≡ None → new.fault ≡ fault_after old.fault result → new.fault ≡ fault_after None result
+fault_noted : {A : Type 0} (result : Result A EngineFault) (old new : Ram) → old.fault ≡ None → new.fault ≡ fault_after old.fault result → new.fault ≡ fault_after None result
 fault_noted (Ok answer) old new none is = is ∙ none
 fault_noted (Err fault) old new none is = is
 
-call_fault : (result : Result (Unit {0}) WriteFault) (r : Ram) → r.fault ≡ fault_after None result → r.fault ≡ standing_after (call_of result)
+call_fault : (result : Result (Unit {0}) EngineFault) (r : Ram) → r.fault ≡ fault_after None result → r.fault ≡ standing_after (call_of result)
 call_fault (Ok done) r is = is
 call_fault (Err fault) r is = is
 
-call_bus : (result : Result (Unit {0}) WriteFault) → call_of result ≡ Err (call.Engine Bus) → result ≡ Err Bus
+call_bus : (result : Result (Unit {0}) EngineFault) → call_of result ≡ Err (call.Engine Bus) → result ≡ Err Bus
 call_bus (Ok done) e = (let no : ⊥ = cc in absurd no)
 call_bus (Err fault) e = (let same : fault ≡ Bus = cc in ap Err same)
 
-call_tells : (result : Result (Unit {0}) WriteFault) (a b : Ram) → Tells a b result → CallTells a b (call_of result)
+call_tells : (result : Result (Unit {0}) EngineFault) (a b : Ram) → Tells a b result → CallTells a b (call_of result)
 call_tells (Ok done) a b h = h
 call_tells (Err ReadOnly) a b h = h
 call_tells (Err SequenceSpent) a b h = h
 call_tells (Err Damaged) a b h = tt
 call_tells (Err Bus) a b h = tt
 
-refused_tells : (A B : Type 0) (fault : WriteFault) (a b : Ram) → Tells {A = A} a b (Err fault) → Tells {A = B} a b (Err fault)
+refused_tells : (A B : Type 0) (fault : EngineFault) (a b : Ram) → Tells {A = A} a b (Err fault) → Tells {A = B} a b (Err fault)
 refused_tells A B ReadOnly a b h = h
 refused_tells A B SequenceSpent a b h = h
 refused_tells A B Damaged a b h = tt
@@ -57,7 +57,7 @@ refused_tells A B Bus a b h = tt
 
 module _ {N : Type 0} (flash : N → Flash) (recorded : N → Option Recording) (honest calm : N → Bool) (failed : N → ℕ) where
   -- a call that the engine's standing fault would have stopped
-  pub leaves_by : {A : Type 0} (old new : Engine N) (result : Result A WriteFault) → old.fault ≡ None → Stands flash recorded honest calm failed old new result → new.geometry ≡ old.geometry → Tells (ram old) (ram new) result
+  pub leaves_by : {A : Type 0} (old new : Engine N) (result : Result A EngineFault) → old.fault ≡ None → Stands flash recorded honest calm failed old new result → new.geometry ≡ old.geometry → Tells (ram old) (ram new) result
       → (honest old.nand ≡ true → Knows (ram old) (image_in flash old) → result ≢ Err Bus → StopsSafely flash recorded old new) → EngineLeaves flash recorded honest calm failed old result new
   leaves_by old new result none s same tells stops = record {
     safe = s.safe;
@@ -88,7 +88,7 @@ module _ {N : Type 0} (flash : N → Flash) (recorded : N → Option Recording) 
   }
 
   -- one after another, the first done
-  pub leaves_then : {A B : Type 0} (old mid new : Engine N) (done : A) (result : Result B WriteFault) → KeepsOn flash honest old mid
+  pub leaves_then : {A B : Type 0} (old mid new : Engine N) (done : A) (result : Result B EngineFault) → KeepsOn flash honest old mid
       → HasLimitsOf old.mapping mid.mapping → EngineLeaves flash recorded honest calm failed old (Ok done) mid
       → EngineLeaves flash recorded honest calm failed mid result new → EngineLeaves flash recorded honest calm failed old result new
   leaves_then old mid new done result keeps limits first next = record {
@@ -107,7 +107,7 @@ module _ {N : Type 0} (flash : N → Flash) (recorded : N → Option Recording) 
   }
 
   -- a refusal, whatever the call would have given
-  pub leaves_refused : (A B : Type 0) (old new : Engine N) (fault : WriteFault) → EngineLeaves {A = A} flash recorded honest calm failed old (Err fault) new → EngineLeaves {A = B} flash recorded honest calm failed old (Err fault) new
+  pub leaves_refused : (A B : Type 0) (old new : Engine N) (fault : EngineFault) → EngineLeaves {A = A} flash recorded honest calm failed old (Err fault) new → EngineLeaves {A = B} flash recorded honest calm failed old (Err fault) new
   leaves_refused A B old new fault l = record {
     safe = l.safe;
     fault = l.fault;
@@ -122,7 +122,7 @@ module _ {N : Type 0} (flash : N → Flash) (recorded : N → Option Recording) 
   }
 
   -- and as the end of the part of a device's call that asks the die
-  pub leaves_ends : (old new : Engine N) (result : Result (Unit {0}) WriteFault) → EngineLeaves flash recorded honest calm failed old result new
+  pub leaves_ends : (old new : Engine N) (result : Result (Unit {0}) EngineFault) → EngineLeaves flash recorded honest calm failed old result new
       → HasLimitsOf old.mapping new.mapping → (new.fault ≡ None → IsCalm (ram new))
       → EndsCall flash recorded honest calm failed old (call_of result) new
   leaves_ends old new result l limits calm_now = record {
@@ -141,7 +141,7 @@ module _ {N : Type 0} (flash : N → Flash) (recorded : N → Option Recording) 
   }
 
   -- where it was refused the fault stands, and nothing more is said of what waits in memory
-  pub leaves_stuck : {A : Type 0} (old new : Engine N) (fault : WriteFault) → EngineLeaves {A = A} flash recorded honest calm failed old (Err fault) new → HasLimitsOf old.mapping new.mapping → EndsCall flash recorded honest calm failed old (Err (call.Engine fault)) new
+  pub leaves_stuck : {A : Type 0} (old new : Engine N) (fault : EngineFault) → EngineLeaves {A = A} flash recorded honest calm failed old (Err fault) new → HasLimitsOf old.mapping new.mapping → EndsCall flash recorded honest calm failed old (Err (call.Engine fault)) new
   leaves_stuck old new fault l limits = leaves_ends old new (Err fault) (leaves_refused _ _ old new fault l) limits (λ none. (let stands : new.fault ≡ Some fault = l.fault in let no : ⊥ = cc in absurd no))
 
   -- what was done gives what it likes
@@ -166,14 +166,14 @@ limits_same a b is = record { geometry = ap (λ (m : MappingState). m.geometry) 
 
 -- ---- what the engine's answers cost, as what the memory tells
 
-pub page_told : (stream : Stream) (result : Result (Unit {0}) WriteFault) (a b : Ram) → PageCosts stream a b result → Tells a b result
+pub page_told : (stream : Stream) (result : Result (Unit {0}) EngineFault) (a b : Ram) → PageCosts stream a b result → Tells a b result
 page_told stream (Ok done) a b h = omega (arith, h.put.good)
 page_told stream (Err ReadOnly) a b h = (omega (arith, h.none.none_free), omega (arith, h.found.good))
 page_told stream (Err SequenceSpent) a b h = h.last
 page_told stream (Err Damaged) a b h = tt
 page_told stream (Err Bus) a b h = tt
 
-pub back_told : (result : Result (Unit {0}) WriteFault) (a b : Ram) → WriteBackCosts a b result → Tells a b result
+pub back_told : (result : Result (Unit {0}) EngineFault) (a b : Ram) → WriteBackCosts a b result → Tells a b result
 back_told (Ok done) a b h = omega (arith, h.put.good)
 back_told (Err ReadOnly) a b h = (omega (arith, h.none.none_free), omega (arith, h.found.good))
 back_told (Err SequenceSpent) a b h = h.last

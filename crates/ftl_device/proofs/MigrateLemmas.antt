@@ -21,8 +21,8 @@ use Rattle.bad_blocks.specs.Table.{good_count}
 use Rattle.allocation.specs.State.{State}
 use Rattle.mapping_cache.specs.Mapping.{HasLimitsOf}
 use Rattle.collection.specs.declared.engine.Engine.{Engine}
-use Rattle.collection.specs.declared.fault.WriteFault.{WriteFault}
-use Rattle.collection.specs.declared.fault.WriteFault.TheVariants.{ReadOnly, SequenceSpent, Damaged, Bus}
+use Rattle.collection.specs.declared.fault.EngineFault.{EngineFault}
+use Rattle.collection.specs.declared.fault.EngineFault.TheVariants.{ReadOnly, SequenceSpent, Damaged, Bus}
 use Rattle.collection.specs.Safe.{ram, image_in}
 use Rattle.collection.specs.Looks.{IsReadFault}
 use Rattle.collection.proofs.Costs.{risen_over}
@@ -95,20 +95,20 @@ still_ok a b still same = still ∙ ap (λ f. record a { fault = f }) same
 pub over : (P : Ram → Image → Type 0) (a b : Ram) (x y : Image) → b ≡ a → y ≡ x → P b y → P a x
 over P a b x y same still h = subst (P a) still (subst (λ r. P r y) same h)
 
-pub look_tells : {A : Type 0} (result : Result A WriteFault) (a b : Ram) → b.blocks ≡ a.blocks → IfErr result IsReadFault → Tells a b result
+pub look_tells : {A : Type 0} (result : Result A EngineFault) (a b : Ram) → b.blocks ≡ a.blocks → IfErr result IsReadFault → Tells a b result
 look_tells (Ok x) a b same faults = (let e : good_count b.blocks.table ≡ good_count a.blocks.table = ap (λ (t : State). good_count t.table) same in omega arith)
 look_tells (Err ReadOnly) a b same faults = absurd faults
 look_tells (Err SequenceSpent) a b same faults = absurd faults
 look_tells (Err Damaged) a b same faults = tt
 look_tells (Err Bus) a b same faults = tt
 
-pub look_short : (fault : WriteFault) (a b : Ram) → IsReadFault fault → CallShort a b (Err (call.Engine fault))
+pub look_short : (fault : EngineFault) (a b : Ram) → IsReadFault fault → CallShort a b (Err (call.Engine fault))
 look_short ReadOnly a b h = absurd h
 look_short SequenceSpent a b h = absurd h
 look_short Damaged a b h = tt
 look_short Bus a b h = tt
 
-pub look_refused : (fault : WriteFault) (g : Geometry) (x y : Image) (r : Ram) → fault ≡ Bus → CallRefused g x r y (call.Engine fault)
+pub look_refused : (fault : EngineFault) (g : Geometry) (x y : Image) (r : Ram) → fault ≡ Bus → CallRefused g x r y (call.Engine fault)
 look_refused fault g x y r is = subst (λ f. CallRefused g x r y (call.Engine f)) (sym is) tt
 
 call_tells_then : (a b c : Ram) (result : Result (Unit {0}) CallFault) → b.blocks ≡ a.blocks → CallTells b c result → CallTells a c result

@@ -3,8 +3,8 @@ use Rattle.std.proofs.Common.{◌≡◌, ℕ, inl, inr, None, Result, Ok, Err, O
 use Rattle.page_layout.specs.Page.{Image}
 use Rattle.page_layout.specs.Flash.{Flash}
 use Rattle.mapping_cache.specs.Mapping.{cleaned}
-use Rattle.collection.specs.declared.fault.WriteFault.{WriteFault}
-use Rattle.collection.specs.declared.fault.WriteFault.TheVariants.{ReadOnly, SequenceSpent, Damaged, Bus}
+use Rattle.collection.specs.declared.fault.EngineFault.{EngineFault}
+use Rattle.collection.specs.declared.fault.EngineFault.TheVariants.{ReadOnly, SequenceSpent, Damaged, Bus}
 use Rattle.collection.specs.State.{Ram}
 use Rattle.collection.specs.Safe.{IsRam, ram, image_in}
 use Rattle.collection.specs.Truth.{IsTrue}
@@ -29,7 +29,7 @@ pub beside_here : (r : Ram) → LeavesPin r r
 beside_here r = beside_same r r refl (goes_same r) refl (record { geometry = refl; capacity = refl })
 
 -- a translation page was written back, or the call was refused
-pub beside_back : (result : Result (Unit {0}) WriteFault) (a b : Ram) (t : ℕ) → b.pin ≡ a.pin → Goes a b → OnOk result (b.mapping ≡ cleaned a.mapping t) → OnErr result (b.mapping ≡ a.mapping) → LeavesPin a b
+pub beside_back : (result : Result (Unit {0}) EngineFault) (a b : Ram) (t : ℕ) → b.pin ≡ a.pin → Goes a b → OnOk result (b.mapping ≡ cleaned a.mapping t) → OnErr result (b.mapping ≡ a.mapping) → LeavesPin a b
 beside_back (Ok done) a b t pin goes is same = beside_written a b pin goes t (inr is)
 beside_back (Err fault) a b t pin goes is same = beside_written a b pin goes t (inl same)
 
@@ -52,7 +52,7 @@ module _ (a b : Ram) (x y : Image) (s : IsRam a) (t : IsRam b) (l : LeavesPin a 
   pub keeps_beside : IsSame a x b y → KeepsArray a.geometry x b y
   keeps_beside same = record { truth = knows_beside same.truth same.leaves; array = same.array; versions = same.leaves.versions }
 
-  pub refused_beside : (fault : WriteFault) → Refused a x b y fault → CallRefused a.geometry x b y (EngineFault fault)
+  pub refused_beside : (fault : EngineFault) → Refused a x b y fault → CallRefused a.geometry x b y (EngineFault fault)
   refused_beside ReadOnly r = record { truth = r.truth; array = r.array; versions = r.leaves.versions }
   refused_beside SequenceSpent r = record { truth = r.truth; array = r.array; versions = r.leaves.versions; few = few_beside r.truth r.leaves }
   refused_beside Damaged r = r

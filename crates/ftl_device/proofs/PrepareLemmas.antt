@@ -6,8 +6,8 @@ use Rattle.page_layout.specs.Page.{Image}
 use Rattle.page_layout.specs.Flash.{Flash}
 use Rattle.page_layout.specs.Recording.{Recording}
 use Rattle.bad_blocks.specs.Table.{good_count}
-use Rattle.collection.specs.declared.fault.WriteFault.{WriteFault}
-use Rattle.collection.specs.declared.fault.WriteFault.TheVariants.{ReadOnly, SequenceSpent, Damaged, Bus}
+use Rattle.collection.specs.declared.fault.EngineFault.{EngineFault}
+use Rattle.collection.specs.declared.fault.EngineFault.TheVariants.{ReadOnly, SequenceSpent, Damaged, Bus}
 use Rattle.mapping_cache.specs.declared.slot.Slot.{Slot}
 use Rattle.mapping_cache.specs.Mapping.{MappingState, HasLimitsOf, slot_of, loaded, loaded_by}
 use Rattle.collection.specs.declared.engine.Engine.{Engine}
@@ -29,13 +29,13 @@ use Rattle.collection.proofs.Puts.{leaves_same}
 -- ---- counts
 
 -- where more were good before
-pub tells_then : (fault : WriteFault) (a b c : Ram) → good_count b.blocks.table ≤ good_count a.blocks.table → Tells {A = Option ℕ} b c (Err fault) → Tells {A = Option ℕ} a c (Err fault)
+pub tells_then : (fault : EngineFault) (a b c : Ram) → good_count b.blocks.table ≤ good_count a.blocks.table → Tells {A = Option ℕ} b c (Err fault) → Tells {A = Option ℕ} a c (Err fault)
 tells_then ReadOnly a b c fewer h = (h.0, omega (arith, h.1))
 tells_then SequenceSpent a b c fewer h = h
 tells_then Damaged a b c fewer h = tt
 tells_then Bus a b c fewer h = tt
 
-pub tells_found : (result : Result (Option ℕ) WriteFault) (a b c d : Ram) (fault : Option WriteFault)
+pub tells_found : (result : Result (Option ℕ) EngineFault) (a b c d : Ram) (fault : Option EngineFault)
     → good_count b.blocks.table ≤ good_count a.blocks.table → good_count c.blocks.table ≤ good_count b.blocks.table
     → d ≡ record c { fault = fault } → IfErr result IsReadFault → Tells a d result
 tells_found (Ok row) a b c d fault first next is of_read = (let e : good_count d.blocks.table ≡ good_count c.blocks.table = ap (λ (r : Ram). good_count r.blocks.table) is in omega arith)
@@ -46,7 +46,7 @@ tells_found (Err Bus) a b c d fault first next is of_read = tt
 
 -- ---- the look-up comes last
 
-module _ (c d : Ram) (fault : Option WriteFault) (is : d ≡ record c { fault = fault }) where
+module _ (c d : Ram) (fault : Option EngineFault) (is : d ≡ record c { fault = fault }) where
   pub went_found : (a : Ram) (s t u : Flash) (rs rt ru : Option Recording) → Went a s rs c t rt → u ≡ t → ru ≡ rt → Went a s rs d u ru
   went_found a s t u rs rt ru w same still =
       let noted : Went a s rs (record c { fault = fault }) t rt = record { log = w.log; leads = w.leads; records = w.records; follows = w.follows; next = w.next; wears = w.wears } in
@@ -72,7 +72,7 @@ module _ (c d : Ram) (fault : Option WriteFault) (is : d ≡ record c { fault = 
     few = subst (PinIsFew 0) (sym is) (λ p at. (let h = k.few p at in record { within = h.within; small = h.small; moved = h.moved }));
   }
 
-  pub found_after : (result : Result (Option ℕ) WriteFault) (n : ℕ) (g : Geometry) (x : Image) (t u : Flash) → KeepsArray g x c t.image → (result ≢ Err Bus → u ≡ t)
+  pub found_after : (result : Result (Option ℕ) EngineFault) (n : ℕ) (g : Geometry) (x : Image) (t u : Flash) → KeepsArray g x c t.image → (result ≢ Err Bus → u ≡ t)
       → MatchResult result (λ row. row ≡ newest_row t.image (Sector n)) (λ f. f ≡ Bus)
       → MatchResult result (λ row. IsFound n row g x d u.image) (λ f. CallRefused g x d u.image (EngineFault f))
   found_after (Ok row) n g x t u keeps same row_is =
@@ -83,7 +83,7 @@ module _ (c d : Ram) (fault : Option WriteFault) (is : d ≡ record c { fault = 
   found_after (Err Damaged) n g x t u keeps same of_bus = (let no : ⊥ = cc in absurd no)
   found_after (Err Bus) n g x t u keeps same of_bus = tt
 
-  pub calm_after : (result : Result (Option ℕ) WriteFault) (a b : Ram) → HasMadeRoom false a b → LeavesPin b c → OnOk result (IsCalm d)
+  pub calm_after : (result : Result (Option ℕ) EngineFault) (a b : Ram) → HasMadeRoom false a b → LeavesPin b c → OnOk result (IsCalm d)
   calm_after (Ok row) a b room beside = calm_found (calm_law b c beside room.calm)
   calm_after (Err f) a b room beside = tt
 

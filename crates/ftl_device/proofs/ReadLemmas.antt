@@ -18,8 +18,8 @@ use Rattle.mapping_cache.specs.Mapping.{MappingState, IsMapping, HasLimitsOf, Ca
 use Rattle.mapping_cache.proofs.Steps.{pending-used, pending-inserted}
 use Rattle.collection.specs.declared.engine.Engine.{Engine}
 use Rattle.collection.specs.declared.engine.Pinned.{Pinned}
-use Rattle.collection.specs.declared.fault.WriteFault.{WriteFault}
-use Rattle.collection.specs.declared.fault.WriteFault.TheVariants.{ReadOnly, SequenceSpent, Damaged, Bus}
+use Rattle.collection.specs.declared.fault.EngineFault.{EngineFault}
+use Rattle.collection.specs.declared.fault.EngineFault.TheVariants.{ReadOnly, SequenceSpent, Damaged, Bus}
 use Rattle.collection.specs.Left.{IsCalm, IsHalfDone, PinHasPassed, PinIsFew}
 use Rattle.ftl_device.specs.Calls.{PinIsTrue, IsWell, stop_of}
 use Rattle.ftl_device.specs.Device.{IsDevice}
@@ -143,7 +143,7 @@ few_mapped extra a b is moved few = subst (PinIsFew extra) (sym is)
 passed_mapped : (a b : Ram) (x : Image) → b ≡ record a { mapping = b.mapping } → PinHasPassed a x → PinHasPassed b x
 passed_mapped a b x is passed = (let P : Ram → Type 0 = λ r. PinHasPassed r x in subst P (sym is) (λ p at. passed p at))
 
-pub pin_mapped : (fault : Option WriteFault) (a b : Ram) (x : Image) → b ≡ record a { mapping = b.mapping } → b.mapping.moved ≡ a.mapping.moved → PinIsTrue fault a x → PinIsTrue fault b x
+pub pin_mapped : (fault : Option EngineFault) (a b : Ram) (x : Image) → b ≡ record a { mapping = b.mapping } → b.mapping.moved ≡ a.mapping.moved → PinIsTrue fault a x → PinIsTrue fault b x
 pin_mapped None a b x is moved k = (passed_mapped a b x is k.0, few_mapped 0 a b is moved k.1)
 pin_mapped (Some ReadOnly) a b x is moved k = tt
 pin_mapped (Some SequenceSpent) a b x is moved k = few_mapped 1 a b is moved k
@@ -178,7 +178,7 @@ read_well {N} flash d new e memory kept is moved well truth =
 
 -- ---- the row that a look-up found
 
-pub finds_noted : (result : Result (Option ℕ) WriteFault) (r s : Ram) (n : ℕ) (p : Page) (fault : Option WriteFault) → s ≡ record r { fault = fault } → IfOk result (FindsRow r n p) → IfOk result (FindsRow s n p)
+pub finds_noted : (result : Result (Option ℕ) EngineFault) (r s : Ram) (n : ℕ) (p : Page) (fault : Option EngineFault) → s ≡ record r { fault = fault } → IfOk result (FindsRow r n p) → IfOk result (FindsRow s n p)
 finds_noted (Ok row) r s n p fault is found = (let P : Ram → Type 0 = λ x. FindsRow x n p row in subst P (sym is) (record { hit = found.hit; miss = found.miss }))
 finds_noted (Err f) r s n p fault is found = tt
 
@@ -186,12 +186,12 @@ pub is_looked_up : {N : Type 0} (old : Ram) (e f : Engine N) (n : ℕ) (row : Op
 is_looked_up {N} old e f n row is prepared found = (let P : Engine N → Type 0 = λ x. IsLookedUp n old (ram x) (page_in x.scratch) in subst P (sym is) (record { before = e.mapping; prepared = prepared; row = row; found = found; loaded_is = refl }))
 
 -- a place was made by writing a translation page back
-pub wrote_back : {A : Type 0} (result : Result A WriteFault) (old new : MappingState) (page : ℕ) → OnOk result (new ≡ cleaned old page) → OnOk result (HasWrittenBack old new)
+pub wrote_back : {A : Type 0} (result : Result A EngineFault) (old new : MappingState) (page : ℕ) → OnOk result (new ≡ cleaned old page) → OnOk result (HasWrittenBack old new)
 wrote_back (Ok done) old new page is = inr (page, is)
 wrote_back (Err e) old new page is = tt
 
 -- what was looked for was prepared
-pub prepared_by : {A : Type 0} (result : Result A WriteFault) (old room placed found : Ram) (fault : Option WriteFault) → HasMadeRoom false old room → HasWrittenBack room.mapping placed.mapping → found ≡ record placed { fault = fault } → OnOk result (IsPrepared old found.mapping)
+pub prepared_by : {A : Type 0} (result : Result A EngineFault) (old room placed found : Ram) (fault : Option EngineFault) → HasMadeRoom false old room → HasWrittenBack room.mapping placed.mapping → found ≡ record placed { fault = fault } → OnOk result (IsPrepared old found.mapping)
 prepared_by (Ok done) old room placed found fault made place is = (let P : MappingState → Type 0 = λ m. IsPrepared old m in subst P (sym (ap (λ (r : Ram). r.mapping) is)) (record { room = room; made = made; place = place }))
 prepared_by (Err e) old room placed found fault made place is = tt
 

@@ -22,8 +22,8 @@ use Rattle.mapping_cache.specs.Mapping.{MappingState, IsMapping, CanLoad, per_pa
 use Rattle.mapping_cache.proofs.Entries.{by_test, eqb_self, lookup-from_entry, entry_passes}
 use Rattle.mapping_cache.proofs.Clean.{passes_from_keys}
 use Rattle.mapping_cache.proofs.Steps.{known-cached, pending-at, not_moved}
-use Rattle.collection.specs.declared.fault.WriteFault.{WriteFault}
-use Rattle.collection.specs.declared.fault.WriteFault.TheVariants.{Bus}
+use Rattle.collection.specs.declared.fault.EngineFault.{EngineFault}
+use Rattle.collection.specs.declared.fault.EngineFault.TheVariants.{Bus}
 use Rattle.collection.specs.State.{Ram}
 use Rattle.collection.specs.Safe.{IsRam}
 use Rattle.collection.specs.Settle.{Cleans}
@@ -86,14 +86,14 @@ place_cleaned old new n k t s safe last page keys cleans = λ none full e is.
     let unmoved : moved_row new e.0 ≡ None = not_moved new e.0 safe (rw slot refl) in
     clean_slot e.1 (sym (pending-at new e.0 (Some e.1) None slot unmoved) ∙ lacks)
 
-pub place_made : (result : Result (Unit {0}) WriteFault) (old new : Ram) (n k e : ℕ) (s : Slot) → IsRam old → IsRam new
+pub place_made : (result : Result (Unit {0}) EngineFault) (old new : Ram) (n k e : ℕ) (s : Slot) → IsRam old → IsRam new
     → last_entry old.mapping.cached ≡ Some (k, s) → e ≡ entries old.geometry → keys_of new.mapping.cached ≡ keys_of old.mapping.cached
     → OnOk result (Cleans (per_page old.mapping) (k / e) old.mapping new.mapping) → OnOk result (CanLoad new.mapping n)
 place_made (Ok done) old new n k e s safe safe' last same keys cleans = place_cleaned old.mapping new.mapping n k (k / e) s safe'.mapping last (ap (λ x. k / x) (same ∙ ap entries (sym safe.mapping_of))) keys cleans
 place_made (Err fault) old new n k e s safe safe' last same keys cleans = tt
 
 -- a look-up leaves it
-pub place_stays : (result : Result (Option ℕ) WriteFault) (old new : Ram) (n : ℕ) (fault : Option WriteFault) → new ≡ record old { fault = fault } → CanLoad old.mapping n → OnOk result (CanLoad new.mapping n)
+pub place_stays : (result : Result (Option ℕ) EngineFault) (old new : Ram) (n : ℕ) (fault : Option EngineFault) → new ≡ record old { fault = fault } → CanLoad old.mapping n → OnOk result (CanLoad new.mapping n)
 place_stays (Ok row) old new n fault same can = (let P : MappingState → Type 0 = λ m. CanLoad m n in subst P (sym (ap (λ (r : Ram). r.mapping) same)) can)
 place_stays (Err f) old new n fault same can = tt
 
@@ -123,10 +123,10 @@ ok_not_bus x e = (let never : ⊥ = cc in never)
 abbrev call_err : CallFault → Result (Unit {0}) CallFault
 call_err fault = Err fault
 
-abbrev engine_err : WriteFault → Result (Unit {0}) WriteFault
+abbrev engine_err : EngineFault → Result (Unit {0}) EngineFault
 engine_err fault = Err fault
 
-pub engine_not_bus : (fault : WriteFault) → call_err (Engine fault) ≢ call_err (Engine Bus) → engine_err fault ≢ engine_err Bus
+pub engine_not_bus : (fault : EngineFault) → call_err (Engine fault) ≢ call_err (Engine Bus) → engine_err fault ≢ engine_err Bus
 engine_not_bus fault ne e = (let same : fault ≡ Bus = cc in ne (ap (λ f. call_err (Engine f)) same))
 
 -- ---- the most recently used sector

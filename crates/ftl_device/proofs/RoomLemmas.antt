@@ -11,8 +11,8 @@ use Rattle.bad_blocks.specs.Table.{is_good, is_good_at, good_count}
 use Rattle.allocation.specs.State.{State, live_at, free_count, is_closed}
 use Rattle.mapping_cache.specs.Mapping.{per_page}
 use Rattle.collection.specs.declared.engine.Engine.{Engine}
-use Rattle.collection.specs.declared.fault.WriteFault.{WriteFault}
-use Rattle.collection.specs.declared.fault.WriteFault.TheVariants.{ReadOnly, SequenceSpent, Damaged, Bus}
+use Rattle.collection.specs.declared.fault.EngineFault.{EngineFault}
+use Rattle.collection.specs.declared.fault.EngineFault.TheVariants.{ReadOnly, SequenceSpent, Damaged, Bus}
 use Rattle.collection.specs.State.{Ram}
 use Rattle.collection.specs.Safe.{IsRam, is_shut, ram, image_in}
 use Rattle.collection.specs.Left.{IsCalm, PinIsFew}
@@ -61,14 +61,14 @@ good_fewer a b s t goes =
 
 -- ---- room was made
 
-pub room_tells : (result : Result (Unit {0}) WriteFault) (a b : Ram) → IsRam a → IsRam b → GoesOn a b → IfErr result (RoomTells b) → Tells a b result
+pub room_tells : (result : Result (Unit {0}) EngineFault) (a b : Ram) → IsRam a → IsRam b → GoesOn a b → IfErr result (RoomTells b) → Tells a b result
 room_tells (Ok done) a b s t goes h = good_fewer a b s t goes
 room_tells (Err ReadOnly) a b s t goes h = (h, good_fewer a b s t goes)
 room_tells (Err SequenceSpent) a b s t goes h = h
 room_tells (Err Damaged) a b s t goes h = tt
 room_tells (Err Bus) a b s t goes h = tt
 
-pub room_made : {N : Type 0} (flushing : Bool) (result : Result (Unit {0}) WriteFault) (e f : Engine N)
+pub room_made : {N : Type 0} (flushing : Bool) (result : Result (Unit {0}) EngineFault) (e f : Engine N)
     → OnOk result ((blocks : List ℕ) × Collects flushing (ram e) blocks (ram f)) → (9 ≤ free_count (ram e).blocks → IsOk result × (f ≡ e))
     → GoesOn (ram e) (ram f) → KeepsKeys e.mapping f.mapping → OnOk result (HasRoom (ram f)) → OnOk result (IsCalm (ram f))
     → OnOk result (HasMadeRoom flushing (ram e) (ram f))
@@ -88,7 +88,7 @@ clean_now a b s t same r idle = record {
       record { none = λ n of_page. now n (ap (λ e. n / e) (sym there) ∙ of_page) };
 }
 
-pub room_cleans : (result : Result (Unit {0}) WriteFault) (flushing : Bool) (a b : Ram) → IsRam a → IsRam b → b.geometry ≡ a.geometry → (flushing ≡ true → Refreshes a b) → OnOk result (IsCalm b) → flushing ≡ true → OnOk result (KeepsClean a.geometry a.mapping b.mapping)
+pub room_cleans : (result : Result (Unit {0}) EngineFault) (flushing : Bool) (a b : Ram) → IsRam a → IsRam b → b.geometry ≡ a.geometry → (flushing ≡ true → Refreshes a b) → OnOk result (IsCalm b) → flushing ≡ true → OnOk result (KeepsClean a.geometry a.mapping b.mapping)
 room_cleans (Ok done) flushing a b s t same r idle on = clean_now a b s t same (r on) idle
 room_cleans (Err fault) flushing a b s t same r idle on = tt
 
@@ -98,7 +98,7 @@ room_pins {N} erases a b (inl same) none = ap (λ (e : Engine N). e.pinned) same
 room_pins erases a b (inr erased) none = erased.1
 
 -- what holds anyhow holds where it was done
-pub ok_any : {A P : Type 0} (result : Result A WriteFault) → P → OnOk result P
+pub ok_any : {A P : Type 0} (result : Result A EngineFault) → P → OnOk result P
 ok_any (Ok answer) p = p
 ok_any (Err fault) p = tt
 
@@ -107,14 +107,14 @@ ok_any (Err fault) p = tt
 pub keeps_room : (a b : Ram) (x y : Image) → IsRearranged a x b y → Knows b y → KeepsArray a.geometry x b y
 keeps_room a b x y r k = record { truth = k; array = r.array; versions = r.versions }
 
-pub refused_room : (a b : Ram) (x y : Image) (fault : WriteFault) → RoomRefused a x b y fault → (fault ≢ Bus → PinIsFew 0 b) → CallRefused a.geometry x b y (EngineFault fault)
+pub refused_room : (a b : Ram) (x y : Image) (fault : EngineFault) → RoomRefused a x b y fault → (fault ≢ Bus → PinIsFew 0 b) → CallRefused a.geometry x b y (EngineFault fault)
 refused_room a b x y ReadOnly r few = record { truth = r.truth; array = r.array; versions = r.versions }
 refused_room a b x y SequenceSpent r few = record { truth = r.truth; array = r.array; versions = r.versions; few = few_more b (few (λ e. (let no : ⊥ = cc in no))) }
 refused_room a b x y Damaged r few = r
 refused_room a b x y Bus r few = tt
 
 -- what is known of the pinned block then: where nothing was done it is as it was, and else none is pinned
-pub room_knows : {N : Type 0} (flash : N → Flash) (erases : N → ℕ) (result : Result (Unit {0}) WriteFault) (e f : Engine N)
+pub room_knows : {N : Type 0} (flash : N → Flash) (erases : N → ℕ) (result : Result (Unit {0}) EngineFault) (e f : Engine N)
     → OnOk result (IsCalm (ram f)) → OnOk result (RestsOrErases erases e f)
     → MatchResult result (λ done. IsRearranged (ram e) (image_in flash e) (ram f) (image_in flash f))
     (RoomRefused (ram e) (image_in flash e) (ram f) (image_in flash f))
@@ -124,7 +124,7 @@ room_knows flash erases (Ok done) e f calm (inr erased) r few k = knows_none (ra
 room_knows flash erases (Err fault) e f calm or r few k = λ ne. few (λ is. ne (cc))
 
 -- what holds of a call that was done holds where no fault stands after it
-pub when_done : (P : Type 0) (result : Result (Unit {0}) WriteFault) (fault : Option WriteFault) → fault ≡ fault_after None result → OnOk result P → fault ≡ None → P
+pub when_done : (P : Type 0) (result : Result (Unit {0}) EngineFault) (fault : Option EngineFault) → fault ≡ fault_after None result → OnOk result P → fault ≡ None → P
 when_done P (Ok done) fault is h none = h
 when_done P (Err f) fault is h none = (let no : Some f ≡ None = sym is ∙ none in let never : ⊥ = cc in absurd never)
 
@@ -200,13 +200,13 @@ rescued_by a b c x y z found s t u first then r d = record {
         let at_a : k < a.blocks.geometry.blocks = (let f : a.blocks.geometry.blocks ≡ a.geometry.blocks = ap (λ (g : Geometry). g.blocks) s.blocks_of in omega arith) in
         (k, record { within = at_a; bad = bad; some = omega (arith, one_of.2) }, omega (arith, one_of.2))
 
-pub call_tells : (fault : WriteFault) (a b : Ram) → Tells {A = Unit {0}} a b (Err fault) → CallTells {A = Unit {0}} a b (Err (EngineFault fault))
+pub call_tells : (fault : EngineFault) (a b : Ram) → Tells {A = Unit {0}} a b (Err fault) → CallTells {A = Unit {0}} a b (Err (EngineFault fault))
 call_tells ReadOnly a b h = h
 call_tells SequenceSpent a b h = h
 call_tells Damaged a b h = tt
 call_tells Bus a b h = tt
 
-pub rescue_told : (result : Result Bool WriteFault) (b c : Ram) → IsRam b → IsRam c → Goes b c → RescueCosts b c result → Tells b c result
+pub rescue_told : (result : Result Bool EngineFault) (b c : Ram) → IsRam b → IsRam c → Goes b c → RescueCosts b c result → Tells b c result
 rescue_told (Ok found) b c t u goes h = good_fewer b c t u (goes_on b c t goes)
 rescue_told (Err ReadOnly) b c t u goes h = (omega (arith, h.out.out.none.none_free), good_fewer b c t u (goes_on b c t goes))
 rescue_told (Err SequenceSpent) b c t u goes h = h.spent.spent.last

@@ -9,7 +9,7 @@ use Rattle.budget.proofs.AccountLemmas.{no_page, few_openings, stuck}
 use Rattle.allocation.specs.State.{free_count}
 use Rattle.allocation.specs.Counts.{counts_of}
 use Rattle.allocation.proofs.TallyLemmas.{fits}
-use Rattle.collection.specs.declared.fault.WriteFault.TheVariants as engine_fault
+use Rattle.collection.specs.declared.fault.EngineFault.TheVariants as engine_fault
 use Rattle.collection.specs.State.{Ram}
 use Rattle.collection.specs.Safe.{IsRam}
 use Rattle.ftl_device.specs.declared.fault.CallFault.TheVariants as call

@@ -11,7 +11,7 @@ use Rattle.allocation.specs.State.{free_count}
 use Rattle.promises.specs.Step.{Command}
 use Rattle.promises.specs.Log.{failed_count}
 use Rattle.collection.specs.declared.engine.Engine.{Engine}
-use Rattle.collection.specs.declared.fault.WriteFault.TheVariants as engine_fault
+use Rattle.collection.specs.declared.fault.EngineFault.TheVariants as engine_fault
 use Rattle.collection.specs.State.{Ram}
 use Rattle.collection.specs.Safe.{IsRam, ram, image_in}
 use Rattle.collection.specs.Truth.{IsTrue}

@@ -14,8 +14,8 @@ use Rattle.std.proofs.lemmas.Bool.{cases_lt, lt-ltb}
 use Rattle.allocation.specs.State.{State, free_count}
 use Rattle.allocation.specs.Counts.{counts_of}
 use Rattle.allocation.proofs.TallyLemmas.{fits}
-use Rattle.collection.specs.declared.fault.WriteFault.{WriteFault}
-use Rattle.collection.specs.declared.fault.WriteFault.TheVariants.{ReadOnly, SequenceSpent, Damaged, Bus}
+use Rattle.collection.specs.declared.fault.EngineFault.{EngineFault}
+use Rattle.collection.specs.declared.fault.EngineFault.TheVariants.{ReadOnly, SequenceSpent, Damaged, Bus}
 use Rattle.collection.specs.State.{Ram}
 use Rattle.collection.specs.Safe.{IsRam}
 use Rattle.collection.specs.Cost.{HasPut, HasRunOut, PageCosts, WriteBackCosts}
@@ -89,7 +89,7 @@ failed_at most stream a c h = record { mid = a; geometry = refl; used = used_non
 pub place_free : (r : Ram) → HasUsed 1 r r
 place_free r = used_none 1 r
 
-pub place_costs : (result : Result (Unit {0}) WriteFault) (a b : Ram) → WriteBackCosts a b result → PlaceCosts a b result
+pub place_costs : (result : Result (Unit {0}) EngineFault) (a b : Ram) → WriteBackCosts a b result → PlaceCosts a b result
 place_costs (Ok done) a b h = used_put Meta 1 a b (omega arith) h
 place_costs (Err ReadOnly) a b h = failed_at 0 Meta a b h
 place_costs (Err SequenceSpent) a b h = h
@@ -102,13 +102,13 @@ module _ (known : Type 0) where
   pub after_room : (a b : Ram) → IsRam b → HasMadeRoom false a b → (known → RoomCounts 0 a b (Ok tt)) → AfterRoom known a b
   after_room a b safe room h = record { safe = safe; room = room; nine = λ k. (h k).nine }
 
-  pub room_refused : (fault : WriteFault) (a b : Ram) → Tells {A = Unit {0}} a b (Err fault) → (known → RoomCounts 0 a b (Err fault)) → RoomCosts {A = Option ℕ} known 1 a b (Err fault)
+  pub room_refused : (fault : EngineFault) (a b : Ram) → Tells {A = Unit {0}} a b (Err fault) → (known → RoomCounts 0 a b (Err fault)) → RoomCosts {A = Option ℕ} known 1 a b (Err fault)
   room_refused ReadOnly a b tells h = inl (record { scarce = tells.0; lacks = λ k. elim (h k) [ inl few ↦ inl few | inr three ↦ inr (omega arith) ] })
   room_refused SequenceSpent a b tells h = tt
   room_refused Damaged a b tells h = tt
   room_refused Bus a b tells h = tt
 
-  pub place_refused : (fault : WriteFault) (a b c : Ram) → AfterRoom known a b → PlaceCosts b c (Err fault) → RoomCosts {A = Option ℕ} known 1 a c (Err fault)
+  pub place_refused : (fault : EngineFault) (a b c : Ram) → AfterRoom known a b → PlaceCosts b c (Err fault) → RoomCosts {A = Option ℕ} known 1 a c (Err fault)
   place_refused ReadOnly a b c after h = inr
       (record {
         mid = b;
@@ -128,7 +128,7 @@ module _ (known : Type 0) where
   place_refused Bus a b c after h = tt
 
   -- and the look-up
-  pub found_costs : (result : Result (Option ℕ) WriteFault) (a b c d : Ram) (fault : Option WriteFault) → AfterRoom known a b → HasUsed 1 b c → d ≡ record c { fault = fault } → IfErr result IsReadFault → RoomCosts known 1 a d result
+  pub found_costs : (result : Result (Option ℕ) EngineFault) (a b c d : Ram) (fault : Option EngineFault) → AfterRoom known a b → HasUsed 1 b c → d ≡ record c { fault = fault } → IfErr result IsReadFault → RoomCosts known 1 a d result
   found_costs (Ok row) a b c d fault after u is of_read = record { mid = b; after = after; used = used_after 1 b c d (ap (λ (r : Ram). r.blocks) is) u }
   found_costs (Err ReadOnly) a b c d fault after u is of_read = absurd of_read
   found_costs (Err SequenceSpent) a b c d fault after u is of_read = tt
@@ -138,7 +138,7 @@ module _ (known : Type 0) where
   pub room_kept : (most : ℕ) (a b c : Ram) → c.blocks ≡ b.blocks → UsesRoom known most a b → UsesRoom known most a c
   room_kept most a b c is u = record { mid = u.mid; after = u.after; used = used_after most u.mid b c is u.used }
 
-  pub room_to_call : (fault : WriteFault) (a b : Ram) → RoomCosts {A = Option ℕ} known 1 a b (Err fault) → CallRoomCosts known 1 a b (Err (Engine fault))
+  pub room_to_call : (fault : EngineFault) (a b : Ram) → RoomCosts {A = Option ℕ} known 1 a b (Err fault) → CallRoomCosts known 1 a b (Err (Engine fault))
   room_to_call ReadOnly a b h = h
   room_to_call SequenceSpent a b h = tt
   room_to_call Damaged a b h = tt
@@ -158,7 +158,7 @@ module _ (known : Type 0) where
   pub room_page : (a b c : Ram) → b.geometry ≡ a.geometry → UsesRoom known 1 a b → HasPut Data b c → UsesRoom known 2 a c
   room_page a b c same u p = record { mid = u.mid; after = u.after; used = used_then 1 1 2 u.mid b c (mid_is a b u same) (omega arith) u.used (used_put Data 1 b c (omega arith) p) }
 
-  pub page_refused : (fault : WriteFault) (a b c : Ram) → b.geometry ≡ a.geometry → UsesRoom known 1 a b → PageCosts Data b c (Err fault) → CallRoomCosts known 2 a c (Err (Engine fault))
+  pub page_refused : (fault : EngineFault) (a b c : Ram) → b.geometry ≡ a.geometry → UsesRoom known 1 a b → PageCosts Data b c (Err fault) → CallRoomCosts known 2 a c (Err (Engine fault))
   page_refused ReadOnly a b c same u h = inr (record { mid = u.mid; after = u.after; failed = record { mid = b; geometry = mid_is a b u same; used = u.used; stream = Data; out = h } })
   page_refused SequenceSpent a b c same u h = tt
   page_refused Damaged a b c same u h = tt
@@ -207,7 +207,7 @@ pub funded_here : (f : ℕ) (r : Ram) → IsFunded r.geometry.pages f (counts_of
 funded_here f r h = inr (0, omega arith, (let e : f + 0 ≡ f = omega arith in rw e h))
 
 -- room was made, and then a translation page written back
-pub written_counts : (f : ℕ) (result : Result (Unit {0}) WriteFault) (a b c : Ram) → IsRam b → b.geometry ≡ a.geometry → RoomCounts f a b (Ok tt) → WriteBackCosts b c result → FlushCounts f a c result
+pub written_counts : (f : ℕ) (result : Result (Unit {0}) EngineFault) (a b c : Ram) → IsRam b → b.geometry ≡ a.geometry → RoomCounts f a b (Ok tt) → WriteBackCosts b c result → FlushCounts f a c result
 written_counts f (Ok done) a b c s same room p = elim room.nine [
   | inl few ↦ inl (omega (arith, p.put.good))
   | inr nine ↦
@@ -229,14 +229,14 @@ written_counts f (Err SequenceSpent) a b c s same room h = tt
 written_counts f (Err Damaged) a b c s same room h = tt
 written_counts f (Err Bus) a b c s same room h = tt
 
-pub unroomed_counts : (f : ℕ) (fault : WriteFault) (a b : Ram) → RoomCounts f a b (Err fault) → FlushCounts f a b (Err fault)
+pub unroomed_counts : (f : ℕ) (fault : EngineFault) (a b : Ram) → RoomCounts f a b (Err fault) → FlushCounts f a b (Err fault)
 unroomed_counts f ReadOnly a b h = h
 unroomed_counts f SequenceSpent a b h = tt
 unroomed_counts f Damaged a b h = tt
 unroomed_counts f Bus a b h = tt
 
 -- one page after another
-pub counts_then : (f : ℕ) (result : Result (Unit {0}) WriteFault) (a b c : Ram) → b.geometry ≡ a.geometry → Tells b c result → FlushFunded f a b → ((g : ℕ) → IsFunded b.geometry.pages g (counts_of b.blocks) → FlushCounts g b c result) → FlushCounts f a c result
+pub counts_then : (f : ℕ) (result : Result (Unit {0}) EngineFault) (a b c : Ram) → b.geometry ≡ a.geometry → Tells b c result → FlushFunded f a b → ((g : ℕ) → IsFunded b.geometry.pages g (counts_of b.blocks) → FlushCounts g b c result) → FlushCounts f a c result
 counts_then f (Ok done) a b c same tells (inl few) h = inl (omega arith)
 counts_then f (Ok done) a b c same tells (inr so) h =
     let needed : need b.geometry ≡ need a.geometry = ap need same in
@@ -258,13 +258,13 @@ counts_then f (Err Damaged) a b c same tells so h = tt
 counts_then f (Err Bus) a b c same tells so h = tt
 
 -- the whole of it
-pub flush_first : (fault : WriteFault) (a b : Ram) → FlushCounts 0 a b (Err fault) → FlushShort a b (Err (Engine fault))
+pub flush_first : (fault : EngineFault) (a b : Ram) → FlushCounts 0 a b (Err fault) → FlushShort a b (Err (Engine fault))
 flush_first ReadOnly a b h = elim h [ inl few ↦ inl few | inr three ↦ inr (omega arith) ]
 flush_first SequenceSpent a b h = tt
 flush_first Damaged a b h = tt
 flush_first Bus a b h = tt
 
-pub flush_room : (fault : WriteFault) (a b c : Ram) → b.geometry ≡ a.geometry → Tells {A = Unit {0}} b c (Err fault) → FlushFunded 0 a b → ((g : ℕ) → IsFunded b.geometry.pages g (counts_of b.blocks) → RoomCounts g b c (Err fault)) → FlushShort a c (Err (Engine fault))
+pub flush_room : (fault : EngineFault) (a b c : Ram) → b.geometry ≡ a.geometry → Tells {A = Unit {0}} b c (Err fault) → FlushFunded 0 a b → ((g : ℕ) → IsFunded b.geometry.pages g (counts_of b.blocks) → RoomCounts g b c (Err fault)) → FlushShort a c (Err (Engine fault))
 flush_room fault a b c same tells so h = flush_first fault a c (counts_then 0 (Err fault) a b c same tells so (λ g funded. unroomed_counts g fault b c (h g funded)))
 
 module _ (a b c d : Ram) (same : b.geometry ≡ a.geometry) (fewer : good_count c.blocks.table ≤ good_count b.blocks.table) (so : FlushFunded 0 a b) (h : (g : ℕ) → IsFunded b.geometry.pages g (counts_of b.blocks) → RoomCounts g b c (Ok tt)) where
@@ -291,10 +291,10 @@ module _ (a b c d : Ram) (same : b.geometry ≡ a.geometry) (fewer : good_count 
     | inr free ↦ inr (omega (arith, free.0, free.1))
   ]
 
-abbrev engine_err : WriteFault → Result (Unit {0}) WriteFault
+abbrev engine_err : EngineFault → Result (Unit {0}) EngineFault
 engine_err fault = Err fault
 
-pub flush_tables : (fault : WriteFault) (a c d : Ram) → Tells {A = Unit {0}} c d (Err fault) → (engine_err fault ≡ engine_err ReadOnly → good_count d.blocks.table ≤ good_count c.blocks.table → LacksGood a d) → FlushShort a d (Err (Engine fault))
+pub flush_tables : (fault : EngineFault) (a c d : Ram) → Tells {A = Unit {0}} c d (Err fault) → (engine_err fault ≡ engine_err ReadOnly → good_count d.blocks.table ≤ good_count c.blocks.table → LacksGood a d) → FlushShort a d (Err (Engine fault))
 flush_tables ReadOnly a c d tells h = h refl tells.1
 flush_tables SequenceSpent a c d tells h = tt
 flush_tables Damaged a c d tells h = tt
@@ -343,7 +343,7 @@ module _ (a b c : Ram) (s : IsRam a) (t : IsRam b) (u : IsRam c) (room : HasMade
       by false is free = inr (let e : free_count c.blocks ≡ free_count b.blocks = ap (λ (r : Ram). free_count r.blocks) is in omega arith)
       by true h free = elim (account_leaves b c h.data_pages h.meta_pages h.few free h.programmed.account) [ inl five ↦ inr five | inr three ↦ inl (inr (omega (arith, good_fewer a b s t room.goes))) ]
 
-  pub rescue_stuck : (fault : WriteFault) → RescueCosts b c (Err fault) → CallShort a c (Err (Engine fault))
+  pub rescue_stuck : (fault : EngineFault) → RescueCosts b c (Err fault) → CallShort a c (Err (Engine fault))
   rescue_stuck ReadOnly h = elim nine.nine [
     | inl few ↦ inl (omega (arith, less_then))
     | inr free ↦ (let three = account_out h.out.stream b h.mid c h.data_pages h.meta_pages h.few free h.programmed.account h.out.out in inr (omega (arith, good_fewer a b s t room.goes)))
@@ -352,7 +352,7 @@ module _ (a b c : Ram) (s : IsRam a) (t : IsRam b) (u : IsRam c) (room : HasMade
   rescue_stuck Damaged h = tt
   rescue_stuck Bus h = tt
 
-pub unroomed_short : (fault : WriteFault) (a b : Ram) → RoomCounts 0 a b (Err fault) → CallShort a b (Err (Engine fault))
+pub unroomed_short : (fault : EngineFault) (a b : Ram) → RoomCounts 0 a b (Err fault) → CallShort a b (Err (Engine fault))
 unroomed_short ReadOnly a b h = elim h [ inl few ↦ inl few | inr three ↦ inr (omega arith) ]
 unroomed_short SequenceSpent a b h = tt
 unroomed_short Damaged a b h = tt

@@ -16,8 +16,8 @@ use Rattle.collection.specs.declared.engine.Engine.{Engine}
 use Rattle.collection.specs.declared.engine.Pinned.{Pinned}
 use Rattle.collection.specs.declared.engine.collect_in_turns.Step.{Step}
 use Rattle.collection.specs.declared.engine.collect_in_turns.Step.TheVariants.{Copied, WroteBack, Erased}
-use Rattle.collection.specs.declared.fault.WriteFault.{WriteFault}
-use Rattle.collection.specs.declared.fault.WriteFault.TheVariants.{ReadOnly, SequenceSpent, Damaged, Bus}
+use Rattle.collection.specs.declared.fault.EngineFault.{EngineFault}
+use Rattle.collection.specs.declared.fault.EngineFault.TheVariants.{ReadOnly, SequenceSpent, Damaged, Bus}
 use Rattle.collection.specs.State.{Ram}
 use Rattle.collection.specs.Safe.{IsSafe, IsRam, is_shut, ram, image_in}
 use Rattle.collection.specs.Truth.{IsTrue}
@@ -27,7 +27,7 @@ use Rattle.collection.specs.Left.{IsCalm, IsHalfDone, PinIsFew, PinHasPassed, St
 use Rattle.collection.specs.Turns.{erases_told}
 use Rattle.collection.specs.Room.{IsMade, IsWorth}
 use Rattle.collection.specs.Acts.{RestsOrErases}
-use Rattle.ftl_device.specs.declared.fault.CallFault.TheVariants.{Engine as EngineFault}
+use Rattle.ftl_device.specs.declared.fault.CallFault.TheVariants.{Engine as OfEngine}
 use Rattle.ftl_device.specs.Calls.{Tells, Knows, KeepsArray, CallRefused, HasWorked, KeepsBad, HasLess, HasFallen, IsQuiet}
 use Rattle.ftl_device.specs.Shortage.{StepCounts, HasUsed}
 use Rattle.ftl_device.proofs.SpentLemmas.{used_put, failed_at}
@@ -85,7 +85,7 @@ step_goes_on p a b half goes = record {
 
 -- ---- what it costs
 
-pub step_told : (p : Pinned) (a b : Ram) (fault : WriteFault) → good_count b.blocks.table ≤ good_count a.blocks.table → FaultCosts a b fault → Tells {A = Step} a b (Err fault)
+pub step_told : (p : Pinned) (a b : Ram) (fault : EngineFault) → good_count b.blocks.table ≤ good_count a.blocks.table → FaultCosts a b fault → Tells {A = Step} a b (Err fault)
 step_told p a b ReadOnly le h = (omega (arith, h.out.none.none_free), le)
 step_told p a b SequenceSpent le h = h.spent.last
 step_told p a b Damaged le h = tt
@@ -96,7 +96,7 @@ step_counted p a b Copied c = inl (used_put c.stream 1 a b (omega arith) c.put)
 step_counted p a b WroteBack c = inl (used_put Meta 1 a b (omega arith) c.put)
 step_counted p a b Erased c = inr (omega (arith, c.counts.good, c.counts.free))
 
-pub step_stuck : (a b : Ram) (fault : WriteFault) → FaultCosts a b fault → StepCounts a b (Err fault)
+pub step_stuck : (a b : Ram) (fault : EngineFault) → FaultCosts a b fault → StepCounts a b (Err fault)
 step_stuck a b ReadOnly h = failed_at 0 h.stream a b h.out
 step_stuck a b SequenceSpent h = tt
 step_stuck a b Damaged h = tt
@@ -160,13 +160,13 @@ module _ (p : Pinned) (a b : Ram) (x y : Image) (s : IsRam a) (t : IsRam b) (sam
       let m : length b.mapping.moved ≡ length a.mapping.moved = ap (λ (z : Rattle.mapping_cache.specs.Mapping.MappingState). length z.moved) mapping in
       record { within = (let lt = few.within in rw same lt); small = omega (arith, fewer, few.small, v); moved = omega (arith, fewer, few.moved, v, m) }
 
-  pub step_refused : (fault : WriteFault) → b.pin.block ≡ a.pin.block → b.mapping ≡ a.mapping → Refused a x b y fault → CallRefused a.geometry x b y (EngineFault fault)
+  pub step_refused : (fault : EngineFault) → b.pin.block ≡ a.pin.block → b.mapping ≡ a.mapping → Refused a x b y fault → CallRefused a.geometry x b y (OfEngine fault)
   step_refused ReadOnly pin mapping r = record { truth = r.truth; array = r.array; versions = r.leaves.versions }
   step_refused SequenceSpent pin mapping r = record { truth = r.truth; array = r.array; versions = r.leaves.versions; few = few_refused pin mapping r.truth r.leaves }
   step_refused Damaged pin mapping r = r
   step_refused Bus pin mapping r = tt
 
-pub ok_map : {P Q : Type 0} (result : Result (Unit {0}) WriteFault) → (P → Q) → OnOk result P → OnOk result Q
+pub ok_map : {P Q : Type 0} (result : Result (Unit {0}) EngineFault) → (P → Q) → OnOk result P → OnOk result Q
 ok_map (Ok done) f h = f h
 ok_map (Err fault) f h = tt
 
@@ -222,7 +222,7 @@ module _ {N : Type 0} (flash : N → Flash) (e f : Engine N) (block : ℕ) (is :
   pub bad_pinned : (new : Engine N) → KeepsBad (ram f) (ram new) → KeepsBad (ram e) (ram new)
   bad_pinned new g = (let P : Engine N → Type 0 = λ z. KeepsBad (ram z) (ram new) → KeepsBad (ram e) (ram new) in subst P (sym is) (λ h. h) g)
 
-  counts_rebuilt : (r : Ram) (result : Result (Unit {0}) WriteFault) → StepCounts (ram (record e { pinned = Some (record { block = block; first = 0 }) })) r result → StepCounts (ram e) r result
+  counts_rebuilt : (r : Ram) (result : Result (Unit {0}) EngineFault) → StepCounts (ram (record e { pinned = Some (record { block = block; first = 0 }) })) r result → StepCounts (ram e) r result
   counts_rebuilt r (Ok done) (inl u) = inl (record { data_pages = u.data_pages; meta_pages = u.meta_pages; few = u.few; account = u.account })
   counts_rebuilt r (Ok done) (inr le) = inr le
   counts_rebuilt r (Err ReadOnly) h = record { mid = h.mid; geometry = h.geometry; used = record { data_pages = h.used.data_pages; meta_pages = h.used.meta_pages; few = h.used.few; account = h.used.account }; stream = h.stream; out = h.out }
@@ -230,15 +230,15 @@ module _ {N : Type 0} (flash : N → Flash) (e f : Engine N) (block : ℕ) (is :
   counts_rebuilt r (Err Damaged) h = tt
   counts_rebuilt r (Err Bus) h = tt
 
-  pub counts_pinned : (r : Ram) (result : Result (Unit {0}) WriteFault) → StepCounts (ram f) r result → StepCounts (ram e) r result
+  pub counts_pinned : (r : Ram) (result : Result (Unit {0}) EngineFault) → StepCounts (ram f) r result → StepCounts (ram e) r result
   counts_pinned r result h = (let P : Engine N → Type 0 = λ z. StepCounts (ram z) r result → StepCounts (ram e) r result in subst P (sym is) (counts_rebuilt r result) h)
 
-  pub truth_pinned : (result : Result (Unit {0}) WriteFault) (r : Ram) (y : Image)
+  pub truth_pinned : (result : Result (Unit {0}) EngineFault) (r : Ram) (y : Image)
       → MatchResult result (λ done. KeepsArray f.geometry (image_in flash f) r y)
-      (λ fault. CallRefused f.geometry (image_in flash f) r y (EngineFault fault))
+      (λ fault. CallRefused f.geometry (image_in flash f) r y (OfEngine fault))
       → MatchResult result (λ done. KeepsArray e.geometry (image_in flash e) r y)
-      (λ fault. CallRefused e.geometry (image_in flash e) r y (EngineFault fault))
-  truth_pinned result r y h = (let P : Engine N → Type 0 = λ z. MatchResult result (λ done. KeepsArray z.geometry (image_in flash z) r y) (λ fault. CallRefused z.geometry (image_in flash z) r y (EngineFault fault)) in subst P is h)
+      (λ fault. CallRefused e.geometry (image_in flash e) r y (OfEngine fault))
+  truth_pinned result r y h = (let P : Engine N → Type 0 = λ z. MatchResult result (λ done. KeepsArray z.geometry (image_in flash z) r y) (λ fault. CallRefused z.geometry (image_in flash z) r y (OfEngine fault)) in subst P is h)
 
   pub worked_pinned : (erases : N → ℕ) (new : Engine N) → HasWorked (ram f) (ram new) (erases f.nand) (erases new.nand) → HasWorked (ram e) (ram new) (erases e.nand) (erases new.nand)
   worked_pinned erases new h = (let P : Engine N → Type 0 = λ z. HasWorked (ram z) (ram new) (erases z.nand) (erases new.nand) in subst P is h)
@@ -259,7 +259,7 @@ module _ {N : Type 0} (flash : N → Flash) (e f : Engine N) (block : ℕ) (is :
     }) safe)
 
     -- the step after it is one of the engine before
-    pub collects_pinned : (new : Engine N) (result : Result (Unit {0}) WriteFault) → IsSafe flash e → IsSafe flash f → e.fault ≡ None
+    pub collects_pinned : (new : Engine N) (result : Result (Unit {0}) EngineFault) → IsSafe flash e → IsSafe flash f → e.fault ≡ None
         → (Knows (ram e) (image_in flash e) → Knows (ram f) (image_in flash f))
         → CollectsOn flash recorded honest calm erases failed f result new → CollectsOn flash recorded honest calm erases failed e result new
     collects_pinned new result was safe going begun k = record {
@@ -363,13 +363,13 @@ module _ (a b c : Ram) (s : IsRam a) (t : IsRam b) (u : IsRam c) (room : HasMade
         ]
       ]
 
-  pub step_short_of : (fault : WriteFault) → StepCounts b c (Err fault) → CallShort a c (Err (EngineFault fault))
+  pub step_short_of : (fault : EngineFault) → StepCounts b c (Err fault) → CallShort a c (Err (OfEngine fault))
   step_short_of ReadOnly h =
       let less = good_fewer b c t u goes in
       let before = good_fewer a b s t room.goes in
       elim nine.nine [
         | inl few ↦ inl (omega (arith, less))
-        | inr free ↦ (let three = leaves_five b c (of_call (Err (EngineFault ReadOnly))) t free (record { mid = h.mid; geometry = h.geometry; used = used_more 0 1 b h.mid (omega arith) h.used; stream = h.stream; out = h.out }) in inr (omega (arith, before, three)))
+        | inr free ↦ (let three = leaves_five b c (of_call (Err (OfEngine ReadOnly))) t free (record { mid = h.mid; geometry = h.geometry; used = used_more 0 1 b h.mid (omega arith) h.used; stream = h.stream; out = h.out }) in inr (omega (arith, before, three)))
       ]
   step_short_of SequenceSpent h = tt
   step_short_of Damaged h = tt
@@ -401,7 +401,7 @@ module _ (b c : Ram) (y z : Image) (s : IsRam b) (t : IsRam c) (goes : Goes b c)
       let v : vmax c.geometry ≡ vmax b.geometry = ap vmax goes.geometry in
       record { within = (let lt = few.within in rw goes.geometry lt); small = omega (arith, fewer, few.small, v); moved = omega (arith, fewer, few.moved, v, more) }
 
-  pub rescue_refused : (fault : WriteFault) → Refused b y c z fault → CallRefused b.geometry y c z (EngineFault fault)
+  pub rescue_refused : (fault : EngineFault) → Refused b y c z fault → CallRefused b.geometry y c z (OfEngine fault)
   rescue_refused ReadOnly r = record { truth = r.truth; array = r.array; versions = r.leaves.versions }
   rescue_refused SequenceSpent r = record { truth = r.truth; array = r.array; versions = r.leaves.versions; few = few_rescued r.truth r.leaves }
   rescue_refused Damaged r = r

@@ -5,8 +5,8 @@ use Rattle.page_layout.specs.Page.{Image}
 use Rattle.page_layout.specs.Flash.{Flash}
 use Rattle.collection.specs.declared.engine.Engine.{Engine}
 use Rattle.collection.specs.declared.engine.Pinned.{Pinned}
-use Rattle.collection.specs.declared.fault.WriteFault.{WriteFault}
-use Rattle.collection.specs.declared.fault.WriteFault.TheVariants.{ReadOnly, SequenceSpent, Damaged, Bus}
+use Rattle.collection.specs.declared.fault.EngineFault.{EngineFault}
+use Rattle.collection.specs.declared.fault.EngineFault.TheVariants.{ReadOnly, SequenceSpent, Damaged, Bus}
 use Rattle.collection.specs.State.{Ram}
 use Rattle.collection.specs.Safe.{IsRam, ram, image_in}
 use Rattle.collection.specs.Truth.{IsTrue}
@@ -24,7 +24,7 @@ below_by (Some p) r x s w at few = (let l : left r x ≡ left_in false r x p.blo
 left_below : (r : Ram) (x : Image) → IsRam r → IsTrue None r x → PinIsTrue r.fault r x → stop_of r.fault ≡ None → r.fault ≢ Some ReadOnly → left r x < r.geometry.pages
 left_below r x s w its going ne = at r.fault refl
   where
-    at : (f : Option WriteFault) → r.fault ≡ f → left r x < r.geometry.pages
+    at : (f : Option EngineFault) → r.fault ≡ f → left r x < r.geometry.pages
     at None is = (let k : PinIsTrue None r x = subst (λ f. PinIsTrue f r x) is its in below_by r.pin.block r x s w refl (few_more r k.1))
     at (Some ReadOnly) is = absurd (ne is)
     at (Some SequenceSpent) is = (let k : PinIsTrue (Some SequenceSpent) r x = subst (λ f. PinIsTrue f r x) is its in below_by r.pin.block r x s w refl k)

@@ -13,7 +13,7 @@ use Rattle.bad_blocks.specs.Table.{good_count}
 use Rattle.allocation.specs.State.{free_count}
 use Rattle.promises.specs.Step.{State, Command, Reply, QuietStep, ArrayStep}
 use Rattle.collection.specs.declared.engine.Engine.{Engine}
-use Rattle.collection.specs.declared.fault.WriteFault.TheVariants as engine_fault
+use Rattle.collection.specs.declared.fault.EngineFault.TheVariants as engine_fault
 use Rattle.collection.specs.State.{Ram}
 use Rattle.collection.specs.Safe.{ram, image_in}
 use Rattle.collection.specs.Log.{Went}

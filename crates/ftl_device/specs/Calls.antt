@@ -20,8 +20,8 @@ use Rattle.image_check.specs.Stale.{is_stale}
 use Rattle.image_check.specs.Mountable.{IsMountable}
 use Rattle.promises.specs.Step as step
 use Rattle.promises.specs.Step.{State, Reply, Command, Read, Write, Trim, Flush, Turn}
-use Rattle.collection.specs.declared.fault.WriteFault.{WriteFault}
-use Rattle.collection.specs.declared.fault.WriteFault.TheVariants as engine_fault
+use Rattle.collection.specs.declared.fault.EngineFault.{EngineFault}
+use Rattle.collection.specs.declared.fault.EngineFault.TheVariants as engine_fault
 use Rattle.collection.specs.declared.engine.Engine as engines
 use Rattle.collection.specs.State.{Ram}
 use Rattle.collection.specs.Safe.{IsRam, ram, image_in}
@@ -79,7 +79,7 @@ number_of Damaged = 5
 number_of BusFault = 6
 
 -- what a device answers ever after that was stopped: a call that changes sectors found damage, or the die gave no outcome
-abbrev pub stop_of : Option WriteFault → Option DeviceFault
+abbrev pub stop_of : Option EngineFault → Option DeviceFault
 stop_of None = None
 stop_of (Some engine_fault.ReadOnly) = None
 stop_of (Some engine_fault.SequenceSpent) = None
@@ -97,7 +97,7 @@ pub record Knows (r : Ram) (image : Image) : Type 0 where
   pub few : PinIsFew 0 r
 
 -- and of a pinned block whatever fault stands: a rescue may have moved one sector more and then found no sequence
-abbrev pub PinIsTrue : Option WriteFault → Ram → Image → Type 0
+abbrev pub PinIsTrue : Option EngineFault → Ram → Image → Type 0
 PinIsTrue None r image = PinHasPassed r image × PinIsFew 0 r
 PinIsTrue (Some engine_fault.ReadOnly) r image = Unit {0}
 PinIsTrue (Some engine_fault.SequenceSpent) r image = PinIsFew 1 r
@@ -179,7 +179,7 @@ order_after m n = keys_of (loaded m n None).cached
 -- ---- inside a call that changes a sector
 
 -- what the engine's memory tells of each answer
-abbrev pub Tells : {A : Type 0} → Ram → Ram → Result A WriteFault → Type 0
+abbrev pub Tells : {A : Type 0} → Ram → Ram → Result A EngineFault → Type 0
 Tells old new (Ok answer) = good_count new.blocks.table ≤ good_count old.blocks.table
 Tells old new (Err engine_fault.ReadOnly) = (free_count new.blocks < 5) × (good_count new.blocks.table ≤ good_count old.blocks.table)
 Tells old new (Err engine_fault.SequenceSpent) = new.next ≡ 2 ^ 64 - 1
@@ -220,7 +220,7 @@ CallTells old new (Err (Engine engine_fault.Bus)) = Unit {0}
 CallTells old new (Err call.OutOfMemory) = Unit {0}
 
 -- the fault that stands in the engine after such a call
-abbrev pub standing_after : {A : Type 0} → Result A CallFault → Option WriteFault
+abbrev pub standing_after : {A : Type 0} → Result A CallFault → Option EngineFault
 standing_after (Ok answer) = None
 standing_after (Err (Engine fault)) = Some fault
 standing_after (Err call.OutOfMemory) = None

@@ -15,8 +15,8 @@ use Rattle.promises.specs.Step.{Command, ArrayStep}
 use Rattle.image_check.specs.Stale.{is_stale}
 use Rattle.image_check.specs.Mountable.{IsMountable}
 use Rattle.collection.specs.declared.engine.Engine.{Engine}
-use Rattle.collection.specs.declared.fault.WriteFault.{WriteFault}
-use Rattle.collection.specs.declared.fault.WriteFault.TheVariants.{Bus}
+use Rattle.collection.specs.declared.fault.EngineFault.{EngineFault}
+use Rattle.collection.specs.declared.fault.EngineFault.TheVariants.{Bus}
 use Rattle.collection.specs.State.{Ram}
 use Rattle.collection.specs.Safe.{IsSafe, ram, image_in, page_in}
 use Rattle.collection.specs.Left.{IsCalm}
@@ -42,7 +42,7 @@ use Rattle.ftl_device.specs.Stopped.{SurvivesStops}
 
 -- WHAT A CALL OF THE ENGINE LEAVES where no fault stood, whatever it answers: the fault that it answers stands from then on
 pub record EngineLeaves {A N : Type 0} (flash : N → Flash) (recorded : N → Option Recording) (honest calm : N → Bool) (failed : N → ℕ) (old : Engine N)
-    (result : Result A WriteFault) (new : Engine N) : Type 0 where
+    (result : Result A EngineFault) (new : Engine N) : Type 0 where
   pub safe : IsSafe flash new
   pub fault : new.fault ≡ fault_after None result
   pub geometry : new.geometry ≡ old.geometry
@@ -88,7 +88,7 @@ pub record Readies {N : Type 0} (flash : N → Flash) (honest : N → Bool) (n p
 
 -- and of a step of a collection that a turn takes: bad blocks get no page; where the die is honest the array stays
 pub record CollectsOn {N : Type 0} (flash : N → Flash) (recorded : N → Option Recording) (honest calm : N → Bool) (erases failed : N → ℕ)
-    (old : Engine N) (result : Result (Unit {0}) WriteFault) (new : Engine N) : Type 0 where
+    (old : Engine N) (result : Result (Unit {0}) EngineFault) (new : Engine N) : Type 0 where
   pub leaves : EngineLeaves flash recorded honest calm failed old result new
   pub limits : HasLimitsOf old.mapping new.mapping
   pub calm_memory : new.fault ≡ None → IsCalm (ram new)

@@ -5,7 +5,7 @@ use Rattle.page_layout.specs.Flash.{Flash}
 use Rattle.allocation.specs.State.{free_count}
 use Rattle.allocation.specs.View.{state}
 use Rattle.image_check.specs.Accepted.{Acceptance, IsAcceptance}
-use Rattle.collection.specs.declared.fault.WriteFault.TheVariants.{ReadOnly, SequenceSpent}
+use Rattle.collection.specs.declared.fault.EngineFault.TheVariants.{ReadOnly, SequenceSpent}
 use Rattle.collection.specs.Safe.{IsSafe, ram}
 use Rattle.collection.specs.Left.{IsCalm}
 use Rattle.ftl_device.specs.declared.device.Device.{Device}

@@ -1,7 +1,7 @@
 -- Which faults a read answers, and what it leaves in memory.
 use Rattle.std.specs.Prelude.{◌≡◌, ◌⊎◌, ℕ, false, List, Option, Some, None, IsSome, Result, Ok, Err}
 use Rattle.mapping_cache.specs.Mapping.{MappingState, CanLoad, slot_of, moved_row, pending, used, loaded, cleaned}
-use Rattle.collection.specs.declared.fault.WriteFault.TheVariants as write
+use Rattle.collection.specs.declared.fault.EngineFault.TheVariants as write
 use Rattle.page_layout.specs.Page.{Page}
 use Rattle.collection.specs.State.{Ram}
 use Rattle.collection.specs.Looks.{FindsRow, GivesSector}

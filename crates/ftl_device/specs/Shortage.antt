@@ -9,8 +9,8 @@ use Rattle.budget.specs.declared.stream.Stream.TheVariants.{Meta}
 use Rattle.budget.specs.Spending.{Spending, IsFunded}
 use Rattle.allocation.specs.State.{free_count}
 use Rattle.allocation.specs.Counts.{counts_of}
-use Rattle.collection.specs.declared.fault.WriteFault.{WriteFault}
-use Rattle.collection.specs.declared.fault.WriteFault.TheVariants as engine_fault
+use Rattle.collection.specs.declared.fault.EngineFault.{EngineFault}
+use Rattle.collection.specs.declared.fault.EngineFault.TheVariants as engine_fault
 use Rattle.collection.specs.State.{Ram}
 use Rattle.collection.specs.Safe.{IsRam}
 use Rattle.collection.specs.Cost.{HasRunOut, HasSpent}
@@ -87,7 +87,7 @@ pub record LacksRoom (known : Type 0) (old new : Ram) : Type 0 where
   pub lacks : known → LacksGood old new
 
 -- what a place for a sector's entry costs
-abbrev pub PlaceCosts : Ram → Ram → Result (Unit {0}) WriteFault → Type 0
+abbrev pub PlaceCosts : Ram → Ram → Result (Unit {0}) EngineFault → Type 0
 PlaceCosts old new (Ok done) = HasUsed 1 old new
 PlaceCosts old new (Err engine_fault.ReadOnly) = HasFoundNoBlock 0 old new
 PlaceCosts old new (Err engine_fault.SequenceSpent) = HasSpent Meta old new
@@ -95,7 +95,7 @@ PlaceCosts old new (Err engine_fault.Damaged) = Unit {0}
 PlaceCosts old new (Err engine_fault.Bus) = Unit {0}
 
 -- what room and at most so many pages cost, by what is answered
-abbrev pub RoomCosts : {A : Type 0} → Type 0 → ℕ → Ram → Ram → Result A WriteFault → Type 0
+abbrev pub RoomCosts : {A : Type 0} → Type 0 → ℕ → Ram → Ram → Result A EngineFault → Type 0
 RoomCosts known most old new (Ok answer) = UsesRoom known most old new
 RoomCosts known most old new (Err engine_fault.ReadOnly) = LacksRoom known old new ⊎ FailsRoom known old new
 RoomCosts known most old new (Err engine_fault.SequenceSpent) = Unit {0}
@@ -123,7 +123,7 @@ CallShort old new (Err call.OutOfMemory) = LacksGood old new ⊎ (5 ≤ free_cou
 -- ---- a step of a collection
 
 -- it takes one page at most, in either stream, or gives a block back, or loses one
-abbrev pub StepCounts : Ram → Ram → Result (Unit {0}) WriteFault → Type 0
+abbrev pub StepCounts : Ram → Ram → Result (Unit {0}) EngineFault → Type 0
 StepCounts old new (Ok done) = HasUsed 1 old new ⊎ (free_count old.blocks + good_count new.blocks.table ≤ free_count new.blocks + good_count old.blocks.table)
 StepCounts old new (Err engine_fault.ReadOnly) = HasFoundNoBlock 0 old new
 StepCounts old new (Err engine_fault.SequenceSpent) = Unit {0}
@@ -139,7 +139,7 @@ FlushFunded failures old new = (good_count new.blocks.table < need old.geometry)
     ⊎ ((its_failures : ℕ) × (good_count old.blocks.table ≡ good_count new.blocks.table + its_failures) × IsFunded old.geometry.pages (failures + its_failures) (counts_of new.blocks))
 
 -- translation pages that are written back, one after another
-abbrev pub FlushCounts : ℕ → Ram → Ram → Result (Unit {0}) WriteFault → Type 0
+abbrev pub FlushCounts : ℕ → Ram → Ram → Result (Unit {0}) EngineFault → Type 0
 FlushCounts failures old new (Ok done) = FlushFunded failures old new
 FlushCounts failures old new (Err engine_fault.ReadOnly) = (good_count new.blocks.table < need old.geometry) ⊎ (3 + good_count new.blocks.table ≤ failures + good_count old.blocks.table)
 FlushCounts failures old new (Err engine_fault.SequenceSpent) = Unit {0}

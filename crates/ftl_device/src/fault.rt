@@ -2,7 +2,7 @@
 ghost use Rattle.std.specs.Prelude.{◌≡◌};
 ghost use Rattle.ftl_device.specs.Calls.{number_of};
 
-use collection::WriteFault;
+use collection::EngineFault;
 use image_check::Accepted;
 use mapping_cache::LoadFault;
 use std::alloc::AllocError;
@@ -92,18 +92,18 @@ impl DeviceFault {
 #[derive(Clone, Copy, Debug, PartialEq, Eq)]
 pub(crate) enum CallFault {
     // The engine's fault.
-    Engine(WriteFault),
+    Engine(EngineFault),
     // A growth was refused.
     OutOfMemory,
 }
 
-impl From<WriteFault> for CallFault {
+impl From<EngineFault> for CallFault {
     ghost use Rattle.std.specs.Prelude.{◌≡◌};
     ghost use Rattle.ftl_device.specs.declared.fault.CallFault.TheVariants.{Engine};
 
     ghost from_gives = { λ fault its. its ≡ Engine fault };
 
-    fn from(fault: WriteFault) -> CallFault {
+    fn from(fault: EngineFault) -> CallFault {
         CallFault::Engine(fault)
     }
 }

@@ -21,11 +21,11 @@ ghost use Rattle.ftl_device.specs.Changes.{EngineLeaves, EndsCall, Upkeeps, Leav
 use crate::device::Device;
 use crate::fault::{CallFault, DeviceFault};
 use crate::ready::make_room;
-use collection::{Engine, WriteFault};
+use collection::{Engine, EngineFault};
 use onfi_cycles::Nand;
 
 // Writes translation page `t` back where it lacks a row. Whether it does is asked before room is made.
-fn flush_translation<N: Nand>(engine: &mut Engine<N>, t: u32) -> Result<(), WriteFault>
+fn flush_translation<N: Nand>(engine: &mut Engine<N>, t: u32) -> Result<(), EngineFault>
     requires safe { IsSafe N.flash engine.old }
     requires going { engine.old.fault ≡ None }
     requires calm { IsCalm (ram engine.old) }
@@ -54,7 +54,7 @@ fn flush_translation<N: Nand>(engine: &mut Engine<N>, t: u32) -> Result<(), Writ
 }
 
 // Writes back each translation page that lacks a row.
-fn flush_translations<N: Nand>(engine: &mut Engine<N>) -> Result<(), WriteFault>
+fn flush_translations<N: Nand>(engine: &mut Engine<N>) -> Result<(), EngineFault>
     requires safe { IsSafe N.flash engine.old }
     requires going { engine.old.fault ≡ None }
     requires calm { IsCalm (ram engine.old) }
@@ -80,7 +80,7 @@ fn flush_translations<N: Nand>(engine: &mut Engine<N>) -> Result<(), WriteFault>
 }
 
 // Writes each table page once. Where no block has failed meanwhile, they tell the table as it is.
-fn write_tables_once<N: Nand>(engine: &mut Engine<N>) -> Result<(), WriteFault>
+fn write_tables_once<N: Nand>(engine: &mut Engine<N>) -> Result<(), EngineFault>
     requires safe { IsSafe N.flash engine.old }
     requires going { engine.old.fault ≡ None }
     ensures leaves { EngineLeaves N.flash N.recorded N.honest N.calm N.failed engine.old result engine.new }
@@ -89,7 +89,7 @@ fn write_tables_once<N: Nand>(engine: &mut Engine<N>) -> Result<(), WriteFault>
     ensures table { KeepsTable (ram engine.old).blocks (ram engine.new).blocks }
     ensures cost { OnOk result (AddsPages (table_pages engine.old.geometry) (ram engine.old) (ram engine.new)) }
     ensures round { OnOk result (HasRound N.flash N.recorded N.honest engine.old engine.new) }
-    ensures out { result ≡ Err WriteFault.ReadOnly → FailsAmong (table_pages engine.old.geometry) (ram engine.old) (ram engine.new) }
+    ensures out { result ≡ Err EngineFault.ReadOnly → FailsAmong (table_pages engine.old.geometry) (ram engine.old) (ram engine.new) }
     ensures truth { N.honest engine.old.nand ≡ true → Knows (ram engine.old) (image_in N.flash engine.old) →
         MatchResult result
         (λ _. KeepsTables (table_pages engine.old.geometry) (ram engine.old) (image_in N.flash engine.old) (ram engine.new) (image_in N.flash engine.new))
@@ -102,7 +102,7 @@ fn write_tables_once<N: Nand>(engine: &mut Engine<N>) -> Result<(), WriteFault>
 }
 
 // Writes the table pages, and all of them again as long as a block has failed while they were written.
-fn write_tables<N: Nand>(engine: &mut Engine<N>) -> Result<(), WriteFault>
+fn write_tables<N: Nand>(engine: &mut Engine<N>) -> Result<(), EngineFault>
     requires safe { IsSafe N.flash engine.old }
     requires going { engine.old.fault ≡ None }
     ensures leaves { EngineLeaves N.flash N.recorded N.honest N.calm N.failed engine.old result engine.new }
@@ -110,7 +110,7 @@ fn write_tables<N: Nand>(engine: &mut Engine<N>) -> Result<(), WriteFault>
     ensures beside { LeavesPin (ram engine.old) (ram engine.new) }
     ensures cost { OnOk result (WritesTables (ram engine.old) (ram engine.new)) }
     ensures rounds { OnOk result (WritesRounds N.flash N.recorded N.honest engine.old engine.new) }
-    ensures out { result ≡ Err WriteFault.ReadOnly → RunsOut (ram engine.old) (ram engine.new) }
+    ensures out { result ≡ Err EngineFault.ReadOnly → RunsOut (ram engine.old) (ram engine.new) }
     ensures truth { N.honest engine.old.nand ≡ true → Knows (ram engine.old) (image_in N.flash engine.old) →
         MatchResult result
         (λ _. SpellsAll engine.old.geometry (image_in N.flash engine.old) (ram engine.new) (image_in N.flash engine.new))

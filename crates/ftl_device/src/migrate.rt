@@ -18,7 +18,7 @@ ghost use Rattle.ftl_device.specs.Brings.{BringsOne, BringsPage, HasBrought};
 use crate::device::Device;
 use crate::fault::{CallFault, DeviceFault};
 use crate::ready::make_room;
-use collection::{Engine, WriteFault};
+use collection::{Engine, EngineFault};
 use onfi_cycles::Nand;
 
 // The least spare area that has room for a record of version 2.
@@ -51,7 +51,7 @@ fn renew_ready<N: Nand>(engine: &mut Engine<N>, row: u32) -> Result<(), CallFaul
 
 // The next row, from a cursor on, whose page has to be renewed; where none is left there, the first one of
 // all. The die is only read.
-fn next_from<N: Nand>(engine: &mut Engine<N>, cursor: u32) -> Result<Option<u32>, WriteFault>
+fn next_from<N: Nand>(engine: &mut Engine<N>, cursor: u32) -> Result<Option<u32>, EngineFault>
     requires safe { IsSafe N.flash engine.old }
     requires going { engine.old.fault ≡ None }
     ensures leaves { EngineLeaves N.flash N.recorded N.honest N.calm N.failed engine.old result engine.new }
@@ -63,7 +63,7 @@ fn next_from<N: Nand>(engine: &mut Engine<N>, cursor: u32) -> Result<Option<u32>
     ensures truth { N.honest engine.old.nand ≡ true → Knows (ram engine.old) (image_in N.flash engine.old) →
         MatchResult result
         (FindsFrom cursor (image_in N.flash engine.old))
-        (λ fault. fault ≡ WriteFault.Bus) }
+        (λ fault. fault ≡ EngineFault.Bus) }
 {
     let ahead = engine.next_old(cursor)?;
     if ahead.is_some() || cursor == 0 {

@@ -20,7 +20,7 @@ ghost use Rattle.ftl_device.specs.Read.{LooksUp, LeavesRead, IsReadRefusal};
 
 use crate::device::Device;
 use crate::fault::DeviceFault;
-use collection::WriteFault;
+use collection::EngineFault;
 use onfi_cycles::Nand;
 
 impl<N: Nand> Device<N> {
@@ -47,15 +47,15 @@ impl<N: Nand> Device<N> {
     }
 
     // The answer to a fault of a read: the die's fault stops the device.
-    fn refused_read(&mut self, fault: WriteFault) -> DeviceFault
+    fn refused_read(&mut self, fault: EngineFault) -> DeviceFault
         requires device { IsDevice N.flash self.old }
         requires of_read { IsReadFault fault }
         ensures device { IsDevice N.flash self.new }
-        ensures damaged { fault ≡ WriteFault.Damaged → (result ≡ DeviceFault.Damaged) × (self.new ≡ self.old) }
-        ensures bus { fault ≡ WriteFault.Bus → (result ≡ DeviceFault.BusFault) × (self.new ≡ record self.old { engine = record self.old.engine { fault = Some fault } }) }
+        ensures damaged { fault ≡ EngineFault.Damaged → (result ≡ DeviceFault.Damaged) × (self.new ≡ self.old) }
+        ensures bus { fault ≡ EngineFault.Bus → (result ≡ DeviceFault.BusFault) × (self.new ≡ record self.old { engine = record self.old.engine { fault = Some fault } }) }
         ensures either { IsReadRefusal result }
     {
-        if fault == WriteFault::Bus {
+        if fault == EngineFault::Bus {
             self.engine.fault = Some(fault);
             DeviceFault::BusFault
         } else {

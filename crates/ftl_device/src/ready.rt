@@ -28,11 +28,11 @@ ghost use Rattle.ftl_device.specs.Shortage.{HasFunds, PlaceCosts, RoomCosts};
 ghost use Rattle.ftl_device.specs.Changes.{EngineLeaves, EndsCall, Readies, HasLookedUp};
 
 use crate::fault::CallFault;
-use collection::{Engine, WriteFault};
+use collection::{Engine, EngineFault};
 use onfi_cycles::Nand;
 
 // Sees that there are free blocks enough for a call that programs.
-pub(crate) fn make_room<N: Nand>(engine: &mut Engine<N>, flushing: bool) -> Result<(), WriteFault>
+pub(crate) fn make_room<N: Nand>(engine: &mut Engine<N>, flushing: bool) -> Result<(), EngineFault>
     requires safe { IsSafe N.flash engine.old }
     requires going { engine.old.fault ≡ None }
     requires calm { IsCalm (ram engine.old) }
@@ -49,7 +49,7 @@ pub(crate) fn make_room<N: Nand>(engine: &mut Engine<N>, flushing: bool) -> Resu
     ensures pinned { N.honest engine.old.nand ≡ true → Knows (ram engine.old) (image_in N.flash engine.old) →
         MatchResult result
         (λ _. Knows (ram engine.new) (image_in N.flash engine.new))
-        (λ fault. fault ≢ WriteFault.Bus → PinIsFew 0 (ram engine.new)) }
+        (λ fault. fault ≢ EngineFault.Bus → PinIsFew 0 (ram engine.new)) }
     ensures count { N.honest engine.old.nand ≡ true → Knows (ram engine.old) (image_in N.flash engine.old) →
         (failures : ℕ) → IsFunded engine.old.geometry.pages failures (counts_of (ram engine.old).blocks) →
         RoomCounts failures (ram engine.old) (ram engine.new) result }
@@ -59,7 +59,7 @@ pub(crate) fn make_room<N: Nand>(engine: &mut Engine<N>, flushing: bool) -> Resu
 
 // Writes back the translation page of the least recently used sector, where caching this one would
 // drop an entry that its page lacks.
-fn make_place<N: Nand>(engine: &mut Engine<N>, sector: u32) -> Result<(), WriteFault>
+fn make_place<N: Nand>(engine: &mut Engine<N>, sector: u32) -> Result<(), EngineFault>
     requires safe { IsSafe N.flash engine.old }
     requires going { engine.old.fault ≡ None }
     ensures leaves { EngineLeaves N.flash N.recorded N.honest N.calm N.failed engine.old result engine.new }
@@ -89,7 +89,7 @@ fn make_place<N: Nand>(engine: &mut Engine<N>, sector: u32) -> Result<(), WriteF
 
 // The row of a sector's newest page. A fault stops the engine. Whatever the die does, the row is the one that
 // memory has, or else the one that a sound translation page gives.
-fn find_row<N: Nand>(engine: &mut Engine<N>, sector: u32) -> Result<Option<u32>, WriteFault>
+fn find_row<N: Nand>(engine: &mut Engine<N>, sector: u32) -> Result<Option<u32>, EngineFault>
     requires safe { IsSafe N.flash engine.old }
     requires going { engine.old.fault ≡ None }
     requires sector { sector < engine.old.geometry.sectors }
@@ -98,16 +98,16 @@ fn find_row<N: Nand>(engine: &mut Engine<N>, sector: u32) -> Result<Option<u32>,
     ensures honest { N.honest engine.new.nand ≡ N.honest engine.old.nand }
     ensures calm { N.calm engine.new.nand ≡ N.calm engine.old.nand }
     ensures failed { N.failed engine.old.nand ≤ N.failed engine.new.nand }
-    ensures rose { result ≡ Err WriteFault.Bus → HasRisen (N.failed engine.old.nand) (N.failed engine.new.nand) }
+    ensures rose { result ≡ Err EngineFault.Bus → HasRisen (N.failed engine.old.nand) (N.failed engine.new.nand) }
     ensures faults { IfErr result IsReadFault }
     ensures checked { IfOk result (FindsRow (ram engine.old) sector (page_in engine.new.scratch)) }
     ensures row { IfOk result (λ row. ForSome row (λ r. r < row_count engine.old.geometry)) }
-    ensures same { N.honest engine.old.nand ≡ true → result ≢ Err WriteFault.Bus → N.flash engine.new.nand ≡ N.flash engine.old.nand }
-    ensures told { N.honest engine.old.nand ≡ true → result ≢ Err WriteFault.Bus → N.recorded engine.new.nand ≡ N.recorded engine.old.nand }
+    ensures same { N.honest engine.old.nand ≡ true → result ≢ Err EngineFault.Bus → N.flash engine.new.nand ≡ N.flash engine.old.nand }
+    ensures told { N.honest engine.old.nand ≡ true → result ≢ Err EngineFault.Bus → N.recorded engine.new.nand ≡ N.recorded engine.old.nand }
     ensures truth { N.honest engine.old.nand ≡ true → IsTrue None (ram engine.old) (image_in N.flash engine.old) →
         MatchResult result
         (λ row. row ≡ newest_row (image_in N.flash engine.old) (Sector sector))
-        (λ fault. fault ≡ WriteFault.Bus) }
+        (λ fault. fault ≡ EngineFault.Bus) }
 {
     match engine.row_of_sector(sector) {
         Ok(row) => Ok(row),
@@ -120,7 +120,7 @@ fn find_row<N: Nand>(engine: &mut Engine<N>, sector: u32) -> Result<Option<u32>,
 
 // Sees that there is room for the sector's page and a place for its entry, and finds the row that it
 // has so far.
-fn prepare<N: Nand>(engine: &mut Engine<N>, sector: u32) -> Result<Option<u32>, WriteFault>
+fn prepare<N: Nand>(engine: &mut Engine<N>, sector: u32) -> Result<Option<u32>, EngineFault>
     requires safe { IsSafe N.flash engine.old }
     requires going { engine.old.fault ≡ None }
     requires calm { IsCalm (ram engine.old) }

@@ -17,11 +17,11 @@ ghost use Rattle.ftl_device.specs.Shortage.{HasFunds, CallShort};
 use crate::device::Device;
 use crate::fault::{CallFault, DeviceFault};
 use crate::ready::make_room;
-use collection::{Engine, Reserve, WriteFault};
+use collection::{Engine, EngineFault, Reserve};
 use onfi_cycles::Nand;
 
 // Takes the collection of the pinned block one step further.
-fn step_pinned<N: Nand>(engine: &mut Engine<N>) -> Result<(), WriteFault>
+fn step_pinned<N: Nand>(engine: &mut Engine<N>) -> Result<(), EngineFault>
     requires safe { IsSafe N.flash engine.old }
     requires going { engine.old.fault ≡ None }
     requires calm { IsCalm (ram engine.old) }
@@ -38,7 +38,7 @@ fn step_pinned<N: Nand>(engine: &mut Engine<N>) -> Result<(), WriteFault>
 
 // Goes on with the collection under way; with none, one begins where fewer than twelve blocks are free
 // and one is worth it.
-fn collect_on<N: Nand>(engine: &mut Engine<N>) -> Result<(), WriteFault>
+fn collect_on<N: Nand>(engine: &mut Engine<N>) -> Result<(), EngineFault>
     requires safe { IsSafe N.flash engine.old }
     requires going { engine.old.fault ≡ None }
     requires calm { IsCalm (ram engine.old) }

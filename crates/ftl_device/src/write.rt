@@ -14,7 +14,7 @@ ghost use Rattle.ftl_device.specs.Changes.{Changes};
 use crate::device::Device;
 use crate::fault::{CallFault, DeviceFault};
 use crate::ready::{trim_ready, write_ready};
-use collection::{LEAST_FREE, WriteFault};
+use collection::{EngineFault, LEAST_FREE};
 use onfi_cycles::Nand;
 
 impl<N: Nand> Device<N> {
@@ -23,9 +23,9 @@ impl<N: Nand> Device<N> {
         ensures { MatchOption (stop_of self.now.engine.fault) (IsOk result) (λ fault. result ≡ Err fault) }
     {
         match self.engine.fault {
-            Some(WriteFault::Damaged) => Err(DeviceFault::Damaged),
-            Some(WriteFault::Bus) => Err(DeviceFault::BusFault),
-            Some(WriteFault::ReadOnly | WriteFault::SequenceSpent) | None => Ok(()),
+            Some(EngineFault::Damaged) => Err(DeviceFault::Damaged),
+            Some(EngineFault::Bus) => Err(DeviceFault::BusFault),
+            Some(EngineFault::ReadOnly | EngineFault::SequenceSpent) | None => Ok(()),
         }
     }
 
@@ -70,10 +70,10 @@ impl<N: Nand> Device<N> {
     ) -> Result<(), DeviceFault>
         requires safe { IsSafe N.flash self.old.engine }
         requires fault { self.old.engine.fault ≡ standing_after answer }
-        requires scarce { answer ≡ Err (CallFault.Engine WriteFault.ReadOnly) → free_count (ram self.old.engine).blocks < 5 }
-        requires fewer { answer ≡ Err (CallFault.Engine WriteFault.ReadOnly) → good_count (ram self.old.engine).blocks.table ≤ good }
+        requires scarce { answer ≡ Err (CallFault.Engine EngineFault.ReadOnly) → free_count (ram self.old.engine).blocks < 5 }
+        requires fewer { answer ≡ Err (CallFault.Engine EngineFault.ReadOnly) → good_count (ram self.old.engine).blocks.table ≤ good }
         requires calm { self.old.engine.fault ≡ None → IsCalm (ram self.old.engine) }
-        requires spent { answer ≡ Err (CallFault.Engine WriteFault.SequenceSpent) → self.old.engine.next ≡ 2 ^ 64 - 1 }
+        requires spent { answer ≡ Err (CallFault.Engine EngineFault.SequenceSpent) → self.old.engine.next ≡ 2 ^ 64 - 1 }
         ensures engine { self.new.engine ≡ self.old.engine }
         ensures cursor { self.new.cursor ≡ self.old.cursor }
         ensures device { IsDevice N.flash self.new }
@@ -83,10 +83,10 @@ impl<N: Nand> Device<N> {
         match answer {
             Ok(()) => Ok(()),
             Err(CallFault::OutOfMemory) => Err(DeviceFault::OutOfMemory),
-            Err(CallFault::Engine(WriteFault::ReadOnly)) => Err(self.short_of(good)),
-            Err(CallFault::Engine(WriteFault::SequenceSpent)) => Err(DeviceFault::SequenceSpent),
-            Err(CallFault::Engine(WriteFault::Damaged)) => Err(DeviceFault::Damaged),
-            Err(CallFault::Engine(WriteFault::Bus)) => Err(DeviceFault::BusFault),
+            Err(CallFault::Engine(EngineFault::ReadOnly)) => Err(self.short_of(good)),
+            Err(CallFault::Engine(EngineFault::SequenceSpent)) => Err(DeviceFault::SequenceSpent),
+            Err(CallFault::Engine(EngineFault::Damaged)) => Err(DeviceFault::Damaged),
+            Err(CallFault::Engine(EngineFault::Bus)) => Err(DeviceFault::BusFault),
         }
     }
 

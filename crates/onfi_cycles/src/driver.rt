@@ -14,7 +14,7 @@ ghost use Rattle.onfi_cycles.specs.Driver.{flash_by, gained, untouched};
 use crate::spelling::{erase_block, fetch_page, program_page};
 use crate::told::{Erased, Programmed, Untouched};
 use crate::{Bus, BusFault, Nand, Outcome};
-use die_history::History;
+use die_history::DieHistory;
 use page_layout::geometry::Geometry;
 use page_layout::source::{PageSource, SourceFault};
 use std::marker::Model;
@@ -26,7 +26,7 @@ use std::marker::Model;
 #[derive(Drop)]
 pub struct Driver<B: Bus> {
     bus: B,
-    history: History,
+    history: DieHistory,
     geometry: Geometry,
     reads: u64,
     programs: u64,
@@ -81,7 +81,7 @@ impl<B: Bus> Driver<B> {
         let mut bus = bus;
         match bus.command(0xFF) {
             Ok(()) => {
-                let history = History::of(&Untouched { bus: &bus });
+                let history = DieHistory::of(&Untouched { bus: &bus });
                 Ok(Driver {
                     bus,
                     history,
@@ -231,7 +231,7 @@ impl<B: Bus> Nand for Driver<B> {
         self.programs = self.programs.saturating_add(1);
         match program_page(&mut self.bus, row, body, spare) {
             Ok(outcome) => {
-                let history = History::of(&Programmed {
+                let history = DieHistory::of(&Programmed {
                     before: &self.history,
                     bus: &self.bus,
                     row,
@@ -290,7 +290,7 @@ impl<B: Bus> Nand for Driver<B> {
         self.erases = self.erases.saturating_add(1);
         match erase_block(&mut self.bus, &self.geometry, block) {
             Ok(outcome) => {
-                let history = History::of(&Erased {
+                let history = DieHistory::of(&Erased {
                     before: &self.history,
                     bus: &self.bus,
                     geometry: self.geometry,

@@ -1,6 +1,6 @@
 //! What a driver tells its history, at each operation.
 use crate::{Bus, Outcome};
-use die_history::{History, Tells};
+use die_history::{DieHistory, Moment};
 use page_layout::geometry::Geometry;
 
 /// A bus behind which nothing was done yet.
@@ -9,7 +9,7 @@ pub(crate) struct Untouched<'a, B: Bus> {
     pub(crate) bus: &'a B,
 }
 
-impl<'a, B: Bus> Tells for Untouched<'a, B> {
+impl<'a, B: Bus> Moment for Untouched<'a, B> {
     ghost use Rattle.onfi_cycles.specs.Driver.{untouched};
 
     ghost recording = { λ u. untouched (B.die u.bus.now).flash };
@@ -18,7 +18,7 @@ impl<'a, B: Bus> Tells for Untouched<'a, B> {
 /// A program that was answered, and the bus after it.
 #[derive(Drop)]
 pub(crate) struct Programmed<'a, B: Bus> {
-    pub(crate) before: &'a History,
+    pub(crate) before: &'a DieHistory,
     pub(crate) bus: &'a B,
     pub(crate) row: u32,
     pub(crate) body: &'a [u8],
@@ -26,7 +26,7 @@ pub(crate) struct Programmed<'a, B: Bus> {
     pub(crate) outcome: Outcome,
 }
 
-impl<'a, B: Bus> Tells for Programmed<'a, B> {
+impl<'a, B: Bus> Moment for Programmed<'a, B> {
     ghost use Rattle.page_layout.specs.Flash.{Program, page_at};
     ghost use Rattle.page_layout.specs.Page.{page};
     ghost use Rattle.onfi_cycles.specs.Outcomes.{is_passed};
@@ -38,14 +38,14 @@ impl<'a, B: Bus> Tells for Programmed<'a, B> {
 /// An erase that was answered, and the bus after it.
 #[derive(Drop)]
 pub(crate) struct Erased<'a, B: Bus> {
-    pub(crate) before: &'a History,
+    pub(crate) before: &'a DieHistory,
     pub(crate) bus: &'a B,
     pub(crate) geometry: Geometry,
     pub(crate) block: u32,
     pub(crate) outcome: Outcome,
 }
 
-impl<'a, B: Bus> Tells for Erased<'a, B> {
+impl<'a, B: Bus> Moment for Erased<'a, B> {
     ghost use Rattle.page_layout.specs.Flash.{Erase, block_at};
     ghost use Rattle.onfi_cycles.specs.Outcomes.{is_passed};
     ghost use Rattle.onfi_cycles.specs.Driver.{gained, seen};

@@ -14,7 +14,7 @@ ghost use Rattle.collection.specs.Stops.{StopsSafely};
 
 use super::collect_steps::Progress;
 use super::{Engine, Pinned};
-use crate::fault::WriteFault;
+use crate::fault::{EngineFault, WriteFault};
 use onfi_cycles::Nand;
 
 // The page from which the next step goes on: none after the erase.
@@ -41,7 +41,7 @@ impl<N: Nand> Engine<N> {
     }
 
     // Goes on with the collection of the pinned block until it is erased, whatever fault stands.
-    pub(crate) fn collect_from(&mut self, pinned: Pinned, flushing: bool) -> Result<(), WriteFault>
+    pub(crate) fn collect_from(&mut self, pinned: Pinned, flushing: bool) -> Result<(), EngineFault>
         requires safe { IsSafe N.flash self.old }
         requires pinned { self.old.pinned ≡ Some pinned }
         requires half_done { IsHalfDone (ram self.old) pinned }
@@ -71,12 +71,12 @@ impl<N: Nand> Engine<N> {
             CollectCounts (ram self.old) (ram self.new) result }
         ensures thrifty { N.honest self.old.nand ≡ true → truth.IsTrue None (ram self.old) (image_in N.flash self.old) →
             HasPassed (ram self.old) (image_in N.flash self.old) pinned → IsFew 0 (ram self.old) pinned →
-            result ≢ Err WriteFault.Bus → IsThrifty (ram self.old) (ram self.new) }
+            result ≢ Err EngineFault.Bus → IsThrifty (ram self.old) (ram self.new) }
         ensures few { N.honest self.old.nand ≡ true → truth.IsTrue None (ram self.old) (image_in N.flash self.old) →
             HasPassed (ram self.old) (image_in N.flash self.old) pinned → IsFew 0 (ram self.old) pinned →
-            result ≢ Err WriteFault.Bus → PinIsFew 0 (ram self.new) }
+            result ≢ Err EngineFault.Bus → PinIsFew 0 (ram self.new) }
         ensures stops { N.honest self.old.nand ≡ true → truth.IsTrue None (ram self.old) (image_in N.flash self.old) →
-            HasPassed (ram self.old) (image_in N.flash self.old) pinned → result ≢ Err WriteFault.Bus →
+            HasPassed (ram self.old) (image_in N.flash self.old) pinned → result ≢ Err EngineFault.Bus →
             StopsSafely N.flash N.recorded self.old self.new }
     {
         let block = pinned.block;
@@ -93,7 +93,7 @@ impl<N: Nand> Engine<N> {
     }
 
     // Collects a closed block, whatever fault stands: it is pinned, and unpinned once it is erased.
-    pub(crate) fn collect_block(&mut self, block: u32, flushing: bool) -> Result<(), WriteFault>
+    pub(crate) fn collect_block(&mut self, block: u32, flushing: bool) -> Result<(), EngineFault>
         requires safe { IsSafe N.flash self.old }
         requires idle { IsIdle (ram self.old) }
         requires block { block < self.old.geometry.blocks }
@@ -119,12 +119,12 @@ impl<N: Nand> Engine<N> {
         ensures count { N.honest self.old.nand ≡ true → truth.IsTrue None (ram self.old) (image_in N.flash self.old) →
             live_at (ram self.old).blocks block ≤ vmax self.old.geometry → CollectCounts (ram self.old) (ram self.new) result }
         ensures thrifty { N.honest self.old.nand ≡ true → truth.IsTrue None (ram self.old) (image_in N.flash self.old) →
-            live_at (ram self.old).blocks block ≤ vmax self.old.geometry → result ≢ Err WriteFault.Bus →
+            live_at (ram self.old).blocks block ≤ vmax self.old.geometry → result ≢ Err EngineFault.Bus →
             IsThrifty (ram self.old) (ram self.new) }
         ensures few { N.honest self.old.nand ≡ true → truth.IsTrue None (ram self.old) (image_in N.flash self.old) →
-            live_at (ram self.old).blocks block ≤ vmax self.old.geometry → result ≢ Err WriteFault.Bus → PinIsFew 0 (ram self.new) }
+            live_at (ram self.old).blocks block ≤ vmax self.old.geometry → result ≢ Err EngineFault.Bus → PinIsFew 0 (ram self.new) }
         ensures stops { N.honest self.old.nand ≡ true → truth.IsTrue None (ram self.old) (image_in N.flash self.old) →
-            result ≢ Err WriteFault.Bus → StopsSafely N.flash N.recorded self.old self.new }
+            result ≢ Err EngineFault.Bus → StopsSafely N.flash N.recorded self.old self.new }
     {
         let pinned = Pinned { block, first: 0 };
         self.pinned = Some(pinned);
@@ -184,10 +184,10 @@ impl<N: Nand> Engine<N> {
         ensures count { N.honest self.old.nand ≡ true → self.old.fault ≡ None → truth.IsTrue None (ram self.old) (image_in N.flash self.old) →
             live_at (ram self.old).blocks block ≤ vmax self.old.geometry → CollectCounts (ram self.old) (ram self.new) result }
         ensures thrifty { N.honest self.old.nand ≡ true → self.old.fault ≡ None → truth.IsTrue None (ram self.old) (image_in N.flash self.old) →
-            live_at (ram self.old).blocks block ≤ vmax self.old.geometry → result ≢ Err WriteFault.Bus →
+            live_at (ram self.old).blocks block ≤ vmax self.old.geometry → result ≢ Err EngineFault.Bus →
             IsThrifty (ram self.old) (ram self.new) }
         ensures stops { N.honest self.old.nand ≡ true → self.old.fault ≡ None → truth.IsTrue None (ram self.old) (image_in N.flash self.old) →
-            result ≢ Err WriteFault.Bus → StopsSafely N.flash N.recorded self.old self.new }
+            result ≢ Err EngineFault.Bus → StopsSafely N.flash N.recorded self.old self.new }
     {
         self.standing()?;
         let answer = self.collect_block(block, flushing);

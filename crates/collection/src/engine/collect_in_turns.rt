@@ -16,7 +16,7 @@ ghost use Rattle.collection.specs.Stops.{StopsSafely};
 
 use super::collect_steps::Progress;
 use super::{Engine, Pinned};
-use crate::fault::WriteFault;
+use crate::fault::{EngineFault, WriteFault};
 use onfi_cycles::Nand;
 
 /// What one step of a collection did. (This project.)
@@ -88,7 +88,11 @@ impl<N: Nand> Engine<N> {
     }
 
     // One step of the collection of the pinned block, whatever fault stands.
-    pub(crate) fn step_on(&mut self, pinned: Pinned, flushing: bool) -> Result<Progress, WriteFault>
+    pub(crate) fn step_on(
+        &mut self,
+        pinned: Pinned,
+        flushing: bool,
+    ) -> Result<Progress, EngineFault>
         requires safe { IsSafe N.flash self.old }
         requires half_done { IsHalfDone (ram self.old) pinned }
         ensures acts { EngineActs N.flash N.recorded N.honest N.calm N.failed self.old self.new result }
@@ -109,7 +113,7 @@ impl<N: Nand> Engine<N> {
             N.reads self.old.nand + (2 * (self.old.geometry.pages - pinned.first) + min (due_count flushing (ram self.old)) 1) }
         ensures copied_reads { (page : ℕ) → result ≡ Ok (Progress.Copied page) → N.reads self.new.nand ≤ N.reads self.old.nand + 2 * (page + 1 - pinned.first) }
         ensures erases { IfOk result (λ progress. N.erases self.new.nand ≡ erases_after progress (N.erases self.old.nand)) }
-        ensures owed { result ≡ Err WriteFault.ReadOnly → (0 < live_at (ram self.old).blocks pinned.block) ⊎ (0 < due_count flushing (ram self.old)) }
+        ensures owed { result ≡ Err EngineFault.ReadOnly → (0 < live_at (ram self.old).blocks pinned.block) ⊎ (0 < due_count flushing (ram self.old)) }
         ensures cost { StepCosts flushing pinned.block pinned.first (ram self.old) (ram self.new) result }
         ensures truth { N.honest self.old.nand ≡ true → truth.IsTrue None (ram self.old) (image_in N.flash self.old) →
             HasPassed (ram self.old) (image_in N.flash self.old) pinned →
@@ -120,7 +124,7 @@ impl<N: Nand> Engine<N> {
             (page : ℕ) → result ≡ Ok (Progress.Copied page) →
             TouchesNoMore flushing pinned.block (ram self.old) (image_in N.flash self.old) (ram self.new) }
         ensures stops { N.honest self.old.nand ≡ true → truth.IsTrue None (ram self.old) (image_in N.flash self.old) →
-            HasPassed (ram self.old) (image_in N.flash self.old) pinned → result ≢ Err WriteFault.Bus →
+            HasPassed (ram self.old) (image_in N.flash self.old) pinned → result ≢ Err EngineFault.Bus →
             StopsSafely N.flash N.recorded self.old self.new }
     {
         let progress = self.collect_step(pinned.block, pinned.first, flushing)?;
@@ -130,13 +134,13 @@ impl<N: Nand> Engine<N> {
     }
 
     // The same, told as `step` tells it.
-    fn advance(&mut self, pinned: Pinned, flushing: bool) -> Result<Step, WriteFault>
+    fn advance(&mut self, pinned: Pinned, flushing: bool) -> Result<Step, EngineFault>
         requires safe { IsSafe N.flash self.old }
         requires half_done { IsHalfDone (ram self.old) pinned }
         ensures acts { EngineActs N.flash N.recorded N.honest N.calm N.failed self.old self.new result }
         ensures advances { Advances N.flash N.honest N.reads N.erases flushing pinned self.old self.new result }
         ensures stops { N.honest self.old.nand ≡ true → truth.IsTrue None (ram self.old) (image_in N.flash self.old) →
-            HasPassed (ram self.old) (image_in N.flash self.old) pinned → result ≢ Err WriteFault.Bus →
+            HasPassed (ram self.old) (image_in N.flash self.old) pinned → result ≢ Err EngineFault.Bus →
             StopsSafely N.flash N.recorded self.old self.new }
     {
         let progress = self.step_on(pinned, flushing)?;
@@ -170,7 +174,7 @@ impl<N: Nand> Engine<N> {
         ensures advances { self.old.fault ≡ None → ForSome (ram self.old).pin.block
             (λ p. Advances N.flash N.honest N.reads N.erases flushing p self.old self.new result) }
         ensures stops { N.honest self.old.nand ≡ true → self.old.fault ≡ None → truth.IsTrue None (ram self.old) (image_in N.flash self.old) →
-            PinHasPassed (ram self.old) (image_in N.flash self.old) → result ≢ Err WriteFault.Bus →
+            PinHasPassed (ram self.old) (image_in N.flash self.old) → result ≢ Err EngineFault.Bus →
             StopsSafely N.flash N.recorded self.old self.new }
     {
         self.standing()?;

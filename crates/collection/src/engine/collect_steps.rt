@@ -22,7 +22,7 @@ ghost use Rattle.collection.specs.Acts.{EngineActs, OnlyPrograms};
 ghost use Rattle.collection.specs.Stops.{StopsSafely};
 
 use super::Engine;
-use crate::fault::WriteFault;
+use crate::fault::EngineFault;
 use mapping_cache::Mapping;
 use onfi_cycles::{Nand, Outcome};
 use page_layout::record::{Key, Record};
@@ -82,7 +82,7 @@ impl<N: Nand> Engine<N> {
         found: &Record,
         row: u32,
         flushing: bool,
-    ) -> Result<(), WriteFault>
+    ) -> Result<(), EngineFault>
         requires safe { IsSafe N.flash self.old }
         requires key { IsKeyOf self.old.geometry (key_of found.now) }
         requires row { row < row_count self.old.geometry }
@@ -113,7 +113,7 @@ impl<N: Nand> Engine<N> {
             (λ _. IsRenewed (key_of found.now) (ram self.old) (image_in N.flash self.old) (ram self.new) (image_in N.flash self.new))
             (Refused (ram self.old) (image_in N.flash self.old) (ram self.new) (image_in N.flash self.new)) }
         ensures stops { N.honest self.old.nand ≡ true → truth.IsTrue None (ram self.old) (image_in N.flash self.old) →
-            IsLivePage row self.old.page.body.items found.now (image_in N.flash self.old) → result ≢ Err WriteFault.Bus →
+            IsLivePage row self.old.page.body.items found.now (image_in N.flash self.old) → result ≢ Err EngineFault.Bus →
             StopsSafely N.flash N.recorded self.old self.new }
     {
         self.replace(found.kind, found.number, Some(row))?;
@@ -128,7 +128,7 @@ impl<N: Nand> Engine<N> {
         block: u32,
         first: u32,
         flushing: bool,
-    ) -> Result<Option<u32>, WriteFault>
+    ) -> Result<Option<u32>, EngineFault>
         requires safe { IsSafe N.flash self.old }
         requires block { block < self.old.geometry.blocks }
         requires closed { is_closed (ram self.old).blocks block ≡ true }
@@ -144,7 +144,7 @@ impl<N: Nand> Engine<N> {
         ensures within { IfOk result (λ copied. ForSome copied (λ page. (first ≤ page) × (page < self.old.geometry.pages))) }
         ensures pin { (ram self.new).pin.block ≡ (ram self.old).pin.block }
         ensures unmoved { OnErr result (self.new.mapping ≡ self.old.mapping) }
-        ensures owed { result ≡ Err WriteFault.ReadOnly → 0 < live_at (ram self.old).blocks block }
+        ensures owed { result ≡ Err EngineFault.ReadOnly → 0 < live_at (ram self.old).blocks block }
         ensures unmarked { flushing ≡ false → OnOk result ((ram self.new).pin ≡ (ram self.old).pin) }
         ensures touched { N.honest self.old.nand ≡ true → truth.IsTrue None (ram self.old) (image_in N.flash self.old) →
             IfOk result (λ copied. IfSome copied (λ _. TouchesNoMore flushing block (ram self.old) (image_in N.flash self.old) (ram self.new))) }
@@ -155,7 +155,7 @@ impl<N: Nand> Engine<N> {
             (IsCopiedOr block (ram self.old) (image_in N.flash self.old) (ram self.new) (image_in N.flash self.new))
             (Refused (ram self.old) (image_in N.flash self.old) (ram self.new) (image_in N.flash self.new)) }
         ensures stops { N.honest self.old.nand ≡ true → truth.IsTrue None (ram self.old) (image_in N.flash self.old) →
-            result ≢ Err WriteFault.Bus → StopsSafely N.flash N.recorded self.old self.new }
+            result ≢ Err EngineFault.Bus → StopsSafely N.flash N.recorded self.old self.new }
     {
         if self.blocks.live(block) == 0 {
             return Ok(None);
@@ -183,7 +183,7 @@ impl<N: Nand> Engine<N> {
     }
 
     // Writes it. Answers whether there was one.
-    fn write_back_lowest(&mut self, flushing: bool) -> Result<bool, WriteFault>
+    fn write_back_lowest(&mut self, flushing: bool) -> Result<bool, EngineFault>
         requires safe { IsSafe N.flash self.old }
         ensures acts { EngineActs N.flash N.recorded N.honest N.calm N.failed self.old self.new result }
         ensures goes { Goes (ram self.old) (ram self.new) }
@@ -196,14 +196,14 @@ impl<N: Nand> Engine<N> {
         ensures unmoved { OnErr result (self.new.mapping ≡ self.old.mapping) }
         ensures unmarked { (ram self.old).pin.marks ≡ replicate (translation_pages self.old.geometry) false →
             OnOk result ((ram self.new).pin.marks ≡ replicate (translation_pages self.old.geometry) false) }
-        ensures owed { result ≡ Err WriteFault.ReadOnly → 0 < due_count flushing (ram self.old) }
+        ensures owed { result ≡ Err EngineFault.ReadOnly → 0 < due_count flushing (ram self.old) }
         ensures cost { MatchResult result (λ written. written ≡ true → HasWritten flushing (ram self.old) (ram self.new)) (FaultCosts (ram self.old) (ram self.new)) }
         ensures truth { N.honest self.old.nand ≡ true → truth.IsTrue None (ram self.old) (image_in N.flash self.old) →
             MatchResult result
             (λ _. IsSame (ram self.old) (image_in N.flash self.old) (ram self.new) (image_in N.flash self.new))
             (Refused (ram self.old) (image_in N.flash self.old) (ram self.new) (image_in N.flash self.new)) }
         ensures stops { N.honest self.old.nand ≡ true → truth.IsTrue None (ram self.old) (image_in N.flash self.old) →
-            result ≢ Err WriteFault.Bus → StopsSafely N.flash N.recorded self.old self.new }
+            result ≢ Err EngineFault.Bus → StopsSafely N.flash N.recorded self.old self.new }
     {
         let due = self.lowest_due(flushing);
         let Some(t) = due else {
@@ -215,7 +215,7 @@ impl<N: Nand> Engine<N> {
     }
 
     // Erases a closed block. Where the erase fails, the block is grown bad.
-    fn erase_block(&mut self, block: u32) -> Result<(), WriteFault>
+    fn erase_block(&mut self, block: u32) -> Result<(), EngineFault>
         requires safe { IsSafe N.flash self.old }
         requires block { block < self.old.geometry.blocks }
         requires closed { is_closed (ram self.old).blocks block ≡ true }
@@ -226,7 +226,7 @@ impl<N: Nand> Engine<N> {
         ensures unmarked { OnOk result ((ram self.new).pin.marks ≡ replicate (translation_pages self.old.geometry) false) }
         ensures released { OnOk result (IsReleased block (ram self.old).blocks (ram self.new).blocks) }
         ensures refused { OnErr result (ram self.new ≡ ram self.old) }
-        ensures bus { IfErr result (λ fault. fault ≡ WriteFault.Bus) }
+        ensures bus { IfErr result (λ fault. fault ≡ EngineFault.Bus) }
         ensures reads { N.reads self.new.nand ≡ N.reads self.old.nand }
         ensures programs { N.programs self.new.nand ≡ N.programs self.old.nand }
         ensures erases { N.erases self.new.nand ≡ counted (N.erases self.old.nand) }
@@ -234,7 +234,7 @@ impl<N: Nand> Engine<N> {
             HoldsNone self.old.geometry.pages block (image_in N.flash self.old) →
             OnOk result (IsImageKept (ram self.old) (image_in N.flash self.old) (ram self.new) (image_in N.flash self.new)) }
         ensures stops { N.honest self.old.nand ≡ true → truth.IsTrue None (ram self.old) (image_in N.flash self.old) →
-            HoldsNone self.old.geometry.pages block (image_in N.flash self.old) → result ≢ Err WriteFault.Bus →
+            HoldsNone self.old.geometry.pages block (image_in N.flash self.old) → result ≢ Err EngineFault.Bus →
             StopsSafely N.flash N.recorded self.old self.new }
     {
         match self.nand.erase(block) {
@@ -248,7 +248,7 @@ impl<N: Nand> Engine<N> {
                 clear_marks(&mut self.marks);
                 Ok(())
             }
-            Err(_) => Err(WriteFault::Bus),
+            Err(_) => Err(EngineFault::Bus),
         }
     }
 
@@ -260,7 +260,7 @@ impl<N: Nand> Engine<N> {
         block: u32,
         first: u32,
         flushing: bool,
-    ) -> Result<Progress, WriteFault>
+    ) -> Result<Progress, EngineFault>
         requires safe { IsSafe N.flash self.old }
         requires block { block < self.old.geometry.blocks }
         requires closed { is_closed (ram self.old).blocks block ≡ true }
@@ -280,7 +280,7 @@ impl<N: Nand> Engine<N> {
             N.reads self.old.nand + (2 * (self.old.geometry.pages - first) + min (due_count flushing (ram self.old)) 1) }
         ensures copied_reads { (page : ℕ) → result ≡ Ok (Progress.Copied page) → N.reads self.new.nand ≤ N.reads self.old.nand + 2 * (page + 1 - first) }
         ensures erases { IfOk result (λ step. N.erases self.new.nand ≡ erases_after step (N.erases self.old.nand)) }
-        ensures owed { result ≡ Err WriteFault.ReadOnly → (0 < live_at (ram self.old).blocks block) ⊎ (0 < due_count flushing (ram self.old)) }
+        ensures owed { result ≡ Err EngineFault.ReadOnly → (0 < live_at (ram self.old).blocks block) ⊎ (0 < due_count flushing (ram self.old)) }
         ensures cost { StepCosts flushing block first (ram self.old) (ram self.new) result }
         ensures truth { N.honest self.old.nand ≡ true → truth.IsTrue None (ram self.old) (image_in N.flash self.old) →
             HoldsNoneIn self.old.geometry.pages block 0 first (image_in N.flash self.old) →
@@ -291,7 +291,7 @@ impl<N: Nand> Engine<N> {
             (page : ℕ) → result ≡ Ok (Progress.Copied page) →
             TouchesNoMore flushing block (ram self.old) (image_in N.flash self.old) (ram self.new) }
         ensures stops { N.honest self.old.nand ≡ true → truth.IsTrue None (ram self.old) (image_in N.flash self.old) →
-            HoldsNoneIn self.old.geometry.pages block 0 first (image_in N.flash self.old) → result ≢ Err WriteFault.Bus →
+            HoldsNoneIn self.old.geometry.pages block 0 first (image_in N.flash self.old) → result ≢ Err EngineFault.Bus →
             StopsSafely N.flash N.recorded self.old self.new }
     {
         let copied = self.copy_lowest(block, first, flushing)?;

@@ -12,7 +12,7 @@ ghost use Rattle.collection.specs.Acts.{EngineLooks};
 
 use super::Engine;
 use super::operations::read_sound;
-use crate::fault::WriteFault;
+use crate::fault::EngineFault;
 use onfi_cycles::Nand;
 use page_layout::geometry::Geometry;
 use page_layout::record::{Key, Record};
@@ -30,7 +30,7 @@ fn has_key(geometry: &Geometry, key: Key) -> bool
 
 impl<N: Nand> Engine<N> {
     // The row of the newest page of a key, by memory or by its translation page.
-    fn find_newest(&mut self, key: Key) -> Result<Option<u32>, WriteFault>
+    fn find_newest(&mut self, key: Key) -> Result<Option<u32>, EngineFault>
         requires safe { IsSafe N.flash self.old }
         requires key { IsKeyOf self.old.geometry key }
         ensures looks { EngineLooks N.flash N.recorded N.honest N.calm N.programs N.erases N.failed self.old self.new result }
@@ -40,7 +40,7 @@ impl<N: Nand> Engine<N> {
         ensures truth { N.honest self.old.nand ≡ true → truth.IsTrue None (ram self.old) (image_in N.flash self.old) →
             MatchResult result
             (λ row. row ≡ newest_row (image_in N.flash self.old) key)
-            (λ fault. fault ≡ WriteFault.Bus) }
+            (λ fault. fault ≡ EngineFault.Bus) }
     {
         match key {
             Key::Sector(n) => self.row_of_sector(n),
@@ -53,12 +53,12 @@ impl<N: Nand> Engine<N> {
     }
 
     // Takes the page of a row into the page buffer, and answers its record.
-    fn take_page(&mut self, row: u32) -> Result<Option<Record>, WriteFault>
+    fn take_page(&mut self, row: u32) -> Result<Option<Record>, EngineFault>
         requires safe { IsSafe N.flash self.old }
         requires row { row < row_count self.old.geometry }
         ensures looks { EngineLooks N.flash N.recorded N.honest N.calm N.programs N.erases N.failed self.old self.new result }
         ensures reads { N.reads self.new.nand ≤ N.reads self.old.nand + 1 }
-        ensures faults { IfErr result (λ fault. fault ≡ WriteFault.Bus) }
+        ensures faults { IfErr result (λ fault. fault ≡ EngineFault.Bus) }
         ensures sound { IfOk result (λ found. found ≡ record_of (page_in self.new.page)) }
         ensures stands { N.honest self.old.nand ≡ true → OnOk result (slice_get (image_in N.flash self.old) row ≡ Some (page_in self.new.page)) }
         ensures truth { N.honest self.old.nand ≡ true →
@@ -72,14 +72,14 @@ impl<N: Nand> Engine<N> {
             &mut self.page.spare,
         ) {
             Ok(found) => Ok(found),
-            Err(_) => Err(WriteFault::Bus),
+            Err(_) => Err(EngineFault::Bus),
         }
     }
 
     // Takes the page of a row into the page buffer, and answers its record where it is the newest of
     // its key. Whatever the die does, the page is sound with that record, and the key's row is this
     // one by memory or by its translation page.
-    pub(crate) fn live_record(&mut self, row: u32) -> Result<Option<Record>, WriteFault>
+    pub(crate) fn live_record(&mut self, row: u32) -> Result<Option<Record>, EngineFault>
         requires safe { IsSafe N.flash self.old }
         requires row { row < row_count self.old.geometry }
         ensures looks { EngineLooks N.flash N.recorded N.honest N.calm N.programs N.erases N.failed self.old self.new result }
@@ -89,7 +89,7 @@ impl<N: Nand> Engine<N> {
         ensures truth { N.honest self.old.nand ≡ true → truth.IsTrue None (ram self.old) (image_in N.flash self.old) →
             MatchResult result
             (LooksAt row self.new.page.body.items (image_in N.flash self.old))
-            (λ fault. fault ≡ WriteFault.Bus) }
+            (λ fault. fault ≡ EngineFault.Bus) }
     {
         let taken = self.take_page(row)?;
         let Some(found) = taken else {
@@ -113,7 +113,7 @@ impl<N: Nand> Engine<N> {
         &mut self,
         block: u32,
         first: u32,
-    ) -> Result<Option<(u32, Record)>, WriteFault>
+    ) -> Result<Option<(u32, Record)>, EngineFault>
         requires safe { IsSafe N.flash self.old }
         requires block { block < self.old.geometry.blocks }
         ensures looks { EngineLooks N.flash N.recorded N.honest N.calm N.programs N.erases N.failed self.old self.new result }
@@ -125,7 +125,7 @@ impl<N: Nand> Engine<N> {
         ensures truth { N.honest self.old.nand ≡ true → truth.IsTrue None (ram self.old) (image_in N.flash self.old) →
             MatchResult result
             (FindsFirst self.old.geometry.pages block first self.new.page.body.items (image_in N.flash self.old))
-            (λ fault. fault ≡ WriteFault.Bus) }
+            (λ fault. fault ≡ EngineFault.Bus) }
     {
         'candidates: for page in first..self.geometry.pages() {
             let row = self.geometry.row(block, page);

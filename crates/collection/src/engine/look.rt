@@ -17,7 +17,7 @@ ghost use Rattle.page_layout.specs.OnlyReads.{OnlyReads};
 
 use super::operations::read_sound;
 use super::{Buffer, Engine};
-use crate::fault::WriteFault;
+use crate::fault::EngineFault;
 use onfi_cycles::Nand;
 use page_layout::geometry::Geometry;
 use page_layout::record::{Key, Kind, Record, sequence_of};
@@ -31,7 +31,7 @@ pub(crate) fn read_of<N: Nand>(
     key: Key,
     row: u32,
     buffer: &mut Buffer,
-) -> Result<Record, WriteFault>
+) -> Result<Record, EngineFault>
     requires row_in { row < row_count geometry.now }
     requires same_geometry { (N.flash nand.old).geometry ≡ geometry.now }
     requires buffer { IsBuffer geometry.now buffer.old }
@@ -39,36 +39,36 @@ pub(crate) fn read_of<N: Nand>(
     ensures only_reads { OnlyReads N.flash N.honest N.calm N.programs N.erases N.failed nand.old nand.new }
     ensures reads { N.reads nand.new ≡ counted (N.reads nand.old) }
     ensures faults { IfErr result IsReadFault }
-    ensures rose { result ≡ Err WriteFault.Bus → HasRisen (N.failed nand.old) (N.failed nand.new) }
+    ensures rose { result ≡ Err EngineFault.Bus → HasRisen (N.failed nand.old) (N.failed nand.new) }
 
     // Whatever the die does, what is in the buffer is a sound page of the key.
     ensures checked { IfOk result (λ found. IsPageOf key found (page buffer.new.body.items buffer.new.spare.items)) }
-    ensures same { N.honest nand.old ≡ true → result ≢ Err WriteFault.Bus → N.flash nand.new ≡ N.flash nand.old }
-    ensures told { N.honest nand.old ≡ true → result ≢ Err WriteFault.Bus → N.recorded nand.new ≡ N.recorded nand.old }
+    ensures same { N.honest nand.old ≡ true → result ≢ Err EngineFault.Bus → N.flash nand.new ≡ N.flash nand.old }
+    ensures told { N.honest nand.old ≡ true → result ≢ Err EngineFault.Bus → N.recorded nand.new ≡ N.recorded nand.old }
     ensures page { N.honest nand.old ≡ true → OnOk result
         (slice_get (N.flash nand.old).image row ≡ Some (page buffer.new.body.items buffer.new.spare.items)) }
     ensures undamaged { N.honest nand.old ≡ true → newest_row (N.flash nand.old).image key ≡ Some row →
-        IfErr result (λ fault. fault ≡ WriteFault.Bus) }
+        IfErr result (λ fault. fault ≡ EngineFault.Bus) }
 {
     match read_sound(nand, geometry, row, &mut buffer.body, &mut buffer.spare) {
-        Err(_) => Err(WriteFault::Bus),
-        Ok(None) => Err(WriteFault::Damaged),
-        Ok(Some(found)) if sequence_of(key, Some(found)).is_none() => Err(WriteFault::Damaged),
+        Err(_) => Err(EngineFault::Bus),
+        Ok(None) => Err(EngineFault::Damaged),
+        Ok(Some(found)) if sequence_of(key, Some(found)).is_none() => Err(EngineFault::Damaged),
         Ok(Some(found)) => Ok(found),
     }
 }
 
 // The row in an entry of a translation page, where it is one of the die.
-fn checked_entry(geometry: &Geometry, body: &[u8], i: u32) -> Result<Option<u32>, WriteFault>
+fn checked_entry(geometry: &Geometry, body: &[u8], i: u32) -> Result<Option<u32>, EngineFault>
     requires { 4 * i + 4 ≤ length body.now }
     ensures row { IfOk result (λ row. ForSome row (λ r. r < row_count geometry.now)) }
     ensures entry { IfOk result (λ row. row ≡ entry_at body.now i) }
-    ensures damaged { IfErr result (λ fault. fault ≡ WriteFault.Damaged) }
+    ensures damaged { IfErr result (λ fault. fault ≡ EngineFault.Damaged) }
     ensures undamaged { ForSome (entry_at body.now i) (λ r. r < row_count geometry.now) → OnErr result ⊥ }
 {
     let row = entry(body, i);
     match row {
-        Some(r) if !geometry.has_row(r) => Err(WriteFault::Damaged),
+        Some(r) if !geometry.has_row(r) => Err(EngineFault::Damaged),
         _ => Ok(row),
     }
 }
@@ -107,7 +107,7 @@ impl<N: Nand> Engine<N> {
     /// No fault is noted, and one that stands is not answered.
     ///
     /// Source: the address translation of the DFTL paper; that pages are checked is this project's.
-    pub fn row_of_sector(&mut self, sector: u32) -> Result<Option<u32>, WriteFault>
+    pub fn row_of_sector(&mut self, sector: u32) -> Result<Option<u32>, EngineFault>
         requires safe { IsSafe N.flash self.old }
         requires sector { sector < self.old.geometry.sectors }
         ensures looks { EngineLooks N.flash N.recorded N.honest N.calm N.programs N.erases N.failed self.old self.new result }
@@ -122,7 +122,7 @@ impl<N: Nand> Engine<N> {
         ensures truth { N.honest self.old.nand ≡ true → IsTrue None (ram self.old) (image_in N.flash self.old) →
             MatchResult result
             (λ row. row ≡ newest_row (image_in N.flash self.old) (Sector sector))
-            (λ fault. fault ≡ WriteFault.Bus) }
+            (λ fault. fault ≡ EngineFault.Bus) }
     {
         let known = self.mapping.peek(sector);
         match known {
@@ -132,7 +132,7 @@ impl<N: Nand> Engine<N> {
     }
 
     // The row that the newest translation page gives for a sector that the mapping doesn't know.
-    fn row_on_page(&mut self, sector: u32) -> Result<Option<u32>, WriteFault>
+    fn row_on_page(&mut self, sector: u32) -> Result<Option<u32>, EngineFault>
         requires safe { IsSafe N.flash self.old }
         requires sector { sector < self.old.geometry.sectors }
         requires unknown { known self.old.mapping sector ≡ None }
@@ -146,7 +146,7 @@ impl<N: Nand> Engine<N> {
         ensures truth { N.honest self.old.nand ≡ true → IsTrue None (ram self.old) (image_in N.flash self.old) →
             MatchResult result
             (λ row. row ≡ newest_row (image_in N.flash self.old) (Sector sector))
-            (λ fault. fault ≡ WriteFault.Bus) }
+            (λ fault. fault ≡ EngineFault.Bus) }
     {
         let entries = self.geometry.entries();
         let t = sector / entries;
@@ -175,7 +175,7 @@ impl<N: Nand> Engine<N> {
     /// not of the sector. `out` then stays; no fault is noted, and one that stands is not answered.
     ///
     /// Source: the read of the DFTL paper; that pages are checked, and trims, are this project's.
-    pub fn read_sector(&mut self, sector: u32, out: &mut [u8]) -> Result<Option<u32>, WriteFault>
+    pub fn read_sector(&mut self, sector: u32, out: &mut [u8]) -> Result<Option<u32>, EngineFault>
         requires safe { IsSafe N.flash self.old }
         requires sector { sector < self.old.geometry.sectors }
         requires whole { length out.old ≡ self.old.geometry.data_bytes }
@@ -192,7 +192,7 @@ impl<N: Nand> Engine<N> {
         ensures truth { N.honest self.old.nand ≡ true → IsTrue None (ram self.old) (image_in N.flash self.old) →
             MatchResult result
             (λ row. IsRead sector row out.new self.old.geometry (image_in N.flash self.old))
-            (λ fault. fault ≡ WriteFault.Bus) }
+            (λ fault. fault ≡ EngineFault.Bus) }
     {
         let found = self.row_of_sector(sector)?;
         let Some(row) = found else {

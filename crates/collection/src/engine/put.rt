@@ -20,7 +20,7 @@ ghost use Rattle.collection.specs.Stops.{IsKeptOr, Stops};
 
 use super::Engine;
 use super::operations::program_record;
-use crate::fault::WriteFault;
+use crate::fault::{EngineFault, WriteFault};
 use allocation::{Blocks, Stream};
 use onfi_cycles::{Nand, Outcome};
 use page_layout::geometry::Geometry;
@@ -48,7 +48,7 @@ impl<N: Nand> Engine<N> {
         kind: Kind,
         number: u32,
         old_row: Option<u32>,
-    ) -> Result<Option<u32>, WriteFault>
+    ) -> Result<Option<u32>, EngineFault>
         requires safe { IsSafe N.flash self.old }
         requires next { self.old.next + 1 < 2 ^ 64 }
         requires key { IsKeyOf self.old.geometry (key_from kind number) }
@@ -68,11 +68,11 @@ impl<N: Nand> Engine<N> {
             (Refused (ram self.old) (image_in N.flash self.old) (ram self.new) (image_in N.flash self.new)) }
         ensures stops { N.honest self.old.nand ≡ true →
             MayPut kind number old_row self.old.page.body.items (ram self.old) (image_in N.flash self.old) →
-            result ≢ Err WriteFault.Bus →
+            result ≢ Err EngineFault.Bus →
             Stops N.flash N.recorded (IsKeptOr self.old.geometry (image_in N.flash self.old) (image_in N.flash self.new)) self.old self.new }
     {
         let Some(row) = self.blocks.take_row(Stream::of(kind)) else {
-            return Err(WriteFault::ReadOnly);
+            return Err(EngineFault::ReadOnly);
         };
         let (block, _) = self.geometry.split_row(row);
         let written = Record {
@@ -98,7 +98,7 @@ impl<N: Nand> Engine<N> {
                 self.blocks.retire(block);
                 Ok(None)
             }
-            Err(_) => Err(WriteFault::Bus),
+            Err(_) => Err(EngineFault::Bus),
         }
     }
 
@@ -109,7 +109,7 @@ impl<N: Nand> Engine<N> {
         kind: Kind,
         number: u32,
         old_row: Option<u32>,
-    ) -> Result<u32, WriteFault>
+    ) -> Result<u32, EngineFault>
         requires safe { IsSafe N.flash self.old }
         requires key { IsKeyOf self.old.geometry (key_from kind number) }
         requires old_row { ForSome old_row (λ r. r < row_count self.old.geometry) }
@@ -128,7 +128,7 @@ impl<N: Nand> Engine<N> {
             (Refused (ram self.old) (image_in N.flash self.old) (ram self.new) (image_in N.flash self.new)) }
         ensures stops { N.honest self.old.nand ≡ true →
             MayPut kind number old_row self.old.page.body.items (ram self.old) (image_in N.flash self.old) →
-            result ≢ Err WriteFault.Bus →
+            result ≢ Err EngineFault.Bus →
             Stops N.flash N.recorded (IsKeptOr self.old.geometry (image_in N.flash self.old) (image_in N.flash self.new)) self.old self.new }
     {
         'tries: while self.next < u64::MAX {
@@ -138,7 +138,7 @@ impl<N: Nand> Engine<N> {
                 None => continue,
             }
         }
-        Err(WriteFault::SequenceSpent)
+        Err(EngineFault::SequenceSpent)
     }
 
     // The row of the newest page of a key, where it is known in memory.
@@ -207,7 +207,7 @@ impl<N: Nand> Engine<N> {
             OnOk result (array_of self.old.geometry (image_in N.flash self.new) ≡
             array_after self.old.geometry written.now.kind written.now.number body.now (array_of self.old.geometry (image_in N.flash self.old))) }
         ensures stops { N.honest self.old.nand ≡ true → self.old.fault ≡ None → IsTrue None (ram self.old) (image_in N.flash self.old) →
-            IsPageFor self.old.geometry (image_in N.flash self.old) self.old.mapping body.now (key_of written.now) → result ≢ Err WriteFault.Bus →
+            IsPageFor self.old.geometry (image_in N.flash self.old) self.old.mapping body.now (key_of written.now) → result ≢ Err EngineFault.Bus →
             Stops N.flash N.recorded (IsKeptOr self.old.geometry (image_in N.flash self.old) (image_in N.flash self.new)) self.old self.new }
     {
         let of_kind = stream == Stream::of(written.kind);

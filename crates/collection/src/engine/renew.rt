@@ -16,7 +16,7 @@ ghost use Rattle.collection.specs.Acts.{EngineLooks, EngineActs, Stands};
 ghost use Rattle.collection.specs.Stops.{StopsSafely};
 
 use super::Engine;
-use crate::fault::WriteFault;
+use crate::fault::{EngineFault, WriteFault};
 use onfi_cycles::Nand;
 use page_layout::record::{Key, Record, record_version};
 
@@ -55,7 +55,7 @@ impl<N: Nand> Engine<N> {
 
     // Takes the page of a row into the page buffer, and answers its record where it is the newest of
     // its key and has to be renewed.
-    fn due_record(&mut self, row: u32) -> Result<Option<Record>, WriteFault>
+    fn due_record(&mut self, row: u32) -> Result<Option<Record>, EngineFault>
         requires safe { IsSafe N.flash self.old }
         requires row { row < row_count self.old.geometry }
         ensures looks { EngineLooks N.flash N.recorded N.honest N.calm N.programs N.erases N.failed self.old self.new result }
@@ -63,7 +63,7 @@ impl<N: Nand> Engine<N> {
         ensures truth { N.honest self.old.nand ≡ true → truth.IsTrue None (ram self.old) (image_in N.flash self.old) →
             MatchResult result
             (LooksAtDue row self.new.page.body.items (image_in N.flash self.old))
-            (λ fault. fault ≡ WriteFault.Bus) }
+            (λ fault. fault ≡ EngineFault.Bus) }
     {
         let live = self.live_record(row)?;
         let Some(found) = live else {
@@ -77,14 +77,14 @@ impl<N: Nand> Engine<N> {
     }
 
     // The next row, from a row on, whose page has to be renewed, whatever fault stands.
-    fn look_for_due(&mut self, from: u32) -> Result<Option<u32>, WriteFault>
+    fn look_for_due(&mut self, from: u32) -> Result<Option<u32>, EngineFault>
         requires safe { IsSafe N.flash self.old }
         ensures looks { EngineLooks N.flash N.recorded N.honest N.calm N.programs N.erases N.failed self.old self.new result }
         ensures row { IfOk result (λ found. ForSome found (λ row. row < row_count self.old.geometry)) }
         ensures truth { N.honest self.old.nand ≡ true → truth.IsTrue None (ram self.old) (image_in N.flash self.old) →
             MatchResult result
             (FindsDue from (image_in N.flash self.old))
-            (λ fault. fault ≡ WriteFault.Bus) }
+            (λ fault. fault ≡ EngineFault.Bus) }
     {
         'rows: for row in from..self.geometry.rows() {
             let due = self.due_record(row)?;
@@ -97,7 +97,7 @@ impl<N: Nand> Engine<N> {
 
     // Copies the page of a row where it has to be renewed, whatever fault stands. Answers whether it
     // was so.
-    fn renew(&mut self, row: u32) -> Result<bool, WriteFault>
+    fn renew(&mut self, row: u32) -> Result<bool, EngineFault>
         requires safe { IsSafe N.flash self.old }
         requires row { row < row_count self.old.geometry }
         ensures acts { EngineActs N.flash N.recorded N.honest N.calm N.failed self.old self.new result }
@@ -107,18 +107,18 @@ impl<N: Nand> Engine<N> {
         ensures beside { OnOk result (LeavesPin (ram self.old) (ram self.new)) }
         ensures pin { (ram self.new).pin ≡ (ram self.old).pin }
         ensures one_more { length self.new.mapping.moved ≤ length self.old.mapping.moved + 1 }
-        ensures full { length self.old.mapping.moved ≡ self.old.geometry.pages → (result ≡ Err WriteFault.Damaged) × (self.new ≡ self.old) }
+        ensures full { length self.old.mapping.moved ≡ self.old.geometry.pages → (result ≡ Err EngineFault.Damaged) × (self.new ≡ self.old) }
         ensures cost { RescueCosts (ram self.old) (ram self.new) result }
         ensures truth { N.honest self.old.nand ≡ true → truth.IsTrue None (ram self.old) (image_in N.flash self.old) →
             length self.old.mapping.moved < self.old.geometry.pages →
             MatchResult result
             (IsRenewedAt row (ram self.old) (image_in N.flash self.old) (ram self.new) (image_in N.flash self.new))
             (Refused (ram self.old) (image_in N.flash self.old) (ram self.new) (image_in N.flash self.new)) }
-        ensures stops { N.honest self.old.nand ≡ true → truth.IsTrue None (ram self.old) (image_in N.flash self.old) → result ≢ Err WriteFault.Bus →
+        ensures stops { N.honest self.old.nand ≡ true → truth.IsTrue None (ram self.old) (image_in N.flash self.old) → result ≢ Err EngineFault.Bus →
             StopsSafely N.flash N.recorded self.old self.new }
     {
         if self.mapping.moved_count() >= self.geometry.pages() {
-            return Err(WriteFault::Damaged);
+            return Err(EngineFault::Damaged);
         }
         let due = self.due_record(row)?;
         let Some(found) = due else {
@@ -135,7 +135,7 @@ impl<N: Nand> Engine<N> {
     /// # Errors
     ///
     /// `Bus` where a page read failed, or what stands. (This project.)
-    pub fn next_old(&mut self, from: u32) -> Result<Option<u32>, WriteFault>
+    pub fn next_old(&mut self, from: u32) -> Result<Option<u32>, EngineFault>
         requires safe { IsSafe N.flash self.old }
         ensures stands { Stands N.flash N.recorded N.honest N.calm N.failed self.old self.new result }
         ensures only_reads { OnlyReads N.flash N.honest N.calm N.programs N.erases N.failed self.old.nand self.new.nand }
@@ -146,8 +146,8 @@ impl<N: Nand> Engine<N> {
         ensures truth { N.honest self.old.nand ≡ true → self.old.fault ≡ None → truth.IsTrue None (ram self.old) (image_in N.flash self.old) →
             MatchResult result
             (FindsDue from (image_in N.flash self.old))
-            (λ fault. fault ≡ WriteFault.Bus) }
-        ensures stops { N.honest self.old.nand ≡ true → self.old.fault ≡ None → truth.IsTrue None (ram self.old) (image_in N.flash self.old) → result ≢ Err WriteFault.Bus →
+            (λ fault. fault ≡ EngineFault.Bus) }
+        ensures stops { N.honest self.old.nand ≡ true → self.old.fault ≡ None → truth.IsTrue None (ram self.old) (image_in N.flash self.old) → result ≢ Err EngineFault.Bus →
             StopsSafely N.flash N.recorded self.old self.new }
     {
         self.standing()?;
@@ -175,7 +175,7 @@ impl<N: Nand> Engine<N> {
         ensures pin { (ram self.new).pin ≡ (ram self.old).pin }
         ensures one_more { length self.new.mapping.moved ≤ length self.old.mapping.moved + 1 }
         ensures full { self.old.fault ≡ None → length self.old.mapping.moved ≡ self.old.geometry.pages →
-            (result ≡ Err WriteFault.Damaged) × (self.new ≡ record self.old { fault = Some WriteFault.Damaged }) }
+            (result ≡ Err EngineFault.Damaged) × (self.new ≡ record self.old { fault = Some EngineFault.Damaged }) }
         ensures goes { Goes (ram self.old) (ram self.new) }
         ensures erases { N.erases self.new.nand ≡ N.erases self.old.nand }
         ensures keys { KeepsKeys self.old.mapping self.new.mapping }
@@ -185,7 +185,7 @@ impl<N: Nand> Engine<N> {
             MatchResult result
             (IsRenewedAt row (ram self.old) (image_in N.flash self.old) (ram self.new) (image_in N.flash self.new))
             (Refused (ram self.old) (image_in N.flash self.old) (ram self.new) (image_in N.flash self.new)) }
-        ensures stops { N.honest self.old.nand ≡ true → self.old.fault ≡ None → truth.IsTrue None (ram self.old) (image_in N.flash self.old) → result ≢ Err WriteFault.Bus →
+        ensures stops { N.honest self.old.nand ≡ true → self.old.fault ≡ None → truth.IsTrue None (ram self.old) (image_in N.flash self.old) → result ≢ Err EngineFault.Bus →
             StopsSafely N.flash N.recorded self.old self.new }
     {
         self.standing()?;

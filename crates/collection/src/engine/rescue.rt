@@ -16,7 +16,7 @@ ghost use Rattle.collection.specs.Acts.{EngineLooks, EngineActs, Stands};
 ghost use Rattle.collection.specs.Stops.{StopsSafely};
 
 use super::Engine;
-use crate::fault::WriteFault;
+use crate::fault::{EngineFault, WriteFault};
 use bad_blocks::Class;
 use onfi_cycles::Nand;
 use page_layout::record::{Key, Record};
@@ -49,7 +49,7 @@ impl<N: Nand> Engine<N> {
 
     // Looks for the page of lowest row in a bad block that is the newest of its key, and takes it into
     // the page buffer.
-    fn first_ailing(&mut self) -> Result<Option<(u32, Record)>, WriteFault>
+    fn first_ailing(&mut self) -> Result<Option<(u32, Record)>, EngineFault>
         requires safe { IsSafe N.flash self.old }
         ensures looks { EngineLooks N.flash N.recorded N.honest N.calm N.programs N.erases N.failed self.old self.new result }
         ensures row { IfOk result (λ found. ForSome found (λ f. f.0 < row_count self.old.geometry)) }
@@ -57,7 +57,7 @@ impl<N: Nand> Engine<N> {
         ensures truth { N.honest self.old.nand ≡ true → truth.IsTrue None (ram self.old) (image_in N.flash self.old) →
             MatchResult result
             (FindsAiling (ram self.old).blocks self.new.page.body.items (image_in N.flash self.old))
-            (λ fault. fault ≡ WriteFault.Bus) }
+            (λ fault. fault ≡ EngineFault.Bus) }
     {
         'numbers: for block in 0..self.geometry.blocks() {
             if !self.is_ailing(block) {
@@ -73,7 +73,7 @@ impl<N: Nand> Engine<N> {
     }
 
     // Writes back the translation page of a sector that was moved.
-    pub(crate) fn follow_moved(&mut self, key: Key) -> Result<(), WriteFault>
+    pub(crate) fn follow_moved(&mut self, key: Key) -> Result<(), EngineFault>
         requires safe { IsSafe N.flash self.old }
         requires key { IsKeyOf self.old.geometry key }
         ensures acts { EngineActs N.flash N.recorded N.honest N.calm N.failed self.old self.new result }
@@ -89,7 +89,7 @@ impl<N: Nand> Engine<N> {
             (λ _. IsFollowedBy key (ram self.old) (image_in N.flash self.old) (ram self.new) (image_in N.flash self.new))
             (Refused (ram self.old) (image_in N.flash self.old) (ram self.new) (image_in N.flash self.new)) }
         ensures stops { N.honest self.old.nand ≡ true → truth.IsTrue None (ram self.old) (image_in N.flash self.old) →
-            result ≢ Err WriteFault.Bus → StopsSafely N.flash N.recorded self.old self.new }
+            result ≢ Err EngineFault.Bus → StopsSafely N.flash N.recorded self.old self.new }
     {
         let Key::Sector(n) = key else {
             return Ok(());
@@ -102,7 +102,7 @@ impl<N: Nand> Engine<N> {
     }
 
     // Copies the live page of lowest row in a bad block out of it, whatever fault stands.
-    fn rescue(&mut self) -> Result<bool, WriteFault>
+    fn rescue(&mut self) -> Result<bool, EngineFault>
         requires safe { IsSafe N.flash self.old }
         ensures acts { EngineActs N.flash N.recorded N.honest N.calm N.failed self.old self.new result }
         ensures goes { Goes (ram self.old) (ram self.new) }
@@ -111,7 +111,7 @@ impl<N: Nand> Engine<N> {
         ensures beside { OnOk result (LeavesPin (ram self.old) (ram self.new)) }
         ensures pin { (ram self.new).pin ≡ (ram self.old).pin }
         ensures one_more { length self.new.mapping.moved ≤ length self.old.mapping.moved + 1 }
-        ensures full { length self.old.mapping.moved ≡ self.old.geometry.pages → (result ≡ Err WriteFault.Damaged) × (self.new ≡ self.old) }
+        ensures full { length self.old.mapping.moved ≡ self.old.geometry.pages → (result ≡ Err EngineFault.Damaged) × (self.new ≡ self.old) }
         ensures cost { RescueCosts (ram self.old) (ram self.new) result }
         ensures truth { N.honest self.old.nand ≡ true → truth.IsTrue None (ram self.old) (image_in N.flash self.old) →
             length self.old.mapping.moved < self.old.geometry.pages →
@@ -119,10 +119,10 @@ impl<N: Nand> Engine<N> {
             (IsRescued (ram self.old) (image_in N.flash self.old) (ram self.new) (image_in N.flash self.new))
             (Refused (ram self.old) (image_in N.flash self.old) (ram self.new) (image_in N.flash self.new)) }
         ensures stops { N.honest self.old.nand ≡ true → truth.IsTrue None (ram self.old) (image_in N.flash self.old) →
-            result ≢ Err WriteFault.Bus → StopsSafely N.flash N.recorded self.old self.new }
+            result ≢ Err EngineFault.Bus → StopsSafely N.flash N.recorded self.old self.new }
     {
         if self.mapping.moved_count() >= self.geometry.pages() {
-            return Err(WriteFault::Damaged);
+            return Err(EngineFault::Damaged);
         }
         let ailing = self.first_ailing()?;
         let Some((row, found)) = ailing else {
@@ -154,7 +154,7 @@ impl<N: Nand> Engine<N> {
         ensures pin { (ram self.new).pin ≡ (ram self.old).pin }
         ensures one_more { length self.new.mapping.moved ≤ length self.old.mapping.moved + 1 }
         ensures full { self.old.fault ≡ None → length self.old.mapping.moved ≡ self.old.geometry.pages →
-            (result ≡ Err WriteFault.Damaged) × (self.new ≡ record self.old { fault = Some WriteFault.Damaged }) }
+            (result ≡ Err EngineFault.Damaged) × (self.new ≡ record self.old { fault = Some EngineFault.Damaged }) }
         ensures goes { Goes (ram self.old) (ram self.new) }
         ensures erases { N.erases self.new.nand ≡ N.erases self.old.nand }
         ensures keys { KeepsKeys self.old.mapping self.new.mapping }
@@ -165,7 +165,7 @@ impl<N: Nand> Engine<N> {
             (IsRescued (ram self.old) (image_in N.flash self.old) (ram self.new) (image_in N.flash self.new))
             (Refused (ram self.old) (image_in N.flash self.old) (ram self.new) (image_in N.flash self.new)) }
         ensures stops { N.honest self.old.nand ≡ true → self.old.fault ≡ None → truth.IsTrue None (ram self.old) (image_in N.flash self.old) →
-            result ≢ Err WriteFault.Bus → StopsSafely N.flash N.recorded self.old self.new }
+            result ≢ Err EngineFault.Bus → StopsSafely N.flash N.recorded self.old self.new }
     {
         self.standing()?;
         let answer = self.rescue();

@@ -12,7 +12,7 @@ ghost use Rattle.collection.specs.Acts.{EngineActs, Stands};
 ghost use Rattle.collection.specs.Stops.{StopsSafely};
 
 use super::Engine;
-use crate::fault::WriteFault;
+use crate::fault::{EngineFault, WriteFault};
 use onfi_cycles::Nand;
 
 /// The free blocks with which a call may begin to program: a call opens two, and one more for each of
@@ -59,20 +59,20 @@ impl<N: Nand> Engine<N> {
     }
 
     // Whether there are free blocks enough.
-    fn enough(&self) -> Result<(), WriteFault>
+    fn enough(&self) -> Result<(), EngineFault>
         requires safe { IsSafe N.flash self.now }
         ensures ok { OnOk result (5 ≤ free_count (ram self.now).blocks) }
-        ensures err { IfErr result (λ fault. (fault ≡ WriteFault.ReadOnly) × (free_count (ram self.now).blocks < 5)) }
+        ensures err { IfErr result (λ fault. (fault ≡ EngineFault.ReadOnly) × (free_count (ram self.now).blocks < 5)) }
     {
         if self.blocks.free() < LEAST_FREE {
-            return Err(WriteFault::ReadOnly);
+            return Err(EngineFault::ReadOnly);
         }
         Ok(())
     }
 
     // Finishes the collection of the pinned block, where there is one and fewer than nine blocks are
     // free, whatever fault stands.
-    fn finish(&mut self, flushing: bool) -> Result<(), WriteFault>
+    fn finish(&mut self, flushing: bool) -> Result<(), EngineFault>
         requires safe { IsSafe N.flash self.old }
         requires calm { IsCalm (ram self.old) }
         ensures acts { EngineActs N.flash N.recorded N.honest N.calm N.failed self.old self.new result }
@@ -85,7 +85,7 @@ impl<N: Nand> Engine<N> {
             (λ _. IsFundedOn failures (ram self.old) (ram self.new))
             (λ fault. RoomCounts failures (ram self.old) (ram self.new) (Err fault)) }
         ensures stops { N.honest self.old.nand ≡ true → truth.IsTrue None (ram self.old) (image_in N.flash self.old) →
-            PinHasPassed (ram self.old) (image_in N.flash self.old) → result ≢ Err WriteFault.Bus →
+            PinHasPassed (ram self.old) (image_in N.flash self.old) → result ≢ Err EngineFault.Bus →
             StopsSafely N.flash N.recorded self.old self.new }
     {
         let wanted = Reserve::Call.blocks();
@@ -97,7 +97,7 @@ impl<N: Nand> Engine<N> {
 
     // Finishes the pinned block, and collects until nine blocks are free or none is worth it, whatever
     // fault stands.
-    fn regain(&mut self, flushing: bool) -> Result<(), WriteFault>
+    fn regain(&mut self, flushing: bool) -> Result<(), EngineFault>
         requires safe { IsSafe N.flash self.old }
         requires calm { IsCalm (ram self.old) }
         ensures acts { EngineActs N.flash N.recorded N.honest N.calm N.failed self.old self.new result }
@@ -108,7 +108,7 @@ impl<N: Nand> Engine<N> {
             (failures : ℕ) → IsFunded self.old.geometry.pages failures (counts_of (ram self.old).blocks) →
             RoomCounts failures (ram self.old) (ram self.new) result }
         ensures stops { N.honest self.old.nand ≡ true → truth.IsTrue None (ram self.old) (image_in N.flash self.old) →
-            PinHasPassed (ram self.old) (image_in N.flash self.old) → result ≢ Err WriteFault.Bus →
+            PinHasPassed (ram self.old) (image_in N.flash self.old) → result ≢ Err EngineFault.Bus →
             StopsSafely N.flash N.recorded self.old self.new }
     {
         self.finish(flushing)?;
@@ -159,7 +159,7 @@ impl<N: Nand> Engine<N> {
             (failures : ℕ) → IsFunded self.old.geometry.pages failures (counts_of (ram self.old).blocks) →
             RoomCounts failures (ram self.old) (ram self.new) result }
         ensures stops { N.honest self.old.nand ≡ true → self.old.fault ≡ None → truth.IsTrue None (ram self.old) (image_in N.flash self.old) →
-            PinHasPassed (ram self.old) (image_in N.flash self.old) → result ≢ Err WriteFault.Bus →
+            PinHasPassed (ram self.old) (image_in N.flash self.old) → result ≢ Err EngineFault.Bus →
             StopsSafely N.flash N.recorded self.old self.new }
     {
         self.standing()?;

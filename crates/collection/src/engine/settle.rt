@@ -17,7 +17,7 @@ ghost use Rattle.collection.specs.Acts.{EngineActs, OnlyPrograms};
 ghost use Rattle.collection.specs.Stops.{StopsSafely};
 
 use super::Engine;
-use crate::fault::WriteFault;
+use crate::fault::EngineFault;
 use mapping_cache::Mapping;
 use onfi_cycles::Nand;
 use page_layout::record::{Key, Kind};
@@ -64,7 +64,7 @@ impl<N: Nand> Engine<N> {
         kind: Kind,
         number: u32,
         old_row: Option<u32>,
-    ) -> Result<u32, WriteFault>
+    ) -> Result<u32, EngineFault>
         requires safe { IsSafe N.flash self.old }
         requires key { IsKeyOf self.old.geometry (key_from kind number) }
         requires place { HasPlace self.old.mapping (key_from kind number) }
@@ -89,7 +89,7 @@ impl<N: Nand> Engine<N> {
             (λ row. IsReplaced kind number row self.old.page.body.items (ram self.old) (image_in N.flash self.old) (ram self.new) (image_in N.flash self.new))
             (Refused (ram self.old) (image_in N.flash self.old) (ram self.new) (image_in N.flash self.new)) }
         ensures stops { N.honest self.old.nand ≡ true → MayPut kind number old_row self.old.page.body.items (ram self.old) (image_in N.flash self.old) →
-            result ≢ Err WriteFault.Bus → StopsSafely N.flash N.recorded self.old self.new }
+            result ≢ Err EngineFault.Bus → StopsSafely N.flash N.recorded self.old self.new }
     {
         let row = self.put_page(kind, number, old_row)?;
         self.settle(kind, number, row);
@@ -97,7 +97,7 @@ impl<N: Nand> Engine<N> {
     }
 
     // Programs a page of a cached sector with what is in the page buffer, and sets the sector's row.
-    pub(crate) fn append(&mut self, kind: Kind, sector: u32) -> Result<(), WriteFault>
+    pub(crate) fn append(&mut self, kind: Kind, sector: u32) -> Result<(), EngineFault>
         requires safe { IsSafe N.flash self.old }
         requires kind { key_from kind sector ≡ Sector sector }
         requires sector { sector < self.old.geometry.sectors }
@@ -119,7 +119,7 @@ impl<N: Nand> Engine<N> {
             (λ _. IsWritten kind sector self.old.page.body.items (ram self.old) (image_in N.flash self.old) (ram self.new) (image_in N.flash self.new))
             (Refused (ram self.old) (image_in N.flash self.old) (ram self.new) (image_in N.flash self.new)) }
         ensures stops { N.honest self.old.nand ≡ true → IsTrue None (ram self.old) (image_in N.flash self.old) →
-            result ≢ Err WriteFault.Bus → StopsSafely N.flash N.recorded self.old self.new }
+            result ≢ Err EngineFault.Bus → StopsSafely N.flash N.recorded self.old self.new }
     {
         let old_row = self.row_of_key(Key::Sector(sector));
         self.replace(kind, sector, old_row)?;

@@ -11,14 +11,14 @@ ghost use Rattle.collection.specs.Acts.{EngineActs, Stands, OnlyPrograms};
 ghost use Rattle.collection.specs.Stops.{StopsSafely};
 
 use super::Engine;
-use crate::fault::WriteFault;
+use crate::fault::{EngineFault, WriteFault};
 use bad_blocks::write_table_page;
 use onfi_cycles::Nand;
 use page_layout::record::{Key, Kind};
 
 impl<N: Nand> Engine<N> {
     // Programs table page `u` as the table is now, whatever fault stands.
-    fn put_table(&mut self, u: u32) -> Result<(), WriteFault>
+    fn put_table(&mut self, u: u32) -> Result<(), EngineFault>
         requires safe { IsSafe N.flash self.old }
         requires page { u < table_pages self.old.geometry }
         ensures acts { EngineActs N.flash N.recorded N.honest N.calm N.failed self.old self.new result }
@@ -35,7 +35,7 @@ impl<N: Nand> Engine<N> {
             (λ _. IsTabled u (ram self.old) (image_in N.flash self.old) (ram self.new) (image_in N.flash self.new))
             (Refused (ram self.old) (image_in N.flash self.old) (ram self.new) (image_in N.flash self.new)) }
         ensures stops { N.honest self.old.nand ≡ true → IsTrue None (ram self.old) (image_in N.flash self.old) →
-            result ≢ Err WriteFault.Bus → StopsSafely N.flash N.recorded self.old self.new }
+            result ≢ Err EngineFault.Bus → StopsSafely N.flash N.recorded self.old self.new }
     {
         write_table_page(self.blocks.table(), u, &mut self.page.body);
         let old_row = self.row_of_key(Key::Table(u));
@@ -72,7 +72,7 @@ impl<N: Nand> Engine<N> {
             (λ _. IsTabled u (ram self.old) (image_in N.flash self.old) (ram self.new) (image_in N.flash self.new))
             (Refused (ram self.old) (image_in N.flash self.old) (ram self.new) (image_in N.flash self.new)) }
         ensures stops { N.honest self.old.nand ≡ true → self.old.fault ≡ None → IsTrue None (ram self.old) (image_in N.flash self.old) →
-            result ≢ Err WriteFault.Bus → StopsSafely N.flash N.recorded self.old self.new }
+            result ≢ Err EngineFault.Bus → StopsSafely N.flash N.recorded self.old self.new }
     {
         self.standing()?;
         let answer = self.put_table(u);

@@ -14,7 +14,7 @@ ghost use Rattle.collection.specs.Stops.{StopsSafely};
 
 use super::Engine;
 use super::look::clear;
-use crate::fault::WriteFault;
+use crate::fault::{EngineFault, WriteFault};
 use onfi_cycles::Nand;
 use page_layout::record::Kind;
 
@@ -50,7 +50,7 @@ impl<N: Nand> Engine<N> {
             (λ _. IsWritten Kind.Sector sector body.now (ram self.old) (image_in N.flash self.old) (ram self.new) (image_in N.flash self.new))
             (Refused (ram self.old) (image_in N.flash self.old) (ram self.new) (image_in N.flash self.new)) }
         ensures stops { N.honest self.old.nand ≡ true → self.old.fault ≡ None → IsTrue None (ram self.old) (image_in N.flash self.old) →
-            result ≢ Err WriteFault.Bus → StopsSafely N.flash N.recorded self.old self.new }
+            result ≢ Err EngineFault.Bus → StopsSafely N.flash N.recorded self.old self.new }
     {
         self.standing()?;
         self.page.body.copy_from_slice(body);
@@ -88,7 +88,7 @@ impl<N: Nand> Engine<N> {
             (λ _. IsWritten Kind.Trim sector (zeros self.old.geometry) (ram self.old) (image_in N.flash self.old) (ram self.new) (image_in N.flash self.new))
             (Refused (ram self.old) (image_in N.flash self.old) (ram self.new) (image_in N.flash self.new)) }
         ensures stops { N.honest self.old.nand ≡ true → self.old.fault ≡ None → IsTrue None (ram self.old) (image_in N.flash self.old) →
-            result ≢ Err WriteFault.Bus → StopsSafely N.flash N.recorded self.old self.new }
+            result ≢ Err EngineFault.Bus → StopsSafely N.flash N.recorded self.old self.new }
     {
         self.standing()?;
         clear(&mut self.page.body);

@@ -18,13 +18,13 @@ ghost use Rattle.collection.specs.Stops.{StopsSafely};
 use super::Engine;
 use super::entries::{clear_entries, fill_entries};
 use super::look::read_of;
-use crate::fault::WriteFault;
+use crate::fault::{EngineFault, WriteFault};
 use onfi_cycles::Nand;
 use page_layout::record::{Key, Kind};
 
 impl<N: Nand> Engine<N> {
     // Takes translation page `t` as it stands on the die into the page buffer.
-    fn load_translation(&mut self, t: u32, row: Option<u32>) -> Result<(), WriteFault>
+    fn load_translation(&mut self, t: u32, row: Option<u32>) -> Result<(), EngineFault>
         requires safe { IsSafe N.flash self.old }
         requires row { ForSome row (λ r. r < row_count self.old.geometry) }
         ensures looks { EngineLooks N.flash N.recorded N.honest N.calm N.programs N.erases N.failed self.old self.new result }
@@ -33,7 +33,7 @@ impl<N: Nand> Engine<N> {
         ensures truth { N.honest self.old.nand ≡ true → newest_row (image_in N.flash self.old) (Translation t) ≡ row →
             MatchResult result
             (λ _. IsLoaded t self.new.page.body.items self.old.geometry (image_in N.flash self.old))
-            (λ fault. fault ≡ WriteFault.Bus) }
+            (λ fault. fault ≡ EngineFault.Bus) }
     {
         match row {
             Some(at) => {
@@ -47,7 +47,7 @@ impl<N: Nand> Engine<N> {
 
     // Takes translation page `t` into the page buffer, with each row that it lacks, and no row in an
     // entry past the last sector's.
-    fn fill_translation(&mut self, t: u32, row: Option<u32>) -> Result<(), WriteFault>
+    fn fill_translation(&mut self, t: u32, row: Option<u32>) -> Result<(), EngineFault>
         requires safe { IsSafe N.flash self.old }
         requires page { t < translation_pages self.old.geometry }
         requires row { ForSome row (λ r. r < row_count self.old.geometry) }
@@ -59,7 +59,7 @@ impl<N: Nand> Engine<N> {
             newest_row (image_in N.flash self.old) (Translation t) ≡ row →
             MatchResult result
             (λ _. IsFilled t self.new.page.body.items self.old.geometry (image_in N.flash self.old))
-            (λ fault. fault ≡ WriteFault.Bus) }
+            (λ fault. fault ≡ EngineFault.Bus) }
     {
         self.load_translation(t, row)?;
         fill_entries(&self.mapping, &self.geometry, t, &mut self.page.body);
@@ -67,7 +67,7 @@ impl<N: Nand> Engine<N> {
     }
 
     // Writes translation page `t` anew, whatever fault stands.
-    pub(crate) fn write_page_back(&mut self, t: u32) -> Result<(), WriteFault>
+    pub(crate) fn write_page_back(&mut self, t: u32) -> Result<(), EngineFault>
         requires safe { IsSafe N.flash self.old }
         requires page { t < translation_pages self.old.geometry }
         ensures acts { EngineActs N.flash N.recorded N.honest N.calm N.failed self.old self.new result }
@@ -90,7 +90,7 @@ impl<N: Nand> Engine<N> {
             (λ _. IsWrittenBack t (ram self.old) (image_in N.flash self.old) (ram self.new) (image_in N.flash self.new))
             (Refused (ram self.old) (image_in N.flash self.old) (ram self.new) (image_in N.flash self.new)) }
         ensures stops { N.honest self.old.nand ≡ true → IsTrue None (ram self.old) (image_in N.flash self.old) →
-            result ≢ Err WriteFault.Bus → StopsSafely N.flash N.recorded self.old self.new }
+            result ≢ Err EngineFault.Bus → StopsSafely N.flash N.recorded self.old self.new }
     {
         let row = self.directory.row_of(t);
         self.fill_translation(t, row)?;
@@ -143,7 +143,7 @@ impl<N: Nand> Engine<N> {
             (λ _. IsWrittenBack t (ram self.old) (image_in N.flash self.old) (ram self.new) (image_in N.flash self.new))
             (Refused (ram self.old) (image_in N.flash self.old) (ram self.new) (image_in N.flash self.new)) }
         ensures stops { N.honest self.old.nand ≡ true → self.old.fault ≡ None → IsTrue None (ram self.old) (image_in N.flash self.old) →
-            result ≢ Err WriteFault.Bus → StopsSafely N.flash N.recorded self.old self.new }
+            result ≢ Err EngineFault.Bus → StopsSafely N.flash N.recorded self.old self.new }
     {
         self.standing()?;
         let answer = self.write_page_back(t);

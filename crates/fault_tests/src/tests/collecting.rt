@@ -4,7 +4,7 @@ ghost use Rattle.collection.specs.Safe.{IsSafe, ram};
 ghost use Rattle.collection.specs.Left.{IsCalm};
 ghost use Rattle.ftl_device.specs.Device.{IsDevice};
 
-use collection::{Engine, WriteFault};
+use collection::{Engine, EngineFault};
 use device_fixtures::calls::Call::{self, Trim, Write};
 use ftl_device::Device;
 use onfi_cycles::Nand;
@@ -25,10 +25,10 @@ pub const CLOSING: [Call; 8] = [
 ];
 
 // Whether the die stopped.
-fn is_stopped(answer: Result<(), WriteFault>) -> Result<bool, Fail> {
+fn is_stopped(answer: Result<(), EngineFault>) -> Result<bool, Fail> {
     match answer {
         Ok(()) => Ok(false),
-        Err(WriteFault::Bus) => Ok(true),
+        Err(EngineFault::Bus) => Ok(true),
         Err(_) => Err("the collection is refused")?,
     }
 }

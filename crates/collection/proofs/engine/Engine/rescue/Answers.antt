@@ -14,7 +14,7 @@ use Rattle.collection.specs.Collect.{IsFollowedBy}
 use Rattle.promises.proofs.StopLemmas.{leaves_nothing}
 use Rattle.collection.proofs.Stops.{same_left, leaves_still, stops_looked, stops_then, fault_not_bus, IsSized}
 use Rattle.collection.proofs.Costs.{not_bus}
-use Rattle.collection.specs.declared.fault.WriteFault.TheVariants.{Damaged}
+use Rattle.collection.specs.declared.fault.EngineFault.TheVariants.{Damaged}
 use Rattle.collection.proofs.engine.Engine.rescue.Goals as goal
 
 -- ---- the copy

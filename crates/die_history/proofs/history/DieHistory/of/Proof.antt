@@ -19,11 +19,11 @@ use denote.Signature.{plain, types_at}
 use denote.Steps.{nothing}
 use denote.Triple.Entry.{alive}
 use denote.Triple.Walked.{says, Stays, stay_dropped, walk_of, ends_at, Goes-dropped}
-use Rattle.die_history.specs.contracts.history.History as History
-use Rattle.die_history.specs.contracts.history.History.of as f
-use Rattle.die_history.specs.contracts.history.History.of.Key.{name as #self}
-use Rattle.die_history.proofs.history.History.of.Statement.{statement}
-use Rattle.die_history.proofs.history.History.of.Code as code
+use Rattle.die_history.specs.contracts.history.DieHistory as DieHistory
+use Rattle.die_history.specs.contracts.history.DieHistory.of as f
+use Rattle.die_history.specs.contracts.history.DieHistory.of.Key.{name as #self}
+use Rattle.die_history.proofs.history.DieHistory.of.Statement.{statement}
+use Rattle.die_history.proofs.history.DieHistory.of.Code as code
 
 pub of_spec : {M : Type 1} → statement M
 of_spec 𝓤 𝓛 𝓜 𝓡 wired X _ g d _ =
@@ -34,10 +34,10 @@ of_spec 𝓤 𝓛 𝓜 𝓡 wired X _ g d _ =
     proved 𝓛 E stayed c 𝓜 𝓡 (Goes-dropped 𝓛 2 about yes (λ κs x w. refl), tt) (#self inst) fn (code.unfolded 𝓤 𝓛.H 𝓜 𝓡 wired (X, tt) d)
     (λ κs. (shr_vals, tt)) (λ κs. (shr_Tells (named 0) κs.0 (param 0 X), tt)) (λ κs qs bounds a gh are.
     let p = vptr a.0.ref_ptr.0 a.0.ref_ptr.1 in let y : (walk_of 𝓛 E stayed c).Ghost = ((κs, qs, bounds, a, (p ∷ [], tt)), gh) in
-    let made : History.the_row.Denot = record { told = g.recording a.0.now } in
+    let made : DieHistory.the_row.Denot = record { told = g.recording a.0.now } in
     qed 𝓛 ((raw (alive 𝓛 E.signature κs qs) ⊛ ‵ (owns (types_at E.signature.params κs) a y.0.4)) ∷ raw ((c κs a).requires gh) ∷ []) ∵ keep ! (0 ∷ []) $ split ! $ keep ! (0 ∷ []) $
     enter ! 𝓣.C 𝓣.Λ fn (p ∷ []) _ $ alloc_all ! (λ l. pass_all ! refl ((tt, tt), tt) $
     sets ! (agg ! (no_more !)) refl (tt, tt) $ returns ! (look_at ! 0 refl) $ free_all ! refl $
     suffices ! _ (ends_at 𝓛 E stayed c y (vstruct vnil) made (tt, tt) (tt, tt)) $ says ! refl $
-    pure_i ! (History.the_row.own_val made (vstruct vnil ∷ [])) ((λ vss. (tt, tt)), tt) ((tt, (refl, tt)), tt) $
+    pure_i ! (DieHistory.the_row.own_val made (vstruct vnil ∷ [])) ((λ vss. (tt, tt)), tt) ((tt, (refl, tt)), tt) $
     nothing ! $ nothing ! $ fjoin ! $ move ! (2 ∷ 0 ∷ 1 ∷ []) $ done !))
