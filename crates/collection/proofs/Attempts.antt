@@ -49,8 +49,9 @@ taken_good stream block row s t is = ap (λ x. is_good_at x.table block) is.left
 pub in_block : (r : Ram) (o : Option ℕ) → IsRam r → ForSome o (λ q. q < row_count r.geometry) → ForSome o (λ q. q / r.blocks.geometry.pages < r.blocks.geometry.blocks)
 in_block r o s within = λ q e. rw s.blocks_of (row_in_block r.geometry q (within q e))
 
-pub step_others : (row : ℕ) (outcome : Outcome) (before after : Flash) (told told' : Option Recording) → IsStep row outcome before told after told' → (q : ℕ) → q ≢ row → slice_get after.image q ≡ slice_get before.image q
-step_others row outcome before after told told' step q ne = program_other before after row q step.its step.left (is_passed outcome) step.step ne
+pub step_others : (row sequence : ℕ) (outcome : Outcome) (before after : Flash) (told told' : Option Recording) → IsStep row sequence outcome before told after told'
+    → (q : ℕ) → q ≢ row → slice_get after.image q ≡ slice_get before.image q
+step_others row sequence outcome before after told told' step q ne = program_other before after row q step.its step.left (is_passed outcome) step.step ne
 
 module _ (stream : Stream) (block row : ℕ) (r : Ram) (t : State) (s : IsRam r) (is : IsTaken stream block row r.blocks t) where
   is_block_of : block < r.geometry.blocks
@@ -108,7 +109,7 @@ module _ (stream : Stream) (block row : ℕ) (r : Ram) (t : State) (s : IsRam r)
     -- ---- what went on
 
     module _ (before after : Flash) (told told' : Option Recording) where
-      pub failed_went : r'.blocks ≡ without block t → IsStep row Failed before told after told' → Went r before told r' after told'
+      pub failed_went : r'.blocks ≡ without block t → IsStep row r.next Failed before told after told' → Went r before told r' after told'
       failed_went e step = went_one r r' before after told told' block row Failed step s.blocks_of (record {
         is_block = is.next.within;
         was_good = is.next.good;
@@ -119,7 +120,7 @@ module _ (stream : Stream) (block row : ℕ) (r : Ram) (t : State) (s : IsRam r)
         wear = rw (e ∙ ap (without block) is.left) (wear_retired (taken stream block r.blocks).table block block (omega (arith, ap length (taken_table stream r.blocks block), s.blocks.table_whole, is.next.within)) ∙ ap (λ x. wear_at x block) (taken_table stream r.blocks block));
       }) is.row_is ticks.next
 
-      pub passed_went : (o : Option ℕ) → r'.blocks ≡ moved_live o block t → ForSome o (λ q. q < row_count r.geometry) → IsStep row Passed before told after told' → Went r before told r' after told'
+      pub passed_went : (o : Option ℕ) → r'.blocks ≡ moved_live o block t → ForSome o (λ q. q < row_count r.geometry) → IsStep row r.next Passed before told after told' → Went r before told r' after told'
       passed_went o e within step = went_one r r' before after told told' block row Passed step s.blocks_of (record {
         is_block = is.next.within;
         was_good = is.next.good;

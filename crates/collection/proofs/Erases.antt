@@ -218,6 +218,7 @@ went_erase old new before after told told' block passed left step records h next
       | inr ne ↦ worn_there block passed left (wear_at old.blocks.table b) (wear_at new.blocks.table b) b ne (ap (λ (x : TableRow). x.wear) (h.made.others b ne).row) most
     ];
   };
+  numbers = tt;
 }
 
 most_by : (passed : Bool) (w v : ℕ) → v ≡ worn_by passed w → w ≤ most_wear → v ≤ most_wear

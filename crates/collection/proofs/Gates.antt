@@ -43,7 +43,7 @@ module _ (fault : Option EngineFault) where
   goes_put_noted a b x = record { goes = goes_noted a b x.goes; table = x.table; directory = x.directory; mapping = x.mapping; pin = x.pin }
 
   pub went_noted : (a b : Ram) (x y : Flash) (told told' : Option Recording) → Went a x told b y told' → Went a x told (record b { fault = fault }) y told'
-  went_noted a b x y told told' w = record { log = w.log; leads = w.leads; records = w.records; follows = w.follows; next = w.next; wears = w.wears }
+  went_noted a b x y told told' w = record { log = w.log; leads = w.leads; records = w.records; follows = w.follows; next = w.next; wears = w.wears; numbers = w.numbers }
 
   pub same_noted : (a b : Ram) (x y : Image) → IsSame a x b y → IsSame a x (record b { fault = fault }) y
   same_noted a b x y k = record { truth = true_noted None b y k.truth; array = k.array; leaves = k.leaves }

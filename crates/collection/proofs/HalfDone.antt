@@ -163,7 +163,7 @@ module _ (a b : Ram) (to : Option Pinned) where
   counts_from (Err Bus) k = k
 
   pub went_from : (x y : Flash) (told told' : Option Recording) → Went (pinned_to to a) x told b y told' → Went a x told b y told'
-  went_from x y told told' w = record { log = w.log; leads = w.leads; records = w.records; follows = w.follows; next = w.next; wears = w.wears }
+  went_from x y told told' w = record { log = w.log; leads = w.leads; records = w.records; follows = w.follows; next = w.next; wears = w.wears; numbers = w.numbers }
 
 pub cost_from : (a b : Ram) (to : Option Pinned) (flushing : Bool) (block : ℕ) (result : Result (Unit {0}) EngineFault) → CollectCosts flushing block (pinned_to to a) b result → CollectCosts flushing block a b result
 cost_from a b to flushing block (Ok u) k = record { mid = k.mid; ledger = ledger_from a k.mid to flushing k.ledger; none = k.none; erase = k.erase }

@@ -1,18 +1,17 @@
 -- Logs of an engine's operations.
 use Rattle.std.proofs.Common.{◌≡◌, ◌≢◌, inl, inr, ℕ, ◌+◌, ◌*◌, ◌/◌, ◌%◌, ◌<◌, min, Bool, true, not, List, [], ◌∷◌, ◌++◌, Option, Some, None, refl, ap, sym, ◌∙◌, subst, arith}
 use Rattle.std.proofs.lemmas.Bool.{cases_eq}
-use Rattle.std.proofs.lemmas.List.{append-nil}
 use Rattle.std.proofs.lemmas.Nat.{div-mul-add, mod-mul-add}
 use Rattle.page_layout.specs.declared.geometry.Geometry.{Geometry}
 use Rattle.page_layout.specs.Page.{Page}
-use Rattle.page_layout.specs.Flash.{Flash, Operation, Program}
+use Rattle.page_layout.specs.Flash.{Flash, Operation, Program, Erase}
 use Rattle.page_layout.specs.Recording.{Recording, Records}
 use Rattle.page_layout.proofs.FlashLemmas.{Leads-append, Leads-one}
-use Rattle.page_layout.proofs.RecordingLemmas.{records_join}
+use Rattle.page_layout.proofs.RecordingLemmas.{records_join, records_none}
 use Rattle.bad_blocks.specs.declared.table.TableRow.{TableRow}
 use Rattle.bad_blocks.specs.Table.{is_good, is_good_at, wear_at, most_wear}
 use Rattle.allocation.specs.State.{State, pointer_at}
-use Rattle.promises.specs.Log.{passed_erases_of}
+use Rattle.promises.specs.Log.{passed_erases_of, programs_in}
 use Rattle.promises.specs.Legal.{Account, account_at, noted, accounted, accounted_all, LegalFrom}
 use Rattle.promises.proofs.LogLemmas.{counts}
 use Rattle.promises.proofs.AccountLemmas.{length-accounted, accounted-same, accounted-other}
@@ -20,7 +19,7 @@ use Rattle.promises.proofs.LegalLemmas.{accounts_join, legal_append}
 use Rattle.onfi_cycles.specs.declared.nand.Outcome.{Outcome}
 use Rattle.onfi_cycles.specs.Outcomes.{is_passed}
 use Rattle.collection.specs.State.{Ram}
-use Rattle.collection.specs.Log.{IsAccounted, Follows, Went}
+use Rattle.collection.specs.Log.{IsAccounted, Follows, NumbersFrom, NumbersJoinLaw, Went}
 use Rattle.collection.specs.Results.{IsStep}
 use Rattle.collection.proofs.Blocks.{IsMade}
 
@@ -88,16 +87,28 @@ module _ (block row : ℕ) (p left : Page) (passed : Bool) (old new : State) (h 
 
 -- ---- logs
 
--- nothing was done: the record gained nothing
-pub records_none : (told : Option Recording) → Records told [] told
-records_none None = refl
-records_none (Some r) = ap (λ l. Some (record { image = r.image; log = l })) (sym (append-nil r.log))
+-- one log after another
+numbers_apart : (next : ℕ) (xs ys : List Operation) → NumbersFrom next (xs ++ ys) → NumbersFrom next xs × NumbersFrom (next + programs_in xs) ys
+numbers_apart next [] ys h = (tt, subst (λ n. NumbersFrom n ys) (let e : next ≡ next + 0 = omega arith in e) h)
+numbers_apart next (Program row page passed left ∷ xs) ys h =
+    let rest = numbers_apart (next + 1) xs ys h.1 in
+    ((h.0, rest.0), subst (λ n. NumbersFrom n ys) (let e : next + 1 + programs_in xs ≡ next + (programs_in xs + 1) = omega arith in e) rest.1)
+numbers_apart next (Erase block passed left ∷ xs) ys h = numbers_apart next xs ys h
+
+numbers_after : (next : ℕ) (xs ys : List Operation) → NumbersFrom next xs → NumbersFrom (next + programs_in xs) ys → NumbersFrom next (xs ++ ys)
+numbers_after next [] ys h k = subst (λ n. NumbersFrom n ys) (let e : next + 0 ≡ next = omega arith in e) k
+numbers_after next (Program row page passed left ∷ xs) ys h k =
+    (h.0, numbers_after (next + 1) xs ys h.1 (subst (λ n. NumbersFrom n ys) (let e : next + (programs_in xs + 1) ≡ next + 1 + programs_in xs = omega arith in e) k))
+numbers_after next (Erase block passed left ∷ xs) ys h k = numbers_after next xs ys h k
+
+pub numbers_join : NumbersJoinLaw
+numbers_join next xs ys = (numbers_apart next xs ys, λ h. numbers_after next xs ys h.0 h.1)
 
 pub went_same : (r : Ram) (s : Flash) (told : Option Recording) → Went r s told r s told
-went_same r s told = record { log = []; leads = refl; records = records_none told; follows = record { legal = λ accounts a. tt; accounted = λ accounts a. a }; next = omega arith; wears = record { worn = λ b most. omega arith } }
+went_same r s told = record { log = []; leads = refl; records = records_none told; follows = record { legal = λ accounts a. tt; accounted = λ accounts a. a }; next = omega arith; wears = record { worn = λ b most. omega arith }; numbers = tt }
 
 pub went_one : (old new : Ram) (before after : Flash) (told told' : Option Recording) (block row : ℕ) (outcome : Outcome)
-    → IsStep row outcome before told after told' → old.blocks.geometry ≡ old.geometry
+    → IsStep row old.next outcome before told after told' → old.blocks.geometry ≡ old.geometry
     → HasFollowed block (is_passed outcome) old.blocks new.blocks → row ≡ block * old.blocks.geometry.pages + pointer_at old.blocks block
     → new.next ≡ old.next + 1 → Went old before told new after told'
 went_one old new before after told told' block row outcome step same h row_is next = record {
@@ -112,6 +123,7 @@ went_one old new before after told told' block row outcome step same h row_is ne
       | inr ne ↦ (let e : wear_at new.blocks.table b ≡ wear_at old.blocks.table b = ap (λ (x : TableRow). x.wear) (h.made.others b ne).row in omega arith)
     ];
   };
+  numbers = (step.numbered, tt);
 }
 
 pub went_then : (a b c : Ram) (x y z : Flash) (rx ry rz : Option Recording) → b.geometry ≡ a.geometry → Went a x rx b y ry → Went b y ry c z rz → Went a x rx c z rz
@@ -132,4 +144,5 @@ went_then a b c x y z rx ry rz same v w =
             let second : wear_at c.blocks.table k ≡ min (wear_at b.blocks.table k + passed_erases_of w.log k) most_wear = w.wears.worn k (omega arith) in
             omega (arith, (counts a.geometry.pages k v.log w.log).passed_erases_at);
       };
+      numbers = numbers_after a.next v.log w.log v.numbers (subst (λ n. NumbersFrom n w.log) v.next w.numbers);
     }

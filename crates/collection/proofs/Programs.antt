@@ -1,5 +1,5 @@
 -- What one program does to the die, as its caller sees it.
-use Rattle.std.proofs.Common.{◌≡◌, ◌∙◌, ℕ, List, [], ◌∷◌, Option, Result, Ok, Err, Some, IfOk, OnOk, subst, sym}
+use Rattle.std.proofs.Common.{◌≡◌, ◌∙◌, ℕ, List, [], ◌∷◌, Option, Result, Ok, Err, Some, IfOk, IsSomeAnd, OnOk, refl, subst, sym}
 use Rattle.std.specs.Vec.{with_items}
 use Rattle.page_layout.specs.declared.geometry.Geometry.{Geometry}
 use Rattle.page_layout.specs.declared.record.Record.{Record}
@@ -16,10 +16,15 @@ use Rattle.collection.specs.declared.engine.Buffer.{Buffer}
 use Rattle.collection.specs.Safe.{IsBuffer}
 use Rattle.collection.specs.Results.{CanProgram, IsStep}
 
-pub stepped : (row : ℕ) (p : Page) (old new : Flash) (told told' : Option Recording) (H : Type 0) (result : Result Outcome BusFault) → IfOk result (λ o. H → Steps old (Program row p (is_passed o) (page_at new row)) new)
-    → IfOk result (λ o. H → Records told (Program row p (is_passed o) (page_at new row) ∷ []) told') → H → IfOk result (λ o. IsStep row o old told new told')
-stepped row p old new told told' H (Ok o) step records h = record { its = p; left = page_at new row; step = step h; records = records h }
-stepped row p old new told told' H (Err e) step records h = tt
+-- the sequence of a page with this record
+numbered_by : (p : Page) (r : Record) → record_of p ≡ Some r → IsSomeAnd (record_of p) (λ (x : Record). x.sequence ≡ r.sequence)
+numbered_by p r has = (let P : Option Record → Type 0 = λ o. IsSomeAnd o (λ (x : Record). x.sequence ≡ r.sequence) in subst P (sym has) refl)
+
+pub stepped : (row : ℕ) (p : Page) (r : Record) (old new : Flash) (told told' : Option Recording) (H : Type 0) (result : Result Outcome BusFault)
+    → record_of p ≡ Some r → IfOk result (λ o. H → Steps old (Program row p (is_passed o) (page_at new row)) new)
+    → IfOk result (λ o. H → Records told (Program row p (is_passed o) (page_at new row) ∷ []) told') → H → IfOk result (λ o. IsStep row r.sequence o old told new told')
+stepped row p r old new told told' H (Ok o) has step records h = record { its = p; left = page_at new row; numbered = numbered_by p r has; step = step h; records = records h }
+stepped row p r old new told told' H (Err e) has step records h = tt
 
 pub image_by : (g : Geometry) (old new : Flash) (H : Type 0) (result : Result Outcome BusFault) → new.geometry ≡ old.geometry → old.geometry ≡ g → OnOk result (H → IsWhole new) → H → OnOk result (IsImage g new.image)
 image_by g old new H (Ok o) same is whole h = (let P : Geometry → Type 0 = λ x. IsImage x new.image in subst P (same ∙ is) (whole h).image_whole)

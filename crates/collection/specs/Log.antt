@@ -1,6 +1,8 @@
 -- What went on at the die: a log of operations, and the blocks by its account.
-use Rattle.std.specs.Prelude.{◌≡◌, ℕ, ◌+◌, ◌<◌, ◌≤◌, min, not, true, List, length, Option}
-use Rattle.page_layout.specs.Flash.{Flash, Operation, Leads}
+use Rattle.std.specs.Prelude.{◌≡◌, ◌↔◌, ℕ, ◌+◌, ◌<◌, ◌≤◌, min, not, true, List, [], ◌∷◌, ◌++◌, length, Option, IsSomeAnd}
+use Rattle.page_layout.specs.declared.record.Record.{Record}
+use Rattle.page_layout.specs.Sound.{record_of}
+use Rattle.page_layout.specs.Flash.{Flash, Operation, Program, Erase, Leads}
 use Rattle.page_layout.specs.Recording.{Recording, Records}
 use Rattle.bad_blocks.specs.Table.{is_good_at, wear_at, most_wear}
 use Rattle.allocation.specs.State.{State, pointer_at}
@@ -23,6 +25,12 @@ pub record Follows (pages : ℕ) (log : List Operation) (old new : State) : Type
 pub record Wears (log : List Operation) (old new : State) : Type 0 where
   pub worn : (b : ℕ) → wear_at old.table b ≤ most_wear → wear_at new.table b ≡ min (wear_at old.table b + passed_erases_of log b) most_wear
 
+-- EACH PROGRAM TOOK THE NEXT SEQUENCE, from this one on: the page that was handed in has a record with it
+abbrev pub NumbersFrom : ℕ → List Operation → Type 0
+NumbersFrom next [] = Unit {0}
+NumbersFrom next (Program row page passed left ∷ log) = IsSomeAnd (record_of page) (λ (r : Record). r.sequence ≡ next) × NumbersFrom (next + 1) log
+NumbersFrom next (Erase block passed left ∷ log) = NumbersFrom next log
+
 -- There is such a log from the one state of the die to the other, and the record that the die tells has gained just it; each program in it took
 -- the next sequence, and each erase that passed is counted.
 pub record Went (old : Ram) (before : Flash) (told : Option Recording) (new : Ram) (after : Flash) (told' : Option Recording) : Type 0 where
@@ -32,3 +40,10 @@ pub record Went (old : Ram) (before : Flash) (told : Option Recording) (new : Ra
   pub follows : Follows old.geometry.pages log old.blocks new.blocks
   pub next : new.next ≡ old.next + programs_in log
   pub wears : Wears log old.blocks new.blocks
+  pub numbers : NumbersFrom old.next log
+
+-- ---- laws
+
+-- one log after another: the second goes on with the sequence that the first left
+abbrev pub NumbersJoinLaw : Type 0
+NumbersJoinLaw = (next : ℕ) (xs ys : List Operation) → NumbersFrom next (xs ++ ys) ↔ (NumbersFrom next xs × NumbersFrom (next + programs_in xs) ys)

@@ -1,5 +1,5 @@
 -- What the answers of the engine's functions say.
-use Rattle.std.specs.Prelude.{◌≡◌, ◌≢◌, ◌⊎◌, ℕ, ◌-◌, ◌/◌, ◌<◌, ◌≤◌, true, false, List, [], ◌∷◌, slice_set, Option, Some, None, Result, Ok, Err}
+use Rattle.std.specs.Prelude.{◌≡◌, ◌≢◌, ◌⊎◌, ℕ, ◌-◌, ◌/◌, ◌<◌, ◌≤◌, true, false, List, [], ◌∷◌, slice_set, Option, Some, None, Result, Ok, Err, IsSomeAnd}
 use Rattle.page_layout.specs.declared.geometry.Geometry.{Geometry}
 use Rattle.page_layout.specs.declared.record.Record.{Record}
 use Rattle.page_layout.specs.declared.record.Kind.{Kind}
@@ -41,10 +41,11 @@ pub record CanProgram (g : Geometry) (row : ℕ) (r : Record) (image : Image) : 
   pub below : AreBelow (marks image) r.sequence
   pub in_range : IsKeyOf g (key_of r)
 
--- a program of the row was one step of the die's log, and is what the record has gained
-pub record IsStep (row : ℕ) (outcome : Outcome) (old : Flash) (told : Option Recording) (new : Flash) (told' : Option Recording) : Type 0 where
+-- a program of the row, of a page with this sequence, was one step of the die's log, and is what the record has gained
+pub record IsStep (row sequence : ℕ) (outcome : Outcome) (old : Flash) (told : Option Recording) (new : Flash) (told' : Option Recording) : Type 0 where
   pub its : Page
   pub left : Page
+  pub numbered : IsSomeAnd (record_of its) (λ (r : Record). r.sequence ≡ sequence)
   pub step : Steps old (Program row its (is_passed outcome) left) new
   pub records : Records told (Program row its (is_passed outcome) left ∷ []) told'
 

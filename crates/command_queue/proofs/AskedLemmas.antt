@@ -7,12 +7,11 @@ use Rattle.page_layout.specs.Flash.{Flash, Operation}
 use Rattle.page_layout.specs.Recording.{Recording}
 use Rattle.page_layout.specs.Sound.{version_for}
 use Rattle.page_layout.proofs.FlashLemmas.{Leads-append}
-use Rattle.page_layout.proofs.RecordingLemmas.{records_join}
+use Rattle.page_layout.proofs.RecordingLemmas.{records_join, records_none}
 use Rattle.promises.specs.Step.{ArrayRun}
 use Rattle.promises.specs.Log.{passed_erases_of}
 use Rattle.collection.specs.Safe.{ram, image_in}
 use Rattle.collection.specs.Log.{Follows}
-use Rattle.collection.proofs.Logs.{records_none}
 use Rattle.bad_blocks.specs.Table.{wear_at, most_wear}
 use Rattle.promises.proofs.LogLemmas.{counts}
 use Rattle.command_queue.proofs.RunLemmas.{follows_then}

@@ -1,12 +1,12 @@
 -- What the events of a run say of the calls that they are.
-use Rattle.std.proofs.Common.{◌≡◌, ◌⊎◌, ℕ, Bool, true, false, not, ◌&&◌, List, [], ◌∷◌, ◌++◌, Option, Some, None, Ok, Err, inl, inr, sym, ap, subst, ◌∙◌, refl, append-nil}
+use Rattle.std.proofs.Common.{◌≡◌, ◌⊎◌, ℕ, Bool, true, false, not, ◌&&◌, List, [], ◌∷◌, ◌++◌, Option, Some, None, Ok, Err, inl, inr, sym, ap, subst, ◌∙◌, refl}
 use Rattle.std.specs.Prelude.{IsSome}
 use Rattle.page_layout.specs.declared.geometry.Geometry.{Geometry}
 use Rattle.page_layout.specs.Page.{Image}
 use Rattle.page_layout.specs.Array.{array_of}
 use Rattle.page_layout.specs.Flash.{Flash, Operation}
-use Rattle.page_layout.specs.Recording.{Recording, Records, noted}
-use Rattle.page_layout.proofs.RecordingLemmas.{records_join}
+use Rattle.page_layout.specs.Recording.{Recording, Records}
+use Rattle.page_layout.proofs.RecordingLemmas.{records_join, records_none}
 use Rattle.page_layout.proofs.VersionLemmas.{no_more_old}
 use Rattle.promises.specs.Step as step
 use Rattle.promises.specs.Run as runs
@@ -25,11 +25,6 @@ use Rattle.command_queue.specs.Tells.{die_in}
 use Rattle.command_queue.specs.Run.{AreFair, IsEventOf, HappensEach}
 use Rattle.command_queue.specs.Events.{LeavesEither, EachLeavesEither, EventTellsLaw, RunStopsLaw, RunRecordsLaw, StaleMemoryLaw, QuietMemoryLaw}
 use Rattle.command_queue.specs.Events.{ReadOnlyEventLaw, SpentEventLaw, LeftEventLaw, FlushEventLaw, ReadEventLaw, PinEventLaw, ImageEventLaw}
-
--- a record that has gained nothing
-none_more : (new old : Option Recording) → new ≡ old → new ≡ noted [] old
-none_more new None same = same
-none_more new (Some r) same = same ∙ ap (λ l. Some (record { image = r.image; log = l })) (sym (append-nil r.log))
 
 module _ {N : Type 0} (flash : N → Flash) (recorded : N → Option Recording) (honest : N → Bool) (failed erases : N → ℕ) where
   pub event_tells : EventTellsLaw flash recorded honest failed erases
@@ -62,7 +57,7 @@ module _ {N : Type 0} (flash : N → Flash) (recorded : N → Option Recording) 
   -- ---- the record
 
   pub run_records : RunRecordsLaw flash recorded honest failed erases
-  run_records old new [] [] same = none_more (recorded new.engine.nand) (recorded old.engine.nand) (ap (λ (d : Device N). recorded d.engine.nand) same)
+  run_records old new [] [] same = (ap (λ (d : Device N). recorded d.engine.nand) same) ∙ records_none (recorded old.engine.nand)
   run_records old new [] (x ∷ xs) never = absurd never
   run_records old new (event ∷ events) [] never = absurd never
   run_records old new (event ∷ events) (x ∷ xs) (mid, is, each) =

@@ -10,7 +10,7 @@ use Rattle.page_layout.specs.Recording.{Recording, Records}
 use Rattle.page_layout.specs.declared.record.Key.TheVariants.{Table}
 use Rattle.page_layout.specs.Sound.{version_for}
 use Rattle.page_layout.specs.Version.{is_old, AddsNoOld}
-use Rattle.collection.proofs.Logs.{records_none}
+use Rattle.page_layout.proofs.RecordingLemmas.{records_none}
 use Rattle.ftl_device.specs.Stopped.{SurvivesStops}
 use Rattle.page_layout.specs.Array.{array_of}
 use Rattle.bad_blocks.specs.Table.{wear_at, most_wear}

@@ -118,8 +118,16 @@ impl<B: ChipBus> ChipDriver<B> {
 }
 
 impl<B: ChipBus> NoisyNand for ChipDriver<B> {
-    ghost use Rattle.std.specs.Prelude.{◌++◌, Some};
+    ghost use Rattle.std.specs.Prelude.{◌≡◌, ◌<◌, ◌≤◌, ◌++◌, [], ◌∷◌, Some, false, true, length, take, IfOk, OnErr, OnOk};
+    ghost use Rattle.page_layout.specs.Counter.{HasRisen};
+    ghost use Rattle.page_layout.specs.Flash.{Erase, IsWhole, Program, Steps, block_at, page_at};
+    ghost use Rattle.page_layout.specs.Geometry.{row_count};
+    ghost use Rattle.page_layout.specs.Page.{page};
+    ghost use Rattle.page_layout.specs.Recording.{Records};
     ghost use Rattle.onfi_cycles.specs.Driver.{seen};
+    ghost use Rattle.onfi_cycles.specs.Outcomes.{is_passed};
+    ghost use Rattle.page_code.specs.Coded.{coded};
+    ghost use Rattle.corrected_nand.specs.Told.{gained_by};
     ghost use Rattle.onfi_cycles.specs.Sent.{SendsRead};
     ghost use Rattle.onfi_cycles.specs.Spelling.{read_cycles};
     ghost use Rattle.page_code.specs.Layout.{outer_bytes};
@@ -144,7 +152,29 @@ impl<B: ChipBus> NoisyNand for ChipDriver<B> {
         self.driver.read_page(row, body, outer)
     }
 
-    fn program(&mut self, row: u32, body: &[u8], outer: &[u8]) -> Result<Outcome, BusFault> {
+    /// Programs the page of a row with its codes. Its record gains the operation just where that was answered.
+    fn program(&mut self, row: u32, body: &[u8], outer: &[u8]) -> Result<Outcome, BusFault>
+        requires row_in { row < row_count self.old.geometry }
+        requires body_whole { length body.now ≡ self.old.geometry.data_bytes }
+        requires outer_whole { length outer.now ≡ outer_bytes self.old.geometry }
+        requires is_coded { page body.now outer.now ≡ coded self.old.geometry (page body.now (take self.old.geometry.spare_bytes outer.now)) }
+
+        // What every such chip promises.
+        ensures step { IfOk result (λ outcome. B.keeps self.old.driver.bus ≡ true →
+            Steps (seen self.old.geometry (B.chip self.old.driver.bus)) (Program row (page body.now (take self.old.geometry.spare_bytes outer.now)) (is_passed outcome) (page_at (seen self.new.geometry (B.chip self.new.driver.bus)) row))
+            (seen self.new.geometry (B.chip self.new.driver.bus))) }
+        ensures recorded { IfOk result (λ outcome. B.keeps self.old.driver.bus ≡ true →
+            Records (Some self.old.told) (Program row (page body.now (take self.old.geometry.spare_bytes outer.now)) (is_passed outcome) (page_at (seen self.new.geometry (B.chip self.new.driver.bus)) row) ∷ []) (Some self.new.told)) }
+        ensures whole { OnOk result (B.keeps self.old.driver.bus ≡ true → IsWhole (seen self.new.geometry (B.chip self.new.driver.bus))) }
+        ensures geometry { self.new.geometry ≡ self.old.geometry }
+        ensures honest { B.keeps self.new.driver.bus ≡ B.keeps self.old.driver.bus }
+        ensures calm { false ≡ false }
+        ensures failed { self.old.driver.failures ≤ self.new.driver.failures }
+        ensures rose { OnErr result (HasRisen self.old.driver.failures self.new.driver.failures) }
+
+        // Over any chip.
+        ensures told { self.new.told ≡ gained_by result (λ outcome. Program row (page body.now (take self.old.geometry.spare_bytes outer.now)) (is_passed outcome) (page_at (B.chip self.new.driver.bus) row)) self.old.told }
+    {
         let answer = self.driver.program(row, body, outer);
         self.history = DieHistory::of(&ProgrammedChip {
             before: &self.history,
@@ -158,7 +188,25 @@ impl<B: ChipBus> NoisyNand for ChipDriver<B> {
         answer
     }
 
-    fn erase(&mut self, block: u32) -> Result<Outcome, BusFault> {
+    /// Erases a block. Its record gains the operation just where that was answered.
+    fn erase(&mut self, block: u32) -> Result<Outcome, BusFault>
+        requires block_in { block < self.old.geometry.blocks }
+
+        // What every such chip promises.
+        ensures step { IfOk result (λ outcome. B.keeps self.old.driver.bus ≡ true →
+            Steps (seen self.old.geometry (B.chip self.old.driver.bus)) (Erase block (is_passed outcome) (block_at (seen self.new.geometry (B.chip self.new.driver.bus)) block)) (seen self.new.geometry (B.chip self.new.driver.bus))) }
+        ensures recorded { IfOk result (λ outcome. B.keeps self.old.driver.bus ≡ true →
+            Records (Some self.old.told) (Erase block (is_passed outcome) (block_at (seen self.new.geometry (B.chip self.new.driver.bus)) block) ∷ []) (Some self.new.told)) }
+        ensures whole { OnOk result (B.keeps self.old.driver.bus ≡ true → IsWhole (seen self.new.geometry (B.chip self.new.driver.bus))) }
+        ensures geometry { self.new.geometry ≡ self.old.geometry }
+        ensures honest { B.keeps self.new.driver.bus ≡ B.keeps self.old.driver.bus }
+        ensures calm { false ≡ false }
+        ensures failed { self.old.driver.failures ≤ self.new.driver.failures }
+        ensures rose { OnErr result (HasRisen self.old.driver.failures self.new.driver.failures) }
+
+        // Over any chip.
+        ensures told { self.new.told ≡ gained_by result (λ outcome. Erase block (is_passed outcome) (block_at (seen self.old.geometry (B.chip self.new.driver.bus)) block)) self.old.told }
+    {
         let answer = self.driver.erase(block);
         self.history = DieHistory::of(&ErasedChip {
             before: &self.history,

@@ -9,12 +9,12 @@ abbrev pub AlwaysTellsLaw : {Outer : Type 0} → (tells : Outer → Option Recor
 AlwaysTellsLaw {Outer} tells told = (outer : Outer) → tells outer ≡ Some (told outer)
 
 -- what is told of the bus is what its driver tells, or has ended
-abbrev pub Agrees : Recording → Option Recording → Type 0
-Agrees own behind = (behind ≡ None) ⊎ (behind ≡ Some own)
+abbrev pub TellsSame : Recording → Option Recording → Type 0
+TellsSame own behind = (behind ≡ None) ⊎ (behind ≡ Some own)
 
 -- and so it stays after each operation that both gain
 abbrev pub AgreeingLaw : Type 0
-AgreeingLaw = (own : Recording) (behind behind' : Option Recording) (op : Operation) → Agrees own behind → RecordsOrEnds behind (op ∷ []) behind' → Agrees (gained op own) behind'
+AgreeingLaw = (own : Recording) (behind behind' : Option Recording) (op : Operation) → TellsSame own behind → RecordsOrEnds behind (op ∷ []) behind' → TellsSame (gained op own) behind'
 
 -- the record of a die to which nothing was done yet tells of it
 abbrev pub UntouchedLaw : Type 0

@@ -13,7 +13,6 @@ pub mod MadeLemmas
 pub mod OpenedLemmas
 pub mod StoppedLemmas
 pub mod PowerLemmas
-pub mod KilledLemmas
 pub mod SyncLemmas
 pub mod ReadingLemmas
 pub mod GuardLemmas

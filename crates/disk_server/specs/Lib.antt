@@ -12,7 +12,6 @@ pub mod Open
 pub mod Made
 pub mod Opened
 -- what a kill leaves of it
-pub mod Killed
 -- what a loss of power leaves of it
 pub mod Power
 -- a disk that is only read

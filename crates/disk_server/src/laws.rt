@@ -4,7 +4,6 @@ ghost use Rattle.disk_server.specs.Synced.{CloseLaw, FlushLaw, OverLaw, SyncedLa
 ghost use Rattle.disk_server.specs.Laws.{BelowLaw, ClosedLaw, HoldsLaw, LastsLaw, LengthLaw, NoSpaceLaw, ReadOnlyLaw, SectorLaw, WrittenLaw};
 ghost use Rattle.disk_server.specs.Flat.{FlatLaw};
 ghost use Rattle.disk_server.specs.Guarded.{GuardedByteLaw, GuardedReadLaw, HealedLaw, UnkeptLaw};
-ghost use Rattle.disk_server.specs.Killed.{FoundAsItWasLaw, KilledChangeLaw, KilledFlushLaw, KilledTurnLaw, StoreTellsLaw};
 ghost use Rattle.disk_server.specs.Power.{FoundLaw, LeavesLaw};
 ghost use Rattle.disk_server.specs.Reading.{OnlyReadsLaw};
 ghost use Rattle.disk_server.specs.Reopened.{AnewLaw, GoneLaw, TermsLaw};
@@ -13,9 +12,8 @@ ghost use Rattle.disk_server.specs.Stopped.{OwnCacheLaw, UnwrittenCacheLaw};
 use crate::guarded::KeepsLost;
 use crate::sectors::Sectors;
 use crate::synced::{LastingDisk, Sequenced, Syncs};
-use file_die::{FileDie, Store, TellsFull};
-use onfi_cycles::{Driver, Nand};
-use page_layout::source::PageSource;
+use file_die::{Store, TellsFull};
+use onfi_cycles::Nand;
 
 /// A sector of a list of sectors is a range of their bytes: to give it is to give that range, and to replace it is to set that range.
 /// (This project's.)
@@ -89,20 +87,6 @@ pub fn fault_laws()
     ensures no_space { NoSpaceLaw }
     ensures read_only { ReadOnlyLaw }
     ensures closed { ClosedLaw }
-{}
-
-/// What is found of a disk whose server is killed inside a call, or whose die is stopped in it, where the device still holds its array after the whole call: the die's pages at each moment mount, with the bytes
-/// from before the call; or, of a change that was done, from after it. A flush and a turn lose nothing. It is said by what the record of the die gained. (This project's.)
-pub fn kill_laws<N: Nand>()
-    ensures change { KilledChangeLaw N.flash N.recorded N.honest N.calm N.failed }
-    ensures flush { KilledFlushLaw N.flash N.recorded N.honest N.calm N.failed }
-    ensures turn { KilledTurnLaw N.flash N.recorded N.honest N.calm N.erases N.failed }
-    ensures as_it_was { FoundAsItWasLaw N.flash N.recorded N.honest }
-{}
-
-/// The die over any store tells a record at each moment, and its pages are the store's: so what `kill_laws` says of a die is said of the pages of a store. (This project's.)
-pub fn store_laws<S: Store>()
-    ensures { StoreTellsLaw S.held ⟦<Driver<FileDie<S>> as PageSource>⟧.recorded }
 {}
 
 /// What a loss of power leaves of a disk in a store whose pages all lasted, as after a sync, where the die's cycles since then, done or failed,

@@ -49,7 +49,7 @@ tells_found (Err Bus) a b c d fault first next is of_read = tt
 module _ (c d : Ram) (fault : Option EngineFault) (is : d ≡ record c { fault = fault }) where
   pub went_found : (a : Ram) (s t u : Flash) (rs rt ru : Option Recording) → Went a s rs c t rt → u ≡ t → ru ≡ rt → Went a s rs d u ru
   went_found a s t u rs rt ru w same still =
-      let noted : Went a s rs (record c { fault = fault }) t rt = record { log = w.log; leads = w.leads; records = w.records; follows = w.follows; next = w.next; wears = w.wears } in
+      let noted : Went a s rs (record c { fault = fault }) t rt = record { log = w.log; leads = w.leads; records = w.records; follows = w.follows; next = w.next; wears = w.wears; numbers = w.numbers } in
       subst (λ x. Went a s rs d x ru) (sym same) (subst (λ x. Went a s rs d t x) (sym still) (subst (λ r. Went a s rs r t rt) (sym is) noted))
 
   truth_found : (x : Image) → IsTrue None c x → IsTrue None d x
@@ -109,7 +109,7 @@ module _ {N : Type 0} (e f : Engine N) (n : ℕ) (row : Option ℕ) (is : f ≡ 
   pub went_loaded : (flash : N → Flash) (recorded : N → Option Recording) (a : Ram) (s : Flash) (rs : Option Recording) → Went a s rs (ram e) (flash e.nand) (recorded e.nand) → Went a s rs (ram f) (flash f.nand) (recorded f.nand)
   went_loaded flash recorded a s rs w =
       let P : Engine N → Type 0 = λ x. Went a s rs (ram x) (flash x.nand) (recorded x.nand) in
-      subst P (sym is) (record { log = w.log; leads = w.leads; records = w.records; follows = w.follows; next = w.next; wears = w.wears })
+      subst P (sym is) (record { log = w.log; leads = w.leads; records = w.records; follows = w.follows; next = w.next; wears = w.wears; numbers = w.numbers })
 
   pub keeps_loaded : (flash : N → Flash) (g : Geometry) (before : Image) → IsRam (ram e) → IsRam (ram f) → KeepsArray g before (ram e) (image_in flash e) → IsTrue None (ram f) (image_in flash e) → KeepsArray g before (ram f) (image_in flash f)
   keeps_loaded flash g before s t kept truth =

@@ -254,7 +254,7 @@ module _ {N : Type 0} (flash : N → Flash) (e f : Engine N) (block : ℕ) (is :
       failed_is = omega arith;
       rose = λ bus. (let no : ⊥ = cc in absurd no);
       tells = omega arith;
-      went = λ is_honest ne. (let w = went_same (ram e) (flash e.nand) (recorded e.nand) in record { log = w.log; leads = w.leads; records = w.records; follows = w.follows; next = w.next; wears = w.wears });
+      went = λ is_honest ne. (let w = went_same (ram e) (flash e.nand) (recorded e.nand) in record { log = w.log; leads = w.leads; records = w.records; follows = w.follows; next = w.next; wears = w.wears; numbers = w.numbers });
       stops = λ is_honest k ne. stops_same flash recorded e was k.truth;
     }) safe)
 

@@ -2,12 +2,12 @@
 use Rattle.std.proofs.Common.{◌≡◌, inl, inr, ℕ, ◌/◌, Bool, List, [], ◌∷◌, ◌++◌, length, get_or, set, Option, Some, None, refl, sym, ◌∙◌, ap, subst, arith}
 use Rattle.std.specs.Prelude.{slice_get, unwrap_or, IsSome}
 use Rattle.std.proofs.lemmas.Bool.{cases_eq}
-use Rattle.std.proofs.lemmas.List.{length-set, append_assoc}
+use Rattle.std.proofs.lemmas.List.{append-nil, length-set, append_assoc}
 use Rattle.std.proofs.lemmas.Option.{get_or_from_slice_get}
 use Rattle.page_layout.specs.declared.geometry.Geometry.{Geometry}
 use Rattle.page_layout.specs.Page.{Page, Image, IsPage, IsImage}
 use Rattle.page_layout.specs.Flash.{Flash, Operation, Program, Erase, no_page, after, with_block, Steps, Leads, IsWhole}
-use Rattle.page_layout.specs.Recording.{Recording, noted, image_after, image_after_all, IsRecordOf, RecordStaysLaw, RecordsJoinLaw, EndsJoinLaw, ToldOnLaw, RanOn, RanOnLaw}
+use Rattle.page_layout.specs.Recording.{Recording, Records, noted, image_after, image_after_all, IsRecordOf, RecordStaysLaw, RecordsJoinLaw, EndsJoinLaw, ToldOnLaw, RanOn, RanOnLaw}
 use Rattle.page_layout.specs.StepLaws.{WholeStaysLaw}
 use Rattle.page_layout.proofs.ArrayLemmas.{slice_get-set_same}
 use Rattle.page_layout.proofs.FlashLemmas.{geometry-Steps, image-program, image-erase, program_other, erase_loses, with_block-inside, inside}
@@ -22,35 +22,40 @@ turns-erase : (s t : Flash) (block : ℕ) (passed : Bool) (left : List Page) →
 unfolding after
 turns-erase s t block passed left steps = ap (λ (u : Flash). length u.turns) steps.left ∙ length-set s.turns _ _
 
-whole_program : (s t : Flash) (row : ℕ) (p : Page) (passed : Bool) (left : Page) → Steps s (Program row p passed left) t → IsWhole s → IsImage s.geometry t.image
+whole_program : (s t : Flash) (row : ℕ) (p : Page) (passed : Bool) (left : Page) → Steps s (Program row p passed left) t → IsImage s.geometry s.image → IsImage s.geometry t.image
 whole_program s t row p passed left steps w =
     let now : t.image ≡ set s.image row left = image-program s t row p passed left steps in
     record {
-      rows = ap length now ∙ (length-set s.image row left ∙ w.image_whole.rows);
+      rows = ap length now ∙ (length-set s.image row left ∙ w.rows);
       pages = λ r q is. elim (cases_eq r row) [
         | inl same ↦
             let here : slice_get t.image row ≡ Some left = ap (λ i. slice_get i row) now ∙ slice_get-set_same s.image row left steps.lawful.in_range in
             subst (IsPage s.geometry) (ap (λ o. unwrap_or o left) (sym here ∙ (ap (slice_get t.image) (sym same) ∙ is))) steps.lawful.sized
-        | inr ne ↦ w.image_whole.pages r q (sym (program_other s t row r p left passed steps ne) ∙ is)
+        | inr ne ↦ w.pages r q (sym (program_other s t row r p left passed steps ne) ∙ is)
       ];
     }
 
-whole_erase : (s t : Flash) (block : ℕ) (passed : Bool) (left : List Page) → Steps s (Erase block passed left) t → IsWhole s → IsImage s.geometry t.image
+whole_erase : (s t : Flash) (block : ℕ) (passed : Bool) (left : List Page) → Steps s (Erase block passed left) t → IsImage s.geometry s.image → IsImage s.geometry t.image
 whole_erase s t block passed left steps w =
     let pages : ℕ = s.geometry.pages in
     let lost = erase_loses s t block passed left steps in
     let now : t.image ≡ with_block pages block left s.image = image-erase s t block passed left steps in
     record {
-      rows = lost.length_same ∙ w.image_whole.rows;
+      rows = lost.length_same ∙ w.rows;
       pages = λ r q is. elim (cases_eq (r / pages) block) [
         | inl here ↦
             let k = inside pages block r (omega (arith, s.geometry.limits.page_count.least)) here in
             let at : get_or t.image r no_page ≡ get_or left k.0 no_page =
             ap (λ i. get_or i r no_page) now ∙ (ap (λ n. get_or (with_block pages block left s.image) n no_page) k.2 ∙ with_block-inside pages block k.0 left s.image steps.lawful.size steps.lawful.in_image k.1) in
             subst (IsPage s.geometry) (sym at ∙ get_or_from_slice_get t.image r q no_page is) (steps.lawful.sized k.0 k.1)
-        | inr ne ↦ w.image_whole.pages r q (sym (lost.others r ne) ∙ is)
+        | inr ne ↦ w.pages r q (sym (lost.others r ne) ∙ is)
       ];
     }
+
+-- the image stays one of the die
+pub image_stays : (s t : Flash) (op : Operation) → Steps s op t → IsImage s.geometry s.image → IsImage s.geometry t.image
+image_stays s t (Program row p passed left) steps w = whole_program s t row p passed left steps w
+image_stays s t (Erase block passed left) steps w = whole_erase s t block passed left steps w
 
 whole_after : (s t : Flash) → t.geometry ≡ s.geometry → length t.turns ≡ length s.turns → IsImage s.geometry t.image → IsWhole s → IsWhole t
 whole_after s t same turns image w = record {
@@ -59,8 +64,8 @@ whole_after s t same turns image w = record {
 }
 
 pub whole_steps : (s t : Flash) (op : Operation) → Steps s op t → IsWhole s → IsWhole t
-whole_steps s t (Program row p passed left) steps w = whole_after s t (geometry-Steps s t (Program row p passed left) steps) (turns-program s t row p passed left steps) (whole_program s t row p passed left steps w) w
-whole_steps s t (Erase block passed left) steps w = whole_after s t (geometry-Steps s t (Erase block passed left) steps) (turns-erase s t block passed left steps) (whole_erase s t block passed left steps w) w
+whole_steps s t (Program row p passed left) steps w = whole_after s t (geometry-Steps s t (Program row p passed left) steps) (turns-program s t row p passed left steps) (whole_program s t row p passed left steps w.image_whole) w
+whole_steps s t (Erase block passed left) steps w = whole_after s t (geometry-Steps s t (Erase block passed left) steps) (turns-erase s t block passed left steps) (whole_erase s t block passed left steps w.image_whole) w
 
 pub whole_leads : WholeStaysLaw
 whole_leads a b [] leads w = subst IsWhole (sym leads) w
@@ -100,6 +105,11 @@ noted_stays s t log (Some r) leads is =
 pub record_stays : RecordStaysLaw
 record_stays s t log told told' leads is (inl none) = subst (IsRecordOf t) (sym none) tt
 record_stays s t log told told' leads is (inr on) = subst (IsRecordOf t) (sym on) (noted_stays s t log told leads is)
+
+-- nothing was done: the record gained nothing
+pub records_none : (told : Option Recording) → Records told [] told
+records_none None = refl
+records_none (Some r) = ap (λ l. Some (record { image = r.image; log = l })) (sym (append-nil r.log))
 
 noted_then : (a : Option Recording) (xs ys : List Operation) → noted ys (noted xs a) ≡ noted (xs ++ ys) a
 noted_then None xs ys = refl

@@ -1,10 +1,9 @@
 -- Images that a stop may leave.
 use Rattle.std.proofs.Common.{◌≡◌, ◌⊎◌, inl, inr, ℕ, List, [], ◌∷◌, ◌++◌, refl, sym, ◌∙◌, ap, subst, Option, Some, None}
-use Rattle.std.proofs.lemmas.List.{append-nil}
 use Rattle.page_layout.specs.declared.geometry.Geometry.{Geometry}
 use Rattle.page_layout.specs.Page.{Image, IsImage}
 use Rattle.page_layout.proofs.FlashLemmas.{Leads-append, geometry-Leads}
-use Rattle.page_layout.proofs.RecordingLemmas.{records_join}
+use Rattle.page_layout.proofs.RecordingLemmas.{records_join, records_none}
 use Rattle.page_layout.specs.Flash.{Flash, Operation, Program, Erase, Steps, Leads, after}
 use Rattle.page_layout.specs.Recording.{Recording, Records, image_after, image_after_all}
 use Rattle.promises.specs.Stop.{Tears, LeftBy, StopsIn, LeavesOnly, NoOperationLaw, TornInOneLaw, BetweenLaw, StopsJoinLaw, ImageLaw}
@@ -93,10 +92,6 @@ pub image_law : ImageLaw
 image_law old new log h = ap (λ (s : Flash). s.image) (leads_after old new log h) ∙ all-image old log old.geometry.pages refl
 
 -- ---- calls and their stops
-
-records_none : (told : Option Recording) → Records told [] told
-records_none None = refl
-records_none (Some r) = ap (λ l. Some (record { image = r.image; log = l })) (sym (append-nil r.log))
 
 -- a call that does nothing
 pub leaves_nothing : (die : Flash) (told : Option Recording) (is_so : Image → Type 0) → is_so die.image → LeavesOnly die die told told is_so

@@ -38,7 +38,7 @@ pub(crate) fn program_record<N: Nand>(
     ensures rose { OnErr result (HasRisen (N.failed nand.old) (N.failed nand.new)) }
     ensures spare { record_of (page body.now spare.new) ≡ Some written.now }
     ensures step { N.honest nand.old ≡ true →
-        IfOk result (λ outcome. IsStep row outcome (N.flash nand.old) (N.recorded nand.old) (N.flash nand.new) (N.recorded nand.new)) }
+        IfOk result (λ outcome. IsStep row written.now.sequence outcome (N.flash nand.old) (N.recorded nand.old) (N.flash nand.new) (N.recorded nand.new)) }
     ensures image { N.honest nand.old ≡ true → OnOk result (IsImage geometry.now (N.flash nand.new).image) }
     ensures means { N.honest nand.old ≡ true → CanProgram geometry.now row written.now (N.flash nand.old).image →
         IfOk result (λ outcome. ProgramMeans geometry.now written.now row body.now (is_passed outcome)

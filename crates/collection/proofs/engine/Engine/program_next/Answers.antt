@@ -63,7 +63,7 @@ returns-in-Ok-Passed-clause-acts g c =
           let after = g.N.PageSource.flash c.program_record.new.nand in
           let told = g.N.PageSource.recorded c.args.self.now.nand in
           let told' = g.N.PageSource.recorded c.program_record.new.nand in
-          let step = at_outcome (λ o. IsStep c.in-Some.row o before told after told') c.in-Ok-Passed.field-0 Passed (c.in-Ok-Passed.ensures.step honest) c.in-Ok-Passed.field-0-is in
+          let step = at_outcome (λ o. IsStep c.in-Some.row r.next o before told after told') c.in-Ok-Passed.field-0 Passed (c.in-Ok-Passed.ensures.step honest) c.in-Ok-Passed.field-0-is in
           passed_went c.of.result c.split_row-block.result.0 c.in-Some.row r t c.requires.safe.memory is _ (record { geometry = refl; directory = refl; mapping = refl; pin = refl; next = refl }) before after told told' c.args.old_row c.count_move.ensures c.requires.old_row step;
     }
 
@@ -109,14 +109,14 @@ returns-in-Ok-Passed-clause-truth g c = λ honest may.
     let is = taken_by r c.of.result row b t c.requires.safe.memory c.in-Some.ensures.some c.split_row-block.ensures.block_is in
     let told = g.N.PageSource.recorded c.args.self.now.nand in
     let told' = g.N.PageSource.recorded c.program_record.new.nand in
-    let step = at_outcome (λ o. IsStep row o before told after told') c.in-Ok-Passed.field-0 Passed (c.in-Ok-Passed.ensures.step honest) c.in-Ok-Passed.field-0-is in
+    let step = at_outcome (λ o. IsStep row r.next o before told after told') c.in-Ok-Passed.field-0 Passed (c.in-Ok-Passed.ensures.step honest) c.in-Ok-Passed.field-0-is in
     let can = may_program c.of.result b row r t c.requires.safe.memory is c.args.kind c.args.number c.args.old_row c.args.self.now.page.body.items before.image may c.requires.key c.wear.result in
     let means = at_outcome (λ o. ProgramMeans r.geometry written row c.deref.result.now (is_passed o) before.image after.image) c.in-Ok-Passed.field-0 Passed (c.in-Ok-Passed.ensures.means honest can) c.in-Ok-Passed.field-0-is in
     let writes = subst (λ bytes. Writes r.geometry written row bytes before.image after.image) c.deref.ensures.value means in
     let whole = c.in-Ok-Passed.ensures.image honest in
     passed_put c.of.result b row r t c.requires.safe.memory is c.args.kind c.args.number c.args.old_row c.args.self.now.page.body.items before.image
     may c.requires.key _ (record { geometry = refl; directory = refl; mapping = refl; pin = refl; next = refl }) after.image whole
-    (step_others row Passed before after told told' step) c.wear.result (c.wear.ensures.is ∙ ap (λ x. wear_at x b) c.table.ensures)
+    (step_others row r.next Passed before after told told' step) c.wear.result (c.wear.ensures.is ∙ ap (λ x. wear_at x b) c.table.ensures)
     c.count_move.ensures c.requires.old_row writes
 
 -- ---- it failed
@@ -143,7 +143,7 @@ returns-in-Ok-Failed-clause-acts g c =
           let after = g.N.PageSource.flash c.program_record.new.nand in
           let told = g.N.PageSource.recorded c.args.self.now.nand in
           let told' = g.N.PageSource.recorded c.program_record.new.nand in
-          let step = at_outcome (λ o. IsStep c.in-Some.row o before told after told') c.in-Ok-Failed.field-0 Failed (c.in-Ok-Failed.ensures.step honest) c.in-Ok-Failed.field-0-is in
+          let step = at_outcome (λ o. IsStep c.in-Some.row r.next o before told after told') c.in-Ok-Failed.field-0 Failed (c.in-Ok-Failed.ensures.step honest) c.in-Ok-Failed.field-0-is in
           failed_went c.of.result c.split_row-block.result.0 c.in-Some.row r t c.requires.safe.memory is _ (record { geometry = refl; directory = refl; mapping = refl; pin = refl; next = refl }) before after told told' c.retire.ensures.is step;
     }
 
@@ -173,13 +173,13 @@ returns-in-Ok-Failed-clause-truth g c = λ honest may.
     let is = taken_by r c.of.result row b t c.requires.safe.memory c.in-Some.ensures.some c.split_row-block.ensures.block_is in
     let told = g.N.PageSource.recorded c.args.self.now.nand in
     let told' = g.N.PageSource.recorded c.program_record.new.nand in
-    let step = at_outcome (λ o. IsStep row o before told after told') c.in-Ok-Failed.field-0 Failed (c.in-Ok-Failed.ensures.step honest) c.in-Ok-Failed.field-0-is in
+    let step = at_outcome (λ o. IsStep row r.next o before told after told') c.in-Ok-Failed.field-0 Failed (c.in-Ok-Failed.ensures.step honest) c.in-Ok-Failed.field-0-is in
     let can = may_program c.of.result b row r t c.requires.safe.memory is c.args.kind c.args.number c.args.old_row c.args.self.now.page.body.items before.image may c.requires.key c.wear.result in
     let keeps = at_outcome (λ o. ProgramMeans r.geometry written row c.deref.result.now (is_passed o) before.image after.image) c.in-Ok-Failed.field-0 Failed (c.in-Ok-Failed.ensures.means honest can) c.in-Ok-Failed.field-0-is in
     let whole = c.in-Ok-Failed.ensures.image honest in
     failed_kept c.of.result b row r t c.requires.safe.memory is c.args.kind c.args.number c.args.old_row c.args.self.now.page.body.items before.image
     may c.requires.key _ (record { geometry = refl; directory = refl; mapping = refl; pin = refl; next = refl }) after.image whole
-    (step_others row Failed before after told told' step) c.retire.ensures.is keeps
+    (step_others row r.next Failed before after told told' step) c.retire.ensures.is keeps
 
 -- ---- the die answered nothing
 

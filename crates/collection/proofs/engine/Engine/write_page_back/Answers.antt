@@ -90,5 +90,5 @@ returns-clause-acts g c =
       calm_is = a.calm_is;
       failed_is = a.failed_is;
       rose = λ e. absurd (ok_not_bus _ e);
-      went = λ known ne. (let w = a.went known (ok_not_bus _) in record { log = w.log; leads = w.leads; records = w.records; follows = w.follows; next = w.next; wears = w.wears });
+      went = λ known ne. (let w = a.went known (ok_not_bus _) in record { log = w.log; leads = w.leads; records = w.records; follows = w.follows; next = w.next; wears = w.wears; numbers = w.numbers });
     }

@@ -21,11 +21,11 @@ use Rattle.ftl_device.specs.Changes.{Logs, Refuses}
 use Rattle.ftl_device.specs.Stopped.{Survives, changes_sector}
 use Rattle.disk_server.specs.Flat.{flat}
 use Rattle.disk_server.specs.Disk.{contents_of, change_answer}
-use Rattle.disk_server.specs.Killed.{AreFoundIn, IsCall, MountsFor, bytes_found, KilledChangeLaw, KilledFlushLaw, KilledTurnLaw, FoundAsItWasLaw, StoreTellsLaw}
+use Rattle.disk_laws.specs.Killed.{AreFoundIn, HoldsThrough, MountsFor, bytes_found, KilledChangeLaw, KilledFlushLaw, KilledTurnLaw, FoundAsItWasLaw, StoreTellsLaw}
 use Rattle.disk_server.proofs.Calls.{no_bus}
 use Rattle.disk_server.proofs.Holding.{parts, held}
 
-module _ {N : Type 0} (flash : N → Flash) (recorded : N → Option Recording) (honest : N → Bool) (failed : N → ℕ) (old new : Device N) (found : Image) (call : IsCall flash honest old new) (at : AreFoundIn flash recorded old new found) where
+module _ {N : Type 0} (flash : N → Flash) (recorded : N → Option Recording) (honest : N → Bool) (failed : N → ℕ) (old new : Device N) (found : Image) (call : HoldsThrough flash honest old new) (at : AreFoundIn flash recorded old new found) where
   -- what the call may leave by its own log is what it may leave by its record
   survives : (command : Command) (answer : Result (Unit {0}) DeviceFault) → Logs flash recorded command old answer new
       → Survives old.engine.geometry old.engine.mapping.capacity command answer (flash old.engine.nand).image (flash new.engine.nand).image found

@@ -1,5 +1,5 @@
-use Rattle.disk_server.proofs.KilledLemmas.{found_as_it_was_law, killed_change_law, killed_flush_law, killed_turn_law}
-use Rattle.disk_server.proofs.laws.kill_laws.Goals as goal
+use Rattle.disk_laws.proofs.KilledLemmas.{found_as_it_was_law, killed_change_law, killed_flush_law, killed_turn_law}
+use Rattle.disk_laws.proofs.kill_laws.Goals as goal
 
 pub returns : goal.returns
 returns g c =

@@ -32,7 +32,7 @@ abbrev pub bytes_found : {N : Type 0} → Device N → Image → List ℕ
 bytes_found d found = flat (array_of d.engine.geometry found)
 
 -- a call of the disk, after which its device still holds its array
-pub record IsCall {N : Type 0} (flash : N → Flash) (honest : N → Bool) (old new : Device N) : Type 0 where
+pub record HoldsThrough {N : Type 0} (flash : N → Flash) (honest : N → Bool) (old new : Device N) : Type 0 where
   pub was : IsDisk flash honest old
   pub is : IsDisk flash honest new
   pub held : holds honest old ≡ true
@@ -42,19 +42,19 @@ pub record IsCall {N : Type 0} (flash : N → Flash) (honest : N → Bool) (old 
 
 -- A CHANGE IS THERE WHOLE OR NOT AT ALL: killed at any moment of it, the disk mounts, with its bytes from before the change; or, of one that was done, from after it
 abbrev pub KilledChangeLaw : {N : Type 0} → (N → Flash) → (N → Option Recording) → (honest calm : N → Bool) → (failed : N → ℕ) → Type 0
-KilledChangeLaw {N} flash recorded honest calm failed = (old new : Device N) (n : ℕ) (command : Command) (result : Result (Unit {0}) DiskFault) (found : Image) → IsCall flash honest old new
+KilledChangeLaw {N} flash recorded honest calm failed = (old new : Device N) (n : ℕ) (command : Command) (result : Result (Unit {0}) DiskFault) (found : Image) → HoldsThrough flash honest old new
     → AsksChange flash recorded honest calm failed n command old result new → AreFoundIn flash recorded old new found
     → MountsFor old found
     × ((bytes_found old found ≡ (contents_of flash honest old).bytes) ⊎ ((result ≡ Ok tt) × (bytes_found old found ≡ (contents_of flash honest new).bytes)))
 
 -- A FLUSH AND A TURN LOSE NOTHING: killed at any moment of one, the disk mounts, with its bytes
 abbrev pub KilledFlushLaw : {N : Type 0} → (N → Flash) → (N → Option Recording) → (honest calm : N → Bool) → (failed : N → ℕ) → Type 0
-KilledFlushLaw {N} flash recorded honest calm failed = (old new : Device N) (result : Result (Unit {0}) DiskFault) (found : Image) → IsCall flash honest old new
+KilledFlushLaw {N} flash recorded honest calm failed = (old new : Device N) (result : Result (Unit {0}) DiskFault) (found : Image) → HoldsThrough flash honest old new
     → AsksFlush flash recorded honest calm failed old result new → AreFoundIn flash recorded old new found
     → MountsFor old found × (bytes_found old found ≡ (contents_of flash honest old).bytes)
 
 abbrev pub KilledTurnLaw : {N : Type 0} → (N → Flash) → (N → Option Recording) → (honest calm : N → Bool) → (erases failed : N → ℕ) → Type 0
-KilledTurnLaw {N} flash recorded honest calm erases failed = (old new : Device N) (result : Result (Unit {0}) DiskFault) (found : Image) → IsCall flash honest old new
+KilledTurnLaw {N} flash recorded honest calm erases failed = (old new : Device N) (result : Result (Unit {0}) DiskFault) (found : Image) → HoldsThrough flash honest old new
     → AsksTurn flash recorded honest calm erases failed old result new → AreFoundIn flash recorded old new found
     → MountsFor old found × (bytes_found old found ≡ (contents_of flash honest old).bytes)
 

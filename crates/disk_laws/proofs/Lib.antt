@@ -1,0 +1,2 @@
+mod FitLemmas
+mod KilledLemmas

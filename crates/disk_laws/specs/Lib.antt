@@ -1,0 +1,2 @@
+pub mod Killed
+pub mod Lost

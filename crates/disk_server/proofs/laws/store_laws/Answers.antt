@@ -1,5 +1,0 @@
-use Rattle.disk_server.proofs.KilledLemmas.{store_tells}
-use Rattle.disk_server.proofs.laws.store_laws.Goals as goal
-
-pub returns : goal.returns
-returns g c = store_tells g.S.Store.held
