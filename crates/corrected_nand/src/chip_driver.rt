@@ -118,7 +118,7 @@ impl<B: ChipBus> ChipDriver<B> {
 }
 
 impl<B: ChipBus> NoisyNand for ChipDriver<B> {
-    ghost use Rattle.std.specs.Prelude.{◌≡◌, ◌<◌, ◌≤◌, ◌++◌, [], ◌∷◌, Some, false, true, length, take, IfOk, OnErr, OnOk};
+    ghost use Rattle.std.specs.Prelude.{◌≡◌, ◌<◌, ◌≤◌, ◌++◌, [], ◌∷◌, Some, true, length, take, IfOk, OnErr, OnOk};
     ghost use Rattle.page_layout.specs.Counter.{HasRisen};
     ghost use Rattle.page_layout.specs.Flash.{Erase, IsWhole, Program, Steps, block_at, page_at};
     ghost use Rattle.page_layout.specs.Geometry.{row_count};
@@ -126,11 +126,10 @@ impl<B: ChipBus> NoisyNand for ChipDriver<B> {
     ghost use Rattle.page_layout.specs.Recording.{Records};
     ghost use Rattle.onfi_cycles.specs.Driver.{seen};
     ghost use Rattle.onfi_cycles.specs.Outcomes.{is_passed};
-    ghost use Rattle.page_code.specs.Coded.{coded};
     ghost use Rattle.corrected_nand.specs.Told.{gained_by};
     ghost use Rattle.onfi_cycles.specs.Sent.{SendsRead};
     ghost use Rattle.onfi_cycles.specs.Spelling.{read_cycles};
-    ghost use Rattle.page_code.specs.Layout.{outer_bytes};
+    ghost use Rattle.page_code.specs.Layout.{coded, outer_bytes};
 
     ghost flash = { λ c. seen c.geometry (B.chip c.driver.bus) };
 
@@ -168,7 +167,6 @@ impl<B: ChipBus> NoisyNand for ChipDriver<B> {
         ensures whole { OnOk result (B.keeps self.old.driver.bus ≡ true → IsWhole (seen self.new.geometry (B.chip self.new.driver.bus))) }
         ensures geometry { self.new.geometry ≡ self.old.geometry }
         ensures honest { B.keeps self.new.driver.bus ≡ B.keeps self.old.driver.bus }
-        ensures calm { false ≡ false }
         ensures failed { self.old.driver.failures ≤ self.new.driver.failures }
         ensures rose { OnErr result (HasRisen self.old.driver.failures self.new.driver.failures) }
 
@@ -200,7 +198,6 @@ impl<B: ChipBus> NoisyNand for ChipDriver<B> {
         ensures whole { OnOk result (B.keeps self.old.driver.bus ≡ true → IsWhole (seen self.new.geometry (B.chip self.new.driver.bus))) }
         ensures geometry { self.new.geometry ≡ self.old.geometry }
         ensures honest { B.keeps self.new.driver.bus ≡ B.keeps self.old.driver.bus }
-        ensures calm { false ≡ false }
         ensures failed { self.old.driver.failures ≤ self.new.driver.failures }
         ensures rose { OnErr result (HasRisen self.old.driver.failures self.new.driver.failures) }
 
