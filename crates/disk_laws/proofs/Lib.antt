@@ -1,2 +1,6 @@
 mod FitLemmas
+mod GrowLemmas
+mod LogLemmas
+mod LossLemmas
+mod RunLemmas
 mod KilledLemmas

@@ -1,2 +1,3 @@
 pub mod Killed
 pub mod Lost
+pub mod Runs

@@ -2,6 +2,8 @@
 //! has nothing proved again. Each function does nothing: its contract is the law.
 #![tactic(auto)]
 
+ghost use Rattle.disk_laws.specs.Lost.{AfterEraseLaw, AllGoneLaw, AllThereLaw};
+ghost use Rattle.disk_laws.specs.Runs.{KilledRunLaw, LostRunLaw, OneCallLaw};
 ghost use Rattle.disk_laws.specs.Killed.{FoundAsItWasLaw, KilledChangeLaw, KilledFlushLaw, KilledTurnLaw, StoreTellsLaw};
 
 use file_die::{FileDie, Store};
@@ -20,4 +22,21 @@ pub fn kill_laws<N: Nand>()
 /// The die over any store tells a record at each moment, and its pages are the store's: so what `kill_laws` says of a die is said of the pages of a store. (This project's.)
 pub fn store_laws<S: Store>()
     ensures { StoreTellsLaw S.held ⟦<Driver<FileDie<S>> as PageSource>⟧.recorded }
+{}
+
+/// What a loss of power may leave of a die whose erases stand between two syncs, against what a kill may: all that a kill may leave, and more before the first erase; behind an erase nothing that was there as it ended is
+/// lost. (This project.)
+pub fn loss_laws()
+    ensures there { AllThereLaw }
+    ensures erased { AfterEraseLaw }
+    ensures gone { AllGoneLaw }
+{}
+
+/// What is found of a disk where calls of its device, one after another, are cut short at any moment. Killed, or stopped: it mounts, and each call that had ended is in it, and the one at hand whole or not at all. After a
+/// loss of power, since all pages lasted: it is one array, each sector has the bytes that it had then or after one of the calls since, and it mounts with each cache that has room for what is stale. It is said of a device
+/// that holds its array through each call, by what the record of its die gained. (This project.)
+pub fn run_laws<N: Nand>()
+    ensures one { OneCallLaw (record { flash = N.flash; recorded = N.recorded; honest = N.honest; calm = N.calm; programs = N.programs; erases = N.erases; failed = N.failed }) }
+    ensures killed { KilledRunLaw (record { flash = N.flash; recorded = N.recorded; honest = N.honest; calm = N.calm; programs = N.programs; erases = N.erases; failed = N.failed }) }
+    ensures lost { LostRunLaw (record { flash = N.flash; recorded = N.recorded; honest = N.honest; calm = N.calm; programs = N.programs; erases = N.erases; failed = N.failed }) }
 {}

@@ -1,5 +1,5 @@
 -- A DEVICE AS SECTORS OF A DISK: whether it still holds its array, and the array as bytes.
-use Rattle.std.specs.Prelude.{◌≡◌, ◌≢◌, ◌⊎◌, ◌≤◌, ◌-◌, ◌*◌, ◌^◌, ◌==◌, ◌&&◌, not, ℕ, Bool, true, false, List, [], replicate, Option, None, Result, Ok, Err, OnOk, OnErr, if◌then◌else◌}
+use Rattle.std.specs.Prelude.{◌≡◌, ◌≢◌, ◌⊎◌, ◌≤◌, ◌+◌, ◌-◌, ◌*◌, ◌^◌, ◌==◌, ◌&&◌, not, ℕ, Bool, true, false, List, [], replicate, Option, None, Result, Ok, Err, OnOk, OnErr, if◌then◌else◌}
 use Rattle.std.specs.Option.{is_none}
 use Rattle.page_layout.specs.Array.{zeros}
 use Rattle.page_layout.specs.Flash.{Flash}
@@ -7,7 +7,9 @@ use Rattle.page_layout.specs.OnlyReads.{OnlyReads}
 use Rattle.page_layout.specs.Recording.{Recording}
 use Rattle.promises.specs.Step as step
 use Rattle.promises.specs.Step.{Command, Flush, Turn}
+use Rattle.mapping_cache.specs.Mapping.{HasLimitsOf}
 use Rattle.allocation.specs.State.{free_count}
+use Rattle.image_check.specs.Mountable.{IsMountable}
 use Rattle.collection.specs.Collect.{HasAiling, HasNoneAiling}
 use Rattle.collection.specs.Safe.{ram}
 use Rattle.nbd_stream.specs.declared.fault.DiskFault.{DiskFault}
@@ -97,6 +99,21 @@ pub record AsksChange {N : Type 0} (flash : N → Flash) (recorded : N → Optio
   pub answer : Result (Unit {0}) DeviceFault
   pub told : result ≡ change_answer answer
   pub changes : Changes flash recorded honest calm failed n command old answer new
+  pub disk : IsDisk flash honest new
+
+-- A DIE IS LEFT AS IT WAS: it tells what it told, and mounts
+pub record LeavesDie {N : Type 0} (flash : N → Flash) (recorded : N → Option Recording) (old new : Device N) : Type 0 where
+  pub die_same : flash new.engine.nand ≡ flash old.engine.nand
+  pub told_same : recorded new.engine.nand ≡ recorded old.engine.nand
+  pub mountable : old.engine.mapping.capacity + old.engine.geometry.pages ≤ 65536
+      → IsMountable old.engine.geometry (old.engine.mapping.capacity + old.engine.geometry.pages) (flash new.engine.nand).image
+
+-- or a read: its die is asked for reads, and programs and erases nothing; where the device holds its array before it and after it, the die is left as it was
+pub record AsksRead {N : Type 0} (flash : N → Flash) (recorded : N → Option Recording) (honest calm : N → Bool) (programs erases failed : N → ℕ) (old new : Device N) : Type 0 where
+  pub only_reads : OnlyReads flash honest calm programs erases failed old.engine.nand new.engine.nand
+  pub limits : HasLimitsOf old.engine.mapping new.engine.mapping
+  pub disk : IsDisk flash honest new
+  pub leaves : holds honest old ≡ true → holds honest new ≡ true → LeavesDie flash recorded old new
 
 -- or a sector to be cleared: a read that gave zeros, and nothing else; or a read that did not, or failed, and then a trim
 pub record AsksClear {N : Type 0} (flash : N → Flash) (recorded : N → Option Recording) (honest calm : N → Bool) (programs erases failed : N → ℕ) (n : ℕ) (old : Device N) (result : Result (Unit {0}) DiskFault) (new : Device N)
@@ -105,7 +122,7 @@ pub record AsksClear {N : Type 0} (flash : N → Flash) (recorded : N → Option
   pub answer : Result (Unit {0}) DiskFault
   pub given : List ℕ
   pub read : PerformsTask (contents_of flash honest) (holds honest) (λ d. false) (Read (n * old.engine.geometry.data_bytes) old.engine.geometry.data_bytes) [] old (answer_from answer given) mid
-  pub only_reads : OnlyReads flash honest calm programs erases failed old.engine.nand mid.engine.nand
+  pub asks : AsksRead flash recorded honest calm programs erases failed old mid
   pub trims : ((answer ≡ Ok tt) × (given ≡ replicate old.engine.geometry.data_bytes 0) × (result ≡ Ok tt) × (new ≡ mid))
       ⊎ (((answer ≡ Ok tt → given ≢ replicate old.engine.geometry.data_bytes 0) × AsksChange flash recorded honest calm failed n (step.Trim n) mid result new))
 
@@ -120,6 +137,7 @@ pub record AsksFlush {N : Type 0} (flash : N → Flash) (recorded : N → Option
   pub answer : Result (Unit {0}) DeviceFault
   pub told : result ≡ flush_answer answer
   pub upkeeps : Upkeeps flash recorded honest calm failed Flush old answer new
+  pub disk : IsDisk flash honest new
 
 -- or a turn, and where the device held its array, what the turn did
 pub record AsksTurn {N : Type 0} (flash : N → Flash) (recorded : N → Option Recording) (honest calm : N → Bool) (erases failed : N
@@ -127,6 +145,7 @@ pub record AsksTurn {N : Type 0} (flash : N → Flash) (recorded : N → Option 
   pub answer : Result (Unit {0}) DeviceFault
   pub told : result ≡ rest_answer answer
   pub upkeeps : Upkeeps flash recorded honest calm failed Turn old answer new
+  pub disk : IsDisk flash honest new
   pub turned : OnOk answer (HasTurned (ram old.engine) (ram new.engine))
   pub idle : HasNoneAiling (ram old.engine).blocks → old.engine.pinned ≡ None → 12 ≤ free_count (ram old.engine).blocks → OnOk answer (new.engine ≡ old.engine)
   pub quiet : holds honest old ≡ true → OnOk answer (IsQuiet erases old.engine new.engine)

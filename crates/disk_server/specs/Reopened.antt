@@ -1,7 +1,6 @@
 -- THE DEVICE OF A STORE, WHICH IS OPENED ANEW WHERE THE STORE WAS FULL.
 use Rattle.std.specs.Prelude.{◌≡◌, ◌≢◌, ◌⊎◌, ◌<◌, ◌≤◌, ◌*◌, ◌^◌, ◌&&◌, not, ℕ, Bool, true, false, List, [], length, replicate, Option, Some, None, Result, Ok, Err}
 use Rattle.onfi_cycles.specs.Driver.{DriverState}
-use Rattle.page_layout.specs.OnlyReads.{OnlyReads}
 use Rattle.promises.specs.Step.{Command}
 use Rattle.file_die.specs.declared.die.SyncWhen.{SyncWhen}
 use Rattle.file_die.specs.Die.{FileState}
@@ -13,7 +12,7 @@ use Rattle.nbd_stream.specs.declared.reply.RequestError.{RequestError}
 use Rattle.nbd_stream.specs.declared.task.Task.TheVariants.{Read}
 use Rattle.nbd_stream.specs.Disk.{Contents, PerformsTask}
 use Rattle.disk_server.specs.declared.opened.OpenStoreFault.{OpenStoreFault}
-use Rattle.disk_server.specs.Disk.{AsksChange, AsksClear, AsksFlush, AsksTurn, contents_of, holds, takes_changes}
+use Rattle.disk_server.specs.Disk.{AsksChange, AsksClear, AsksFlush, AsksRead, AsksTurn, contents_of, holds, takes_changes}
 use Rattle.disk_server.specs.Opened.{IsUnopened, SyncsWhen, always_in, bytes_of, flash_in, flash_of, is_honest_in, told_in}
 
 -- its device, where one is there; its sectors; what was next as its device stopped; whether it was opened anew; and how it is: with a cache of so many entries, and by when its die syncs its store
@@ -186,7 +185,7 @@ rests_of held honest = AsksTurn (flash_in held) told_in (is_honest_in honest) al
 
 -- a read: its die is asked for reads, and programs and erases nothing
 abbrev pub reads_of : {S : Type 0} → (S → Held) → (honest : S → Bool) → Device (DriverState (FileState S)) → Device (DriverState (FileState S)) → Type 0
-reads_of held honest old new = OnlyReads (flash_in held) (is_honest_in honest) always_in (λ d. d.programs) (λ d. d.erases) (λ d. d.failures) old.engine.nand new.engine.nand
+reads_of held honest = AsksRead (flash_in held) told_in (is_honest_in honest) always_in (λ d. d.programs) (λ d. d.erases) (λ d. d.failures)
 
 -- a flush
 abbrev pub flushes_of : {S : Type 0} → (S → Held) → (honest : S → Bool) → Device (DriverState (FileState S)) → Result (Unit {0}) DiskFault → Device (DriverState (FileState S)) → Type 0

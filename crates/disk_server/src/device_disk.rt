@@ -78,12 +78,11 @@ impl<N: Nand> DeviceDisk<N> {
 
 impl<N: Nand> Sectors for DeviceDisk<N> {
     ghost use Rattle.std.specs.Prelude.{◌≡◌, ◌<◌, ◌*◌, ◌↔◌, false, [], length, true, Err, IsOk, IsSome, OnErr};
-    ghost use Rattle.page_layout.specs.OnlyReads.{OnlyReads};
     ghost use Rattle.promises.specs.Step.{Write, Trim};
     ghost use Rattle.ftl_device.specs.Calls.{stop_of};
     ghost use Rattle.nbd_stream.specs.Disk.{Idles, PerformsTask, answer_from};
     ghost use Rattle.disk_server.specs.Asked.{SparesZeros};
-    ghost use Rattle.disk_server.specs.Disk.{contents_of, holds, takes_changes, AsksChange, AsksClear, AsksFlush, AsksTurn, ChangesOne, KeepsOnError};
+    ghost use Rattle.disk_server.specs.Disk.{contents_of, holds, takes_changes, AsksChange, AsksClear, AsksFlush, AsksRead, AsksTurn, ChangesOne, KeepsOnError};
 
     ghost contents = { contents_of N.flash N.honest };
 
@@ -95,7 +94,7 @@ impl<N: Nand> Sectors for DeviceDisk<N> {
     ghost rests = { AsksTurn N.flash N.recorded N.honest N.calm N.erases N.failed };
 
     // A read programs and erases nothing.
-    ghost reads = { λ old new. OnlyReads N.flash N.honest N.calm N.programs N.erases N.failed old.engine.nand new.engine.nand };
+    ghost reads = { AsksRead N.flash N.recorded N.honest N.calm N.programs N.erases N.failed };
 
     ghost size = { λ d. d.engine.geometry.data_bytes };
 
@@ -130,7 +129,7 @@ impl<N: Nand> Sectors for DeviceDisk<N> {
         // Whatever the die does.
         ensures stopped { IsSome (stop_of self.old.engine.fault) → (result ≡ Err DiskFault.Failed) × (self.new ≡ self.old) }
         ensures refused { OnErr result (buffer.new ≡ buffer.old) }
-        ensures reads { OnlyReads N.flash N.honest N.calm N.programs N.erases N.failed self.old.engine.nand self.new.engine.nand }
+        ensures reads { AsksRead N.flash N.recorded N.honest N.calm N.programs N.erases N.failed self.old self.new }
     {
         read_answer(self.device.read(sector as u32, buffer))
     }
@@ -190,7 +189,7 @@ impl<N: Nand> Sectors for DeviceDisk<N> {
         ensures count { self.new.engine.geometry.sectors ≡ self.old.engine.geometry.sectors }
         ensures performs { PerformsTask (contents_of N.flash N.honest) (holds N.honest) (λ d. false)
             (Task.Trim (sector * self.old.engine.geometry.data_bytes) self.old.engine.geometry.data_bytes false) [] self.old (answer_from result []) self.new }
-        ensures spares { SparesZeros (contents_of N.flash N.honest) (holds N.honest) (λ old new. OnlyReads N.flash N.honest N.calm N.programs N.erases N.failed old.engine.nand new.engine.nand)
+        ensures spares { SparesZeros (contents_of N.flash N.honest) (holds N.honest) (AsksRead N.flash N.recorded N.honest N.calm N.programs N.erases N.failed)
             (sector * self.old.engine.geometry.data_bytes) self.old.engine.geometry.data_bytes self.old self.new }
 
         // Whatever the die does.

@@ -19,7 +19,7 @@ returns-then-are_zeros-clause-asked g c = record {
   answer = c.read_sector.result;
   given = c.read_sector.new.buffer;
   read = c.read_sector.ensures.performs;
-  only_reads = c.read_sector.ensures.reads;
+  asks = c.read_sector.ensures.reads;
   trims = inl (c.in-Ok.is, all_zeros c.read_sector.new.buffer (sym c.are_zeros.ensures ∙ c.if-are_zeros.true) ∙ ap (λ k. replicate k 0) c.in-Ok.ensures.performs.given, refl, refl);
 }
 
@@ -27,7 +27,7 @@ pub returns-else-are_zeros-clause-performs : goal.returns-else-are_zeros-clause-
 returns-else-are_zeros-clause-performs g c =
     trimmed g.N.PageSource.flash g.N.PageSource.recorded g.N.PageSource.honest g.N.PageSource.calm g.N.PageSource.failed c.args.sector c.args.self.now c.read_sector.new.self c.trim_sector.new.self
     c.read_sector.result c.read_sector.new.buffer c.args.self.now.engine.geometry.data_bytes c.read_sector.new.self.engine.geometry.data_bytes c.read_sector.ensures.size c.trim_sector.result
-    c.read_sector.ensures.reads.honest_is c.read_sector.ensures.stopped c.trim_sector.ensures.asked c.read_sector.ensures.performs c.trim_sector.ensures.performs
+    c.read_sector.ensures.reads.only_reads.honest_is c.read_sector.ensures.stopped c.trim_sector.ensures.asked c.read_sector.ensures.performs c.trim_sector.ensures.performs
 
 pub returns-else-are_zeros-clause-spares : goal.returns-else-are_zeros-clause-spares
 returns-else-are_zeros-clause-spares g c = λ h zeros.
@@ -42,7 +42,7 @@ returns-else-are_zeros-clause-asked g c = record {
   answer = c.read_sector.result;
   given = c.read_sector.new.buffer;
   read = c.read_sector.ensures.performs;
-  only_reads = c.read_sector.ensures.reads;
+  asks = c.read_sector.ensures.reads;
   trims = inr ((λ done. no_zeros c.args.self.now.engine.geometry.data_bytes c.read_sector.new.buffer (sym c.are_zeros.ensures ∙ c.if-are_zeros.false)), c.trim_sector.ensures.asked);
 }
 
@@ -50,7 +50,7 @@ pub returns-in-Err-clause-performs : goal.returns-in-Err-clause-performs
 returns-in-Err-clause-performs g c =
     trimmed g.N.PageSource.flash g.N.PageSource.recorded g.N.PageSource.honest g.N.PageSource.calm g.N.PageSource.failed c.args.sector c.args.self.now c.read_sector.new.self c.trim_sector-in-Err.new.self
     c.read_sector.result c.read_sector.new.buffer c.args.self.now.engine.geometry.data_bytes c.read_sector.new.self.engine.geometry.data_bytes c.read_sector.ensures.size c.trim_sector-in-Err.result
-    c.read_sector.ensures.reads.honest_is c.read_sector.ensures.stopped c.trim_sector-in-Err.ensures.asked c.read_sector.ensures.performs c.trim_sector-in-Err.ensures.performs
+    c.read_sector.ensures.reads.only_reads.honest_is c.read_sector.ensures.stopped c.trim_sector-in-Err.ensures.asked c.read_sector.ensures.performs c.trim_sector-in-Err.ensures.performs
 
 pub returns-in-Err-clause-spares : goal.returns-in-Err-clause-spares
 returns-in-Err-clause-spares g c = λ h zeros. absurd (was_done c.read_sector.result _ c.in-Err.is (c.read_sector.ensures.given (c.trim_sector-in-Err.ensures.performs.back h)))
@@ -61,7 +61,7 @@ returns-in-Err-clause-asked g c = record {
   answer = c.read_sector.result;
   given = c.read_sector.new.buffer;
   read = c.read_sector.ensures.performs;
-  only_reads = c.read_sector.ensures.reads;
+  asks = c.read_sector.ensures.reads;
   trims = inr ((λ done. absurd (not_done c.read_sector.result _ c.in-Err.is done)), c.trim_sector-in-Err.ensures.asked);
 }
 

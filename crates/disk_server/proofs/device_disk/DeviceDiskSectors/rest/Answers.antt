@@ -27,6 +27,7 @@ returns-clause-rests g c =
       answer = c.turn.result;
       told = c.rest_answer.ensures;
       upkeeps = c.turn.ensures.upkeeps;
+      disk = invariant_of-self g c;
       turned = c.turn.ensures.turned;
       idle = c.turn.ensures.rests;
       quiet = λ h. c.turn.ensures.quiet (parts g.N.PageSource.honest c.self.inside.device h).0 (c.self.invariant.well h);

@@ -1,0 +1,25 @@
+-- What may be lost, against what may be left by a kill.
+use Rattle.std.proofs.Common.{◌≡◌, inl, inr, ℕ, Bool, List, [], ◌∷◌, refl, sym, subst}
+use Rattle.page_layout.specs.Page.{Page, Image}
+use Rattle.page_layout.specs.Flash.{Operation, Program, Erase}
+use Rattle.page_layout.specs.Recording.{image_after}
+use Rattle.promises.specs.Stop.{LeftBy}
+use Rattle.image_laws.specs.Power.{LosesSince}
+use Rattle.image_laws.proofs.PowerLemmas.{none_lost}
+use Rattle.disk_laws.specs.Lost.{AfterEraseLaw, AllGoneLaw, AllThereLaw, LostBy}
+
+pub all_there : AllThereLaw
+all_there pages stored image [] found same = subst (LosesSince stored image) (sym same) (none_lost stored image)
+all_there pages stored image (Program row page passed left ∷ log) found (inl torn) = inl (found, torn, none_lost stored found)
+all_there pages stored image (Program row page passed left ∷ log) found (inr later) = inr (all_there pages stored (image_after pages image (Program row page passed left)) log found later)
+all_there pages stored image (Erase block passed left ∷ log) found (inl torn) = inr (inl torn)
+all_there pages stored image (Erase block passed left ∷ log) found (inr later) =
+    inr (inr (all_there pages (image_after pages image (Erase block passed left)) (image_after pages image (Erase block passed left)) log found later))
+
+pub after_erase : AfterEraseLaw
+after_erase pages stored image block passed left log found later = inr (inr later)
+
+pub all_gone : AllGoneLaw
+all_gone pages stored image [] loses = loses
+all_gone pages stored image (Program row page passed left ∷ log) loses = inl (image, inl refl, loses)
+all_gone pages stored image (Erase block passed left ∷ log) loses = inl loses

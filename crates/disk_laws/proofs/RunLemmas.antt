@@ -1,0 +1,367 @@
+-- What is found of a disk where calls of its device are cut short.
+use Rattle.std.proofs.Common.{◌≡◌, ◌≢◌, ◌⊎◌, inl, inr, ℕ, ◌+◌, ◌*◌, ◌<◌, ◌≤◌, Bool, true, false, not, List, [], ◌∷◌, ◌++◌, length, Option, Some, None, IsSome, Result, Err, refl, sym, ap, subst, ◌∙◌, arith, append-nil}
+use Rattle.std.specs.List.{range_with_len}
+use Rattle.std.specs.Prelude.{get_or, map}
+use Rattle.std.proofs.lemmas.List.{append_assoc}
+use Rattle.std.proofs.lemmas.List.FromFn.{get_or-map-range_with_len, length-map-range_with_len}
+use Rattle.page_layout.specs.declared.geometry.Geometry.{Geometry}
+use Rattle.page_layout.specs.Page.{Image, IsImage}
+use Rattle.page_layout.specs.Array.{array_of, sector_of}
+use Rattle.page_layout.specs.Change.{IsErasedAt, IsUnsoundAt}
+use Rattle.page_layout.specs.Flash.{Flash, Operation, Program, Erase, Leads}
+use Rattle.page_layout.specs.Recording.{Recording, Records, image_after, image_after_all}
+use Rattle.page_layout.proofs.ErasedLemmas.{erased_at_unsound}
+use Rattle.page_layout.proofs.FlashLemmas.{geometry-Leads}
+use Rattle.page_layout.proofs.RecordingLemmas.{records_none}
+use Rattle.bad_blocks.specs.Table.{is_good_at}
+use Rattle.allocation.specs.State.{State, pointer_at}
+use Rattle.promises.specs.Step.{Command}
+use Rattle.promises.specs.Stop.{LeftBy, MayLeave}
+use Rattle.promises.specs.Legal.{Account, account_at, no_account, LegalFrom}
+use Rattle.promises.proofs.LegalLemmas.{in_range}
+use Rattle.promises.proofs.StopLemmas.{between, image_law, no_operation, stops_join}
+use Rattle.image_check.specs.Mountable.{IsMountable}
+use Rattle.image_laws.specs.Power.{LosesSince}
+use Rattle.collection.specs.Log.{IsAccounted, NumbersFrom, Went}
+use Rattle.collection.specs.Safe.{ram}
+use Rattle.collection.specs.Truth.{IsTrue}
+use Rattle.collection.proofs.Stops.{one_gain}
+use Rattle.ftl_device.specs.declared.device.Device.{Device}
+use Rattle.ftl_device.specs.declared.fault.DeviceFault.{DeviceFault}
+use Rattle.ftl_device.specs.declared.fault.DeviceFault.TheVariants.{BusFault}
+use Rattle.ftl_device.specs.Changes.{Logs, Refuses}
+use Rattle.disk_server.specs.Flat.{flat}
+use Rattle.disk_server.specs.Disk.{AsksRead}
+use Rattle.disk_server.proofs.Calls.{no_bus}
+use Rattle.disk_server.proofs.Holding.{parts}
+use Rattle.disk_laws.specs.Killed.{bytes_found}
+use Rattle.disk_laws.specs.Lost.{LostBy, MayLose}
+use Rattle.disk_laws.specs.Runs.{CutIn, DieWords, Does, HasOnTheWay, IsFoundAfterLoss, IsOneCall, KilledRunLaw, LostRunLaw, NoCall, OneCallLaw, OneMore, Run, image_on}
+use Rattle.disk_laws.proofs.FitLemmas.{Fits}
+use Rattle.disk_laws.proofs.GrowLemmas.{GrewSince, IsFound, Stands, since_begin}
+use Rattle.disk_laws.proofs.LogLemmas.{Goes, grew, lasts_after, lost, lost_apart}
+
+-- ---- images and sectors
+
+all_after : (pages : ℕ) (image : Image) (xs ys : List Operation) → image_after_all pages image (xs ++ ys) ≡ image_after_all pages (image_after_all pages image xs) ys
+all_after pages image [] ys = refl
+all_after pages image (x ∷ xs) ys = all_after pages (image_after pages image x) xs ys
+
+sector_in : (g : Geometry) (image : Image) (n : ℕ) → n < g.sectors → get_or (array_of g image) n [] ≡ sector_of g image n
+unfolding array_of
+sector_in g image n within = get_or-map-range_with_len (sector_of g image) 0 g.sectors n n [] within (omega arith)
+
+same_sector : (g : Geometry) (a b : Image) (n : ℕ) → n < g.sectors → array_of g a ≡ array_of g b → sector_of g a n ≡ sector_of g b n
+same_sector g a b n within same = sym (sector_in g a n within) ∙ (ap (λ l. get_or l n []) same ∙ sector_in g b n within)
+
+-- ---- the accounts of blocks, as the memory has them
+
+accounts_now : State → List Account
+accounts_now s = map (λ b. record { next = pointer_at s b; barred = not (is_good_at s.table b) }) (range_with_len 0 s.geometry.blocks)
+
+account_now : (s : State) (b : ℕ) → b < s.geometry.blocks → account_at (accounts_now s) b ≡ record { next = pointer_at s b; barred = not (is_good_at s.table b) }
+unfolding accounts_now
+account_now s b within = get_or-map-range_with_len (λ b. record { next = pointer_at s b; barred = not (is_good_at s.table b) }) 0 s.geometry.blocks b b no_account within (omega arith)
+
+accounts_long : (s : State) → length (accounts_now s) ≡ s.geometry.blocks
+unfolding accounts_now
+accounts_long s = length-map-range_with_len (λ b. record { next = pointer_at s b; barred = not (is_good_at s.table b) }) 0 s.geometry.blocks
+
+-- the accounts agree with the memory, and the image is by them
+record Begun (pages next : ℕ) (image : Image) (s : State) : Type 0 where
+  pub accounts : List Account
+  pub accounted : IsAccounted accounts s
+  pub fits : Fits pages image accounts next
+
+good_by : (b : Bool) → not b ≡ false → b ≡ true
+good_by true e = refl
+good_by false e = (let no : ⊥ = cc in absurd no)
+
+module _ {N : Type 0} (flash : N → Flash) (d : Device N) where
+  begun : IsTrue None (ram d.engine) (flash d.engine.nand).image → (ram d.engine).blocks.geometry ≡ d.engine.geometry
+      → Begun d.engine.geometry.pages (ram d.engine).next (flash d.engine.nand).image (ram d.engine).blocks
+  begun truth of =
+      let s : State = (ram d.engine).blocks in
+      let image : Image = (flash d.engine.nand).image in
+      let size : length (accounts_now s) ≡ s.geometry.blocks = accounts_long s in
+      record {
+        accounts = accounts_now s;
+        accounted = record {
+          size = size;
+          barred = λ b within. ap (λ (a : Account). a.barred) (account_now s b within);
+          next = λ b within good. ap (λ (a : Account). a.next) (account_now s b within);
+        };
+        fits = record {
+          below = truth.below;
+          free = λ b p free from within.
+              let here : b < s.geometry.blocks = omega (arith, in_range (accounts_now s) b free, size) in
+              let now = account_now s b here in
+              let good : is_good_at s.table b ≡ true = good_by (is_good_at s.table b) (sym (ap (λ (a : Account). a.barred) now) ∙ free) in
+              let erased : IsErasedAt image (b * s.geometry.pages + p) =
+              truth.filled.erased b p here good (subst (λ (a : Account). a.next ≤ p) now from) (omega (arith, within, ap (λ (g : Geometry). g.pages) of)) in
+              subst (λ (g : Geometry). IsUnsoundAt image (b * g.pages + p)) of (erased_at_unsound d.engine.geometry image (b * s.geometry.pages + p) truth.whole erased);
+        };
+      }
+
+-- ---- one call
+
+-- WHAT ONE CALL COMES TO, of a device with this geometry and so many entries
+record Called {N : Type 0} (g : Geometry) (capacity : ℕ) (die : DieWords N) (old : Device N) (log : List Operation) (new : Device N) : Type 0 where
+  pub sized : new.engine.geometry ≡ g
+  pub room : new.engine.mapping.capacity ≡ capacity
+  pub die_sized : (die.flash old.engine.nand).geometry ≡ g
+  pub whole : IsImage g (image_on die old)
+  pub begins : Begun g.pages (ram old.engine).next (image_on die old) (ram old.engine).blocks
+  pub leads : Leads (die.flash old.engine.nand) log (die.flash new.engine.nand)
+  pub legal : (accounts : List Account) → IsAccounted accounts (ram old.engine).blocks → LegalFrom g.pages accounts log
+  pub numbers : NumbersFrom (ram old.engine).next log
+  pub survives : (left : Image) → MayLeave g (image_on die old) log left → (capacity + g.pages ≤ 65536 → IsMountable g (capacity + g.pages) left)
+      × ((array_of g left ≡ array_of g (image_on die old)) ⊎ (array_of g left ≡ array_of g (image_on die new)))
+
+module _ {N : Type 0} (die : DieWords N) (old : Device N) (log : List Operation) (new : Device N) (does : Does die old log new) where
+  its_die : die.honest old.engine.nand ≡ true
+  its_die = (parts die.honest old does.through.held).0
+
+  went_on : (answer : Result (Unit {0}) DeviceFault) → Refuses die.failed old answer new → answer ≢ Err BusFault
+  went_on answer refuses = no_bus (ram old.engine) (ram new.engine) answer refuses.says (parts die.honest new does.through.holds_on).1
+
+  truth : IsTrue None (ram old.engine) (image_on die old)
+  truth = (does.through.was.well does.through.held).truth
+
+  starts : Begun old.engine.geometry.pages (ram old.engine).next (image_on die old) (ram old.engine).blocks
+  starts = begun die.flash old truth does.through.was.device.engine.memory.blocks_of
+
+  logged : (command : Command) (answer : Result (Unit {0}) DeviceFault) → new.engine.mapping.capacity ≡ old.engine.mapping.capacity → Logs die.flash die.recorded command old answer new
+      → Called old.engine.geometry old.engine.mapping.capacity die old log new
+  logged command answer room logs =
+      let one : logs.went.log ≡ log = sym (one_gain (die.recorded old.engine.nand) (die.recorded new.engine.nand) log logs.went.log does.told does.records logs.went.records) in
+      let was = does.through.was.well does.through.held in
+      subst (λ l. Called old.engine.geometry old.engine.mapping.capacity die old l new) one (record {
+        sized = sym does.through.is.device.engine.geometry ∙ (geometry-Leads (die.flash old.engine.nand) (die.flash new.engine.nand) logs.went.log logs.went.leads ∙ does.through.was.device.engine.geometry);
+        room = room;
+        die_sized = does.through.was.device.engine.geometry;
+        whole = truth.whole;
+        begins = starts;
+        leads = logs.went.leads;
+        legal = logs.went.follows.legal;
+        numbers = logs.went.numbers;
+        survives = λ left m. (let s = logs.stopped was does.told left m in (s.mountable, elim s.array [ inl before ↦ inl before | inr after ↦ inr after.2 ]));
+      })
+
+  read : AsksRead die.flash die.recorded die.honest die.calm die.programs die.erases die.failed old new → Called old.engine.geometry old.engine.mapping.capacity die old log new
+  read asks =
+      let leaves = asks.leaves does.through.held does.through.holds_on in
+      let same : die.flash new.engine.nand ≡ die.flash old.engine.nand = leaves.die_same in
+      let image_same : image_on die new ≡ image_on die old = ap (λ (s : Flash). s.image) same in
+      let nothing : log ≡ [] =
+      one_gain (die.recorded old.engine.nand) (die.recorded new.engine.nand) log [] does.told does.records
+      (subst (λ x. Records (die.recorded old.engine.nand) [] x) (sym leaves.told_same) (records_none (die.recorded old.engine.nand))) in
+      subst (λ l. Called old.engine.geometry old.engine.mapping.capacity die old l new) (sym nothing) (record {
+        sized = sym does.through.is.device.engine.geometry ∙ (ap (λ (s : Flash). s.geometry) same ∙ does.through.was.device.engine.geometry);
+        room = asks.limits.capacity;
+        die_sized = does.through.was.device.engine.geometry;
+        whole = truth.whole;
+        begins = starts;
+        leads = same;
+        legal = λ accounts a. tt;
+        numbers = tt;
+        survives = λ left m.
+            let here : left ≡ image_on die old = no_operation old.engine.geometry (image_on die old) left m in (
+              λ few. subst (IsMountable old.engine.geometry (old.engine.mapping.capacity + old.engine.geometry.pages)) (image_same ∙ sym here) (leaves.mountable few),
+              inl (ap (array_of old.engine.geometry) here),
+            );
+      })
+
+  called_by : IsOneCall die old new → Called old.engine.geometry old.engine.mapping.capacity die old log new
+  called_by (inl (n, command, result, asks)) = logged command asks.answer asks.changes.stays.limits.capacity (asks.changes.logs its_die (went_on asks.answer asks.changes.refuses))
+  called_by (inr (inl (result, asks))) = logged _ asks.answer asks.upkeeps.stays.limits.capacity (asks.upkeeps.logs its_die (went_on asks.answer asks.upkeeps.refuses))
+  called_by (inr (inr (inl (result, asks)))) = logged _ asks.answer asks.upkeeps.stays.limits.capacity (asks.upkeeps.logs its_die (went_on asks.answer asks.upkeeps.refuses))
+  called_by (inr (inr (inr asks))) = read asks
+
+  called : (g : Geometry) (capacity : ℕ) → old.engine.geometry ≡ g → old.engine.mapping.capacity ≡ capacity → Called g capacity die old log new
+  called g capacity sized room = subst (λ h. Called h capacity die old log new) sized (subst (λ c. Called old.engine.geometry c die old log new) room (called_by does.asks))
+
+-- ---- calls one after another
+
+module _ {N : Type 0} (die : DieWords N) (old : Device N) (few : old.engine.mapping.capacity + old.engine.geometry.pages ≤ 65536) where
+  run_sized : (log : List Operation) (new : Device N) → Run die old log new → (new.engine.geometry ≡ old.engine.geometry) × (new.engine.mapping.capacity ≡ old.engine.mapping.capacity)
+  run_sized log new NoCall = (refl, refl)
+  run_sized log new (OneMore before mid more last run does) =
+      let at = run_sized before mid run in
+      let its = called die mid more last does old.engine.geometry old.engine.mapping.capacity at.0 at.1 in
+      (its.sized, its.room)
+
+  called_on : (before : List Operation) (mid : Device N) (log : List Operation) (new : Device N) → Run die old before mid → Does die mid log new
+      → Called old.engine.geometry old.engine.mapping.capacity die mid log new
+  called_on before mid log new run does = (let at = run_sized before mid run in called die mid log new does old.engine.geometry old.engine.mapping.capacity at.0 at.1)
+
+  run_image : (log : List Operation) (new : Device N) → Run die old log new → image_after_all old.engine.geometry.pages (image_on die old) log ≡ image_on die new
+  run_image log new NoCall = refl
+  run_image log new (OneMore before mid more last run does) =
+      let its = called_on before mid more last run does in
+      all_after old.engine.geometry.pages (image_on die old) before more
+      ∙ (ap (λ i. image_after_all old.engine.geometry.pages i more) (run_image before mid run)
+      ∙ sym (image_law (die.flash mid.engine.nand) (die.flash last.engine.nand) more its.leads ∙ ap (λ (g : Geometry). image_after_all g.pages (image_on die mid) more) its.die_sized))
+
+  -- ---- killed
+
+  cut_on : (before : List Operation) (mid : Device N) (log : List Operation) (new : Device N) (found : Image) → Does die mid log new → CutIn die old before mid found → CutIn die old (before ++ log) new found
+  cut_on before mid log new found does c = record {
+    before = c.before;
+    first = c.first;
+    at = c.at;
+    next = c.next;
+    after = c.after ++ log;
+    was = c.was;
+    call = c.call;
+    rest = OneMore c.after mid log new c.rest does;
+    joined = ap (λ l. l ++ log) c.joined ∙ (append_assoc c.before (c.at ++ c.after) log ∙ ap (λ l. c.before ++ l) (append_assoc c.at c.after log));
+    cut = c.cut;
+    whole = c.whole;
+  }
+
+  pub killed : (log : List Operation) (new : Device N) (found : Image) → Run die old log new → MayLeave old.engine.geometry (image_on die old) log found
+      → (found ≡ image_on die old) ⊎ (IsMountable old.engine.geometry (old.engine.mapping.capacity + old.engine.geometry.pages) found × CutIn die old log new found)
+  killed log new found NoCall m = inl (no_operation old.engine.geometry (image_on die old) found m)
+  killed log new found (OneMore before mid more last run does) m = elim ((stops_join old.engine.geometry.pages (image_on die old) found before more).0 m.by) [
+    | inl first ↦ elim (killed before mid found run (record { whole = m.whole; by = first })) [
+      | inl same ↦ inl same
+      | inr cut ↦ inr (cut.0, cut_on before mid more last found does cut.1)
+    ]
+    | inr second ↦
+        let its = called_on before mid more last run does in
+        let left : MayLeave old.engine.geometry (image_on die mid) more found = record {
+          whole = m.whole;
+          by = subst (λ i. LeftBy old.engine.geometry.pages i more found) (run_image before mid run) second;
+        } in
+        let s = its.survives found left in
+        inr (
+          s.0 few,
+          record {
+            before = before;
+            first = mid;
+            at = more;
+            next = last;
+            after = [];
+            was = run;
+            call = does;
+            rest = NoCall;
+            joined = ap (λ l. before ++ l) (sym (append-nil more));
+            cut = left;
+            whole = elim s.1 [ inl was ↦ inl (ap flat was) | inr now ↦ inr (ap flat now) ];
+          },
+        )
+  ]
+
+  -- ---- a loss of power
+
+  -- a sector of the disk that is there after the calls
+  way_end : (log : List Operation) (new : Device N) (n : ℕ) → Run die old log new → HasOnTheWay die old log new n (sector_of old.engine.geometry (image_on die new) n)
+  way_end log new n run = record { before = log; at = new; after = []; was = run; rest = NoCall; joined = sym (append-nil log); has = refl }
+
+  way_on : (before : List Operation) (mid : Device N) (log : List Operation) (new : Device N) (n : ℕ) (bytes : List ℕ) → Does die mid log new
+      → HasOnTheWay die old before mid n bytes → HasOnTheWay die old (before ++ log) new n bytes
+  way_on before mid log new n bytes does w = record {
+    before = w.before;
+    at = w.at;
+    after = w.after ++ log;
+    was = w.was;
+    rest = OneMore w.after mid log new w.rest does;
+    joined = ap (λ l. l ++ log) w.joined ∙ append_assoc w.before w.after log;
+    has = w.has;
+  }
+
+  grew_on : (before : List Operation) (mid : Device N) (log : List Operation) (new : Device N) (stored image : Image) → Does die mid log new
+      → GrewSince old.engine.geometry (HasOnTheWay die old before mid) stored image → GrewSince old.engine.geometry (HasOnTheWay die old (before ++ log) new) stored image
+  grew_on before mid log new stored image does w = record {
+    grows = w.grows;
+    mounted = w.mounted;
+    was = λ n within. way_on before mid log new n _ does (w.was n within);
+    pages = λ n row within page. way_on before mid log new n _ does (w.pages n row within page);
+  }
+
+  -- each image that a stop inside a call may leave stands
+  module _ (before : List Operation) (mid : Device N) (log : List Operation) (new : Device N) (run : Run die old before mid) (does : Does die mid log new) where
+    its : Called old.engine.geometry old.engine.mapping.capacity die mid log new
+    its = called_on before mid log new run does
+
+    stands_in : (left : Image) → MayLeave old.engine.geometry (image_on die mid) log left
+        → Stands old.engine.geometry (old.engine.mapping.capacity + old.engine.geometry.pages) (HasOnTheWay die old (before ++ log) new) left
+    stands_in left m =
+        let s = its.survives left m in
+        record {
+          mounts = s.0 few;
+          sectors = λ n within. elim s.1 [
+            | inl was ↦
+                subst (HasOnTheWay die old (before ++ log) new n) (sym (same_sector old.engine.geometry left (image_on die mid) n within was))
+                (way_on before mid log new n _ does (way_end before mid n run))
+            | inr now ↦
+                subst (HasOnTheWay die old (before ++ log) new n) (sym (same_sector old.engine.geometry left (image_on die new) n within now))
+                (way_end (before ++ log) new n (OneMore before mid log new run does))
+          ];
+        }
+
+    pub stands_before : Stands old.engine.geometry (old.engine.mapping.capacity + old.engine.geometry.pages) (HasOnTheWay die old before mid) (image_on die mid)
+    stands_before = record {
+      mounts = (its.survives (image_on die mid) (record { whole = its.whole; by = between old.engine.geometry.pages (image_on die mid) [] log })).0 few;
+      sectors = λ n within. way_end before mid n run;
+    }
+
+    pub goes : (stored : Image) → GrewSince old.engine.geometry (HasOnTheWay die old before mid) stored (image_on die mid)
+        → Goes old.engine.geometry (old.engine.mapping.capacity + old.engine.geometry.pages) (HasOnTheWay die old (before ++ log) new) (die.flash mid.engine.nand) its.begins.accounts (ram mid.engine).next log stored
+    goes stored since = record {
+      sized = its.die_sized;
+      fits = its.begins.fits;
+      whole = its.whole;
+      moments = stands_in;
+      since = grew_on before mid log new stored (image_on die mid) does since;
+    }
+
+  lasts_join : (pages : ℕ) (stored image : Image) (xs ys : List Operation) → lasts_after pages stored image (xs ++ ys) ≡ lasts_after pages (lasts_after pages stored image xs) (image_after_all pages image xs) ys
+  lasts_join pages stored image [] ys = refl
+  lasts_join pages stored image (Program row page passed left ∷ xs) ys = lasts_join pages stored (image_after pages image (Program row page passed left)) xs ys
+  lasts_join pages stored image (Erase block passed left ∷ xs) ys = lasts_join pages (image_after pages image (Erase block passed left)) (image_after pages image (Erase block passed left)) xs ys
+
+  grew_run : (log : List Operation) (new : Device N) → Run die old log new → Stands old.engine.geometry (old.engine.mapping.capacity + old.engine.geometry.pages) (HasOnTheWay die old log new) (image_on die new)
+      → GrewSince old.engine.geometry (HasOnTheWay die old log new) (lasts_after old.engine.geometry.pages (image_on die old) (image_on die old) log) (image_on die new)
+  grew_run log new NoCall stands = since_begin old.engine.geometry (old.engine.mapping.capacity + old.engine.geometry.pages) (HasOnTheWay die old [] old) (image_on die old) stands
+  grew_run log new (OneMore before mid more last run does) stands =
+      let pages : ℕ = old.engine.geometry.pages in
+      let first : Image = image_on die old in
+      let then : Image = lasts_after pages first first before in
+      let c = called_on before mid more last run does in
+      let so_far = grew_run before mid run (stands_before before mid more last run does) in
+      let now = grew old.engine.geometry (old.engine.mapping.capacity + pages) (HasOnTheWay die old (before ++ more) last) more (die.flash mid.engine.nand) (die.flash last.engine.nand) c.begins.accounts
+      (ram mid.engine).next then (goes before mid more last run does then so_far) c.leads (c.legal c.begins.accounts c.begins.accounted) c.numbers in
+      subst (λ i. GrewSince old.engine.geometry (HasOnTheWay die old (before ++ more) last) i (image_on die last))
+      (ap (λ i. lasts_after pages then i more) (sym (run_image before mid run)) ∙ sym (lasts_join pages first first before more)) now
+
+  pub lost_run : (log : List Operation) (new : Device N) (found : Image) → Run die old log new → MayLose old.engine.geometry (image_on die old) log found
+      → LosesSince (image_on die old) (image_on die old) found ⊎ IsFoundAfterLoss die old log new found
+  lost_run log new found NoCall m = inl m.by
+  lost_run log new found (OneMore before mid more last run does) m =
+      let pages : ℕ = old.engine.geometry.pages in
+      let first : Image = image_on die old in
+      elim (lost_apart pages first first found before more m.by) [
+        | inl earlier ↦ elim (lost_run before mid found run (record { whole = m.whole; by = earlier })) [
+          | inl none ↦ inl none
+          | inr f ↦ inr (record { one = f.one; mounts = f.mounts; sectors = λ n within. way_on before mid more last n _ does (f.sectors n within) })
+        ]
+        | inr later ↦
+            let then : Image = lasts_after pages first first before in
+            let c = called_on before mid more last run does in
+            let so_far = grew_run before mid run (stands_before before mid more last run does) in
+            let f = lost old.engine.geometry (old.engine.mapping.capacity + pages) (HasOnTheWay die old (before ++ more) last) more (die.flash mid.engine.nand) (die.flash last.engine.nand) c.begins.accounts
+            (ram mid.engine).next then found (goes before mid more last run does then so_far) c.leads (c.legal c.begins.accounts c.begins.accounted) c.numbers m.whole
+            (subst (λ i. LostBy pages then i more found) (run_image before mid run) later) in
+            inr (record { one = f.one; mounts = f.mounts; sectors = f.sectors })
+      ]
+
+pub killed_run : {N : Type 0} (die : DieWords N) → KilledRunLaw die
+killed_run die old new log found run few m = killed die old few log new found run m
+
+pub lost_run_law : {N : Type 0} (die : DieWords N) → LostRunLaw die
+lost_run_law die old new log found run few m = lost_run die old few log new found run m
+
+pub one_call : {N : Type 0} (die : DieWords N) → OneCallLaw die
+one_call die old new log does = OneMore [] old log new NoCall does

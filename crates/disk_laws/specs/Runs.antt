@@ -1,0 +1,99 @@
+-- CALLS OF A DEVICE ONE AFTER ANOTHER, and what is found of its disk where they are cut short.
+use Rattle.std.specs.Prelude.{◌≡◌, ◌⊎◌, ◌+◌, ◌<◌, ◌≤◌, ℕ, Bool, List, [], ◌++◌, Option, IsSome, Result}
+use Rattle.page_layout.specs.declared.geometry.Geometry.{Geometry}
+use Rattle.page_layout.specs.Page.{Image}
+use Rattle.page_layout.specs.Array.{sector_of, array_of, HasOneArray}
+use Rattle.page_layout.specs.Flash.{Flash, Operation}
+use Rattle.page_layout.specs.Recording.{Recording, Records}
+use Rattle.promises.specs.Step.{Command}
+use Rattle.promises.specs.Stop.{MayLeave}
+use Rattle.image_check.specs.Mountable.{IsMountable}
+use Rattle.image_check.specs.Stale.{stale_count}
+use Rattle.image_laws.specs.Power.{LosesSince}
+use Rattle.nbd_stream.specs.declared.fault.DiskFault.{DiskFault}
+use Rattle.ftl_device.specs.declared.device.Device.{Device}
+use Rattle.disk_server.specs.Disk.{AsksChange, AsksFlush, AsksRead, AsksTurn, IsDisk}
+use Rattle.disk_laws.specs.Killed.{HoldsThrough, bytes_found}
+use Rattle.disk_laws.specs.Lost.{MayLose}
+
+-- the words of a kind of die
+pub record DieWords (N : Type 0) : Type 0 where
+  pub flash : N → Flash
+  pub recorded : N → Option Recording
+  pub honest : N → Bool
+  pub calm : N → Bool
+  pub programs : N → ℕ
+  pub erases : N → ℕ
+  pub failed : N → ℕ
+
+-- the image on the die of a device
+abbrev pub image_on : {N : Type 0} → DieWords N → Device N → Image
+image_on die d = (die.flash d.engine.nand).image
+
+-- ONE CALL: a change of a sector, a flush, a turn, or a read
+abbrev pub IsOneCall : {N : Type 0} → DieWords N → Device N → Device N → Type 0
+IsOneCall die old new =
+    ((n : ℕ) × (command : Command) × (result : Result (Unit {0}) DiskFault) × AsksChange die.flash die.recorded die.honest die.calm die.failed n command old result new)
+    ⊎ ((result : Result (Unit {0}) DiskFault) × AsksFlush die.flash die.recorded die.honest die.calm die.failed old result new)
+    ⊎ ((result : Result (Unit {0}) DiskFault) × AsksTurn die.flash die.recorded die.honest die.calm die.erases die.failed old result new)
+    ⊎ AsksRead die.flash die.recorded die.honest die.calm die.programs die.erases die.failed old new
+
+-- one call of a device that holds its array through it, and the operations that the record of its die gained in it
+pub record Does {N : Type 0} (die : DieWords N) (old : Device N) (log : List Operation) (new : Device N) : Type 0 where
+  pub through : HoldsThrough die.flash die.honest old new
+  pub asks : IsOneCall die old new
+  pub told : IsSome (die.recorded new.engine.nand)
+  pub records : Records (die.recorded old.engine.nand) log (die.recorded new.engine.nand)
+
+-- CALLS ONE AFTER ANOTHER, with the operations of all of them
+pub data Run {N : Type 0} (die : DieWords N) (old : Device N) : List Operation → Device N → Type 0 where
+  NoCall : Run die old [] old
+  OneMore : (before : List Operation) (mid : Device N) (log : List Operation) (new : Device N) → Run die old before mid → Does die mid log new → Run die old (before ++ log) new
+
+-- A MOMENT INSIDE ONE OF THE CALLS, where these pages are found: each call before that one was whole, none behind it was begun, and the bytes of the disk are those from before it, or from after it
+pub record CutIn {N : Type 0} (die : DieWords N) (old : Device N) (log : List Operation) (new : Device N) (found : Image) : Type 0 where
+  pub before : List Operation
+  pub first : Device N
+  pub at : List Operation
+  pub next : Device N
+  pub after : List Operation
+  pub was : Run die old before first
+  pub call : Does die first at next
+  pub rest : Run die next after new
+  pub joined : log ≡ before ++ (at ++ after)
+  pub cut : MayLeave old.engine.geometry (image_on die first) at found
+  pub whole : (bytes_found old found ≡ bytes_found old (image_on die first)) ⊎ (bytes_found old found ≡ bytes_found old (image_on die next))
+
+-- a sector has these bytes in a disk on the way: before the calls, or after some of them
+pub record HasOnTheWay {N : Type 0} (die : DieWords N) (old : Device N) (log : List Operation) (new : Device N) (n : ℕ) (bytes : List ℕ) : Type 0 where
+  pub before : List Operation
+  pub at : Device N
+  pub after : List Operation
+  pub was : Run die old before at
+  pub rest : Run die at after new
+  pub joined : log ≡ before ++ after
+  pub has : bytes ≡ sector_of old.engine.geometry (image_on die at) n
+
+-- WHAT IS FOUND AFTER A LOSS OF POWER is one array, each sector has the bytes that it had on the way, and it mounts with each cache that has room for what is stale
+pub record IsFoundAfterLoss {N : Type 0} (die : DieWords N) (old : Device N) (log : List Operation) (new : Device N) (found : Image) : Type 0 where
+  pub one : HasOneArray old.engine.geometry found
+  pub mounts : (capacity : ℕ) → 1 ≤ capacity → capacity ≤ 65536 → stale_count old.engine.geometry found ≤ capacity → IsMountable old.engine.geometry capacity found
+  pub sectors : (n : ℕ) → n < old.engine.geometry.sectors → HasOnTheWay die old log new n (sector_of old.engine.geometry found n)
+
+-- ---- laws
+
+-- one call is calls one after another
+abbrev pub OneCallLaw : {N : Type 0} → DieWords N → Type 0
+OneCallLaw {N} die = (old new : Device N) (log : List Operation) → Does die old log new → Run die old log new
+
+-- ---- laws of a device whose cache and a block have no more entries and pages than a cache may have
+
+-- A KILL AT ANY MOMENT OF THE CALLS: it mounts, and each call that had ended is in it, and the one at hand whole or not at all
+abbrev pub KilledRunLaw : {N : Type 0} → DieWords N → Type 0
+KilledRunLaw {N} die = (old new : Device N) (log : List Operation) (found : Image) → Run die old log new → old.engine.mapping.capacity + old.engine.geometry.pages ≤ 65536
+    → MayLeave old.engine.geometry (image_on die old) log found → (found ≡ image_on die old) ⊎ (IsMountable old.engine.geometry (old.engine.mapping.capacity + old.engine.geometry.pages) found × CutIn die old log new found)
+
+-- A LOSS OF POWER AT ANY MOMENT SINCE ALL PAGES LASTED, as since a sync: nothing from before is lost. Where nothing was done since, what is found has the records that there were
+abbrev pub LostRunLaw : {N : Type 0} → DieWords N → Type 0
+LostRunLaw {N} die = (old new : Device N) (log : List Operation) (found : Image) → Run die old log new → old.engine.mapping.capacity + old.engine.geometry.pages ≤ 65536
+    → MayLose old.engine.geometry (image_on die old) log found → LosesSince (image_on die old) (image_on die old) found ⊎ IsFoundAfterLoss die old log new found
