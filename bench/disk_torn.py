@@ -2,6 +2,7 @@
 """Cuts the writes of `nanddisk serve` to its file, and looks at what each cut leaves.
 
 Usage: disk_torn.py NANDDISK [REQUESTS [SEED [LOSSES]]]
+       disk_torn.py NANDDISK places [REQUESTS [SEED]]
 
 A client sends one request after another, while `strace` notes each write of the server to the die's file and to that of its mark, each sync, and each reply. Disks have pages of 64, 512 and 4,096 bytes.
 From that list files are made:
@@ -14,6 +15,8 @@ From that list files are made:
 Of each `nanddisk serve` is asked for all bytes (every one, and of the cuts each fourth). After a cut or a tear each sector is as the answered requests left it, or as the
 one at hand was to. After a loss each sector is as at the last sync, or as one of the requests since left it; and a flush or a durable write that was answered before the sync has lost
 nothing. With `--sync always` a lost file is as a torn one. After each the disk takes writes, and no block is bad.
+
+With `places` each write of the die's file is cut at each of five places of its last page: after a byte, in the data, at the spare area, in the seal, and before the last byte.
 
 With CODE=hamming in the environment the disks keep a code.
 
@@ -40,7 +43,7 @@ class Shape:
 
     def __init__(self, sector, spare, pages, blocks, sectors):
         self.words = f"{sector},{spare},{pages},{blocks},{sectors}"
-        self.sector, self.size = sector, sector * sectors
+        self.sector, self.spare, self.size = sector, spare, sector * sectors
 
     def sectors(self, array):
         return [array[at : at + self.sector] for at in range(0, self.size, self.sector)]
@@ -295,6 +298,30 @@ def cuts(program, folder, run, draw):
     return count
 
 
+# Where the seal of a page begins in its spare area, and a byte within it.
+IN_THE_SEAL = 24
+
+
+def places(shape, size):
+    """The five places at which a write of so many bytes is cut."""
+    page = size - shape.sector - shape.spare
+    return (1, page + shape.sector // 2, page + shape.sector, page + shape.sector + IN_THE_SEAL, size - 1)
+
+
+def cuts_at_places(program, folder, run):
+    """Each write of the die's file, cut at each place."""
+    count = 0
+    for at, event in enumerate(run.events):
+        if event.kind != "write":
+            continue
+        done = run.answered(at)
+        for place in places(run.shape, len(event.body)):
+            found = look(program, run.shape, folder, run.image_of(at, [(event.offset, event.body[:place])]), run.mark_of(at))
+            run.hold(found, [done] * len(run.states), done + 1, ("cut", at, place))
+            count += 1
+    return count
+
+
 def losses(program, folder, run, draw, always, each):
     """Files that a host that lost power may have left, at random events. The disk takes writes after each."""
     for _ in range(each):
@@ -350,10 +377,22 @@ def never_synced(program, requests, draw):
     raise AssertionError("a server that never syncs loses nothing")
 
 
+def at_places(program, requests, seed):
+    draw = random.Random(seed)
+    for shape in SHAPES:
+        with tempfile.TemporaryDirectory() as folder:
+            found = noted(program, shape, folder, requests, draw, [])
+            count = cuts_at_places(program, folder, found)
+            print(f"{shape.words}: each write cut at five places, {count} files: nothing lost, no block bad", flush=True)
+
+
 def main():
     if len(sys.argv) < 2:
         sys.exit(__doc__)
     program = os.path.realpath(sys.argv[1])
+    if sys.argv[2:3] == ["places"]:
+        at_places(program, int(sys.argv[3]) if len(sys.argv) > 3 else 60, int(sys.argv[4]) if len(sys.argv) > 4 else 35)
+        return
     requests = int(sys.argv[2]) if len(sys.argv) > 2 else 400
     draw = random.Random(int(sys.argv[3]) if len(sys.argv) > 3 else 35)
     each = int(sys.argv[4]) if len(sys.argv) > 4 else requests

@@ -159,7 +159,9 @@ fn put<'a, F: DiskFiles>(
     }
 }
 
-/// The command `create`: makes the disk DISK, a die and the file beside it that tells its shape. The die is formatted, or with `--from` has the pages of a raw dump. With `--bad` the blocks that it names are marked bad before. With `--code hamming` each page stands in the file with its codes, those of a dump too, which has none.
+/// The command `create`: makes the disk DISK, a die and the file beside it that tells its shape. The die is formatted, or with `--from` has the pages
+/// of a raw dump. With `--bad` the blocks that it names are marked bad before. With `--code hamming` each page stands in the file with its codes,
+/// those of a dump too, which has none.
 ///
 /// # Errors
 ///

@@ -152,7 +152,9 @@ fn make<'a, F: LabFiles>(
 }
 
 /// The command `array`: writes every sector of the dump DUMP, of the geometry GEOM, to the file OUT, as of the sequence SEQUENCE where that is said:
-/// just the pages of this sequence or an earlier one count then. Where `--damaged` stands, pages are shown that are not sound, of sectors of which they say something newer than each sound page. It writes the map of OUT, where that is wanted, to FILE, and prints which sectors are tied, and how far the array may be from the last write.
+/// just the pages of this sequence or an earlier one count then. Where `--damaged` stands, pages are shown that are not sound, of sectors of which
+/// they say something newer than each sound page. It writes the map of OUT, where that is wanted, to FILE, and prints which sectors are tied, and how
+/// far the array may be from the last write.
 ///
 /// # Errors
 ///

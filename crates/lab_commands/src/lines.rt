@@ -4,7 +4,9 @@ ghost use Rattle.std.specs.Fmt.{decimal};
 ghost use Rattle.lab_commands.specs.Document.{Prints};
 ghost use Rattle.lab_commands.specs.Lines.{class_words, label_words, made_words};
 ghost use Rattle.lab_commands.specs.Lines.{says_words, sort_words};
-ghost use Rattle.lab_commands.specs.Lines.{age_words, block_words, corrected_words, first_words, fit_words, found_words, history_words, kind_words, damaged_words, legible_words, line_words, moved_words, newer_words, page_words, said_words, tally_words, until_words, whole_words, wrote_words, tries_words, trial_words, turned_words};
+ghost use Rattle.lab_commands.specs.Lines.{age_words, block_words, corrected_words, first_words, fit_words, found_words, history_words, kind_words};
+ghost use Rattle.lab_commands.specs.Lines.{damaged_words, legible_words, line_words, moved_words, newer_words, page_words, said_words, tally_words};
+ghost use Rattle.lab_commands.specs.Lines.{until_words, whole_words, wrote_words, tries_words, trial_words, turned_words};
 
 use crate::arranged_lines::put_arranged_fit;
 use crate::origin_lines::put_origin;

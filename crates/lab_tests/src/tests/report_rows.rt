@@ -10,13 +10,20 @@ const ARRAY: &str = "nandlab array 64,32,8,32,32 dump.bin out.img --report told.
 const AGE: &str =
     "unsound 0: the array is that of every page that was programmed, if no page was lost behind the last one of its block\n";
 
-const TOLD: &str =
-    "{\"program\":\"nandlab\",\"read\":[{\"bytes\":24576,\"name\":\"dump.bin\",\"sha256\":\"1df8949b2e345ab8c00cb81fb6b83686e20a4080f969e5cd8b8d520a07cdaba2\"}],\"version\":\"0.1.0\",\"words\":[\"nandlab\",\"array\",\"64,32,8,32,32\",\"dump.bin\",\"out.img\",\"--report\",\"told.json\"],\"wrote\":[{\"bytes\":2048,\"name\":\"out.img\",\"sha256\":\"e5a00aa9991ac8a5ee3109844d84a55583bd20572ad3ffcd42792f3c36b183ad\"}]}\n";
+const TOLD: &str = "\
+        {\"program\":\"nandlab\",\"read\":[{\"bytes\":24576,\"name\":\"dump.bin\",\"sha256\":\"1df8949b2e345ab8c00cb\
+        81fb6b83686e20a4080f969e5cd8b8d520a07cdaba2\"}],\"version\":\"0.1.0\",\"words\":[\"nandlab\",\"array\",\"64,\
+        32,8,32,32\",\"dump.bin\",\"out.img\",\"--report\",\"told.json\"],\"wrote\":[{\"bytes\":2048,\"name\":\"out.\
+        img\",\"sha256\":\"e5a00aa9991ac8a5ee3109844d84a55583bd20572ad3ffcd42792f3c36b183ad\"}]}\n";
 
 const SAME: &str = "same dump.bin\nsame out.img\nverified 2 changed 0\n";
 
-const LOST: &str =
-    "{\"program\":\"nandlab\",\"read\":[{\"bytes\":3,\"name\":\"abc\",\"sha256\":\"ba7816bf8f01cfea414140de5dae2223b00361a396177a9cb410ff61f20015ad\"}],\"version\":\"0.1.0\",\"words\":[],\"wrote\":[{\"bytes\":4,\"name\":\"more\",\"sha256\":\"ba7816bf8f01cfea414140de5dae2223b00361a396177a9cb410ff61f20015ad\"},{\"bytes\":0,\"name\":\"a\\\"b\\nc\",\"sha256\":\"e3b0c44298fc1c149afbf4c8996fb92427ae41e4649b934ca495991b7852b855\"},{\"bytes\":0,\"name\":\"device\",\"sha256\":\"e3b0c44298fc1c149afbf4c8996fb92427ae41e4649b934ca495991b7852b855\"}]}";
+const LOST: &str = "\
+        {\"program\":\"nandlab\",\"read\":[{\"bytes\":3,\"name\":\"abc\",\"sha256\":\"ba7816bf8f01cfea414140de5dae22\
+        23b00361a396177a9cb410ff61f20015ad\"}],\"version\":\"0.1.0\",\"words\":[],\"wrote\":[{\"bytes\":4,\"name\":\
+        \"more\",\"sha256\":\"ba7816bf8f01cfea414140de5dae2223b00361a396177a9cb410ff61f20015ad\"},{\"bytes\":0,\"nam\
+        e\":\"a\\\"b\\nc\",\"sha256\":\"e3b0c44298fc1c149afbf4c8996fb92427ae41e4649b934ca495991b7852b855\"},{\"bytes\
+        \":0,\"name\":\"device\",\"sha256\":\"e3b0c44298fc1c149afbf4c8996fb92427ae41e4649b934ca495991b7852b855\"}]}";
 
 const CASES: [Case; 3] = [
     Case {
@@ -73,7 +80,11 @@ const CASES: [Case; 3] = [
             Step::Both(
                 "nandlab verify told.json --json",
                 1,
-                "[{\"command\":\"verify\",\"line\":\"command\",\"program\":\"nandlab\"},\n{\"line\":\"same\",\"name\":\"abc\"},\n{\"line\":\"differs\",\"name\":\"more\"},\n{\"line\":\"missing\",\"name\":\"a\\\"b\\nc\"},\n{\"line\":\"unread\",\"name\":\"device\"},\n{\"changed\":3,\"files\":4,\"line\":\"verified\"}\n]\n",
+                "\
+                    [{\"command\":\"verify\",\"line\":\"command\",\"program\":\"nandlab\"},\n{\"line\":\"same\",\"na\
+                    me\":\"abc\"},\n{\"line\":\"differs\",\"name\":\"more\"},\n{\"line\":\"missing\",\"name\":\"a\\\
+                    \"b\\nc\"},\n{\"line\":\"unread\",\"name\":\"device\"},\n{\"changed\":3,\"files\":4,\"line\":\"v\
+                    erified\"}\n]\n",
                 "refused verify 2 Changed\n",
             ),
             Step::Closed("nandlab verify told.json", 0),
