@@ -3,4 +3,5 @@ mod GrowLemmas
 mod LogLemmas
 mod LossLemmas
 mod RunLemmas
+mod SessionLemmas
 mod KilledLemmas

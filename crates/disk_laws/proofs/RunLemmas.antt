@@ -183,7 +183,7 @@ module _ {N : Type 0} (die : DieWords N) (old : Device N) (log : List Operation)
 
 -- ---- calls one after another
 
-module _ {N : Type 0} (die : DieWords N) (old : Device N) (few : old.engine.mapping.capacity + old.engine.geometry.pages ≤ 65536) where
+module _ {N : Type 0} (die : DieWords N) (old : Device N) where
   run_sized : (log : List Operation) (new : Device N) → Run die old log new → (new.engine.geometry ≡ old.engine.geometry) × (new.engine.mapping.capacity ≡ old.engine.mapping.capacity)
   run_sized log new NoCall = (refl, refl)
   run_sized log new (OneMore before mid more last run does) =
@@ -218,15 +218,16 @@ module _ {N : Type 0} (die : DieWords N) (old : Device N) (few : old.engine.mapp
     joined = ap (λ l. l ++ log) c.joined ∙ (append_assoc c.before (c.at ++ c.after) log ∙ ap (λ l. c.before ++ l) (append_assoc c.at c.after log));
     cut = c.cut;
     whole = c.whole;
+    mounts = c.mounts;
   }
 
   pub killed : (log : List Operation) (new : Device N) (found : Image) → Run die old log new → MayLeave old.engine.geometry (image_on die old) log found
-      → (found ≡ image_on die old) ⊎ (IsMountable old.engine.geometry (old.engine.mapping.capacity + old.engine.geometry.pages) found × CutIn die old log new found)
+      → (found ≡ image_on die old) ⊎ CutIn die old log new found
   killed log new found NoCall m = inl (no_operation old.engine.geometry (image_on die old) found m)
   killed log new found (OneMore before mid more last run does) m = elim ((stops_join old.engine.geometry.pages (image_on die old) found before more).0 m.by) [
     | inl first ↦ elim (killed before mid found run (record { whole = m.whole; by = first })) [
       | inl same ↦ inl same
-      | inr cut ↦ inr (cut.0, cut_on before mid more last found does cut.1)
+      | inr cut ↦ inr (cut_on before mid more last found does cut)
     ]
     | inr second ↦
         let its = called_on before mid more last run does in
@@ -249,6 +250,7 @@ module _ {N : Type 0} (die : DieWords N) (old : Device N) (few : old.engine.mapp
             joined = ap (λ l. before ++ l) (sym (append-nil more));
             cut = left;
             whole = elim s.1 [ inl was ↦ inl (ap flat was) | inr now ↦ inr (ap flat now) ];
+            mounts = s.0;
           },
         )
   ]
@@ -280,85 +282,86 @@ module _ {N : Type 0} (die : DieWords N) (old : Device N) (few : old.engine.mapp
     pages = λ n row within page. way_on before mid log new n _ does (w.pages n row within page);
   }
 
-  -- each image that a stop inside a call may leave stands
-  module _ (before : List Operation) (mid : Device N) (log : List Operation) (new : Device N) (run : Run die old before mid) (does : Does die mid log new) where
-    its : Called old.engine.geometry old.engine.mapping.capacity die mid log new
-    its = called_on before mid log new run does
+  module _ (few : old.engine.mapping.capacity + old.engine.geometry.pages ≤ 65536) where
+    -- each image that a stop inside a call may leave stands
+    module _ (before : List Operation) (mid : Device N) (log : List Operation) (new : Device N) (run : Run die old before mid) (does : Does die mid log new) where
+      its : Called old.engine.geometry old.engine.mapping.capacity die mid log new
+      its = called_on before mid log new run does
 
-    stands_in : (left : Image) → MayLeave old.engine.geometry (image_on die mid) log left
-        → Stands old.engine.geometry (old.engine.mapping.capacity + old.engine.geometry.pages) (HasOnTheWay die old (before ++ log) new) left
-    stands_in left m =
-        let s = its.survives left m in
-        record {
-          mounts = s.0 few;
-          sectors = λ n within. elim s.1 [
-            | inl was ↦
-                subst (HasOnTheWay die old (before ++ log) new n) (sym (same_sector old.engine.geometry left (image_on die mid) n within was))
-                (way_on before mid log new n _ does (way_end before mid n run))
-            | inr now ↦
-                subst (HasOnTheWay die old (before ++ log) new n) (sym (same_sector old.engine.geometry left (image_on die new) n within now))
-                (way_end (before ++ log) new n (OneMore before mid log new run does))
-          ];
-        }
+      stands_in : (left : Image) → MayLeave old.engine.geometry (image_on die mid) log left
+          → Stands old.engine.geometry (old.engine.mapping.capacity + old.engine.geometry.pages) (HasOnTheWay die old (before ++ log) new) left
+      stands_in left m =
+          let s = its.survives left m in
+          record {
+            mounts = s.0 few;
+            sectors = λ n within. elim s.1 [
+              | inl was ↦
+                  subst (HasOnTheWay die old (before ++ log) new n) (sym (same_sector old.engine.geometry left (image_on die mid) n within was))
+                  (way_on before mid log new n _ does (way_end before mid n run))
+              | inr now ↦
+                  subst (HasOnTheWay die old (before ++ log) new n) (sym (same_sector old.engine.geometry left (image_on die new) n within now))
+                  (way_end (before ++ log) new n (OneMore before mid log new run does))
+            ];
+          }
 
-    pub stands_before : Stands old.engine.geometry (old.engine.mapping.capacity + old.engine.geometry.pages) (HasOnTheWay die old before mid) (image_on die mid)
-    stands_before = record {
-      mounts = (its.survives (image_on die mid) (record { whole = its.whole; by = between old.engine.geometry.pages (image_on die mid) [] log })).0 few;
-      sectors = λ n within. way_end before mid n run;
-    }
+      pub stands_before : Stands old.engine.geometry (old.engine.mapping.capacity + old.engine.geometry.pages) (HasOnTheWay die old before mid) (image_on die mid)
+      stands_before = record {
+        mounts = (its.survives (image_on die mid) (record { whole = its.whole; by = between old.engine.geometry.pages (image_on die mid) [] log })).0 few;
+        sectors = λ n within. way_end before mid n run;
+      }
 
-    pub goes : (stored : Image) → GrewSince old.engine.geometry (HasOnTheWay die old before mid) stored (image_on die mid)
-        → Goes old.engine.geometry (old.engine.mapping.capacity + old.engine.geometry.pages) (HasOnTheWay die old (before ++ log) new) (die.flash mid.engine.nand) its.begins.accounts (ram mid.engine).next log stored
-    goes stored since = record {
-      sized = its.die_sized;
-      fits = its.begins.fits;
-      whole = its.whole;
-      moments = stands_in;
-      since = grew_on before mid log new stored (image_on die mid) does since;
-    }
+      pub goes : (stored : Image) → GrewSince old.engine.geometry (HasOnTheWay die old before mid) stored (image_on die mid)
+          → Goes old.engine.geometry (old.engine.mapping.capacity + old.engine.geometry.pages) (HasOnTheWay die old (before ++ log) new) (die.flash mid.engine.nand) its.begins.accounts (ram mid.engine).next log stored
+      goes stored since = record {
+        sized = its.die_sized;
+        fits = its.begins.fits;
+        whole = its.whole;
+        moments = stands_in;
+        since = grew_on before mid log new stored (image_on die mid) does since;
+      }
 
-  lasts_join : (pages : ℕ) (stored image : Image) (xs ys : List Operation) → lasts_after pages stored image (xs ++ ys) ≡ lasts_after pages (lasts_after pages stored image xs) (image_after_all pages image xs) ys
-  lasts_join pages stored image [] ys = refl
-  lasts_join pages stored image (Program row page passed left ∷ xs) ys = lasts_join pages stored (image_after pages image (Program row page passed left)) xs ys
-  lasts_join pages stored image (Erase block passed left ∷ xs) ys = lasts_join pages (image_after pages image (Erase block passed left)) (image_after pages image (Erase block passed left)) xs ys
+    lasts_join : (pages : ℕ) (stored image : Image) (xs ys : List Operation) → lasts_after pages stored image (xs ++ ys) ≡ lasts_after pages (lasts_after pages stored image xs) (image_after_all pages image xs) ys
+    lasts_join pages stored image [] ys = refl
+    lasts_join pages stored image (Program row page passed left ∷ xs) ys = lasts_join pages stored (image_after pages image (Program row page passed left)) xs ys
+    lasts_join pages stored image (Erase block passed left ∷ xs) ys = lasts_join pages (image_after pages image (Erase block passed left)) (image_after pages image (Erase block passed left)) xs ys
 
-  grew_run : (log : List Operation) (new : Device N) → Run die old log new → Stands old.engine.geometry (old.engine.mapping.capacity + old.engine.geometry.pages) (HasOnTheWay die old log new) (image_on die new)
-      → GrewSince old.engine.geometry (HasOnTheWay die old log new) (lasts_after old.engine.geometry.pages (image_on die old) (image_on die old) log) (image_on die new)
-  grew_run log new NoCall stands = since_begin old.engine.geometry (old.engine.mapping.capacity + old.engine.geometry.pages) (HasOnTheWay die old [] old) (image_on die old) stands
-  grew_run log new (OneMore before mid more last run does) stands =
-      let pages : ℕ = old.engine.geometry.pages in
-      let first : Image = image_on die old in
-      let then : Image = lasts_after pages first first before in
-      let c = called_on before mid more last run does in
-      let so_far = grew_run before mid run (stands_before before mid more last run does) in
-      let now = grew old.engine.geometry (old.engine.mapping.capacity + pages) (HasOnTheWay die old (before ++ more) last) more (die.flash mid.engine.nand) (die.flash last.engine.nand) c.begins.accounts
-      (ram mid.engine).next then (goes before mid more last run does then so_far) c.leads (c.legal c.begins.accounts c.begins.accounted) c.numbers in
-      subst (λ i. GrewSince old.engine.geometry (HasOnTheWay die old (before ++ more) last) i (image_on die last))
-      (ap (λ i. lasts_after pages then i more) (sym (run_image before mid run)) ∙ sym (lasts_join pages first first before more)) now
+    grew_run : (log : List Operation) (new : Device N) → Run die old log new → Stands old.engine.geometry (old.engine.mapping.capacity + old.engine.geometry.pages) (HasOnTheWay die old log new) (image_on die new)
+        → GrewSince old.engine.geometry (HasOnTheWay die old log new) (lasts_after old.engine.geometry.pages (image_on die old) (image_on die old) log) (image_on die new)
+    grew_run log new NoCall stands = since_begin old.engine.geometry (old.engine.mapping.capacity + old.engine.geometry.pages) (HasOnTheWay die old [] old) (image_on die old) stands
+    grew_run log new (OneMore before mid more last run does) stands =
+        let pages : ℕ = old.engine.geometry.pages in
+        let first : Image = image_on die old in
+        let then : Image = lasts_after pages first first before in
+        let c = called_on before mid more last run does in
+        let so_far = grew_run before mid run (stands_before before mid more last run does) in
+        let now = grew old.engine.geometry (old.engine.mapping.capacity + pages) (HasOnTheWay die old (before ++ more) last) more (die.flash mid.engine.nand) (die.flash last.engine.nand) c.begins.accounts
+        (ram mid.engine).next then (goes before mid more last run does then so_far) c.leads (c.legal c.begins.accounts c.begins.accounted) c.numbers in
+        subst (λ i. GrewSince old.engine.geometry (HasOnTheWay die old (before ++ more) last) i (image_on die last))
+        (ap (λ i. lasts_after pages then i more) (sym (run_image before mid run)) ∙ sym (lasts_join pages first first before more)) now
 
-  pub lost_run : (log : List Operation) (new : Device N) (found : Image) → Run die old log new → MayLose old.engine.geometry (image_on die old) log found
-      → LosesSince (image_on die old) (image_on die old) found ⊎ IsFoundAfterLoss die old log new found
-  lost_run log new found NoCall m = inl m.by
-  lost_run log new found (OneMore before mid more last run does) m =
-      let pages : ℕ = old.engine.geometry.pages in
-      let first : Image = image_on die old in
-      elim (lost_apart pages first first found before more m.by) [
-        | inl earlier ↦ elim (lost_run before mid found run (record { whole = m.whole; by = earlier })) [
-          | inl none ↦ inl none
-          | inr f ↦ inr (record { one = f.one; mounts = f.mounts; sectors = λ n within. way_on before mid more last n _ does (f.sectors n within) })
+    pub lost_run : (log : List Operation) (new : Device N) (found : Image) → Run die old log new → MayLose old.engine.geometry (image_on die old) log found
+        → LosesSince (image_on die old) (image_on die old) found ⊎ IsFoundAfterLoss die old log new found
+    lost_run log new found NoCall m = inl m.by
+    lost_run log new found (OneMore before mid more last run does) m =
+        let pages : ℕ = old.engine.geometry.pages in
+        let first : Image = image_on die old in
+        elim (lost_apart pages first first found before more m.by) [
+          | inl earlier ↦ elim (lost_run before mid found run (record { whole = m.whole; by = earlier })) [
+            | inl none ↦ inl none
+            | inr f ↦ inr (record { one = f.one; mounts = f.mounts; sectors = λ n within. way_on before mid more last n _ does (f.sectors n within) })
+          ]
+          | inr later ↦
+              let then : Image = lasts_after pages first first before in
+              let c = called_on before mid more last run does in
+              let so_far = grew_run before mid run (stands_before before mid more last run does) in
+              let f = lost old.engine.geometry (old.engine.mapping.capacity + pages) (HasOnTheWay die old (before ++ more) last) more (die.flash mid.engine.nand) (die.flash last.engine.nand) c.begins.accounts
+              (ram mid.engine).next then found (goes before mid more last run does then so_far) c.leads (c.legal c.begins.accounts c.begins.accounted) c.numbers m.whole
+              (subst (λ i. LostBy pages then i more found) (run_image before mid run) later) in
+              inr (record { one = f.one; mounts = f.mounts; sectors = f.sectors })
         ]
-        | inr later ↦
-            let then : Image = lasts_after pages first first before in
-            let c = called_on before mid more last run does in
-            let so_far = grew_run before mid run (stands_before before mid more last run does) in
-            let f = lost old.engine.geometry (old.engine.mapping.capacity + pages) (HasOnTheWay die old (before ++ more) last) more (die.flash mid.engine.nand) (die.flash last.engine.nand) c.begins.accounts
-            (ram mid.engine).next then found (goes before mid more last run does then so_far) c.leads (c.legal c.begins.accounts c.begins.accounted) c.numbers m.whole
-            (subst (λ i. LostBy pages then i more found) (run_image before mid run) later) in
-            inr (record { one = f.one; mounts = f.mounts; sectors = f.sectors })
-      ]
 
 pub killed_run : {N : Type 0} (die : DieWords N) → KilledRunLaw die
-killed_run die old new log found run few m = killed die old few log new found run m
+killed_run die old new log found run m = killed die old log new found run m
 
 pub lost_run_law : {N : Type 0} (die : DieWords N) → LostRunLaw die
 lost_run_law die old new log found run few m = lost_run die old few log new found run m

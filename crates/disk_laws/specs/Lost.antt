@@ -1,10 +1,10 @@
 -- WHAT A LOSS OF POWER MAY LEAVE OF A DIE IN A FILE, by its operations since a moment at which all of its pages lasted, as after a sync. Each erase stands
 -- between two syncs of the file; of the pages programmed since the last sync each may be there, or not, or in part, and then has no sound record.
-use Rattle.std.specs.Prelude.{◌≡◌, ◌⊎◌, ℕ, List, [], ◌∷◌, ◌++◌}
+use Rattle.std.specs.Prelude.{◌⊎◌, ℕ, Bool, List, [], ◌∷◌}
 use Rattle.page_layout.specs.declared.geometry.Geometry.{Geometry}
-use Rattle.page_layout.specs.Page.{Image, IsImage}
+use Rattle.page_layout.specs.Page.{Page, Image, IsImage}
 use Rattle.page_layout.specs.Flash.{Operation, Program, Erase}
-use Rattle.page_layout.specs.Recording.{image_after, image_after_all}
+use Rattle.page_layout.specs.Recording.{image_after}
 use Rattle.promises.specs.Stop.{LeftBy, Tears}
 use Rattle.image_laws.specs.Power.{LosesSince}
 

@@ -1,5 +1,5 @@
 -- CALLS OF A DEVICE ONE AFTER ANOTHER, and what is found of its disk where they are cut short.
-use Rattle.std.specs.Prelude.{◌≡◌, ◌⊎◌, ◌+◌, ◌<◌, ◌≤◌, ℕ, Bool, List, [], ◌++◌, Option, IsSome, Result}
+use Rattle.std.specs.Prelude.{◌≡◌, ◌⊎◌, ◌+◌, ◌<◌, ◌≤◌, ℕ, Bool, true, List, [], ◌++◌, Option, IsSome, Result}
 use Rattle.page_layout.specs.declared.geometry.Geometry.{Geometry}
 use Rattle.page_layout.specs.Page.{Image}
 use Rattle.page_layout.specs.Array.{sector_of, array_of, HasOneArray}
@@ -11,9 +11,11 @@ use Rattle.image_check.specs.Mountable.{IsMountable}
 use Rattle.image_check.specs.Stale.{stale_count}
 use Rattle.image_laws.specs.Power.{LosesSince}
 use Rattle.nbd_stream.specs.declared.fault.DiskFault.{DiskFault}
+use Rattle.nbd_stream.specs.Through.{Through}
 use Rattle.ftl_device.specs.declared.device.Device.{Device}
-use Rattle.disk_server.specs.Disk.{AsksChange, AsksFlush, AsksRead, AsksTurn, IsDisk}
-use Rattle.disk_laws.specs.Killed.{HoldsThrough, bytes_found}
+use Rattle.disk_server.specs.Asked.{AsksCall}
+use Rattle.disk_server.specs.Disk.{AsksChange, AsksFlush, AsksRead, AsksTurn, ChangesOne, IsDisk, holds}
+use Rattle.disk_laws.specs.Killed.{HoldsThrough, MountsFor, bytes_found}
 use Rattle.disk_laws.specs.Lost.{MayLose}
 
 -- the words of a kind of die
@@ -50,6 +52,13 @@ pub data Run {N : Type 0} (die : DieWords N) (old : Device N) : List Operation �
   NoCall : Run die old [] old
   OneMore : (before : List Operation) (mid : Device N) (log : List Operation) (new : Device N) → Run die old before mid → Does die mid log new → Run die old (before ++ log) new
 
+-- WHAT IS ASKED OF A DEVICE by who serves it as a disk: a read of a sector, a change of one, a flush, or a rest
+abbrev pub IsAsked : {N : Type 0} → DieWords N → Device N → Device N → Type 0
+IsAsked die old new =
+    AsksCall (AsksRead die.flash die.recorded die.honest die.calm die.programs die.erases die.failed) (ChangesOne die.flash die.recorded die.honest die.calm die.programs die.erases die.failed)
+    (AsksFlush die.flash die.recorded die.honest die.calm die.failed) old new
+    ⊎ ((result : Result (Unit {0}) DiskFault) × AsksTurn die.flash die.recorded die.honest die.calm die.erases die.failed old result new)
+
 -- A MOMENT INSIDE ONE OF THE CALLS, where these pages are found: each call before that one was whole, none behind it was begun, and the bytes of the disk are those from before it, or from after it
 pub record CutIn {N : Type 0} (die : DieWords N) (old : Device N) (log : List Operation) (new : Device N) (found : Image) : Type 0 where
   pub before : List Operation
@@ -63,6 +72,7 @@ pub record CutIn {N : Type 0} (die : DieWords N) (old : Device N) (log : List Op
   pub joined : log ≡ before ++ (at ++ after)
   pub cut : MayLeave old.engine.geometry (image_on die first) at found
   pub whole : (bytes_found old found ≡ bytes_found old (image_on die first)) ⊎ (bytes_found old found ≡ bytes_found old (image_on die next))
+  pub mounts : MountsFor old found
 
 -- a sector has these bytes in a disk on the way: before the calls, or after some of them
 pub record HasOnTheWay {N : Type 0} (die : DieWords N) (old : Device N) (log : List Operation) (new : Device N) (n : ℕ) (bytes : List ℕ) : Type 0 where
@@ -86,14 +96,17 @@ pub record IsFoundAfterLoss {N : Type 0} (die : DieWords N) (old : Device N) (lo
 abbrev pub OneCallLaw : {N : Type 0} → DieWords N → Type 0
 OneCallLaw {N} die = (old new : Device N) (log : List Operation) → Does die old log new → Run die old log new
 
--- ---- laws of a device whose cache and a block have no more entries and pages than a cache may have
+-- ALL THAT IS ASKED IN A SESSION is such calls, where the device holds its array at its end, and its die tells a record then
+abbrev pub SessionLaw : {N : Type 0} → DieWords N → Type 0
+SessionLaw {N} die = (old new : Device N) → IsDisk die.flash die.honest old → Through (IsAsked die) old new → holds die.honest new ≡ true → IsSome (die.recorded new.engine.nand)
+    → (log : List Operation) × Run die old log new
 
 -- A KILL AT ANY MOMENT OF THE CALLS: it mounts, and each call that had ended is in it, and the one at hand whole or not at all
 abbrev pub KilledRunLaw : {N : Type 0} → DieWords N → Type 0
-KilledRunLaw {N} die = (old new : Device N) (log : List Operation) (found : Image) → Run die old log new → old.engine.mapping.capacity + old.engine.geometry.pages ≤ 65536
-    → MayLeave old.engine.geometry (image_on die old) log found → (found ≡ image_on die old) ⊎ (IsMountable old.engine.geometry (old.engine.mapping.capacity + old.engine.geometry.pages) found × CutIn die old log new found)
+KilledRunLaw {N} die = (old new : Device N) (log : List Operation) (found : Image) → Run die old log new
+    → MayLeave old.engine.geometry (image_on die old) log found → (found ≡ image_on die old) ⊎ CutIn die old log new found
 
--- A LOSS OF POWER AT ANY MOMENT SINCE ALL PAGES LASTED, as since a sync: nothing from before is lost. Where nothing was done since, what is found has the records that there were
+-- A LOSS OF POWER AT ANY MOMENT SINCE ALL PAGES LASTED, as since a sync, of a device whose cache and a block have no more entries and pages than a cache may have: nothing from before is lost. Where nothing was done since, what is found has the records that there were
 abbrev pub LostRunLaw : {N : Type 0} → DieWords N → Type 0
 LostRunLaw {N} die = (old new : Device N) (log : List Operation) (found : Image) → Run die old log new → old.engine.mapping.capacity + old.engine.geometry.pages ≤ 65536
     → MayLose old.engine.geometry (image_on die old) log found → LosesSince (image_on die old) (image_on die old) found ⊎ IsFoundAfterLoss die old log new found

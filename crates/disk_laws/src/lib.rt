@@ -3,7 +3,7 @@
 #![tactic(auto)]
 
 ghost use Rattle.disk_laws.specs.Lost.{AfterEraseLaw, AllGoneLaw, AllThereLaw};
-ghost use Rattle.disk_laws.specs.Runs.{KilledRunLaw, LostRunLaw, OneCallLaw};
+ghost use Rattle.disk_laws.specs.Runs.{KilledRunLaw, LostRunLaw, OneCallLaw, SessionLaw};
 ghost use Rattle.disk_laws.specs.Killed.{FoundAsItWasLaw, KilledChangeLaw, KilledFlushLaw, KilledTurnLaw, StoreTellsLaw};
 
 use file_die::{FileDie, Store};
@@ -32,11 +32,12 @@ pub fn loss_laws()
     ensures gone { AllGoneLaw }
 {}
 
-/// What is found of a disk where calls of its device, one after another, are cut short at any moment. Killed, or stopped: it mounts, and each call that had ended is in it, and the one at hand whole or not at all. After a
+/// What is found of a disk where calls of its device, one after another, are cut short at any moment: all that a session asks is such calls. Killed, or stopped: it mounts, and each call that had ended is in it, and the one at hand whole or not at all. After a
 /// loss of power, since all pages lasted: it is one array, each sector has the bytes that it had then or after one of the calls since, and it mounts with each cache that has room for what is stale. It is said of a device
 /// that holds its array through each call, by what the record of its die gained. (This project.)
 pub fn run_laws<N: Nand>()
     ensures one { OneCallLaw (record { flash = N.flash; recorded = N.recorded; honest = N.honest; calm = N.calm; programs = N.programs; erases = N.erases; failed = N.failed }) }
+    ensures session { SessionLaw (record { flash = N.flash; recorded = N.recorded; honest = N.honest; calm = N.calm; programs = N.programs; erases = N.erases; failed = N.failed }) }
     ensures killed { KilledRunLaw (record { flash = N.flash; recorded = N.recorded; honest = N.honest; calm = N.calm; programs = N.programs; erases = N.erases; failed = N.failed }) }
     ensures lost { LostRunLaw (record { flash = N.flash; recorded = N.recorded; honest = N.honest; calm = N.calm; programs = N.programs; erases = N.erases; failed = N.failed }) }
 {}

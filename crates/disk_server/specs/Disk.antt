@@ -113,6 +113,7 @@ pub record AsksRead {N : Type 0} (flash : N → Flash) (recorded : N → Option 
   pub only_reads : OnlyReads flash honest calm programs erases failed old.engine.nand new.engine.nand
   pub limits : HasLimitsOf old.engine.mapping new.engine.mapping
   pub disk : IsDisk flash honest new
+  pub back : holds honest new ≡ true → holds honest old ≡ true
   pub leaves : holds honest old ≡ true → holds honest new ≡ true → LeavesDie flash recorded old new
 
 -- or a sector to be cleared: a read that gave zeros, and nothing else; or a read that did not, or failed, and then a trim
