@@ -12,7 +12,7 @@ use Rattle.collection.specs.Results.{LeavesNewest, IsSame, Goes, Refused}
 use Rattle.collection.specs.Left.{IsCalm, IsHalfDone, LeavesPin, PinIsFew}
 use Rattle.collection.proofs.Memory.{goes_same}
 use Rattle.collection.proofs.Beside.{beside_same, beside_written}
-use Rattle.ftl_device.specs.declared.fault.CallFault.TheVariants.{Engine as EngineFault}
+use Rattle.ftl_device.specs.declared.fault.CallFault.TheVariants.{Engine as OfEngine}
 use Rattle.ftl_device.specs.declared.device.Device.{Device}
 use Rattle.ftl_device.specs.Device.{IsDevice}
 use Rattle.ftl_device.specs.Calls.{Knows, PinIsTrue, IsWell, KeepsArray, CallRefused}
@@ -52,7 +52,7 @@ module _ (a b : Ram) (x y : Image) (s : IsRam a) (t : IsRam b) (l : LeavesPin a 
   pub keeps_beside : IsSame a x b y → KeepsArray a.geometry x b y
   keeps_beside same = record { truth = knows_beside same.truth same.leaves; array = same.array; versions = same.leaves.versions }
 
-  pub refused_beside : (fault : EngineFault) → Refused a x b y fault → CallRefused a.geometry x b y (EngineFault fault)
+  pub refused_beside : (fault : EngineFault) → Refused a x b y fault → CallRefused a.geometry x b y (OfEngine fault)
   refused_beside ReadOnly r = record { truth = r.truth; array = r.array; versions = r.leaves.versions }
   refused_beside SequenceSpent r = record { truth = r.truth; array = r.array; versions = r.leaves.versions; few = few_beside r.truth r.leaves }
   refused_beside Damaged r = r

@@ -20,7 +20,7 @@ use Rattle.collection.specs.Truth.{IsTrue}
 use Rattle.collection.specs.Log.{Went}
 use Rattle.collection.specs.Looks.{IsReadFault}
 use Rattle.collection.specs.Pages.{newest_row}
-use Rattle.ftl_device.specs.declared.fault.CallFault.TheVariants.{Engine as EngineFault}
+use Rattle.ftl_device.specs.declared.fault.CallFault.TheVariants.{Engine as OfEngine}
 use Rattle.ftl_device.specs.Calls.{Tells, Knows, KeepsArray, IsFound, CallRefused, HasMadeRoom}
 use Rattle.ftl_device.proofs.PinLemmas.{knows_beside}
 use Rattle.collection.proofs.Lefts.{calm_law}
@@ -74,7 +74,7 @@ module _ (c d : Ram) (fault : Option EngineFault) (is : d ≡ record c { fault =
 
   pub found_after : (result : Result (Option ℕ) EngineFault) (n : ℕ) (g : Geometry) (x : Image) (t u : Flash) → KeepsArray g x c t.image → (result ≢ Err Bus → u ≡ t)
       → MatchResult result (λ row. row ≡ newest_row t.image (Sector n)) (λ f. f ≡ Bus)
-      → MatchResult result (λ row. IsFound n row g x d u.image) (λ f. CallRefused g x d u.image (EngineFault f))
+      → MatchResult result (λ row. IsFound n row g x d u.image) (λ f. CallRefused g x d u.image (OfEngine f))
   found_after (Ok row) n g x t u keeps same row_is =
       let unread : u ≡ t = same (λ e. (let no : ⊥ = cc in no)) in
       subst (λ (s : Flash). IsFound n row g x d s.image) (sym unread) (record { keeps = record { truth = knows_found t.image keeps.truth; array = keeps.array; versions = keeps.versions }; row_is = row_is })

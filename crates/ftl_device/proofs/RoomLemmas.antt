@@ -22,7 +22,7 @@ use Rattle.page_layout.specs.Flash.{Flash}
 use Rattle.collection.specs.Results.{Goes, fault_after}
 use Rattle.collection.specs.Collect.{GoesOn, KeepsKeys, Refreshes, IsUpToDate, HasRoom, RoomTells, IsRearranged, RoomRefused}
 use Rattle.collection.specs.Collect.{IsAiling, HasAiling, HasNoneAiling, RescueCosts, IsRescued}
-use Rattle.ftl_device.specs.declared.fault.CallFault.TheVariants.{Engine as EngineFault}
+use Rattle.ftl_device.specs.declared.fault.CallFault.TheVariants.{Engine as OfEngine}
 use Rattle.ftl_device.specs.Calls.{Tells, CallTells, Knows, KeepsArray, CallRefused, HasMadeRoom, HasRescued, HasWorked}
 use Rattle.ftl_device.specs.Flush.{KeepsClean}
 use Rattle.ftl_device.proofs.PinLemmas.{few_more, knows_none}
@@ -107,7 +107,7 @@ ok_any (Err fault) p = tt
 pub keeps_room : (a b : Ram) (x y : Image) → IsRearranged a x b y → Knows b y → KeepsArray a.geometry x b y
 keeps_room a b x y r k = record { truth = k; array = r.array; versions = r.versions }
 
-pub refused_room : (a b : Ram) (x y : Image) (fault : EngineFault) → RoomRefused a x b y fault → (fault ≢ Bus → PinIsFew 0 b) → CallRefused a.geometry x b y (EngineFault fault)
+pub refused_room : (a b : Ram) (x y : Image) (fault : EngineFault) → RoomRefused a x b y fault → (fault ≢ Bus → PinIsFew 0 b) → CallRefused a.geometry x b y (OfEngine fault)
 refused_room a b x y ReadOnly r few = record { truth = r.truth; array = r.array; versions = r.versions }
 refused_room a b x y SequenceSpent r few = record { truth = r.truth; array = r.array; versions = r.versions; few = few_more b (few (λ e. (let no : ⊥ = cc in no))) }
 refused_room a b x y Damaged r few = r
@@ -200,7 +200,7 @@ rescued_by a b c x y z found s t u first then r d = record {
         let at_a : k < a.blocks.geometry.blocks = (let f : a.blocks.geometry.blocks ≡ a.geometry.blocks = ap (λ (g : Geometry). g.blocks) s.blocks_of in omega arith) in
         (k, record { within = at_a; bad = bad; some = omega (arith, one_of.2) }, omega (arith, one_of.2))
 
-pub call_tells : (fault : EngineFault) (a b : Ram) → Tells {A = Unit {0}} a b (Err fault) → CallTells {A = Unit {0}} a b (Err (EngineFault fault))
+pub call_tells : (fault : EngineFault) (a b : Ram) → Tells {A = Unit {0}} a b (Err fault) → CallTells {A = Unit {0}} a b (Err (OfEngine fault))
 call_tells ReadOnly a b h = h
 call_tells SequenceSpent a b h = h
 call_tells Damaged a b h = tt
