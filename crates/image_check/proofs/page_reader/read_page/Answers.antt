@@ -1,23 +1,23 @@
 use Rattle.std.proofs.Common.{◌+◌, ◌++◌, arith, length}
 use Rattle.std.specs.Io.KnownBytes.{Consumes}
 use Rattle.std.proofs.KnownBytes.{Consumes-trans}
-use Rattle.image_check.specs.Streamed.{IsCut}
+use Rattle.image_check.specs.PageReader.{IsCut}
 use Rattle.image_check.proofs.PassLemmas.{err_map, ok_map}
-use Rattle.image_check.proofs.StreamLemmas.{cut_after}
-use Rattle.image_check.proofs.stream.read_page.Goals as goal
+use Rattle.image_check.proofs.PageReaderLemmas.{cut_after}
+use Rattle.image_check.proofs.page_reader.read_page.Goals as goal
 
 pub returns-clause-whole : goal.returns-clause-whole
 returns-clause-whole g c =
-    let a = g.R.Read.remaining c.args.reader.now in
-    let b = g.R.Read.remaining c.fill.new.reader in
-    let d = g.R.Read.remaining c.fill-2.new.reader in
+    let a = g.R.DumpReader.remaining c.args.reader.now in
+    let b = g.R.DumpReader.remaining c.fill.new.reader in
+    let d = g.R.DumpReader.remaining c.fill-2.new.reader in
     ok_map (Consumes b d c.fill-2.new.buffer) (Consumes a d (c.fill.new.buffer ++ c.fill-2.new.buffer)) c.fill-2.result (λ h. Consumes-trans a b d c.fill.new.buffer c.fill-2.new.buffer c.in_ok-fill.ensures.whole h) c.fill-2.ensures.whole
 
 pub returns-clause-cut : goal.returns-clause-cut
 returns-clause-cut g c =
-    let a = g.R.Read.remaining c.args.reader.now in
-    let b = g.R.Read.remaining c.fill.new.reader in
-    let d = g.R.Read.remaining c.fill-2.new.reader in
+    let a = g.R.DumpReader.remaining c.args.reader.now in
+    let b = g.R.DumpReader.remaining c.fill.new.reader in
+    let d = g.R.DumpReader.remaining c.fill-2.new.reader in
     err_map (IsCut (length c.fill-2.new.buffer) b d) (IsCut (length c.fill.new.buffer + length c.fill-2.new.buffer) a d) c.fill-2.result
     (λ cut h. cut_after (length c.fill-2.new.buffer) (length c.fill.new.buffer + length c.fill-2.new.buffer) a b d c.fill.new.buffer cut
     c.in_ok-fill.ensures.whole (omega arith) h) c.fill-2.ensures.cut
