@@ -23,7 +23,8 @@ CRATES = [
     ("mount", "Format and mount", ("format", "FormatFault", "mount", "mount_counted", "Mounted"), ()),
     ("certificate", "Certificate", ("read_certificate", "write_certificate", "CertFault", "Certificate"), ("BlockState",)),
     ("image_check", "Checker", ("check", "check_stream", "Accepted", "Refusal"),
-     ("sector", "sector_in", "SectorFault", "Scratch", "describe", "describe_blocks", "Newest", "find_stale", "first_repeated", "Survey")),
+     ("sector", "sector_in", "SectorFault", "Scratch", "describe", "describe_blocks", "Newest", "find_stale", "first_repeated", "Survey",
+      "DumpReader", "DumpFault", "Cut", "fill", "read_page", "is_at_end")),
     ("ftl_device", "Device", ("Device", "DeviceFault", "StartFault"), ()),
 ]
 # the enums of which FORMATS says what each case means, and the call of which it has the order of refusals

@@ -17,6 +17,7 @@ pub mod JudgeLemmas
 pub mod OnceLemmas
 pub mod NotedLemmas
 pub mod PassLemmas
+pub mod PageReaderLemmas
 pub mod StreamLemmas
 pub mod SeenLemmas
 pub mod TornLemmas

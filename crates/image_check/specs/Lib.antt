@@ -17,4 +17,5 @@ pub mod Accepted
 pub mod Noted
 pub mod Room
 pub mod Passed
+pub mod PageReader
 pub mod Streamed

@@ -1,33 +1,26 @@
 //! The checker of an image that a reader gives, page by page.
-ghost use Rattle.std.specs.Prelude.{◌≡◌, ◌⊎◌, ◌+◌, ◌↔◌, ◌++◌, Err, length, OnOk, IfOk, IfErr, IfSome};
-ghost use Rattle.std.specs.Io.KnownBytes.{Consumes, IsAtEnd};
+ghost use Rattle.std.specs.Prelude.{◌≡◌, ◌⊎◌, ◌+◌, ◌↔◌, Err, length, OnOk, IfOk, IfErr, IfSome};
 ghost use Rattle.page_layout.specs.Geometry.{row_count};
 ghost use Rattle.page_layout.specs.Page.{Image};
 ghost use Rattle.page_layout.specs.Raw.{raw_image};
 ghost use Rattle.image_check.specs.Accepted.{IsAcceptance};
 ghost use Rattle.image_check.specs.Agrees.{IsAsked};
+ghost use Rattle.image_check.specs.PageReader.{image_bytes, ReadsUpTo, IsCut, IsReadTo, IsTaken};
 ghost use Rattle.image_check.specs.Passed.{IsPass, IsSamePass, Shows};
 ghost use Rattle.image_check.specs.Refused.{IsJudgement};
-ghost use Rattle.image_check.specs.Streamed.{image_bytes, ReadsUpTo, HasMore, IsCut, IsReadTo, IsTaken, IsUntaken, IsStreamRefusal};
+ghost use Rattle.image_check.specs.Streamed.{IsUntaken, IsStreamRefusal};
 ghost use Rattle.image_check.specs.declared.refusal.Refusal.TheVariants as refusals;
 
 use crate::accepted::Accepted;
 use crate::checker::is_asked;
+use crate::dump_reader::DumpReader;
+use crate::page_reader::{Cut, is_at_end, read_page};
 use crate::pass::Pass;
 use crate::refusal::Refusal;
 use certificate::Certificate;
 use page_layout::geometry::Geometry;
 use std::alloc::Global;
 use std::io::Read;
-
-/// Why a buffer was not filled.
-#[derive(Clone, Copy, Debug, PartialEq, Eq)]
-pub(crate) enum Cut {
-    // the reader's bytes ended
-    Ended,
-    // a read failed, or was interrupted
-    Failed,
-}
 
 impl From<Cut> for Refusal {
     ghost use Rattle.image_check.specs.Streamed.{refusal_of};
@@ -42,33 +35,8 @@ impl From<Cut> for Refusal {
     }
 }
 
-// Fills the buffer from the reader, and reads no further.
-fn fill<R: Read>(reader: &mut R, buffer: &mut [u8]) -> Result<(), Cut>
-    ensures whole { OnOk result (Consumes (R.remaining reader.old) (R.remaining reader.new) buffer.new) }
-    ensures cut { IfErr result (IsCut (length buffer.new) (R.remaining reader.old) (R.remaining reader.new)) }
-{
-    let mut count = 0;
-    while count < buffer.len() {
-        match reader.read(&mut buffer[count..]) {
-            Ok(0) => return Err(Cut::Ended),
-            Ok(n) => count += n,
-            Err(_) => return Err(Cut::Failed),
-        }
-    }
-    Ok(())
-}
-
-// The next page: its data area and then its spare area.
-fn read_page<R: Read>(reader: &mut R, body: &mut [u8], spare: &mut [u8]) -> Result<(), Cut>
-    ensures whole { OnOk result (Consumes (R.remaining reader.old) (R.remaining reader.new) (body.new ++ spare.new)) }
-    ensures cut { IfErr result (IsCut (length body.new + length spare.new) (R.remaining reader.old) (R.remaining reader.new)) }
-{
-    fill(reader, body)?;
-    fill(reader, spare)
-}
-
 // Hands each page to a pass, in row order, as the reader gives them.
-fn stream_pages<R: Read>(
+fn stream_pages<R: DumpReader>(
     reader: &mut R,
     geometry: &Geometry,
     pass: &mut Pass<'_>,
@@ -82,7 +50,7 @@ fn stream_pages<R: Read>(
     requires spare_whole { length spare.old ≡ geometry.now.spare_bytes }
     ensures pass { OnOk result (IsPass (row_count geometry.now) pass.new) }
     ensures same_pass { OnOk result (IsSamePass pass.old pass.new) }
-    ensures read { OnOk result (IsReadTo geometry.now (row_count geometry.now) (R.remaining reader.old) (R.remaining reader.new) pass.new) }
+    ensures read { OnOk result (IsReadTo geometry.now (row_count geometry.now) (R.remaining reader.old) (R.remaining reader.new) (λ image. Shows image (row_count geometry.now) pass.new)) }
     ensures cut { IfErr result (IsCut (image_bytes geometry.now) (R.remaining reader.old) (R.remaining reader.new)) }
 {
     for row in 0..geometry.rows() {
@@ -92,23 +60,8 @@ fn stream_pages<R: Read>(
     Ok(())
 }
 
-// No byte is left. One is asked for at most.
-#[tactic(auto, using(crate::proofs::StreamLemmas::end_of_cut, crate::proofs::StreamLemmas::one_more, crate::proofs::StreamLemmas::reads_cut, crate::proofs::StreamLemmas::reads_one))]
-fn expect_end<R: Read>(reader: &mut R) -> Result<(), Refusal>
-    ensures ok { OnOk result (IsAtEnd (R.remaining reader.old)) }
-    ensures err { IfErr result (λ refusal. (refusal ≡ refusals.Source) ⊎ ((refusal ≡ refusals.WrongLength) × HasMore (R.remaining reader.old))) }
-    ensures read { ReadsUpTo 1 (R.remaining reader.old) (R.remaining reader.new) }
-{
-    let mut byte = [0];
-    match fill(reader, &mut byte) {
-        Ok(()) => Err(Refusal::WrongLength),
-        Err(Cut::Ended) => Ok(()),
-        Err(Cut::Failed) => Err(Refusal::Source),
-    }
-}
-
-// Hands all pages to a pass, and sees that no byte follows them.
-fn take_image<R: Read>(
+// Hands all pages to a pass, and sees that no byte follows them. One more is asked for at most.
+fn take_image<R: DumpReader>(
     reader: &mut R,
     geometry: &Geometry,
     pass: &mut Pass<'_>,
@@ -122,13 +75,17 @@ fn take_image<R: Read>(
     requires spare_whole { length spare.old ≡ geometry.now.spare_bytes }
     ensures pass { OnOk result (IsPass (row_count geometry.now) pass.new) }
     ensures same_pass { OnOk result (IsSamePass pass.old pass.new) }
-    ensures taken { OnOk result (IfSome (R.remaining reader.old) (IsTaken geometry.now pass.new)) }
+    ensures taken { OnOk result (IfSome (R.remaining reader.old) (IsTaken geometry.now (λ image. Shows image (row_count geometry.now) pass.new))) }
     ensures untaken { IfErr result (λ refusal. IfSome (R.remaining reader.old) (λ bytes. IsUntaken geometry.now bytes refusal)) }
     ensures stops { IfErr result (λ refusal. (refusal ≡ refusals.Source) ⊎ (refusal ≡ refusals.WrongLength)) }
     ensures read { ReadsUpTo (image_bytes geometry.now + 1) (R.remaining reader.old) (R.remaining reader.new) }
 {
     stream_pages(reader, geometry, pass, body, spare)?;
-    expect_end(reader)
+    match is_at_end(reader) {
+        Ok(true) => Ok(()),
+        Ok(false) => Err(Refusal::WrongLength),
+        Err(_) => Err(Refusal::Source),
+    }
 }
 
 /// Checks a certificate against an image that a reader gives: the pages in row order, each its data area and then its spare

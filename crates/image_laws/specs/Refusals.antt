@@ -12,7 +12,8 @@ use Rattle.image_check.specs.declared.refusal.Refusal.TheVariants as refusals
 use Rattle.image_check.specs.Accepted.{Acceptance, IsAcceptance}
 use Rattle.image_check.specs.Mountable.{IsMountable}
 use Rattle.image_check.specs.Refused.{Tables, Next, Fresh, IsFirstWrong, IsFirstRepeated, IsJudgement, IsOfImage, IsStop, part_of}
-use Rattle.image_check.specs.Streamed.{IsStreamRefusal, ReadsUpTo, image_bytes}
+use Rattle.image_check.specs.PageReader.{ReadsUpTo, image_bytes}
+use Rattle.image_check.specs.Streamed.{IsStreamRefusal}
 use Rattle.mount.specs.Mounted.{IsAfter, IsUnmountable, IsOfMounting, Refuses}
 
 -- ONE PART: of an image and a certificate the part that fails first is one, so all that may be refused of them name it

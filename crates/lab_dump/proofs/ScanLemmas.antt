@@ -1,167 +1,39 @@
 -- A dump that a reader gives, page by page.
-use Rattle.std.proofs.Common.{◌≡◌, ◌⊎◌, ℕ, suc, ◌+◌, ◌-◌, ◌*◌, ◌<◌, ◌≤◌, List, [], ◌∷◌, ◌++◌, length, length-append, append-nil, append_assoc, take}
-use Rattle.std.proofs.Common.{drop, Option, Some, None, IfSome, sym, ap, subst, ◌∙◌, inl, inr, arith}
-use Rattle.std.proofs.Common.{slice_get, Result, Ok, Err, IfErr, OnErr, OnOk}
-use Rattle.std.specs.Prelude.{slice_range}
-use Rattle.std.specs.Io.KnownBytes.{Consumes, Keeps, IsAtEnd}
-use Rattle.std.proofs.KnownBytes.{Consumes-nil, Consumes-trans, Consumes-kept}
-use Rattle.std.proofs.lemmas.List.{drop_at, take_at}
-use Rattle.std.proofs.Math.Nat.{mul-le-mul_right}
+use Rattle.std.proofs.Common.{◌≡◌, ◌⊎◌, inl, inr, ℕ, List, Option, Some, None, IfSome, Result, Ok, Err, OnErr, sym, subst}
 use Rattle.page_layout.specs.declared.geometry.Geometry.{Geometry}
-use Rattle.page_layout.specs.Geometry.{row_count, page_bytes}
-use Rattle.page_layout.specs.Page.{Image, page}
-use Rattle.page_layout.specs.Raw.{raw_image, page_from}
-use Rattle.page_layout.proofs.RawLemmas.{raw_image-at}
-use Rattle.lab_dump.specs.declared.pass.Cut.{Cut}
-use Rattle.lab_dump.specs.declared.pass.Cut.TheVariants.{Ended, Failed}
+use Rattle.page_layout.specs.Geometry.{row_count}
+use Rattle.page_layout.specs.Page.{Image}
+use Rattle.image_check.specs.declared.page_reader.Cut.{Cut}
+use Rattle.image_check.specs.declared.page_reader.Cut.TheVariants.{Ended, Failed}
+use Rattle.image_check.proofs.PageReaderLemmas.{cut_short, read_past}
 use Rattle.lab_dump.specs.declared.pass.PassFault.{PassFault}
 use Rattle.lab_dump.specs.declared.pass.PassFault.TheVariants as fault
-use Rattle.lab_dump.specs.Scan.{image_bytes, HasMore, IsCut, IsReadTo, IsTaken, IsUntaken, fault_of}
+use Rattle.lab_dump.specs.Scan.{image_bytes, HasMore, IsCut, IsReadTo, IsUntaken, fault_of}
+pub use Rattle.image_check.proofs.PageReaderLemmas.{if_all, if_more}
+pub use Rattle.image_check.proofs.PassLemmas.{err_map, ok_map}
 
 -- ---- known bytes
-
-pub if_all : {X : Type 0} (o : Option X) (P : X → Type 0) → ((x : X) → P x) → IfSome o P
-if_all None P h = tt
-if_all (Some x) P h = h x
-
-pub if_more : {X : Type 0} (o : Option X) (P Q : X → Type 0) → IfSome o P → ((x : X) → P x → Q x) → IfSome o Q
-if_more None P Q h more = tt
-if_more (Some x) P Q h more = more x h
 
 pub if_both : {X : Type 0} (o : Option X) (P Q R : X → Type 0) → IfSome o P → IfSome o Q → ((x : X) → P x → Q x → R x) → IfSome o R
 if_both None P Q R p q both = tt
 if_both (Some x) P Q R p q both = both x p q
 
-pub err_map : {X Y : Type 0} (P Q : Y → Type 0) (r : Result X Y) → ((y : Y) → P y → Q y) → IfErr r P → IfErr r Q
-err_map P Q (Ok a) more h = tt
-err_map P Q (Err x) more h = more x h
-
-pub ok_map : {X Y : Type 0} (P Q : Type 0) (r : Result X Y) → (P → Q) → OnOk r P → OnOk r Q
-ok_map P Q (Ok a) more h = more h
-ok_map P Q (Err x) more h = tt
-
 pub err_all : {X Y : Type 0} (P : Type 0) (r : Result X Y) → P → OnErr r P
 err_all P (Ok a) h = tt
 err_all P (Err x) h = h
 
--- ---- a cut
+-- ---- why a dump was not taken
 
-pub cut_ended : (size n : ℕ) (a b d : Option (List ℕ)) (xs ys : List ℕ) → Consumes a b xs → length xs < size → n ≡ 0 → Consumes b d (take n ys) → IsAtEnd d → IsCut size a d Ended
-cut_ended size n a b d xs ys first few none second ends = record {
-  bytes = xs ++ [];
-  few = omega (arith, length-append xs []);
-  read = Consumes-trans a b d xs [] first (subst (λ k. Consumes b d (take k ys)) none second);
-  ends = ends;
-}
-
-pub cut_failed : (size : ℕ) (a b d : Option (List ℕ)) (xs : List ℕ) → Consumes a b xs → length xs < size → Keeps b d → IsCut size a d Failed
-cut_failed size a b d xs first few keeps = record { bytes = xs; few = few; read = Consumes-kept a b d xs first keeps; ends = tt }
-
-pub cut_after : (size more : ℕ) (a b d : Option (List ℕ)) (xs : List ℕ) (cut : Cut) → Consumes a b xs → length xs + size ≤ more → IsCut size b d cut → IsCut more a d cut
-cut_after size more a b d xs cut first le h = record {
-  bytes = xs ++ h.bytes;
-  few = (let few = h.few in omega (arith, length-append xs h.bytes));
-  read = Consumes-trans a b d xs h.bytes first h.read;
-  ends = h.ends;
-}
-
--- ---- pages
-
-pub read_none : (g : Geometry) (a : Option (List ℕ)) (shows : Image → Type 0) → ((image : Image) → shows image) → IsReadTo g 0 a a shows
-read_none g a shows h = record { bytes = []; size = omega arith; read = Consumes-nil a; shown = λ rest. h (raw_image g rest) }
-
--- the page that follows so many bytes
-page_there : (g : Geometry) (bytes body spare rest : List ℕ) (at : ℕ) → length bytes ≡ at → length body ≡ g.data_bytes → length spare ≡ g.spare_bytes → page_from g (bytes ++ ((body ++ spare) ++ rest)) at ≡ page body spare
-page_there g bytes body spare rest at size body_size spare_size =
-    let d : ℕ = g.data_bytes in
-    let all : List ℕ = bytes ++ ((body ++ spare) ++ rest) in
-    let first : at + d - at ≡ d = omega arith in
-    let second : at + page_bytes g - (at + d) ≡ g.spare_bytes = omega arith in
-    let begins : drop at all ≡ body ++ (spare ++ rest) = drop_at bytes ((body ++ spare) ++ rest) at size ∙ append_assoc body spare rest in
-    let later : drop (at + d) all ≡ spare ++ rest =
-    ap (drop (at + d)) (sym (append_assoc bytes (body ++ spare) rest) ∙ (ap (λ xs. xs ++ rest) (sym (append_assoc bytes body spare)) ∙ append_assoc (bytes ++ body) spare rest))
-    ∙ drop_at (bytes ++ body) (spare ++ rest) (at + d) (omega (arith, length-append bytes body)) in
-    let body_is : slice_range all at (at + d) ≡ body = ap (λ k. take k (drop at all)) first ∙ (ap (take d) begins ∙ take_at body (spare ++ rest) d body_size) in
-    let spare_is : slice_range all (at + d) (at + page_bytes g) ≡ spare = ap (λ k. take k (drop (at + d) all)) second ∙ (ap (take g.spare_bytes) later ∙ take_at spare rest g.spare_bytes spare_size) in
-    ap (λ b. page b (slice_range all (at + d) (at + page_bytes g))) body_is ∙ ap (λ s. page body s) spare_is
-
-next_times : (rows size : ℕ) → (rows + 1) * size ≡ rows * size + size
-next_times rows size = let one : rows + 1 ≡ suc rows = omega arith in ap (λ k. k * size) one ∙ omega arith
-
-pub read_more : (g : Geometry) (rows : ℕ) (a b d : Option (List ℕ)) (before after : Image → Type 0) (body spare : List ℕ) → IsReadTo g rows a b before → Consumes b d (body ++ spare) → length body ≡ g.data_bytes → length spare ≡ g.spare_bytes
-    → rows < row_count g → ((image : Image) → before image → slice_get image rows ≡ Some (page body spare) → after image) → IsReadTo g (rows + 1) a d after
-read_more g rows a b d before after body spare h next body_size spare_size within more = record {
-  bytes = h.bytes ++ (body ++ spare);
-  size = (let size = h.size in let step = next_times rows (page_bytes g) in omega (arith, length-append h.bytes (body ++ spare), length-append body spare));
-  read = Consumes-trans a b d h.bytes (body ++ spare) h.read next;
-  shown = λ rest. subst (λ bytes. after (raw_image g bytes)) (sym (append_assoc h.bytes (body ++ spare) rest))
-      (more (raw_image g (h.bytes ++ ((body ++ spare) ++ rest))) (h.shown ((body ++ spare) ++ rest))
-      (raw_image-at g (h.bytes ++ ((body ++ spare) ++ rest)) rows within ∙ ap Some (page_there g h.bytes body spare rest (rows * page_bytes g) h.size body_size spare_size)));
-}
-
--- a page that wasn't read whole
-pub read_cut : (g : Geometry) (rows size : ℕ) (a b d : Option (List ℕ)) (shows : Image → Type 0) (cut : Cut) → IsReadTo g rows a b shows → size ≡ page_bytes g → rows < row_count g → IsCut size b d cut → IsCut (image_bytes g) a d cut
-read_cut g rows size a b d shows cut h same within short =
-    let step = next_times rows (page_bytes g) in
-    let room : (rows + 1) * page_bytes g ≤ row_count g * page_bytes g = mul-le-mul_right (page_bytes g) (at_most rows (row_count g) within) in
-    let long = h.size in
-    cut_after size (image_bytes g) a b d h.bytes cut h.read (omega arith) short
-  where
-    at_most : (m n : ℕ) → m < n → m + 1 ≤ n
-    at_most m n l = omega arith
-
--- ---- the end
-
-ended : (b d : Option (List ℕ)) (xs : List ℕ) → Consumes b d xs → length xs < 1 → IsAtEnd d → IsAtEnd b
-ended None d xs read few e = tt
-ended (Some ys) None xs read few e = absurd read
-ended (Some ys) (Some zs) [] read few e = read ∙ e
-ended (Some ys) (Some zs) (x ∷ xs) read few e = absurd (omega arith)
-
-pub end_of_cut : (b d : Option (List ℕ)) → IsCut 1 b d Ended → IsAtEnd b
-end_of_cut b d h = ended b d h.bytes h.read h.few h.ends
-
-pub one_more : (b d : Option (List ℕ)) (xs : List ℕ) → Consumes b d xs → length xs ≡ 1 → HasMore b
-one_more None d xs read one = tt
-one_more (Some ys) None xs read one = absurd read
-one_more (Some ys) (Some zs) xs read one = let size : length ys ≡ length (xs ++ zs) = ap length read in omega (arith, length-append xs zs)
-
--- ---- the image as a whole
-
-taken_from : (g : Geometry) (a b : Option (List ℕ)) (xs : List ℕ) (shows : Image → Type 0) → Consumes a b xs → length xs ≡ image_bytes g → IsAtEnd b → shows (raw_image g (xs ++ [])) → IfSome a (IsTaken g shows)
-taken_from g None b xs shows read size e shown = tt
-taken_from g (Some ys) None xs shows read size e shown = absurd read
-taken_from g (Some ys) (Some zs) xs shows read size e shown =
-    let same : ys ≡ xs ++ [] = read ∙ ap (λ z. xs ++ z) e in
-    record {
-      whole = ap length (same ∙ append-nil xs) ∙ size;
-      shown = subst (λ bytes. shows (raw_image g bytes)) (sym same) shown;
-    }
-
-pub taken : (g : Geometry) (a b : Option (List ℕ)) (shows : Image → Type 0) → IsReadTo g (row_count g) a b shows → IsAtEnd b → IfSome a (IsTaken g shows)
-taken g a b shows h e = taken_from g a b h.bytes shows h.read h.size e (h.shown [])
-
-short_of : (g : Geometry) (a b : Option (List ℕ)) (xs : List ℕ) → Consumes a b xs → length xs < image_bytes g → IsAtEnd b → IfSome a (IsUntaken g fault.WrongLength)
-short_of g None b xs read few e = tt
-short_of g (Some ys) None xs read few e = absurd read
-short_of g (Some ys) (Some zs) xs read few e =
-    let same : length ys ≡ length xs = ap length (read ∙ (ap (λ z. xs ++ z) e ∙ append-nil xs)) in
-    λ whole. absurd (omega arith)
+source_untaken : (g : Geometry) (a : Option (List ℕ)) → IfSome a (IsUntaken g fault.Source)
+source_untaken g a = if_all a (IsUntaken g fault.Source) (λ bytes. tt)
 
 pub cut_untaken : (g : Geometry) (a b : Option (List ℕ)) (cut : Cut) (f : PassFault) → IsCut (image_bytes g) a b cut → f ≡ fault_of cut → IfSome a (IsUntaken g f)
-cut_untaken g a b Ended f h e = subst (λ (x : PassFault). IfSome a (IsUntaken g x)) (sym e) (short_of g a b h.bytes h.read h.few h.ends)
-cut_untaken g a b Failed f h e = subst (λ (x : PassFault). IfSome a (IsUntaken g x)) (sym e) (if_all a (IsUntaken g fault.Source) (λ bytes. tt))
+cut_untaken g a b Ended f h e = subst (λ (x : PassFault). IfSome a (IsUntaken g x)) (sym e) (cut_short g a b h)
+cut_untaken g a b Failed f h e = subst (λ (x : PassFault). IfSome a (IsUntaken g x)) (sym e) (source_untaken g a)
 
 pub stopped_untaken : (g : Geometry) (a : Option (List ℕ)) (f : PassFault) → f ≡ fault.Stopped → IfSome a (IsUntaken g f)
 stopped_untaken g a f e = subst (λ (x : PassFault). IfSome a (IsUntaken g x)) (sym e) (if_all a (IsUntaken g fault.Stopped) (λ bytes. tt))
 
-long_of : (g : Geometry) (a b : Option (List ℕ)) (xs : List ℕ) → Consumes a b xs → length xs ≡ image_bytes g → HasMore b → IfSome a (IsUntaken g fault.WrongLength)
-long_of g None b xs read size more = tt
-long_of g (Some ys) None xs read size more = absurd read
-long_of g (Some ys) (Some zs) xs read size more =
-    let long : length ys ≡ length (xs ++ zs) = ap length read in
-    λ whole. absurd (omega (arith, length-append xs zs))
-
 pub end_untaken : (g : Geometry) (a b : Option (List ℕ)) (shows : Image → Type 0) (f : PassFault) → IsReadTo g (row_count g) a b shows → (f ≡ fault.Source) ⊎ ((f ≡ fault.WrongLength) × HasMore b) → IfSome a (IsUntaken g f)
-end_untaken g a b shows f h (inl e) = subst (λ (x : PassFault). IfSome a (IsUntaken g x)) (sym e) (if_all a (IsUntaken g fault.Source) (λ bytes. tt))
-end_untaken g a b shows f h (inr w) = subst (λ (x : PassFault). IfSome a (IsUntaken g x)) (sym w.0) (long_of g a b h.bytes h.read h.size w.1)
+end_untaken g a b shows f h (inl e) = subst (λ (x : PassFault). IfSome a (IsUntaken g x)) (sym e) (source_untaken g a)
+end_untaken g a b shows f h (inr w) = subst (λ (x : PassFault). IfSome a (IsUntaken g x)) (sym w.0) (read_past g a b shows h w.1)

@@ -21,6 +21,7 @@ use Rattle.page_layout.specs.Array.{marks, zeros, content, content_of_kind}
 use Rattle.page_layout.specs.Block.{is_broken}
 use Rattle.page_layout.proofs.NewestLemmas.{sequence_at-none, sequence_at-other, sequence_at-key}
 use Rattle.page_layout.proofs.ArrayLemmas.{mark-page, content-record}
+use Rattle.image_check.proofs.PageReaderLemmas.{if_more}
 use Rattle.image_check.proofs.SurveyLemmas.{latest_more, latest_other, latest_start}
 use Rattle.lab_dump.specs.declared.look.Look.TheVariants as look
 use Rattle.lab_dump.specs.Look.{look_by, look_of}
@@ -77,10 +78,6 @@ look_unsound p e = from (record_of p) (is_erased_page p) refl refl e
     }
 
 -- ---- a page that says nothing of a sector
-
-pub if_more : {X : Type 0} (o : Option X) (P Q : X → Type 0) → IfSome o P → ((x : X) → P x → Q x) → IfSome o Q
-if_more None P Q h more = tt
-if_more (Some x) P Q h more = more x h
 
 -- the row is marked as of no sector of the die
 abbrev pub IsOfNone : Geometry → List (Option Record) → ℕ → Type 0

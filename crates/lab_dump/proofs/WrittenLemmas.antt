@@ -1,5 +1,5 @@
 -- What the pieces are once all pages were taken.
-use Rattle.std.proofs.Common.{◌≡◌, ◌≢◌, ℕ, zero, suc, ◌+◌, ◌<◌, ◌↔◌, true, false, List, [], length, get_or, map, Option, Some, None, IfSome}
+use Rattle.std.proofs.Common.{◌≡◌, ◌≢◌, ℕ, zero, suc, ◌+◌, ◌<◌, ◌↔◌, true, false, List, [], length, get_or, map, Option, Some, None}
 use Rattle.std.proofs.Common.{refl, sym, ap, subst, ◌∙◌, arith}
 use Rattle.std.specs.List.{range_with_len}
 use Rattle.std.proofs.lemmas.List.{same_lists, get_or-map, get_or_default, length-map}
@@ -33,13 +33,10 @@ use Rattle.lab_dump.specs.Until.{until}
 use Rattle.lab_dump.specs.Writing.{content_below, AreSized, ReadBelow, WritingStands, ShowsDamaged, ShowsSound}
 use Rattle.lab_dump.specs.Damaged.{content_in, damaged_array, damaged_sector, over, place_by, placed, said_marks, said_reads, shown_place}
 use Rattle.lab_dump.specs.Written.{IsLeftUnsettled, IsWritten, TiedLaw, UnmarkedLaw, damaged_state, damaged_states, state_of, states_of}
+use Rattle.lab_dump.proofs.ScanLemmas.{if_both}
 use Rattle.lab_dump.proofs.UntilLemmas.{until_size}
 
 -- ---- the pieces
-
-pub if_both : {X : Type 0} (o : Option X) (P Q R : X → Type 0) → IfSome o P → IfSome o Q → ((x : X) → P x → Q x → R x) → IfSome o R
-if_both None P Q R p q both = tt
-if_both (Some x) P Q R p q both = both x p q
 
 -- pieces that are each what a function says of its sector are its list
 all_read : (g : Geometry) (f : ℕ → List ℕ) (ps : List (List ℕ)) → length ps ≡ g.sectors → ((n : ℕ) → n < g.sectors → get_or ps n [] ≡ f n) → ps ≡ map f (range_with_len 0 g.sectors)

@@ -11,12 +11,12 @@ ghost use Rattle.lab_dump.specs.Written.{IsLeftUnsettled, IsWritten, TiedLaw};
 use crate::damaged::DamagedWriting;
 use crate::doubting::Doubting;
 use crate::doubts::Unsettled;
-use crate::dump::DumpReader;
 use crate::held::Held;
 use crate::make_fault::MakeFault;
 use crate::pass::scan;
 use crate::target::{DamagedTarget, Target};
 use crate::writing::Writing;
+use image_check::DumpReader;
 use page_layout::geometry::Geometry;
 use std::alloc::{AllocError, Global};
 

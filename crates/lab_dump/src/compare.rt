@@ -8,10 +8,10 @@ ghost use Rattle.lab_dump.specs.Rooms.{IsCompareRoom};
 
 use crate::doubting::Doubting;
 use crate::doubts::Unsettled;
-use crate::dump::DumpReader;
 use crate::pass::{PassFault, scan};
 use crate::trace::Trace;
 use certificate::Certificate;
+use image_check::DumpReader;
 use page_layout::geometry::Geometry;
 use std::alloc::{AllocError, Global};
 use thiserror::Error;

@@ -7,11 +7,12 @@ ghost use Rattle.lab_dump.specs.Shape.{page_counts};
 ghost use Rattle.lab_dump.specs.Fits.{shape_fits, area_fits, data_fits, fits_of, Adds, IsPossible, rank};
 ghost use Rattle.lab_dump.specs.Rooms.{IsFitRoom};
 
-use crate::dump::{Dump, DumpFault};
+use crate::dump::Dump;
 use crate::fit::{Fit, fit_of};
 use crate::sample::{Sample, take_sample};
 use crate::shape::{data_sizes, first_shape, page_counts, shape};
 use crate::told::{PagesTold, read_told};
+use image_check::DumpFault;
 use std::alloc::{AllocError, Global};
 
 // The most bytes that a page may have.

@@ -4,9 +4,9 @@ ghost use Rattle.lab_dump.specs.History.{FirstLaw, HistoryLaw, IsHistoryOf, page
 ghost use Rattle.lab_dump.specs.Rooms.{IsHistoryRoom};
 ghost use Rattle.lab_dump.specs.Surveyed.{IsUnsurveyed};
 
-use crate::dump::DumpReader;
 use crate::pass::{Stopped, Taker, scan};
 use crate::survey::SurveyFault;
+use image_check::DumpReader;
 use page_layout::geometry::Geometry;
 use page_layout::record::{Key, Kind, Record, is_erased, read_record};
 use std::alloc::{AllocError, Global};

@@ -61,11 +61,12 @@ pub use compare::{CompareFault, CompareRoom, Compared, compare_dump};
 pub use counts::{PageCounts, sorts_law};
 pub use damaged::damaged_laws;
 pub use doubts::{Doubts, Unsettled};
-pub use dump::{Dump, DumpFault, DumpReader};
+pub use dump::Dump;
 pub use find::{FitRoom, add_shapes, find_geometries};
 pub use fit::{Fit, TableSays, fit_of};
 pub use held::{Held, KeyState, SectorShown, damaged_count};
 pub use history::{History, HistoryRoom, SectorPage, Wrote, history_laws, survey_sector};
+pub use image_check::{Cut, DumpFault, DumpReader, fill};
 pub use laws::{
     areas_law, bad_block_laws, bound_laws, fit_laws, hole_laws, looked_laws, lost_law,
     none_lost_law, short_laws, told_laws,
@@ -78,7 +79,7 @@ pub use map_writer::{LineFault, MapWriter};
 pub use mark::{MapMark, Marked};
 pub use nearest::{Legible, NearestRoom, find_nearest, nearest_laws};
 pub use page_bytes::{is_broken, is_sound, join_page};
-pub use pass::{Cut, PassFault, Stopped, Taker, expect_end, fill, scan, scan_rows};
+pub use pass::{PassFault, Stopped, Taker, expect_end, scan, scan_rows};
 pub use row_page::look_in;
 pub use rows::{Rows, asked_law, each_law, is_asked, within_law};
 pub use said::{SaidPage, said_laws, spelled};

@@ -3,8 +3,9 @@ ghost use Rattle.std.specs.Prelude.{◌≡◌, ◌+◌, ◌-◌, ◌<◌, ◌≤
 ghost use Rattle.lab_dump.specs.Nearest.{HasBehind, LegibleLaw, NearestLaw, NoneLaw, is_settled, is_table, legible, nearer, nearest_below, nearest_of, read_as};
 ghost use Rattle.lab_dump.specs.Rooms.{IsNearestRoom};
 
-use crate::dump::{Dump, DumpFault};
+use crate::dump::Dump;
 use crate::said::{seal_size, spelled};
+use image_check::DumpFault;
 use page_layout::record::{Kind, Record};
 use std::alloc::{AllocError, Global};
 

@@ -1,15 +1,14 @@
 //! The pass over the pages of a dump.
-ghost use Rattle.std.specs.Prelude.{◌≡◌, ◌⊎◌, ◌+◌, ◌++◌, length, true, Err, OnOk, IfErr, IfSome};
-ghost use Rattle.std.specs.Io.KnownBytes.{Consumes, IsAtEnd};
+ghost use Rattle.std.specs.Prelude.{◌≡◌, ◌⊎◌, length, true, Err, OnOk, IfErr, IfSome};
+ghost use Rattle.std.specs.Io.KnownBytes.{IsAtEnd};
 ghost use Rattle.page_layout.specs.Geometry.{row_count};
 ghost use Rattle.page_layout.specs.Page.{Image};
 ghost use Rattle.lab_dump.specs.Rows.{within};
-ghost use Rattle.lab_dump.specs.Scan.{HasMore, IsCut, IsReadTo, IsTaken, IsUntaken};
-ghost use Rattle.lab_dump.specs.declared.pass.Cut.TheVariants as cuts;
+ghost use Rattle.lab_dump.specs.Scan.{HasMore, IsReadTo, IsTaken, IsUntaken};
 ghost use Rattle.lab_dump.specs.declared.pass.PassFault.TheVariants as faults;
 
-use crate::dump::DumpReader;
 use crate::rows::{Rows, show_page};
+use image_check::{Cut, DumpReader, is_at_end, read_page};
 use page_layout::geometry::Geometry;
 use thiserror::Error;
 
@@ -88,15 +87,6 @@ pub trait Taker {
         ensures stopped { OnErr result (stopped self.new) };
 }
 
-/// Why a buffer was not filled.
-#[derive(Clone, Copy, Debug, PartialEq, Eq)]
-pub enum Cut {
-    /// The reader's bytes ended.
-    Ended,
-    /// A read failed, or was interrupted.
-    Failed,
-}
-
 impl From<Cut> for PassFault {
     ghost use Rattle.lab_dump.specs.Scan.{fault_of};
 
@@ -108,38 +98,6 @@ impl From<Cut> for PassFault {
             Cut::Failed => PassFault::Source,
         }
     }
-}
-
-/// Fills the buffer from the reader, and reads no further.
-///
-/// # Errors
-///
-/// `Ended` where the reader's bytes ended before the buffer was full, `Failed` where a read failed or was interrupted. The buffer then holds
-/// anything, and the reader gave fewer bytes than the buffer has. (This project's rules.)
-pub fn fill<R: DumpReader>(reader: &mut R, buffer: &mut [u8]) -> Result<(), Cut>
-    ensures whole { OnOk result (Consumes (R.remaining reader.old) (R.remaining reader.new) buffer.new) }
-    ensures cut { IfErr result (IsCut (length buffer.new) (R.remaining reader.old) (R.remaining reader.new)) }
-    ensures failed { result ≡ Err cuts.Failed → R.failed reader.new ≡ true }
-{
-    let mut count = 0;
-    while count < buffer.len() {
-        match reader.read(&mut buffer[count..]) {
-            Ok(0) => return Err(Cut::Ended),
-            Ok(n) => count += n,
-            Err(_) => return Err(Cut::Failed),
-        }
-    }
-    Ok(())
-}
-
-// The next page: its data area and then its spare area.
-fn read_page<R: DumpReader>(reader: &mut R, body: &mut [u8], spare: &mut [u8]) -> Result<(), Cut>
-    ensures whole { OnOk result (Consumes (R.remaining reader.old) (R.remaining reader.new) (body.new ++ spare.new)) }
-    ensures cut { IfErr result (IsCut (length body.new + length spare.new) (R.remaining reader.old) (R.remaining reader.new)) }
-    ensures failed { result ≡ Err cuts.Failed → R.failed reader.new ≡ true }
-{
-    fill(reader, body)?;
-    fill(reader, spare)
 }
 
 // Hands the page of each row asked for to the taker, in row order, as the reader gives them, and an erased one in place of each other.
@@ -176,17 +134,15 @@ fn take_pages<R: DumpReader, T: Taker>(
 /// # Errors
 ///
 /// `WrongLength` where a byte is left, `Source` where a read failed or was interrupted. (This project's rules.)
-#[tactic(auto, using(crate::proofs::ScanLemmas::end_of_cut, crate::proofs::ScanLemmas::one_more))]
 pub fn expect_end<R: DumpReader>(reader: &mut R) -> Result<(), PassFault>
     ensures ok { OnOk result (IsAtEnd (R.remaining reader.old)) }
     ensures err { IfErr result (λ fault. (fault ≡ faults.Source) ⊎ ((fault ≡ faults.WrongLength) × HasMore (R.remaining reader.old))) }
     ensures source { result ≡ Err faults.Source → R.failed reader.new ≡ true }
 {
-    let mut byte = [0];
-    match fill(reader, &mut byte) {
-        Ok(()) => Err(PassFault::WrongLength),
-        Err(Cut::Ended) => Ok(()),
-        Err(Cut::Failed) => Err(PassFault::Source),
+    match is_at_end(reader) {
+        Ok(true) => Ok(()),
+        Ok(false) => Err(PassFault::WrongLength),
+        Err(_) => Err(PassFault::Source),
     }
 }
 

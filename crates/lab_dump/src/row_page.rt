@@ -4,8 +4,9 @@ ghost use Rattle.page_layout.specs.Geometry.{page_bytes};
 ghost use Rattle.lab_dump.specs.Look.{look_of};
 ghost use Rattle.lab_dump.specs.Pages.{page_in, page_at};
 
-use crate::dump::{Dump, DumpFault};
+use crate::dump::Dump;
 use crate::look::{Look, look_at};
+use image_check::DumpFault;
 use page_layout::geometry::Geometry;
 
 // Reads the page of a row.

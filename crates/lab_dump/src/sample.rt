@@ -3,9 +3,10 @@ ghost use Rattle.std.specs.Prelude.{◌≡◌, ◌+◌, ◌*◌, ◌<◌, ◌≤
 ghost use Rattle.page_layout.specs.Geometry.{page_bytes, row_count};
 ghost use Rattle.lab_dump.specs.Sample.{looked_count, looked_row, noted, sample_of};
 
-use crate::dump::{Dump, DumpFault};
+use crate::dump::Dump;
 use crate::look::Look;
 use crate::row_page::look_at_row;
+use image_check::DumpFault;
 use page_layout::geometry::Geometry;
 
 // At most so many rows are looked at,

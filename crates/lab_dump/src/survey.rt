@@ -13,7 +13,6 @@ ghost use Rattle.lab_dump.specs.Trace.{state_in};
 
 use crate::counts::PageCounts;
 use crate::doubts::Unsettled;
-use crate::dump::DumpReader;
 use crate::held::KeyState;
 use crate::pass::{PassFault, scan_rows};
 use crate::repeated::shared_sequence;
@@ -21,7 +20,7 @@ use crate::rows::Rows;
 use crate::seeing::Seeing;
 use crate::trace::Trace;
 use certificate::BlockState;
-use image_check::{Scratch, Survey, describe};
+use image_check::{DumpReader, Scratch, Survey, describe};
 use page_layout::geometry::Geometry;
 use std::alloc::{AllocError, Global};
 use thiserror::Error;

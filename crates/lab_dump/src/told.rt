@@ -6,10 +6,11 @@ ghost use Rattle.lab_dump.specs.Look.{look_of};
 ghost use Rattle.lab_dump.specs.Pages.{page_in};
 ghost use Rattle.lab_dump.specs.Told.{words_used, blocks_by, sectors_by, may_raise, most_by, most_in, raised, pages_told_of};
 
-use crate::dump::{Dump, DumpFault};
+use crate::dump::Dump;
 use crate::look::{Look, look_at};
 use crate::row_page::read_row;
 use byteorder::{ByteOrder, LittleEndian};
+use image_check::DumpFault;
 use page_layout::geometry::Geometry;
 use page_layout::record::{Kind, Record};
 use page_layout::word::read_word;

@@ -7,8 +7,8 @@ use Rattle.std.proofs.Math.Nat.{mul-le-mul_right}
 use Rattle.std.proofs.lemmas.List.{length-set, length-map, map-set, get_or-map, get_or-set_same, get_or-set_other, take_at, drop_at, drop-drop}
 use Rattle.std.proofs.lemmas.Slice.{between_is, take-put_mid_below, between-put_mid}
 use borrow.Rule.Slice.PartMut.{put_mid}
-use Rattle.lab_dump.specs.declared.pass.Cut.{Cut}
-use Rattle.lab_dump.specs.declared.pass.Cut.TheVariants.{Ended, Failed}
+use Rattle.image_check.specs.declared.page_reader.Cut.{Cut}
+use Rattle.image_check.specs.declared.page_reader.Cut.TheVariants.{Ended, Failed}
 use Rattle.lab_dump.specs.declared.pass.PassFault.{PassFault}
 use Rattle.lab_dump.specs.declared.pass.PassFault.TheVariants as fault
 use Rattle.lab_dump.specs.Scan.{IsCut, HasMore}

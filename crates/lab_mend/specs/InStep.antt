@@ -1,7 +1,7 @@
 -- Readers that are read in step.
 use Rattle.std.specs.Prelude.{◌≡◌, ℕ, ◌+◌, ◌<◌, ◌≤◌, List, [], length, get_or, map, drop, slice_range, Option, Some, None}
-use Rattle.lab_dump.specs.declared.pass.Cut.{Cut}
-use Rattle.lab_dump.specs.declared.pass.Cut.TheVariants.{Ended, Failed}
+use Rattle.image_check.specs.declared.page_reader.Cut.{Cut}
+use Rattle.image_check.specs.declared.page_reader.Cut.TheVariants.{Ended, Failed}
 use Rattle.lab_dump.specs.declared.pass.PassFault.{PassFault}
 use Rattle.lab_dump.specs.declared.pass.PassFault.TheVariants as fault
 use Rattle.lab_mend.specs.declared.in_step.ReadingCut.{ReadingCut}

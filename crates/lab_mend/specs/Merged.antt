@@ -6,8 +6,8 @@ use Rattle.page_layout.specs.Geometry.{row_count, page_bytes}
 use Rattle.page_layout.specs.Page.{Page}
 use Rattle.page_layout.specs.Raw.{page_from}
 use Rattle.lab_dump.specs.Scan.{image_bytes}
-use Rattle.lab_dump.specs.declared.pass.Cut.{Cut}
-use Rattle.lab_dump.specs.declared.pass.Cut.TheVariants as cut
+use Rattle.image_check.specs.declared.page_reader.Cut.{Cut}
+use Rattle.image_check.specs.declared.page_reader.Cut.TheVariants as cut
 use Rattle.lab_dump.specs.declared.pass.PassFault.{PassFault}
 use Rattle.lab_dump.specs.declared.pass.PassFault.TheVariants as scan
 use Rattle.lab_mend.specs.declared.merging.RowTally.{RowTally}

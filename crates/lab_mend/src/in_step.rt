@@ -1,6 +1,6 @@
 //! Readers of one die that are read in step, a page of each at a time.
 ghost use Rattle.std.specs.Prelude.{◌≡◌, ◌⊎◌, ◌<◌, ◌+◌, ◌*◌, ℕ, List, length, map, get_or, true, false, OnOk, IfErr};
-ghost use Rattle.lab_dump.specs.declared.pass.Cut.TheVariants as cuts;
+ghost use Rattle.image_check.specs.declared.page_reader.Cut.TheVariants as cuts;
 ghost use Rattle.lab_dump.specs.declared.pass.PassFault.TheVariants as faults;
 ghost use Rattle.lab_mend.specs.InStep.{AreAt, AreRead, HaveEnded, IsLongAt, IsShortAt};
 

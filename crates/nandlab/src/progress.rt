@@ -1,7 +1,7 @@
 //! How far a file was read, on a screen.
 use lab_dump::{DumpFault, DumpReader};
 use lab_mend::Watch;
-use std::io::{self, Read, Seek, SeekFrom, Write};
+use std::io::{self, Seek, SeekFrom, Write};
 
 /// Shows how much of a file was read, as a line that is renewed.
 #[derive(Drop)]
@@ -65,7 +65,7 @@ impl<R, E> Metered<R, E> {
     }
 }
 
-impl<R: Read, E: Write> DumpReader for Metered<R, E> {
+impl<R: DumpReader, E: Write> DumpReader for Metered<R, E> {
     ghost use Rattle.std.specs.Prelude.{None, true};
 
     ghost remaining = { λ _. None };
@@ -73,9 +73,7 @@ impl<R: Read, E: Write> DumpReader for Metered<R, E> {
     ghost failed = { λ _. true };
 
     fn read(&mut self, buffer: &mut [u8]) -> Result<usize, DumpFault> {
-        let Ok(count) = self.reader.read(buffer) else {
-            return Err(DumpFault);
-        };
+        let count = self.reader.read(buffer)?;
         if let Some(meter) = &mut self.meter {
             meter.advance(count as u64);
         }

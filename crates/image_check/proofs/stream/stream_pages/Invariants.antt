@@ -1,6 +1,6 @@
 use Rattle.std.proofs.Common.{◌≡◌, length}
-use Rattle.image_check.specs.Passed.{IsPass, IsSamePass}
-use Rattle.image_check.specs.Streamed.{IsReadTo}
+use Rattle.image_check.specs.PageReader.{IsReadTo}
+use Rattle.image_check.specs.Passed.{IsPass, IsSamePass, Shows}
 use Rattle.image_check.proofs.stream.stream_pages.Given as goal
 
 abbrev pub invariant-loop-row : goal.invariant-loop-row
@@ -11,5 +11,5 @@ invariant-loop-row g l =
       pass_geometry : l.pass.survey.geometry ≡ l.geometry;
       body_whole : length l.body ≡ l.geometry.data_bytes;
       spare_whole : length l.spare ≡ l.geometry.spare_bytes;
-      read : IsReadTo l.geometry l.row (g.R.Read.remaining l.fn.reader) (g.R.Read.remaining l.reader) l.pass;
+      read : IsReadTo l.geometry l.row (g.R.DumpReader.remaining l.fn.reader) (g.R.DumpReader.remaining l.reader) (λ image. Shows image l.row l.pass);
     }

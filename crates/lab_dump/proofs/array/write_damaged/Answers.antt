@@ -7,7 +7,8 @@ use Rattle.lab_dump.specs.Doubting.{IsDoubting}
 use Rattle.lab_dump.specs.Until.{until}
 use Rattle.lab_dump.specs.Writing.{ShowsDamaged}
 use Rattle.lab_dump.specs.Written.{IsWritten}
-use Rattle.lab_dump.proofs.WritingLemmas.{nothing_yet, if_more}
+use Rattle.lab_dump.proofs.ScanLemmas.{if_more}
+use Rattle.lab_dump.proofs.WritingLemmas.{nothing_yet}
 use Rattle.lab_dump.proofs.WrittenLemmas.{written_damaged}
 use Rattle.lab_dump.proofs.array.write_damaged.Goals as goal
 

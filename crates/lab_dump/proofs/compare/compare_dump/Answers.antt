@@ -7,7 +7,7 @@ use Rattle.page_layout.specs.Raw.{raw_image}
 use Rattle.page_layout.proofs.RawLemmas.{length-raw_image}
 use Rattle.lab_dump.specs.Scan.{IsTaken}
 use Rattle.lab_dump.specs.Doubting.{IsDoubting}
-use Rattle.lab_dump.proofs.WritingLemmas.{if_more}
+use Rattle.lab_dump.proofs.ScanLemmas.{if_more}
 use Rattle.lab_dump.proofs.ComparingLemmas.{lost_told}
 use Rattle.lab_dump.proofs.compare.compare_dump.Goals as goal
 

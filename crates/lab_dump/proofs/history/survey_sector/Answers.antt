@@ -5,7 +5,7 @@ use Rattle.lab_dump.specs.Scan.{IsTaken}
 use Rattle.lab_dump.specs.declared.history.History.{History}
 use Rattle.lab_dump.specs.History.{IsHistoryOf, Shows}
 use Rattle.lab_dump.proofs.HistoryLemmas.{history_of, newest_first, pages_none}
-use Rattle.lab_dump.proofs.WritingLemmas.{if_more}
+use Rattle.lab_dump.proofs.ScanLemmas.{if_more}
 use Rattle.lab_dump.proofs.history.survey_sector.Goals as goal
 
 pub scan-requires-clause-shows : goal.scan-requires-clause-shows

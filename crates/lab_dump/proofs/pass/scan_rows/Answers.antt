@@ -4,7 +4,8 @@ use Rattle.page_layout.specs.Geometry.{row_count}
 use Rattle.page_layout.specs.Page.{Image}
 use Rattle.lab_dump.specs.Rows.{within}
 use Rattle.lab_dump.specs.Scan.{IsTaken}
-use Rattle.lab_dump.proofs.ScanLemmas.{err_map, ok_map, taken, end_untaken}
+use Rattle.image_check.proofs.PageReaderLemmas.{taken}
+use Rattle.lab_dump.proofs.ScanLemmas.{err_map, ok_map, end_untaken}
 use Rattle.lab_dump.proofs.pass.scan_rows.Goals as goal
 
 pub returns-clause-taken : goal.returns-clause-taken

@@ -3,7 +3,8 @@ use Rattle.std.proofs.Common.{arith, ◌+◌, refl, ◌∙◌}
 use Rattle.page_layout.specs.Page.{Image}
 use Rattle.lab_dump.specs.Rows.{within}
 use Rattle.lab_dump.proofs.RowLemmas.{shown_at}
-use Rattle.lab_dump.proofs.ScanLemmas.{read_none, read_more, read_cut, cut_untaken}
+use Rattle.image_check.proofs.PageReaderLemmas.{read_none, read_more, read_cut}
+use Rattle.lab_dump.proofs.ScanLemmas.{cut_untaken}
 use Rattle.lab_dump.proofs.pass.take_pages.Goals as goal
 
 pub loop-row-init : goal.loop-row-init

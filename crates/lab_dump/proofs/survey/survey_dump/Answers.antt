@@ -5,7 +5,7 @@ use Rattle.page_layout.proofs.RawLemmas.{length-raw_image}
 use Rattle.lab_dump.specs.Scan.{IsTaken}
 use Rattle.lab_dump.specs.Rows.{within}
 use Rattle.lab_dump.proofs.RowLemmas.{within_size}
-use Rattle.lab_dump.proofs.WritingLemmas.{if_more}
+use Rattle.lab_dump.proofs.ScanLemmas.{if_more}
 use Rattle.lab_dump.specs.Noted.{Shows}
 use Rattle.lab_dump.specs.Surveyed.{IsSurveyOf}
 use Rattle.lab_dump.proofs.survey.survey_dump.Goals as goal

@@ -1,4 +1,4 @@
-use Rattle.std.proofs.Common.{◌≡◌, sym, ap, ◌∙◌, subst, arith, length, take, drop, length-take-le}
+use Rattle.std.proofs.Common.{ap, ◌∙◌, arith, take, drop, length-take-le}
 use Rattle.page_layout.specs.Page.{page}
 use Rattle.lab_dump.specs.Look.{look_of}
 use Rattle.lab_dump.specs.Told.{raised}

@@ -1,10 +1,10 @@
 use Rattle.std.proofs.Common.{◌+◌, ◌++◌, arith, length}
 use Rattle.std.specs.Io.KnownBytes.{Consumes}
 use Rattle.std.proofs.KnownBytes.{Consumes-trans}
-use Rattle.lab_dump.specs.Scan.{IsCut}
-use Rattle.lab_dump.proofs.ScanLemmas.{err_map, ok_map}
-use Rattle.lab_dump.proofs.ScanLemmas.{cut_after}
-use Rattle.lab_dump.proofs.pass.read_page.Goals as goal
+use Rattle.image_check.specs.PageReader.{IsCut}
+use Rattle.image_check.proofs.PassLemmas.{err_map, ok_map}
+use Rattle.image_check.proofs.PageReaderLemmas.{cut_after}
+use Rattle.image_check.proofs.page_reader.read_page.Goals as goal
 
 pub returns-clause-whole : goal.returns-clause-whole
 returns-clause-whole g c =

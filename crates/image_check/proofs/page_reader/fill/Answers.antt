@@ -5,8 +5,8 @@ use Rattle.std.specs.Io.KnownBytes.{Consumes}
 use Rattle.std.proofs.KnownBytes.{Consumes-trans}
 use borrow.Rule.Slice.PartMut.{put_mid, post_of}
 use lib.Seq.{take-add}
-use Rattle.image_check.proofs.StreamLemmas.{cut_ended, cut_failed}
-use Rattle.image_check.proofs.stream.fill.Goals as goal
+use Rattle.image_check.proofs.PageReaderLemmas.{cut_ended, cut_failed}
+use Rattle.image_check.proofs.page_reader.fill.Goals as goal
 
 -- what stands in front, and the first n of what was written after it
 front_and_more : (a k n : ℕ) (xs ys : List ℕ) → a ≤ length xs → n ≤ length ys → take (a + n) (put_mid a k xs ys) ≡ take a xs ++ take n ys
@@ -21,7 +21,7 @@ pub returns-in-Ok-eq0-clause-cut : goal.returns-in-Ok-eq0-clause-cut
 returns-in-Ok-eq0-clause-cut g c =
     let from = c.loop-count.count in
     let few = length-take-le from c.loop-count.buffer c.loop-count.invariant.1 in
-    cut_ended _ c.in-Ok-eq0.field-0 _ _ _ (take from c.loop-count.buffer) c.read.new.buf c.loop-count.invariant.2 (search rules) (search rules) c.in-Ok-eq0.ensures.bytes.0 (c.in-Ok-eq0.ensures.bytes.1 (search rules) (search rules))
+    cut_ended _ c.in-Ok-eq0.field-0 _ _ _ (take from c.loop-count.buffer) c.read.new.buffer c.loop-count.invariant.2 (search rules) (search rules) c.in-Ok-eq0.ensures.bytes.0 (c.in-Ok-eq0.ensures.bytes.1 (search rules) (search rules))
 
 pub returns-in-Err-clause-cut : goal.returns-in-Err-clause-cut
 returns-in-Err-clause-cut g c =
@@ -34,5 +34,5 @@ loop-count-preserved g c =
     let from = c.loop-count.count in
     let room = length c.loop-count.buffer - from in
     let within = c.loop-count.invariant.1 in
-    let part = front_and_more from room c.in-Ok.n c.loop-count.buffer c.read.new.buf within c.in-Ok.ensures.bound.0 in
+    let part = front_and_more from room c.in-Ok.n c.loop-count.buffer c.read.new.buffer within c.in-Ok.ensures.bound.0 in
     (search rules, search rules, subst (Consumes _ _) (sym part) (Consumes-trans _ _ _ _ _ c.loop-count.invariant.2 c.in-Ok.ensures.bytes.0))
