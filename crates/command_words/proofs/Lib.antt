@@ -1,3 +1,2 @@
 pub mod NumberLemmas
-pub mod MatchLemmas
 pub mod WordLemmas

@@ -2,8 +2,10 @@
 //! they write. No file is looked at, and no number is held against a limit.
 #![tactic(auto)]
 
+mod grammar;
 mod numbers;
 mod words;
 
 pub use numbers::{GeometryNumbers, geometry_numbers, number};
-pub use words::{CertificateWords, FileWords, ImageWords, Order, ServeWords, WordsFault, parse};
+pub use program_words::GrammarFault as WordsFault;
+pub use words::{CertificateWords, FileWords, ImageWords, Order, ServeWords, parse};
