@@ -22,6 +22,7 @@ use Rattle.clap.specs.declared.builder.value_parser.ValueParser.TheVariants.{Str
 use Rattle.clap.specs.declared.parser.matches.ValueSource.TheVariants.{CommandLine}
 use Rattle.clap.specs.declared.error.kind.ErrorKind.{ErrorKind}
 use Rattle.clap.specs.declared.error.kind.ErrorKind.TheVariants.{InvalidSubcommand, MissingRequiredArgument, MissingSubcommand, UnknownArgument}
+use Rattle.clap.proofs.FaultLemmas.{stopped_fault}
 use Rattle.clap.proofs.OnLiterals.{clap_on_literals}
 use Rattle.command_words.specs.declared.words.Order.{Order}
 use Rattle.command_words.specs.declared.words.Order.TheVariants as order
@@ -223,11 +224,6 @@ unfolding walked
 rest_named name before [] = ap (named name) (sym (append-nil before))
 rest_named name before (word ∷ rest) = rest_named name (before ++ (word ∷ [])) rest ∙ ap (named name) (append_assoc before (word ∷ []) rest)
 
-rest_passes : (name : Text) (before rest : List Text) → walk_fault top names (named name before) rest ≡ []
-unfolding walk_fault walked
-rest_passes name before [] = refl
-rest_passes name before (word ∷ rest) = rest_passes name (before ++ (word ∷ [])) rest
-
 -- the fault of all the words, by that of the walk, where it stopped and what is below
 abbrev top_end : Walk → Kinds → Kinds
 top_end w before =
@@ -282,7 +278,7 @@ command_fault : (program name : Text) (rest : List Text) → IsKnown name → fa
 command_fault program name rest is =
     let words = name ∷ rest in
     let passes : walk_fault top names (walk_from nothing_held) words ≡ [] =
-    passed_on top names _ _ name rest is.passes is.stops ∙ rest_passes name [] rest in
+    passed_on top names _ _ name rest is.passes is.stops ∙ stopped_fault top names (named name []) (name, rest) rest in
     let both : top_end (walk top.rules names nothing_held words) (walk_fault top names (walk_from nothing_held) words) ≡ top_end (named name rest) [] =
     λ i. top_end (stopped_at name rest is i) (passes i) in
     fault_is program words ∙ both ∙ is.ends rest ∙ or_nothing (leaf_fault name rest)

@@ -155,24 +155,15 @@ fn order_at<'a>(name: &str, found: &CommandWords<'a>) -> Option<Order<'a>>
     order_named(name, found.words("WORDS")?)
 }
 
-// The same, or the fault.
-fn order_met<'a>(name: &str, found: &CommandWords<'a>) -> Result<Order<'a>, GrammarFault>
-    ensures some { IfOk result (IsOrderAt name.now (entries_of found.now)) }
-    ensures none { result ≡ Err GrammarFault.NoSuchCommand → (order : Order) → ¬ IsOrderAt name.now (entries_of found.now) order }
-{
-    match order_at(name, found) {
-        Some(order) => Ok(order),
-        None => Err(GrammarFault::NoSuchCommand),
-    }
-}
-
 // What the words ask for as `clap` reads them. No order has the text of help or of the version.
 fn read_order<'a>(alloc: Global, words: &'a [&'a str]) -> Result<Order<'a>, GrammarFault>
     ensures ok { IfOk result (IsOrderRead (texts words.now)) }
     ensures none { result ≡ Err GrammarFault.NoSuchCommand → IsNoOrderRead (texts words.now) }
 {
     match read_words(alloc, &grammar(), words) {
-        Ok(Met::Command { name, words }) => order_met(name, &words),
+        Ok(Met::Command { name, words }) => {
+            order_at(name, &words).ok_or(GrammarFault::NoSuchCommand)
+        }
         Ok(Met::Text(_)) => Err(GrammarFault::NoSuchCommand),
         Err(fault) => Err(fault),
     }
