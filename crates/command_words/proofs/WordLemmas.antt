@@ -278,7 +278,7 @@ command_fault : (program name : Text) (rest : List Text) → IsKnown name → fa
 command_fault program name rest is =
     let words = name ∷ rest in
     let passes : walk_fault top names (walk_from nothing_held) words ≡ [] =
-    passed_on top names _ _ name rest is.passes is.stops ∙ stopped_fault top names (named name []) (name, rest) rest in
+    passed_on top names _ _ name rest is.passes is.stops ∙ stopped_fault top names (named name []) (name, []) rest in
     let both : top_end (walk top.rules names nothing_held words) (walk_fault top names (walk_from nothing_held) words) ≡ top_end (named name rest) [] =
     λ i. top_end (stopped_at name rest is i) (passes i) in
     fault_is program words ∙ both ∙ is.ends rest ∙ or_nothing (leaf_fault name rest)
