@@ -129,37 +129,38 @@ unfolding clap_on_literals
 next_passes name [] last = refl
 next_passes name (x ∷ xs) last = refl
 
-first_walked : (word : Text) → is_option word ≡ false → walked rules [] (walk_from nothing_held) word ≡ after [] word
-first_walked word plain = walked_plain rules [] nothing_held idle word plain refl refl ∙ first_step word
+-- the words after which these are all, of which the last is held, and no fault is found in them
+record AreRead (name : Text) (w : Walk) (words all : List Text) : Type 0 where
+  pub before : List Text
+  pub last : Text
+  pub are : before ++ (last ∷ []) ≡ all
+  pub end : fold (walked rules []) w words ≡ after before last
+  pub passes : walk_fault (leaf name) [] w words ≡ []
 
-next_walked : (before : List Text) (last word : Text) → is_option word ≡ false → walked rules [] (after before last) word ≡ after (before ++ (last ∷ [])) word
-next_walked before last word plain = walked_plain rules [] (holding before last) positional word plain refl refl ∙ next_step before last word
+one_more : (name : Text) (h : Held) (waiting : Waiting) (word : Text) (words all : List Text) (v : Walk) → is_option word ≡ false → subcommand_met [] waiting word ≡ None → plain_word rules waiting word h ≡ (h, value)
+    → to_positional rules (arg_by_index rules 1) word (standing h waiting) h ≡ v → step_fault (leaf name) 1 h value ≡ [] → AreRead name v words all → AreRead name (standing h waiting) (word ∷ words) all
+one_more name h waiting word words all v plain met goes step passes rest =
+    let next : walked rules [] (standing h waiting) word ≡ v = walked_plain rules [] h waiting word plain met goes ∙ step in
+    record {
+      before = rest.before;
+      last = rest.last;
+      are = rest.are;
+      end = ap (λ w. fold (walked rules []) w words) next ∙ rest.end;
+      passes = passed_on (leaf name) [] _ _ word words (turn_plain (leaf name) [] h waiting word plain met goes ∙ passes) next ∙ rest.passes;
+    }
 
--- of the words from a last one on: those before the very last, and that
-abbrev front : List Text → Text → List Text → List Text
-front before last [] = before
-front before last (word ∷ words) = front (before ++ (last ∷ [])) word words
-
-abbrev final : Text → List Text → Text
-final last [] = last
-final last (word ∷ words) = final word words
-
-all_of_them : (before : List Text) (last : Text) (words : List Text) → front before last words ++ (final last words ∷ []) ≡ before ++ (last ∷ words)
-all_of_them before last [] = refl
-all_of_them before last (word ∷ words) = all_of_them (before ++ (last ∷ [])) word words ∙ append_assoc before (last ∷ []) (word ∷ words)
-
-walked_all : (before : List Text) (last : Text) (words : List Text) → list_any is_option words ≡ false → fold (walked rules []) (after before last) words ≡ after (front before last words) (final last words)
-walked_all before last [] plain = refl
-walked_all before last (word ∷ words) plain =
+read_on : (name : Text) (before : List Text) (last : Text) (words : List Text) → list_any is_option words ≡ false → AreRead name (after before last) words (before ++ (last ∷ words))
+read_on name before last [] plain = record { before = before; last = last; are = refl; end = refl; passes = no_more (leaf name) (after before last) }
+read_on name before last (word ∷ words) plain =
     let each = or_parts _ _ plain in
-    ap (λ w. fold (walked rules []) w words) (next_walked before last word each.0) ∙ walked_all (before ++ (last ∷ [])) word words each.1
+    let P : List Text → Type 0 = λ all. AreRead name (after (before ++ (last ∷ [])) word) words all in
+    one_more name (holding before last) positional word words _ _ each.0 refl refl (next_step before last word) (next_passes name before last)
+    (subst P (append_assoc before (last ∷ []) (word ∷ words)) (read_on name (before ++ (last ∷ [])) word words each.1))
 
-passed_all : (name : Text) (before : List Text) (last : Text) (words : List Text) → list_any is_option words ≡ false → walk_fault (leaf name) [] (after before last) words ≡ []
-passed_all name before last [] plain = no_more (leaf name) (after before last)
-passed_all name before last (word ∷ words) plain =
+read_all : (name first : Text) (rest : List Text) → list_any is_option (first ∷ rest) ≡ false → AreRead name (walk_from nothing_held) (first ∷ rest) (first ∷ rest)
+read_all name first rest plain =
     let each = or_parts _ _ plain in
-    passed_on (leaf name) [] _ _ word words (turn_plain (leaf name) [] (holding before last) positional word each.0 refl refl ∙ next_passes name before last) (next_walked before last word each.0)
-    ∙ passed_all name (before ++ (last ∷ [])) word words each.1
+    one_more name nothing_held idle first rest _ _ each.0 refl refl (first_step first) (first_passes name) (read_on name [] first rest each.1)
 
 -- the fault of a command's words, by that of its walk and what is held at the end
 abbrev at_end : Text → Held → Kinds → Kinds
@@ -188,23 +189,17 @@ none_fail : (name : Text) → leaf_fault name [] ≡ MissingRequiredArgument ∷
 unfolding clap_on_literals
 none_fail name = refl
 
-ended : (first : Text) (rest : List Text) → list_any is_option (first ∷ rest) ≡ false → walk rules [] nothing_held (first ∷ rest) ≡ after (front [] first rest) (final first rest)
-ended first rest plain =
-    let each = or_parts _ _ plain in
-    ap (λ w. fold (walked rules []) w rest) (first_walked first each.0) ∙ walked_all [] first rest each.1
-
 some_pass : (name first : Text) (rest : List Text) → list_any is_option (first ∷ rest) ≡ false → leaf_fault name (first ∷ rest) ≡ []
 some_pass name first rest plain =
-    let each = or_parts _ _ plain in
-    let passes : walk_fault (leaf name) [] (walk_from nothing_held) (first ∷ rest) ≡ [] =
-    passed_on (leaf name) [] _ _ first rest (turn_plain (leaf name) [] nothing_held idle first each.0 refl refl ∙ first_passes name) (first_walked first each.0) ∙ passed_all name [] first rest each.1 in
-    let both : at_end name (walk rules [] nothing_held (first ∷ rest)).held (walk_fault (leaf name) [] (walk_from nothing_held) (first ∷ rest)) ≡ at_end name (holding (front [] first rest) (final first rest)) [] =
-    λ i. at_end name (ended first rest plain i).held (passes i) in
-    leaf_is name (first ∷ rest) ∙ both ∙ end_passes name (front [] first rest) (final first rest)
+    let is = read_all name first rest plain in
+    let both : at_end name (walk rules [] nothing_held (first ∷ rest)).held (walk_fault (leaf name) [] (walk_from nothing_held) (first ∷ rest)) ≡ at_end name (holding is.before is.last) [] =
+    λ i. at_end name (is.end i).held (is.passes i) in
+    leaf_is name (first ∷ rest) ∙ both ∙ end_passes name is.before is.last
 
-some_found : (first : Text) (rest : List Text) → list_any is_option (first ∷ rest) ≡ false → rows_after rules [] (first ∷ rest) ≡ given (first ∷ rest) ∷ []
-some_found first rest plain =
-    ap (λ w. finished rules w.held) (ended first rest plain) ∙ all_found (front [] first rest) (final first rest) ∙ ap (λ words. given words ∷ []) (all_of_them [] first rest)
+some_found : (name first : Text) (rest : List Text) → list_any is_option (first ∷ rest) ≡ false → rows_after rules [] (first ∷ rest) ≡ given (first ∷ rest) ∷ []
+some_found name first rest plain =
+    let is = read_all name first rest plain in
+    ap (λ w. finished rules w.held) is.end ∙ all_found is.before is.last ∙ ap (λ words. given words ∷ []) is.are
 
 -- ---- all the words
 
@@ -240,31 +235,40 @@ record IsKnown (name : Text) : Type 0 where
   pub ends : (rest : List Text) → top_end (named name rest) [] ≡ or_else (leaf_fault name rest) []
   pub enters : (rest : List Text) → entered (built grammar) (Some (name, rest)) ≡ Some (name, rows_after rules [] rest)
 
+sector_known : IsKnown (codes "sector")
+unfolding clap_on_literals
+sector_known = record { stops = refl; passes = refl; ends = λ rest. refl; enters = λ rest. refl }
+
+show_known : IsKnown (codes "show")
+unfolding clap_on_literals
+show_known = record { stops = refl; passes = refl; ends = λ rest. refl; enters = λ rest. refl }
+
+format_known : IsKnown (codes "format")
+unfolding clap_on_literals
+format_known = record { stops = refl; passes = refl; ends = λ rest. refl; enters = λ rest. refl }
+
+check_known : IsKnown (codes "check")
+unfolding clap_on_literals
+check_known = record { stops = refl; passes = refl; ends = λ rest. refl; enters = λ rest. refl }
+
+mount_known : IsKnown (codes "mount")
+unfolding clap_on_literals
+mount_known = record { stops = refl; passes = refl; ends = λ rest. refl; enters = λ rest. refl }
+
+serve_known : IsKnown (codes "serve")
+unfolding clap_on_literals
+serve_known = record { stops = refl; passes = refl; ends = λ rest. refl; enters = λ rest. refl }
+
+migrate_known : IsKnown (codes "migrate")
+unfolding clap_on_literals
+migrate_known = record { stops = refl; passes = refl; ends = λ rest. refl; enters = λ rest. refl }
+
 abbrev Each : (Text → Type 0) → List Text → Type 0
 Each P [] = Unit {0}
 Each P (x ∷ xs) = P x × Each P xs
 
-known : Each IsKnown command_names
-unfolding clap_on_literals
-known = (
-  record { stops = refl; passes = refl; ends = λ rest. refl; enters = λ rest. refl },
-  (
-    record { stops = refl; passes = refl; ends = λ rest. refl; enters = λ rest. refl },
-    (
-      record { stops = refl; passes = refl; ends = λ rest. refl; enters = λ rest. refl },
-      (
-        record { stops = refl; passes = refl; ends = λ rest. refl; enters = λ rest. refl },
-        (
-          record { stops = refl; passes = refl; ends = λ rest. refl; enters = λ rest. refl },
-          (
-            record { stops = refl; passes = refl; ends = λ rest. refl; enters = λ rest. refl },
-            (record { stops = refl; passes = refl; ends = λ rest. refl; enters = λ rest. refl }, tt),
-          ),
-        ),
-      ),
-    ),
-  ),
-)
+all_known : Each IsKnown command_names
+all_known = (sector_known, (show_known, (format_known, (check_known, (mount_known, (serve_known, (migrate_known, tt)))))))
 
 or_nothing : (kinds : Kinds) → or_else kinds [] ≡ kinds
 or_nothing [] = refl
@@ -286,7 +290,7 @@ command_fault program name rest is =
 command_found : (program name first : Text) (rest : List Text) → IsKnown name → list_any is_option (first ∷ rest) ≡ false
     → subcommand_of grammar (program ∷ name ∷ first ∷ rest) ≡ Some (name, given (first ∷ rest) ∷ [])
 command_found program name first rest is plain =
-    ap (λ w. entered (built grammar) w.stopped) (stopped_at name (first ∷ rest) is) ∙ is.enters (first ∷ rest) ∙ ap (λ rows. Some (name, rows)) (some_found first rest plain)
+    ap (λ w. entered (built grammar) w.stopped) (stopped_at name (first ∷ rest) is) ∙ is.enters (first ∷ rest) ∙ ap (λ rows. Some (name, rows)) (some_found name first rest plain)
 
 no_words : (program : Text) → fault_of grammar (program ∷ []) ≡ MissingSubcommand ∷ []
 unfolding clap_on_literals
@@ -332,7 +336,7 @@ nothing_wrong k ks kinds some none = absurd (let no : k ∷ ks ≡ [] = sym some
 
 only_commands : (program : Text) (words : List Text) → list_any is_option words ≡ false → fault_of grammar (program ∷ words) ≡ [] → AreWhole program words
 only_commands program [] plain e = nothing_wrong _ _ _ (no_words program) e
-only_commands program (word ∷ rest) plain e = go rest (one_or_none IsKnown word command_names known) (or_parts _ _ plain).1 e
+only_commands program (word ∷ rest) plain e = go rest (one_or_none IsKnown word command_names all_known) (or_parts _ _ plain).1 e
   where
     go : (rest : List Text) → IsKnown word ⊎ (list_any (λ name. bytes_eq name word) command_names ≡ false) → list_any is_option rest ≡ false → fault_of grammar (program ∷ word ∷ rest) ≡ [] → AreWhole program (word ∷ rest)
     go rest (inr strange) plain_rest taken = nothing_wrong _ _ _ (strange_fault program word rest (or_parts _ _ plain).0 strange) taken
@@ -358,13 +362,13 @@ read_as program name first rest asked is spelled plain = (
 )
 
 order_read_as : (program : Text) (asked : Order) → list_any is_option (order_words asked) ≡ false → IsOrderRead (program ∷ order_words asked) asked
-order_read_as program (order.Sector s) plain = read_as program _ s.geometry.now (s.image.now ∷ s.number.now ∷ []) (order.Sector s) known.0 refl plain
-order_read_as program (order.Show s) plain = read_as program _ s.geometry.now (s.image.now ∷ s.number.now ∷ []) (order.Show s) known.1.0 refl plain
-order_read_as program (order.Format s) plain = read_as program _ s.geometry.now (s.input.now ∷ s.output.now ∷ []) (order.Format s) known.1.1.0 refl plain
-order_read_as program (order.Check s) plain = read_as program _ s.geometry.now (s.capacity.now ∷ s.image.now ∷ s.certificate.now ∷ []) (order.Check s) known.1.1.1.0 refl plain
-order_read_as program (order.Mount s) plain = read_as program _ s.geometry.now (s.capacity.now ∷ s.image.now ∷ s.certificate.now ∷ []) (order.Mount s) known.1.1.1.1.0 refl plain
-order_read_as program (order.Serve s) plain = read_as program _ s.geometry.now (s.capacity.now ∷ s.image.now ∷ s.certificate.now ∷ s.output.now ∷ []) (order.Serve s) known.1.1.1.1.1.0 refl plain
-order_read_as program (order.Migrate s) plain = read_as program _ s.geometry.now (s.capacity.now ∷ s.image.now ∷ s.certificate.now ∷ s.output.now ∷ []) (order.Migrate s) known.1.1.1.1.1.1.0 refl plain
+order_read_as program (order.Sector s) plain = read_as program _ s.geometry.now (s.image.now ∷ s.number.now ∷ []) (order.Sector s) sector_known refl plain
+order_read_as program (order.Show s) plain = read_as program _ s.geometry.now (s.image.now ∷ s.number.now ∷ []) (order.Show s) show_known refl plain
+order_read_as program (order.Format s) plain = read_as program _ s.geometry.now (s.input.now ∷ s.output.now ∷ []) (order.Format s) format_known refl plain
+order_read_as program (order.Check s) plain = read_as program _ s.geometry.now (s.capacity.now ∷ s.image.now ∷ s.certificate.now ∷ []) (order.Check s) check_known refl plain
+order_read_as program (order.Mount s) plain = read_as program _ s.geometry.now (s.capacity.now ∷ s.image.now ∷ s.certificate.now ∷ []) (order.Mount s) mount_known refl plain
+order_read_as program (order.Serve s) plain = read_as program _ s.geometry.now (s.capacity.now ∷ s.image.now ∷ s.certificate.now ∷ s.output.now ∷ []) (order.Serve s) serve_known refl plain
+order_read_as program (order.Migrate s) plain = read_as program _ s.geometry.now (s.capacity.now ∷ s.image.now ∷ s.certificate.now ∷ s.output.now ∷ []) (order.Migrate s) migrate_known refl plain
 
 order_read : (words : List Text) (asked : Order) → IsOrder words asked → IsOrderRead words asked
 order_read words asked is = subst (λ ws. IsOrderRead ws asked) (sym is.spelled) (order_read_as is.program asked is.plain)
