@@ -1,3 +1,1 @@
-pub mod NumberLemmas
-pub mod MatchLemmas
 pub mod WordLemmas

@@ -1,9 +1,9 @@
-//! What the words of the program's command line mean: which command they are, as `clap` reads them, and the numbers that
-//! they write. No file is looked at, and no number is held against a limit.
+//! What the words of the program's command line mean: which command they are, as `clap` reads them by a grammar as data. No file is
+//! looked at, and no word is held against what the command makes of it.
 #![tactic(auto)]
 
-mod numbers;
+mod grammar;
 mod words;
 
-pub use numbers::{GeometryNumbers, geometry_numbers, number};
-pub use words::{CertificateWords, FileWords, ImageWords, Order, ServeWords, WordsFault, parse};
+pub use program_words::GrammarFault as WordsFault;
+pub use words::{CertificateWords, FileWords, ImageWords, Order, ServeWords, parse};

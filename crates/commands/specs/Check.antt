@@ -12,14 +12,14 @@ use Rattle.image_check.specs.Agrees.{Agrees, IsAsked}
 use Rattle.image_check.specs.Refused.{IsFirstWrong}
 use Rattle.image_check.specs.declared.refusal.Refusal.{Refusal}
 use Rattle.image_check.specs.declared.refusal.Refusal.TheVariants as refusals
-use Rattle.command_words.specs.declared.numbers.GeometryNumbers.{GeometryNumbers}
+use Rattle.program_words.specs.declared.numbers.GeometryNumbers.{GeometryNumbers}
 use Rattle.commands.specs.declared.text.CommandFault.{CommandFault}
 use Rattle.commands.specs.declared.text.CommandFault.TheVariants as fault
 use Rattle.command_words.specs.declared.words.CertificateWords.{CertificateWords}
 use Rattle.commands.specs.Files.{Gives, IsOpened}
 use Rattle.commands.specs.Lines.{IsUnprinted}
 use Rattle.commands.specs.Inputs.{IsUnread}
-use Rattle.command_words.specs.Numbers.{SpellsGeometry, number_of}
+use Rattle.program_words.specs.Numbers.{SpellsGeometry, number_of}
 
 -- the words are numbers, those of a geometry and of a capacity
 pub record AsksForCapacity (words : CertificateWords) (g : Geometry) (capacity : ℕ) : Type 0 where

@@ -15,13 +15,13 @@ use Rattle.mount.specs.declared.format_fault.FormatFault.TheVariants as refuse
 use Rattle.mount.specs.Formatted.{IsFormatted, good_after}
 use Rattle.mount.specs.Fresh.{is_used, IsFirstPass}
 use Rattle.mount.specs.Log.{failures}
-use Rattle.command_words.specs.declared.numbers.GeometryNumbers.{GeometryNumbers}
+use Rattle.program_words.specs.declared.numbers.GeometryNumbers.{GeometryNumbers}
 use Rattle.request_stream.specs.Frames.{AppendsPart}
 use Rattle.commands.specs.declared.files.FileFault.TheVariants as file
 use Rattle.commands.specs.declared.text.CommandFault.{CommandFault}
 use Rattle.commands.specs.declared.text.CommandFault.TheVariants as fault
 use Rattle.command_words.specs.declared.words.FileWords.{FileWords}
-use Rattle.command_words.specs.Numbers.{SpellsGeometry}
+use Rattle.program_words.specs.Numbers.{SpellsGeometry}
 use Rattle.commands.specs.Files.{Gives, Left, LeavesUntouched, with_store, written, unwritten}
 
 -- ---- an image in place

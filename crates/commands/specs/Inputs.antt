@@ -1,7 +1,7 @@
 -- What the faults of a command's words and files say.
 use Rattle.std.specs.Prelude.{◌≡◌, ℕ, List, Err}
 use Rattle.page_layout.specs.Faults.{IsFirstFault}
-use Rattle.command_words.specs.declared.numbers.GeometryNumbers.{GeometryNumbers}
+use Rattle.program_words.specs.declared.numbers.GeometryNumbers.{GeometryNumbers}
 use Rattle.commands.specs.declared.files.FileFault.TheVariants as file
 use Rattle.commands.specs.declared.text.CommandFault.{CommandFault}
 use Rattle.commands.specs.declared.text.CommandFault.TheVariants.{BadNumber, Geometry, OutOfMemory, Read}

@@ -12,14 +12,14 @@ use Rattle.page_layout.specs.Array.{sector_of}
 use Rattle.image_check.specs.declared.scan.SectorFault.{SectorFault}
 use Rattle.image_check.specs.declared.scan.SectorFault.TheVariants as scan
 use Rattle.image_check.specs.Sector.{IsAmbiguous, SharesSequence}
-use Rattle.command_words.specs.declared.numbers.GeometryNumbers.{GeometryNumbers}
+use Rattle.program_words.specs.declared.numbers.GeometryNumbers.{GeometryNumbers}
 use Rattle.commands.specs.declared.sector.PrintFault.{PrintFault}
 use Rattle.commands.specs.declared.sector.PrintFault.TheVariants as print
 use Rattle.commands.specs.declared.files.FileFault.TheVariants as file
 use Rattle.commands.specs.declared.text.CommandFault.{CommandFault}
 use Rattle.commands.specs.declared.text.CommandFault.TheVariants as fault
 use Rattle.command_words.specs.declared.words.ImageWords.{ImageWords}
-use Rattle.command_words.specs.Numbers.{SpellsGeometry, number_of}
+use Rattle.program_words.specs.Numbers.{SpellsGeometry, number_of}
 use Rattle.commands.specs.Files.{Gives}
 
 -- the image has the sector, and no two of its pages share its greatest sequence

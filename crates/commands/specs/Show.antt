@@ -13,14 +13,14 @@ use Rattle.page_layout.specs.Page.{Page, Image}
 use Rattle.page_layout.specs.Raw.{raw_image}
 use Rattle.page_layout.specs.Sound.{record_of, version_of, is_erased_page}
 use Rattle.request_stream.specs.Frames.{AppendsPart}
-use Rattle.command_words.specs.declared.numbers.GeometryNumbers.{GeometryNumbers}
+use Rattle.program_words.specs.declared.numbers.GeometryNumbers.{GeometryNumbers}
 use Rattle.commands.specs.declared.show.Shown.{Shown}
 use Rattle.commands.specs.declared.show.Shown.TheVariants.{Sound, Erased, Unsound}
 use Rattle.commands.specs.declared.files.FileFault.TheVariants as file
 use Rattle.commands.specs.declared.text.CommandFault.{CommandFault}
 use Rattle.commands.specs.declared.text.CommandFault.TheVariants as fault
 use Rattle.command_words.specs.declared.words.ImageWords.{ImageWords}
-use Rattle.command_words.specs.Numbers.{SpellsGeometry, number_of}
+use Rattle.program_words.specs.Numbers.{SpellsGeometry, number_of}
 use Rattle.commands.specs.Files.{Gives}
 use Rattle.commands.specs.Sector.{AsksForNumber, HasImage}
 

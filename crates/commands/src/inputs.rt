@@ -1,16 +1,17 @@
 //! What the commands take from their words and files.
 ghost use Rattle.std.specs.Prelude.{◌≡◌, ℕ, List, Result, Some, None, IfOk, IfErr};
 ghost use Rattle.page_layout.specs.Faults.{HasNumbers};
-ghost use Rattle.command_words.specs.declared.numbers.GeometryNumbers.{GeometryNumbers};
+ghost use Rattle.program_words.specs.declared.numbers.GeometryNumbers.{GeometryNumbers};
 ghost use Rattle.commands.specs.declared.files.FileFault.{FileFault};
 ghost use Rattle.commands.specs.Check.{AsksForCapacity, IsUnasked};
 ghost use Rattle.commands.specs.Inputs.{IsBadGeometry, IsBadNumber, IsUnread};
-ghost use Rattle.command_words.specs.Numbers.{SpellsGeometry, number_of};
+ghost use Rattle.program_words.specs.Numbers.{SpellsGeometry, number_of};
 
 use crate::files::{FileFault, FileStore};
 use crate::text::CommandFault;
-use command_words::{CertificateWords, GeometryNumbers, geometry_numbers, number};
+use command_words::CertificateWords;
 use page_layout::geometry::Geometry;
+use program_words::{GeometryNumbers, geometry_numbers, number};
 
 /// The number that a word writes.
 ///

@@ -16,8 +16,8 @@ use Rattle.page_layout.specs.Change.{erased_page}
 use Rattle.onfi_cycles.specs.Cycles.{page_of}
 use Rattle.nand_die.specs.Made.{AreNames, IsFirstMisnamed, IsMisnamed, with_mark}
 use Rattle.file_die.specs.Store.{Held, Puts, blank, page_in}
-use Rattle.command_words.specs.Numbers.{SpellsNumbers, StartsWithNumber, number_of}
-use Rattle.command_words.proofs.NumberLemmas.{no_comma}
+use Rattle.program_words.specs.Numbers.{SpellsNumbers, StartsWithNumber, number_of}
+use Rattle.program_words.proofs.NumberLemmas.{no_comma}
 use Rattle.disk_commands.specs.BadBlocks.{HasMarks, is_first_row, marked_page}
 
 -- ---- numbers with commas between them

@@ -8,7 +8,7 @@ use Rattle.page_layout.specs.Page.{Page}
 use Rattle.page_layout.specs.Change.{erased_page}
 use Rattle.nand_die.specs.Made.{AreNames, IsFirstMisnamed, with_mark}
 use Rattle.file_die.specs.Store.{Held, page_in}
-use Rattle.command_words.specs.Numbers.{SpellsNumbers}
+use Rattle.program_words.specs.Numbers.{SpellsNumbers}
 use Rattle.disk_commands.specs.declared.words.MakeWords.{MakeWords}
 use Rattle.disk_commands.specs.declared.words.MakeWords.TheVariants as make
 use Rattle.disk_commands.specs.declared.text.DiskCommandFault.{DiskCommandFault}

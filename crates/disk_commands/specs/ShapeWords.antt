@@ -2,8 +2,8 @@
 use Rattle.std.specs.Prelude.{ℕ, List}
 use Rattle.page_layout.specs.declared.geometry.Geometry.{Geometry}
 use Rattle.page_layout.specs.Faults.{HasNumbers, IsFirstFault}
-use Rattle.command_words.specs.declared.numbers.GeometryNumbers.{GeometryNumbers}
-use Rattle.command_words.specs.Numbers.{SpellsGeometry}
+use Rattle.program_words.specs.declared.numbers.GeometryNumbers.{GeometryNumbers}
+use Rattle.program_words.specs.Numbers.{SpellsGeometry}
 use Rattle.disk_commands.specs.declared.shape_words.GeometryWordFault.{GeometryWordFault}
 use Rattle.disk_commands.specs.declared.shape_words.GeometryWordFault.TheVariants.{NoNumbers, Limit}
 

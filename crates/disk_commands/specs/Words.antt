@@ -2,7 +2,7 @@
 use Rattle.std.specs.Prelude.{◌≡◌, ℕ, Bool, true, false, List, [], ◌∷◌, codes, Option, Some, None, option_map, if◌then◌else◌}
 use Rattle.std.specs.Str.{bytes_eq}
 use Rattle.std.specs.Borrow.{Bor}
-use Rattle.command_words.specs.Numbers.{number_of}
+use Rattle.program_words.specs.Numbers.{number_of}
 use Rattle.clap.specs.Words.{App, Row, Shape, first_of, count_of}
 use Rattle.program_words.specs.Grammar.{command_of, flag, option, place, program_of}
 use Rattle.program_words.specs.Met.{AsksText, NamesCommand, once}

@@ -9,8 +9,8 @@ use crate::shapes::{DiskShape, MOST_ENTRIES, cache_for, shape_for};
 use crate::sizes::{SizeWordFault, size_from};
 use crate::text::DiskCommandFault;
 use crate::words::{CreateWords, MakeWords};
-use command_words::number;
 use page_layout::geometry::Geometry;
+use program_words::number;
 
 // The geometry of a word.
 fn geometry_at<'a>(word: &'a str) -> Result<Geometry, DiskCommandFault<'a>>

@@ -5,14 +5,14 @@ ghost use Rattle.page_layout.specs.Counter.{HasRisen};
 ghost use Rattle.page_layout.specs.Geometry.{page_bytes};
 ghost use Rattle.onfi_cycles.specs.Cycles.{page_of};
 ghost use Rattle.nand_die.specs.Made.{AreNames, IsFirstMisnamed, with_mark};
-ghost use Rattle.command_words.specs.Numbers.{SpellsNumbers, StartsWithNumber};
+ghost use Rattle.program_words.specs.Numbers.{SpellsNumbers, StartsWithNumber};
 ghost use Rattle.disk_commands.specs.BadBlocks.{AreBadAsked, AreNoneAsked, HasMarks, Names, NamesNone, is_copied};
 
 use crate::text::DiskCommandFault;
 use crate::words::MakeWords;
-use command_words::number;
 use file_die::Store;
 use page_layout::geometry::Geometry;
+use program_words::number;
 use std::alloc::Global;
 
 // The number before the first comma, and what follows that comma.

@@ -2,8 +2,8 @@
 ghost use Rattle.std.specs.Prelude.{IfOk, IfErr};
 ghost use Rattle.disk_commands.specs.ShapeWords.{SaysGeometry, SaysNone};
 
-use command_words::geometry_numbers;
 use page_layout::geometry::{Geometry, GeometryFault};
+use program_words::geometry_numbers;
 use std::fmt;
 use thiserror::Error;
 

@@ -10,8 +10,7 @@ ghost use Rattle.disk_commands.specs.Words.{IsAsked, IsAt, IsCreateAt, IsInfoAt,
 
 use crate::grammar::grammar;
 use crate::shapes::Code;
-use command_words::number;
-use program_words::{CommandWords, GrammarFault, Met, read_words};
+use program_words::{CommandWords, GrammarFault, Met, number, read_words};
 use std::alloc::Global;
 
 /// What a disk is made of.

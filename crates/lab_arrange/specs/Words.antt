@@ -1,6 +1,6 @@
 -- The words of an arrangement, and the arrangement that they say.
 use Rattle.std.specs.Prelude.{◌≡◌, ◌≢◌, ◌⊎◌, ◌||◌, ℕ, ◌<◌, if◌then◌else◌, Bool, true, false, List, [], ◌∷◌, ◌++◌, codes, length, get_or, Option, Some, None, is_some}
-use Rattle.command_words.specs.Numbers.{number_of}
+use Rattle.program_words.specs.Numbers.{number_of}
 use Rattle.lab_arrange.specs.declared.arrangement.Arrangement.{Arrangement}
 use Rattle.lab_arrange.specs.declared.arrangement.Spares.TheVariants as spares
 use Rattle.lab_arrange.specs.declared.words.Told.{Told}

@@ -5,7 +5,7 @@ ghost use Rattle.lab_arrange.specs.declared.arrangement.Arrangement.{Arrangement
 ghost use Rattle.lab_arrange.specs.Words.{FlagSays, IsArrangementAt, IsBadAt, IsBadFrom, IsBadWord, IsToldBy, IsToldFrom, Says, ValueSays, set_told, with_told};
 
 use crate::arrangement::{Arrangement, Spares, in_order};
-use command_words::number;
+use program_words::number;
 
 /// What a word tells.
 #[derive(Clone, Copy, Debug, PartialEq, Eq)]

@@ -5,8 +5,8 @@ use Rattle.std.specs.Io.KnownBytes.{Keeps}
 use Rattle.page_layout.specs.declared.geometry.Geometry.{Geometry}
 use Rattle.page_layout.specs.Faults.{HasNumbers, IsFirstFault}
 use Rattle.request_stream.specs.Frames.{AppendsPart}
-use Rattle.command_words.specs.declared.numbers.GeometryNumbers.{GeometryNumbers}
-use Rattle.command_words.specs.Numbers.{SpellsGeometry}
+use Rattle.program_words.specs.declared.numbers.GeometryNumbers.{GeometryNumbers}
+use Rattle.program_words.specs.Numbers.{SpellsGeometry}
 use Rattle.lab_dump.specs.declared.make_fault.MakeFault.{MakeFault}
 use Rattle.lab_dump.specs.declared.make_fault.MakeFault.TheVariants as make
 use Rattle.lab_dump.specs.Scan.{image_bytes}

@@ -3,8 +3,8 @@ ghost use Rattle.std.specs.Prelude.{IfOk, IfErr};
 ghost use Rattle.lab_commands.specs.Bits.{AreBitsAt, AreNoBits};
 
 use crate::text::LabFault;
-use command_words::number;
 use page_layout::geometry::Geometry;
+use program_words::number;
 
 // The bytes of a page of which each two bits are tried.
 const MOST_BYTES: usize = 600;

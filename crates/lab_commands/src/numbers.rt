@@ -3,8 +3,8 @@ ghost use Rattle.std.specs.Prelude.{◌≡◌, IfOk, IfErr};
 ghost use Rattle.lab_commands.specs.Numbers.{IsNoLast, IsNoSector, IsLastAt, IsSectorAt, sequence_of};
 
 use crate::text::LabFault;
-use command_words::number;
 use page_layout::geometry::Geometry;
+use program_words::number;
 
 // The number so far with one more digit.
 fn next_value(value: u64, digit: u8) -> Option<u64>

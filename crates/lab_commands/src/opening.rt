@@ -7,9 +7,9 @@ ghost use Rattle.lab_commands.specs.Undone.{IsGeometryAt, IsKeptThere, IsMapUnpl
 use crate::files::{KeepFault, LabFileFault, LabFiles, MapText, Progress, Standing};
 use crate::text::LabFault;
 use crate::words::Showing;
-use command_words::geometry_numbers;
 use lab_dump::MakeFault;
 use page_layout::geometry::Geometry;
+use program_words::geometry_numbers;
 
 /// The geometry that a word says.
 pub(crate) fn geometry_at<'a>(word: &'a str) -> Result<Geometry, LabFault<'a>>

@@ -4,9 +4,9 @@ ghost use Rattle.lab_dump.specs.declared.rows.Rows.{Rows};
 ghost use Rattle.lab_commands.specs.Rows.{AreNoRows, AreRowsAt, SpellsRows};
 
 use crate::text::LabFault;
-use command_words::number;
 use lab_dump::Rows;
 use page_layout::geometry::Geometry;
+use program_words::number;
 
 // The rows that a word spells, whatever die they are of.
 fn rows_of(word: &str) -> Option<Rows>

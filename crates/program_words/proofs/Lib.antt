@@ -1,4 +1,5 @@
 pub mod FoundLemmas
 pub mod GrammarLemmas
 pub mod MetLemmas
+pub mod NumberLemmas
 pub mod WordLemmas

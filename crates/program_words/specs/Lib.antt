@@ -1,2 +1,3 @@
 pub mod Grammar
 pub mod Met
+pub mod Numbers

@@ -1,5 +1,5 @@
 use Rattle.std.proofs.Common.{◌≡◌, Some, None, ◌∙◌}
-use Rattle.command_words.proofs.NumberLemmas.{cut_front, uncut}
+use Rattle.program_words.proofs.NumberLemmas.{cut_front, uncut}
 use Rattle.disk_commands.proofs.named_blocks.first_number.Goals as goal
 
 pub returns-in_err-front-clause-all : goal.returns-in_err-front-clause-all

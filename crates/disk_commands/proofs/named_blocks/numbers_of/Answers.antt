@@ -1,5 +1,5 @@
 use Rattle.std.proofs.Common.{rules, inr, refl, sym, subst, ◌∙◌}
-use Rattle.command_words.specs.Numbers.{SpellsNumbers}
+use Rattle.program_words.specs.Numbers.{SpellsNumbers}
 use Rattle.disk_commands.proofs.BadLemmas.{AreReadFrom, none_read, none_spelled, one_more, pushed, shorter}
 use Rattle.disk_commands.proofs.named_blocks.numbers_of.Goals as goal
 

@@ -1,6 +1,6 @@
 use Rattle.std.proofs.Common.{◌≡◌, ◌∷◌, Some, None, refl, ap, ◌∙◌, lit<}
 use Rattle.std.proofs.lemmas.Str.Pattern.{strip_prefix_char}
-use Rattle.command_words.specs.Numbers.{number_of}
+use Rattle.program_words.specs.Numbers.{number_of}
 use Rattle.lab_commands.proofs.RowLemmas.{cut_front, uncut, stripped, unstripped}
 use Rattle.lab_commands.proofs.rows.rows_of.Goals as goal
 

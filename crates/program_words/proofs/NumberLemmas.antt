@@ -3,7 +3,7 @@ use Rattle.std.proofs.Common.{◌≡◌, ◌≢◌, ℕ, zero, suc, ◌<◌, Lis
 use Rattle.std.specs.Option.{MatchOption, option_and_then}
 use Rattle.std.specs.Borrow.{Bor}
 use Rattle.std.proofs.lemmas.Str.Pattern.{IsSplitOnceResult, split_after}
-use Rattle.command_words.specs.Numbers.{SpellsNumbers, StartsWithNumber, next_value, number_from, number_of}
+use Rattle.program_words.specs.Numbers.{SpellsNumbers, StartsWithNumber, next_value, number_from, number_of}
 
 -- what comes after a step that did not fail
 then_some : {A B : Type 0} (f : A → Option B) (o : Option A) (b : B) → option_and_then f o ≡ Some b → (a : A) × (f a ≡ Some b)

@@ -1,7 +1,7 @@
 //! Numbers as the words write them: decimal digits alone, below 2^32.
 ghost use Rattle.std.specs.Prelude.{◌≡◌, ◌∷◌, [], ℕ, List, Some, IfSome, IsSomeAnd};
-ghost use Rattle.command_words.specs.declared.numbers.GeometryNumbers.{GeometryNumbers};
-ghost use Rattle.command_words.specs.Numbers.{number_of, StartsWithNumber, SpellsGeometry};
+ghost use Rattle.program_words.specs.declared.numbers.GeometryNumbers.{GeometryNumbers};
+ghost use Rattle.program_words.specs.Numbers.{number_of, StartsWithNumber, SpellsGeometry};
 
 /// The number that a word writes: at least one digit, digits alone, below 2^32. Else `None`.
 ///
@@ -22,7 +22,7 @@ pub fn number(word: &str) -> Option<u32>
 
 // The number so far with one more digit.
 fn next_value(value: u32, digit: u8) -> Option<u32>
-    ensures { result ≡ Rattle.command_words.specs.Numbers.next_value value digit }
+    ensures { result ≡ Rattle.program_words.specs.Numbers.next_value value digit }
 {
     if !digit.is_ascii_digit() {
         return None;

@@ -1,6 +1,6 @@
 use Rattle.std.proofs.Common.{◌≡◌, Some, None, ◌∙◌}
-use Rattle.command_words.proofs.NumberLemmas.{cut_front, uncut}
-use Rattle.command_words.proofs.numbers.first_number.Goals as goal
+use Rattle.program_words.proofs.NumberLemmas.{cut_front, uncut}
+use Rattle.program_words.proofs.numbers.first_number.Goals as goal
 
 pub returns-in_err-front-clause-all : goal.returns-in_err-front-clause-all
 returns-in_err-front-clause-all c n rest starts =

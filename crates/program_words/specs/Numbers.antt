@@ -1,7 +1,7 @@
 -- Numbers as the words of a command write them.
 use Rattle.std.specs.Prelude.{◌≡◌, ℕ, ◌+◌, ◌-◌, ◌*◌, ◌^◌, ◌&&◌, nat_lt, nat_le, if◌then◌else◌, List, [], ◌∷◌, ◌++◌, Option, Some, None}
 use Rattle.std.specs.Option.{option_and_then}
-use Rattle.command_words.specs.declared.numbers.GeometryNumbers.{GeometryNumbers}
+use Rattle.program_words.specs.declared.numbers.GeometryNumbers.{GeometryNumbers}
 
 -- the number so far with one more digit, where that is a digit and the number stays below 2 ^ 32
 abbrev pub next_value : ℕ → ℕ → Option ℕ

@@ -1,6 +1,6 @@
 use Rattle.std.proofs.Common.{◌≡◌, ◌∷◌, [], Some, None, ◌∙◌}
-use Rattle.command_words.proofs.NumberLemmas.{same_rest}
-use Rattle.command_words.proofs.numbers.geometry_numbers.Goals as goal
+use Rattle.program_words.proofs.NumberLemmas.{same_rest}
+use Rattle.program_words.proofs.numbers.geometry_numbers.Goals as goal
 
 pub returns-in_err-data_bytes-clause-all : goal.returns-in_err-data_bytes-clause-all
 returns-in_err-data_bytes-clause-all c numbers spelled =
