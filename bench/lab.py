@@ -502,6 +502,7 @@ def refusals(folder):
         (["survey", "64,32,8,32", "dump.bin"], (2, "", "usage: bad number 64,32,8,32\n")),
         (["survey", "63,32,8,32,32", "dump.bin"], (1, "", "refused geometry 1 DataSize\n")),
         (["survey", "64,32,8,32,32", "none.bin"], failed("fault read none.bin")),
+        (["survey", "64,32,8,32,32", "."], failed("fault read .", "Is a directory (os error 21)")),
         (["survey", "64,32,8,32,32"], (2, "", NONE)),
         (["history", "64,32,8,32", "none.bin", "x"], (2, "", "usage: bad number 64,32,8,32\n")),
         (["history", "64,32,8,32,32", "none.bin", "x"], (2, "", "usage: bad number x\n")),

@@ -1,5 +1,7 @@
 -- What a report says of files, one after another.
 use Rattle.std.proofs.Common.{◌≡◌, ◌⊎◌, inl, inr, ℕ, zero, suc, ◌+◌, ◌<◌, List, [], ◌∷◌, ◌++◌, length, map, take, get_or, Bool, false, below_more, Option, refl, sym, ap, subst, ◌∙◌, arith}
+use Rattle.std.specs.Prelude.{Result, Ok, Err, IfErr}
+use Rattle.std.specs.Result.{IsErrAnd}
 use Rattle.std.specs.Borrow.{Bor}
 use Rattle.std.proofs.lemmas.List.{get_or-map, length-map, map-append, take_more}
 use Rattle.program_words.specs.Met.{texts}
@@ -14,6 +16,11 @@ use Rattle.lab_custody.specs.declared.fault.CustodyFault.{CustodyFault}
 use Rattle.lab_custody.specs.declared.fault.CustodyFault.TheVariants as fault
 use Rattle.lab_custody.specs.Reported.{AreNoted, IsFileNoted, IsSomeUnnoted, IsUnnoted, IsUnstored}
 use Rattle.lab_custody.proofs.CheckLemmas.{unread_before}
+
+-- a fault that a `?` hands on
+pub handed_on : {T : Type 0} (P : CustodyFault → Type 0) (r : Result T CustodyFault) (told : CustodyFault) → IsErrAnd r (λ e. e ≡ told) → P told → IfErr r P
+handed_on P (Ok done) told is h = tt
+handed_on P (Err e) told is h = subst P (sym is) h
 
 noted_before : (a b : StoreAnswers) (kept : Option Store) (path : List ℕ) (note : Note) → AnswersNoMore a b → IsFileNoted b kept path note → IsFileNoted a kept path note
 noted_before a b kept path note h k = record {

@@ -20,10 +20,7 @@ pub(crate) fn read_content<R: DumpReader>(
 {
     let mut hashing = Hashing::new();
     'pieces: loop {
-        let count = match reader.read(buffer) {
-            Ok(count) => count,
-            Err(fault) => return Err(fault),
-        };
+        let count = reader.read(buffer)?;
         if count == 0 {
             return Ok(hashing.content());
         }

@@ -49,10 +49,7 @@ fn begin<'a, F: LabFiles>(
     ensures no_more { AnswersNoMore (F.answers files.old) (F.answers files.new) }
     ensures kept { F.kept files.new ≡ F.kept files.old }
 {
-    match allow_report(files, asked) {
-        Ok(()) => {}
-        Err(fault) => return Err(fault),
-    }
+    allow_report(files, asked)?;
     let mut notes = match take_notes(alloc, asked.read.len(), asked.wrote.len()) {
         Ok(notes) => notes,
         Err(_) => return Err(CustodyFault::Lab(LabFault::OutOfMemory)),

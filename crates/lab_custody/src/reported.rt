@@ -69,10 +69,8 @@ pub(crate) fn allow_report<'a, F: LabFiles>(
         Err(LabFileFault::OutOfMemory) => return Err(CustodyFault::Lab(LabFault::OutOfMemory)),
     }
     for place in 0..words.wrote.len() {
-        match is_report(files, words.wrote[place], words.file) {
-            Ok(false) => {}
-            Ok(true) => return Err(CustodyFault::ReportIsOut),
-            Err(fault) => return Err(fault),
+        if is_report(files, words.wrote[place], words.file)? {
+            return Err(CustodyFault::ReportIsOut);
         }
     }
     Ok(())
@@ -162,10 +160,7 @@ pub(crate) fn note_files<'a, F: LabFiles>(
 {
     for place in 0..paths.len() {
         let name = paths[place];
-        let content = match note_file(files, name, buffer) {
-            Ok(content) => content,
-            Err(fault) => return Err(fault),
-        };
+        let content = note_file(files, name, buffer)?;
         notes.push_reserved(Noted { name, content });
     }
     Ok(())

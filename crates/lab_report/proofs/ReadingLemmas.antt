@@ -1,9 +1,11 @@
 -- The line feed at the end of a text, and what several values say.
-use Rattle.std.proofs.Common.{◌≡◌, ℕ, ◌==◌, false, List, [], ◌∷◌, ◌++◌, Option, Some, None, option_map, option_and_then, refl, sym, ap, ◌∙◌, ◌<◌, ◌+◌, suc, length, get_or, map, take, drop, drop-cons}
+use Rattle.std.proofs.Common.{◌≡◌, ℕ, ◌==◌, false, List, [], ◌∷◌, ◌++◌, Option, Some, None, option_map, option_and_then, Result, Ok, Err, refl, sym, ap, ◌∙◌, ◌<◌, ◌+◌, suc, length, get_or, map, take, drop, drop-cons}
+use Rattle.std.specs.Prelude.{IsErrAnd}
 use Rattle.std.proofs.lemmas.List.{map-append, take_more, take-append-drop}
 use Rattle.serde_json.specs.declared.value.Value.{Value}
 use Rattle.serde_json.specs.Data.{Data}
 use Rattle.serde_json.specs.View.{items_of, items_view, view}
+use Rattle.lab_report.specs.declared.reading.ReportFault.{ReportFault}
 use Rattle.lab_report.specs.Reading.{all_in, without_feed}
 
 -- a line feed at the end is left out
@@ -53,3 +55,9 @@ pub one_value_none : {A : Type 0} (f : Data → Option A) (vs : List Value) (i :
 one_value_none f vs i v within at none =
     let split : vs ≡ take i vs ++ v ∷ drop (suc i) vs = sym (take-append-drop i vs) ∙ (ap (λ rest. take i vs ++ rest) (drop-cons vs i v within) ∙ ap (λ w. take i vs ++ w ∷ drop (suc i) vs) (sym at)) in
     ap (λ xs. all_in f (items_view xs)) split ∙ (ap (λ xs. all_in f (items_of xs)) (map-append view (take i vs) (v ∷ drop (suc i) vs)) ∙ one_says_none f (map view (take i vs)) (view v) (map view (drop (suc i) vs)) none)
+
+-- ---- the fault that a `?` hands on is the one that came
+
+pub fault_came : {A : Type 0} (r : Result A ReportFault) (came told : ReportFault) → IsErrAnd r (λ e. e ≡ came) → r ≡ Err told → came ≡ told
+fault_came (Ok a) came told handed is = absurd handed
+fault_came (Err e) came told handed is = let same : e ≡ told = cc in sym handed ∙ same

@@ -100,10 +100,7 @@ fn notes_in(alloc: Global, values: &[Value]) -> Result<Vec<FileNote>, ReportFaul
 {
     let mut notes = Vec::new(alloc);
     for value in values {
-        let note = match note_at(alloc, value) {
-            Ok(note) => note,
-            Err(fault) => return Err(fault),
-        };
+        let note = note_at(alloc, value)?;
         match notes.push(note) {
             Ok(()) => {}
             Err(_) => return Err(ReportFault::OutOfMemory),
@@ -141,10 +138,7 @@ fn words_in(alloc: Global, values: &[Value]) -> Result<Vec<String>, ReportFault>
 {
     let mut words = Vec::new(alloc);
     for value in values {
-        let word = match word_at(alloc, value) {
-            Ok(word) => word,
-            Err(fault) => return Err(fault),
-        };
+        let word = word_at(alloc, value)?;
         match words.push(word) {
             Ok(()) => {}
             Err(_) => return Err(ReportFault::OutOfMemory),

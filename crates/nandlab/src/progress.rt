@@ -1,7 +1,8 @@
 //! How far a file was read, on a screen.
 use lab_dump::{DumpFault, DumpReader};
 use lab_mend::Watch;
-use std::io::{self, Seek, SeekFrom, Write};
+use part_files::FirstError;
+use std::io::{self, Read, Seek, SeekFrom, Write};
 
 /// Shows how much of a file was read, as a line that is renewed.
 #[derive(Drop)]
@@ -51,21 +52,26 @@ impl<E: Write> Meter<E> {
     }
 }
 
-/// A reader that a meter may follow.
+/// A reader that a meter may follow. The system's error of a read that fails is noted.
 #[derive(Drop)]
-pub struct Metered<R, E> {
+pub struct Metered<'a, R, E> {
     reader: R,
     meter: Option<Meter<E>>,
+    first: &'a FirstError,
 }
 
-impl<R, E> Metered<R, E> {
-    /// This reader, with this meter.
-    pub fn new(reader: R, meter: Option<Meter<E>>) -> Metered<R, E> {
-        Metered { reader, meter }
+impl<'a, R, E> Metered<'a, R, E> {
+    /// This reader, with this meter, and where an error is noted.
+    pub fn new(reader: R, meter: Option<Meter<E>>, first: &'a FirstError) -> Metered<'a, R, E> {
+        Metered {
+            reader,
+            meter,
+            first,
+        }
     }
 }
 
-impl<R: DumpReader, E: Write> DumpReader for Metered<R, E> {
+impl<R: Read, E: Write> DumpReader for Metered<'_, R, E> {
     ghost use Rattle.std.specs.Prelude.{None, true};
 
     ghost remaining = { λ _. None };
@@ -73,7 +79,10 @@ impl<R: DumpReader, E: Write> DumpReader for Metered<R, E> {
     ghost failed = { λ _. true };
 
     fn read(&mut self, buffer: &mut [u8]) -> Result<usize, DumpFault> {
-        let count = self.reader.read(buffer)?;
+        let done = self.reader.read(buffer);
+        let Ok(count) = self.first.noting(done) else {
+            return Err(DumpFault);
+        };
         if let Some(meter) = &mut self.meter {
             meter.advance(count as u64);
         }

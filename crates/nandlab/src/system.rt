@@ -44,19 +44,19 @@ pub struct SystemFiles<'a, R, E> {
     held: Vec<File>,
 }
 
-/// A file of the system that is read at whatever place.
+/// A file of the system that is read at whatever place. The system's error of a call that fails is noted.
 #[derive(Drop)]
-pub struct DumpFile<E> {
+pub struct DumpFile<'a, E> {
     file: File,
     meter: Option<Meter<E>>,
+    first: &'a FirstError,
 }
 
-/// A file of sectors or pages of the system, that is being written. It is locked as long as it is open.
+/// A file of sectors or pages of the system, that is being written. It is locked as long as it is open. The system's error of a write that fails is noted.
 #[derive(Drop)]
-pub struct PieceFile {
+pub struct PieceFile<'a> {
     file: File,
-    // the first error of a write
-    error: Option<Error>,
+    first: &'a FirstError,
     // the name of the part
     name: String,
     // the bytes of a sector or a page
@@ -65,7 +65,7 @@ pub struct PieceFile {
 
 impl<'a, R: Files<File = File> + AllocGlobal, E: Write> SystemFiles<'a, R, E> {
     /// The files that the program's handle `rt` reaches, and a screen, twice, to show progress on, which somebody may look at. Nothing is opened. The system's first error that
-    /// a fault comes of is noted, but for those of reads of an open file.
+    /// a fault comes of is noted: of opening, reading, making, writing, syncing or naming a file, or of asking about one.
     pub fn new(
         rt: &'a R,
         first: &'a FirstError,
@@ -296,7 +296,7 @@ fn real_path<R: Files + AllocGlobal>(rt: &R, path: &str) -> io::Result<PathBuf<R
     }
 }
 
-impl<E: Write> Dump for DumpFile<E> {
+impl<E: Write> Dump for DumpFile<'_, E> {
     ghost use Rattle.std.specs.Prelude.{None, true};
 
     ghost bytes = { λ _. None };
@@ -304,16 +304,17 @@ impl<E: Write> Dump for DumpFile<E> {
     ghost failed = { λ _. true };
 
     fn size(&mut self) -> Result<u64, DumpFault> {
-        match self.file.seek(SeekFrom::End(0)) {
+        let done = self.file.seek(SeekFrom::End(0));
+        match self.first.noting(done) {
             Ok(size) => Ok(size),
             Err(_) => Err(DumpFault),
         }
     }
 
     fn read_at(&mut self, at: u64, buffer: &mut [u8]) -> Result<(), DumpFault> {
-        match self.file.read_exact_at(buffer, at) {
-            Ok(()) => {}
-            Err(_) => return Err(DumpFault),
+        let done = self.file.read_exact_at(buffer, at);
+        if self.first.noting(done).is_err() {
+            return Err(DumpFault);
         }
         if let Some(meter) = &mut self.meter {
             meter.advance(buffer.len() as u64);
@@ -322,21 +323,19 @@ impl<E: Write> Dump for DumpFile<E> {
     }
 }
 
-impl PieceFile {
+impl PieceFile<'_> {
     // Writes the bytes of a piece.
     fn put_piece(&mut self, number: u32, bytes: &[u8]) -> Result<(), TargetFault> {
         let at = u64::from(number) * u64::from(self.size);
-        match self.file.write_all_at(bytes, at) {
+        let done = self.file.write_all_at(bytes, at);
+        match self.first.noting(done) {
             Ok(()) => Ok(()),
-            Err(error) => {
-                self.error.get_or_insert(error);
-                Err(TargetFault)
-            }
+            Err(_) => Err(TargetFault),
         }
     }
 }
 
-impl Pieces for PieceFile {
+impl Pieces for PieceFile<'_> {
     ghost use Rattle.std.specs.Prelude.{None, true};
 
     ghost pieces = { λ _. None };
@@ -344,7 +343,7 @@ impl Pieces for PieceFile {
     ghost failed = { λ _. true };
 }
 
-impl Target for PieceFile {
+impl Target for PieceFile<'_> {
     fn put(&mut self, number: u32, body: &[u8], _spare: &[u8]) -> Result<(), TargetFault> {
         self.put_piece(number, body)
     }
@@ -354,13 +353,13 @@ impl Target for PieceFile {
     }
 }
 
-impl DamagedTarget for PieceFile {
+impl DamagedTarget for PieceFile<'_> {
     fn put_damaged(&mut self, number: u32, body: &[u8], _spare: &[u8]) -> Result<(), TargetFault> {
         self.put_piece(number, body)
     }
 }
 
-impl PageTarget for PieceFile {
+impl PageTarget for PieceFile<'_> {
     fn put_page(&mut self, row: u32, bytes: &[u8]) -> Result<(), TargetFault> {
         self.put_piece(row, bytes)
     }
@@ -370,11 +369,11 @@ impl<'a, R: Files<File = File> + AllocGlobal, E: Write + Drop> LabFiles for Syst
     ghost use Rattle.std.specs.Prelude.{None};
     ghost use Rattle.lab_commands.specs.Files.{unknown};
 
-    type Reader = Metered<BufReader<File>, E>;
+    type Reader = Metered<'a, BufReader<File>, E>;
 
-    type Dump = DumpFile<E>;
+    type Dump = DumpFile<'a, E>;
 
-    type Target = PieceFile;
+    type Target = PieceFile<'a>;
 
     type Watch = Trials<E>;
 
@@ -405,13 +404,13 @@ impl<'a, R: Files<File = File> + AllocGlobal, E: Write + Drop> LabFiles for Syst
         &mut self,
         path: &str,
         progress: Progress,
-    ) -> Result<Metered<BufReader<File>, E>, LabFileFault> {
+    ) -> Result<Metered<'a, BufReader<File>, E>, LabFileFault> {
         let mut file = self.open_held(path)?;
         let meter = self.meter(&mut file, progress);
         let reader = BufReader::with_capacity(self.system.rt.alloc(), READ_AHEAD, file).map_err(
             fault_of,
         )?;
-        Ok(Metered::new(reader, meter))
+        Ok(Metered::new(reader, meter, self.system.first))
     }
 
     fn load(&mut self, path: &str, most: u64) -> Result<Vec<u8>, LabFileFault> {
@@ -421,10 +420,18 @@ impl<'a, R: Files<File = File> + AllocGlobal, E: Write + Drop> LabFiles for Syst
         Ok(bytes)
     }
 
-    fn open_dump(&mut self, path: &str, progress: Progress) -> Result<DumpFile<E>, LabFileFault> {
+    fn open_dump(
+        &mut self,
+        path: &str,
+        progress: Progress,
+    ) -> Result<DumpFile<'a, E>, LabFileFault> {
         let mut file = self.open_held(path)?;
         let meter = self.meter(&mut file, progress);
-        Ok(DumpFile { file, meter })
+        Ok(DumpFile {
+            file,
+            meter,
+            first: self.system.first,
+        })
     }
 
     fn watch(&mut self, progress: Progress) -> Trials<E> {
@@ -435,7 +442,12 @@ impl<'a, R: Files<File = File> + AllocGlobal, E: Write + Drop> LabFiles for Syst
         }
     }
 
-    fn create(&mut self, path: &str, count: u32, size: usize) -> Result<PieceFile, LabFileFault> {
+    fn create(
+        &mut self,
+        path: &str,
+        count: u32,
+        size: usize,
+    ) -> Result<PieceFile<'a>, LabFileFault> {
         let Ok(size) = u32::try_from(size) else {
             return Err(LabFileFault::Failed);
         };
@@ -443,13 +455,13 @@ impl<'a, R: Files<File = File> + AllocGlobal, E: Write + Drop> LabFiles for Syst
         let (file, name) = new_zeros(&self.system, path, all)?;
         Ok(PieceFile {
             file,
-            error: None,
+            first: self.system.first,
             name,
             size,
         })
     }
 
-    fn keep(&mut self, path: &str, target: PieceFile, over: bool) -> Result<(), KeepFault> {
+    fn keep(&mut self, path: &str, target: PieceFile<'a>, over: bool) -> Result<(), KeepFault> {
         put_in_place(&self.system, &target.file, target.name.as_str(), path, over)
     }
 
@@ -467,10 +479,7 @@ impl<'a, R: Files<File = File> + AllocGlobal, E: Write + Drop> LabFiles for Syst
         }
     }
 
-    fn discard(&mut self, target: PieceFile) {
-        if let Some(error) = &target.error {
-            self.system.first.note(error);
-        }
+    fn discard(&mut self, target: PieceFile<'a>) {
         discard(&mut self.system.names(), target.name.as_str());
     }
 }
