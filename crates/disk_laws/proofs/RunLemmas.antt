@@ -36,7 +36,7 @@ use Rattle.disk_server.proofs.Calls.{no_bus}
 use Rattle.disk_server.proofs.Holding.{parts}
 use Rattle.disk_laws.specs.Killed.{bytes_found}
 use Rattle.disk_laws.specs.Lost.{LostBy, MayLose}
-use Rattle.disk_laws.specs.Runs.{CutIn, DieWords, Does, HasOnTheWay, IsFoundAfterLoss, IsOneCall, KilledRunLaw, LostRunLaw, NoCall, OneCallLaw, OneMore, Run, image_on}
+use Rattle.disk_laws.specs.Runs.{CutIn, DieWords, Does, HasOnTheWay, IsFoundAfterLoss, IsOneCall, KilledRunLaw, LostRunLaw, NoCall, OneCallLaw, OneMore, DeviceCalls, image_on}
 use Rattle.disk_laws.proofs.FitLemmas.{Fits}
 use Rattle.disk_laws.proofs.GrowLemmas.{GrewSince, IsFound, Stands, since_begin}
 use Rattle.disk_laws.proofs.LogLemmas.{Goes, grew, lasts_after, lost, lost_apart}
@@ -184,18 +184,18 @@ module _ {N : Type 0} (die : DieWords N) (old : Device N) (log : List Operation)
 -- ---- calls one after another
 
 module _ {N : Type 0} (die : DieWords N) (old : Device N) where
-  run_sized : (log : List Operation) (new : Device N) → Run die old log new → (new.engine.geometry ≡ old.engine.geometry) × (new.engine.mapping.capacity ≡ old.engine.mapping.capacity)
+  run_sized : (log : List Operation) (new : Device N) → DeviceCalls die old log new → (new.engine.geometry ≡ old.engine.geometry) × (new.engine.mapping.capacity ≡ old.engine.mapping.capacity)
   run_sized log new NoCall = (refl, refl)
   run_sized log new (OneMore before mid more last run does) =
       let at = run_sized before mid run in
       let its = called die mid more last does old.engine.geometry old.engine.mapping.capacity at.0 at.1 in
       (its.sized, its.room)
 
-  called_on : (before : List Operation) (mid : Device N) (log : List Operation) (new : Device N) → Run die old before mid → Does die mid log new
+  called_on : (before : List Operation) (mid : Device N) (log : List Operation) (new : Device N) → DeviceCalls die old before mid → Does die mid log new
       → Called old.engine.geometry old.engine.mapping.capacity die mid log new
   called_on before mid log new run does = (let at = run_sized before mid run in called die mid log new does old.engine.geometry old.engine.mapping.capacity at.0 at.1)
 
-  run_image : (log : List Operation) (new : Device N) → Run die old log new → image_after_all old.engine.geometry.pages (image_on die old) log ≡ image_on die new
+  run_image : (log : List Operation) (new : Device N) → DeviceCalls die old log new → image_after_all old.engine.geometry.pages (image_on die old) log ≡ image_on die new
   run_image log new NoCall = refl
   run_image log new (OneMore before mid more last run does) =
       let its = called_on before mid more last run does in
@@ -221,7 +221,7 @@ module _ {N : Type 0} (die : DieWords N) (old : Device N) where
     mounts = c.mounts;
   }
 
-  pub killed : (log : List Operation) (new : Device N) (found : Image) → Run die old log new → MayLeave old.engine.geometry (image_on die old) log found
+  pub killed : (log : List Operation) (new : Device N) (found : Image) → DeviceCalls die old log new → MayLeave old.engine.geometry (image_on die old) log found
       → (found ≡ image_on die old) ⊎ CutIn die old log new found
   killed log new found NoCall m = inl (no_operation old.engine.geometry (image_on die old) found m)
   killed log new found (OneMore before mid more last run does) m = elim ((stops_join old.engine.geometry.pages (image_on die old) found before more).0 m.by) [
@@ -258,7 +258,7 @@ module _ {N : Type 0} (die : DieWords N) (old : Device N) where
   -- ---- a loss of power
 
   -- a sector of the disk that is there after the calls
-  way_end : (log : List Operation) (new : Device N) (n : ℕ) → Run die old log new → HasOnTheWay die old log new n (sector_of old.engine.geometry (image_on die new) n)
+  way_end : (log : List Operation) (new : Device N) (n : ℕ) → DeviceCalls die old log new → HasOnTheWay die old log new n (sector_of old.engine.geometry (image_on die new) n)
   way_end log new n run = record { before = log; at = new; after = []; was = run; rest = NoCall; joined = sym (append-nil log); has = refl }
 
   way_on : (before : List Operation) (mid : Device N) (log : List Operation) (new : Device N) (n : ℕ) (bytes : List ℕ) → Does die mid log new
@@ -284,7 +284,7 @@ module _ {N : Type 0} (die : DieWords N) (old : Device N) where
 
   module _ (few : old.engine.mapping.capacity + old.engine.geometry.pages ≤ 65536) where
     -- each image that a stop inside a call may leave stands
-    module _ (before : List Operation) (mid : Device N) (log : List Operation) (new : Device N) (run : Run die old before mid) (does : Does die mid log new) where
+    module _ (before : List Operation) (mid : Device N) (log : List Operation) (new : Device N) (run : DeviceCalls die old before mid) (does : Does die mid log new) where
       its : Called old.engine.geometry old.engine.mapping.capacity die mid log new
       its = called_on before mid log new run does
 
@@ -325,7 +325,7 @@ module _ {N : Type 0} (die : DieWords N) (old : Device N) where
     lasts_join pages stored image (Program row page passed left ∷ xs) ys = lasts_join pages stored (image_after pages image (Program row page passed left)) xs ys
     lasts_join pages stored image (Erase block passed left ∷ xs) ys = lasts_join pages (image_after pages image (Erase block passed left)) (image_after pages image (Erase block passed left)) xs ys
 
-    grew_run : (log : List Operation) (new : Device N) → Run die old log new → Stands old.engine.geometry (old.engine.mapping.capacity + old.engine.geometry.pages) (HasOnTheWay die old log new) (image_on die new)
+    grew_run : (log : List Operation) (new : Device N) → DeviceCalls die old log new → Stands old.engine.geometry (old.engine.mapping.capacity + old.engine.geometry.pages) (HasOnTheWay die old log new) (image_on die new)
         → GrewSince old.engine.geometry (HasOnTheWay die old log new) (lasts_after old.engine.geometry.pages (image_on die old) (image_on die old) log) (image_on die new)
     grew_run log new NoCall stands = since_begin old.engine.geometry (old.engine.mapping.capacity + old.engine.geometry.pages) (HasOnTheWay die old [] old) (image_on die old) stands
     grew_run log new (OneMore before mid more last run does) stands =
@@ -339,7 +339,7 @@ module _ {N : Type 0} (die : DieWords N) (old : Device N) where
         subst (λ i. GrewSince old.engine.geometry (HasOnTheWay die old (before ++ more) last) i (image_on die last))
         (ap (λ i. lasts_after pages then i more) (sym (run_image before mid run)) ∙ sym (lasts_join pages first first before more)) now
 
-    pub lost_run : (log : List Operation) (new : Device N) (found : Image) → Run die old log new → MayLose old.engine.geometry (image_on die old) log found
+    pub lost_run : (log : List Operation) (new : Device N) (found : Image) → DeviceCalls die old log new → MayLose old.engine.geometry (image_on die old) log found
         → LosesSince (image_on die old) (image_on die old) found ⊎ IsFoundAfterLoss die old log new found
     lost_run log new found NoCall m = inl m.by
     lost_run log new found (OneMore before mid more last run does) m =

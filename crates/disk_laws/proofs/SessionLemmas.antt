@@ -13,20 +13,20 @@ use Rattle.disk_server.specs.Asked.{AsksCall}
 use Rattle.disk_server.specs.Disk.{AsksChange, AsksClear, AsksFlush, AsksRead, AsksTurn, ChangesOne, IsDisk, holds}
 use Rattle.disk_server.proofs.Calls.{no_bus}
 use Rattle.disk_server.proofs.Holding.{back, parts}
-use Rattle.disk_laws.specs.Runs.{DieWords, Does, IsAsked, NoCall, OneMore, Run, SessionLaw}
+use Rattle.disk_laws.specs.Runs.{DieWords, Does, IsDiskCall, NoCall, OneMore, DeviceCalls, SessionLaw}
 
 module _ {N : Type 0} (die : DieWords N) where
-  run_join : (a b c : Device N) (xs ys : List Operation) → Run die a xs b → Run die b ys c → Run die a (xs ++ ys) c
-  run_join a b c xs ys run NoCall = subst (λ l. Run die a l b) (sym (append-nil xs)) run
+  run_join : (a b c : Device N) (xs ys : List Operation) → DeviceCalls die a xs b → DeviceCalls die b ys c → DeviceCalls die a (xs ++ ys) c
+  run_join a b c xs ys run NoCall = subst (λ l. DeviceCalls die a l b) (sym (append-nil xs)) run
   run_join a b c xs ys run (OneMore before mid more last rest does) =
-      subst (λ l. Run die a l last) (append_assoc xs before more) (OneMore (xs ++ before) mid more last (run_join a b mid xs before run rest) does)
+      subst (λ l. DeviceCalls die a l last) (append_assoc xs before more) (OneMore (xs ++ before) mid more last (run_join a b mid xs before run rest) does)
 
   -- what a call leaves to the call before it
   record Goes (old new : Device N) : Type 0 where
     pub held : holds die.honest old ≡ true
     pub told : IsSome (die.recorded old.engine.nand)
     pub log : List Operation
-    pub run : Run die old log new
+    pub run : DeviceCalls die old log new
 
   module _ (old new : Device N) (was : IsDisk die.flash die.honest old) (on : holds die.honest new ≡ true) (some : IsSome (die.recorded new.engine.nand)) where
     one : (log : List Operation) → Does die old log new → Goes old new
@@ -91,7 +91,7 @@ module _ {N : Type 0} (die : DieWords N) where
         record { held = first.held; told = first.told; log = first.log ++ second.log; run = run_join old asks.mid new first.log second.log first.run second.run }
   ]
 
-  goes : (old new : Device N) → IsDisk die.flash die.honest old → holds die.honest new ≡ true → IsSome (die.recorded new.engine.nand) → IsAsked die old new → Goes old new
+  goes : (old new : Device N) → IsDisk die.flash die.honest old → holds die.honest new ≡ true → IsSome (die.recorded new.engine.nand) → IsDiskCall die old new → Goes old new
   unfolding AsksCall ChangesOne
   goes old new was on some (inl (inl read)) = of_read old new was on some read
   goes old new was on some (inl (inr (inl (n, result, inl (command, asks))))) = of_change old new was on some n command result asks
@@ -100,7 +100,7 @@ module _ {N : Type 0} (die : DieWords N) where
   goes old new was on some (inr (result, asks)) = of_turn old new was on some result asks
 
   -- it stays a disk
-  disk_on : (old new : Device N) → IsDisk die.flash die.honest old → IsAsked die old new → IsDisk die.flash die.honest new
+  disk_on : (old new : Device N) → IsDisk die.flash die.honest old → IsDiskCall die old new → IsDisk die.flash die.honest new
   unfolding AsksCall ChangesOne
   disk_on old new was (inl (inl read)) = read.disk
   disk_on old new was (inl (inr (inl (n, result, inl (command, asks))))) = asks.disk
@@ -111,15 +111,15 @@ module _ {N : Type 0} (die : DieWords N) where
   disk_on old new was (inl (inr (inr (result, asks)))) = asks.disk
   disk_on old new was (inr (result, asks)) = asks.disk
 
-  disk_of : (n : ℕ) (old new : Device N) → IsDisk die.flash die.honest old → Times (IsAsked die) n old new → IsDisk die.flash die.honest new
+  disk_of : (n : ℕ) (old new : Device N) → IsDisk die.flash die.honest old → Times (IsDiskCall die) n old new → IsDisk die.flash die.honest new
   unfolding Times
   disk_of zero old new was same = subst (IsDisk die.flash die.honest) (sym same) was
   disk_of (suc n) old new was (mid, before, call) = disk_on mid new (disk_of n old mid was before) call
 
-  run_of : (n : ℕ) (old new : Device N) → IsDisk die.flash die.honest old → Times (IsAsked die) n old new → holds die.honest new ≡ true → IsSome (die.recorded new.engine.nand)
-      → (log : List Operation) × Run die old log new
+  run_of : (n : ℕ) (old new : Device N) → IsDisk die.flash die.honest old → Times (IsDiskCall die) n old new → holds die.honest new ≡ true → IsSome (die.recorded new.engine.nand)
+      → (log : List Operation) × DeviceCalls die old log new
   unfolding Times
-  run_of zero old new was same on some = ([], subst (Run die old []) (sym same) NoCall)
+  run_of zero old new was same on some = ([], subst (DeviceCalls die old []) (sym same) NoCall)
   run_of (suc n) old new was (mid, before, call) on some =
       let last = goes mid new (disk_of n old mid was before) on some call in
       let first = run_of n old mid was before last.held last.told in

@@ -48,13 +48,13 @@ pub record Does {N : Type 0} (die : DieWords N) (old : Device N) (log : List Ope
   pub records : Records (die.recorded old.engine.nand) log (die.recorded new.engine.nand)
 
 -- CALLS ONE AFTER ANOTHER, with the operations of all of them
-pub data Run {N : Type 0} (die : DieWords N) (old : Device N) : List Operation → Device N → Type 0 where
-  NoCall : Run die old [] old
-  OneMore : (before : List Operation) (mid : Device N) (log : List Operation) (new : Device N) → Run die old before mid → Does die mid log new → Run die old (before ++ log) new
+pub data DeviceCalls {N : Type 0} (die : DieWords N) (old : Device N) : List Operation → Device N → Type 0 where
+  NoCall : DeviceCalls die old [] old
+  OneMore : (before : List Operation) (mid : Device N) (log : List Operation) (new : Device N) → DeviceCalls die old before mid → Does die mid log new → DeviceCalls die old (before ++ log) new
 
 -- WHAT IS ASKED OF A DEVICE by who serves it as a disk: a read of a sector, a change of one, a flush, or a rest
-abbrev pub IsAsked : {N : Type 0} → DieWords N → Device N → Device N → Type 0
-IsAsked die old new =
+abbrev pub IsDiskCall : {N : Type 0} → DieWords N → Device N → Device N → Type 0
+IsDiskCall die old new =
     AsksCall (AsksRead die.flash die.recorded die.honest die.calm die.programs die.erases die.failed) (ChangesOne die.flash die.recorded die.honest die.calm die.programs die.erases die.failed)
     (AsksFlush die.flash die.recorded die.honest die.calm die.failed) old new
     ⊎ ((result : Result (Unit {0}) DiskFault) × AsksTurn die.flash die.recorded die.honest die.calm die.erases die.failed old result new)
@@ -66,9 +66,9 @@ pub record CutIn {N : Type 0} (die : DieWords N) (old : Device N) (log : List Op
   pub at : List Operation
   pub next : Device N
   pub after : List Operation
-  pub was : Run die old before first
+  pub was : DeviceCalls die old before first
   pub call : Does die first at next
-  pub rest : Run die next after new
+  pub rest : DeviceCalls die next after new
   pub joined : log ≡ before ++ (at ++ after)
   pub cut : MayLeave old.engine.geometry (image_on die first) at found
   pub whole : (bytes_found old found ≡ bytes_found old (image_on die first)) ⊎ (bytes_found old found ≡ bytes_found old (image_on die next))
@@ -79,8 +79,8 @@ pub record HasOnTheWay {N : Type 0} (die : DieWords N) (old : Device N) (log : L
   pub before : List Operation
   pub at : Device N
   pub after : List Operation
-  pub was : Run die old before at
-  pub rest : Run die at after new
+  pub was : DeviceCalls die old before at
+  pub rest : DeviceCalls die at after new
   pub joined : log ≡ before ++ after
   pub has : bytes ≡ sector_of old.engine.geometry (image_on die at) n
 
@@ -94,19 +94,19 @@ pub record IsFoundAfterLoss {N : Type 0} (die : DieWords N) (old : Device N) (lo
 
 -- one call is calls one after another
 abbrev pub OneCallLaw : {N : Type 0} → DieWords N → Type 0
-OneCallLaw {N} die = (old new : Device N) (log : List Operation) → Does die old log new → Run die old log new
+OneCallLaw {N} die = (old new : Device N) (log : List Operation) → Does die old log new → DeviceCalls die old log new
 
 -- ALL THAT IS ASKED IN A SESSION is such calls, where the device holds its array at its end, and its die tells a record then
 abbrev pub SessionLaw : {N : Type 0} → DieWords N → Type 0
-SessionLaw {N} die = (old new : Device N) → IsDisk die.flash die.honest old → Through (IsAsked die) old new → holds die.honest new ≡ true → IsSome (die.recorded new.engine.nand)
-    → (log : List Operation) × Run die old log new
+SessionLaw {N} die = (old new : Device N) → IsDisk die.flash die.honest old → Through (IsDiskCall die) old new → holds die.honest new ≡ true → IsSome (die.recorded new.engine.nand)
+    → (log : List Operation) × DeviceCalls die old log new
 
 -- A KILL AT ANY MOMENT OF THE CALLS: it mounts, and each call that had ended is in it, and the one at hand whole or not at all
 abbrev pub KilledRunLaw : {N : Type 0} → DieWords N → Type 0
-KilledRunLaw {N} die = (old new : Device N) (log : List Operation) (found : Image) → Run die old log new
+KilledRunLaw {N} die = (old new : Device N) (log : List Operation) (found : Image) → DeviceCalls die old log new
     → MayLeave old.engine.geometry (image_on die old) log found → (found ≡ image_on die old) ⊎ CutIn die old log new found
 
 -- A LOSS OF POWER AT ANY MOMENT SINCE ALL PAGES LASTED, as since a sync, of a device whose cache and a block have no more entries and pages than a cache may have: nothing from before is lost. Where nothing was done since, what is found has the records that there were
 abbrev pub LostRunLaw : {N : Type 0} → DieWords N → Type 0
-LostRunLaw {N} die = (old new : Device N) (log : List Operation) (found : Image) → Run die old log new → old.engine.mapping.capacity + old.engine.geometry.pages ≤ 65536
+LostRunLaw {N} die = (old new : Device N) (log : List Operation) (found : Image) → DeviceCalls die old log new → old.engine.mapping.capacity + old.engine.geometry.pages ≤ 65536
     → MayLose old.engine.geometry (image_on die old) log found → LosesSince (image_on die old) (image_on die old) found ⊎ IsFoundAfterLoss die old log new found
