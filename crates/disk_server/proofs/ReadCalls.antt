@@ -1,5 +1,5 @@
 -- A read of the device as one of a disk.
-use Rattle.std.proofs.Common.{◌≡◌, ◌≢◌, ◌*◌, ◌<◌, ℕ, Bool, true, false, List, [], length, Some, None, Result, Ok, Err, refl, sym, ap, ◌∙◌, subst, arith}
+use Rattle.std.proofs.Common.{◌≡◌, ◌≢◌, ◌+◌, ◌*◌, ◌<◌, ◌≤◌, ℕ, Bool, true, false, List, [], length, Option, Some, None, Result, Ok, Err, refl, sym, ap, ◌∙◌, subst, arith}
 use Rattle.std.specs.Prelude.{IsOk, IfOk, IfErr, OnOk}
 use Rattle.std.specs.Option.{ForSome}
 use Rattle.std.proofs.lemmas.Option.{get_or_from_slice_get}
@@ -7,6 +7,8 @@ use Rattle.page_layout.specs.declared.geometry.Geometry.{Geometry}
 use Rattle.page_layout.specs.Array.{zeros}
 use Rattle.page_layout.specs.Page.{Page}
 use Rattle.page_layout.specs.Flash.{Flash}
+use Rattle.page_layout.specs.OnlyReads.{OnlyReads}
+use Rattle.page_layout.specs.Recording.{Recording}
 use Rattle.promises.specs.Step as step
 use Rattle.promises.specs.Step.{State, ReadStep, ArrayStep}
 use Rattle.promises.proofs.StepLemmas as steps
@@ -14,6 +16,8 @@ use Rattle.nbd_stream.specs.declared.task.Task.TheVariants.{Read}
 use Rattle.nbd_stream.specs.Disk.{MayAnswer, PerformsTask, answer_from}
 use Rattle.disk_server.specs.Flat.{AreSectors, flat}
 use Rattle.disk_server.proofs.FlatLemmas.{flat_law}
+use Rattle.mapping_cache.specs.Mapping.{HasLimitsOf}
+use Rattle.image_check.specs.Mountable.{IsMountable}
 use Rattle.collection.specs.State.{Ram}
 use Rattle.collection.specs.Safe.{ram}
 use Rattle.ftl_device.specs.declared.device.Device.{Device}
@@ -22,7 +26,7 @@ use Rattle.ftl_device.specs.declared.fault.DeviceFault.TheVariants.{OutOfRange, 
 use Rattle.ftl_device.specs.Device.{IsDevice}
 use Rattle.ftl_device.specs.Calls.{array_in, state_in, stop_of, read_reply_of, IsWell}
 use Rattle.ftl_device.specs.Read.{LeavesRead}
-use Rattle.disk_server.specs.Disk.{holds, contents_of, IsDisk, read_answer}
+use Rattle.disk_server.specs.Disk.{AsksRead, holds, contents_of, IsDisk, read_answer}
 use Rattle.disk_server.proofs.Sizes.{zeros_long}
 use Rattle.disk_server.proofs.Tasks.{Sets, performs_by}
 use Rattle.disk_server.proofs.Holding.{parts, holds_still, back, bytes, held, sized, array_sectors_of, array_count}
@@ -102,6 +106,26 @@ module _ {N : Type 0} (flash : N → Flash) (honest : N → Bool) (n : ℕ) (old
   read_disk well device = record {
     device = device;
     well = λ h. (let before = back_here h in well (parts honest old before).0 (was.well before) (no_bus h));
+  }
+
+  -- it asked its die for reads, and left it as it was
+  pub read_asks : (recorded : N → Option Recording) (calm : N → Bool) (programs erases failed : N → ℕ) → OnlyReads flash honest calm programs erases failed old.engine.nand new.engine.nand
+      → HasLimitsOf old.engine.mapping new.engine.mapping → IsDisk flash honest new
+      → (honest old.engine.nand ≡ true → result ≢ Err BusFault → flash new.engine.nand ≡ flash old.engine.nand)
+      → (honest old.engine.nand ≡ true → result ≢ Err BusFault → recorded new.engine.nand ≡ recorded old.engine.nand)
+      → (honest old.engine.nand ≡ true → IsWell flash old → result ≢ Err BusFault → old.engine.mapping.capacity + old.engine.geometry.pages ≤ 65536
+      → IsMountable old.engine.geometry (old.engine.mapping.capacity + old.engine.geometry.pages) (flash new.engine.nand).image)
+      → AsksRead flash recorded honest calm programs erases failed old new
+  read_asks recorded calm programs erases failed only limits disk same told mounts = record {
+    only_reads = only;
+    limits = limits;
+    disk = disk;
+    back = back_here;
+    leaves = λ held on. record {
+      die_same = same (parts honest old held).0 (no_bus on);
+      told_same = told (parts honest old held).0 (no_bus on);
+      mountable = mounts (parts honest old held).0 (was.well held) (no_bus on);
+    };
   }
 
   -- a device that holds its array still has given the sector

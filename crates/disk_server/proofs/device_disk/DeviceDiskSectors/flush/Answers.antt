@@ -17,3 +17,6 @@ returns-clause-performs g c =
     (answer_from (flush_answer c.flush.result) []) c.flush.new.self) c.self.view_is
     (flush_performs g.N.PageSource.flash g.N.PageSource.recorded g.N.PageSource.honest g.N.PageSource.calm g.N.PageSource.failed
     c.self.inside.device c.flush.new.self c.flush.result c.self.invariant c.flush.ensures.upkeeps c.flush.ensures.geometry c.flush.ensures.device))
+
+pub returns-clause-flushes : goal.returns-clause-flushes
+returns-clause-flushes g c = rw (← c.self.view_is) (record { answer = c.flush.result; told = c.flush_answer.ensures; upkeeps = c.flush.ensures.upkeeps; disk = invariant_of-self g c })

@@ -4,7 +4,7 @@ use Rattle.nbd_stream.specs.Disk.{PerformsTask, answer_from}
 use Rattle.nbd_stream.specs.declared.task.Task.TheVariants as task
 use Rattle.collection.specs.Safe.{page_in}
 use Rattle.disk_server.specs.Disk.{contents_of, holds, read_answer}
-use Rattle.disk_server.proofs.ReadCalls.{read_disk, read_given, read_performs}
+use Rattle.disk_server.proofs.ReadCalls.{read_asks, read_disk, read_given, read_performs}
 use Rattle.disk_server.proofs.device_disk.DeviceDiskSectors.read_sector.Goals as goal
 
 pub invariant_of-self : goal.invariant_of-self
@@ -35,3 +35,11 @@ returns-clause-given g c =
     (read_given g.N.PageSource.flash g.N.PageSource.honest c.args.sector c.self.inside.device c.read.new.self c.read.result
     (page_in c.read.new.self.engine.scratch) (page_in c.read.new.self.engine.page) c.read.new.out c.self.invariant c.read.ensures.only_reads.honest_is
     c.read.ensures.stopped c.read.ensures.memory within c.read.ensures.step h)
+
+pub returns-clause-reads : goal.returns-clause-reads
+returns-clause-reads g c =
+    let n = g.N.PageSource in
+    rw (← c.self.view_is) (read_asks n.flash n.honest c.args.sector c.self.inside.device c.read.new.self c.read.result
+    (page_in c.read.new.self.engine.scratch) (page_in c.read.new.self.engine.page) c.read.new.out c.self.invariant c.read.ensures.only_reads.honest_is
+    c.read.ensures.stopped c.read.ensures.memory n.recorded n.calm n.programs n.erases n.failed c.read.ensures.only_reads c.read.ensures.limits (invariant_of-self g c)
+    c.read.ensures.same c.read.ensures.told c.read.ensures.mountable)

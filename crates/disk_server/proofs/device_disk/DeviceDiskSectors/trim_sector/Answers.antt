@@ -43,3 +43,6 @@ returns-clause-changes g c =
     let n = g.N.PageSource in
     rw (← c.self.view_is) (sets_one n.flash n.recorded n.honest n.calm n.programs n.erases n.failed c.self.inside.device c.trim.new.self c.args.sector c.change_answer.result (Trim c.args.sector)
     (record { answer = c.trim.result; told = c.change_answer.ensures; changes = c.trim.ensures.changes; disk = invariant_of-self g c }))
+
+pub returns-clause-asked : goal.returns-clause-asked
+returns-clause-asked g c = rw (← c.self.view_is) (record { answer = c.trim.result; told = c.change_answer.ensures; changes = c.trim.ensures.changes; disk = invariant_of-self g c })

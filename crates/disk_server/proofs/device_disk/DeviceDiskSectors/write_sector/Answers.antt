@@ -44,3 +44,6 @@ returns-clause-changes g c =
     let n = g.N.PageSource in
     rw (← c.self.view_is) (sets_one n.flash n.recorded n.honest n.calm n.programs n.erases n.failed c.self.inside.device c.write.new.self c.args.sector c.change_answer.result (Write c.args.sector c.args.bytes.now)
     (record { answer = c.write.result; told = c.change_answer.ensures; changes = c.write.ensures.changes; disk = invariant_of-self g c }))
+
+pub returns-clause-asked : goal.returns-clause-asked
+returns-clause-asked g c = rw (← c.self.view_is) (record { answer = c.write.result; told = c.change_answer.ensures; changes = c.write.ensures.changes; disk = invariant_of-self g c })
