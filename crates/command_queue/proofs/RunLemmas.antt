@@ -99,6 +99,7 @@ went_none old new s t told told' same kept still = record {
   follows = record { legal = λ accounts a. tt; accounted = λ accounts a. subst (IsAccounted accounts) (sym (ap (λ (x : Ram). x.blocks) same)) a };
   next = ap (λ (x : Ram). x.next) same ∙ omega arith;
   wears = record { worn = λ b most. (let e : wear_at new.blocks.table b ≡ wear_at old.blocks.table b = ap (λ (x : Ram). wear_at x.blocks.table b) same in omega arith) };
+  numbers = tt;
 }
 
 read_shown : (g : Geometry) (bad : ℕ → Bool) (next : ℕ) (before call : List Operation) (ro : Bool) (image : Image) (n : ℕ) (bytes : List ℕ)
