@@ -2,3 +2,4 @@ pub mod BroughtLemmas
 mod CollectionLemmas
 mod DeviceLemmas
 mod OrderLemmas
+mod NumberLemmas

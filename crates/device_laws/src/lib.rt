@@ -3,7 +3,7 @@
 #![tactic(auto)]
 
 ghost use Rattle.device_laws.specs.Collections.{VictimLaw, PinnedFirstLaw, NoneWaitsLaw, LowestPageLaw, RoomLaw, AilingLaw, LessLeftLaw};
-ghost use Rattle.device_laws.specs.Logs.{NothingLaw, LedLaw, TakesLaw, LegalCallLaw};
+ghost use Rattle.device_laws.specs.Logs.{NothingLaw, LedLaw, TakesLaw, RisesLaw, LegalCallLaw};
 ghost use Rattle.device_laws.specs.Turns.{GoesOnLaw, BeginsLaw, RescueFirstLaw};
 ghost use Rattle.device_laws.specs.Reads.{KeepsRowsLaw, RefusedReadLaw, ReadFaultsLaw};
 ghost use Rattle.device_laws.specs.Brought.{CountedByLaw, FewProgramsLaw, OneRenewedLaw, RoomLogLaw};
@@ -26,11 +26,12 @@ pub fn collection_laws()
 {}
 
 /// What went on in a call is one log: it leads from the flash before it to the flash after it, it is legal, each program takes the next sequence,
-/// and where it is empty nothing has changed. (This project.)
+/// which its page has, and where it is empty nothing has changed. (This project.)
 pub fn log_laws()
     ensures nothing { NothingLaw }
     ensures led { LedLaw }
     ensures takes { TakesLaw }
+    ensures rises { RisesLaw }
     ensures legal { LegalCallLaw }
 {}
 
