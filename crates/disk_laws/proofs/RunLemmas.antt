@@ -236,23 +236,20 @@ module _ {N : Type 0} (die : DieWords N) (old : Device N) where
           by = subst (λ i. LeftBy old.engine.geometry.pages i more found) (run_image before mid run) second;
         } in
         let s = its.survives found left in
-        inr (
-          s.0 few,
-          record {
-            before = before;
-            first = mid;
-            at = more;
-            next = last;
-            after = [];
-            was = run;
-            call = does;
-            rest = NoCall;
-            joined = ap (λ l. before ++ l) (sym (append-nil more));
-            cut = left;
-            whole = elim s.1 [ inl was ↦ inl (ap flat was) | inr now ↦ inr (ap flat now) ];
-            mounts = s.0;
-          },
-        )
+        inr (record {
+          before = before;
+          first = mid;
+          at = more;
+          next = last;
+          after = [];
+          was = run;
+          call = does;
+          rest = NoCall;
+          joined = ap (λ l. before ++ l) (sym (append-nil more));
+          cut = left;
+          whole = elim s.1 [ inl was ↦ inl (ap flat was) | inr now ↦ inr (ap flat now) ];
+          mounts = s.0;
+        })
   ]
 
   -- ---- a loss of power
@@ -285,7 +282,7 @@ module _ {N : Type 0} (die : DieWords N) (old : Device N) where
   module _ (few : old.engine.mapping.capacity + old.engine.geometry.pages ≤ 65536) where
     -- each image that a stop inside a call may leave stands
     module _ (before : List Operation) (mid : Device N) (log : List Operation) (new : Device N) (run : DeviceCalls die old before mid) (does : Does die mid log new) where
-      its : Called old.engine.geometry old.engine.mapping.capacity die mid log new
+      abbrev pub its : Called old.engine.geometry old.engine.mapping.capacity die mid log new
       its = called_on before mid log new run does
 
       stands_in : (left : Image) → MayLeave old.engine.geometry (image_on die mid) log left

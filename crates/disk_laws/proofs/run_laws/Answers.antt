@@ -2,8 +2,14 @@ use Rattle.disk_laws.proofs.RunLemmas.{killed_run, lost_run_law, one_call}
 use Rattle.disk_laws.proofs.SessionLemmas.{session}
 use Rattle.disk_laws.proofs.run_laws.Goals as goal
 
-pub returns : goal.returns
-returns g c =
-    let n = g.N.PageSource in
-    let die = record { flash = n.flash; recorded = n.recorded; honest = n.honest; calm = n.calm; programs = n.programs; erases = n.erases; failed = n.failed } in
-    record { one = one_call die; session = session die; killed = killed_run die; lost = lost_run_law die }
+pub returns-clause-one : goal.returns-clause-one
+returns-clause-one g c = (let n = g.N.PageSource in one_call (record { flash = n.flash; recorded = n.recorded; honest = n.honest; calm = n.calm; programs = n.programs; erases = n.erases; failed = n.failed }))
+
+pub returns-clause-session : goal.returns-clause-session
+returns-clause-session g c = (let n = g.N.PageSource in session (record { flash = n.flash; recorded = n.recorded; honest = n.honest; calm = n.calm; programs = n.programs; erases = n.erases; failed = n.failed }))
+
+pub returns-clause-killed : goal.returns-clause-killed
+returns-clause-killed g c = (let n = g.N.PageSource in killed_run (record { flash = n.flash; recorded = n.recorded; honest = n.honest; calm = n.calm; programs = n.programs; erases = n.erases; failed = n.failed }))
+
+pub returns-clause-lost : goal.returns-clause-lost
+returns-clause-lost g c = (let n = g.N.PageSource in lost_run_law (record { flash = n.flash; recorded = n.recorded; honest = n.honest; calm = n.calm; programs = n.programs; erases = n.erases; failed = n.failed }))
