@@ -1,10 +1,9 @@
 -- Operation by operation: the next page of each block that takes one has no record, and each page that is programmed is the newest of its key.
-use Rattle.std.proofs.Common.{◌≡◌, ◌≢◌, ◌⊎◌, inl, inr, ℕ, ◌+◌, ◌*◌, ◌/◌, ◌%◌, ◌<◌, ◌≤◌, Bool, true, false, not, List, [], ◌∷◌, length, get_or, set, Option, Some, None, refl, sym, ap, subst, ◌∙◌, arith}
+use Rattle.std.proofs.Common.{◌≡◌, ◌≢◌, ◌⊎◌, inl, inr, ℕ, ◌+◌, ◌*◌, ◌/◌, ◌%◌, ◌<◌, ◌≤◌, Bool, true, false, not, List, length, set, Option, Some, None, refl, sym, ap, subst, ◌∙◌, arith}
 use Rattle.std.specs.Prelude.{slice_get, IsSomeAnd}
 use Rattle.std.proofs.lemmas.Bool.{cases_Bool, cases_eq}
 use Rattle.std.proofs.lemmas.Nat.{div-add-mod', div-mul-add}
 use Rattle.std.proofs.lemmas.Option.{slice_get-get_or}
-use Rattle.page_layout.specs.declared.geometry.Geometry.{Geometry}
 use Rattle.page_layout.specs.declared.record.Record.{Record}
 use Rattle.page_layout.specs.Page.{Page, Image}
 use Rattle.page_layout.specs.Sound.{record_of}
@@ -17,8 +16,7 @@ use Rattle.page_layout.specs.Flash.{Flash, Program, Erase, Steps, page_at, no_pa
 use Rattle.page_layout.proofs.ArrayLemmas.{IsNewer, mark-page, mark-same, newest_written, unsound_at}
 use Rattle.page_layout.proofs.NewestLemmas.{sequence_at-is}
 use Rattle.page_layout.proofs.StepLemmas.{erased_unsound}
-use Rattle.page_layout.proofs.FlashLemmas.{erase_below, erase_erases, erase_loses, image-program, program_next, program_other, program_sets}
-use Rattle.promises.specs.Log.{block_of}
+use Rattle.page_layout.proofs.FlashLemmas.{erase_below, erase_erases, erase_loses, image-program, program_next, program_other}
 use Rattle.promises.specs.Legal.{Account, account_at, accounted, noted, IsDueErase, IsDueProgram}
 use Rattle.promises.proofs.AccountLemmas.{accounted-other, accounted-same}
 use Rattle.promises.proofs.LegalLemmas.{in_range}

@@ -1,6 +1,6 @@
 -- What is found after a loss of power, by a log: operation by operation.
-use Rattle.std.proofs.Common.{◌≡◌, ◌⊎◌, inl, inr, ℕ, ◌+◌, Bool, List, [], ◌∷◌, ◌++◌, set, refl, sym, ap, subst, ◌∙◌}
-use Rattle.std.specs.Prelude.{slice_set, IsSomeAnd}
+use Rattle.std.proofs.Common.{◌≡◌, ◌⊎◌, inl, inr, ℕ, ◌+◌, Bool, List, [], ◌∷◌, ◌++◌, set, sym, ap, subst, ◌∙◌}
+use Rattle.std.specs.Prelude.{IsSomeAnd}
 use Rattle.page_layout.specs.declared.geometry.Geometry.{Geometry}
 use Rattle.page_layout.specs.declared.record.Record.{Record}
 use Rattle.page_layout.specs.Page.{Page, Image, IsImage}
@@ -14,7 +14,7 @@ use Rattle.promises.specs.Stop.{LeftBy, MayLeave}
 use Rattle.promises.specs.Legal.{Account, accounted, IsDueErase, IsDueProgram, LegalFrom}
 use Rattle.promises.proofs.StopLemmas.{between}
 use Rattle.collection.specs.Log.{NumbersFrom}
-use Rattle.disk_laws.specs.Lost.{LostBy, LostInProgram}
+use Rattle.disk_laws.specs.Lost.{LostBy}
 use Rattle.disk_laws.proofs.FitLemmas.{Fits, IsLeftNewest, erase_fits, left_newest, program_fits, unsound}
 use Rattle.disk_laws.proofs.GrowLemmas.{GrewSince, IsFound, Stands, found_lost, found_stop, since_begin, since_program, torn_program}
 

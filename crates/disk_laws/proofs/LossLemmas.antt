@@ -1,12 +1,10 @@
 -- What may be lost, against what may be left by a kill.
-use Rattle.std.proofs.Common.{◌≡◌, inl, inr, ℕ, Bool, List, [], ◌∷◌, refl, sym, subst}
-use Rattle.page_layout.specs.Page.{Page, Image}
-use Rattle.page_layout.specs.Flash.{Operation, Program, Erase}
+use Rattle.std.proofs.Common.{inl, inr, [], ◌∷◌, refl, sym, subst}
+use Rattle.page_layout.specs.Flash.{Program, Erase}
 use Rattle.page_layout.specs.Recording.{image_after}
-use Rattle.promises.specs.Stop.{LeftBy}
 use Rattle.image_laws.specs.Power.{LosesSince}
 use Rattle.image_laws.proofs.PowerLemmas.{none_lost}
-use Rattle.disk_laws.specs.Lost.{AfterEraseLaw, AllGoneLaw, AllThereLaw, LostBy}
+use Rattle.disk_laws.specs.Lost.{AfterEraseLaw, AllGoneLaw, AllThereLaw}
 
 pub all_there : AllThereLaw
 all_there pages stored image [] found same = subst (LosesSince stored image) (sym same) (none_lost stored image)

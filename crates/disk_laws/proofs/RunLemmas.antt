@@ -1,5 +1,5 @@
 -- What is found of a disk where calls of its device are cut short.
-use Rattle.std.proofs.Common.{◌≡◌, ◌≢◌, ◌⊎◌, inl, inr, ℕ, ◌+◌, ◌*◌, ◌<◌, ◌≤◌, Bool, true, false, not, List, [], ◌∷◌, ◌++◌, length, Option, Some, None, IsSome, Result, Err, refl, sym, ap, subst, ◌∙◌, arith, append-nil}
+use Rattle.std.proofs.Common.{◌≡◌, ◌≢◌, ◌⊎◌, inl, inr, ℕ, ◌+◌, ◌*◌, ◌<◌, ◌≤◌, Bool, true, false, not, List, [], ◌∷◌, ◌++◌, length, None, Result, Err, refl, sym, ap, subst, ◌∙◌, arith, append-nil}
 use Rattle.std.specs.List.{range_with_len}
 use Rattle.std.specs.Prelude.{get_or, map}
 use Rattle.std.proofs.lemmas.List.{append_assoc}
@@ -9,7 +9,7 @@ use Rattle.page_layout.specs.Page.{Image, IsImage}
 use Rattle.page_layout.specs.Array.{array_of, sector_of}
 use Rattle.page_layout.specs.Change.{IsErasedAt, IsUnsoundAt}
 use Rattle.page_layout.specs.Flash.{Flash, Operation, Program, Erase, Leads}
-use Rattle.page_layout.specs.Recording.{Recording, Records, image_after, image_after_all}
+use Rattle.page_layout.specs.Recording.{Records, image_after, image_after_all}
 use Rattle.page_layout.proofs.ErasedLemmas.{erased_at_unsound}
 use Rattle.page_layout.proofs.FlashLemmas.{geometry-Leads}
 use Rattle.page_layout.proofs.RecordingLemmas.{records_none}
@@ -22,7 +22,7 @@ use Rattle.promises.proofs.LegalLemmas.{in_range}
 use Rattle.promises.proofs.StopLemmas.{between, image_law, no_operation, stops_join}
 use Rattle.image_check.specs.Mountable.{IsMountable}
 use Rattle.image_laws.specs.Power.{LosesSince}
-use Rattle.collection.specs.Log.{IsAccounted, NumbersFrom, Went}
+use Rattle.collection.specs.Log.{IsAccounted, NumbersFrom}
 use Rattle.collection.specs.Safe.{ram}
 use Rattle.collection.specs.Truth.{IsTrue}
 use Rattle.collection.proofs.Stops.{one_gain}
@@ -34,11 +34,10 @@ use Rattle.disk_server.specs.Flat.{flat}
 use Rattle.disk_server.specs.Disk.{AsksRead}
 use Rattle.disk_server.proofs.Calls.{no_bus}
 use Rattle.disk_server.proofs.Holding.{parts}
-use Rattle.disk_laws.specs.Killed.{bytes_found}
 use Rattle.disk_laws.specs.Lost.{LostBy, MayLose}
 use Rattle.disk_laws.specs.Runs.{CutIn, DieWords, Does, HasOnTheWay, IsFoundAfterLoss, IsOneCall, KilledRunLaw, LostRunLaw, NoCall, OneCallLaw, OneMore, DeviceCalls, image_on}
 use Rattle.disk_laws.proofs.FitLemmas.{Fits}
-use Rattle.disk_laws.proofs.GrowLemmas.{GrewSince, IsFound, Stands, since_begin}
+use Rattle.disk_laws.proofs.GrowLemmas.{GrewSince, Stands, since_begin}
 use Rattle.disk_laws.proofs.LogLemmas.{Goes, grew, lasts_after, lost, lost_apart}
 
 -- ---- images and sectors
@@ -68,7 +67,7 @@ unfolding accounts_now
 accounts_long s = length-map-range_with_len (λ b. record { next = pointer_at s b; barred = not (is_good_at s.table b) }) 0 s.geometry.blocks
 
 -- the accounts agree with the memory, and the image is by them
-record Begun (pages next : ℕ) (image : Image) (s : State) : Type 0 where
+pub record Begun (pages next : ℕ) (image : Image) (s : State) : Type 0 where
   pub accounts : List Account
   pub accounted : IsAccounted accounts s
   pub fits : Fits pages image accounts next
@@ -106,7 +105,7 @@ module _ {N : Type 0} (flash : N → Flash) (d : Device N) where
 -- ---- one call
 
 -- WHAT ONE CALL COMES TO, of a device with this geometry and so many entries
-record Called {N : Type 0} (g : Geometry) (capacity : ℕ) (die : DieWords N) (old : Device N) (log : List Operation) (new : Device N) : Type 0 where
+pub record Called {N : Type 0} (g : Geometry) (capacity : ℕ) (die : DieWords N) (old : Device N) (log : List Operation) (new : Device N) : Type 0 where
   pub sized : new.engine.geometry ≡ g
   pub room : new.engine.mapping.capacity ≡ capacity
   pub die_sized : (die.flash old.engine.nand).geometry ≡ g
@@ -191,7 +190,7 @@ module _ {N : Type 0} (die : DieWords N) (old : Device N) where
       let its = called die mid more last does old.engine.geometry old.engine.mapping.capacity at.0 at.1 in
       (its.sized, its.room)
 
-  called_on : (before : List Operation) (mid : Device N) (log : List Operation) (new : Device N) → DeviceCalls die old before mid → Does die mid log new
+  pub called_on : (before : List Operation) (mid : Device N) (log : List Operation) (new : Device N) → DeviceCalls die old before mid → Does die mid log new
       → Called old.engine.geometry old.engine.mapping.capacity die mid log new
   called_on before mid log new run does = (let at = run_sized before mid run in called die mid log new does old.engine.geometry old.engine.mapping.capacity at.0 at.1)
 

@@ -1,13 +1,13 @@
 -- All that is asked of a device in a session, as calls one after another.
-use Rattle.std.proofs.Common.{◌≡◌, ◌≢◌, ◌⊎◌, inl, inr, ℕ, suc, zero, Bool, true, List, [], ◌++◌, Option, Some, IsSome, Result, Ok, Err, refl, sym, ap, subst, ◌∙◌, append-nil}
+use Rattle.std.proofs.Common.{◌≡◌, inl, inr, ℕ, suc, zero, true, List, [], ◌++◌, IsSome, Result, sym, subst, append-nil}
 use Rattle.std.proofs.lemmas.List.{append_assoc}
 use Rattle.page_layout.specs.Flash.{Operation}
-use Rattle.page_layout.specs.Recording.{Recording, Records}
+use Rattle.page_layout.specs.Recording.{Records}
 use Rattle.page_layout.proofs.RecordingLemmas.{records_none, told_on}
 use Rattle.promises.specs.Step.{Command}
 use Rattle.collection.specs.Safe.{ram}
 use Rattle.nbd_stream.specs.declared.fault.DiskFault.{DiskFault}
-use Rattle.nbd_stream.specs.Through.{Through, Times}
+use Rattle.nbd_stream.specs.Through.{Times}
 use Rattle.ftl_device.specs.declared.device.Device.{Device}
 use Rattle.disk_server.specs.Asked.{AsksCall}
 use Rattle.disk_server.specs.Disk.{AsksChange, AsksClear, AsksFlush, AsksRead, AsksTurn, ChangesOne, IsDisk, holds}

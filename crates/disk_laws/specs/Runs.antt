@@ -1,8 +1,7 @@
 -- CALLS OF A DEVICE ONE AFTER ANOTHER, and what is found of its disk where they are cut short.
 use Rattle.std.specs.Prelude.{◌≡◌, ◌⊎◌, ◌+◌, ◌<◌, ◌≤◌, ℕ, Bool, true, List, [], ◌++◌, Option, IsSome, Result}
-use Rattle.page_layout.specs.declared.geometry.Geometry.{Geometry}
 use Rattle.page_layout.specs.Page.{Image}
-use Rattle.page_layout.specs.Array.{sector_of, array_of, HasOneArray}
+use Rattle.page_layout.specs.Array.{sector_of, HasOneArray}
 use Rattle.page_layout.specs.Flash.{Flash, Operation}
 use Rattle.page_layout.specs.Recording.{Recording, Records}
 use Rattle.promises.specs.Step.{Command}
