@@ -5,3 +5,4 @@ mod LossLemmas
 mod RunLemmas
 mod SessionLemmas
 mod KilledLemmas
+mod StoreLemmas

@@ -1,3 +1,4 @@
 pub mod Killed
 pub mod Lost
 pub mod Runs
+pub mod Sessions

@@ -51,12 +51,14 @@ pub data DeviceCalls {N : Type 0} (die : DieWords N) (old : Device N) : List Ope
   NoCall : DeviceCalls die old [] old
   OneMore : (before : List Operation) (mid : Device N) (log : List Operation) (new : Device N) → DeviceCalls die old before mid → Does die mid log new → DeviceCalls die old (before ++ log) new
 
--- WHAT IS ASKED OF A DEVICE by who serves it as a disk: a read of a sector, a change of one, a flush, or a rest
+-- WHAT IS ASKED OF A DEVICE OF SECTORS by who serves it as a disk, by its words: a read or a change of a sector, a flush, or a rest
+abbrev pub AsksOneOf : {S : Type 0} → (reads changes : S → S → Type 0) → (flushes rests : S → Result (Unit {0}) DiskFault → S → Type 0) → (old new : S) → Type 0
+AsksOneOf reads changes flushes rests old new = AsksCall reads changes flushes old new ⊎ ((result : Result (Unit {0}) DiskFault) × rests old result new)
+
+-- the same of the block device
 abbrev pub IsDiskCall : {N : Type 0} → DieWords N → Device N → Device N → Type 0
-IsDiskCall die old new =
-    AsksCall (AsksRead die.flash die.recorded die.honest die.calm die.programs die.erases die.failed) (ChangesOne die.flash die.recorded die.honest die.calm die.programs die.erases die.failed)
-    (AsksFlush die.flash die.recorded die.honest die.calm die.failed) old new
-    ⊎ ((result : Result (Unit {0}) DiskFault) × AsksTurn die.flash die.recorded die.honest die.calm die.erases die.failed old result new)
+IsDiskCall die = AsksOneOf (AsksRead die.flash die.recorded die.honest die.calm die.programs die.erases die.failed) (ChangesOne die.flash die.recorded die.honest die.calm die.programs die.erases die.failed)
+    (AsksFlush die.flash die.recorded die.honest die.calm die.failed) (AsksTurn die.flash die.recorded die.honest die.calm die.erases die.failed)
 
 -- A MOMENT INSIDE ONE OF THE CALLS, where these pages are found: each call before that one was whole, none behind it was begun, and the bytes of the disk are those from before it, or from after it
 pub record CutIn {N : Type 0} (die : DieWords N) (old : Device N) (log : List Operation) (new : Device N) (found : Image) : Type 0 where

@@ -4,9 +4,11 @@
 
 ghost use Rattle.disk_laws.specs.Lost.{AfterEraseLaw, AllGoneLaw, AllThereLaw};
 ghost use Rattle.disk_laws.specs.Runs.{KilledRunLaw, LostRunLaw, OneCallLaw, SessionLaw};
+ghost use Rattle.disk_laws.specs.Sessions.{ReopenedSessionLaw, StoreSessionLaw};
 ghost use Rattle.disk_laws.specs.Killed.{FoundAsItWasLaw, KilledChangeLaw, KilledFlushLaw, KilledTurnLaw, StoreTellsLaw};
 
-use file_die::{FileDie, Store};
+use disk_server::KeepsLost;
+use file_die::{FileDie, Store, TellsFull};
 use onfi_cycles::{Driver, Nand};
 use page_layout::source::PageSource;
 
@@ -40,4 +42,11 @@ pub fn run_laws<N: Nand>()
     ensures session { SessionLaw (record { flash = N.flash; recorded = N.recorded; honest = N.honest; calm = N.calm; programs = N.programs; erases = N.erases; failed = N.failed }) }
     ensures killed { KilledRunLaw (record { flash = N.flash; recorded = N.recorded; honest = N.honest; calm = N.calm; programs = N.programs; erases = N.erases; failed = N.failed }) }
     ensures lost { LostRunLaw (record { flash = N.flash; recorded = N.recorded; honest = N.honest; calm = N.calm; programs = N.programs; erases = N.erases; failed = N.failed }) }
+{}
+
+/// What a session asks of the disk in a store, whose lost sectors are guarded, and which is opened anew where its store was full: as long as it was not opened anew and its device is there, that was there from the first, and
+/// all that was asked of it is calls one after another, of which `run_laws` speaks. (This project.)
+pub fn session_laws<S: Store + TellsFull, K: KeepsLost>()
+    ensures reopened { ReopenedSessionLaw S.held S.honest S.full S.failed }
+    ensures store { StoreSessionLaw K S.held S.honest S.full S.failed }
 {}

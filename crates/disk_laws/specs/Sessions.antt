@@ -1,0 +1,61 @@
+-- WHAT IS ASKED OF THE DEVICE OF A STORE in a session, through what guards its lost sectors and what opens it anew.
+use Rattle.std.specs.Prelude.{◌≡◌, Bool, false, true, ℕ, List, Option, Some, Result}
+use Rattle.page_layout.specs.Flash.{Operation}
+use Rattle.onfi_cycles.specs.Driver.{DriverState}
+use Rattle.file_die.specs.Die.{FileState}
+use Rattle.file_die.specs.Store.{Held}
+use Rattle.nbd_stream.specs.declared.fault.DiskFault.{DiskFault}
+use Rattle.nbd_stream.specs.declared.fault.DiskFault.TheVariants as fault
+use Rattle.nbd_stream.specs.Through.{Through}
+use Rattle.ftl_device.specs.declared.device.Device.{Device}
+use Rattle.disk_server.specs.declared.guarded.GuardedSectors.{GuardedSectors}
+use Rattle.disk_server.specs.Disk.{IsDisk, holds}
+use Rattle.disk_server.specs.Guarded.{ChangesGuarded, PassesOn, ReadsGuarded}
+use Rattle.disk_server.specs.Opened.{always_in, flash_in, is_honest_in, told_in}
+use Rattle.disk_server.specs.Reopened.{AsksDevice, ReadsDevice, Reopened, changes_in, flushes_of, reads_of, rests_of}
+use Rattle.disk_laws.specs.Runs.{AsksOneOf, DeviceCalls, DieWords, IsDiskCall}
+
+-- the words of the die over a store
+abbrev pub words_of : {S : Type 0} → (S → Held) → (honest : S → Bool) → DieWords (DriverState (FileState S))
+words_of held honest = record {
+  flash = flash_in held;
+  recorded = told_in;
+  honest = is_honest_in honest;
+  calm = always_in;
+  programs = λ d. d.programs;
+  erases = λ d. d.erases;
+  failed = λ d. d.failures;
+}
+
+-- what is asked of a guarded device, and of one that is opened anew where its store was full
+abbrev pub AsksGuarded : {S K : Type 0} → (reads changes : S → S → Type 0) → (flushes rests : S → Result (Unit {0}) DiskFault → S → Type 0) → (old new : GuardedSectors S K) → Type 0
+AsksGuarded reads changes flushes rests = AsksOneOf (ReadsGuarded reads) (ChangesGuarded changes) (PassesOn flushes) (PassesOn rests)
+
+abbrev pub AsksReopened : {S : Type 0} → (S → Held) → (honest full : S → Bool) → (failed : S → ℕ) → (old new : Reopened S) → Type 0
+AsksReopened held honest full failed = AsksOneOf (ReadsDevice (reads_of held honest)) (changes_in held honest full failed)
+    (AsksDevice held honest full failed (flushes_of held honest) fault.Failed) (AsksDevice held honest full failed (rests_of held honest) fault.Failed)
+
+-- both
+abbrev pub AsksStored : {S K : Type 0} → (S → Held) → (honest full : S → Bool) → (failed : S → ℕ) → (old new : GuardedSectors (Reopened S) K) → Type 0
+AsksStored held honest full failed = AsksGuarded (ReadsDevice (reads_of held honest)) (changes_in held honest full failed)
+    (AsksDevice held honest full failed (flushes_of held honest) fault.Failed) (AsksDevice held honest full failed (rests_of held honest) fault.Failed)
+
+-- ---- laws
+
+-- A GUARDED DEVICE IS ASKED what is asked of it, or nothing, and nothing else
+abbrev pub GuardedSessionLaw : {S : Type 0} → (K : Type 0) → (reads changes : S → S → Type 0) → (flushes rests : S → Result (Unit {0}) DiskFault → S → Type 0) → Type 0
+GuardedSessionLaw {S} K reads changes flushes rests = (old new : GuardedSectors S K)
+    → Through (AsksGuarded reads changes flushes rests) old new → Through (AsksOneOf reads changes flushes rests) old.sectors new.sectors
+
+-- A DEVICE THAT WAS NOT OPENED ANEW, and is there, was there from the first, and was asked just this
+abbrev pub ReopenedSessionLaw : {S : Type 0} → (S → Held) → (honest full : S → Bool) → (failed : S → ℕ) → Type 0
+ReopenedSessionLaw {S} held honest full failed = (old new : Reopened S) → Through (AsksReopened held honest full failed) old new → new.reopened ≡ false
+    → (last : Device (DriverState (FileState S))) → new.device ≡ Some last
+    → (first : Device (DriverState (FileState S))) × (old.device ≡ Some first) × Through (IsDiskCall (words_of held honest)) first last
+
+-- SO ALL THAT A SESSION ASKS of the disk in a store, guarded, and not opened anew, is calls of its device one after another, as long as that holds its array
+abbrev pub StoreSessionLaw : {S : Type 0} → (K : Type 0) → (S → Held) → (honest full : S → Bool) → (failed : S → ℕ) → Type 0
+StoreSessionLaw {S} K held honest full failed = (old new : GuardedSectors (Reopened S) K) → Through (AsksStored held honest full failed) old new → new.sectors.reopened ≡ false
+    → (last : Device (DriverState (FileState S))) → new.sectors.device ≡ Some last → holds (is_honest_in honest) last ≡ true
+    → (first : Device (DriverState (FileState S))) × (old.sectors.device ≡ Some first)
+    × (IsDisk (flash_in held) (is_honest_in honest) first → (log : List Operation) × DeviceCalls (words_of held honest) first log last)
