@@ -1,7 +1,6 @@
 -- What is asked of the device of a store, through what guards its lost sectors and what opens it anew.
-use Rattle.std.proofs.Common.{◌≡◌, ◌⊎◌, inl, inr, ℕ, suc, zero, Bool, true, false, List, Option, Some, None, Result, Ok, Err, refl, sym, ap, subst, ◌∙◌}
-use Rattle.std.specs.Prelude.{unwrap_or, IsSome}
-use Rattle.page_layout.specs.Flash.{Operation}
+use Rattle.std.proofs.Common.{◌≡◌, inl, inr, ℕ, suc, zero, Bool, true, false, Some, None, Result, Ok, Err, refl, sym, ap, subst, ◌∙◌}
+use Rattle.std.specs.Prelude.{unwrap_or}
 use Rattle.onfi_cycles.specs.Driver.{DriverState}
 use Rattle.file_die.specs.Die.{FileState}
 use Rattle.file_die.specs.Store.{Held}
@@ -12,12 +11,11 @@ use Rattle.nbd_stream.proofs.ThroughLemmas.{joined, none, once}
 use Rattle.ftl_device.specs.declared.device.Device.{Device}
 use Rattle.disk_server.specs.declared.guarded.GuardedSectors.{GuardedSectors}
 use Rattle.disk_server.specs.Asked.{AsksCall}
-use Rattle.disk_server.specs.Disk.{AsksChange, AsksClear, ChangesOne, IsDisk, holds}
-use Rattle.disk_server.specs.Guarded.{ChangesGuarded, PassesOn, ReadsGuarded}
-use Rattle.disk_server.specs.Opened.{flash_in, is_honest_in}
-use Rattle.disk_server.specs.Reopened.{AsksDevice, AsksOne, HasDevice, ReadsDevice, Reopened, SettlesCall, Terms, changes_in, changes_of, clears_of, flushes_of, reads_of, rests_of, terms_of}
-use Rattle.disk_laws.specs.Runs.{AsksOneOf, DeviceCalls, IsDiskCall}
-use Rattle.disk_laws.specs.Sessions.{AsksGuarded, AsksReopened, AsksStored, GuardedSessionLaw, ReopenedSessionLaw, StoreSessionLaw, words_of}
+use Rattle.disk_server.specs.Disk.{ChangesOne}
+use Rattle.disk_server.specs.Guarded.{PassesOn}
+use Rattle.disk_server.specs.Reopened.{AsksDevice, HasDevice, ReadsDevice, Reopened, SettlesCall, Terms, changes_in, changes_of, clears_of, flushes_of, reads_of, rests_of, terms_of}
+use Rattle.disk_laws.specs.Runs.{AsksOneOf, IsDiskCall}
+use Rattle.disk_laws.specs.Sessions.{AsksGuarded, AsksReopened, GuardedSessionLaw, ReopenedSessionLaw, StoreSessionLaw, words_of}
 use Rattle.disk_laws.proofs.SessionLemmas.{session}
 
 -- ---- guarded
@@ -123,7 +121,7 @@ module _ {S : Type 0} (held : S → Held) (honest full : S → Bool) (failed : S
 
   pub store_session : (K : Type 0) → StoreSessionLaw K held honest full failed
   store_session K old new through plain last there on =
-      let below = guarded_session K (ReadsDevice (reads_of held honest)) (changes_in held honest full failed) (AsksDevice held honest full failed (flushes_of held honest) fault.Failed)
+      let below = guarded_session (ReadsDevice (reads_of held honest)) (changes_in held honest full failed) (AsksDevice held honest full failed (flushes_of held honest) fault.Failed)
       (AsksDevice held honest full failed (rests_of held honest) fault.Failed) old new through in
       let device = reopened_session old.sectors new.sectors below plain last there in
       (device.0, device.1, λ was. session (words_of held honest) device.0 last was device.2 on refl)

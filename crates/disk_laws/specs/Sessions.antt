@@ -1,5 +1,5 @@
 -- WHAT IS ASKED OF THE DEVICE OF A STORE in a session, through what guards its lost sectors and what opens it anew.
-use Rattle.std.specs.Prelude.{◌≡◌, Bool, false, true, ℕ, List, Option, Some, Result}
+use Rattle.std.specs.Prelude.{◌≡◌, Bool, false, true, ℕ, List, Some, Result}
 use Rattle.page_layout.specs.Flash.{Operation}
 use Rattle.onfi_cycles.specs.Driver.{DriverState}
 use Rattle.file_die.specs.Die.{FileState}
