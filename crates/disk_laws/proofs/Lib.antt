@@ -6,3 +6,4 @@ mod RunLemmas
 mod SessionLemmas
 mod KilledLemmas
 mod StoreLemmas
+mod ServedLemmas

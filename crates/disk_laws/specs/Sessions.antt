@@ -1,15 +1,24 @@
 -- WHAT IS ASKED OF THE DEVICE OF A STORE in a session, through what guards its lost sectors and what opens it anew.
-use Rattle.std.specs.Prelude.{◌≡◌, Bool, false, true, ℕ, List, Some, Result}
+use Rattle.std.specs.Prelude.{◌≡◌, Bool, false, true, ℕ, List, Option, Some, Result}
 use Rattle.page_layout.specs.Flash.{Operation}
 use Rattle.onfi_cycles.specs.Driver.{DriverState}
 use Rattle.file_die.specs.Die.{FileState}
 use Rattle.file_die.specs.Store.{Held}
 use Rattle.nbd_stream.specs.declared.fault.DiskFault.{DiskFault}
 use Rattle.nbd_stream.specs.declared.fault.DiskFault.TheVariants as fault
+use Rattle.request_stream.specs.declared.reply.ServeFault.{ServeFault}
+use Rattle.nbd_stream.specs.declared.export.Export.{Export}
+use Rattle.nbd_stream.specs.declared.request.StreamEnd.{StreamEnd}
+use Rattle.nbd_stream.specs.Disk.{Contents}
 use Rattle.nbd_stream.specs.Through.{Through}
+use Rattle.nbd_stream.specs.Transmission.{Serves}
 use Rattle.ftl_device.specs.declared.device.Device.{Device}
 use Rattle.disk_server.specs.declared.guarded.GuardedSectors.{GuardedSectors}
+use Rattle.disk_server.specs.declared.mark.SyncMark.{SyncMark}
+use Rattle.disk_server.specs.declared.synced.SyncedDisk.{SyncedDisk}
+use Rattle.disk_server.specs.Asked.{AsksSectors}
 use Rattle.disk_server.specs.Disk.{IsDisk, holds}
+use Rattle.disk_server.specs.Synced.{Closes, RestsSynced, SyncsTask}
 use Rattle.disk_server.specs.Guarded.{ChangesGuarded, PassesOn, ReadsGuarded}
 use Rattle.disk_server.specs.Opened.{always_in, flash_in, is_honest_in, told_in}
 use Rattle.disk_server.specs.Reopened.{AsksDevice, ReadsDevice, Reopened, changes_in, flushes_of, reads_of, rests_of}
@@ -59,3 +68,15 @@ StoreSessionLaw {S} K held honest full failed = (old new : GuardedSectors (Reope
     → (last : Device (DriverState (FileState S))) → new.sectors.device ≡ Some last → holds (is_honest_in honest) last ≡ true
     → (first : Device (DriverState (FileState S))) × (old.sectors.device ≡ Some first)
     × (IsDisk (flash_in held) (is_honest_in honest) first → (log : List Operation) × DeviceCalls (words_of held honest) first log last)
+
+-- ALL THAT A SERVER ASKS of its device of sectors, in a session with one client and as it closes the disk behind that, is reads and changes of sectors, flushes and rests, one after another, and no other change of it
+abbrev pub ServedSessionLaw : {S Y : Type 0} → (S → Contents) → (honest : S → Bool) → (reads changes : S → S → Type 0) → (flushes rests : S → Result (Unit {0}) DiskFault → S → Type 0)
+    → (synced failed : Y → ℕ) → (marked : Y → SyncMark) → (next : S → ℕ) → Type 0
+ServedSessionLaw {S} {Y} contents honest reads changes flushes rests synced failed marked next = (e : Export) (limit : ℕ) (old new : SyncedDisk S Y) (unread left before after : Option (List ℕ)) (result : Result StreamEnd ServeFault)
+    → Serves (λ s. contents s.disk) (λ s. honest s.disk) (λ _. false) (SyncsTask (AsksSectors contents honest reads changes flushes) synced failed marked next) (RestsSynced rests) e limit old new unread left before after result
+    → Through (AsksOneOf reads changes flushes rests) old.disk new.disk
+
+abbrev pub ClosedSessionLaw : {S Y : Type 0} → (S → Contents) → (honest : S → Bool) → (reads changes : S → S → Type 0) → (flushes rests : S → Result (Unit {0}) DiskFault → S → Type 0)
+    → (synced failed : Y → ℕ) → (marked : Y → SyncMark) → (next : S → ℕ) → (takes : S → Bool) → Type 0
+ClosedSessionLaw {S} {Y} contents honest reads changes flushes rests synced failed marked next takes = (counts : Bool) (old new : SyncedDisk S Y) (result : Result (Unit {0}) DiskFault)
+    → Closes (AsksSectors contents honest reads changes flushes) synced failed marked next takes counts old result new → Through (AsksOneOf reads changes flushes rests) old.disk new.disk

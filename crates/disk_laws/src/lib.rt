@@ -4,10 +4,10 @@
 
 ghost use Rattle.disk_laws.specs.Lost.{AfterEraseLaw, AllGoneLaw, AllThereLaw};
 ghost use Rattle.disk_laws.specs.Runs.{KilledRunLaw, LostRunLaw, OneCallLaw, SessionLaw};
-ghost use Rattle.disk_laws.specs.Sessions.{ReopenedSessionLaw, StoreSessionLaw};
+ghost use Rattle.disk_laws.specs.Sessions.{ClosedSessionLaw, ReopenedSessionLaw, ServedSessionLaw, StoreSessionLaw};
 ghost use Rattle.disk_laws.specs.Killed.{FoundAsItWasLaw, KilledChangeLaw, KilledFlushLaw, KilledTurnLaw, StoreTellsLaw};
 
-use disk_server::KeepsLost;
+use disk_server::{KeepsLost, Sectors, Syncs};
 use file_die::{FileDie, Store, TellsFull};
 use onfi_cycles::{Driver, Nand};
 use page_layout::source::PageSource;
@@ -49,4 +49,11 @@ pub fn run_laws<N: Nand>()
 pub fn session_laws<S: Store + TellsFull, K: KeepsLost>()
     ensures reopened { ReopenedSessionLaw S.held S.honest S.full S.failed }
     ensures store { StoreSessionLaw K S.held S.honest S.full S.failed }
+{}
+
+/// What a server asks of its device of sectors (`serve_synced`), in a session with one client and as it closes the disk behind that: reads and changes of sectors, flushes and rests, one after another, and nothing else. (This
+/// project.)
+pub fn served_laws<S: Sectors, Y: Syncs>()
+    ensures served { ServedSessionLaw S.contents S.honest S.reads S.changes S.flushes S.rests Y.synced Y.failed Y.marked S.next }
+    ensures closed { ClosedSessionLaw S.contents S.honest S.reads S.changes S.flushes S.rests Y.synced Y.failed Y.marked S.next S.takes }
 {}
