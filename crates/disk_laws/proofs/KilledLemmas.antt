@@ -1,5 +1,5 @@
 -- What is found of a disk where its server is killed inside a call.
-use Rattle.std.proofs.Common.{◌≡◌, ◌≢◌, inl, inr, ℕ, Bool, true, [], Option, Some, Result, Ok, Err, refl, sym, ap, ◌∙◌, subst}
+use Rattle.std.proofs.Common.{◌≡◌, ◌≢◌, inl, inr, ℕ, Bool, true, [], ◌∷◌, ◌++◌, Option, Some, Result, Ok, Err, refl, sym, ap, ◌∙◌, subst}
 use Rattle.std.specs.Prelude.{◌⊎◌}
 use Rattle.page_layout.specs.declared.geometry.Geometry.{Geometry}
 use Rattle.page_layout.specs.Page.{Image}
@@ -9,7 +9,7 @@ use Rattle.page_layout.specs.Recording.{Recording}
 use Rattle.page_layout.proofs.FlashLemmas.{geometry-Leads}
 use Rattle.promises.specs.Step.{Command, Flush, Turn}
 use Rattle.promises.specs.Stop.{MayLeave}
-use Rattle.promises.proofs.StopLemmas.{between}
+use Rattle.promises.proofs.StopLemmas.{between, torn_in_one_law}
 use Rattle.collection.specs.Safe.{ram}
 use Rattle.collection.proofs.Stops.{one_gain}
 use Rattle.file_die.specs.Store.{Held}
@@ -21,7 +21,7 @@ use Rattle.ftl_device.specs.Changes.{Logs, Refuses}
 use Rattle.ftl_device.specs.Stopped.{Survives, changes_sector}
 use Rattle.disk_server.specs.Flat.{flat}
 use Rattle.disk_server.specs.Disk.{contents_of, change_answer}
-use Rattle.disk_laws.specs.Killed.{AreFoundIn, HoldsThrough, MountsFor, bytes_found, KilledChangeLaw, KilledFlushLaw, KilledTurnLaw, FoundAsItWasLaw, StoreTellsLaw}
+use Rattle.disk_laws.specs.Killed.{AreFoundIn, FoundTornLaw, HoldsThrough, MountsFor, bytes_found, KilledChangeLaw, KilledFlushLaw, KilledTurnLaw, FoundAsItWasLaw, StoreTellsLaw}
 use Rattle.disk_server.proofs.Calls.{no_bus}
 use Rattle.disk_server.proofs.Holding.{parts, held}
 
@@ -101,3 +101,14 @@ found_as_it_was_law flash recorded honest old new log was h some records = recor
 
 pub store_tells : {S : Type 0} (held : S → Held) → StoreTellsLaw held (λ d. Some d.told)
 store_tells held d = record { told = refl; pages = refl }
+
+pub found_torn_law : {N : Type 0} (flash : N → Flash) (recorded : N → Option Recording) → FoundTornLaw flash recorded
+found_torn_law flash recorded old new before after op torn still gains whole tears = record {
+  told = still;
+  log = before ++ op ∷ after;
+  records = gains;
+  left = record {
+    whole = whole;
+    by = (torn_in_one_law old.engine.geometry.pages (flash old.engine.nand).image torn (before ++ op ∷ after)).1 (inr (record { before = before; op = op; after = after; cut = refl; tears = tears }));
+  };
+}

@@ -35,7 +35,7 @@ use Rattle.disk_server.specs.Disk.{AsksRead}
 use Rattle.disk_server.proofs.Calls.{no_bus}
 use Rattle.disk_server.proofs.Holding.{parts}
 use Rattle.disk_laws.specs.Lost.{LostBy, MayLose}
-use Rattle.disk_laws.specs.Runs.{CutIn, DieWords, Does, HasOnTheWay, IsFoundAfterLoss, IsOneCall, KilledRunLaw, LostRunLaw, NoCall, OneCallLaw, OneMore, DeviceCalls, image_on}
+use Rattle.disk_laws.specs.Runs.{CutIn, CutLeavesLaw, DieWords, Does, HasOnTheWay, IsFoundAfterLoss, IsOneCall, KilledRunLaw, LostRunLaw, NoCall, OneCallLaw, OneMore, DeviceCalls, image_on}
 use Rattle.disk_laws.proofs.FitLemmas.{Fits}
 use Rattle.disk_laws.proofs.GrowLemmas.{GrewSince, Stands, since_begin}
 use Rattle.disk_laws.proofs.LogLemmas.{Goes, grew, lasts_after, lost, lost_apart}
@@ -251,6 +251,17 @@ module _ {N : Type 0} (die : DieWords N) (old : Device N) where
         })
   ]
 
+  pub cut_leaves : (log : List Operation) (new : Device N) (found : Image) → CutIn die old log new found → MayLeave old.engine.geometry (image_on die old) log found
+  cut_leaves log new found c =
+      let pages : ℕ = old.engine.geometry.pages in
+      let here : LeftBy pages (image_on die c.first) (c.at ++ c.after) found = (stops_join pages (image_on die c.first) found c.at c.after).1 (inl c.cut.by) in
+      let there : LeftBy pages (image_after_all pages (image_on die old) c.before) (c.at ++ c.after) found =
+      subst (λ i. LeftBy pages i (c.at ++ c.after) found) (sym (run_image c.before c.first c.was)) here in
+      record {
+        whole = c.cut.whole;
+        by = subst (λ l. LeftBy pages (image_on die old) l found) (sym c.joined) ((stops_join pages (image_on die old) found c.before (c.at ++ c.after)).1 (inr there));
+      }
+
   -- ---- a loss of power
 
   -- a sector of the disk that is there after the calls
@@ -364,3 +375,6 @@ lost_run_law die old new log found run few m = lost_run die old few log new foun
 
 pub one_call : {N : Type 0} (die : DieWords N) → OneCallLaw die
 one_call die old new log does = OneMore [] old log new NoCall does
+
+pub cut_leaves_law : {N : Type 0} (die : DieWords N) → CutLeavesLaw die
+cut_leaves_law die old new log found c = cut_leaves die old log new found c

@@ -1,11 +1,11 @@
 -- WHAT IS FOUND OF A DISK where its server is killed, or its die stopped, inside a call of its device.
-use Rattle.std.specs.Prelude.{◌≡◌, ◌⊎◌, ◌+◌, ◌≤◌, ℕ, List, Option, Some, IsSome, Result, Ok, Bool, true}
-use Rattle.page_layout.specs.Page.{Image}
+use Rattle.std.specs.Prelude.{◌≡◌, ◌⊎◌, ◌+◌, ◌≤◌, ℕ, List, ◌++◌, ◌∷◌, Option, Some, IsSome, Result, Ok, Bool, true}
+use Rattle.page_layout.specs.Page.{Image, IsImage}
 use Rattle.page_layout.specs.Array.{array_of}
 use Rattle.page_layout.specs.Flash.{Flash, Operation}
-use Rattle.page_layout.specs.Recording.{Recording, Records}
+use Rattle.page_layout.specs.Recording.{Recording, Records, image_after_all}
 use Rattle.promises.specs.Step.{Command}
-use Rattle.promises.specs.Stop.{MayLeave}
+use Rattle.promises.specs.Stop.{MayLeave, Tears}
 use Rattle.image_check.specs.Mountable.{IsMountable}
 use Rattle.onfi_cycles.specs.Driver.{DriverState}
 use Rattle.file_die.specs.Die.{FileState}
@@ -58,10 +58,16 @@ KilledTurnLaw {N} flash recorded honest calm erases failed = (old new : Device N
     → AsksTurn flash recorded honest calm erases failed old result new → AreFoundIn flash recorded old new found
     → MountsFor old found × (bytes_found old found ≡ (contents_of flash honest old).bytes)
 
--- and none of this is said of nothing: the pages from before a call that gained these operations are among them, and so is what the first of them may leave torn
+-- and none of this is said of nothing: the pages from before a call that gained these operations are among them
 abbrev pub FoundAsItWasLaw : {N : Type 0} → (N → Flash) → (N → Option Recording) → (N → Bool) → Type 0
 FoundAsItWasLaw {N} flash recorded honest = (old new : Device N) (log : List Operation) → IsDisk flash honest old → holds honest old ≡ true → IsSome (recorded new.engine.nand)
     → Records (recorded old.engine.nand) log (recorded new.engine.nand) → AreFoundIn flash recorded old new (flash old.engine.nand).image
+
+-- and so is whatever one of the operations may leave torn
+abbrev pub FoundTornLaw : {N : Type 0} → (N → Flash) → (N → Option Recording) → Type 0
+FoundTornLaw {N} flash recorded = (old new : Device N) (before after : List Operation) (op : Operation) (torn : Image) → IsSome (recorded new.engine.nand)
+    → Records (recorded old.engine.nand) (before ++ op ∷ after) (recorded new.engine.nand) → IsImage old.engine.geometry torn
+    → Tears old.engine.geometry.pages op (image_after_all old.engine.geometry.pages (flash old.engine.nand).image before) torn → AreFoundIn flash recorded old new torn
 
 -- OF A DISK IN A STORE: its die tells a record at each moment, and its pages are the store's
 pub record TellsStore {S : Type 0} (held : S → Held) (recorded : DriverState (FileState S) → Option Recording) (d : DriverState (FileState S)) : Type 0 where

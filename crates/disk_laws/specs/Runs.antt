@@ -107,6 +107,10 @@ abbrev pub KilledRunLaw : {N : Type 0} → DieWords N → Type 0
 KilledRunLaw {N} die = (old new : Device N) (log : List Operation) (found : Image) → DeviceCalls die old log new
     → MayLeave old.engine.geometry (image_on die old) log found → (found ≡ image_on die old) ⊎ CutIn die old log new found
 
+-- and what is found so is what a kill may leave by the operations of all the calls
+abbrev pub CutLeavesLaw : {N : Type 0} → DieWords N → Type 0
+CutLeavesLaw {N} die = (old new : Device N) (log : List Operation) (found : Image) → CutIn die old log new found → MayLeave old.engine.geometry (image_on die old) log found
+
 -- A LOSS OF POWER AT ANY MOMENT SINCE ALL PAGES LASTED, as since a sync, of a device whose cache and a block have no more entries and pages than a cache may have: nothing from before is lost. Where nothing was done since, what is found has the records that there were
 abbrev pub LostRunLaw : {N : Type 0} → DieWords N → Type 0
 LostRunLaw {N} die = (old new : Device N) (log : List Operation) (found : Image) → DeviceCalls die old log new → old.engine.mapping.capacity + old.engine.geometry.pages ≤ 65536

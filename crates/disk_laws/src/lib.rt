@@ -3,9 +3,9 @@
 #![tactic(auto)]
 
 ghost use Rattle.disk_laws.specs.Lost.{AfterEraseLaw, AllGoneLaw, AllThereLaw};
-ghost use Rattle.disk_laws.specs.Runs.{KilledRunLaw, LostRunLaw, OneCallLaw, SessionLaw};
+ghost use Rattle.disk_laws.specs.Runs.{CutLeavesLaw, KilledRunLaw, LostRunLaw, OneCallLaw, SessionLaw};
 ghost use Rattle.disk_laws.specs.Sessions.{ClosedSessionLaw, ReopenedSessionLaw, ServedSessionLaw, StoreSessionLaw};
-ghost use Rattle.disk_laws.specs.Killed.{FoundAsItWasLaw, KilledChangeLaw, KilledFlushLaw, KilledTurnLaw, StoreTellsLaw};
+ghost use Rattle.disk_laws.specs.Killed.{FoundAsItWasLaw, FoundTornLaw, KilledChangeLaw, KilledFlushLaw, KilledTurnLaw, StoreTellsLaw};
 
 use disk_server::{KeepsLost, Sectors, Syncs};
 use file_die::{FileDie, Store, TellsFull};
@@ -19,6 +19,7 @@ pub fn kill_laws<N: Nand>()
     ensures flush { KilledFlushLaw N.flash N.recorded N.honest N.calm N.failed }
     ensures turn { KilledTurnLaw N.flash N.recorded N.honest N.calm N.erases N.failed }
     ensures as_it_was { FoundAsItWasLaw N.flash N.recorded N.honest }
+    ensures torn { FoundTornLaw N.flash N.recorded }
 {}
 
 /// The die over any store tells a record at each moment, and its pages are the store's: so what `kill_laws` says of a die is said of the pages of a store. (This project's.)
@@ -41,6 +42,7 @@ pub fn run_laws<N: Nand>()
     ensures one { OneCallLaw (record { flash = N.flash; recorded = N.recorded; honest = N.honest; calm = N.calm; programs = N.programs; erases = N.erases; failed = N.failed }) }
     ensures session { SessionLaw (record { flash = N.flash; recorded = N.recorded; honest = N.honest; calm = N.calm; programs = N.programs; erases = N.erases; failed = N.failed }) }
     ensures killed { KilledRunLaw (record { flash = N.flash; recorded = N.recorded; honest = N.honest; calm = N.calm; programs = N.programs; erases = N.erases; failed = N.failed }) }
+    ensures cut { CutLeavesLaw (record { flash = N.flash; recorded = N.recorded; honest = N.honest; calm = N.calm; programs = N.programs; erases = N.erases; failed = N.failed }) }
     ensures lost { LostRunLaw (record { flash = N.flash; recorded = N.recorded; honest = N.honest; calm = N.calm; programs = N.programs; erases = N.erases; failed = N.failed }) }
 {}
 

@@ -1,4 +1,4 @@
-use Rattle.disk_laws.proofs.KilledLemmas.{found_as_it_was_law, killed_change_law, killed_flush_law, killed_turn_law}
+use Rattle.disk_laws.proofs.KilledLemmas.{found_as_it_was_law, found_torn_law, killed_change_law, killed_flush_law, killed_turn_law}
 use Rattle.disk_laws.proofs.kill_laws.Goals as goal
 
 pub returns : goal.returns
@@ -9,4 +9,5 @@ returns g c =
       flush = killed_flush_law n.flash n.recorded n.honest n.calm n.failed;
       turn = killed_turn_law n.flash n.recorded n.honest n.calm n.erases n.failed;
       as_it_was = found_as_it_was_law n.flash n.recorded n.honest;
+      torn = found_torn_law n.flash n.recorded;
     }

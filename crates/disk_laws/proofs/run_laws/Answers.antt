@@ -1,4 +1,4 @@
-use Rattle.disk_laws.proofs.RunLemmas.{killed_run, lost_run_law, one_call}
+use Rattle.disk_laws.proofs.RunLemmas.{cut_leaves_law, killed_run, lost_run_law, one_call}
 use Rattle.disk_laws.proofs.SessionLemmas.{session}
 use Rattle.disk_laws.proofs.run_laws.Goals as goal
 
@@ -13,3 +13,6 @@ returns-clause-killed g c = (let n = g.N.PageSource in killed_run (record { flas
 
 pub returns-clause-lost : goal.returns-clause-lost
 returns-clause-lost g c = (let n = g.N.PageSource in lost_run_law (record { flash = n.flash; recorded = n.recorded; honest = n.honest; calm = n.calm; programs = n.programs; erases = n.erases; failed = n.failed }))
+
+pub returns-clause-cut : goal.returns-clause-cut
+returns-clause-cut g c = (let n = g.N.PageSource in cut_leaves_law (record { flash = n.flash; recorded = n.recorded; honest = n.honest; calm = n.calm; programs = n.programs; erases = n.erases; failed = n.failed }))
