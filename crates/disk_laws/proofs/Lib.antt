@@ -7,3 +7,4 @@ mod SessionLemmas
 mod KilledLemmas
 mod StoreLemmas
 mod ServedLemmas
+mod StoreLostLemmas

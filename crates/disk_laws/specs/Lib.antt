@@ -2,3 +2,4 @@ pub mod Killed
 pub mod Lost
 pub mod Runs
 pub mod Sessions
+pub mod StoreLost

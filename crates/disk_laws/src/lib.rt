@@ -3,6 +3,7 @@
 #![tactic(auto)]
 
 ghost use Rattle.disk_laws.specs.Lost.{AfterEraseLaw, AllGoneLaw, AllThereLaw};
+ghost use Rattle.disk_laws.specs.StoreLost.{StoreLosesLaw};
 ghost use Rattle.disk_laws.specs.Runs.{CutLeavesLaw, KilledRunLaw, LostRunLaw, OneCallLaw, SessionLaw};
 ghost use Rattle.disk_laws.specs.Sessions.{ClosedSessionLaw, ReopenedSessionLaw, ServedSessionLaw, StoreSessionLaw};
 ghost use Rattle.disk_laws.specs.Killed.{FoundAsItWasLaw, FoundTornLaw, KilledChangeLaw, KilledFlushLaw, KilledTurnLaw, StoreTellsLaw};
@@ -28,11 +29,12 @@ pub fn store_laws<S: Store>()
 {}
 
 /// What a loss of power may leave of a die whose erases stand between two syncs, against what a kill may: all that a kill may leave, and more before the first erase; behind an erase nothing that was there as it ended is
-/// lost. (This project.)
+/// lost. What lasts of a store whose die goes on by cycles that are done, each program of a row without a record, is what may be left so. (This project.)
 pub fn loss_laws()
     ensures there { AllThereLaw }
     ensures erased { AfterEraseLaw }
     ensures gone { AllGoneLaw }
+    ensures store { StoreLosesLaw }
 {}
 
 /// What is found of a disk where calls of its device, one after another, are cut short at any moment: all that a session asks is such calls. Killed, or stopped: it mounts, and each call that had ended is in it, and the one at hand whole or not at all. After a

@@ -1,0 +1,142 @@
+-- What a loss of power leaves of a store.
+use Rattle.std.proofs.Common.{◌≡◌, inl, inr, ℕ, Bool, true, false, List, [], ◌∷◌, ◌++◌, length, replicate, Some, None, refl, sym, ap, subst, ◌∙◌, arith}
+use Rattle.std.specs.Prelude.{slice_get, if◌then◌else◌}
+use Rattle.std.proofs.lemmas.Bool.{cases_lt}
+use Rattle.std.proofs.lemmas.List.{get_or_past}
+use Rattle.std.proofs.lemmas.Option.{slice_get-get_or, slice_get_past}
+use Rattle.page_layout.specs.declared.geometry.Geometry.{Geometry}
+use Rattle.page_layout.specs.Page.{Page, Image, IsImage}
+use Rattle.page_layout.specs.Sound.{record_of}
+use Rattle.page_layout.specs.Array.{marks}
+use Rattle.page_layout.specs.Change.{IsUnsoundAt, erased_page}
+use Rattle.page_layout.specs.Flash.{Operation, Program, Erase, may_erase, may_program, no_page, with_block}
+use Rattle.page_layout.specs.Recording.{image_after}
+use Rattle.page_layout.proofs.ArrayLemmas.{length-marks, unsound_at}
+use Rattle.onfi_cycles.specs.Cycles.{Due, Moves, Resets, Programs, Erases, Refuses}
+use Rattle.image_laws.specs.Power.{LosesSince}
+use Rattle.file_die.specs.declared.die.SyncWhen.{SyncWhen}
+use Rattle.file_die.specs.Store.{Held, AreImages, page_in}
+use Rattle.file_die.specs.Die.{ErasesInStore, IfDue, Leaves, ProgramsIn}
+use Rattle.file_die.specs.DieLaws.{AddsAlone, GoesAdding, LastsSince, Takes, Turn}
+use Rattle.file_die.proofs.DieLawLemmas.{adding_goes, images, since_sync}
+use Rattle.disk_laws.specs.Lost.{LostBy}
+use Rattle.disk_laws.specs.StoreLost.{GoesDone, ProgramsUnsound, StoreLosesLaw, operation_in, operations_in}
+
+-- ---- a store's rows as those of its images
+
+same_at : (a b : Image) (row : ℕ) → length a ≡ length b → page_in a row ≡ page_in b row → slice_get a row ≡ slice_get b row
+same_at a b row long same = elim (cases_lt row (length a)) [
+  | inl within ↦ slice_get-get_or a row no_page within ∙ (ap Some same ∙ sym (slice_get-get_or b row no_page (omega (arith, long, within))))
+  | inr past ↦ slice_get_past a row past ∙ sym (slice_get_past b row (omega (arith, long, past)))
+]
+
+unsound_in : (image : Image) (row : ℕ) → record_of (page_in image row) ≡ None → IsUnsoundAt image row
+unsound_in image row none = elim (cases_lt row (length image)) [
+  | inl within ↦ unsound_at image row (page_in image row) (slice_get-get_or image row no_page within) none
+  | inr past ↦ get_or_past (marks image) row None (omega (arith, length-marks image, past))
+]
+
+loses_since : (stored : Image) (t : Held) → length t.durable ≡ length t.pages → LastsSince stored t → LosesSince stored t.pages t.durable
+loses_since stored t long since = record {
+  size = long;
+  rows = λ row. elim (since.found row) [
+    | inl same ↦ inl (same_at t.durable t.pages row long same)
+    | inr gone ↦ inr (unsound_in stored row gone.0, unsound_in t.durable row gone.1)
+  ];
+}
+
+-- ---- cycles that add pages
+
+adding_more : (sync_when : SyncWhen) (s mid t : Held) (turns : List Turn) (turn : Turn) → GoesAdding sync_when s turns mid → AddsAlone mid turn.flash turn.due → Takes sync_when mid turn t
+    → GoesAdding sync_when s (turns ++ turn ∷ []) t
+adding_more sync_when s mid t [] turn same adds takes =
+    (t, subst (λ x. AddsAlone x turn.flash turn.due) same adds, subst (λ x. Takes sync_when x turn t) same takes, refl)
+adding_more sync_when s mid t (first ∷ turns) turn (next, adds_first, takes_first, rest) adds takes =
+    (next, adds_first, takes_first, adding_more sync_when next mid t turns turn rest adds takes)
+
+-- ---- one cycle after another, since all lasted in a store that was there first
+
+module _ (sync_when : SyncWhen) (found : Image) where
+  -- the store as all lasted, and the cycles since, which only added pages
+  record Since (g : Geometry) (start s : Held) : Type 0 where
+    pub images : AreImages start
+    pub sized : start.geometry ≡ g
+    pub lasted : start.durable ≡ start.pages
+    pub added : List Turn
+    pub goes : GoesAdding sync_when start added s
+
+  stays : (g : Geometry) (start s : Held) → Since g start s → (s.geometry ≡ g) × AreImages s
+  stays g start s since = (let w = images sync_when start s since.added (adding_goes sync_when start s since.added since.goes) in (w.0 ∙ since.sized, w.1 since.images))
+
+  begin : (g : Geometry) (s : Held) → AreImages s → s.geometry ≡ g → s.durable ≡ s.pages → Since g s s
+  begin g s whole sized lasted = record { images = whole; sized = sized; lasted = lasted; added = []; goes = refl }
+
+  -- what the cycles behind one come to, from each store as which all may have lasted
+  Behind : Geometry → Held → List Operation → Type 0
+  Behind g mid ops = (start : Held) → Since g start mid → LostBy g.pages start.pages mid.pages ops found
+
+  same_behind : (g : Geometry) (start s mid : Held) (ops : List Operation) → Since g start s → mid ≡ s → Behind g mid ops → LostBy g.pages start.pages s.pages ops found
+  unfolding Behind
+  same_behind g start s mid ops since same behind = subst (λ x. LostBy g.pages start.pages x.pages ops found) same (behind start (subst (Since g start) (sym same) since))
+
+  on_program : (g : Geometry) (start s mid : Held) (turn : Turn) (row : ℕ) (page : Page) (ops : List Operation) (b : Bool) → turn.due ≡ Programs row page → turn.done ≡ true → b ≡ may_program turn.flash row
+      → Since g start s → ProgramsUnsound s turn.flash turn.due → Takes sync_when s turn mid → IfDue b (ProgramsIn s row page sync_when true mid) (mid ≡ s) → Behind g mid ops
+      → LostBy g.pages start.pages s.pages ((if b then Program row page true page ∷ [] else []) ++ ops) found
+  unfolding Behind image_after
+  on_program g start s mid turn row page ops false is done allowed since adds takes same behind = same_behind g start s mid ops since same behind
+  on_program g start s mid turn row page ops true is done allowed since adds takes puts behind =
+      let alone : AddsAlone s turn.flash turn.due = subst (λ due. ProgramsUnsound s turn.flash due → AddsAlone s turn.flash due) (sym is) (λ h. h) adds in
+      let now : Since g start mid = record {
+        images = since.images;
+        sized = since.sized;
+        lasted = since.lasted;
+        added = since.added ++ turn ∷ [];
+        goes = adding_more sync_when start s mid since.added turn since.goes alone takes;
+      } in
+      inr (subst (λ i. LostBy g.pages start.pages i ops found) (puts.puts.put refl) (behind start now))
+
+  on_erase : (g : Geometry) (start s mid : Held) (turn : Turn) (block : ℕ) (ops : List Operation) (b : Bool) → Since g start s → Takes sync_when s turn mid
+      → IfDue b (ErasesInStore s block true mid) (mid ≡ s) → Behind g mid ops
+      → LostBy g.pages start.pages s.pages ((if b then Erase block true (replicate g.pages (erased_page g)) ∷ [] else []) ++ ops) found
+  unfolding Behind image_after
+  on_erase g start s mid turn block ops false since takes same behind = same_behind g start s mid ops since same behind
+  on_erase g start s mid turn block ops true since takes erases behind =
+      let here = stays g start s since in
+      let cleared : mid.pages ≡ with_block g.pages block (replicate g.pages (erased_page g)) s.pages =
+      subst (λ (h : Geometry). mid.pages ≡ with_block h.pages block (replicate h.pages (erased_page h)) s.pages) here.0 (erases.clears.cleared refl) in
+      let again : Since g mid mid = begin g mid (erases.clears.whole here.1) (takes.geometry ∙ here.0) (erases.after refl) in
+      inr (inr (subst (λ i. LostBy g.pages i i ops found) cleared (behind mid again)))
+
+  on_due : (g : Geometry) (start s mid : Held) (turn : Turn) (ops : List Operation) (due : Due) → turn.due ≡ due → turn.done ≡ true → Since g start s → ProgramsUnsound s turn.flash turn.due
+      → Takes sync_when s turn mid → Leaves due turn.flash sync_when s true mid → Behind g mid ops → LostBy g.pages start.pages s.pages (operation_in g turn.flash due ++ ops) found
+  on_due g start s mid turn ops (Programs row page) is done since adds takes leaves behind = on_program g start s mid turn row page ops (may_program turn.flash row) is done refl since adds takes leaves behind
+  on_due g start s mid turn ops (Erases block) is done since adds takes leaves behind = on_erase g start s mid turn block ops (may_erase turn.flash block) since takes leaves behind
+  on_due g start s mid turn ops (Moves phase) is done since adds takes same behind = same_behind g start s mid ops since same behind
+  on_due g start s mid turn ops Resets is done since adds takes same behind = same_behind g start s mid ops since same behind
+  on_due g start s mid turn ops (Refuses fault) is done since adds takes same behind = same_behind g start s mid ops since same behind
+
+  all_done : (g : Geometry) (start s t : Held) (turns : List Turn) → t.durable ≡ found → Since g start s → GoesDone sync_when s turns t → LostBy g.pages start.pages s.pages (operations_in g turns) found
+  unfolding Behind
+  all_done g start s t [] is since same =
+      let here = stays g start s since in
+      let long : length s.durable ≡ length s.pages = here.1.durable_whole.rows ∙ sym here.1.pages_whole.rows in
+      let lost = loses_since start.pages s long (since_sync sync_when start s since.added since.goes since.lasted) in
+      subst (LosesSince start.pages s.pages) (ap (λ (x : Held). x.durable) (sym same) ∙ is) lost
+  all_done g start s t (turn ∷ turns) is since (mid, done, adds, takes, rest) =
+      let leaves : Leaves turn.due turn.flash sync_when s true mid = subst (λ d. Leaves turn.due turn.flash sync_when s d mid) done takes.leaves in
+      on_due g start s mid turn (operations_in g turns) turn.due refl done since adds takes leaves (λ first now. all_done g first mid t turns is now rest)
+
+  -- and the images stay images of the die
+  whole_done : (g : Geometry) (s t : Held) (turns : List Turn) → s.geometry ≡ g → AreImages s → GoesDone sync_when s turns t → (t.geometry ≡ g) × AreImages t
+  whole_done g s t [] sized whole same = (ap (λ (x : Held). x.geometry) same ∙ sized, subst AreImages (sym same) whole)
+  whole_done g s t (turn ∷ turns) sized whole (mid, done, adds, takes, rest) =
+      let one = images sync_when s mid (turn ∷ []) (mid, takes, refl) in
+      whole_done g mid t turns (takes.geometry ∙ sized) (one.1 whole) rest
+
+pub store_loses : StoreLosesLaw
+store_loses sync_when s t turns whole lasted goes =
+    let ends = whole_done sync_when t.durable s.geometry s t turns refl whole goes in
+    record {
+      whole = subst (λ g. IsImage g t.durable) ends.0 ends.1.durable_whole;
+      by = all_done sync_when t.durable s.geometry s s t turns refl (begin sync_when t.durable s.geometry s whole refl lasted) goes;
+    }
