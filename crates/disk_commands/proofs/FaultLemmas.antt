@@ -1,0 +1,9 @@
+-- A fault that a `?` hands on.
+use Rattle.std.proofs.Common.{◌≡◌, subst, sym}
+use Rattle.std.specs.Prelude.{Result, Ok, Err, IfErr, IsErrAnd}
+use Rattle.disk_commands.specs.declared.text.DiskCommandFault.{DiskCommandFault}
+
+-- what holds of the fault of a call holds of the fault that is handed on
+pub handed_on : {T : Type 0} (P : DiskCommandFault → Type 0) (r : Result T DiskCommandFault) (told : DiskCommandFault) → IsErrAnd r (λ e. e ≡ told) → P told → IfErr r P
+handed_on P (Ok done) told is h = tt
+handed_on P (Err e) told is h = subst P (sym is) h
