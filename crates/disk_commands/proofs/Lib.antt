@@ -1,3 +1,4 @@
+pub mod FaultLemmas
 pub mod GrammarLemmas
 pub mod MakeLemmas
 pub mod ShapeLemmas

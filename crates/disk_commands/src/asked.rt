@@ -77,10 +77,7 @@ pub fn shape_of<'a>(words: CreateWords<'a>) -> Result<DiskShape, DiskCommandFaul
     ensures within { IfOk result (λ shape. IsWithin shape.cache) }
     ensures fault { IfErr result (IsNoShapeAsked words.entry) }
 {
-    let geometry = match geometry_asked(words.make) {
-        Ok(geometry) => geometry,
-        Err(fault) => return Err(fault),
-    };
+    let geometry = geometry_asked(words.make)?;
     match cache_asked(words.cache, &geometry) {
         Ok(cache) => Ok(DiskShape {
             geometry,

@@ -47,10 +47,7 @@ fn damage_at<'a, F: DiskFiles>(
     ensures opened { OpensOnce path.now to_look (F.opened files.old) (F.opened files.new) }
     ensures kept { F.kept files.new ≡ F.kept files.old }
 {
-    let mut looked = match look_at(alloc, files, path, to_look()) {
-        Ok(looked) => looked,
-        Err(fault) => return Err(fault),
-    };
+    let mut looked = look_at(alloc, files, path, to_look())?;
     let Ok(lost) = numbers_of(alloc, &looked.lost) else {
         return Err(DiskCommandFault::OutOfMemory);
     };
@@ -111,17 +108,11 @@ pub(crate) fn check_command<'a, F: DiskFiles, W: Write>(
     ensures kept { F.kept files.new ≡ F.kept files.old }
     ensures opened { OpensOnce words.entry.disk.now to_look (F.opened files.old) (F.opened files.new) }
 {
-    let damage = match damage_at(alloc, files, words.disk) {
-        Ok(damage) => damage,
-        Err(fault) => return Err(fault),
-    };
+    let damage = damage_at(alloc, files, words.disk)?;
     let Ok(text) = text_of(alloc, &damage, form_of(words.json)) else {
         return Err(DiskCommandFault::OutOfMemory);
     };
-    match print_text(text.as_str(), out) {
-        Ok(()) => {}
-        Err(fault) => return Err(fault),
-    }
+    print_text(text.as_str(), out)?;
     if damage.lost.is_empty() {
         return Ok(());
     }

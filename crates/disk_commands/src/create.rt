@@ -178,21 +178,9 @@ pub(crate) fn create_command<'a, F: DiskFiles>(
     ensures kept { OnErr result (F.kept files.new ≡ F.kept files.old) }
     ensures opened { F.opened files.new ≡ F.opened files.old }
 {
-    let shape = match shape_of(words) {
-        Ok(shape) => shape,
-        Err(fault) => return Err(fault),
-    };
-    let bad = match bad_asked(alloc, words.make, words.bad, &shape.geometry) {
-        Ok(bad) => bad,
-        Err(fault) => return Err(fault),
-    };
-    match want_free(files, words.disk) {
-        Ok(()) => {}
-        Err(fault) => return Err(fault),
-    }
-    let store = match make(alloc, files, &words, &shape, &bad) {
-        Ok(store) => store,
-        Err(fault) => return Err(fault),
-    };
+    let shape = shape_of(words)?;
+    let bad = bad_asked(alloc, words.make, words.bad, &shape.geometry)?;
+    want_free(files, words.disk)?;
+    let store = make(alloc, files, &words, &shape, &bad)?;
     put(alloc, files, words.disk, &shape, store)
 }

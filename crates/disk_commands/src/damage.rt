@@ -99,18 +99,9 @@ pub(crate) fn look_at<'a, F: DiskFiles>(
     ensures no_more { OnOk result (SaysNoMore (F.answers files.old) (F.answers files.new)) }
     ensures kept { F.kept files.new ≡ F.kept files.old }
 {
-    let (store, syncs, told) = match open_at(alloc, files, path, access) {
-        Ok(opened) => opened,
-        Err(fault) => return Err(fault),
-    };
-    let found = match mark_at(alloc, files, path, told.marked) {
-        Ok(found) => found,
-        Err(fault) => return Err(fault),
-    };
-    let mut lost = match list_at(alloc, files, path, &told) {
-        Ok(lost) => lost,
-        Err(fault) => return Err(fault),
-    };
+    let (store, syncs, told) = open_at(alloc, files, path, access)?;
+    let found = mark_at(alloc, files, path, told.marked)?;
+    let mut lost = list_at(alloc, files, path, &told)?;
     match mount_and_find(alloc, store, found.mark.flushed, &mut lost) {
         Ok((store, certificate)) => Ok(Looked {
             told,

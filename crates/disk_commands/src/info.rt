@@ -28,10 +28,7 @@ fn info_at<'a, F: DiskFiles>(
     ensures kept { F.kept files.new ≡ F.kept files.old }
     ensures opened { OpensOnce path.now to_look (F.opened files.old) (F.opened files.new) }
 {
-    let looked = match look_at(alloc, files, path, to_look()) {
-        Ok(looked) => looked,
-        Err(fault) => return Err(fault),
-    };
+    let looked = look_at(alloc, files, path, to_look())?;
     let Ok(lost) = numbers_of(alloc, &looked.lost) else {
         return Err(DiskCommandFault::OutOfMemory);
     };
@@ -93,10 +90,7 @@ pub(crate) fn info_command<'a, F: DiskFiles, W: Write>(
     ensures kept { F.kept files.new ≡ F.kept files.old }
     ensures opened { OpensOnce words.entry.disk.now to_look (F.opened files.old) (F.opened files.new) }
 {
-    let (info, lost) = match info_at(alloc, files, words.disk) {
-        Ok(told) => told,
-        Err(fault) => return Err(fault),
-    };
+    let (info, lost) = info_at(alloc, files, words.disk)?;
     let Ok(text) = info.text(alloc, &lost, form_of(words.json)) else {
         return Err(DiskCommandFault::OutOfMemory);
     };

@@ -68,10 +68,7 @@ fn named<'a>(
     ensures ok { IfOk result (λ blocks. Names word.now geometry.now blocks.items) }
     ensures fault { IfErr result (NamesNone word.entry geometry.now) }
 {
-    let blocks = match numbers_of(alloc, word) {
-        Ok(blocks) => blocks,
-        Err(fault) => return Err(fault),
-    };
+    let blocks = numbers_of(alloc, word)?;
     match misnamed(geometry, &blocks) {
         None => Ok(blocks),
         Some(block) => Err(DiskCommandFault::BadBlock(block)),
@@ -162,9 +159,6 @@ pub(crate) fn mark_blocks<'a, S: Store>(
     if blocks.is_empty() {
         return Ok(());
     }
-    let page = match mark_page(alloc, geometry) {
-        Ok(page) => page,
-        Err(fault) => return Err(fault),
-    };
+    let page = mark_page(alloc, geometry)?;
     put_marks(store, geometry, blocks, &page, path)
 }

@@ -100,10 +100,7 @@ pub(crate) fn open_at<'a, F: DiskFiles>(
         Ok(locked) => locked,
         Err(fault) => return Err(told_at(fault, path, 0)),
     };
-    let told = match text_at(alloc, files, path, &locked) {
-        Ok(told) => told,
-        Err(fault) => return Err(fault),
-    };
+    let told = text_at(alloc, files, path, &locked)?;
     match files.open(alloc, path, locked, &told.shape) {
         Ok((store, syncs)) => Ok((store, syncs, told)),
         Err(fault) => Err(told_at(fault, path, die_bytes(&told.shape))),

@@ -204,10 +204,7 @@ pub(crate) fn serve_command<'a, F: DiskFiles, I: Incoming, O: Outgoing, E: Write
     ensures opened { OpensMarked words.entry.disk.now (access_of words.entry) (F.opened files.old) (F.opened files.new) }
     ensures kept { F.kept files.new ≡ F.kept files.old }
 {
-    let (disk, syncs, told, _) = match ready(alloc, files, &words, err) {
-        Ok(ready) => ready,
-        Err(fault) => return Err(fault),
-    };
+    let (disk, syncs, told, _) = ready(alloc, files, &words, err)?;
     let terms = terms_of(&told, words.read_only);
     serve_client(alloc, (disk, syncs), terms, words.disk, input, out)
 }

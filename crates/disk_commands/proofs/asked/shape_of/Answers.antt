@@ -1,5 +1,5 @@
 use Rattle.std.proofs.Common.{inr}
 use Rattle.disk_commands.proofs.asked.shape_of.Goals as goal
 
-pub returns-in-Err-cache_asked-clause-fault : goal.returns-in-Err-cache_asked-clause-fault
-returns-in-Err-cache_asked-clause-fault c = inr (c.in-Ok.geometry, c.in-Ok.ensures.ok, c.in-Err-cache_asked.ensures.fault)
+pub returns-in-Err-clause-fault : goal.returns-in-Err-clause-fault
+returns-in-Err-clause-fault c = inr (c.in_ok-geometry.geometry, c.in_ok-geometry.ensures.ok, c.in-Err.ensures.fault)
