@@ -1,4 +1,4 @@
-use Rattle.std.proofs.Common.{rules, ◌≡◌, ◌∙◌, Bool, List, ap, false, inl, inr, not, subst, sym}
+use Rattle.std.proofs.Common.{◌∙◌, ap, false, inl, inr, subst, sym}
 use Rattle.disk_server.specs.Synced.{after_sync}
 use Rattle.disk_commands.specs.Ready.{IsNoneOf, IsUnkeptBy, IsUnreadyAt, KeepsBy}
 use Rattle.disk_commands.proofs.FaultLemmas.{handed_on}
