@@ -179,15 +179,9 @@ pub(crate) fn ready<'a, F: DiskFiles, E: Write>(
     ensures opened { OpensMarked words.now.disk.now (access_of words.now) (F.opened files.old) (F.opened files.new) }
     ensures kept { F.kept files.new ≡ F.kept files.old }
 {
-    let looked = match look_at(alloc, files, words.disk, access_of(words)) {
-        Ok(looked) => looked,
-        Err(fault) => return Err(fault),
-    };
+    let looked = look_at(alloc, files, words.disk, access_of(words))?;
     let mended = looked.store.mended();
-    let mut keeper = match keeper_at(alloc, files, words.disk, &looked) {
-        Ok(keeper) => keeper,
-        Err(fault) => return Err(fault),
-    };
+    let mut keeper = keeper_at(alloc, files, words.disk, &looked)?;
     let Looked {
         told,
         found,
@@ -196,7 +190,7 @@ pub(crate) fn ready<'a, F: DiskFiles, E: Write>(
         certificate,
         lost,
     } = looked;
-    let disk = match disk_of(
+    let disk = disk_of(
         alloc,
         words,
         store,
@@ -205,19 +199,10 @@ pub(crate) fn ready<'a, F: DiskFiles, E: Write>(
         found,
         &mut keeper,
         &lost,
-    ) {
-        Ok(disk) => disk,
-        Err(fault) => return Err(fault),
-    };
+    )?;
     let next = disk.next_sequence();
-    let syncs = match keep_mark_of(alloc, files, words, syncs, &told, found, next) {
-        Ok(syncs) => syncs,
-        Err(fault) => return Err(fault),
-    };
-    match name_all(alloc, &lost, told.shape.code, mended, err) {
-        Ok(()) => {}
-        Err(fault) => return Err(fault),
-    }
+    let syncs = keep_mark_of(alloc, files, words, syncs, &told, found, next)?;
+    name_all(alloc, &lost, told.shape.code, mended, err)?;
     let device = reopening(alloc, disk, &told.shape, sync_when(words.sync_always));
     match guarded(alloc, device, keeper, lost) {
         Ok(disk) => Ok((disk, syncs, told, mended)),
