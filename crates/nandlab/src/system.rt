@@ -54,9 +54,9 @@ pub struct DumpFile<'a, E> {
 
 /// A file of sectors or pages of the system, that is being written. It is locked as long as it is open. The system's error of a write that fails is noted.
 #[derive(Drop)]
-pub struct PieceFile<'a> {
+pub struct PieceFile<'a, R> {
     file: File,
-    first: &'a FirstError,
+    system: System<'a, R>,
     // the name of the part
     name: String,
     // the bytes of a sector or a page
@@ -323,19 +323,19 @@ impl<E: Write> Dump for DumpFile<'_, E> {
     }
 }
 
-impl PieceFile<'_> {
+impl<R: Files<File = File>> PieceFile<'_, R> {
     // Writes the bytes of a piece.
     fn put_piece(&mut self, number: u32, bytes: &[u8]) -> Result<(), TargetFault> {
         let at = u64::from(number) * u64::from(self.size);
         let done = self.file.write_all_at(bytes, at);
-        match self.first.noting(done) {
+        match self.system.first.noting(done) {
             Ok(()) => Ok(()),
             Err(_) => Err(TargetFault),
         }
     }
 }
 
-impl Pieces for PieceFile<'_> {
+impl<R: Files<File = File>> Pieces for PieceFile<'_, R> {
     ghost use Rattle.std.specs.Prelude.{None, true};
 
     ghost pieces = { λ _. None };
@@ -343,7 +343,7 @@ impl Pieces for PieceFile<'_> {
     ghost failed = { λ _. true };
 }
 
-impl Target for PieceFile<'_> {
+impl<R: Files<File = File>> Target for PieceFile<'_, R> {
     fn put(&mut self, number: u32, body: &[u8], _spare: &[u8]) -> Result<(), TargetFault> {
         self.put_piece(number, body)
     }
@@ -353,13 +353,13 @@ impl Target for PieceFile<'_> {
     }
 }
 
-impl DamagedTarget for PieceFile<'_> {
+impl<R: Files<File = File>> DamagedTarget for PieceFile<'_, R> {
     fn put_damaged(&mut self, number: u32, body: &[u8], _spare: &[u8]) -> Result<(), TargetFault> {
         self.put_piece(number, body)
     }
 }
 
-impl PageTarget for PieceFile<'_> {
+impl<R: Files<File = File>> PageTarget for PieceFile<'_, R> {
     fn put_page(&mut self, row: u32, bytes: &[u8]) -> Result<(), TargetFault> {
         self.put_piece(row, bytes)
     }
@@ -373,7 +373,7 @@ impl<'a, R: Files<File = File> + AllocGlobal, E: Write + Drop> LabFiles for Syst
 
     type Dump = DumpFile<'a, E>;
 
-    type Target = PieceFile<'a>;
+    type Target = PieceFile<'a, R>;
 
     type Watch = Trials<E>;
 
@@ -447,7 +447,7 @@ impl<'a, R: Files<File = File> + AllocGlobal, E: Write + Drop> LabFiles for Syst
         path: &str,
         count: u32,
         size: usize,
-    ) -> Result<PieceFile<'a>, LabFileFault> {
+    ) -> Result<PieceFile<'a, R>, LabFileFault> {
         let Ok(size) = u32::try_from(size) else {
             return Err(LabFileFault::Failed);
         };
@@ -455,13 +455,13 @@ impl<'a, R: Files<File = File> + AllocGlobal, E: Write + Drop> LabFiles for Syst
         let (file, name) = new_zeros(&self.system, path, all)?;
         Ok(PieceFile {
             file,
-            first: self.system.first,
+            system: self.system.again(),
             name,
             size,
         })
     }
 
-    fn keep(&mut self, path: &str, target: PieceFile<'a>, over: bool) -> Result<(), KeepFault> {
+    fn keep(&mut self, path: &str, target: PieceFile<'a, R>, over: bool) -> Result<(), KeepFault> {
         put_in_place(&self.system, &target.file, target.name.as_str(), path, over)
     }
 
@@ -479,7 +479,7 @@ impl<'a, R: Files<File = File> + AllocGlobal, E: Write + Drop> LabFiles for Syst
         }
     }
 
-    fn discard(&mut self, target: PieceFile<'a>) {
+    fn discard(&mut self, target: PieceFile<'a, R>) {
         discard(&mut self.system.names(), target.name.as_str());
     }
 }
