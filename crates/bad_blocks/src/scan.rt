@@ -48,14 +48,14 @@ fn has_mark<S: PageSource>(
     body: &mut [u8],
     spare: &mut [u8],
 ) -> Result<bool, SourceFault>
-    requires within { row < row_count (S.flash source.old).geometry }
-    requires body_whole { length body.old ≡ (S.flash source.old).geometry.data_bytes }
-    requires spare_whole { length spare.old ≡ (S.flash source.old).geometry.spare_bytes }
-    ensures marked { IfOk result (λ marked. S.honest source.old ≡ true → marked ≡ has_mark (S.flash source.old).image row) }
-    ensures same { OnOk result (S.honest source.old ≡ true → S.flash source.new ≡ S.flash source.old) }
-    ensures only_reads { OnlyReads S.flash S.honest S.calm S.programs S.erases S.failed source.old source.new }
-    ensures reads { S.reads source.new ≡ counted (S.reads source.old) }
-    ensures rose { OnErr result (HasRisen (S.failed source.old) (S.failed source.new)) }
+    requires within { row < row_count (S.view.flash source.old).geometry }
+    requires body_whole { length body.old ≡ (S.view.flash source.old).geometry.data_bytes }
+    requires spare_whole { length spare.old ≡ (S.view.flash source.old).geometry.spare_bytes }
+    ensures marked { IfOk result (λ marked. S.view.honest source.old ≡ true → marked ≡ has_mark (S.view.flash source.old).image row) }
+    ensures same { OnOk result (S.view.honest source.old ≡ true → S.view.flash source.new ≡ S.view.flash source.old) }
+    ensures only_reads { OnlyReads S.view source.old source.new }
+    ensures reads { S.view.reads source.new ≡ counted (S.view.reads source.old) }
+    ensures rose { OnErr result (HasRisen (S.view.failed source.old) (S.view.failed source.new)) }
 {
     source.read_page(row, body, spare)?;
     Ok(has_zero(spare))
@@ -69,15 +69,15 @@ fn is_marked<S: PageSource>(
     spare: &mut [u8],
 ) -> Result<bool, SourceFault>
     requires within { block < geometry.now.blocks }
-    requires geometry { (S.flash source.old).geometry ≡ geometry.now }
+    requires geometry { (S.view.flash source.old).geometry ≡ geometry.now }
     requires body_whole { length body.old ≡ geometry.now.data_bytes }
     requires spare_whole { length spare.old ≡ geometry.now.spare_bytes }
-    ensures marked { IfOk result (λ marked. S.honest source.old ≡ true → marked ≡ is_marked geometry.now (S.flash source.old).image block) }
-    ensures same { OnOk result (S.honest source.old ≡ true → S.flash source.new ≡ S.flash source.old) }
-    ensures only_reads { OnlyReads S.flash S.honest S.calm S.programs S.erases S.failed source.old source.new }
-    ensures reads { OnOk result (S.reads source.new ≡ counted (counted (S.reads source.old))) }
-    ensures most_reads { S.reads source.new ≤ S.reads source.old + 2 }
-    ensures rose { OnErr result (HasRisen (S.failed source.old) (S.failed source.new)) }
+    ensures marked { IfOk result (λ marked. S.view.honest source.old ≡ true → marked ≡ is_marked geometry.now (S.view.flash source.old).image block) }
+    ensures same { OnOk result (S.view.honest source.old ≡ true → S.view.flash source.new ≡ S.view.flash source.old) }
+    ensures only_reads { OnlyReads S.view source.old source.new }
+    ensures reads { OnOk result (S.view.reads source.new ≡ counted (counted (S.view.reads source.old))) }
+    ensures most_reads { S.view.reads source.new ≤ S.view.reads source.old + 2 }
+    ensures rose { OnErr result (HasRisen (S.view.failed source.old) (S.view.failed source.new)) }
 {
     let first_row = geometry.row(block, 0);
     let last_row = geometry.row(block, geometry.pages() - 1);
@@ -94,17 +94,17 @@ fn mark_blocks<S: PageSource>(
     body: &mut [u8],
     spare: &mut [u8],
 ) -> Result<(), SourceFault>
-    requires geometry { (S.flash source.old).geometry ≡ geometry.now }
+    requires geometry { (S.view.flash source.old).geometry ≡ geometry.now }
     requires whole { length marks.old ≡ geometry.now.blocks }
     requires body_whole { length body.old ≡ geometry.now.data_bytes }
     requires spare_whole { length spare.old ≡ geometry.now.spare_bytes }
-    ensures marks { OnOk result (S.honest source.old ≡ true → marks.new ≡ factory_marks geometry.now (S.flash source.old).image) }
-    ensures same { OnOk result (S.honest source.old ≡ true → S.flash source.new ≡ S.flash source.old) }
-    ensures only_reads { OnlyReads S.flash S.honest S.calm S.programs S.erases S.failed source.old source.new }
-    ensures reads { OnOk result (S.reads source.old + 2 * geometry.now.blocks < 2 ^ 64 →
-        S.reads source.new ≡ S.reads source.old + 2 * geometry.now.blocks) }
-    ensures most_reads { S.reads source.new ≤ S.reads source.old + 2 * geometry.now.blocks }
-    ensures rose { OnErr result (HasRisen (S.failed source.old) (S.failed source.new)) }
+    ensures marks { OnOk result (S.view.honest source.old ≡ true → marks.new ≡ factory_marks geometry.now (S.view.flash source.old).image) }
+    ensures same { OnOk result (S.view.honest source.old ≡ true → S.view.flash source.new ≡ S.view.flash source.old) }
+    ensures only_reads { OnlyReads S.view source.old source.new }
+    ensures reads { OnOk result (S.view.reads source.old + 2 * geometry.now.blocks < 2 ^ 64 →
+        S.view.reads source.new ≡ S.view.reads source.old + 2 * geometry.now.blocks) }
+    ensures most_reads { S.view.reads source.new ≤ S.view.reads source.old + 2 * geometry.now.blocks }
+    ensures rose { OnErr result (HasRisen (S.view.failed source.old) (S.view.failed source.new)) }
 {
     for block in 0..geometry.blocks() {
         marks[block as usize] = is_marked(source, geometry, block, body, spare)?;
@@ -122,18 +122,18 @@ pub fn factory_scan<S: PageSource>(
     source: &mut S,
     geometry: &Geometry,
 ) -> Result<Vec<bool>, ScanFault>
-    requires { (S.flash source.old).geometry ≡ geometry.now }
-    ensures marks { IfOk result (λ marks. S.honest source.old ≡ true → marks.items ≡ factory_marks geometry.now (S.flash source.old).image) }
+    requires { (S.view.flash source.old).geometry ≡ geometry.now }
+    ensures marks { IfOk result (λ marks. S.view.honest source.old ≡ true → marks.items ≡ factory_marks geometry.now (S.view.flash source.old).image) }
     ensures whole { IfOk result (λ marks. vec_len marks ≡ geometry.now.blocks) }
-    ensures source { IsErrOf result ScanFault.Source → HasRisen (S.failed source.old) (S.failed source.new) }
+    ensures source { IsErrOf result ScanFault.Source → HasRisen (S.view.failed source.old) (S.view.failed source.new) }
     ensures memory { IsErrOf result ScanFault.OutOfMemory → source.new ≡ source.old }
 
     // Nothing but the counts of reads and faults changes.
-    ensures same { OnOk result (S.honest source.old ≡ true → S.flash source.new ≡ S.flash source.old) }
-    ensures only_reads { OnlyReads S.flash S.honest S.calm S.programs S.erases S.failed source.old source.new }
-    ensures reads { OnOk result (S.reads source.old + 2 * geometry.now.blocks < 2 ^ 64 →
-        S.reads source.new ≡ S.reads source.old + 2 * geometry.now.blocks) }
-    ensures most_reads { S.reads source.new ≤ S.reads source.old + 2 * geometry.now.blocks }
+    ensures same { OnOk result (S.view.honest source.old ≡ true → S.view.flash source.new ≡ S.view.flash source.old) }
+    ensures only_reads { OnlyReads S.view source.old source.new }
+    ensures reads { OnOk result (S.view.reads source.old + 2 * geometry.now.blocks < 2 ^ 64 →
+        S.view.reads source.new ≡ S.view.reads source.old + 2 * geometry.now.blocks) }
+    ensures most_reads { S.view.reads source.new ≤ S.view.reads source.old + 2 * geometry.now.blocks }
 {
     let mut body = vec![in alloc; 0; geometry.data_bytes()]?;
     let mut spare = vec![in alloc; 0; geometry.spare_bytes()]?;

@@ -1,9 +1,8 @@
 -- One request is answered.
-use Rattle.std.proofs.Common.{◌≡◌, ℕ, Bool, List, [], Option, Some, None, Result, Ok, Err, length, sym, subst, ap, ◌∙◌, refl}
+use Rattle.std.proofs.Common.{◌≡◌, ℕ, List, [], Option, Some, None, Result, Ok, Err, length, sym, subst, ap, ◌∙◌, refl}
 use Rattle.std.specs.Io.KnownBytes.{Appends}
+use Rattle.page_layout.specs.View.{View}
 use Rattle.page_layout.specs.declared.geometry.Geometry.{Geometry}
-use Rattle.page_layout.specs.Flash.{Flash}
-use Rattle.page_layout.specs.Recording.{Recording}
 use Rattle.promises.specs.Stream.{IsRequest, IsBeginning, command_by, command_of, status_of, reply_body, reply_bytes}
 use Rattle.promises.specs.declared.stream.Op.{Op}
 use Rattle.promises.specs.declared.stream.Op.TheVariants.{Read, Write, Trim, Flush, Turn}
@@ -97,11 +96,11 @@ room_of g body bytes told.Turn is size room = tt
 
 -- ---- the next request
 
-module _ {N : Type 0} (flash : N → Flash) (recorded : N → Option Recording) (honest : N → Bool) (failed erases : N → ℕ) (old new : Device N) (u v b a : Option (List ℕ)) (buffer : List ℕ) (size : length buffer ≡ old.engine.geometry.data_bytes) where
+module _ {N : Type 0} (view : View N) (old new : Device N) (u v b a : Option (List ℕ)) (buffer : List ℕ) (size : length buffer ≡ old.engine.geometry.data_bytes) where
   -- a reply was written, whole or in part
   pub served : (h : Header) (writes : List ℕ → Type 0) (x : Exchange) → ReadsRequest (length buffer) u v buffer (Ok (next.Whole h))
-      → x.command ≡ command_of (request_at h buffer) → Tells flash recorded honest failed erases old x new
-      → writes (reply_bytes (request_at h buffer) (reply_in x)) → HasServed flash recorded honest failed erases old new u v writes
+      → x.command ≡ command_of (request_at h buffer) → Tells view old x new
+      → writes (reply_bytes (request_at h buffer) (reply_in x)) → HasServed view old new u v writes
   served h writes x read command tells wrote = record {
     request = request_at h buffer;
     exchange = x;
@@ -113,18 +112,18 @@ module _ {N : Type 0} (flash : N → Flash) (recorded : N → Option Recording) 
   }
 
   pub next_served : (h : Header) (done : Unit {0}) → ReadsRequest (length buffer) u v buffer (Ok (next.Whole h))
-      → AnswersRequest flash recorded honest failed erases old new (request_at h buffer) b a (Ok done)
-      → ServesNext flash recorded honest failed erases old new u v b a (Ok None)
+      → AnswersRequest view old new (request_at h buffer) b a (Ok done)
+      → ServesNext view old new u v b a (Ok None)
   next_served h done read answers = served h (Appends b a) answers.exchange read answers.command_is answers.tells answers.sends
 
-  pub next_unsent : (h : Header) (e : ServeFault) → ReadsRequest (length buffer) u v buffer (Ok (next.Whole h)) → AnswersRequest flash recorded honest failed erases old new (request_at h buffer) b a (Err e) → ServesNext flash recorded honest failed erases old new u v b a (Err e)
+  pub next_unsent : (h : Header) (e : ServeFault) → ReadsRequest (length buffer) u v buffer (Ok (next.Whole h)) → AnswersRequest view old new (request_at h buffer) b a (Err e) → ServesNext view old new u v b a (Err e)
   next_unsent h e read answers =
-      subst (λ k. ServesNext flash recorded honest failed erases old new u v b a (Err k)) (sym answers.sends.0) (served h (AppendsFront b a) answers.exchange read answers.command_is answers.tells answers.sends.1)
+      subst (λ k. ServesNext view old new u v b a (Err k)) (sym answers.sends.0) (served h (AppendsFront b a) answers.exchange read answers.command_is answers.tells answers.sends.1)
 
-module _ {N : Type 0} (flash : N → Flash) (recorded : N → Option Recording) (honest : N → Bool) (failed erases : N → ℕ) (old : Device N) (u v b : Option (List ℕ)) (buffer : List ℕ) (size : length buffer ≡ old.engine.geometry.data_bytes) where
-  pub next_ended : (end : End) → ReadsRequest (length buffer) u v buffer (Ok (next.Ended end)) → ServesNext flash recorded honest failed erases old old u v b b (Ok (Some end))
+module _ {N : Type 0} (view : View N) (old : Device N) (u v b : Option (List ℕ)) (buffer : List ℕ) (size : length buffer ≡ old.engine.geometry.data_bytes) where
+  pub next_ended : (end : End) → ReadsRequest (length buffer) u v buffer (Ok (next.Ended end)) → ServesNext view old old u v b b (Ok (Some end))
   next_ended end (tail, rests, read) = record { tail = tail; is = subst (λ k. Rests k end tail v) size rests; read = read; same = refl; kept = refl }
 
-  pub next_unread : (e : ServeFault) → ReadsRequest (length buffer) u v buffer (Err e) → ServesNext flash recorded honest failed erases old old u v b b (Err e)
+  pub next_unread : (e : ServeFault) → ReadsRequest (length buffer) u v buffer (Err e) → ServesNext view old old u v b b (Err e)
   next_unread e (is, tail, begins, read) =
-      subst (λ k. ServesNext flash recorded honest failed erases old old u v b b (Err k)) (sym is) (record { tail = tail; is = subst (λ k. IsBeginning k tail) size begins; read = read; same = refl; kept = refl })
+      subst (λ k. ServesNext view old old u v b b (Err k)) (sym is) (record { tail = tail; is = subst (λ k. IsBeginning k tail) size begins; read = read; same = refl; kept = refl })

@@ -1,12 +1,12 @@
 -- What was served over a checked die.
 use Rattle.std.proofs.Common.{◌≡◌, ◌≢◌, ◌⊎◌, inl, inr, ℕ, ◌≤◌, Bool, true, List, arith, Option, None, Result, Ok, Err, refl, sym, ap, subst, ◌∙◌}
 use Rattle.std.specs.Prelude.{is_some}
+use Rattle.page_layout.specs.View.{View}
 use Rattle.page_layout.specs.declared.geometry.Geometry.{Geometry}
 use Rattle.page_layout.specs.Page.{IsImage}
 use Rattle.page_layout.specs.Array.{HasOneArray}
 use Rattle.page_layout.specs.Counter.{HasRisen}
 use Rattle.page_layout.specs.Flash.{Flash}
-use Rattle.page_layout.specs.Recording.{Recording}
 use Rattle.certificate.specs.Claim.{Claim}
 use Rattle.allocation.specs.View.{state}
 use Rattle.promises.specs.Run.{log_of}
@@ -61,61 +61,61 @@ pub refusal_is : (e : Refusal) → e ≡ Source → refused_as e ≡ refused_as 
 refusal_is e is = ap refused_as is
 
 -- the run of the headline, its log, and the calls that are its events
-record RunsLegally {N : Type 0} (flash : N → Flash) (recorded : N → Option Recording) (honest : N → Bool) (failed erases : N → ℕ) (d e : Device N) (g : Geometry) (c : Claim) (s t : Flash) (ro pinned : Bool) (xs : List Exchange) : Type 0 where
+record RunsLegally {N : Type 0} (view : View N) (d e : Device N) (g : Geometry) (c : Claim) (s t : Flash) (ro pinned : Bool) (xs : List Exchange) : Type 0 where
   pub run : HasRun (accepted_first g c) (accepted_device s c) (record { flash = t; ro = ro; pinned = pinned }) xs
   pub legal : IsLegal g s.image (is_bad_in c) (log_of run.events)
-  pub each : HappensEach flash recorded honest failed erases d run.events xs e
+  pub each : HappensEach view d run.events xs e
 
 -- Of a die as it was handed in, as the checker left it, and as the device gives it back.
-module _ {N : Type 0} (flash : N → Flash) (recorded : N → Option Recording) (honest calm : N → Bool) (failed erases : N → ℕ) (nand checked given : N) (g : Geometry) (capacity : ℕ) (c : Claim) (a : Acceptance) (d : Device N)
-    (sized : (flash nand).geometry ≡ g) (sized' : (flash checked).geometry ≡ (flash nand).geometry)
-    (honest_is : honest checked ≡ honest nand) (calm_is : calm checked ≡ calm nand) (failed_is : failed nand ≤ failed checked)
-    (same : honest nand ≡ true → flash checked ≡ flash nand) (told : honest nand ≡ true → recorded checked ≡ recorded nand) (whole : honest nand ≡ true → IsImage g (flash nand).image)
-    (claim_is : a.claim ≡ c) (acceptance : honest nand ≡ true → IsAcceptance g capacity (flash nand).image c a)
-    (device : IsDevice flash d) (nand_is : d.engine.nand ≡ checked) (begun : ram d.engine ≡ begun_ram (flash checked).geometry a.claim a.stale)
-    (truth : honest checked ≡ true → IsAcceptedFor (flash checked) a → IsTrue None (ram d.engine) (image_in flash d.engine))
-    (free : honest checked ≡ true → IsAcceptedFor (flash checked) a → d.read_only ≡ is_scarce (free_in (flash checked).geometry a.claim (flash checked).image))
-    (accounts : honest checked ≡ true → IsAcceptedFor (flash checked) a → IsAccounted (accounts_of (flash checked).geometry (flash checked).image (is_bad_in a.claim)) (state d.engine.blocks)) where
+module _ {N : Type 0} (view : View N) (nand checked given : N) (g : Geometry) (capacity : ℕ) (c : Claim) (a : Acceptance) (d : Device N)
+    (sized : (view.flash nand).geometry ≡ g) (sized' : (view.flash checked).geometry ≡ (view.flash nand).geometry)
+    (honest_is : view.honest checked ≡ view.honest nand) (calm_is : view.calm checked ≡ view.calm nand) (failed_is : view.failed nand ≤ view.failed checked)
+    (same : view.honest nand ≡ true → view.flash checked ≡ view.flash nand) (told : view.honest nand ≡ true → view.recorded checked ≡ view.recorded nand) (whole : view.honest nand ≡ true → IsImage g (view.flash nand).image)
+    (claim_is : a.claim ≡ c) (acceptance : view.honest nand ≡ true → IsAcceptance g capacity (view.flash nand).image c a)
+    (device : IsDevice view.flash d) (nand_is : d.engine.nand ≡ checked) (begun : ram d.engine ≡ begun_ram (view.flash checked).geometry a.claim a.stale)
+    (truth : view.honest checked ≡ true → IsAcceptedFor (view.flash checked) a → IsTrue None (ram d.engine) (image_in view.flash d.engine))
+    (free : view.honest checked ≡ true → IsAcceptedFor (view.flash checked) a → d.read_only ≡ is_scarce (free_in (view.flash checked).geometry a.claim (view.flash checked).image))
+    (accounts : view.honest checked ≡ true → IsAcceptedFor (view.flash checked) a → IsAccounted (accounts_of (view.flash checked).geometry (view.flash checked).image (is_bad_in a.claim)) (state d.engine.blocks)) where
   pub geometry_is : d.engine.geometry ≡ g
   geometry_is = ap (λ (r : Ram). r.geometry) begun ∙ (sized' ∙ sized)
 
-  accepted : honest nand ≡ true → IsAcceptedFor (flash checked) a
-  accepted h = accepted_for (flash nand) (flash checked) g capacity c a (same h) sized (whole h) (acceptance h)
+  accepted : view.honest nand ≡ true → IsAcceptedFor (view.flash checked) a
+  accepted h = accepted_for (view.flash nand) (view.flash checked) g capacity c a (same h) sized (whole h) (acceptance h)
 
-  known_truth : honest nand ≡ true → IsTrue None (ram d.engine) (image_in flash d.engine)
+  known_truth : view.honest nand ≡ true → IsTrue None (ram d.engine) (image_in view.flash d.engine)
   known_truth h = truth (honest_is ∙ h) (accepted h)
 
-  pub well : honest nand ≡ true → IsWell flash d
-  well h = started_well flash d (flash checked).geometry a.claim a.stale begun (known_truth h)
+  pub well : view.honest nand ≡ true → IsWell view.flash d
+  well h = started_well view.flash d (view.flash checked).geometry a.claim a.stale begun (known_truth h)
 
   -- it is read-only just where fewer than five blocks are free in the image
-  pub closed_as : honest nand ≡ true → d.read_only ≡ is_scarce (free_in g c (flash nand).image)
+  pub closed_as : view.honest nand ≡ true → d.read_only ≡ is_scarce (free_in g c (view.flash nand).image)
   closed_as h =
       free (honest_is ∙ h) (accepted h) ∙ (ap (λ (f : Flash). is_scarce (free_in f.geometry a.claim f.image)) (same h)
-      ∙ (ap (λ k. is_scarce (free_in k a.claim (flash nand).image)) sized ∙ ap (λ k. is_scarce (free_in g k (flash nand).image)) claim_is))
+      ∙ (ap (λ k. is_scarce (free_in k a.claim (view.flash nand).image)) sized ∙ ap (λ k. is_scarce (free_in g k (view.flash nand).image)) claim_is))
 
-  one_array : honest nand ≡ true → HasOneArray g (flash nand).image
+  one_array : view.honest nand ≡ true → HasOneArray g (view.flash nand).image
   one_array h =
-      subst (λ (f : Flash). HasOneArray g f.image) (ap flash nand_is ∙ same h)
-      (subst (λ k. HasOneArray k (image_in flash d.engine)) geometry_is (known_truth h).one)
+      subst (λ (f : Flash). HasOneArray g f.image) (ap view.flash nand_is ∙ same h)
+      (subst (λ k. HasOneArray k (image_in view.flash d.engine)) geometry_is (known_truth h).one)
 
   -- the exchanges that lead to this device
-  module _ (xs : List Exchange) (e : Device N) (runs_to : RunsTo flash recorded honest failed erases d xs e) where
-    runs : honest nand ≡ true → RunsLegally flash recorded honest failed erases d e g c (flash nand) (flash e.engine.nand) e.read_only (is_some e.engine.pinned) xs
+  module _ (xs : List Exchange) (e : Device N) (runs_to : RunsTo view d xs e) where
+    runs : view.honest nand ≡ true → RunsLegally view d e g c (view.flash nand) (view.flash e.engine.nand) e.read_only (is_some e.engine.pinned) xs
     runs h =
-        let ran : Ran flash recorded honest failed erases d xs e = (runs_to.1 (ap honest nand_is ∙ (honest_is ∙ h)) (well h)).1 in
-        let from : RanFrom flash recorded honest failed erases (flash checked) a.claim xs e = ran_accepted flash recorded honest failed erases
-        (flash checked) a d e xs (ap flash nand_is) begun (accepted h) (free (honest_is ∙ h) (accepted h)) (accounts (honest_is ∙ h) (accepted h))
+        let ran : Ran view d xs e = (runs_to.1 (ap view.honest nand_is ∙ (honest_is ∙ h)) (well h)).1 in
+        let from : RanFrom view (view.flash checked) a.claim xs e = ran_accepted view
+        (view.flash checked) a d e xs (ap view.flash nand_is) begun (accepted h) (free (honest_is ∙ h) (accepted h)) (accounts (honest_is ∙ h) (accepted h))
         ran in
-        let each = ran_each flash recorded honest failed erases (flash checked) a d e xs (ap flash nand_is) begun (accepted h) (free (honest_is ∙ h) (accepted h)) (accounts (honest_is ∙ h) (accepted h)) ran in
-        let first : RunsLegally flash recorded honest failed erases d e (flash checked).geometry a.claim (flash checked) (flash e.engine.nand) e.read_only (is_some e.engine.pinned) xs = record { run = from.run; legal = from.legal; each = each } in
-        let then : RunsLegally flash recorded honest failed erases d e (flash nand).geometry a.claim (flash nand) (flash e.engine.nand) e.read_only (is_some e.engine.pinned) xs =
-        subst (λ (f : Flash). RunsLegally flash recorded honest failed erases d e f.geometry a.claim f (flash e.engine.nand) e.read_only (is_some e.engine.pinned) xs) (same h) first in
-        let there : RunsLegally flash recorded honest failed erases d e g a.claim (flash nand) (flash e.engine.nand) e.read_only (is_some e.engine.pinned) xs =
-        subst (λ k. RunsLegally flash recorded honest failed erases d e k a.claim (flash nand) (flash e.engine.nand) e.read_only (is_some e.engine.pinned) xs) sized then in
-        subst (λ k. RunsLegally flash recorded honest failed erases d e g k (flash nand) (flash e.engine.nand) e.read_only (is_some e.engine.pinned) xs) claim_is there
+        let each = ran_each view (view.flash checked) a d e xs (ap view.flash nand_is) begun (accepted h) (free (honest_is ∙ h) (accepted h)) (accounts (honest_is ∙ h) (accepted h)) ran in
+        let first : RunsLegally view d e (view.flash checked).geometry a.claim (view.flash checked) (view.flash e.engine.nand) e.read_only (is_some e.engine.pinned) xs = record { run = from.run; legal = from.legal; each = each } in
+        let then : RunsLegally view d e (view.flash nand).geometry a.claim (view.flash nand) (view.flash e.engine.nand) e.read_only (is_some e.engine.pinned) xs =
+        subst (λ (f : Flash). RunsLegally view d e f.geometry a.claim f (view.flash e.engine.nand) e.read_only (is_some e.engine.pinned) xs) (same h) first in
+        let there : RunsLegally view d e g a.claim (view.flash nand) (view.flash e.engine.nand) e.read_only (is_some e.engine.pinned) xs =
+        subst (λ k. RunsLegally view d e k a.claim (view.flash nand) (view.flash e.engine.nand) e.read_only (is_some e.engine.pinned) xs) sized then in
+        subst (λ k. RunsLegally view d e g k (view.flash nand) (view.flash e.engine.nand) e.read_only (is_some e.engine.pinned) xs) claim_is there
 
-    holds_to : HoldsTo flash recorded honest failed erases nand g capacity c d xs e
+    holds_to : HoldsTo view nand g capacity c d xs e
     holds_to h =
         let its = runs h in
         record {
@@ -126,41 +126,41 @@ module _ {N : Type 0} (flash : N → Flash) (recorded : N → Option Recording) 
         }
 
     -- the call that came then, and that the bus failed in
-    has_failed : (x : Exchange) (f : Device N) → AreKnown xs → x.result ≡ Err BusFault → Tells flash recorded honest failed erases e x f → HasBusFailed flash recorded honest failed erases e x f
-    has_failed x f known bus tells = record { tells = tells; rose = fault_rose flash recorded honest failed erases e f x tells (runs_to.0.going (ap (λ (r : Ram). stop_of r.fault) begun) known) bus }
+    has_failed : (x : Exchange) (f : Device N) → AreKnown xs → x.result ≡ Err BusFault → Tells view e x f → HasBusFailed view e x f
+    has_failed x f known bus tells = record { tells = tells; rose = fault_rose view e f x tells (runs_to.0.going (ap (λ (r : Ram). stop_of r.fault) begun) known) bus }
 
   -- the device as it was started
-  pub is_begun : IsBegun flash recorded honest failed nand g c d
+  pub is_begun : IsBegun view nand g c d
   is_begun = record {
     device = device;
     stale = a.stale;
     begun = begun ∙ (ap (λ k. begun_ram k a.claim a.stale) (sized' ∙ sized) ∙ ap (λ k. begun_ram g k a.stale) claim_is);
     stale_is = λ h. (acceptance h).stale_is;
-    same = λ h. ap flash nand_is ∙ same h;
-    told = λ h. ap recorded nand_is ∙ told h;
-    honest_is = ap honest nand_is ∙ honest_is;
-    failed_is = subst (λ n. failed nand ≤ failed n) (sym nand_is) failed_is;
+    same = λ h. ap view.flash nand_is ∙ same h;
+    told = λ h. ap view.recorded nand_is ∙ told h;
+    honest_is = ap view.honest nand_is ∙ honest_is;
+    failed_is = subst (λ n. view.failed nand ≤ view.failed n) (sym nand_is) failed_is;
   }
 
   module _ (e : Device N) (given_is : given ≡ e.engine.nand) where
     abbrev Rose : List Exchange → N → Type 0
-    Rose xs n = AreKnown xs ⊎ HasRisen (failed nand) (failed n)
+    Rose xs n = AreKnown xs ⊎ HasRisen (view.failed nand) (view.failed n)
 
-    rose_by : (xs : List Exchange) → AreKnown xs ⊎ HasRisen (failed d.engine.nand) (failed e.engine.nand) → Rose xs given
+    rose_by : (xs : List Exchange) → AreKnown xs ⊎ HasRisen (view.failed d.engine.nand) (view.failed e.engine.nand) → Rose xs given
     rose_by xs (inl known) = inl known
     rose_by xs (inr risen) =
-        let from : HasRisen (failed checked) (failed e.engine.nand) = subst (λ n. HasRisen (failed n) (failed e.engine.nand)) nand_is risen in
-        inr (subst (λ n. HasRisen (failed nand) (failed n)) (sym given_is) (risen_over (failed nand) (failed checked) (failed e.engine.nand) failed_is from))
+        let from : HasRisen (view.failed checked) (view.failed e.engine.nand) = subst (λ n. HasRisen (view.failed n) (view.failed e.engine.nand)) nand_is risen in
+        inr (subst (λ n. HasRisen (view.failed nand) (view.failed n)) (sym given_is) (risen_over (view.failed nand) (view.failed checked) (view.failed e.engine.nand) failed_is from))
 
-    holds_until : (xs : List Exchange) → Until (RunsTo flash recorded honest failed erases d) (Tells flash recorded honest failed erases) xs e → Until (HoldsTo flash recorded honest failed erases nand g capacity c d) (HasBusFailed flash recorded honest failed erases) xs e
+    holds_until : (xs : List Exchange) → Until (RunsTo view d) (Tells view) xs e → Until (HoldsTo view nand g capacity c d) (HasBusFailed view) xs e
     holds_until xs until =
-        until_so (λ f. f) (RunsTo flash recorded honest failed erases d) (HoldsTo flash recorded honest failed erases nand g capacity c d)
-        (Tells flash recorded honest failed erases) (HasBusFailed flash recorded honest failed erases) xs e holds_to
+        until_so (λ f. f) (RunsTo view d) (HoldsTo view nand g capacity c d)
+        (Tells view) (HasBusFailed view) xs e holds_to
         (λ before mid x known runs_to bus tells. has_failed before mid runs_to x e known bus tells) until
 
-    pub is_served : (u v b w : Option (List ℕ)) (result : Result Served ServeFault) → calm e.engine.nand ≡ calm d.engine.nand
-        → Session flash recorded honest failed erases d e u v b w result
-        → IsServed flash recorded honest calm failed erases nand g capacity c u v b w result given
+    pub is_served : (u v b w : Option (List ℕ)) (result : Result Served ServeFault) → view.calm e.engine.nand ≡ view.calm d.engine.nand
+        → Session view d e u v b w result
+        → IsServed view nand g capacity c u v b w result given
     is_served u v b w result still session =
         let calls = session.told.calls in
         record {
@@ -170,10 +170,10 @@ module _ {N : Type 0} (flash : N → Flash) (recorded : N → Option Recording) 
           stream = subst (λ (k : Geometry). ServesRequests k.data_bytes u v b w session.requests (replies_in session.exchanges) result) geometry_is session.stream;
           stays = calls.stays;
           back = record {
-            honest_is = ap honest given_is ∙ (calls.honest_is ∙ (ap honest nand_is ∙ honest_is));
-            calm_is = ap calm given_is ∙ (still ∙ (ap calm nand_is ∙ calm_is));
-            sized = ap (λ n. (flash n).geometry) given_is ∙ (calls.device.engine.geometry ∙ (calls.sized ∙ geometry_is));
-            failed_is = omega (arith, failed_is, ap failed nand_is, calls.failed_is, ap failed given_is);
+            honest_is = ap view.honest given_is ∙ (calls.honest_is ∙ (ap view.honest nand_is ∙ honest_is));
+            calm_is = ap view.calm given_is ∙ (still ∙ (ap view.calm nand_is ∙ calm_is));
+            sized = ap (λ n. (view.flash n).geometry) given_is ∙ (calls.device.engine.geometry ∙ (calls.sized ∙ geometry_is));
+            failed_is = omega (arith, failed_is, ap view.failed nand_is, calls.failed_is, ap view.failed given_is);
           };
           first = d;
           last = e;

@@ -1,5 +1,6 @@
 -- What each part of the headline is for, and of the device that it begins with.
-use Rattle.std.proofs.Common.{◌≡◌, ℕ, Bool, true, List, ◌∷◌, ◌++◌, Option, sym, ap, subst, ◌∙◌}
+use Rattle.std.proofs.Common.{◌≡◌, ℕ, true, List, ◌∷◌, ◌++◌, Option, sym, ap, subst, ◌∙◌}
+use Rattle.page_layout.specs.View.{View}
 use Rattle.page_layout.specs.declared.geometry.Geometry.{Geometry}
 use Rattle.page_layout.specs.Flash.{Flash, Operation, Program}
 use Rattle.page_layout.specs.Recording.{Recording, Records}
@@ -40,36 +41,36 @@ pub headline_once : HeadlineOnceLaw
 headline_once g capacity c s t xs before between after row p q left left' passed passed' h cut =
     not_twice g s.image (is_bad_in c) before between after row p q left left' passed passed' (subst (λ (l : List Operation). IsLegal g s.image (is_bad_in c) l) cut h.legal)
 
-module _ {N : Type 0} (flash : N → Flash) (recorded : N → Option Recording) (honest : N → Bool) (failed : N → ℕ) where
-  pub begun_image : BegunImageLaw flash recorded honest failed
+module _ {N : Type 0} (view : View N) where
+  pub begun_image : BegunImageLaw view
   begun_image nand g c first is h = (is.same h, is.begun ∙ ap (begun_ram g c) (is.stale_is h))
 
-  pub begun_record : BegunRecordLaw flash recorded honest failed
+  pub begun_record : BegunRecordLaw view
   begun_record nand g c first is h = is.told h
 
-  pub begun_counts : BegunCountsLaw flash recorded honest failed
+  pub begun_counts : BegunCountsLaw view
   begun_counts nand g c first is = (is.honest_is, is.failed_is)
 
-  pub served_record : (erases : N → ℕ) → ServedRecordLaw flash recorded honest failed erases
+  pub served_record : (erases : N → ℕ) → ServedRecordLaw view erases
   served_record erases nand g capacity c first new xs is h holds =
-      subst (λ (r : Option Recording). Records r (log_of holds.headline.run.events) (recorded new.engine.nand)) (begun_record nand g c first is h)
-      (run_records flash recorded honest failed erases first new holds.headline.run.events xs holds.each)
+      subst (λ (r : Option Recording). Records r (log_of holds.headline.run.events) (view.recorded new.engine.nand)) (begun_record nand g c first is h)
+      (run_records view erases first new holds.headline.run.events xs holds.each)
 
-  pub failed_call : (erases : N → ℕ) → FailedCallLaw flash recorded honest failed erases
+  pub failed_call : (erases : N → ℕ) → FailedCallLaw view erases
   failed_call erases old new x its = its.rose
 
-module _ {N : Type 0} (flash : N → Flash) (recorded : N → Option Recording) (honest calm : N → Bool) (failed erases : N → ℕ) where
-  pub served_law : ServedLaw flash recorded honest calm failed erases
+module _ {N : Type 0} (view : View N) where
+  pub served_law : ServedLaw view
   served_law nand g capacity c unread left before after result given s = (
     s.commands,
     s.each,
     λ h known.
-        let all = until_known (HoldsTo flash recorded honest failed erases nand g capacity c s.first) (HasBusFailed flash recorded honest failed erases) s.exchanges s.last s.headline known h in
-        subst (λ (f : Flash). Headline g capacity c (flash nand) f s.exchanges) (ap flash (sym s.given_is)) all.headline,
+        let all = until_known (HoldsTo view nand g capacity c s.first) (HasBusFailed view) s.exchanges s.last s.headline known h in
+        subst (λ (f : Flash). Headline g capacity c (view.flash nand) f s.exchanges) (ap view.flash (sym s.given_is)) all.headline,
   )
 
-  pub back_law : BackLaw flash honest calm failed
+  pub back_law : BackLaw view
   back_law nand g given back = (back.honest_is, back.calm_is, back.sized, back.failed_is)
 
-  pub unserved_law : UnservedLaw flash honest calm failed
+  pub unserved_law : UnservedLaw view
   unserved_law nand g capacity c why given h = (λ its. (its.refused h, λ other. its.same other h), λ its. (its.agrees h, its.same h))

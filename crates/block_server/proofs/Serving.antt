@@ -1,13 +1,12 @@
 -- How a session goes on, and how it ends.
-use Rattle.std.proofs.Common.{◌≡◌, ◌≢◌, ◌+◌, ℕ, Bool, List, [], ◌∷◌, ◌++◌, Option, Some, None, Result, Ok, Err, map, length, sym}
+use Rattle.std.proofs.Common.{◌≡◌, ◌≢◌, ◌+◌, ℕ, List, [], ◌∷◌, ◌++◌, Option, Some, None, Result, Ok, Err, map, length, sym}
 use Rattle.std.proofs.Common.{subst, ap, ◌∙◌, refl, append_assoc, append-nil, length-append, arith, inl, inr, lit<}
 use Rattle.std.specs.Prelude.{IfSome}
 use Rattle.std.specs.List.{flat_map}
 use Rattle.std.proofs.lemmas.List.{map-append, take_at, length-map}
 use Rattle.std.specs.Io.KnownBytes.{Appends, Consumes}
 use Rattle.std.proofs.KnownBytes.{Appends-trans, Appends-nil, Consumes-trans, Consumes-nil, Keeps-refl}
-use Rattle.page_layout.specs.Flash.{Flash}
-use Rattle.page_layout.specs.Recording.{Recording}
+use Rattle.page_layout.specs.View.{View}
 use Rattle.promises.specs.Stream.{Request, IsRequest, IsBeginning, IsRest, Splits, command_of, is_header, request_bytes, reply_bytes, replies_bytes}
 use Rattle.promises.specs.Stream.{last_bytes}
 use Rattle.promises.specs.declared.stream.End.{End}
@@ -41,28 +40,28 @@ as_many xs rs e =
 -- ---- a session so far
 
 -- so many requests were read and told to the device, and of their replies so much was written
-pub record IsServing {N : Type 0} (flash : N → Flash) (recorded : N → Option Recording) (honest : N → Bool) (failed erases : N → ℕ) (old now : Device N) (unread left : Option (List ℕ)) (writes : List ℕ → Type 0) (count : ℕ) : Type 0 where
+pub record IsServing {N : Type 0} (view : View N) (old now : Device N) (unread left : Option (List ℕ)) (writes : List ℕ → Type 0) (count : ℕ) : Type 0 where
   pub requests : List Request
   pub exchanges : List Exchange
   pub commands : commands_in exchanges ≡ map command_of requests
-  pub told : WasTold flash recorded honest failed erases old exchanges now
+  pub told : WasTold view old exchanges now
   pub read : ReadsRequests old.engine.geometry.data_bytes unread left requests []
   pub counted : count ≡ length requests
   pub written : writes (replies_bytes requests (replies_in exchanges))
 
-module _ {N : Type 0} (flash : N → Flash) (recorded : N → Option Recording) (honest : N → Bool) (failed erases : N → ℕ) (old : Device N) where
-  pub serving_none : (u b : Option (List ℕ)) → IsDevice flash old → IsServing flash recorded honest failed erases old old u u (Appends b b) 0
+module _ {N : Type 0} (view : View N) (old : Device N) where
+  pub serving_none : (u b : Option (List ℕ)) → IsDevice view.flash old → IsServing view old old u u (Appends b b) 0
   serving_none u b device = record {
     requests = [];
     exchanges = [];
     commands = refl;
-    told = told_none flash recorded honest failed erases old device;
+    told = told_none view old device;
     read = record { each = tt; bytes = Consumes-nil u };
     counted = refl;
     written = Appends-nil b;
   }
 
-  module _ (mid : Device N) (u v b c : Option (List ℕ)) (n : ℕ) (safe : IsDevice flash old) (so_far : IsServing flash recorded honest failed erases old mid u v (Appends b c) n) where
+  module _ (mid : Device N) (u v b c : Option (List ℕ)) (n : ℕ) (safe : IsDevice view.flash old) (so_far : IsServing view old mid u v (Appends b c) n) where
     size_is : mid.engine.geometry.data_bytes ≡ old.engine.geometry.data_bytes
     size_is = ap (λ g. g.data_bytes) so_far.told.calls.sized
 
@@ -74,9 +73,9 @@ module _ {N : Type 0} (flash : N → Flash) (recorded : N → Option Recording) 
 
     -- one request more, whose reply is sent whole or in part
     pub serving_more : (new : Device N) (w : Option (List ℕ)) (writes sends : List ℕ → Type 0)
-        → HasServed flash recorded honest failed erases mid new v w writes
+        → HasServed view mid new v w writes
         → ((front bytes : List ℕ) → Appends b c front → writes bytes → sends (front ++ bytes))
-        → IsServing flash recorded honest failed erases old new u w sends (n + 1)
+        → IsServing view old new u w sends (n + 1)
     serving_more new w writes sends one joins =
         let rs : List Request = so_far.requests in
         let xs : List Exchange = so_far.exchanges in
@@ -91,7 +90,7 @@ module _ {N : Type 0} (flash : N → Flash) (recorded : N → Option Recording) 
           requests = rs ++ r ∷ [];
           exchanges = xs ++ x ∷ [];
           commands = map-append (λ (y : Exchange). y.command) xs (x ∷ []) ∙ (ap (λ l. l ++ x.command ∷ []) so_far.commands ∙ (ap (λ k. map command_of rs ++ k ∷ []) one.command_is ∙ sym (map-append command_of rs (r ∷ []))));
-          told = told_more flash recorded honest failed erases old mid new xs x safe so_far.told one.tells;
+          told = told_more view old mid new xs x safe so_far.told one.tells;
           read = record {
             each = all_more (IsRequest old.engine.geometry.data_bytes) rs r so_far.read.each (subst (λ k. IsRequest k r) size_is one.whole);
             bytes = subst (Consumes u w) (sym (append-nil whole ∙ requests_more rs r)) later.bytes;
@@ -102,11 +101,11 @@ module _ {N : Type 0} (flash : N → Flash) (recorded : N → Option Recording) 
 
     -- ---- the end
 
-    told_so : (new : Device N) → new ≡ mid → WasTold flash recorded honest failed erases old so_far.exchanges new
-    told_so new same = subst (λ d. WasTold flash recorded honest failed erases old so_far.exchanges d) (sym same) so_far.told
+    told_so : (new : Device N) → new ≡ mid → WasTold view old so_far.exchanges new
+    told_so new same = subst (λ d. WasTold view old so_far.exchanges d) (sym same) so_far.told
 
     -- a reply could not be written, or a read failed
-    pub stopped : (new : Device N) (w a : Option (List ℕ)) (e : ServeFault) → ServesNext flash recorded honest failed erases mid new v w c a (Err e) → Session flash recorded honest failed erases old new u w b a (Err e)
+    pub stopped : (new : Device N) (w a : Option (List ℕ)) (e : ServeFault) → ServesNext view mid new v w c a (Err e) → Session view old new u w b a (Err e)
     stopped new w a fault.Read one = record {
       requests = so_far.requests;
       exchanges = so_far.exchanges;
@@ -125,7 +124,7 @@ module _ {N : Type 0} (flash : N → Flash) (recorded : N → Option Recording) 
     stopped new w a fault.OutOfMemory one = absurd one
 
     -- as many requests were answered as can be counted
-    pub counted_out : Session flash recorded honest failed erases old mid u v b c (Err fault.Read)
+    pub counted_out : Session view old mid u v b c (Err fault.Read)
     counted_out = record {
       requests = so_far.requests;
       exchanges = so_far.exchanges;
@@ -156,7 +155,7 @@ module _ {N : Type 0} (flash : N → Flash) (recorded : N → Option Recording) 
         ends = ends_so end tail left rest;
       }
 
-      pub finished : (count : ℕ) → Appends d a (last_bytes end) → count ≡ last_count end → Session flash recorded honest failed erases old new u w b a (Ok (record { replies = n + count; end = end }))
+      pub finished : (count : ℕ) → Appends d a (last_bytes end) → count ≡ last_count end → Session view old new u w b a (Ok (record { replies = n + count; end = end }))
       finished count sent is = record {
         requests = so_far.requests;
         exchanges = so_far.exchanges;
@@ -172,12 +171,12 @@ module _ {N : Type 0} (flash : N → Flash) (recorded : N → Option Recording) 
         );
       }
 
-      pub unfinished : (e : ServeFault) → end ≡ BadFrame → e ≡ fault.Write → AppendsFront d a (last_bytes end) → Session flash recorded honest failed erases old new u w b a (Err e)
+      pub unfinished : (e : ServeFault) → end ≡ BadFrame → e ≡ fault.Write → AppendsFront d a (last_bytes end) → Session view old new u w b a (Err e)
       unfinished e bad is front =
           let front' : AppendsFront c a (last_bytes BadFrame) = subst (λ k. AppendsFront k a (last_bytes BadFrame)) none.kept (subst (λ k. AppendsFront d a (last_bytes k)) bad front) in
           let rests' : Rests old.engine.geometry.data_bytes BadFrame none.tail w = subst (λ k. Rests old.engine.geometry.data_bytes k none.tail w) bad rests in
           let all : List ℕ = replies_bytes so_far.requests (replies_in so_far.exchanges) in
-          subst (λ k. Session flash recorded honest failed erases old new u w b a (Err k)) (sym is) (record {
+          subst (λ k. Session view old new u w b a (Err k)) (sym is) (record {
             requests = so_far.requests;
             exchanges = so_far.exchanges;
             commands = so_far.commands;
@@ -186,22 +185,22 @@ module _ {N : Type 0} (flash : N → Flash) (recorded : N → Option Recording) 
           })
 
 -- the next request wants no memory
-pub never_next : {N : Type 0} (flash : N → Flash) (recorded : N → Option Recording) (honest : N → Bool) (failed erases : N → ℕ) (old new : Device N)
-    (u v b a : Option (List ℕ)) (e : ServeFault) → ServesNext flash recorded honest failed erases old new u v b a (Err e)
+pub never_next : {N : Type 0} (view : View N) (old new : Device N)
+    (u v b a : Option (List ℕ)) (e : ServeFault) → ServesNext view old new u v b a (Err e)
     → failure e ≢ failure fault.OutOfMemory
-never_next flash recorded honest failed erases old new u v b a fault.Read one is = (let no : ⊥ = cc in no)
-never_next flash recorded honest failed erases old new u v b a fault.Write one is = (let no : ⊥ = cc in no)
-never_next flash recorded honest failed erases old new u v b a fault.OutOfMemory one is = one
+never_next view old new u v b a fault.Read one is = (let no : ⊥ = cc in no)
+never_next view old new u v b a fault.Write one is = (let no : ⊥ = cc in no)
+never_next view old new u v b a fault.OutOfMemory one is = one
 
 pub never_last : (e : ServeFault) → e ≡ fault.Write → failure e ≢ failure fault.OutOfMemory
 never_last e is none = (let no : ⊥ = cc in no)
 
 -- nothing was served
-pub untold : {N : Type 0} (flash : N → Flash) (recorded : N → Option Recording) (honest : N → Bool) (failed erases : N → ℕ) (old : Device N) (u b : Option (List ℕ)) → IsDevice flash old → Session flash recorded honest failed erases old old u u b b (Err fault.OutOfMemory)
-untold flash recorded honest failed erases old u b device = record {
+pub untold : {N : Type 0} (view : View N) (old : Device N) (u b : Option (List ℕ)) → IsDevice view.flash old → Session view old old u u b b (Err fault.OutOfMemory)
+untold view old u b device = record {
   requests = [];
   exchanges = [];
   commands = refl;
-  told = told_none flash recorded honest failed erases old device;
+  told = told_none view old device;
   stream = (refl, Keeps-refl u, Keeps-refl b);
 }

@@ -1,11 +1,11 @@
 -- THE HEADLINE, and what else serving a checked die comes to.
 use Rattle.std.specs.Prelude.{◌≡◌, ◌≢◌, ◌⊎◌, ℕ, ◌≤◌, Bool, true, List, map, Option, Result, Err, is_some}
 use Rattle.std.specs.Io.KnownBytes.{Keeps}
+use Rattle.page_layout.specs.View.{View}
 use Rattle.page_layout.specs.declared.geometry.Geometry.{Geometry}
 use Rattle.page_layout.specs.Array.{HasOneArray}
 use Rattle.page_layout.specs.Counter.{HasRisen}
 use Rattle.page_layout.specs.Flash.{Flash}
-use Rattle.page_layout.specs.Recording.{Recording}
 use Rattle.promises.specs.Stream.{Request, command_of}
 use Rattle.promises.specs.Run.{log_of}
 use Rattle.promises.specs.Legal.{IsLegal}
@@ -45,44 +45,44 @@ pub record Headline (g : Geometry) (capacity : ℕ) (c : Claim) (s t : Flash) (x
   pub legal : IsLegal g s.image (is_bad_in c) (log_of run.events)
 
 -- the headline holds of these exchanges, and its events are the calls that lead from the one device to the other
-pub record HeadlineHolds {N : Type 0} (flash : N → Flash) (recorded : N → Option Recording) (honest : N → Bool) (failed erases : N → ℕ) (g : Geometry)
+pub record HeadlineHolds {N : Type 0} (view : View N) (g : Geometry)
     (capacity : ℕ) (c : Claim) (s : Flash) (old : Device N) (xs : List Exchange) (new : Device N) : Type 0 where
-  pub headline : Headline g capacity c s (flash new.engine.nand) xs
-  pub each : HappensEach flash recorded honest failed erases old headline.run.events xs new
+  pub headline : Headline g capacity c s (view.flash new.engine.nand) xs
+  pub each : HappensEach view old headline.run.events xs new
   pub ro_is : headline.ro ≡ new.read_only
   pub pinned_is : headline.pinned ≡ is_some new.engine.pinned
 
-abbrev pub HoldsTo : {N : Type 0} → (N → Flash) → (N → Option Recording) → (N → Bool) → (failed erases : N → ℕ) → N → Geometry → ℕ → Claim → Device N → List Exchange → Device N → Type 0
-HoldsTo flash recorded honest failed erases nand g capacity c old xs new = honest nand ≡ true → HeadlineHolds flash recorded honest failed erases g capacity c (flash nand) old xs new
+abbrev pub HoldsTo : {N : Type 0} → (view : View N) → N → Geometry → ℕ → Claim → Device N → List Exchange → Device N → Type 0
+HoldsTo view nand g capacity c old xs new = view.honest nand ≡ true → HeadlineHolds view g capacity c (view.flash nand) old xs new
 
 -- the bus failed in this call: the die's count of failures rose in it, or stands at its top
-pub record HasBusFailed {N : Type 0} (flash : N → Flash) (recorded : N → Option Recording) (honest : N → Bool) (failed erases : N → ℕ) (old : Device N) (x : Exchange) (new : Device N) : Type 0 where
-  pub tells : Tells flash recorded honest failed erases old x new
-  pub rose : HasRisen (failed old.engine.nand) (failed new.engine.nand)
+pub record HasBusFailed {N : Type 0} (view : View N) (old : Device N) (x : Exchange) (new : Device N) : Type 0 where
+  pub tells : Tells view old x new
+  pub rose : HasRisen (view.failed old.engine.nand) (view.failed new.engine.nand)
 
 -- a device that `start` begins from the certificate that was accepted, over a die that is as honest as it was and tells the same record: nothing is
 -- pinned, and no fault stands
-pub record IsBegun {N : Type 0} (flash : N → Flash) (recorded : N → Option Recording) (honest : N → Bool) (failed : N → ℕ) (nand : N) (g : Geometry) (c : Claim) (first : Device N) : Type 0 where
-  pub device : IsDevice flash first
+pub record IsBegun {N : Type 0} (view : View N) (nand : N) (g : Geometry) (c : Claim) (first : Device N) : Type 0 where
+  pub device : IsDevice view.flash first
   pub stale : List ℕ
   pub begun : ram first.engine ≡ begun_ram g c stale
-  pub stale_is : honest nand ≡ true → stale ≡ stale_sectors g (flash nand).image
-  pub same : honest nand ≡ true → flash first.engine.nand ≡ flash nand
-  pub told : honest nand ≡ true → recorded first.engine.nand ≡ recorded nand
-  pub honest_is : honest first.engine.nand ≡ honest nand
-  pub failed_is : failed nand ≤ failed first.engine.nand
+  pub stale_is : view.honest nand ≡ true → stale ≡ stale_sectors g (view.flash nand).image
+  pub same : view.honest nand ≡ true → view.flash first.engine.nand ≡ view.flash nand
+  pub told : view.honest nand ≡ true → view.recorded first.engine.nand ≡ view.recorded nand
+  pub honest_is : view.honest first.engine.nand ≡ view.honest nand
+  pub failed_is : view.failed nand ≤ view.failed first.engine.nand
 
 -- the die that is handed back: as honest and as calm as it was, of its geometry, and its count of failures no lower
-pub record IsHandedBack {N : Type 0} (flash : N → Flash) (honest calm : N → Bool) (failed : N → ℕ) (nand : N) (g : Geometry) (given : N) : Type 0 where
-  pub honest_is : honest given ≡ honest nand
-  pub calm_is : calm given ≡ calm nand
-  pub sized : (flash given).geometry ≡ g
-  pub failed_is : failed nand ≤ failed given
+pub record IsHandedBack {N : Type 0} (view : View N) (nand : N) (g : Geometry) (given : N) : Type 0 where
+  pub honest_is : view.honest given ≡ view.honest nand
+  pub calm_is : view.calm given ≡ view.calm nand
+  pub sized : (view.flash given).geometry ≡ g
+  pub failed_is : view.failed nand ≤ view.failed given
 
 -- Requests were served: what was read and written, and what the device answered, that `start` began over the die. It was told one after another, and
 -- each call did what it promises. Where the die is honest, the headline holds of the exchanges before the first fault of the bus: of all of them where there
 -- is none. From it on each is answered that fault.
-pub record IsServed {N : Type 0} (flash : N → Flash) (recorded : N → Option Recording) (honest calm : N → Bool) (failed erases : N → ℕ) (nand : N)
+pub record IsServed {N : Type 0} (view : View N) (nand : N)
     (g : Geometry) (capacity : ℕ) (c : Claim) (unread left before after : Option (List ℕ)) (result : Result Served ServeFault)
     (given : N) : Type 0 where
   pub requests : List Request
@@ -90,14 +90,14 @@ pub record IsServed {N : Type 0} (flash : N → Flash) (recorded : N → Option 
   pub commands : commands_in exchanges ≡ map command_of requests
   pub stream : ServesRequests g.data_bytes unread left before after requests (replies_in exchanges) result
   pub stays : StaysStopped exchanges
-  pub back : IsHandedBack flash honest calm failed nand g given
-  pub rose : AreKnown exchanges ⊎ HasRisen (failed nand) (failed given)
+  pub back : IsHandedBack view nand g given
+  pub rose : AreKnown exchanges ⊎ HasRisen (view.failed nand) (view.failed given)
   pub first : Device N
   pub last : Device N
-  pub begun : IsBegun flash recorded honest failed nand g c first
-  pub each : ToldEach flash recorded honest failed erases first exchanges last
+  pub begun : IsBegun view nand g c first
+  pub each : ToldEach view first exchanges last
   pub given_is : given ≡ last.engine.nand
-  pub headline : Until (HoldsTo flash recorded honest failed erases nand g capacity c first) (HasBusFailed flash recorded honest failed erases) exchanges last
+  pub headline : Until (HoldsTo view nand g capacity c first) (HasBusFailed view) exchanges last
 
 -- nothing was read or written
 pub record IsUntouched (unread left before after : Option (List ℕ)) : Type 0 where
@@ -105,21 +105,21 @@ pub record IsUntouched (unread left before after : Option (List ℕ)) : Type 0 w
   pub written : Keeps before after
 
 -- the checker refused the certificate, and the die's pages are as they were
-pub record IsUnaccepted {N : Type 0} (flash : N → Flash) (honest calm : N → Bool) (failed : N → ℕ) (nand : N) (g : Geometry) (capacity : ℕ) (c : Claim) (why : Refusal) (given : N) : Type 0 where
-  pub refused : honest nand ≡ true → IsRefusal g capacity (flash nand).image c why
-  pub same : why ≢ refusal.Source → honest nand ≡ true → flash given ≡ flash nand
-  pub rose : why ≡ refusal.Source → HasRisen (failed nand) (failed given)
-  pub back : IsHandedBack flash honest calm failed nand g given
+pub record IsUnaccepted {N : Type 0} (view : View N) (nand : N) (g : Geometry) (capacity : ℕ) (c : Claim) (why : Refusal) (given : N) : Type 0 where
+  pub refused : view.honest nand ≡ true → IsRefusal g capacity (view.flash nand).image c why
+  pub same : why ≢ refusal.Source → view.honest nand ≡ true → view.flash given ≡ view.flash nand
+  pub rose : why ≡ refusal.Source → HasRisen (view.failed nand) (view.failed given)
+  pub back : IsHandedBack view nand g given
 
 -- no memory was left to start a device, and the die's pages are as they were
-pub record IsUnstarted {N : Type 0} (flash : N → Flash) (honest calm : N → Bool) (failed : N → ℕ) (nand : N) (g : Geometry) (capacity : ℕ) (c : Claim) (given : N) : Type 0 where
-  pub same : honest nand ≡ true → flash given ≡ flash nand
-  pub agrees : honest nand ≡ true → Agrees g capacity (flash nand).image c
-  pub back : IsHandedBack flash honest calm failed nand g given
+pub record IsUnstarted {N : Type 0} (view : View N) (nand : N) (g : Geometry) (capacity : ℕ) (c : Claim) (given : N) : Type 0 where
+  pub same : view.honest nand ≡ true → view.flash given ≡ view.flash nand
+  pub agrees : view.honest nand ≡ true → Agrees g capacity (view.flash nand).image c
+  pub back : IsHandedBack view nand g given
 
 -- why requests were not served to their end
-abbrev pub FailsToServe : {N : Type 0} → (N → Flash) → (N → Option Recording) → (honest calm : N → Bool) → (failed erases : N → ℕ) → N → Geometry → ℕ
+abbrev pub FailsToServe : {N : Type 0} → (view : View N) → N → Geometry → ℕ
     → Claim → (unread left before after : Option (List ℕ)) → RunFault N → Type 0
-FailsToServe flash recorded honest calm failed erases nand g capacity c unread left before after (Refused why given) = IsUntouched unread left before after × IsUnaccepted flash honest calm failed nand g capacity c why given
-FailsToServe flash recorded honest calm failed erases nand g capacity c unread left before after (Start given) = IsUntouched unread left before after × IsUnstarted flash honest calm failed nand g capacity c given
-FailsToServe flash recorded honest calm failed erases nand g capacity c unread left before after (Serve stop given) = IsServed flash recorded honest calm failed erases nand g capacity c unread left before after (Err stop) given
+FailsToServe view nand g capacity c unread left before after (Refused why given) = IsUntouched unread left before after × IsUnaccepted view nand g capacity c why given
+FailsToServe view nand g capacity c unread left before after (Start given) = IsUntouched unread left before after × IsUnstarted view nand g capacity c given
+FailsToServe view nand g capacity c unread left before after (Serve stop given) = IsServed view nand g capacity c unread left before after (Err stop) given

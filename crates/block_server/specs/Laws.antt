@@ -1,11 +1,12 @@
 -- WHAT THE HEADLINE IS FOR: what each of its parts says of a run, of the device that it begins with, and of the call that the bus failed in.
 use Rattle.std.specs.Prelude.{◌≡◌, ◌≢◌, ℕ, Bool, true, false, ◌<◌, ◌≤◌, ◌/◌, List, ◌∷◌, ◌++◌, map, Option, Result, Err}
+use Rattle.page_layout.specs.View.{View}
 use Rattle.page_layout.specs.declared.geometry.Geometry.{Geometry}
 use Rattle.page_layout.specs.Page.{Page}
 use Rattle.page_layout.specs.Array.{HasOneArray}
 use Rattle.page_layout.specs.Counter.{HasRisen}
 use Rattle.page_layout.specs.Flash.{Flash, Operation, Program, Leads}
-use Rattle.page_layout.specs.Recording.{Recording, Records}
+use Rattle.page_layout.specs.Recording.{Records}
 use Rattle.promises.specs.Step.{ArrayRun}
 use Rattle.promises.specs.Log.{block_of, bad_of, erases_of}
 use Rattle.promises.specs.Run.{log_of, state_of}
@@ -55,50 +56,50 @@ HeadlineOnceLaw = (g : Geometry) (capacity : ℕ) (c : Claim) (s t : Flash) (xs 
 -- ---- of the device that it begins with
 
 -- over an honest die the device begins with the pages that were handed in, knows just the stale sectors of that image, and tells the same record
-abbrev pub BegunImageLaw : {N : Type 0} → (N → Flash) → (N → Option Recording) → (N → Bool) → (N → ℕ) → Type 0
-BegunImageLaw {N} flash recorded honest failed = (nand : N) (g : Geometry) (c : Claim) (first : Device N) → IsBegun flash recorded honest failed nand g c first
-    → honest nand ≡ true → (flash first.engine.nand ≡ flash nand) × (ram first.engine ≡ begun_ram g c (stale_sectors g (flash nand).image))
+abbrev pub BegunImageLaw : {N : Type 0} → View N → Type 0
+BegunImageLaw {N} view = (nand : N) (g : Geometry) (c : Claim) (first : Device N) → IsBegun view nand g c first
+    → view.honest nand ≡ true → (view.flash first.engine.nand ≡ view.flash nand) × (ram first.engine ≡ begun_ram g c (stale_sectors g (view.flash nand).image))
 
-abbrev pub BegunRecordLaw : {N : Type 0} → (N → Flash) → (N → Option Recording) → (N → Bool) → (N → ℕ) → Type 0
-BegunRecordLaw {N} flash recorded honest failed = (nand : N) (g : Geometry) (c : Claim) (first : Device N) → IsBegun flash recorded honest failed nand g c first
-    → honest nand ≡ true → recorded first.engine.nand ≡ recorded nand
+abbrev pub BegunRecordLaw : {N : Type 0} → View N → Type 0
+BegunRecordLaw {N} view = (nand : N) (g : Geometry) (c : Claim) (first : Device N) → IsBegun view nand g c first
+    → view.honest nand ≡ true → view.recorded first.engine.nand ≡ view.recorded nand
 
 -- whatever the die is, it is as honest as it was handed in, and its count of failures is no lower
-abbrev pub BegunCountsLaw : {N : Type 0} → (N → Flash) → (N → Option Recording) → (N → Bool) → (N → ℕ) → Type 0
-BegunCountsLaw {N} flash recorded honest failed = (nand : N) (g : Geometry) (c : Claim) (first : Device N) → IsBegun flash recorded honest failed nand g c first
-    → (honest first.engine.nand ≡ honest nand) × (failed nand ≤ failed first.engine.nand)
+abbrev pub BegunCountsLaw : {N : Type 0} → View N → Type 0
+BegunCountsLaw {N} view = (nand : N) (g : Geometry) (c : Claim) (first : Device N) → IsBegun view nand g c first
+    → (view.honest first.engine.nand ≡ view.honest nand) × (view.failed nand ≤ view.failed first.engine.nand)
 
 -- THE RECORD OF WHAT WAS SERVED: what an honest die tells afterwards is what it told as it was handed in, with the log of the run, unless the record has ended
-abbrev pub ServedRecordLaw : {N : Type 0} → (N → Flash) → (N → Option Recording) → (N → Bool) → (failed erases : N → ℕ) → Type 0
-ServedRecordLaw {N} flash recorded honest failed erases = (nand : N) (g : Geometry) (capacity : ℕ) (c : Claim) (first new : Device N) (xs : List Exchange)
-    → IsBegun flash recorded honest failed nand g c first → honest nand ≡ true → (h : HeadlineHolds flash recorded honest failed erases g capacity c (flash nand) first xs new)
-    → Records (recorded nand) (log_of h.headline.run.events) (recorded new.engine.nand)
+abbrev pub ServedRecordLaw : {N : Type 0} → (view : View N) → Type 0
+ServedRecordLaw {N} view = (nand : N) (g : Geometry) (capacity : ℕ) (c : Claim) (first new : Device N) (xs : List Exchange)
+    → IsBegun view nand g c first → view.honest nand ≡ true → (h : HeadlineHolds view g capacity c (view.flash nand) first xs new)
+    → Records (view.recorded nand) (log_of h.headline.run.events) (view.recorded new.engine.nand)
 
 -- ---- of the call that the bus failed in
 
 -- the die's count of failures rose in it, or stands at its top
-abbrev pub FailedCallLaw : {N : Type 0} → (N → Flash) → (N → Option Recording) → (N → Bool) → (failed erases : N → ℕ) → Type 0
-FailedCallLaw {N} flash recorded honest failed erases = (old new : Device N) (x : Exchange) → HasBusFailed flash recorded honest failed erases old x new
-    → HasRisen (failed old.engine.nand) (failed new.engine.nand)
+abbrev pub FailedCallLaw : {N : Type 0} → (view : View N) → Type 0
+FailedCallLaw {N} view = (old new : Device N) (x : Exchange) → HasBusFailed view old x new
+    → HasRisen (view.failed old.engine.nand) (view.failed new.engine.nand)
 
 -- ---- of all that was served
 
 -- WHERE NO REPLY IS `BusFault`, the headline holds of all exchanges, up to the die that comes back. Whatever the replies, the device was told just the
 -- requests that were read, one call each from the device that it began with to the last one
-abbrev pub ServedLaw : {N : Type 0} → (N → Flash) → (N → Option Recording) → (honest calm : N → Bool) → (failed erases : N → ℕ) → Type 0
-ServedLaw {N} flash recorded honest calm failed erases = (nand : N) (g : Geometry) (capacity : ℕ) (c : Claim) (unread left before after : Option (List ℕ)) (result : Result Served ServeFault) (given : N)
-    → (s : IsServed flash recorded honest calm failed erases nand g capacity c unread left before after result given)
-    → (commands_in s.exchanges ≡ map command_of s.requests) × ToldEach flash recorded honest failed erases s.first s.exchanges s.last
-    × (honest nand ≡ true → AreKnown s.exchanges → Headline g capacity c (flash nand) (flash given) s.exchanges)
+abbrev pub ServedLaw : {N : Type 0} → (view : View N) → Type 0
+ServedLaw {N} view = (nand : N) (g : Geometry) (capacity : ℕ) (c : Claim) (unread left before after : Option (List ℕ)) (result : Result Served ServeFault) (given : N)
+    → (s : IsServed view nand g capacity c unread left before after result given)
+    → (commands_in s.exchanges ≡ map command_of s.requests) × ToldEach view s.first s.exchanges s.last
+    × (view.honest nand ≡ true → AreKnown s.exchanges → Headline g capacity c (view.flash nand) (view.flash given) s.exchanges)
 
 -- THE DIE THAT COMES BACK is as honest and as calm as it was handed in, of its geometry, and its count of failures is no lower
-abbrev pub BackLaw : {N : Type 0} → (N → Flash) → (honest calm : N → Bool) → (N → ℕ) → Type 0
-BackLaw {N} flash honest calm failed = (nand : N) (g : Geometry) (given : N) → IsHandedBack flash honest calm failed nand g given
-    → (honest given ≡ honest nand) × (calm given ≡ calm nand) × ((flash given).geometry ≡ g) × (failed nand ≤ failed given)
+abbrev pub BackLaw : {N : Type 0} → (view : View N) → Type 0
+BackLaw {N} view = (nand : N) (g : Geometry) (given : N) → IsHandedBack view nand g given
+    → (view.honest given ≡ view.honest nand) × (view.calm given ≡ view.calm nand) × ((view.flash given).geometry ≡ g) × (view.failed nand ≤ view.failed given)
 
 -- WHERE NOTHING WAS SERVED the pages of an honest die are as they were, but after a failed page read; a refusal says what is so of them, and a device
 -- that found no memory would have begun with a certificate that agrees with them
-abbrev pub UnservedLaw : {N : Type 0} → (N → Flash) → (honest calm : N → Bool) → (N → ℕ) → Type 0
-UnservedLaw {N} flash honest calm failed = (nand : N) (g : Geometry) (capacity : ℕ) (c : Claim) (why : Refusal) (given : N) → honest nand ≡ true
-    → (IsUnaccepted flash honest calm failed nand g capacity c why given → IsRefusal g capacity (flash nand).image c why × (why ≢ refusal.Source → flash given ≡ flash nand))
-    × (IsUnstarted flash honest calm failed nand g capacity c given → Agrees g capacity (flash nand).image c × (flash given ≡ flash nand))
+abbrev pub UnservedLaw : {N : Type 0} → (view : View N) → Type 0
+UnservedLaw {N} view = (nand : N) (g : Geometry) (capacity : ℕ) (c : Claim) (why : Refusal) (given : N) → view.honest nand ≡ true
+    → (IsUnaccepted view nand g capacity c why given → IsRefusal g capacity (view.flash nand).image c why × (why ≢ refusal.Source → view.flash given ≡ view.flash nand))
+    × (IsUnstarted view nand g capacity c given → Agrees g capacity (view.flash nand).image c × (view.flash given ≡ view.flash nand))

@@ -1,9 +1,8 @@
 -- A SESSION OF THE SERVER: what it read, what the device was told and answered, and what was written.
-use Rattle.std.specs.Prelude.{◌≡◌, ◌⊎◌, ◌+◌, ℕ, false, Bool, List, [], ◌++◌, length, map, Option, Some, None, IfSome, Result, Ok, Err}
+use Rattle.std.specs.Prelude.{◌≡◌, ◌⊎◌, ◌+◌, ℕ, false, List, [], ◌++◌, length, map, Option, Some, None, IfSome, Result, Ok, Err}
 use Rattle.std.specs.List.{flat_map, AllByRecursion}
 use Rattle.std.specs.Io.KnownBytes.{Appends, Consumes, Keeps}
-use Rattle.page_layout.specs.Flash.{Flash}
-use Rattle.page_layout.specs.Recording.{Recording}
+use Rattle.page_layout.specs.View.{View}
 use Rattle.promises.specs.Step.{Reply}
 use Rattle.promises.specs.Stream.{Request, IsRequest, IsBeginning, Splits, command_of, is_header, request_bytes, reply_bytes, replies_bytes, out_bytes}
 use Rattle.promises.specs.declared.stream.End.{End}
@@ -50,12 +49,12 @@ ServesRequests size unread left before after requests replies (Err fault.OutOfMe
 -- ---- the device
 
 -- THE SESSION: each request was told to the device, and it answered
-pub record Session {N : Type 0} (flash : N → Flash) (recorded : N → Option Recording) (honest : N → Bool) (failed erases : N → ℕ)
+pub record Session {N : Type 0} (view : View N)
     (old new : Device N) (unread left before after : Option (List ℕ)) (result : Result Served ServeFault) : Type 0 where
   pub requests : List Request
   pub exchanges : List Exchange
   pub commands : commands_in exchanges ≡ map command_of requests
-  pub told : WasTold flash recorded honest failed erases old exchanges new
+  pub told : WasTold view old exchanges new
   pub stream : ServesRequests old.engine.geometry.data_bytes unread left before after requests (replies_in exchanges) result
 
 -- ---- one request
@@ -69,22 +68,22 @@ IsBodyOf body told.Flush = Unit {0}
 IsBodyOf body told.Turn = Unit {0}
 
 -- the device was told what the request asks, and the reply was written, or a beginning of it
-pub record AnswersRequest {N : Type 0} (flash : N → Flash) (recorded : N → Option Recording) (honest : N → Bool) (failed erases : N → ℕ)
+pub record AnswersRequest {N : Type 0} (view : View N)
     (old new : Device N) (r : Request) (before after : Option (List ℕ)) (result : Result (Unit {0}) ServeFault) : Type 0 where
   pub exchange : Exchange
   pub command_is : exchange.command ≡ command_of r
-  pub tells : Tells flash recorded honest failed erases old exchange new
+  pub tells : Tells view old exchange new
   pub sends : SendsBytes before after (reply_bytes r (reply_in exchange)) result
 
 -- a request was read, the device was told it, and its reply was written as this says
-pub record HasServed {N : Type 0} (flash : N → Flash) (recorded : N → Option Recording) (honest : N → Bool) (failed erases : N → ℕ)
+pub record HasServed {N : Type 0} (view : View N)
     (old new : Device N) (unread left : Option (List ℕ)) (writes : List ℕ → Type 0) : Type 0 where
   pub request : Request
   pub exchange : Exchange
   pub whole : IsRequest old.engine.geometry.data_bytes request
   pub read : Consumes unread left (request_bytes request)
   pub command_is : exchange.command ≡ command_of request
-  pub tells : Tells flash recorded honest failed erases old exchange new
+  pub tells : Tells view old exchange new
   pub written : writes (reply_bytes request (reply_in exchange))
 
 -- no request was read whole
@@ -95,10 +94,10 @@ pub record HasNone {N : Type 0} (old new : Device N) (unread left before after :
   pub same : new ≡ old
   pub kept : after ≡ before
 
-abbrev pub ServesNext : {N : Type 0} → (N → Flash) → (N → Option Recording) → (N → Bool) → (failed erases : N → ℕ) → (old new : Device N)
+abbrev pub ServesNext : {N : Type 0} → (view : View N) → (old new : Device N)
     → (unread left before after : Option (List ℕ)) → Result (Option End) ServeFault → Type 0
-ServesNext flash recorded honest failed erases old new unread left before after (Ok None) = HasServed flash recorded honest failed erases old new unread left (Appends before after)
-ServesNext flash recorded honest failed erases old new unread left before after (Ok (Some end)) = HasNone old new unread left before after (λ tail. Rests old.engine.geometry.data_bytes end tail left)
-ServesNext flash recorded honest failed erases old new unread left before after (Err fault.Read) = HasNone old new unread left before after (IsBeginning old.engine.geometry.data_bytes)
-ServesNext flash recorded honest failed erases old new unread left before after (Err fault.Write) = HasServed flash recorded honest failed erases old new unread left (AppendsFront before after)
-ServesNext flash recorded honest failed erases old new unread left before after (Err fault.OutOfMemory) = ⊥
+ServesNext view old new unread left before after (Ok None) = HasServed view old new unread left (Appends before after)
+ServesNext view old new unread left before after (Ok (Some end)) = HasNone old new unread left before after (λ tail. Rests old.engine.geometry.data_bytes end tail left)
+ServesNext view old new unread left before after (Err fault.Read) = HasNone old new unread left before after (IsBeginning old.engine.geometry.data_bytes)
+ServesNext view old new unread left before after (Err fault.Write) = HasServed view old new unread left (AppendsFront before after)
+ServesNext view old new unread left before after (Err fault.OutOfMemory) = ⊥

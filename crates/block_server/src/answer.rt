@@ -61,11 +61,11 @@ fn answer<N: Nand, W: Write>(
     body: &[u8],
     bytes: &mut [u8],
 ) -> Result<(), ServeFault>
-    requires device { IsDevice N.flash device.old }
+    requires device { IsDevice N.view.flash device.old }
     requires body { length body.now ≡ device.old.engine.geometry.data_bytes }
     requires bytes { length bytes.old ≡ device.old.engine.geometry.data_bytes }
-    ensures calm { N.calm device.new.engine.nand ≡ N.calm device.old.engine.nand }
-    ensures answers { AnswersRequest N.flash N.recorded N.honest N.failed N.erases device.old device.new (request_at header body.now)
+    ensures calm { N.view.calm device.new.engine.nand ≡ N.view.calm device.old.engine.nand }
+    ensures answers { AnswersRequest N.view device.old device.new (request_at header body.now)
         (W.contents writer.old) (W.contents writer.new) result }
 {
     let done = tell(device, command_for(header, body), bytes);
@@ -91,11 +91,11 @@ pub(crate) fn serve_next<N: Nand, R: Read, W: Write>(
     body: &mut [u8],
     bytes: &mut [u8],
 ) -> Result<Option<End>, ServeFault>
-    requires device { IsDevice N.flash device.old }
+    requires device { IsDevice N.view.flash device.old }
     requires body { length body.old ≡ device.old.engine.geometry.data_bytes }
     requires bytes { length bytes.old ≡ device.old.engine.geometry.data_bytes }
-    ensures calm { N.calm device.new.engine.nand ≡ N.calm device.old.engine.nand }
-    ensures serves { ServesNext N.flash N.recorded N.honest N.failed N.erases device.old device.new (R.remaining reader.old) (R.remaining reader.new)
+    ensures calm { N.view.calm device.new.engine.nand ≡ N.view.calm device.old.engine.nand }
+    ensures serves { ServesNext N.view device.old device.new (R.remaining reader.old) (R.remaining reader.new)
         (W.contents writer.old) (W.contents writer.new) result }
 {
     match read_request(reader, body)? {

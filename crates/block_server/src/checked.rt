@@ -68,10 +68,10 @@ pub fn serve_checked<N: Nand, R: Read, W: Write>(
     reader: &mut R,
     writer: &mut W,
 ) -> Result<(Served, N), RunFault<N>>
-    requires same_geometry { (N.flash nand).geometry ≡ geometry.now }
-    ensures served { IfOk result (λ done. IsServed N.flash N.recorded N.honest N.calm N.failed N.erases nand geometry.now capacity certificate.now
+    requires same_geometry { (N.view.flash nand).geometry ≡ geometry.now }
+    ensures served { IfOk result (λ done. IsServed N.view nand geometry.now capacity certificate.now
         (R.remaining reader.old) (R.remaining reader.new) (W.contents writer.old) (W.contents writer.new) (Ok done.0) done.1) }
-    ensures fault { IfErr result (FailsToServe N.flash N.recorded N.honest N.calm N.failed N.erases nand geometry.now capacity certificate.now
+    ensures fault { IfErr result (FailsToServe N.view nand geometry.now capacity certificate.now
         (R.remaining reader.old) (R.remaining reader.new) (W.contents writer.old) (W.contents writer.new)) }
 {
     let accepted = match check(alloc, &mut nand, geometry, capacity, certificate) {

@@ -20,12 +20,12 @@ pub fn headline_laws()
 /// the bus failed in the die's count of failures rose, or stands at 2^64 - 1. Where nothing was served its pages are as they were, but after
 /// a failed page read. (This project's.)
 pub fn served_laws<N: Nand>()
-    ensures image { BegunImageLaw N.flash N.recorded N.honest N.failed }
-    ensures told { BegunRecordLaw N.flash N.recorded N.honest N.failed }
-    ensures counts { BegunCountsLaw N.flash N.recorded N.honest N.failed }
-    ensures records { ServedRecordLaw N.flash N.recorded N.honest N.failed N.erases }
-    ensures failed { FailedCallLaw N.flash N.recorded N.honest N.failed N.erases }
-    ensures served { ServedLaw N.flash N.recorded N.honest N.calm N.failed N.erases }
-    ensures back { BackLaw N.flash N.honest N.calm N.failed }
-    ensures unserved { UnservedLaw N.flash N.honest N.calm N.failed }
+    ensures image { BegunImageLaw N.view }
+    ensures told { BegunRecordLaw N.view }
+    ensures counts { BegunCountsLaw N.view }
+    ensures records { ServedRecordLaw N.view }
+    ensures failed { FailedCallLaw N.view }
+    ensures served { ServedLaw N.view }
+    ensures back { BackLaw N.view }
+    ensures unserved { UnservedLaw N.view }
 {}

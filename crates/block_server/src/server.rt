@@ -28,11 +28,11 @@ fn serve_with<N: Nand, R: Read, W: Write>(
     body: &mut [u8],
     bytes: &mut [u8],
 ) -> Result<Served, ServeFault>
-    requires device { IsDevice N.flash device.old }
+    requires device { IsDevice N.view.flash device.old }
     requires body { length body.old ≡ device.old.engine.geometry.data_bytes }
     requires bytes { length bytes.old ≡ device.old.engine.geometry.data_bytes }
-    ensures calm { N.calm device.new.engine.nand ≡ N.calm device.old.engine.nand }
-    ensures session { Session N.flash N.recorded N.honest N.failed N.erases device.old device.new (R.remaining reader.old) (R.remaining reader.new)
+    ensures calm { N.view.calm device.new.engine.nand ≡ N.view.calm device.old.engine.nand }
+    ensures session { Session N.view device.old device.new (R.remaining reader.old) (R.remaining reader.new)
         (W.contents writer.old) (W.contents writer.new) result }
     ensures never { result ≢ Err ServeFault.OutOfMemory }
 {
@@ -78,9 +78,9 @@ pub fn serve<N: Nand, R: Read, W: Write>(
     writer: &mut W,
     device: &mut Device<N>,
 ) -> Result<Served, ServeFault>
-    requires device { IsDevice N.flash device.old }
-    ensures calm { N.calm device.new.engine.nand ≡ N.calm device.old.engine.nand }
-    ensures session { Session N.flash N.recorded N.honest N.failed N.erases device.old device.new (R.remaining reader.old) (R.remaining reader.new)
+    requires device { IsDevice N.view.flash device.old }
+    ensures calm { N.view.calm device.new.engine.nand ≡ N.view.calm device.old.engine.nand }
+    ensures session { Session N.view device.old device.new (R.remaining reader.old) (R.remaining reader.new)
         (W.contents writer.old) (W.contents writer.new) result }
     ensures unread { result ≡ Err ServeFault.OutOfMemory → reader.new ≡ reader.old }
     ensures unwritten { result ≡ Err ServeFault.OutOfMemory → writer.new ≡ writer.old }

@@ -1,7 +1,6 @@
 -- What the engine's calls say alike holds of one after another.
-use Rattle.std.proofs.Common.{◌≡◌, ◌≢◌, ℕ, Bool, Option, Some, None, Result, Ok, Err, IsOk, MatchOption, refl, ap, sym, ◌∙◌, arith}
-use Rattle.page_layout.specs.Flash.{Flash}
-use Rattle.page_layout.specs.Recording.{Recording}
+use Rattle.std.proofs.Common.{◌≡◌, ◌≢◌, ℕ, Option, Some, None, Result, Ok, Err, IsOk, MatchOption, refl, ap, sym, ◌∙◌, arith}
+use Rattle.page_layout.specs.View.{View}
 use Rattle.page_layout.specs.OnlyReads.{OnlyReads}
 use Rattle.collection.specs.declared.engine.Buffer.{Buffer}
 use Rattle.collection.specs.declared.engine.Engine.{Engine}
@@ -30,10 +29,10 @@ pub is_standing : (fault : Option EngineFault) (e : EngineFault) → MatchOption
 is_standing None e is = (let never : ⊥ = cc in absurd never)
 is_standing (Some f) e is = (let same : e ≡ f = cc in ap Some (sym same))
 
-module _ {N : Type 0} {flash : N → Flash} {recorded : N → Option Recording} {honest calm : N → Bool} {failed : N → ℕ} where
+module _ {N : Type 0} {view : View N} where
   -- ---- calls that act
 
-  pub acts_same : (a : Engine N) → IsSafe flash a → EngineActs {A = Unit {0}} flash recorded honest calm failed a a (Ok tt)
+  pub acts_same : (a : Engine N) → IsSafe view.flash a → EngineActs {A = Unit {0}} view a a (Ok tt)
   acts_same a safe = record {
     safe = safe;
     fault = refl;
@@ -41,12 +40,12 @@ module _ {N : Type 0} {flash : N → Flash} {recorded : N → Option Recording} 
     calm_is = refl;
     failed_is = omega arith;
     rose = λ is. absurd (ok_not_bus tt is);
-    went = λ known ne. went_same (ram a) (flash a.nand) (recorded a.nand);
+    went = λ known ne. went_same (ram a) (view.flash a.nand) (view.recorded a.nand);
   }
 
   pub acts_then : {A B : Type 0} (a b c : Engine N) (x : A) (result : Result B EngineFault) → (ram b).geometry ≡ (ram a).geometry
-      → EngineActs flash recorded honest calm failed a b (Ok x) → EngineActs flash recorded honest calm failed b c result
-      → EngineActs flash recorded honest calm failed a c result
+      → EngineActs view a b (Ok x) → EngineActs view b c result
+      → EngineActs view a c result
   acts_then a b c x result same p q = record {
     safe = q.safe;
     fault = q.fault ∙ p.fault;
@@ -58,7 +57,7 @@ module _ {N : Type 0} {flash : N → Flash} {recorded : N → Option Recording} 
   }
 
   -- an answer of another type
-  pub acts_ok : {A B : Type 0} (a b : Engine N) (x : A) (y : B) → EngineActs flash recorded honest calm failed a b (Ok x) → EngineActs flash recorded honest calm failed a b (Ok y)
+  pub acts_ok : {A B : Type 0} (a b : Engine N) (x : A) (y : B) → EngineActs view a b (Ok x) → EngineActs view a b (Ok y)
   acts_ok a b x y p = record {
     safe = p.safe;
     fault = p.fault;
@@ -69,7 +68,7 @@ module _ {N : Type 0} {flash : N → Flash} {recorded : N → Option Recording} 
     went = λ known ne. p.went known (ok_not_bus x);
   }
 
-  pub acts_err : {A B : Type 0} (a b : Engine N) (fault : EngineFault) → EngineActs flash recorded honest calm failed a b (err_as A fault) → EngineActs flash recorded honest calm failed a b (err_as B fault)
+  pub acts_err : {A B : Type 0} (a b : Engine N) (fault : EngineFault) → EngineActs view a b (err_as A fault) → EngineActs view a b (err_as B fault)
   acts_err {A} {B} a b fault p = record {
     safe = p.safe;
     fault = p.fault;
@@ -81,7 +80,7 @@ module _ {N : Type 0} {flash : N → Flash} {recorded : N → Option Recording} 
   }
 
   -- a call that is refused for another reason than the die
-  pub acts_end : {A B : Type 0} (a b : Engine N) (x : A) (fault : EngineFault) → fault ≢ Bus → EngineActs flash recorded honest calm failed a b (Ok x) → EngineActs flash recorded honest calm failed a b (err_as B fault)
+  pub acts_end : {A B : Type 0} (a b : Engine N) (x : A) (fault : EngineFault) → fault ≢ Bus → EngineActs view a b (Ok x) → EngineActs view a b (err_as B fault)
   acts_end {A} {B} a b x fault other p = record {
     safe = p.safe;
     fault = p.fault;
@@ -93,7 +92,7 @@ module _ {N : Type 0} {flash : N → Flash} {recorded : N → Option Recording} 
   }
 
   -- a call that first filled the page buffer
-  pub acts_filled : {A : Type 0} (a b : Engine N) (page : Buffer) (result : Result A EngineFault) → EngineActs flash recorded honest calm failed (record a { page = page }) b result → EngineActs flash recorded honest calm failed a b result
+  pub acts_filled : {A : Type 0} (a b : Engine N) (page : Buffer) (result : Result A EngineFault) → EngineActs view (record a { page = page }) b result → EngineActs view a b result
   acts_filled a b page result p = record {
     safe = p.safe;
     fault = p.fault;
@@ -107,7 +106,7 @@ module _ {N : Type 0} {flash : N → Flash} {recorded : N → Option Recording} 
   -- ---- a fault that stands
 
   -- it is answered again
-  pub stands_still : {A : Type 0} (a : Engine N) (fault : EngineFault) → IsSafe flash a → a.fault ≡ Some fault → Stands flash recorded honest calm failed a a (err_as A fault)
+  pub stands_still : {A : Type 0} (a : Engine N) (fault : EngineFault) → IsSafe view.flash a → a.fault ≡ Some fault → Stands view a a (err_as A fault)
   stands_still {A} a fault safe is = record {
     safe = safe;
     standing = λ other e. ((let same : fault ≡ other = cc in ap (λ f. Err f) same), refl);
@@ -116,11 +115,11 @@ module _ {N : Type 0} {flash : N → Flash} {recorded : N → Option Recording} 
     calm_is = refl;
     failed_is = omega arith;
     rose = λ none e. (let never : ⊥ = cc in absurd never);
-    went = λ known ne. went_same (ram a) (flash a.nand) (recorded a.nand);
+    went = λ known ne. went_same (ram a) (view.flash a.nand) (view.recorded a.nand);
   }
 
   -- it is noted
-  pub acts_noted : {A : Type 0} (a b : Engine N) (result : Result A EngineFault) → a.fault ≡ None → EngineActs flash recorded honest calm failed a b result → Stands flash recorded honest calm failed a (record b { fault = fault_after b.fault result }) result
+  pub acts_noted : {A : Type 0} (a b : Engine N) (result : Result A EngineFault) → a.fault ≡ None → EngineActs view a b result → Stands view a (record b { fault = fault_after b.fault result }) result
   acts_noted a b result none p = record {
     safe = record { memory = ram_noted _ (ram b) p.safe.memory; geometry = p.safe.geometry; page = p.safe.page; scratch = p.safe.scratch };
     standing = λ fault is. (let never : ⊥ = cc in absurd never);
@@ -134,8 +133,8 @@ module _ {N : Type 0} {flash : N → Flash} {recorded : N → Option Recording} 
 
 -- ---- calls that look
 
-module _ {N : Type 0} {flash : N → Flash} {honest calm : N → Bool} {programs erases failed : N → ℕ} where
-  pub reads_then : (a b c : N) → OnlyReads flash honest calm programs erases failed a b → OnlyReads flash honest calm programs erases failed b c → OnlyReads flash honest calm programs erases failed a c
+module _ {N : Type 0} {view : View N} where
+  pub reads_then : (a b c : N) → OnlyReads view a b → OnlyReads view b c → OnlyReads view a c
   reads_then a b c p q = record {
     geometry_is = q.geometry_is ∙ p.geometry_is;
     honest_is = q.honest_is ∙ p.honest_is;
@@ -145,8 +144,8 @@ module _ {N : Type 0} {flash : N → Flash} {honest calm : N → Bool} {programs
     failed_is = omega (arith, p.failed_is, q.failed_is);
   }
 
-module _ {N : Type 0} {flash : N → Flash} {recorded : N → Option Recording} {honest calm : N → Bool} {programs erases failed : N → ℕ} where
-  pub looks_same : (a : Engine N) → IsSafe flash a → EngineLooks {A = Unit {0}} flash recorded honest calm programs erases failed a a (Ok tt)
+module _ {N : Type 0} {view : View N} where
+  pub looks_same : (a : Engine N) → IsSafe view.flash a → EngineLooks {A = Unit {0}} view a a (Ok tt)
   looks_same a safe = record {
     safe = safe;
     memory = refl;
@@ -158,9 +157,9 @@ module _ {N : Type 0} {flash : N → Flash} {recorded : N → Option Recording} 
   }
 
   pub looks_then : {A B : Type 0} (a b c : Engine N) (x : A) (result : Result B EngineFault)
-      → EngineLooks flash recorded honest calm programs erases failed a b (Ok x)
-      → EngineLooks flash recorded honest calm programs erases failed b c result
-      → EngineLooks flash recorded honest calm programs erases failed a c result
+      → EngineLooks view a b (Ok x)
+      → EngineLooks view b c result
+      → EngineLooks view a c result
   looks_then a b c x result p q = record {
     safe = q.safe;
     memory = q.memory ∙ p.memory;
@@ -171,7 +170,7 @@ module _ {N : Type 0} {flash : N → Flash} {recorded : N → Option Recording} 
     told = λ known ne. q.told (p.only_reads.honest_is ∙ known) ne ∙ p.told known (ok_not_bus x);
   }
 
-  pub looks_ok : {A B : Type 0} (a b : Engine N) (x : A) (y : B) → EngineLooks flash recorded honest calm programs erases failed a b (Ok x) → EngineLooks flash recorded honest calm programs erases failed a b (Ok y)
+  pub looks_ok : {A B : Type 0} (a b : Engine N) (x : A) (y : B) → EngineLooks view a b (Ok x) → EngineLooks view a b (Ok y)
   looks_ok a b x y p = record {
     safe = p.safe;
     memory = p.memory;
@@ -182,7 +181,7 @@ module _ {N : Type 0} {flash : N → Flash} {recorded : N → Option Recording} 
     told = λ known ne. p.told known (ok_not_bus x);
   }
 
-  pub looks_err : {A B : Type 0} (a b : Engine N) (fault : EngineFault) → EngineLooks flash recorded honest calm programs erases failed a b (err_as A fault) → EngineLooks flash recorded honest calm programs erases failed a b (err_as B fault)
+  pub looks_err : {A B : Type 0} (a b : Engine N) (fault : EngineFault) → EngineLooks view a b (err_as A fault) → EngineLooks view a b (err_as B fault)
   looks_err {A} {B} a b fault p = record {
     safe = p.safe;
     memory = p.memory;
@@ -194,7 +193,7 @@ module _ {N : Type 0} {flash : N → Flash} {recorded : N → Option Recording} 
   }
 
   -- a call that only looks acts in no other way
-  pub looked : {A : Type 0} (a b : Engine N) (result : Result A EngineFault) → EngineLooks flash recorded honest calm programs erases failed a b result → EngineActs flash recorded honest calm failed a b result
+  pub looked : {A : Type 0} (a b : Engine N) (result : Result A EngineFault) → EngineLooks view a b result → EngineActs view a b result
   looked a b result p = record {
     safe = p.safe;
     fault = ap (λ r. r.fault) p.memory;

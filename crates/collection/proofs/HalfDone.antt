@@ -3,6 +3,7 @@ use Rattle.std.proofs.Common.{◌≡◌, ◌≢◌, ◌⊎◌, inl, inr, ℕ, �
 use Rattle.std.specs.Map.{keys_of}
 use Rattle.std.proofs.lemmas.Bool.{cases_lt}
 use Rattle.std.proofs.lemmas.List.{get_or-replicate, get_or_past, length-replicate}
+use Rattle.page_layout.specs.View.{View}
 use Rattle.page_layout.specs.Geometry.{translation_pages, vmax}
 use Rattle.page_layout.specs.Page.{Image}
 use Rattle.budget.proofs.CopyLemmas.{touched_pages}
@@ -201,9 +202,9 @@ sparing_from a b to flushing block (Ok u) k =
     }
 sparing_from a b to flushing block (Err fault) k = tt
 
-pub acts_from : {A N : Type 0} {flash : N → Flash} {recorded : N → Option Recording} {honest calm : N → Bool} {failed : N → ℕ} (a b : Engine N)
-    (to : Option Pinned) (result : Result A EngineFault) → EngineActs flash recorded honest calm failed (record a { pinned = to }) b result
-    → EngineActs flash recorded honest calm failed a b result
+pub acts_from : {A N : Type 0} {view : View N} (a b : Engine N)
+    (to : Option Pinned) (result : Result A EngineFault) → EngineActs view (record a { pinned = to }) b result
+    → EngineActs view a b result
 acts_from a b to result p = record {
   safe = p.safe;
   fault = p.fault;

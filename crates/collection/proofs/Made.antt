@@ -1,7 +1,7 @@
 -- What making room says holds of nothing done, of the last look at the free blocks, and of a fault that is noted.
 use Rattle.std.proofs.Common.{◌≡◌, ℕ, ◌<◌, ◌≤◌, Bool, [], Result, Ok, Err, Some, refl, ap, sym, inl, subst, arith}
 use Rattle.std.specs.Prelude.{IfErr}
-use Rattle.page_layout.specs.Flash.{Flash}
+use Rattle.page_layout.specs.View.{View}
 use Rattle.allocation.specs.State.{free_count}
 use Rattle.collection.specs.declared.engine.Engine.{Engine}
 use Rattle.collection.specs.declared.fault.EngineFault.{EngineFault}
@@ -16,8 +16,8 @@ use Rattle.collection.proofs.Looks.{ok_not_bus}
 use Rattle.collection.proofs.Noted.{on_noted, fresh_noted, tells_noted, room_refused_noted, few_noted}
 use Rattle.collection.proofs.Rooms.{on_same, rearranged_same, enough_truth}
 
-module _ {N : Type 0} {flash : N → Flash} {honest : N → Bool} {erases : N → ℕ} (flushing : Bool) where
-  pub nothing_made : (a : Engine N) → IsCalm (ram a) → MakesRoom flash honest erases flushing a a (Ok tt)
+module _ {N : Type 0} {view : View N} (flushing : Bool) where
+  pub nothing_made : (a : Engine N) → IsCalm (ram a) → MakesRoom view flushing a a (Ok tt)
   nothing_made a calm = record {
     calm = calm;
     goes = on_same (ram a);
@@ -32,11 +32,11 @@ module _ {N : Type 0} {flash : N → Flash} {honest : N → Bool} {erases : N �
   }
 
   -- with nine free blocks at first there are nine still
-  pub not_resting : (a b : Engine N) → MakesRoom flash honest erases flushing a b (Ok tt) → free_count (ram b).blocks < 9 → 9 ≤ free_count (ram a).blocks → ⊥
+  pub not_resting : (a b : Engine N) → MakesRoom view flushing a b (Ok tt) → free_count (ram b).blocks < 9 → 9 ≤ free_count (ram a).blocks → ⊥
   not_resting a b k scarce nine = (let still : free_count (ram b).blocks ≡ free_count (ram a).blocks = ap (λ (e : Engine N). free_count (ram e).blocks) (k.rests nine).1 in omega (arith, scarce, nine, still))
 
   -- the answer of the last look at the free blocks
-  pub enough_made : (a b : Engine N) (result : Result (Unit {0}) EngineFault) → IfErr result (λ fault. (fault ≡ ReadOnly) × (free_count (ram b).blocks < 5)) → MakesRoom flash honest erases flushing a b (Ok tt) → MakesRoom flash honest erases flushing a b result
+  pub enough_made : (a b : Engine N) (result : Result (Unit {0}) EngineFault) → IfErr result (λ fault. (fault ≡ ReadOnly) × (free_count (ram b).blocks < 5)) → MakesRoom view flushing a b (Ok tt) → MakesRoom view flushing a b result
   enough_made a b (Ok u) e k = k
   enough_made a b (Err fault) e k =
       let few : free_count (ram b).blocks < 5 = e.1 in
@@ -54,7 +54,7 @@ module _ {N : Type 0} {flash : N → Flash} {honest : N → Bool} {erases : N �
         few = λ known w passed few ne. k.few known w passed few (ok_not_bus tt);
       }
 
-  pub makes_noted : (a b : Engine N) (result : Result (Unit {0}) EngineFault) → MakesRoom flash honest erases flushing a b result → MakesRoom flash honest erases flushing a (record b { fault = fault_after b.fault result }) result
+  pub makes_noted : (a b : Engine N) (result : Result (Unit {0}) EngineFault) → MakesRoom view flushing a b result → MakesRoom view flushing a (record b { fault = fault_after b.fault result }) result
   makes_noted a b (Ok u) k = k
   makes_noted a b (Err f) k = record {
     calm = tt;

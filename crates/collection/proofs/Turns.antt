@@ -2,9 +2,9 @@
 use Rattle.std.proofs.Common.{◌≡◌, ◌≢◌, ℕ, ◌+◌, ◌-◌, ◌*◌, ◌/◌, ◌<◌, ◌≤◌, Bool, true, false, List, [], length, replicate, Option, Some, None, MatchOption, Result, Ok, Err, refl, ap, sym, ◌∙◌, subst, arith}
 use Rattle.std.specs.Option.{ForSome}
 use Rattle.std.proofs.lemmas.Nat.{div-mul-add}
+use Rattle.page_layout.specs.View.{View}
 use Rattle.page_layout.specs.declared.geometry.Geometry.{Geometry}
 use Rattle.page_layout.specs.declared.record.Record.{Record}
-use Rattle.page_layout.specs.Flash.{Flash}
 use Rattle.page_layout.specs.Page.{Image}
 use Rattle.page_layout.specs.Geometry.{translation_pages, vmax}
 use Rattle.page_layout.specs.Change.{HoldsNone}
@@ -202,8 +202,8 @@ fault_noted a b fault SequenceSpent k = record { stream = k.stream; spent = reco
 fault_noted a b fault Damaged k = k
 fault_noted a b fault Bus k = tt
 
-module _ {N : Type 0} {flash : N → Flash} {honest : N → Bool} {reads erases : N → ℕ} (flushing : Bool) (p : Pinned) where
-  pub advances_noted : (a b : Engine N) (result : Result Step EngineFault) → Advances flash honest reads erases flushing p a b result → Advances flash honest reads erases flushing p a (record b { fault = fault_after b.fault result }) result
+module _ {N : Type 0} {view : View N} (flushing : Bool) (p : Pinned) where
+  pub advances_noted : (a b : Engine N) (result : Result Step EngineFault) → Advances view flushing p a b result → Advances view flushing p a (record b { fault = fault_after b.fault result }) result
   advances_noted a b (Ok done) k = k
   advances_noted a b (Err f) k = record {
     goes = but_noted (Some f) p.block (ram a) (ram b) k.goes;

@@ -1,9 +1,8 @@
 -- What the engine's calls say alike, whatever the die does: those that only look, those that change the die, and those that a standing fault
 -- stops.
-use Rattle.std.specs.Prelude.{◌≡◌, ◌≢◌, ◌⊎◌, ℕ, ◌≤◌, Bool, true, Option, None, Result, Err, IfErr}
+use Rattle.std.specs.Prelude.{◌≡◌, ◌≢◌, ◌⊎◌, ℕ, ◌≤◌, true, None, Result, Err, IfErr}
 use Rattle.std.specs.Option.{ForSome}
-use Rattle.page_layout.specs.Flash.{Flash}
-use Rattle.page_layout.specs.Recording.{Recording}
+use Rattle.page_layout.specs.View.{View}
 use Rattle.page_layout.specs.Counter.{HasRisen}
 use Rattle.page_layout.specs.OnlyReads.{OnlyReads}
 use Rattle.collection.specs.declared.engine.Engine.{Engine}
@@ -15,43 +14,43 @@ use Rattle.collection.specs.Log.{Went}
 use Rattle.collection.specs.Results.{fault_after}
 
 -- A CALL THAT LOOKS: memory stays, the die is only read, and an honest one stays as it is, and so does what it tells, unless it gave a fault
-pub record EngineLooks {A N : Type 0} (flash : N → Flash) (recorded : N → Option Recording) (honest calm : N → Bool) (programs erases failed : N → ℕ)
+pub record EngineLooks {A N : Type 0} (view : View N)
     (old new : Engine N) (result : Result A EngineFault) : Type 0 where
-  pub safe : IsSafe flash new
+  pub safe : IsSafe view.flash new
   pub memory : ram new ≡ ram old
-  pub only_reads : OnlyReads flash honest calm programs erases failed old.nand new.nand
+  pub only_reads : OnlyReads view old.nand new.nand
   pub faults : IfErr result IsReadFault
-  pub rose : result ≡ Err Bus → HasRisen (failed old.nand) (failed new.nand)
-  pub same : honest old.nand ≡ true → result ≢ Err Bus → flash new.nand ≡ flash old.nand
-  pub told : honest old.nand ≡ true → result ≢ Err Bus → recorded new.nand ≡ recorded old.nand
+  pub rose : result ≡ Err Bus → HasRisen (view.failed old.nand) (view.failed new.nand)
+  pub same : view.honest old.nand ≡ true → result ≢ Err Bus → view.flash new.nand ≡ view.flash old.nand
+  pub told : view.honest old.nand ≡ true → result ≢ Err Bus → view.recorded new.nand ≡ view.recorded old.nand
 
 -- A CALL THAT ACTS, and notes no fault: what an honest die did is one log, unless the die gave a fault, and that is counted
-pub record EngineActs {A N : Type 0} (flash : N → Flash) (recorded : N → Option Recording) (honest calm : N → Bool) (failed : N → ℕ) (old new : Engine N) (result : Result A EngineFault) : Type 0 where
-  pub safe : IsSafe flash new
+pub record EngineActs {A N : Type 0} (view : View N) (old new : Engine N) (result : Result A EngineFault) : Type 0 where
+  pub safe : IsSafe view.flash new
   pub fault : new.fault ≡ old.fault
-  pub honest_is : honest new.nand ≡ honest old.nand
-  pub calm_is : calm new.nand ≡ calm old.nand
-  pub failed_is : failed old.nand ≤ failed new.nand
-  pub rose : result ≡ Err Bus → HasRisen (failed old.nand) (failed new.nand)
-  pub went : honest old.nand ≡ true → result ≢ Err Bus → Went (ram old) (flash old.nand) (recorded old.nand) (ram new) (flash new.nand) (recorded new.nand)
+  pub honest_is : view.honest new.nand ≡ view.honest old.nand
+  pub calm_is : view.calm new.nand ≡ view.calm old.nand
+  pub failed_is : view.failed old.nand ≤ view.failed new.nand
+  pub rose : result ≡ Err Bus → HasRisen (view.failed old.nand) (view.failed new.nand)
+  pub went : view.honest old.nand ≡ true → result ≢ Err Bus → Went (ram old) (view.flash old.nand) (view.recorded old.nand) (ram new) (view.flash new.nand) (view.recorded new.nand)
 
 -- A CALL THAT A STANDING FAULT STOPS: such a fault is answered again and nothing changes; else the call acts, and a fault that it answers
 -- stands from then on
-pub record Stands {A N : Type 0} (flash : N → Flash) (recorded : N → Option Recording) (honest calm : N → Bool) (failed : N → ℕ) (old new : Engine N) (result : Result A EngineFault) : Type 0 where
-  pub safe : IsSafe flash new
+pub record Stands {A N : Type 0} (view : View N) (old new : Engine N) (result : Result A EngineFault) : Type 0 where
+  pub safe : IsSafe view.flash new
   pub standing : ForSome old.fault (λ fault. (result ≡ Err fault) × (new ≡ old))
   pub fault : new.fault ≡ fault_after old.fault result
-  pub honest_is : honest new.nand ≡ honest old.nand
-  pub calm_is : calm new.nand ≡ calm old.nand
-  pub failed_is : failed old.nand ≤ failed new.nand
-  pub rose : old.fault ≡ None → result ≡ Err Bus → HasRisen (failed old.nand) (failed new.nand)
-  pub went : honest old.nand ≡ true → result ≢ Err Bus → Went (ram old) (flash old.nand) (recorded old.nand) (ram new) (flash new.nand) (recorded new.nand)
+  pub honest_is : view.honest new.nand ≡ view.honest old.nand
+  pub calm_is : view.calm new.nand ≡ view.calm old.nand
+  pub failed_is : view.failed old.nand ≤ view.failed new.nand
+  pub rose : old.fault ≡ None → result ≡ Err Bus → HasRisen (view.failed old.nand) (view.failed new.nand)
+  pub went : view.honest old.nand ≡ true → result ≢ Err Bus → Went (ram old) (view.flash old.nand) (view.recorded old.nand) (ram new) (view.flash new.nand) (view.recorded new.nand)
 
 -- MAKING ROOM: nothing was done for it, or a block was erased and none is pinned
 abbrev pub RestsOrErases : {N : Type 0} → (erases : N → ℕ) → (old new : Engine N) → Type 0
 RestsOrErases erases old new = (new ≡ old) ⊎ (HasRisen (erases old.nand) (erases new.nand) × (new.pinned ≡ None))
 
 -- a call that reads no page and erases no block
-pub record OnlyPrograms {N : Type 0} (reads erases : N → ℕ) (old new : N) : Type 0 where
-  pub reads_are : reads new ≡ reads old
-  pub erases_are : erases new ≡ erases old
+pub record OnlyPrograms {N : Type 0} (view : View N) (old new : N) : Type 0 where
+  pub reads_are : view.reads new ≡ view.reads old
+  pub erases_are : view.erases new ≡ view.erases old

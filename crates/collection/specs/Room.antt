@@ -1,6 +1,6 @@
 -- When collections stop, and what they leave of the pool.
 use Rattle.std.specs.Prelude.{◌≡◌, ◌≢◌, ◌⊎◌, ℕ, ◌+◌, ◌<◌, ◌≤◌, Bool, true, List, [], ◌∷◌, Option, None, MatchOption, Result, Err, IsOk, OnOk, IfErr, MatchResult}
-use Rattle.page_layout.specs.Flash.{Flash}
+use Rattle.page_layout.specs.View.{View}
 use Rattle.page_layout.specs.declared.record.Record.{Record}
 use Rattle.page_layout.specs.Geometry.{need, vmax}
 use Rattle.bad_blocks.specs.Table.{good_count}
@@ -60,17 +60,17 @@ pub record IsFundedOn (failures : ℕ) (old now : Ram) : Type 0 where
 
 -- MAKING ROOM, where no fault stood: the cache stays, and bad blocks do; the pinned block was collected first, and then each time the next
 -- victim; nothing was done where nine blocks were free. Where the die is honest, the array is as it was.
-pub record MakesRoom {N : Type 0} (flash : N → Flash) (honest : N → Bool) (erases : N → ℕ) (flushing : Bool) (old new : Engine N) (result : Result (Unit {0}) EngineFault) : Type 0 where
+pub record MakesRoom {N : Type 0} (view : View N) (flushing : Bool) (old new : Engine N) (result : Result (Unit {0}) EngineFault) : Type 0 where
   pub calm : OnOk result (IsCalm (ram new))
   pub goes : GoesOn (ram old) (ram new)
   pub keys : KeepsKeys old.mapping new.mapping
   pub refreshes : flushing ≡ true → Refreshes (ram old) (ram new)
-  pub works : OnOk result (RestsOrErases erases old new)
+  pub works : OnOk result (RestsOrErases view.erases old new)
   pub collects : OnOk result ((blocks : List ℕ) × Collects flushing (ram old) blocks (ram new))
   pub rests : 9 ≤ free_count (ram old).blocks → IsOk result × (new ≡ old)
   pub tells : IfErr result (RoomTells (ram new))
-  pub truth : honest old.nand ≡ true → IsTrue None (ram old) (image_in flash old) → PinHasPassed (ram old) (image_in flash old)
+  pub truth : view.honest old.nand ≡ true → IsTrue None (ram old) (image_in view.flash old) → PinHasPassed (ram old) (image_in view.flash old)
       → MatchResult result
-      (λ done. IsRearranged (ram old) (image_in flash old) (ram new) (image_in flash new))
-      (RoomRefused (ram old) (image_in flash old) (ram new) (image_in flash new))
-  pub few : honest old.nand ≡ true → IsTrue None (ram old) (image_in flash old) → PinHasPassed (ram old) (image_in flash old) → PinIsFew 0 (ram old) → result ≢ Err Bus → PinIsFew 0 (ram new)
+      (λ done. IsRearranged (ram old) (image_in view.flash old) (ram new) (image_in view.flash new))
+      (RoomRefused (ram old) (image_in view.flash old) (ram new) (image_in view.flash new))
+  pub few : view.honest old.nand ≡ true → IsTrue None (ram old) (image_in view.flash old) → PinHasPassed (ram old) (image_in view.flash old) → PinIsFew 0 (ram old) → result ≢ Err Bus → PinIsFew 0 (ram new)

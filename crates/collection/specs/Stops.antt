@@ -1,10 +1,11 @@
 -- What a stop in the middle of a call leaves on the die.
 use Rattle.std.specs.Prelude.{◌≡◌, ◌⊎◌, ◌+◌, ℕ, List, Option, IsSome}
+use Rattle.page_layout.specs.View.{View}
 use Rattle.page_layout.specs.declared.geometry.Geometry.{Geometry}
 use Rattle.page_layout.specs.Page.{Image}
 use Rattle.page_layout.specs.Array.{array_of}
 use Rattle.page_layout.specs.Change.{Keeps}
-use Rattle.page_layout.specs.Flash.{Flash, Operation}
+use Rattle.page_layout.specs.Flash.{Operation}
 use Rattle.page_layout.specs.Recording.{Recording, Records}
 use Rattle.promises.specs.Stop.{LeavesOnly}
 use Rattle.image_check.specs.Mountable.{IsOrderly}
@@ -26,12 +27,12 @@ abbrev pub IsKeptOr : Geometry → Image → Image → Image → Type 0
 IsKeptOr g before after left = Keeps g before left ⊎ (left ≡ after)
 
 -- WHATEVER A STOP IN THE CALL LEAVES IS SO, by a log of what the die did, and of what its record has gained
-abbrev pub Stops : {N : Type 0} → (N → Flash) → (N → Option Recording) → (Image → Type 0) → Engine N → Engine N → Type 0
-Stops flash recorded is_so old new = LeavesOnly (flash old.nand) (flash new.nand) (recorded old.nand) (recorded new.nand) is_so
+abbrev pub Stops : {N : Type 0} → View N → (Image → Type 0) → Engine N → Engine N → Type 0
+Stops view is_so old new = LeavesOnly (view.flash old.nand) (view.flash new.nand) (view.recorded old.nand) (view.recorded new.nand) is_so
 
 -- A CALL THAT A STOP MAY CUT SHORT: whatever the stop leaves mounts, and has the array before the call or the one after it
-abbrev pub StopsSafely : {N : Type 0} → (N → Flash) → (N → Option Recording) → Engine N → Engine N → Type 0
-StopsSafely flash recorded old new = Stops flash recorded (IsLeftByStop (ram old) (image_in flash old) (image_in flash new)) old new
+abbrev pub StopsSafely : {N : Type 0} → View N → Engine N → Engine N → Type 0
+StopsSafely view old new = Stops view (IsLeftByStop (ram old) (image_in view.flash old) (image_in view.flash new)) old new
 
 -- ---- laws
 

@@ -1,7 +1,7 @@
 -- What a step of the pinned block leaves.
 use Rattle.std.specs.Prelude.{◌≡◌, ◌≢◌, ℕ, ◌+◌, ◌-◌, ◌*◌, ◌≤◌, min, Bool, true, false, Result, Ok, Some, None, IfOk, OnOk, OnErr, MatchResult}
 use Rattle.std.specs.Option.{ForSome}
-use Rattle.page_layout.specs.Flash.{Flash}
+use Rattle.page_layout.specs.View.{View}
 use Rattle.page_layout.specs.Counter.{counted}
 use Rattle.collection.specs.declared.engine.Engine.{Engine}
 use Rattle.collection.specs.declared.engine.Pinned.{Pinned}
@@ -21,7 +21,7 @@ erases_told WroteBack erases = erases
 erases_told Erased erases = counted erases
 
 -- A STEP OF THE PINNED BLOCK, where no fault stood
-pub record Advances {N : Type 0} (flash : N → Flash) (honest : N → Bool) (reads erases : N → ℕ) (flushing : Bool) (p : Pinned) (old new : Engine N) (result : Result Step EngineFault) : Type 0 where
+pub record Advances {N : Type 0} (view : View N) (flushing : Bool) (p : Pinned) (old new : Engine N) (result : Result Step EngineFault) : Type 0 where
   pub goes : GoesBut p.block (ram old) (ram new)
   pub goes_still : result ≢ Ok Erased → Goes (ram old) (ram new)
   pub keys : KeepsKeys old.mapping new.mapping
@@ -34,11 +34,11 @@ pub record Advances {N : Type 0} (flash : N → Flash) (honest : N → Bool) (re
   pub idle : result ≡ Ok Erased → IsIdle (ram new)
   pub released : result ≡ Ok Erased → IsReleased p.block (ram old).blocks (ram new).blocks
   -- each page from the cursor on is read once at most, and so is the translation page that tells of it; and one that is written back
-  pub few_reads : reads new.nand ≤ reads old.nand + (2 * (old.geometry.pages - p.first) + min (due_count flushing (ram old)) 1)
+  pub few_reads : view.reads new.nand ≤ view.reads old.nand + (2 * (old.geometry.pages - p.first) + min (due_count flushing (ram old)) 1)
   -- a copy reads on from the cursor, up to the page that it copies
-  pub copied_reads : result ≡ Ok Copied → (page : ℕ) × (new.pinned ≡ Some (record { block = p.block; first = page + 1 })) × (reads new.nand ≤ reads old.nand + 2 * (page + 1 - p.first))
-  pub erases_are : IfOk result (λ step. erases new.nand ≡ erases_told step (erases old.nand))
-  pub truth : honest old.nand ≡ true → IsTrue None (ram old) (image_in flash old) → HasPassed (ram old) (image_in flash old) p
+  pub copied_reads : result ≡ Ok Copied → (page : ℕ) × (new.pinned ≡ Some (record { block = p.block; first = page + 1 })) × (view.reads new.nand ≤ view.reads old.nand + 2 * (page + 1 - p.first))
+  pub erases_are : IfOk result (λ step. view.erases new.nand ≡ erases_told step (view.erases old.nand))
+  pub truth : view.honest old.nand ≡ true → IsTrue None (ram old) (image_in view.flash old) → HasPassed (ram old) (image_in view.flash old) p
       → MatchResult result
-      (StepsOn flushing p (ram old) (image_in flash old) (ram new) (image_in flash new))
-      (Refused (ram old) (image_in flash old) (ram new) (image_in flash new))
+      (StepsOn flushing p (ram old) (image_in view.flash old) (ram new) (image_in view.flash new))
+      (Refused (ram old) (image_in view.flash old) (ram new) (image_in view.flash new))

@@ -1,12 +1,12 @@
 -- What bringing an image forward comes to, by the fields of its definitions.
-use Rattle.std.proofs.Common.{◌≡◌, ℕ, zero, suc, ◌+◌, ◌<◌, ◌≤◌, Bool, true, false, refl, List, [], ◌∷◌, ◌++◌, codes, Option, Some, Result, Ok, Err, inl, inr, ap, subst, sym, ◌∙◌, append-nil, arith}
+use Rattle.std.proofs.Common.{◌≡◌, ℕ, zero, suc, ◌+◌, ◌<◌, ◌≤◌, true, false, refl, List, [], ◌∷◌, ◌++◌, codes, Option, Some, Result, Ok, Err, inl, inr, ap, subst, sym, ◌∙◌, append-nil, arith}
+use Rattle.page_layout.specs.View.{View}
 use Rattle.page_layout.specs.Flash.{Flash}
 use Rattle.page_layout.specs.declared.geometry.Geometry.{Geometry}
 use Rattle.page_layout.specs.Page.{Image}
 use Rattle.page_layout.specs.Sound.{version_for}
 use Rattle.page_layout.specs.Version.{old_pages}
 use Rattle.page_layout.proofs.VersionLemmas.{old_from}
-use Rattle.page_layout.specs.Recording.{Recording}
 use Rattle.ftl_device.specs.declared.device.Device.{Device}
 use Rattle.ftl_device.specs.declared.fault.DeviceFault.{DeviceFault}
 use Rattle.collection.specs.Safe.{image_in}
@@ -87,20 +87,20 @@ migrate_stops gives store words before after stop (inr (inr (image, count, has, 
 
 -- ---- the number that is printed
 
-module _ {N : Type 0} (flash : N → Flash) (recorded : N → Option Recording) (honest calm : N → Bool) (programs erases failed : N → ℕ) where
-  brings_each : (count : ℕ) (old new : Device N) → RenewsWithRoom flash recorded honest calm programs erases failed count old new → BringsEach flash recorded count old new
+module _ {N : Type 0} (view : View N) where
+  brings_each : (count : ℕ) (old new : Device N) → RenewsWithRoom view count old new → BringsEach view count old new
   brings_each zero old new is = is
   brings_each (suc count) old new (mid, before, nine, call) = (mid, brings_each count old mid before, nine, call.brings refl)
 
-  pub calls_counted : CallsCountedLaw flash recorded honest calm programs erases failed
+  pub calls_counted : CallsCountedLaw view
   calls_counted count count' first last last' two same told told' =
-      counted_law flash recorded count count' first last last' two same (brings_each count first last told) (brings_each count' first last' told')
+      counted_law view count count' first last last' two same (brings_each count first last told) (brings_each count' first last' told')
 
   abbrev image_of : Device N → Image
-  image_of d = image_in flash d.engine
+  image_of d = image_in view.flash d.engine
 
   abbrev Each : ℕ → Device N → Device N → Type 0
-  Each count a b = Renews flash recorded honest calm programs erases failed count a b
+  Each count a b = Renews view count a b
 
   sized_each : (count : ℕ) (a b : Device N) → Each count a b → b.engine.geometry ≡ a.engine.geometry
   sized_each zero a b same = ap (λ (d : Device N). d.engine.geometry) same
@@ -128,8 +128,8 @@ module _ {N : Type 0} (flash : N → Flash) (recorded : N → Option Recording) 
       absurd never
 
   -- the first of them
-  first_call : (count : ℕ) (a b : Device N) → Each (suc count) a b → (next : Device N) × BringsOne flash recorded a next
-  first_call zero a b (mid, before, call) = (b, subst (λ d. BringsOne flash recorded d b) before (call.brings refl))
+  first_call : (count : ℕ) (a b : Device N) → Each (suc count) a b → (next : Device N) × BringsOne view a next
+  first_call zero a b (mid, before, call) = (b, subst (λ d. BringsOne view d b) before (call.brings refl))
   first_call (suc count) a b (mid, before, call) = first_call count a mid before
 
 -- from row 0 on there is none behind

@@ -1,11 +1,11 @@
 -- What bringing an image forward comes to.
-use Rattle.std.specs.Prelude.{◌≡◌, ◌⊎◌, ℕ, zero, suc, ◌+◌, ◌≤◌, Bool, true, false, List, [], ◌++◌, codes, Option, Result, Ok, Err}
+use Rattle.std.specs.Prelude.{◌≡◌, ◌⊎◌, ℕ, zero, suc, ◌+◌, ◌≤◌, true, false, List, [], ◌++◌, codes, Option, Result, Ok, Err}
 use Rattle.std.specs.Io.KnownBytes.{Appends, Keeps}
+use Rattle.page_layout.specs.View.{View}
 use Rattle.page_layout.specs.declared.geometry.Geometry.{Geometry}
 use Rattle.page_layout.specs.declared.record.Key.{Key}
 use Rattle.page_layout.specs.Array.{array_of}
 use Rattle.page_layout.specs.Flash.{Flash, Leads}
-use Rattle.page_layout.specs.Recording.{Recording}
 use Rattle.page_layout.specs.Sound.{version_for}
 use Rattle.page_layout.specs.Raw.{raw_image, raw_bytes}
 use Rattle.page_layout.specs.Version.{is_old, old_pages}
@@ -84,20 +84,20 @@ MigrateStopsLaw {F} gives = (store : F) (words : ServeWords) (before after : Lef
 -- ---- the number that is printed
 
 -- so many calls, each of which answered true, and began with nine free blocks
-abbrev pub RenewsWithRoom : {N : Type 0} → (N → Flash) → (N → Option Recording) → (honest calm : N → Bool) → (programs erases failed : N → ℕ)
+abbrev pub RenewsWithRoom : {N : Type 0} → (view : View N)
     → ℕ → Device N → Device N → Type 0
-RenewsWithRoom flash recorded honest calm programs erases failed zero old new = new ≡ old
-RenewsWithRoom {N} flash recorded honest calm programs erases failed (suc count) old new =
-    (mid : Device N) × RenewsWithRoom flash recorded honest calm programs erases failed count old mid × (9 ≤ free_count (ram mid.engine).blocks)
-    × CallsMigrate flash recorded honest calm programs erases failed mid (Ok true) new
+RenewsWithRoom view zero old new = new ≡ old
+RenewsWithRoom {N} view (suc count) old new =
+    (mid : Device N) × RenewsWithRoom view count old mid × (9 ≤ free_count (ram mid.engine).blocks)
+    × CallsMigrate view mid (Ok true) new
 
 -- THE NUMBER OF CALLS THAT ANSWERED TRUE IS ONE, where nine blocks are free as each begins: two tellings of calls from one device to one image have as
 -- many. So none tells two calls as one.
-abbrev pub CallsCountedLaw : {N : Type 0} → (N → Flash) → (N → Option Recording) → (honest calm : N → Bool) → (programs erases failed : N → ℕ) → Type 0
-CallsCountedLaw {N} flash recorded honest calm programs erases failed = (count count' : ℕ) (first last last' : Device N) → version_for first.engine.geometry ≡ 2
-    → image_in flash last'.engine ≡ image_in flash last.engine
-    → RenewsWithRoom flash recorded honest calm programs erases failed count first last
-    → RenewsWithRoom flash recorded honest calm programs erases failed count' first last' → count ≡ count'
+abbrev pub CallsCountedLaw : {N : Type 0} → (view : View N) → Type 0
+CallsCountedLaw {N} view = (count count' : ℕ) (first last last' : Device N) → version_for first.engine.geometry ≡ 2
+    → image_in view.flash last'.engine ≡ image_in view.flash last.engine
+    → RenewsWithRoom view count first last
+    → RenewsWithRoom view count' first last' → count ≡ count'
 
 -- THE NUMBER IS NO MORE THAN THE PAGES OF VERSION 1 that are newest in the image before, whatever room was made; and it is 0 where only table pages are
 abbrev pub NumberLaw : Type 0

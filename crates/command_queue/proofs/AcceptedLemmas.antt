@@ -1,14 +1,14 @@
 -- A run that begins with an accepted certificate.
-use Rattle.std.proofs.Common.{◌≡◌, ◌↔◌, ℕ, ◌+◌, ◌<◌, min, true, Bool, not, List, [], ◌∷◌, ◌++◌, ◌&&◌, ◌||◌, inl, inr, None, Result, Ok, Err, sym, ap, Option}
+use Rattle.std.proofs.Common.{◌≡◌, ◌↔◌, ℕ, ◌+◌, ◌<◌, min, true, Bool, not, List, [], ◌∷◌, ◌++◌, ◌&&◌, ◌||◌, inl, inr, None, Result, Ok, Err, sym, ap}
 use Rattle.std.proofs.Common.{subst, ◌∙◌, arith, false}
 use Rattle.std.specs.Prelude.{is_some}
 use Rattle.std.specs.List.{list_all}
+use Rattle.page_layout.specs.View.{View}
 use Rattle.page_layout.specs.declared.geometry.Geometry.{Geometry}
 use Rattle.page_layout.specs.Page.{Image}
 use Rattle.page_layout.specs.Sound.{is_erased_page}
 use Rattle.page_layout.specs.Block.{block_pages}
 use Rattle.page_layout.specs.Flash.{Flash, Operation}
-use Rattle.page_layout.specs.Recording.{Recording}
 use Rattle.certificate.specs.Claim.{Claim}
 use Rattle.image_check.specs.Accepted.{Acceptance}
 use Rattle.image_check.specs.Agrees.{Agrees}
@@ -137,28 +137,28 @@ wear_begun g capacity image c agrees b lt =
     begun_wear g c.blocks b (slice_get_within c.blocks b state.0 state.1)
 
 -- what a run from a memory says, with the accounts that its log began with
-record RanWith {N : Type 0} (flash : N → Flash) (recorded : N → Option Recording) (honest : N → Bool) (failed erases : N → ℕ) (d : Device N) (r : Ram) (old : runs.DeviceView) (accounts : List Account) (calls : List Exchange) (new : Device N) : Type 0 where
-  pub run : HasRun (first_of r) old (die_in flash new) calls
+record RanWith {N : Type 0} (view : View N) (d : Device N) (r : Ram) (old : runs.DeviceView) (accounts : List Account) (calls : List Exchange) (new : Device N) : Type 0 where
+  pub run : HasRun (first_of r) old (die_in view.flash new) calls
   pub legal : LegalFrom r.geometry.pages accounts (log_of run.events)
   pub next : new.engine.next ≡ r.next + programs_in (log_of run.events)
-  pub each : HappensEach flash recorded honest failed erases d run.events calls new
+  pub each : HappensEach view d run.events calls new
   pub follows : Follows r.geometry.pages (log_of run.events) (ram d.engine).blocks (ram new.engine).blocks
   pub wears : Wears (log_of run.events) (ram d.engine).blocks (ram new.engine).blocks
 
-pub ran_accepted : {N : Type 0} (flash : N → Flash) (recorded : N → Option Recording) (honest : N → Bool) (failed erases : N → ℕ) (s : Flash)
-    (a : Acceptance) (d new : Device N) (calls : List Exchange) → flash d.engine.nand ≡ s
+pub ran_accepted : {N : Type 0} (view : View N) (s : Flash)
+    (a : Acceptance) (d new : Device N) (calls : List Exchange) → view.flash d.engine.nand ≡ s
     → ram d.engine ≡ begun_ram s.geometry a.claim a.stale → IsAcceptedFor s a → d.read_only ≡ is_scarce (free_in s.geometry a.claim s.image)
-    → IsAccounted (accounts_of s.geometry s.image (is_bad_in a.claim)) (ram d.engine).blocks → Ran flash recorded honest failed erases d calls new → RanFrom flash recorded honest failed erases s a.claim calls new
-ran_accepted {N} flash recorded honest failed erases s a d new calls die is accepted scarce accounts ran =
+    → IsAccounted (accounts_of s.geometry s.image (is_bad_in a.claim)) (ram d.engine).blocks → Ran view d calls new → RanFrom view s a.claim calls new
+ran_accepted {N} view s a d new calls die is accepted scarce accounts ran =
     let c = a.claim in
     let first : runs.DeviceView = accepted_device s c in
     let its = accounts_of s.geometry s.image (is_bad_in c) in
     let as_device : Flash → Bool → Bool → runs.DeviceView = λ f ro pinned. record { flash = f; ro = ro; pinned = pinned } in
     let unpinned : is_some d.engine.pinned ≡ false = ap (λ (r : Ram). is_some r.pin.block) is in
-    let begins : die_in flash d ≡ first = ap (λ f. as_device f d.read_only (is_some d.engine.pinned)) die ∙ (ap (λ ro. as_device s ro (is_some d.engine.pinned)) scarce ∙ ap (as_device s (is_scarce (free_in s.geometry c s.image))) unpinned) in
-    let whole : RanWith flash recorded honest failed erases d (ram d.engine) (die_in flash d) its calls new = record { run = ran.run; legal = ran.follows.legal its accounts; next = ran.next; each = ran.each; follows = ran.follows; wears = ran.wears } in
-    let there : RanWith flash recorded honest failed erases d (begun_ram s.geometry c a.stale) first its calls new =
-    subst (λ r. RanWith flash recorded honest failed erases d r first its calls new) is (subst (λ o. RanWith flash recorded honest failed erases d (ram d.engine) o its calls new) begins whole) in
+    let begins : die_in view.flash d ≡ first = ap (λ f. as_device f d.read_only (is_some d.engine.pinned)) die ∙ (ap (λ ro. as_device s ro (is_some d.engine.pinned)) scarce ∙ ap (as_device s (is_scarce (free_in s.geometry c s.image))) unpinned) in
+    let whole : RanWith view d (ram d.engine) (die_in view.flash d) its calls new = record { run = ran.run; legal = ran.follows.legal its accounts; next = ran.next; each = ran.each; follows = ran.follows; wears = ran.wears } in
+    let there : RanWith view d (begun_ram s.geometry c a.stale) first its calls new =
+    subst (λ r. RanWith view d r first its calls new) is (subst (λ o. RanWith view d (ram d.engine) o its calls new) begins whole) in
     record {
       first = d;
       held = die;
@@ -181,9 +181,9 @@ ran_accepted {N} flash recorded honest failed erases s a d new calls die is acce
     }
 
 -- and its events are the calls from that device
-pub ran_each : {N : Type 0} (flash : N → Flash) (recorded : N → Option Recording) (honest : N → Bool) (failed erases : N → ℕ) (s : Flash) (a : Acceptance) (d new : Device N) (calls : List Exchange)
-    (die : flash d.engine.nand ≡ s) (is : ram d.engine ≡ begun_ram s.geometry a.claim a.stale) (accepted : IsAcceptedFor s a)
-    (scarce : d.read_only ≡ is_scarce (free_in s.geometry a.claim s.image)) (accounts : IsAccounted (accounts_of s.geometry s.image (is_bad_in a.claim)) (ram d.engine).blocks) (ran : Ran flash recorded honest failed erases d calls new)
-    → HappensEach flash recorded honest failed erases d (ran_accepted flash recorded honest failed erases s a d new calls die is accepted scarce accounts ran).run.events calls new
+pub ran_each : {N : Type 0} (view : View N) (s : Flash) (a : Acceptance) (d new : Device N) (calls : List Exchange)
+    (die : view.flash d.engine.nand ≡ s) (is : ram d.engine ≡ begun_ram s.geometry a.claim a.stale) (accepted : IsAcceptedFor s a)
+    (scarce : d.read_only ≡ is_scarce (free_in s.geometry a.claim s.image)) (accounts : IsAccounted (accounts_of s.geometry s.image (is_bad_in a.claim)) (ram d.engine).blocks) (ran : Ran view d calls new)
+    → HappensEach view d (ran_accepted view s a d new calls die is accepted scarce accounts ran).run.events calls new
 unfolding ran_accepted
-ran_each flash recorded honest failed erases s a d new calls die is accepted scarce accounts ran = (ran_accepted flash recorded honest failed erases s a d new calls die is accepted scarce accounts ran).each
+ran_each view s a d new calls die is accepted scarce accounts ran = (ran_accepted view s a d new calls die is accepted scarce accounts ran).each

@@ -1,11 +1,12 @@
 -- What the events of a run say of the calls that they are.
-use Rattle.std.proofs.Common.{◌≡◌, ◌⊎◌, ℕ, Bool, true, false, not, ◌&&◌, List, [], ◌∷◌, ◌++◌, Option, Some, None, Ok, Err, inl, inr, sym, ap, subst, ◌∙◌, refl}
+use Rattle.std.proofs.Common.{◌≡◌, ◌⊎◌, ℕ, Bool, true, false, not, ◌&&◌, List, [], ◌∷◌, ◌++◌, Some, None, Ok, Err, inl, inr, sym, ap, subst, ◌∙◌, refl}
 use Rattle.std.specs.Prelude.{IsSome}
+use Rattle.page_layout.specs.View.{View}
 use Rattle.page_layout.specs.declared.geometry.Geometry.{Geometry}
 use Rattle.page_layout.specs.Page.{Image}
 use Rattle.page_layout.specs.Array.{array_of}
-use Rattle.page_layout.specs.Flash.{Flash, Operation}
-use Rattle.page_layout.specs.Recording.{Recording, Records}
+use Rattle.page_layout.specs.Flash.{Operation}
+use Rattle.page_layout.specs.Recording.{Records}
 use Rattle.page_layout.proofs.RecordingLemmas.{records_join, records_none}
 use Rattle.page_layout.proofs.VersionLemmas.{no_more_old}
 use Rattle.promises.specs.Step as step
@@ -26,8 +27,8 @@ use Rattle.command_queue.specs.Run.{AreFair, IsEventOf, HappensEach}
 use Rattle.command_queue.specs.Events.{LeavesEither, EachLeavesEither, EventTellsLaw, RunStopsLaw, RunRecordsLaw, StaleMemoryLaw, QuietMemoryLaw}
 use Rattle.command_queue.specs.Events.{ReadOnlyEventLaw, SpentEventLaw, LeftEventLaw, FlushEventLaw, ReadEventLaw, PinEventLaw, ImageEventLaw}
 
-module _ {N : Type 0} (flash : N → Flash) (recorded : N → Option Recording) (honest : N → Bool) (failed erases : N → ℕ) where
-  pub event_tells : EventTellsLaw flash recorded honest failed erases
+module _ {N : Type 0} (view : View N) where
+  pub event_tells : EventTellsLaw view
   event_tells old new event x r is some = is.told ∙ some
 
   -- ---- a stop
@@ -37,15 +38,15 @@ module _ {N : Type 0} (flash : N → Flash) (recorded : N → Option Recording) 
   either g x before after left (inl same) = inl same
   either g x before after left (inr done) = inr done.2
 
-  one_stops : (first : First) (old mid : Device N) (before : List Operation) (event : Event) (x : Exchange) → IsEventOf flash recorded honest failed erases old event x mid
-      → AreFair first (die_in flash old) before (event ∷ []) (x ∷ []) → IsSome (recorded mid.engine.nand)
-      → LeavesEither first.geometry event.piece (image_in flash old.engine) (image_in flash mid.engine)
+  one_stops : (first : First) (old mid : Device N) (before : List Operation) (event : Event) (x : Exchange) → IsEventOf view old event x mid
+      → AreFair first (die_in view.flash old) before (event ∷ []) (x ∷ []) → IsSome (view.recorded mid.engine.nand)
+      → LeavesEither first.geometry event.piece (image_in view.flash old.engine) (image_in view.flash mid.engine)
   one_stops first old mid before event x is fair some left may =
       let told : IsSome event.told = subst IsSome (sym is.told) some in
-      let here = either first.geometry x (image_in flash old.engine) event.left.flash.image left (fair.0.stopped told left may).array in
-      subst (λ (d : runs.DeviceView). (array_of first.geometry left ≡ array_of first.geometry (image_in flash old.engine)) ⊎ (array_of first.geometry left ≡ array_of first.geometry d.flash.image)) is.left here
+      let here = either first.geometry x (image_in view.flash old.engine) event.left.flash.image left (fair.0.stopped told left may).array in
+      subst (λ (d : runs.DeviceView). (array_of first.geometry left ≡ array_of first.geometry (image_in view.flash old.engine)) ⊎ (array_of first.geometry left ≡ array_of first.geometry d.flash.image)) is.left here
 
-  pub run_stops : RunStopsLaw flash recorded honest failed erases
+  pub run_stops : RunStopsLaw view
   run_stops first old new before [] [] each fair = tt
   run_stops first old new before [] (x ∷ xs) each fair = fair
   run_stops first old new before (event ∷ events) [] each fair = fair
@@ -56,13 +57,13 @@ module _ {N : Type 0} (flash : N → Flash) (recorded : N → Option Recording) 
 
   -- ---- the record
 
-  pub run_records : RunRecordsLaw flash recorded honest failed erases
-  run_records old new [] [] same = (ap (λ (d : Device N). recorded d.engine.nand) same) ∙ records_none (recorded old.engine.nand)
+  pub run_records : RunRecordsLaw view
+  run_records old new [] [] same = (ap (λ (d : Device N). view.recorded d.engine.nand) same) ∙ records_none (view.recorded old.engine.nand)
   run_records old new [] (x ∷ xs) never = absurd never
   run_records old new (event ∷ events) [] never = absurd never
   run_records old new (event ∷ events) (x ∷ xs) (mid, is, each) =
-      let here : Records (recorded old.engine.nand) event.piece (recorded mid.engine.nand) = subst (λ l. Records (recorded old.engine.nand) l (recorded mid.engine.nand)) (sym is.piece) is.happened.went.records in
-      records_join (recorded old.engine.nand) (recorded mid.engine.nand) (recorded new.engine.nand) event.piece (log_of events) here (run_records mid new events xs each)
+      let here : Records (view.recorded old.engine.nand) event.piece (view.recorded mid.engine.nand) = subst (λ l. Records (view.recorded old.engine.nand) l (view.recorded mid.engine.nand)) (sym is.piece) is.happened.went.records in
+      records_join (view.recorded old.engine.nand) (view.recorded mid.engine.nand) (view.recorded new.engine.nand) event.piece (log_of events) here (run_records mid new events xs each)
 
 -- ---- memory
 

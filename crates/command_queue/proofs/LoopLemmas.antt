@@ -1,11 +1,10 @@
 -- A list of calls is told one after another.
-use Rattle.std.proofs.Common.{◌≡◌, ℕ, zero, suc, ◌+◌, ◌<◌, ◌≤◌, Bool, List, [], ◌∷◌, ◌++◌, length, map, take, set, slice_get, Some, None, IsSome, Option}
+use Rattle.std.proofs.Common.{◌≡◌, ℕ, zero, suc, ◌+◌, ◌<◌, ◌≤◌, List, [], ◌∷◌, ◌++◌, length, map, take, set, slice_get, Some, None, IsSome}
 use Rattle.std.proofs.Common.{Result, Ok, unwrap_or, refl, sym, ap, subst, ◌∙◌, arith}
 use Rattle.std.specs.List.{AllByRecursion}
 use Rattle.std.proofs.lemmas.List.{take_more_set, take_all, map-append}
+use Rattle.page_layout.specs.View.{View}
 use Rattle.page_layout.specs.declared.geometry.Geometry.{Geometry}
-use Rattle.page_layout.specs.Flash.{Flash}
-use Rattle.page_layout.specs.Recording.{Recording}
 use Rattle.ftl_device.specs.declared.device.Device.{Device}
 use Rattle.ftl_device.specs.declared.fault.DeviceFault.{DeviceFault}
 use Rattle.command_queue.specs.declared.command.Call.{Call}
@@ -59,30 +58,30 @@ kept_all (suc done) (o ∷ os) (n ∷ ns) all kept = (kept.0, kept_all done os n
 -- ---- the loop
 
 -- so many calls were told
-pub record IsRunning {N : Type 0} (flash : N → Flash) (recorded : N → Option Recording) (honest : N → Bool) (failed erases : N → ℕ) (old now : Device N) (before calls : List Call) (done : ℕ) : Type 0 where
-  pub was_told : WasTold flash recorded honest failed erases old (exchanges_of (take done calls)) now
+pub record IsRunning {N : Type 0} (view : View N) (old now : Device N) (before calls : List Call) (done : ℕ) : Type 0 where
+  pub was_told : WasTold view old (exchanges_of (take done calls)) now
   pub whole : AreWhole old.engine.geometry calls
   pub told_is : map told calls ≡ map told before
   pub answered : AreAnswered (take done calls)
   pub kept : HaveKeptSo done before calls
 
-pub running_none : {N : Type 0} (flash : N → Flash) (recorded : N → Option Recording) (honest : N → Bool) (failed erases : N → ℕ) (old : Device N)
-    (calls : List Call) → IsDevice flash old → AreWhole old.engine.geometry calls
-    → IsRunning flash recorded honest failed erases old old calls calls 0
+pub running_none : {N : Type 0} (view : View N) (old : Device N)
+    (calls : List Call) → IsDevice view.flash old → AreWhole old.engine.geometry calls
+    → IsRunning view old old calls calls 0
 unfolding HaveKeptSo
-running_none flash recorded honest failed erases old calls device whole = record {
-  was_told = told_none flash recorded honest failed erases old device;
+running_none view old calls device whole = record {
+  was_told = told_none view old device;
   whole = whole;
   told_is = refl;
   answered = tt;
   kept = refl;
 }
 
-module _ {N : Type 0} (flash : N → Flash) (recorded : N → Option Recording) (honest : N → Bool) (failed erases : N → ℕ) (old now new : Device N) (before calls : List Call) (done : ℕ) (call after : Call) (result : Result (Unit {0}) DeviceFault)
-    (safe : IsDevice flash old) (running : IsRunning flash recorded honest failed erases old now before calls done) (at : slice_get calls done ≡ Some call) (below : done < length calls)
+module _ {N : Type 0} (view : View N) (old now new : Device N) (before calls : List Call) (done : ℕ) (call after : Call) (result : Result (Unit {0}) DeviceFault)
+    (safe : IsDevice view.flash old) (running : IsRunning view old now before calls done) (at : slice_get calls done ≡ Some call) (below : done < length calls)
     (command_is : after.command ≡ call.command) (replied : after.reply ≡ Some result)
     (bytes : List ℕ) (bytes_are : after.bytes.items ≡ bytes) (room : HasRoom now.engine.geometry after.command bytes)
-    (tells : Tells flash recorded honest failed erases now (record { command = told after; result = result; bytes = bytes }) new)
+    (tells : Tells view now (record { command = told after; result = result; bytes = bytes }) new)
     (kept : KeepsBytes (told after) result call.bytes.items bytes) where
   its_take : take (done + 1) (set calls done after) ≡ take done calls ++ after ∷ []
   its_take = take_more_set calls done after below
@@ -92,30 +91,30 @@ module _ {N : Type 0} (flash : N → Flash) (recorded : N → Option Recording) 
       let make : Result (Unit {0}) DeviceFault → List ℕ → Exchange = λ r bs. record { command = told after; result = r; bytes = bs } in
       ap (λ o. make (unwrap_or o (Ok tt)) after.bytes.items) replied ∙ ap (make result) bytes_are
 
-  told_on : WasTold flash recorded honest failed erases old (exchanges_of (take done calls ++ after ∷ [])) new
+  told_on : WasTold view old (exchanges_of (take done calls ++ after ∷ [])) new
   told_on =
-      subst (λ xs. WasTold flash recorded honest failed erases old xs new) (sym (map-append exchange_of (take done calls) (after ∷ [])))
-      (told_more flash recorded honest failed erases old now new (exchanges_of (take done calls)) (exchange_of after) safe running.was_told (subst (λ x. Tells flash recorded honest failed erases now x new) (sym its_exchange) tells))
+      subst (λ xs. WasTold view old xs new) (sym (map-append exchange_of (take done calls) (after ∷ [])))
+      (told_more view old now new (exchanges_of (take done calls)) (exchange_of after) safe running.was_told (subst (λ x. Tells view now x new) (sym its_exchange) tells))
 
   its_bytes : HasKept call after
   its_bytes r is =
       let same : r ≡ result = (let both : Some r ≡ Some result = sym is ∙ replied in cc) in
       subst (λ bs. KeepsBytes (told after) r call.bytes.items bs) (sym bytes_are) (subst (λ x. KeepsBytes (told after) x call.bytes.items bytes) (sym same) kept)
 
-  pub running_more : IsRunning flash recorded honest failed erases old new before (set calls done after) (done + 1)
+  pub running_more : IsRunning view old new before (set calls done after) (done + 1)
   running_more = record {
-    was_told = subst (λ (cs : List Call). WasTold flash recorded honest failed erases old (exchanges_of cs) new) (sym its_take) told_on;
+    was_told = subst (λ (cs : List Call). WasTold view old (exchanges_of cs) new) (sym its_take) told_on;
     whole = all_set (IsWhole old.engine.geometry) calls done after (subst (λ bs. HasRoom old.engine.geometry after.command bs) (sym bytes_are) (subst (λ (g : Geometry). HasRoom g after.command bytes) running.was_told.calls.sized room)) running.whole;
     told_is = map_set told calls done call after at (ap command_of command_is) ∙ running.told_is;
     answered = subst AreAnswered (sym its_take) (all_more (λ (c : Call). IsSome c.reply) (take done calls) after running.answered (subst IsSome (sym replied) refl));
     kept = subst (λ n. HaveKeptSo n before (set calls done after)) (let on : suc done ≡ done + 1 = omega arith in on) (kept_more done before calls call after at its_bytes running.kept);
   }
 
-module _ {N : Type 0} (flash : N → Flash) (recorded : N → Option Recording) (honest : N → Bool) (failed erases : N → ℕ) (old now : Device N)
+module _ {N : Type 0} (view : View N) (old now : Device N)
     (before calls : List Call) (done : ℕ) (all : length calls ≤ done)
-    (running : IsRunning flash recorded honest failed erases old now before calls done) where
-  pub all_told : WasTold flash recorded honest failed erases old (exchanges_of calls) now
-  all_told = subst (λ (cs : List Call). WasTold flash recorded honest failed erases old (exchanges_of cs) now) (take_all done calls all) running.was_told
+    (running : IsRunning view old now before calls done) where
+  pub all_told : WasTold view old (exchanges_of calls) now
+  all_told = subst (λ (cs : List Call). WasTold view old (exchanges_of cs) now) (take_all done calls all) running.was_told
 
   pub all_answered : AreAnswered calls
   all_answered = subst AreAnswered (take_all done calls all) running.answered

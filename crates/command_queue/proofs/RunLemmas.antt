@@ -3,6 +3,7 @@ use Rattle.std.proofs.Common.{◌≡◌, ◌≢◌, ◌↔◌, ℕ, ◌+◌, ◌
 use Rattle.std.proofs.Common.{◌∙◌, None, arith, append_assoc}
 use Rattle.std.specs.Prelude.{◌⊎◌, IfErr, OnOk, IsSome, is_some}
 use Rattle.std.proofs.lemmas.List.{map-append, append-nil}
+use Rattle.page_layout.specs.View.{View}
 use Rattle.page_layout.specs.declared.geometry.Geometry.{Geometry}
 use Rattle.page_layout.specs.Page.{Image, Page}
 use Rattle.page_layout.specs.Flash.{Flash, Operation, Leads}
@@ -150,25 +151,25 @@ quiet_sound s t (Err OutOfMemory) is = tt
 quiet_sound s t (Err Damaged) is = is
 quiet_sound s t (Err BusFault) is = tt
 
-module _ {N : Type 0} (flash : N → Flash) (recorded : N → Option Recording) (old new : Device N) (result : Result (Unit {0}) DeviceFault) (ne : result ≢ Err BusFault) where
-  read_view : flash new.engine.nand ≡ flash old.engine.nand → new.read_only ≡ old.read_only → is_some new.engine.pinned ≡ is_some old.engine.pinned → die_in flash new ≡ die_in flash old
+module _ {N : Type 0} (view : View N) (old new : Device N) (result : Result (Unit {0}) DeviceFault) (ne : result ≢ Err BusFault) where
+  read_view : view.flash new.engine.nand ≡ view.flash old.engine.nand → new.read_only ≡ old.read_only → is_some new.engine.pinned ≡ is_some old.engine.pinned → die_in view.flash new ≡ die_in view.flash old
   read_view kept flag pin =
       let view : Flash → Bool → Bool → DeviceView = λ f ro pinned. record { flash = f; ro = ro; pinned = pinned } in
-      ap (λ f. view f new.read_only (is_some new.engine.pinned)) kept ∙ (ap (λ ro. view (flash old.engine.nand) ro (is_some new.engine.pinned)) flag ∙ ap (view (flash old.engine.nand) old.read_only) pin)
+      ap (λ f. view f new.read_only (is_some new.engine.pinned)) kept ∙ (ap (λ ro. view (view.flash old.engine.nand) ro (is_some new.engine.pinned)) flag ∙ ap (view (view.flash old.engine.nand) old.read_only) pin)
 
   pub read_happened : (n : ℕ) (bytes : List ℕ) (p q : Page)
-      → ReadStep old.engine.geometry (state_in flash old) n (read_reply_of bytes result) (state_in flash new)
-      → flash new.engine.nand ≡ flash old.engine.nand → recorded new.engine.nand ≡ recorded old.engine.nand
+      → ReadStep old.engine.geometry (state_in view.flash old) n (read_reply_of bytes result) (state_in view.flash new)
+      → view.flash new.engine.nand ≡ view.flash old.engine.nand → view.recorded new.engine.nand ≡ view.recorded old.engine.nand
       → LeavesRead n result (ram old.engine) (ram new.engine) p q bytes → new.read_only ≡ old.read_only → IfErr result IsReadRefusal
-      → SurvivesStops old.engine.geometry old.engine.mapping.capacity (step.Read n) result (image_in flash old.engine) (image_in flash new.engine) (recorded new.engine.nand) [] → Happened flash recorded old (record { command = step.Read n; result = result; bytes = bytes }) new
+      → SurvivesStops old.engine.geometry old.engine.mapping.capacity (step.Read n) result (image_in view.flash old.engine) (image_in view.flash new.engine) (view.recorded new.engine.nand) [] → Happened view old (record { command = step.Read n; result = result; bytes = bytes }) new
   unfolding went_none
   read_happened n bytes p q is kept still leaves flag of_read survives = record {
     step = is;
-    went = went_none (ram old.engine) (ram new.engine) (flash old.engine.nand) (flash new.engine.nand) (recorded old.engine.nand) (recorded new.engine.nand) (leaves_mapping n result (ram old.engine) (ram new.engine) p q bytes leaves ne) kept still;
+    went = went_none (ram old.engine) (ram new.engine) (view.flash old.engine.nand) (view.flash new.engine.nand) (view.recorded old.engine.nand) (view.recorded new.engine.nand) (leaves_mapping n result (ram old.engine) (ram new.engine) p q bytes leaves ne) kept still;
     stopped = survives;
-    versions = subst (λ (f : Flash). AddsNoOld old.engine.geometry (image_in flash old.engine) f.image) (sym kept) (λ two key row at. at);
+    versions = subst (λ (f : Flash). AddsNoOld old.engine.geometry (image_in view.flash old.engine) f.image) (sym kept) (λ two key row at. at);
     stale = λ any. no_memory result of_read;
-    shown = λ bad next before bads spent. read_shown old.engine.geometry bad next before [] old.read_only (image_in flash new.engine) n bytes (state_in flash old) (state_in flash new) result of_read is ne;
+    shown = λ bad next before bads spent. read_shown old.engine.geometry bad next before [] old.read_only (image_in view.flash new.engine) n bytes (state_in view.flash old) (state_in view.flash new) result of_read is ne;
     flushed = λ is. (let no : ⊥ = cc in absurd no);
     reads = λ is. (refl, read_view kept flag (ap (λ (r : Ram). is_some r.pin.block) (leaves_mapping n result (ram old.engine) (ram new.engine) p q bytes leaves ne)));
     rescues = λ is. (let no : ⊥ = cc in absurd no);
@@ -177,32 +178,32 @@ module _ {N : Type 0} (flash : N → Flash) (recorded : N → Option Recording) 
   }
 
   module _ (safe : IsRam (ram old.engine)) (safe' : IsRam (ram new.engine)) (sized : new.engine.geometry ≡ old.engine.geometry)
-      (was : IsWell flash old) (well : IsWell flash new)
-      (w : Went (ram old.engine) (flash old.engine.nand) (recorded old.engine.nand) (ram new.engine) (flash new.engine.nand)
-      (recorded new.engine.nand)) (says : IfErr result (Says (ram old.engine) (ram new.engine)))
-      (shown : IfErr result (IsShown old.engine.geometry (is_bad_by (ram old.engine)) old.engine.next [] w.log old.read_only (image_in flash new.engine))) where
+      (was : IsWell view.flash old) (well : IsWell view.flash new)
+      (w : Went (ram old.engine) (view.flash old.engine.nand) (view.recorded old.engine.nand) (ram new.engine) (view.flash new.engine.nand)
+      (view.recorded new.engine.nand)) (says : IfErr result (Says (ram old.engine) (ram new.engine)))
+      (shown : IfErr result (IsShown old.engine.geometry (is_bad_by (ram old.engine)) old.engine.next [] w.log old.read_only (image_in view.flash new.engine))) where
     -- with no operation the image is as it was
-    unwritten : w.log ≡ [] → image_in flash new.engine ≡ image_in flash old.engine
-    unwritten none = (let same : flash new.engine.nand ≡ flash old.engine.nand = subst (λ l. Leads (flash old.engine.nand) l (flash new.engine.nand)) none w.leads in ap (λ (f : Flash). f.image) same)
+    unwritten : w.log ≡ [] → image_in view.flash new.engine ≡ image_in view.flash old.engine
+    unwritten none = (let same : view.flash new.engine.nand ≡ view.flash old.engine.nand = subst (λ l. Leads (view.flash old.engine.nand) l (view.flash new.engine.nand)) none w.leads in ap (λ (f : Flash). f.image) same)
 
-    rescued_so : HasRescued (ram old.engine) (ram new.engine) → Rescues old.engine.geometry (is_bad_by (ram old.engine)) w.log (image_in flash old.engine) (image_in flash new.engine)
-    rescued_so h = rescues (ram old.engine) (ram new.engine) w.log safe safe' sized w.follows h (image_in flash old.engine) (image_in flash new.engine) was.truth well.truth unwritten
+    rescued_so : HasRescued (ram old.engine) (ram new.engine) → Rescues old.engine.geometry (is_bad_by (ram old.engine)) w.log (image_in view.flash old.engine) (image_in view.flash new.engine)
+    rescued_so h = rescues (ram old.engine) (ram new.engine) w.log safe safe' sized w.follows h (image_in view.flash old.engine) (image_in view.flash new.engine) was.truth well.truth unwritten
 
-    twelve_so : HasRescued (ram old.engine) (ram new.engine) → HasTurned (ram old.engine) (ram new.engine) → LeavesTwelve old.engine.geometry (is_bad_by (ram old.engine)) w.log (image_in flash new.engine)
-    twelve_so h t = leaves_twelve (ram old.engine) (ram new.engine) w.log safe safe' sized w.follows h w.next (image_in flash old.engine) (image_in flash new.engine) was.truth well.truth unwritten t
+    twelve_so : HasRescued (ram old.engine) (ram new.engine) → HasTurned (ram old.engine) (ram new.engine) → LeavesTwelve old.engine.geometry (is_bad_by (ram old.engine)) w.log (image_in view.flash new.engine)
+    twelve_so h t = leaves_twelve (ram old.engine) (ram new.engine) w.log safe safe' sized w.follows h w.next (image_in view.flash old.engine) (image_in view.flash new.engine) was.truth well.truth unwritten t
 
     -- a call that may change sectors
     pub changed : (command : step.Command) (bytes : List ℕ) → is_read command ≡ false
         → (is_turn command ≡ true → OnOk result (HasRescued (ram old.engine) (ram new.engine)))
         → (is_turn command ≡ true → OnOk result (HasTurned (ram old.engine) (ram new.engine)))
-        → (is_flush command ≡ true → result ≡ Ok tt → IsFlushedOut (first_of (ram old.engine)) w.log (image_in flash new.engine))
+        → (is_flush command ≡ true → result ≡ Ok tt → IsFlushedOut (first_of (ram old.engine)) w.log (image_in view.flash new.engine))
         → (new.read_only ≡ true → IsLeftReadOnly command old.engine.geometry (is_bad_by (ram old.engine)) [] w.log old.read_only result)
         → NoDamage result
-        → (needs_no_memory (is_some old.engine.pinned) old.engine.geometry (image_in flash old.engine) command ≡ true → result ≢ Err OutOfMemory)
-        → ArrayStep old.engine.geometry (state_in flash old) command (answer_to command bytes result) (state_in flash new)
-        → SurvivesStops old.engine.geometry old.engine.mapping.capacity command result (image_in flash old.engine) (image_in flash new.engine)
-        (recorded new.engine.nand) w.log → AddsNoOld old.engine.geometry (image_in flash old.engine) (image_in flash new.engine)
-        → Happened flash recorded old (record { command = command; result = result; bytes = bytes }) new
+        → (needs_no_memory (is_some old.engine.pinned) old.engine.geometry (image_in view.flash old.engine) command ≡ true → result ≢ Err OutOfMemory)
+        → ArrayStep old.engine.geometry (state_in view.flash old) command (answer_to command bytes result) (state_in view.flash new)
+        → SurvivesStops old.engine.geometry old.engine.mapping.capacity command result (image_in view.flash old.engine) (image_in view.flash new.engine)
+        (view.recorded new.engine.nand) w.log → AddsNoOld old.engine.geometry (image_in view.flash old.engine) (image_in view.flash new.engine)
+        → Happened view old (record { command = command; result = result; bytes = bytes }) new
     changed command bytes no_read rescued turned flushed left is stale whole survives versions = record {
       stopped = survives;
       versions = versions;
@@ -213,7 +214,7 @@ module _ {N : Type 0} (flash : N → Flash) (recorded : N → Option Recording) 
       step = whole;
       went = w;
       stale = stale;
-      shown = λ bad next before also spent. shown_on (ram old.engine) (ram new.engine) w.log safe safe' sized w.follows bad before also next old.read_only (image_in flash new.engine) result well.truth spent says shown is ne;
+      shown = λ bad next before also spent. shown_on (ram old.engine) (ram new.engine) w.log safe safe' sized w.follows bad before also next old.read_only (image_in view.flash new.engine) result well.truth spent says shown is ne;
       left = λ bad before also on. left_on (ram old.engine) (ram new.engine) w.log safe safe' sized w.follows bad before also command old.read_only result (left on);
     }
 
@@ -236,14 +237,14 @@ fair_more first old mid before total (e ∷ events) [] event x fair here all is 
 fair_more first old mid before total (e ∷ events) (y ∷ xs) event x fair here all is =
     (fair.0, fair_more first e.left mid (before ++ e.piece) total events xs event x fair.1 here (all ∙ sym (append_assoc before e.piece (log_of events))) is)
 
-each_more : {N : Type 0} (flash : N → Flash) (recorded : N → Option Recording) (honest : N → Bool) (failed erases : N → ℕ) (old mid new : Device N)
+each_more : {N : Type 0} (view : View N) (old mid new : Device N)
     (events : List Event) (xs : List Exchange) (event : Event) (x : Exchange)
-    → HappensEach flash recorded honest failed erases old events xs mid → IsEventOf flash recorded honest failed erases mid event x new
-    → HappensEach flash recorded honest failed erases old (events ++ event ∷ []) (xs ++ x ∷ []) new
-each_more flash recorded honest failed erases old mid new [] [] event x each is = (new, subst (λ d. IsEventOf flash recorded honest failed erases d event x new) each is, refl)
-each_more flash recorded honest failed erases old mid new [] (y ∷ xs) event x each is = absurd each
-each_more flash recorded honest failed erases old mid new (e ∷ events) [] event x each is = absurd each
-each_more flash recorded honest failed erases old mid new (e ∷ events) (y ∷ xs) event x each is = (each.0, each.1, each_more flash recorded honest failed erases each.0 mid new events xs event x each.2 is)
+    → HappensEach view old events xs mid → IsEventOf view mid event x new
+    → HappensEach view old (events ++ event ∷ []) (xs ++ x ∷ []) new
+each_more view old mid new [] [] event x each is = (new, subst (λ d. IsEventOf view d event x new) each is, refl)
+each_more view old mid new [] (y ∷ xs) event x each is = absurd each
+each_more view old mid new (e ∷ events) [] event x each is = absurd each
+each_more view old mid new (e ∷ events) (y ∷ xs) event x each is = (each.0, each.1, each_more view each.0 mid new events xs event x each.2 is)
 
 -- a flush later in the run
 flushed_then : (a b c : Ram) (xs ys : List Operation) (image : Image) → b.geometry ≡ a.geometry → ((k : ℕ) → wear_at a.blocks.table k ≤ most_wear) → Wears xs a.blocks b.blocks
@@ -263,15 +264,15 @@ flushed_then a b c xs ys image same most wears here there f = record {
 }
 
 -- with the last image, the last device and the last log
-module _ {N : Type 0} (flash : N → Flash) (recorded : N → Option Recording) (honest : N → Bool) (failed erases : N → ℕ) (old mid new : Device N) (done : List Exchange) (x : Exchange)
+module _ {N : Type 0} (view : View N) (old mid new : Device N) (done : List Exchange) (x : Exchange)
     (sized : mid.engine.geometry ≡ old.engine.geometry) (sized' : new.engine.geometry ≡ mid.engine.geometry)
-    (die : (flash mid.engine.nand).geometry ≡ mid.engine.geometry) (die' : (flash new.engine.nand).geometry ≡ new.engine.geometry)
+    (die : (view.flash mid.engine.nand).geometry ≡ mid.engine.geometry) (die' : (view.flash new.engine.nand).geometry ≡ new.engine.geometry)
     (limits : HasLimitsOf old.engine.mapping new.engine.mapping) (most : (b : ℕ) → wear_at (ram old.engine).blocks.table b ≤ most_wear)
     (safe : IsRam (ram old.engine)) (mid_limits : HasLimitsOf old.engine.mapping mid.engine.mapping) (mid_safe : IsRam (ram mid.engine))
-    (safe' : IsRam (ram new.engine)) (well : IsWell flash new)
-    (ran : Ran flash recorded honest failed erases old done mid) (tells : Tells flash recorded honest failed erases mid x new) (h : Happened flash recorded mid x new) where
+    (safe' : IsRam (ram new.engine)) (well : IsWell view.flash new)
+    (ran : Ran view old done mid) (tells : Tells view mid x new) (h : Happened view mid x new) where
   event : Event
-  event = record { command = x.command; reply = reply_in x; piece = h.went.log; left = die_in flash new; told = recorded new.engine.nand }
+  event = record { command = x.command; reply = reply_in x; piece = h.went.log; left = die_in view.flash new; told = view.recorded new.engine.nand }
 
   follows : Follows old.engine.geometry.pages (log_of ran.run.events ++ h.went.log) (ram old.engine).blocks (ram new.engine).blocks
   follows = follows_then old.engine.geometry.pages (log_of ran.run.events) h.went.log (ram old.engine).blocks (ram mid.engine).blocks (ram new.engine).blocks ran.follows
@@ -288,18 +289,18 @@ module _ {N : Type 0} (flash : N → Flash) (recorded : N → Option Recording) 
         omega (arith, (counts old.engine.geometry.pages b (log_of ran.run.events) h.went.log).passed_erases_at);
   }
 
-  state_is : (d : Device N) → (flash d.engine.nand).geometry ≡ d.engine.geometry → state_of (die_in flash d) ≡ state_in flash d
-  state_is d e = ap (λ (g : Geometry). let s : step.State = record { array = array_of g (image_in flash d.engine); ro = d.read_only } in s) e
+  state_is : (d : Device N) → (view.flash d.engine.nand).geometry ≡ d.engine.geometry → state_of (die_in view.flash d) ≡ state_in view.flash d
+  state_is d e = ap (λ (g : Geometry). let s : step.State = record { array = array_of g (image_in view.flash d.engine); ro = d.read_only } in s) e
 
-  happens : Happens (die_in flash mid) event
+  happens : Happens (die_in view.flash mid) event
   unfolding event
   happens = record {
     leads = h.went.leads;
     step =
         let P : Geometry → step.State → step.State → Type 0 = λ g s t. ArrayStep g s x.command (reply_in x) t in
-        subst (λ g. P g (state_of (die_in flash mid)) (state_of (die_in flash new))) (sym die)
-        (subst (λ s. P mid.engine.geometry s (state_of (die_in flash new))) (sym (state_is mid die))
-        (subst (P mid.engine.geometry (state_in flash mid)) (sym (state_is new (die'))) h.step));
+        subst (λ g. P g (state_of (die_in view.flash mid)) (state_of (die_in view.flash new))) (sym die)
+        (subst (λ s. P mid.engine.geometry s (state_of (die_in view.flash new))) (sym (state_is mid die))
+        (subst (P mid.engine.geometry (state_in view.flash mid)) (sym (state_is new (die'))) h.step));
   }
 
   -- the blocks that are bad by the log up to this event
@@ -309,58 +310,58 @@ module _ {N : Type 0} (flash : N → Flash) (recorded : N → Option Recording) 
       let here : Q old.engine.geometry = λ b lt. bad_now_law (ram old.engine) (ram new.engine) (log_of ran.run.events ++ h.went.log) b safe.blocks_of follows lt in
       subst Q (sym same) here
 
-  fair : IsFair (first_of (ram old.engine)) (die_in flash mid) (log_of ran.run.events) event x
+  fair : IsFair (first_of (ram old.engine)) (die_in view.flash mid) (log_of ran.run.events) event x
   unfolding event
   fair = record {
     shown = λ fault e.
         let here = h.shown (is_bad_by (ram old.engine)) old.engine.next (log_of ran.run.events) (bads_then mid.engine.geometry sized) next in
-        let there = subst (λ (g : Geometry). IfErr x.result (IsShown g (is_bad_by (ram old.engine)) old.engine.next (log_of ran.run.events) h.went.log mid.read_only (image_in flash new.engine))) sized here in
-        subst (λ r. IfErr r (IsShown old.engine.geometry (is_bad_by (ram old.engine)) old.engine.next (log_of ran.run.events) h.went.log mid.read_only (image_in flash new.engine))) e there;
+        let there = subst (λ (g : Geometry). IfErr x.result (IsShown g (is_bad_by (ram old.engine)) old.engine.next (log_of ran.run.events) h.went.log mid.read_only (image_in view.flash new.engine))) sized here in
+        subst (λ r. IfErr r (IsShown old.engine.geometry (is_bad_by (ram old.engine)) old.engine.next (log_of ran.run.events) h.went.log mid.read_only (image_in view.flash new.engine))) e there;
     left = λ on. subst (λ (g : Geometry). IsLeftReadOnly x.command g (is_bad_by (ram old.engine)) (log_of ran.run.events) h.went.log mid.read_only x.result) sized (h.left (is_bad_by (ram old.engine)) (log_of ran.run.events) (bads_then mid.engine.geometry sized) on);
     flushed = λ is done.
         let its = h.flushed is done in
         let mid_bad : (b : ℕ) → b < mid.engine.geometry.blocks → is_bad_by (ram new.engine) b ≡ bad_of mid.engine.geometry.pages (is_bad_by (ram mid.engine)) h.went.log b = λ b lt. bad_now_law (ram mid.engine) (ram new.engine) h.went.log b mid_safe.blocks_of h.went.follows lt in
-        flushed_then (ram old.engine) (ram mid.engine) (ram new.engine) (log_of ran.run.events) h.went.log (image_in flash new.engine) sized most ran.wears mid_bad (bads_then mid.engine.geometry sized) its;
-    stale = λ need e. h.stale (subst (λ (g : Geometry). needs_no_memory (is_some mid.engine.pinned) g (image_in flash mid.engine) x.command ≡ true) (sym sized) need) e;
-    mountable = λ most. mountable_after flash old.engine new new.engine refl (sized' ∙ sized) limits safe' well most;
+        flushed_then (ram old.engine) (ram mid.engine) (ram new.engine) (log_of ran.run.events) h.went.log (image_in view.flash new.engine) sized most ran.wears mid_bad (bads_then mid.engine.geometry sized) its;
+    stale = λ need e. h.stale (subst (λ (g : Geometry). needs_no_memory (is_some mid.engine.pinned) g (image_in view.flash mid.engine) x.command ≡ true) (sym sized) need) e;
+    mountable = λ most. mountable_after view.flash old.engine new new.engine refl (sized' ∙ sized) limits safe' well most;
     reads = h.reads;
-    versions = subst (λ (g : Geometry). AddsNoOld g (image_in flash mid.engine) (image_in flash new.engine)) sized h.versions;
+    versions = subst (λ (g : Geometry). AddsNoOld g (image_in view.flash mid.engine) (image_in view.flash new.engine)) sized h.versions;
     pins = λ none some. pins_so mid.engine.pinned new.engine.pinned (is_turn x.command) (MayPin x.result) tells.pins none some;
     stopped =
-        let P : Geometry → ℕ → Type 0 = λ g c. SurvivesStops g c x.command x.result (image_in flash mid.engine) (image_in flash new.engine) (recorded new.engine.nand) h.went.log in
+        let P : Geometry → ℕ → Type 0 = λ g c. SurvivesStops g c x.command x.result (image_in view.flash mid.engine) (image_in view.flash new.engine) (view.recorded new.engine.nand) h.went.log in
         subst (λ g. P g old.engine.mapping.capacity) sized (subst (P mid.engine.geometry) mid_limits.capacity h.stopped);
     rescues = λ is done.
-        let here : Rescues old.engine.geometry (is_bad_by (ram mid.engine)) h.went.log (image_in flash mid.engine) (image_in flash new.engine) = subst
-        (λ (g : Geometry). Rescues g (is_bad_by (ram mid.engine)) h.went.log (image_in flash mid.engine) (image_in flash new.engine)) sized
+        let here : Rescues old.engine.geometry (is_bad_by (ram mid.engine)) h.went.log (image_in view.flash mid.engine) (image_in view.flash new.engine) = subst
+        (λ (g : Geometry). Rescues g (is_bad_by (ram mid.engine)) h.went.log (image_in view.flash mid.engine) (image_in view.flash new.engine)) sized
         (h.rescues is done) in
-        rescues_as old.engine.geometry (is_bad_by (ram mid.engine)) (bad_of old.engine.geometry.pages (is_bad_by (ram old.engine)) (log_of ran.run.events)) (λ b lt. bad_now_law (ram old.engine) (ram mid.engine) (log_of ran.run.events) b safe.blocks_of ran.follows lt) h.went.log (image_in flash mid.engine) (image_in flash new.engine) here;
+        rescues_as old.engine.geometry (is_bad_by (ram mid.engine)) (bad_of old.engine.geometry.pages (is_bad_by (ram old.engine)) (log_of ran.run.events)) (λ b lt. bad_now_law (ram old.engine) (ram mid.engine) (log_of ran.run.events) b safe.blocks_of ran.follows lt) h.went.log (image_in view.flash mid.engine) (image_in view.flash new.engine) here;
     quiet = λ is done.
-        let here : LeavesTwelve old.engine.geometry (is_bad_by (ram mid.engine)) h.went.log (image_in flash new.engine) = subst (λ (g : Geometry). LeavesTwelve g (is_bad_by (ram mid.engine)) h.went.log (image_in flash new.engine)) sized (h.quiet is done) in
+        let here : LeavesTwelve old.engine.geometry (is_bad_by (ram mid.engine)) h.went.log (image_in view.flash new.engine) = subst (λ (g : Geometry). LeavesTwelve g (is_bad_by (ram mid.engine)) h.went.log (image_in view.flash new.engine)) sized (h.quiet is done) in
         twelve_as old.engine.geometry (is_bad_by (ram mid.engine))
         (bad_of old.engine.geometry.pages (is_bad_by (ram old.engine)) (log_of ran.run.events))
         (λ b lt. bad_now_law (ram old.engine) (ram mid.engine) (log_of ran.run.events) b safe.blocks_of ran.follows lt) h.went.log
-        (image_in flash new.engine) here;
+        (image_in view.flash new.engine) here;
   }
 
-  run_more : HasRun (first_of (ram old.engine)) (die_in flash old) (die_in flash new) (done ++ x ∷ [])
+  run_more : HasRun (first_of (ram old.engine)) (die_in view.flash old) (die_in view.flash new) (done ++ x ∷ [])
   unfolding event
   run_more = record {
     events = ran.run.events ++ event ∷ [];
     commands = map-append (λ (e : Event). e.command) ran.run.events (event ∷ []) ∙ (ap (λ l. l ++ x.command ∷ []) ran.run.commands ∙ sym (map-append (λ (y : Exchange). y.command) done (x ∷ [])));
     replies = map-append (λ (e : Event). e.reply) ran.run.events (event ∷ []) ∙ (ap (λ l. l ++ reply_in x ∷ []) ran.run.replies ∙ sym (map-append reply_in done (x ∷ [])));
-    run = one_more_event (die_in flash old) (die_in flash mid) ran.run.events event ran.run.run happens;
-    fair = fair_more (first_of (ram old.engine)) (die_in flash old) (die_in flash mid) [] (log_of ran.run.events) ran.run.events done event x ran.run.fair (last (die_in flash old) (die_in flash mid) ran.run.events ran.run.run) refl fair;
+    run = one_more_event (die_in view.flash old) (die_in view.flash mid) ran.run.events event ran.run.run happens;
+    fair = fair_more (first_of (ram old.engine)) (die_in view.flash old) (die_in view.flash mid) [] (log_of ran.run.events) ran.run.events done event x ran.run.fair (last (die_in view.flash old) (die_in view.flash mid) ran.run.events ran.run.run) refl fair;
   }
 
   log_is : log_of ran.run.events ++ h.went.log ≡ log_of (ran.run.events ++ event ∷ [])
   unfolding event
   log_is = sym (logs ran.run.events (event ∷ []) ∙ ap (λ l. log_of ran.run.events ++ l) (append-nil h.went.log))
 
-  each : HappensEach flash recorded honest failed erases old (ran.run.events ++ event ∷ []) (done ++ x ∷ []) new
+  each : HappensEach view old (ran.run.events ++ event ∷ []) (done ++ x ∷ []) new
   unfolding event
-  each = each_more flash recorded honest failed erases old mid new ran.run.events done event x ran.each (record { tells = tells; happened = h; piece = refl; left = refl; told = refl })
+  each = each_more view old mid new ran.run.events done event x ran.each (record { tells = tells; happened = h; piece = refl; left = refl; told = refl })
 
-  pub ran_more : Ran flash recorded honest failed erases old (done ++ x ∷ []) new
+  pub ran_more : Ran view old (done ++ x ∷ []) new
   unfolding run_more
   ran_more = record {
     run = run_more;
@@ -370,8 +371,8 @@ module _ {N : Type 0} (flash : N → Flash) (recorded : N → Option Recording) 
     wears = subst (λ l. Wears l (ram old.engine).blocks (ram new.engine).blocks) log_is wears;
   }
 
-pub ran_none : {N : Type 0} (flash : N → Flash) (recorded : N → Option Recording) (honest : N → Bool) (failed erases : N → ℕ) (old : Device N) → Ran flash recorded honest failed erases old [] old
-ran_none flash recorded honest failed erases old = record {
+pub ran_none : {N : Type 0} (view : View N) (old : Device N) → Ran view old [] old
+ran_none view old = record {
   run = record { events = []; commands = refl; replies = refl; run = refl; fair = tt };
   each = refl;
   follows = record { legal = λ accounts a. tt; accounted = λ accounts a. a };

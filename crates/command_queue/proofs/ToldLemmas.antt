@@ -1,14 +1,13 @@
 -- Calls are told one after another.
-use Rattle.std.proofs.Common.{◌≡◌, ◌≢◌, ◌⊎◌, inl, inr, ℕ, ◌-◌, ◌^◌, ◌<◌, ◌≤◌, Bool, true, List, [], ◌∷◌, ◌++◌, Option, Some, None, Result, Ok, Err}
+use Rattle.std.proofs.Common.{◌≡◌, ◌≢◌, ◌⊎◌, inl, inr, ℕ, ◌-◌, ◌^◌, ◌<◌, ◌≤◌, true, List, [], ◌∷◌, ◌++◌, Option, Some, None, Result, Ok, Err}
 use Rattle.std.proofs.Common.{refl, sym, ap, subst, ◌∙◌, arith, append_assoc}
 use Rattle.std.specs.Prelude.{IfErr}
 use Rattle.std.specs.Option.{ForSome}
 use Rattle.std.specs.List.{AllByRecursion}
 use Rattle.std.proofs.lemmas.List.{append-nil}
 use Rattle.std.proofs.Math.Nat.{eq-or-lt_of_le}
+use Rattle.page_layout.specs.View.{View}
 use Rattle.page_layout.specs.Counter.{HasRisen}
-use Rattle.page_layout.specs.Flash.{Flash}
-use Rattle.page_layout.specs.Recording.{Recording}
 use Rattle.mapping_cache.specs.Mapping.{MappingState, HasLimitsOf}
 use Rattle.promises.specs.Step as step
 use Rattle.collection.proofs.Costs.{risen_over}
@@ -111,8 +110,8 @@ module _ {S T : Type 0} (of : S → T) (Runs : List Exchange → S → Type 0) (
   }
 
 -- of a device that the bus had not failed before, the count rose in that call
-module _ {N : Type 0} (flash : N → Flash) (recorded : N → Option Recording) (honest : N → Bool) (failed erases : N → ℕ) (old new : Device N)
-    (x : Exchange) (tells : Tells flash recorded honest failed erases old x new) (ne : stop_of old.engine.fault ≢ Some BusFault)
+module _ {N : Type 0} (view : View N) (old new : Device N)
+    (x : Exchange) (tells : Tells view old x new) (ne : stop_of old.engine.fault ≢ Some BusFault)
     (bus : x.result ≡ Err BusFault) where
   was_going : (o : Option DeviceFault) → stop_of old.engine.fault ≡ o → o ≡ None
   was_going None is = refl
@@ -120,19 +119,19 @@ module _ {N : Type 0} (flash : N → Flash) (recorded : N → Option Recording) 
       let same : fault ≡ BusFault = (let both : Err fault ≡ Err BusFault = sym (tells.stopped fault is).0 ∙ bus in cc) in
       absurd (ne (is ∙ ap Some same))
 
-  pub fault_rose : HasRisen (failed old.engine.nand) (failed new.engine.nand)
+  pub fault_rose : HasRisen (view.failed old.engine.nand) (view.failed new.engine.nand)
   fault_rose = tells.rose (was_going (stop_of old.engine.fault) refl) bus
 
 -- ---- none, and one more
 
-chain_more : {N : Type 0} (flash : N → Flash) (recorded : N → Option Recording) (honest : N → Bool) (failed erases : N → ℕ) (old now new : Device N)
-    (xs : List Exchange) (x : Exchange) → ToldEach flash recorded honest failed erases old xs now
-    → Tells flash recorded honest failed erases now x new → ToldEach flash recorded honest failed erases old (xs ++ x ∷ []) new
-chain_more flash recorded honest failed erases old now new [] x each tells = (new, subst (λ d. Tells flash recorded honest failed erases d x new) each tells, refl)
-chain_more flash recorded honest failed erases old now new (y ∷ xs) x each tells = (each.0, each.1, chain_more flash recorded honest failed erases each.0 now new xs x each.2 tells)
+chain_more : {N : Type 0} (view : View N) (old now new : Device N)
+    (xs : List Exchange) (x : Exchange) → ToldEach view old xs now
+    → Tells view now x new → ToldEach view old (xs ++ x ∷ []) new
+chain_more view old now new [] x each tells = (new, subst (λ d. Tells view d x new) each tells, refl)
+chain_more view old now new (y ∷ xs) x each tells = (each.0, each.1, chain_more view each.0 now new xs x each.2 tells)
 
-calls_none : {N : Type 0} (flash : N → Flash) (recorded : N → Option Recording) (honest : N → Bool) (failed erases : N → ℕ) (old : Device N) → IsDevice flash old → AreTold flash recorded honest failed erases old [] old
-calls_none flash recorded honest failed erases old device = record {
+calls_none : {N : Type 0} (view : View N) (old : Device N) → IsDevice view.flash old → AreTold view old [] old
+calls_none view old device = record {
   device = device;
   sized = refl;
   limits = record { geometry = refl; capacity = refl };
@@ -146,9 +145,9 @@ calls_none flash recorded honest failed erases old device = record {
   each = refl;
 }
 
-pub told_none : {N : Type 0} (flash : N → Flash) (recorded : N → Option Recording) (honest : N → Bool) (failed erases : N → ℕ) (old : Device N) → IsDevice flash old → WasTold flash recorded honest failed erases old [] old
-told_none flash recorded honest failed erases old device = record {
-  calls = calls_none flash recorded honest failed erases old device;
+pub told_none : {N : Type 0} (view : View N) (old : Device N) → IsDevice view.flash old → WasTold view old [] old
+told_none view old device = record {
+  calls = calls_none view old device;
   until = record {
     before = [];
     rest = [];
@@ -156,19 +155,19 @@ told_none flash recorded honest failed erases old device = record {
     known = tt;
     refused = tt;
     mid = old;
-    runs = (calls_none flash recorded honest failed erases old device, λ is_honest well. (well, ran_none flash recorded honest failed erases old));
+    runs = (calls_none view old device, λ is_honest well. (well, ran_none view old));
     fails = refl;
   };
 }
 
-module _ {N : Type 0} (flash : N → Flash) (recorded : N → Option Recording) (honest : N → Bool) (failed erases : N → ℕ) (old now new : Device N) (xs : List Exchange) (x : Exchange)
-    (safe : IsDevice flash old) (so_far : AreTold flash recorded honest failed erases old xs now) (tells : Tells flash recorded honest failed erases now x new) where
-  ran_on : honest old.engine.nand ≡ true → IsWell flash old → IsWell flash now × Ran flash recorded honest failed erases old xs now → x.result ≢ Err BusFault → IsWell flash new × Ran flash recorded honest failed erases old (xs ++ x ∷ []) new
+module _ {N : Type 0} (view : View N) (old now new : Device N) (xs : List Exchange) (x : Exchange)
+    (safe : IsDevice view.flash old) (so_far : AreTold view old xs now) (tells : Tells view now x new) where
+  ran_on : view.honest old.engine.nand ≡ true → IsWell view.flash old → IsWell view.flash now × Ran view old xs now → x.result ≢ Err BusFault → IsWell view.flash new × Ran view old (xs ++ x ∷ []) new
   ran_on is_honest well before ne =
-      let still : honest now.engine.nand ≡ true = so_far.honest_is ∙ is_honest in
-      let now_well : IsWell flash new = tells.well still before.0 ne in (
+      let still : view.honest now.engine.nand ≡ true = so_far.honest_is ∙ is_honest in
+      let now_well : IsWell view.flash new = tells.well still before.0 ne in (
         now_well,
-        ran_more flash recorded honest failed erases old now new xs x so_far.sized tells.sized so_far.device.engine.geometry
+        ran_more view old now new xs x so_far.sized tells.sized so_far.device.engine.geometry
             tells.device.engine.geometry (limits_then old.engine.mapping now.engine.mapping new.engine.mapping so_far.limits tells.limits)
             well.truth.worn.most safe.engine.memory so_far.limits so_far.device.engine.memory tells.device.engine.memory now_well before.1 tells
             (tells.happened still before.0 ne),
@@ -189,17 +188,17 @@ module _ {N : Type 0} (flash : N → Flash) (recorded : N → Option Recording) 
       (halted_still (stop_of now.engine.fault) (stop_of new.engine.fault) xs (λ fault is. ap (λ (d : Device N). stop_of d.engine.fault) (tells.stopped fault is).1 ∙ is) so_far.halted) its_stop
 
   abbrev RoseBy : List Exchange → Type 0
-  RoseBy ys = AreKnown ys ⊎ HasRisen (failed old.engine.nand) (failed new.engine.nand)
+  RoseBy ys = AreKnown ys ⊎ HasRisen (view.failed old.engine.nand) (view.failed new.engine.nand)
 
   rose_by : stop_of now.engine.fault ≢ Some BusFault → AreKnown xs → (x.result ≡ Err BusFault) ⊎ (x.result ≢ Err BusFault) → RoseBy (xs ++ x ∷ [])
-  rose_by going known (inl bus) = inr (risen_over (failed old.engine.nand) (failed now.engine.nand) (failed new.engine.nand) so_far.failed_is (fault_rose flash recorded honest failed erases now new x tells going bus))
+  rose_by going known (inl bus) = inr (risen_over (view.failed old.engine.nand) (view.failed now.engine.nand) (view.failed new.engine.nand) so_far.failed_is (fault_rose view now new x tells going bus))
   rose_by going known (inr ne) = inl (all_more IsKnown xs x known ne)
 
-  rose_on : stop_of old.engine.fault ≡ None → AreKnown xs ⊎ HasRisen (failed old.engine.nand) (failed now.engine.nand) → RoseBy (xs ++ x ∷ [])
+  rose_on : stop_of old.engine.fault ≡ None → AreKnown xs ⊎ HasRisen (view.failed old.engine.nand) (view.failed now.engine.nand) → RoseBy (xs ++ x ∷ [])
   rose_on none (inl known) = rose_by (so_far.going none known) known (bus_or x.result)
-  rose_on none (inr risen) = inr (risen_on (failed old.engine.nand) (failed now.engine.nand) (failed new.engine.nand) so_far.failed_is tells.failed_is risen)
+  rose_on none (inr risen) = inr (risen_on (view.failed old.engine.nand) (view.failed now.engine.nand) (view.failed new.engine.nand) so_far.failed_is tells.failed_is risen)
 
-  calls_more : AreTold flash recorded honest failed erases old (xs ++ x ∷ []) new
+  calls_more : AreTold view old (xs ++ x ∷ []) new
   calls_more = record {
     device = tells.device;
     sized = tells.sized ∙ so_far.sized;
@@ -211,17 +210,17 @@ module _ {N : Type 0} (flash : N → Flash) (recorded : N → Option Recording) 
     stays = stays_more (stop_of now.engine.fault) xs x (λ fault is. (tells.stopped fault is).0) so_far.halted so_far.stays;
     going = λ none known e. (all_less IsKnown xs x known).1 (tells.standing BusFault e);
     rose = λ none. rose_on none (so_far.rose none);
-    each = chain_more flash recorded honest failed erases old now new xs x so_far.each tells;
+    each = chain_more view old now new xs x so_far.each tells;
   }
 
   -- after a fault of the bus the device answers it again, and is as it was
-  again : (mid : Device N) (y : Exchange) → y.result ≡ Err BusFault → Tells flash recorded honest failed erases mid y now → (x.result ≡ Err BusFault) × (new ≡ now)
+  again : (mid : Device N) (y : Exchange) → y.result ≡ Err BusFault → Tells view mid y now → (x.result ≡ Err BusFault) × (new ≡ now)
   again mid y bus its = tells.stopped BusFault (subst (λ r. IfErr r (λ fault. StopsDevice y.command fault → stop_of now.engine.fault ≡ Some fault)) bus its.stops (bus_stops y.command))
 
   until_on : (before rest : List Exchange) (mid : Device N) → xs ≡ before ++ rest → AreKnown before → AreRefused BusFault rest
-      → RunsTo flash recorded honest failed erases old before mid → EndsBy (Tells flash recorded honest failed erases) mid rest now
+      → RunsTo view old before mid → EndsBy (Tells view) mid rest now
       → (x.result ≡ Err BusFault) ⊎ (x.result ≢ Err BusFault)
-      → Until (RunsTo flash recorded honest failed erases old) (Tells flash recorded honest failed erases) (xs ++ x ∷ []) new
+      → Until (RunsTo view old) (Tells view) (xs ++ x ∷ []) new
   until_on before [] mid joined known refused runs ends (inl bus) = record {
     before = before;
     rest = x ∷ [];
@@ -230,11 +229,11 @@ module _ {N : Type 0} (flash : N → Flash) (recorded : N → Option Recording) 
     refused = (bus, tt);
     mid = mid;
     runs = runs;
-    fails = subst (λ d. Tells flash recorded honest failed erases d x new) ends tells;
+    fails = subst (λ d. Tells view d x new) ends tells;
   }
   until_on before [] mid joined known refused runs ends (inr ne) =
       let all : xs ≡ before = joined ∙ append-nil before in
-      let here : RunsTo flash recorded honest failed erases old xs now = subst (λ d. RunsTo flash recorded honest failed erases old xs d) (sym ends) (subst (λ l. RunsTo flash recorded honest failed erases old l mid) (sym all) runs) in
+      let here : RunsTo view old xs now = subst (λ d. RunsTo view old xs d) (sym ends) (subst (λ l. RunsTo view old l mid) (sym all) runs) in
       record {
         before = xs ++ x ∷ [];
         rest = [];
@@ -255,16 +254,16 @@ module _ {N : Type 0} (flash : N → Flash) (recorded : N → Option Recording) 
         refused = (refused.0, all_more (λ (z : Exchange). z.result ≡ Err BusFault) rest x refused.1 still.0);
         mid = mid;
         runs = runs;
-        fails = subst (λ d. Tells flash recorded honest failed erases mid y d) (sym still.1) ends;
+        fails = subst (λ d. Tells view mid y d) (sym still.1) ends;
       }
 
 -- one call more
-pub told_more : {N : Type 0} (flash : N → Flash) (recorded : N → Option Recording) (honest : N → Bool) (failed erases : N → ℕ)
-    (old now new : Device N) (xs : List Exchange) (x : Exchange) → IsDevice flash old → WasTold flash recorded honest failed erases old xs now
-    → Tells flash recorded honest failed erases now x new → WasTold flash recorded honest failed erases old (xs ++ x ∷ []) new
-told_more flash recorded honest failed erases old now new xs x safe so_far tells =
+pub told_more : {N : Type 0} (view : View N)
+    (old now new : Device N) (xs : List Exchange) (x : Exchange) → IsDevice view.flash old → WasTold view old xs now
+    → Tells view now x new → WasTold view old (xs ++ x ∷ []) new
+told_more view old now new xs x safe so_far tells =
     let u = so_far.until in
     record {
-      calls = calls_more flash recorded honest failed erases old now new xs x safe so_far.calls tells;
-      until = until_on flash recorded honest failed erases old now new xs x safe so_far.calls tells u.before u.rest u.mid u.joined u.known u.refused u.runs u.fails (bus_or x.result);
+      calls = calls_more view old now new xs x safe so_far.calls tells;
+      until = until_on view old now new xs x safe so_far.calls tells u.before u.rest u.mid u.joined u.known u.refused u.runs u.fails (bus_or x.result);
     }

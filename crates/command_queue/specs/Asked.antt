@@ -1,8 +1,9 @@
 -- Many calls of a device, one after another, `migrate_one` among them.
-use Rattle.std.specs.Prelude.{◌≡◌, ◌≢◌, ◌⊎◌, ℕ, ◌+◌, ◌≤◌, Bool, true, false, List, [], ◌∷◌, ◌++◌, map, Option, Result, Ok, Err, IfOk}
+use Rattle.std.specs.Prelude.{◌≡◌, ◌≢◌, ◌⊎◌, ℕ, ◌+◌, ◌≤◌, Bool, true, false, List, [], ◌∷◌, ◌++◌, map, Result, Ok, Err, IfOk}
 use Rattle.std.specs.List.{AllByRecursion}
-use Rattle.page_layout.specs.Flash.{Flash, Operation, Leads}
-use Rattle.page_layout.specs.Recording.{Recording, Records}
+use Rattle.page_layout.specs.View.{View}
+use Rattle.page_layout.specs.Flash.{Operation, Leads}
+use Rattle.page_layout.specs.Recording.{Records}
 use Rattle.page_layout.specs.OnlyReads.{OnlyReads}
 use Rattle.page_layout.specs.Version.{AddsNoOld}
 use Rattle.promises.specs.Step as step
@@ -56,82 +57,82 @@ HaveFlushed (call ∷ calls) = ((is_flush (command_asked call) ≡ true) × (res
 -- WHAT THE CONTRACT OF `Device::migrate_one` SAYS, as a list of calls needs it: all that is said of a turn's array, log and image; with `false` no
 -- newest page is of version 1, but table pages, and nothing is programmed or erased. With `true` fewer are than before: room was made, and then one
 -- page was rescued, the one that was found, or none where making room has moved it; and the cursor went past its row.
-pub record MigratesOne {N : Type 0} (flash : N → Flash) (recorded : N → Option Recording) (honest calm : N → Bool) (programs erases failed : N → ℕ) (old : Device N)
+pub record MigratesOne {N : Type 0} (view : View N) (old : Device N)
     (result : Result Bool DeviceFault) (new : Device N) : Type 0 where
-  pub device : IsDevice flash new
+  pub device : IsDevice view.flash new
   pub sized : new.engine.geometry ≡ old.engine.geometry
-  pub upkeeps : Upkeeps flash recorded honest calm failed step.Turn old (ended result) new
-  pub migrates : honest old.engine.nand ≡ true → IsWell flash old → 40 ≤ old.engine.geometry.spare_bytes
-      → IfOk result (λ found. Migrates found old.engine.geometry (image_in flash old.engine) (image_in flash new.engine))
-  pub rests : IfOk result (λ found. found ≡ false → OnlyReads flash honest calm programs erases failed old.engine.nand new.engine.nand)
+  pub upkeeps : Upkeeps view step.Turn old (ended result) new
+  pub migrates : view.honest old.engine.nand ≡ true → IsWell view.flash old → 40 ≤ old.engine.geometry.spare_bytes
+      → IfOk result (λ found. Migrates found old.engine.geometry (image_in view.flash old.engine) (image_in view.flash new.engine))
+  pub rests : IfOk result (λ found. found ≡ false → OnlyReads view old.engine.nand new.engine.nand)
   pub brought : result ≡ Ok true → HasBrought (ram old.engine) (ram new.engine)
-  pub brings : honest old.engine.nand ≡ true → IsWell flash old → result ≡ Ok true → BringsOne flash recorded old new
+  pub brings : view.honest old.engine.nand ≡ true → IsWell view.flash old → result ≡ Ok true → BringsOne view old new
   pub stays : result ≢ Ok true → new.cursor ≡ old.cursor
 
 -- EACH CALL DID WHAT IT PROMISES, from a device to the next
-abbrev pub AskedEach : {N : Type 0} → (N → Flash) → (N → Option Recording) → (honest calm : N → Bool) → (programs failed erases : N → ℕ) → Device N → List Asked → Device N → Type 0
-AskedEach flash recorded honest calm programs failed erases old [] new = new ≡ old
-AskedEach {N} flash recorded honest calm programs failed erases old (Told x ∷ calls) new =
-    (mid : Device N) × Tells flash recorded honest failed erases old x mid × AskedEach flash recorded honest calm programs failed erases mid calls new
-AskedEach {N} flash recorded honest calm programs failed erases old (Migrated result ∷ calls) new =
-    (mid : Device N) × MigratesOne flash recorded honest calm programs erases failed old result mid × AskedEach flash recorded honest calm programs failed erases mid calls new
+abbrev pub AskedEach : {N : Type 0} → (view : View N) → Device N → List Asked → Device N → Type 0
+AskedEach view old [] new = new ≡ old
+AskedEach {N} view old (Told x ∷ calls) new =
+    (mid : Device N) × Tells view old x mid × AskedEach view mid calls new
+AskedEach {N} view old (Migrated result ∷ calls) new =
+    (mid : Device N) × MigratesOne view old result mid × AskedEach view mid calls new
 
 -- ---- what is so of them, where the die is honest and gave every outcome
 
 -- OF ONE CALL, whichever it is: its answer is a step of the array, one log leads the die on, a stop at any moment of it leaves either array, no
 -- newest page of version 1 is added where the die has version 2, and the device is well after it
-pub record DoesCall {N : Type 0} (flash : N → Flash) (recorded : N → Option Recording) (old : Device N) (call : Asked) (new : Device N) : Type 0 where
+pub record DoesCall {N : Type 0} (view : View N) (old : Device N) (call : Asked) (new : Device N) : Type 0 where
   pub sized : new.engine.geometry ≡ old.engine.geometry
-  pub step : ArrayStep old.engine.geometry (state_in flash old) (command_asked call) (reply_asked call) (state_in flash new)
-  pub went : Went (ram old.engine) (flash old.engine.nand) (recorded old.engine.nand) (ram new.engine) (flash new.engine.nand) (recorded new.engine.nand)
-  pub stopped : SurvivesStops old.engine.geometry old.engine.mapping.capacity (command_asked call) (result_asked call) (image_in flash old.engine) (image_in flash new.engine) (recorded new.engine.nand) went.log
-  pub versions : AddsNoOld old.engine.geometry (image_in flash old.engine) (image_in flash new.engine)
-  pub well : IsWell flash new
+  pub step : ArrayStep old.engine.geometry (state_in view.flash old) (command_asked call) (reply_asked call) (state_in view.flash new)
+  pub went : Went (ram old.engine) (view.flash old.engine.nand) (view.recorded old.engine.nand) (ram new.engine) (view.flash new.engine.nand) (view.recorded new.engine.nand)
+  pub stopped : SurvivesStops old.engine.geometry old.engine.mapping.capacity (command_asked call) (result_asked call) (image_in view.flash old.engine) (image_in view.flash new.engine) (view.recorded new.engine.nand) went.log
+  pub versions : AddsNoOld old.engine.geometry (image_in view.flash old.engine) (image_in view.flash new.engine)
+  pub well : IsWell view.flash new
 
 -- of each of them, from a device to the next
-abbrev pub DoesEach : {N : Type 0} → (N → Flash) → (N → Option Recording) → Device N → List Asked → Device N → Type 0
-DoesEach flash recorded old [] new = new ≡ old
-DoesEach {N} flash recorded old (call ∷ calls) new = (mid : Device N) × DoesCall flash recorded old call mid × DoesEach flash recorded mid calls new
+abbrev pub DoesEach : {N : Type 0} → View N → Device N → List Asked → Device N → Type 0
+DoesEach view old [] new = new ≡ old
+DoesEach {N} view old (call ∷ calls) new = (mid : Device N) × DoesCall view old call mid × DoesEach view mid calls new
 
 -- their logs, one after another
-abbrev pub log_asked : {N : Type 0} → (flash : N → Flash) → (recorded : N → Option Recording) → (old : Device N) → (calls : List Asked)
-    → (new : Device N) → DoesEach flash recorded old calls new → List Operation
-log_asked flash recorded old [] new each = []
-log_asked flash recorded old (call ∷ calls) new each = each.1.went.log ++ log_asked flash recorded each.0 calls new each.2
+abbrev pub log_asked : {N : Type 0} → (view : View N) → (old : Device N) → (calls : List Asked)
+    → (new : Device N) → DoesEach view old calls new → List Operation
+log_asked view old [] new each = []
+log_asked view old (call ∷ calls) new each = each.1.went.log ++ log_asked view each.0 calls new each.2
 
 -- OF ALL OF THEM TOGETHER: one run of the array; their logs are one, legal by accounts that agree with the memory, which leaves such accounts, and
 -- the record that the die tells has gained just it
-pub record DoesAll {N : Type 0} (flash : N → Flash) (recorded : N → Option Recording) (old : Device N) (calls : List Asked) (new : Device N) (log : List Operation) : Type 0 where
-  pub array : ArrayRun old.engine.geometry (state_in flash old) (map command_asked calls) (map reply_asked calls) (state_in flash new)
-  pub leads : Leads (flash old.engine.nand) log (flash new.engine.nand)
-  pub records : Records (recorded old.engine.nand) log (recorded new.engine.nand)
+pub record DoesAll {N : Type 0} (view : View N) (old : Device N) (calls : List Asked) (new : Device N) (log : List Operation) : Type 0 where
+  pub array : ArrayRun old.engine.geometry (state_in view.flash old) (map command_asked calls) (map reply_asked calls) (state_in view.flash new)
+  pub leads : Leads (view.flash old.engine.nand) log (view.flash new.engine.nand)
+  pub records : Records (view.recorded old.engine.nand) log (view.recorded new.engine.nand)
   pub follows : Follows old.engine.geometry.pages log (ram old.engine).blocks (ram new.engine).blocks
   pub next : new.engine.next ≡ old.engine.next + programs_in log
   pub wears : Wears log (ram old.engine).blocks (ram new.engine).blocks
-  pub versions : AddsNoOld old.engine.geometry (image_in flash old.engine) (image_in flash new.engine)
-  pub well : IsWell flash new
+  pub versions : AddsNoOld old.engine.geometry (image_in view.flash old.engine) (image_in view.flash new.engine)
+  pub well : IsWell view.flash new
 
 -- ---- laws
 
 -- what was told is a list of calls
-abbrev pub ToldAskedLaw : {N : Type 0} → (N → Flash) → (N → Option Recording) → (honest calm : N → Bool) → (programs failed erases : N → ℕ) → Type 0
-ToldAskedLaw {N} flash recorded honest calm programs failed erases = (old new : Device N) (xs : List Exchange)
-    → ToldEach flash recorded honest failed erases old xs new → AskedEach flash recorded honest calm programs failed erases old (map Told xs) new
+abbrev pub ToldAskedLaw : {N : Type 0} → (view : View N) → Type 0
+ToldAskedLaw {N} view = (old new : Device N) (xs : List Exchange)
+    → ToldEach view old xs new → AskedEach view old (map Told xs) new
 
 -- AND CALLS AFTER CALLS ARE ONE LIST: so a run, a call of `migrate_one`, and a run
-abbrev pub AskedJoinLaw : {N : Type 0} → (N → Flash) → (N → Option Recording) → (honest calm : N → Bool) → (programs failed erases : N → ℕ) → Type 0
-AskedJoinLaw {N} flash recorded honest calm programs failed erases = (old mid new : Device N) (calls later : List Asked) → AskedEach flash recorded honest calm programs failed erases old calls mid
-    → AskedEach flash recorded honest calm programs failed erases mid later new → AskedEach flash recorded honest calm programs failed erases old (calls ++ later) new
+abbrev pub AskedJoinLaw : {N : Type 0} → (view : View N) → Type 0
+AskedJoinLaw {N} view = (old mid new : Device N) (calls later : List Asked) → AskedEach view old calls mid
+    → AskedEach view mid later new → AskedEach view old (calls ++ later) new
 
 -- ONE RUN, WHATEVER WAS ASKED, of an honest die that gave every outcome
-abbrev pub AskedRunLaw : {N : Type 0} → (N → Flash) → (N → Option Recording) → (honest calm : N → Bool) → (programs failed erases : N → ℕ) → Type 0
-AskedRunLaw {N} flash recorded honest calm programs failed erases = (old new : Device N) (calls : List Asked) → honest old.engine.nand ≡ true → IsWell flash old → HaveOutcomes calls
-    → AskedEach flash recorded honest calm programs failed erases old calls new
-    → (each : DoesEach flash recorded old calls new) × DoesAll flash recorded old calls new (log_asked flash recorded old calls new each)
+abbrev pub AskedRunLaw : {N : Type 0} → (view : View N) → Type 0
+AskedRunLaw {N} view = (old new : Device N) (calls : List Asked) → view.honest old.engine.nand ≡ true → IsWell view.flash old → HaveOutcomes calls
+    → AskedEach view old calls new
+    → (each : DoesEach view old calls new) × DoesAll view old calls new (log_asked view old calls new each)
 
 -- ALL IS BROUGHT FORWARD, where the die has room for version 2: once `migrate_one` has answered `false`, no newest page is of version 1 after any
 -- calls among which a flush was done
-abbrev pub AskedForwardLaw : {N : Type 0} → (N → Flash) → (N → Option Recording) → (honest calm : N → Bool) → (programs failed erases : N → ℕ) → Type 0
-AskedForwardLaw {N} flash recorded honest calm programs failed erases = (old new : Device N) (calls : List Asked) → honest old.engine.nand ≡ true
-    → IsWell flash old → 40 ≤ old.engine.geometry.spare_bytes → HaveOutcomes calls
-    → AskedEach flash recorded honest calm programs failed erases old (Migrated (Ok false) ∷ calls) new → HaveFlushed calls → HasNoneOld (image_in flash new.engine)
+abbrev pub AskedForwardLaw : {N : Type 0} → (view : View N) → Type 0
+AskedForwardLaw {N} view = (old new : Device N) (calls : List Asked) → view.honest old.engine.nand ≡ true
+    → IsWell view.flash old → 40 ≤ old.engine.geometry.spare_bytes → HaveOutcomes calls
+    → AskedEach view old (Migrated (Ok false) ∷ calls) new → HaveFlushed calls → HasNoneOld (image_in view.flash new.engine)

@@ -1,12 +1,13 @@
 -- WHAT THE EVENTS OF A RUN SAY of the calls that they are: of the record that the die tells, of a stop in a call, and of memory.
-use Rattle.std.specs.Prelude.{◌≡◌, ◌≢◌, ◌⊎◌, ℕ, ◌+◌, ◌-◌, ◌^◌, ◌<◌, ◌≤◌, Bool, true, false, List, [], ◌∷◌, ◌++◌, Option, Some, IsSome, Ok, Err}
+use Rattle.std.specs.Prelude.{◌≡◌, ◌≢◌, ◌⊎◌, ℕ, ◌+◌, ◌-◌, ◌^◌, ◌<◌, ◌≤◌, true, false, List, [], ◌∷◌, ◌++◌, Some, IsSome, Ok, Err}
+use Rattle.page_layout.specs.View.{View}
 use Rattle.page_layout.specs.declared.geometry.Geometry.{Geometry}
 use Rattle.page_layout.specs.Page.{Image}
 use Rattle.page_layout.specs.Array.{array_of}
 use Rattle.page_layout.specs.Geometry.{need}
 use Rattle.page_layout.specs.Sound.{version_for}
 use Rattle.page_layout.specs.Version.{old_pages}
-use Rattle.page_layout.specs.Flash.{Flash, Operation}
+use Rattle.page_layout.specs.Flash.{Operation}
 use Rattle.page_layout.specs.Recording.{Recording, Records}
 use Rattle.promises.specs.Step as step
 use Rattle.promises.specs.Log.{programs_in, good_count, free_count, failed_count, IsShort}
@@ -31,32 +32,32 @@ abbrev pub LeavesEither : Geometry → (piece : List Operation) → (before afte
 LeavesEither g piece before after = (left : Image) → MayLeave g before piece left → (array_of g left ≡ array_of g before) ⊎ (array_of g left ≡ array_of g after)
 
 -- so of each of these calls after which the die tells a record
-abbrev pub EachLeavesEither : {N : Type 0} → (flash : N → Flash) → (recorded : N → Option Recording) → (honest : N → Bool) → (failed erases : N → ℕ) → Geometry
-    → (old : Device N) → (events : List Event) → (xs : List Exchange) → (new : Device N) → HappensEach flash recorded honest failed erases old events xs new → Type 0
-EachLeavesEither flash recorded honest failed erases g old [] [] new each = Unit {0}
-EachLeavesEither flash recorded honest failed erases g old [] (x ∷ xs) new each = ⊥
-EachLeavesEither flash recorded honest failed erases g old (event ∷ events) [] new each = ⊥
-EachLeavesEither flash recorded honest failed erases g old (event ∷ events) (x ∷ xs) new each =
-    (IsSome (recorded each.0.engine.nand) → LeavesEither g event.piece (image_in flash old.engine) (image_in flash each.0.engine))
-    × EachLeavesEither flash recorded honest failed erases g each.0 events xs new each.2
+abbrev pub EachLeavesEither : {N : Type 0} → (view : View N) → Geometry
+    → (old : Device N) → (events : List Event) → (xs : List Exchange) → (new : Device N) → HappensEach view old events xs new → Type 0
+EachLeavesEither view g old [] [] new each = Unit {0}
+EachLeavesEither view g old [] (x ∷ xs) new each = ⊥
+EachLeavesEither view g old (event ∷ events) [] new each = ⊥
+EachLeavesEither view g old (event ∷ events) (x ∷ xs) new each =
+    (IsSome (view.recorded each.0.engine.nand) → LeavesEither g event.piece (image_in view.flash old.engine) (image_in view.flash each.0.engine))
+    × EachLeavesEither view g each.0 events xs new each.2
 
 -- ---- laws
 
 -- AN EVENT TELLS THE RECORD that the die of its device tells
-abbrev pub EventTellsLaw : {N : Type 0} → (N → Flash) → (N → Option Recording) → (N → Bool) → (failed erases : N → ℕ) → Type 0
-EventTellsLaw {N} flash recorded honest failed erases = (old new : Device N) (event : Event) (x : Exchange) (r : Recording)
-    → IsEventOf flash recorded honest failed erases old event x new → recorded new.engine.nand ≡ Some r → event.told ≡ Some r
+abbrev pub EventTellsLaw : {N : Type 0} → (view : View N) → Type 0
+EventTellsLaw {N} view = (old new : Device N) (event : Event) (x : Exchange) (r : Recording)
+    → IsEventOf view old event x new → view.recorded new.engine.nand ≡ Some r → event.told ≡ Some r
 
 -- A STOP IN ANY CALL OF A RUN, after which the die tells a record, leaves the array before the call or the one after it
-abbrev pub RunStopsLaw : {N : Type 0} → (N → Flash) → (N → Option Recording) → (N → Bool) → (failed erases : N → ℕ) → Type 0
-RunStopsLaw {N} flash recorded honest failed erases = (first : First) (old new : Device N) (before : List Operation) (events : List Event) (xs : List Exchange)
-    → (each : HappensEach flash recorded honest failed erases old events xs new) → AreFair first (die_in flash old) before events xs
-    → EachLeavesEither flash recorded honest failed erases first.geometry old events xs new each
+abbrev pub RunStopsLaw : {N : Type 0} → (view : View N) → Type 0
+RunStopsLaw {N} view = (first : First) (old new : Device N) (before : List Operation) (events : List Event) (xs : List Exchange)
+    → (each : HappensEach view old events xs new) → AreFair first (die_in view.flash old) before events xs
+    → EachLeavesEither view first.geometry old events xs new each
 
 -- THE RECORD OF A RUN has gained just the log of its events, unless it has ended
-abbrev pub RunRecordsLaw : {N : Type 0} → (N → Flash) → (N → Option Recording) → (N → Bool) → (failed erases : N → ℕ) → Type 0
-RunRecordsLaw {N} flash recorded honest failed erases = (old new : Device N) (events : List Event) (xs : List Exchange)
-    → HappensEach flash recorded honest failed erases old events xs new → Records (recorded old.engine.nand) (log_of events) (recorded new.engine.nand)
+abbrev pub RunRecordsLaw : {N : Type 0} → (view : View N) → Type 0
+RunRecordsLaw {N} view = (old new : Device N) (events : List Event) (xs : List Exchange)
+    → HappensEach view old events xs new → Records (view.recorded old.engine.nand) (log_of events) (view.recorded new.engine.nand)
 
 -- A WRITE OR A TRIM OF A SECTOR THAT IS STALE, while no block is pinned, is never answered `OutOfMemory`
 abbrev pub StaleMemoryLaw : Type 0

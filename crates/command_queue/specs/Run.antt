@@ -1,9 +1,9 @@
 -- A RUN OF A DEVICE: commands that it is told one after another, what it answered to each, and what its die held after each.
-use Rattle.std.specs.Prelude.{◌≡◌, ◌≢◌, ◌⊎◌, ℕ, ◌+◌, ◌≤◌, Bool, true, false, List, [], ◌∷◌, ◌++◌, Option}
+use Rattle.std.specs.Prelude.{◌≡◌, ◌≢◌, ◌⊎◌, ℕ, ◌+◌, ◌≤◌, true, false, List, [], ◌∷◌, ◌++◌}
 use Rattle.std.specs.Prelude.{Ok, Err}
+use Rattle.page_layout.specs.View.{View}
 use Rattle.page_layout.specs.declared.geometry.Geometry.{Geometry}
 use Rattle.page_layout.specs.Flash.{Flash, Operation}
-use Rattle.page_layout.specs.Recording.{Recording}
 use Rattle.page_layout.specs.Version.{AddsNoOld}
 use Rattle.certificate.specs.Claim.{Claim}
 use Rattle.image_check.specs.Mountable.{IsMountable}
@@ -64,26 +64,26 @@ pub record HasRun (first : First) (old new : runs.DeviceView) (xs : List Exchang
   pub fair : AreFair first old [] events xs
 
 -- AN EVENT IS A CALL: it has the log of what one call did, from a device to the next, leaves the die of that device, and tells what that die tells
-pub record IsEventOf {N : Type 0} (flash : N → Flash) (recorded : N → Option Recording) (honest : N → Bool) (failed erases : N → ℕ) (old : Device N)
+pub record IsEventOf {N : Type 0} (view : View N) (old : Device N)
     (event : Event) (x : Exchange) (new : Device N) : Type 0 where
-  pub tells : Tells flash recorded honest failed erases old x new
-  pub happened : Happened flash recorded old x new
+  pub tells : Tells view old x new
+  pub happened : Happened view old x new
   pub piece : event.piece ≡ happened.went.log
-  pub left : event.left ≡ die_in flash new
-  pub told : event.told ≡ recorded new.engine.nand
+  pub left : event.left ≡ die_in view.flash new
+  pub told : event.told ≡ view.recorded new.engine.nand
 
 -- THE EVENTS ARE THE CALLS, one after another, from the one device to the other
-abbrev pub HappensEach : {N : Type 0} → (N → Flash) → (N → Option Recording) → (N → Bool) → (failed erases : N → ℕ) → Device N → List Event → List Exchange → Device N → Type 0
-HappensEach flash recorded honest failed erases old [] [] new = new ≡ old
-HappensEach flash recorded honest failed erases old [] (x ∷ xs) new = ⊥
-HappensEach flash recorded honest failed erases old (event ∷ events) [] new = ⊥
-HappensEach {N} flash recorded honest failed erases old (event ∷ events) (x ∷ xs) new = (mid : Device N) × IsEventOf flash recorded honest failed erases old event x mid × HappensEach flash recorded honest failed erases mid events xs new
+abbrev pub HappensEach : {N : Type 0} → (view : View N) → Device N → List Event → List Exchange → Device N → Type 0
+HappensEach view old [] [] new = new ≡ old
+HappensEach view old [] (x ∷ xs) new = ⊥
+HappensEach view old (event ∷ events) [] new = ⊥
+HappensEach {N} view old (event ∷ events) (x ∷ xs) new = (mid : Device N) × IsEventOf view old event x mid × HappensEach view mid events xs new
 
 -- a run from a device as it is: its events are its calls, its log is legal by accounts that agree with the memory, it leaves such accounts, and
 -- each program in it took the next sequence
-pub record Ran {N : Type 0} (flash : N → Flash) (recorded : N → Option Recording) (honest : N → Bool) (failed erases : N → ℕ) (old : Device N) (xs : List Exchange) (new : Device N) : Type 0 where
-  pub run : HasRun (first_of (ram old.engine)) (die_in flash old) (die_in flash new) xs
-  pub each : HappensEach flash recorded honest failed erases old run.events xs new
+pub record Ran {N : Type 0} (view : View N) (old : Device N) (xs : List Exchange) (new : Device N) : Type 0 where
+  pub run : HasRun (first_of (ram old.engine)) (die_in view.flash old) (die_in view.flash new) xs
+  pub each : HappensEach view old run.events xs new
   pub follows : Follows old.engine.geometry.pages (log_of run.events) (ram old.engine).blocks (ram new.engine).blocks
   pub next : new.engine.next ≡ old.engine.next + programs_in (log_of run.events)
   pub wears : Wears (log_of run.events) (ram old.engine).blocks (ram new.engine).blocks
@@ -98,13 +98,13 @@ accepted_device s c = record { flash = s; ro = is_scarce (free_in s.geometry c s
 
 -- It is a run from a device that `start` begins over this die: nothing is pinned. The accounts of the accepted image are those of its memory, and the log
 -- leads them to those of the memory as it ends; so a later run of the same device (`Ran`) goes on with one legal log.
-pub record RanFrom {N : Type 0} (flash : N → Flash) (recorded : N → Option Recording) (honest : N → Bool) (failed erases : N → ℕ) (s : Flash)
+pub record RanFrom {N : Type 0} (view : View N) (s : Flash)
     (c : Claim) (xs : List Exchange) (new : Device N) : Type 0 where
   pub first : Device N
-  pub held : flash first.engine.nand ≡ s
+  pub held : view.flash first.engine.nand ≡ s
   pub begun : ram first.engine ≡ begun_ram s.geometry c (stale_sectors s.geometry s.image)
-  pub run : HasRun (accepted_first s.geometry c) (accepted_device s c) (die_in flash new) xs
-  pub each : HappensEach flash recorded honest failed erases first run.events xs new
+  pub run : HasRun (accepted_first s.geometry c) (accepted_device s c) (die_in view.flash new) xs
+  pub each : HappensEach view first run.events xs new
   pub legal : IsLegal s.geometry s.image (is_bad_in c) (log_of run.events)
   pub accounted : IsAccounted (accounts_of s.geometry s.image (is_bad_in c)) (ram first.engine).blocks
   pub follows : Follows s.geometry.pages (log_of run.events) (ram first.engine).blocks (ram new.engine).blocks

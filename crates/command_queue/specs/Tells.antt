@@ -1,10 +1,10 @@
 -- What a device was told: one call, and a chain of them.
-use Rattle.std.specs.Prelude.{◌≡◌, ◌≢◌, ℕ, ◌+◌, ◌<◌, ◌≤◌, Bool, true, false, List, [], ◌∷◌, ◌++◌, is_some, Option}
+use Rattle.std.specs.Prelude.{◌≡◌, ◌≢◌, ℕ, ◌+◌, ◌<◌, ◌≤◌, Bool, true, false, List, [], ◌∷◌, ◌++◌, is_some}
 use Rattle.std.specs.Prelude.{None, Some, Result, Ok, Err, IfErr, OnOk}
 use Rattle.std.specs.Option.{ForSome}
+use Rattle.page_layout.specs.View.{View}
 use Rattle.page_layout.specs.Counter.{HasRisen}
 use Rattle.page_layout.specs.Flash.{Flash, Operation}
-use Rattle.page_layout.specs.Recording.{Recording}
 use Rattle.page_layout.specs.Version.{AddsNoOld}
 use Rattle.mapping_cache.specs.Mapping.{HasLimitsOf}
 use Rattle.allocation.specs.State.{free_count}
@@ -40,24 +40,24 @@ die_in flash d = record { flash = flash d.engine.nand; ro = d.read_only; pinned 
 -- What was answered to a command is a step from the array before to the array after; one log leads from the one image to the other, and a
 -- refusal shows what it says for every longer log that ends with it. A stop at any moment of it leaves either array. Where the die has version 2 no
 -- newest page of version 1 is added.
-pub record Happened {N : Type 0} (flash : N → Flash) (recorded : N → Option Recording) (old : Device N) (x : Exchange) (new : Device N) : Type 0 where
-  pub step : ArrayStep old.engine.geometry (state_in flash old) x.command (reply_in x) (state_in flash new)
-  pub went : Went (ram old.engine) (flash old.engine.nand) (recorded old.engine.nand) (ram new.engine) (flash new.engine.nand) (recorded new.engine.nand)
-  pub stale : needs_no_memory (is_some old.engine.pinned) old.engine.geometry (image_in flash old.engine) x.command ≡ true → x.result ≢ Err OutOfMemory
+pub record Happened {N : Type 0} (view : View N) (old : Device N) (x : Exchange) (new : Device N) : Type 0 where
+  pub step : ArrayStep old.engine.geometry (state_in view.flash old) x.command (reply_in x) (state_in view.flash new)
+  pub went : Went (ram old.engine) (view.flash old.engine.nand) (view.recorded old.engine.nand) (ram new.engine) (view.flash new.engine.nand) (view.recorded new.engine.nand)
+  pub stale : needs_no_memory (is_some old.engine.pinned) old.engine.geometry (image_in view.flash old.engine) x.command ≡ true → x.result ≢ Err OutOfMemory
   pub shown : (bad : ℕ → Bool) (next : ℕ) (before : List Operation)
       → ((b : ℕ) → b < old.engine.geometry.blocks → is_bad_by (ram new.engine) b ≡ bad_of old.engine.geometry.pages bad (before ++ went.log) b)
       → new.engine.next ≡ next + programs_in (before ++ went.log)
-      → IfErr x.result (IsShown old.engine.geometry bad next before went.log old.read_only (image_in flash new.engine))
+      → IfErr x.result (IsShown old.engine.geometry bad next before went.log old.read_only (image_in view.flash new.engine))
   pub left : (bad : ℕ → Bool) (before : List Operation)
       → ((b : ℕ) → b < old.engine.geometry.blocks → is_bad_by (ram new.engine) b ≡ bad_of old.engine.geometry.pages bad (before ++ went.log) b)
       → new.read_only ≡ true
       → IsLeftReadOnly x.command old.engine.geometry bad before went.log old.read_only x.result
-  pub flushed : is_flush x.command ≡ true → x.result ≡ Ok tt → IsFlushedOut (first_of (ram old.engine)) went.log (image_in flash new.engine)
-  pub reads : is_read x.command ≡ true → (went.log ≡ []) × (die_in flash new ≡ die_in flash old)
-  pub rescues : is_turn x.command ≡ true → x.result ≡ Ok tt → Rescues old.engine.geometry (is_bad_by (ram old.engine)) went.log (image_in flash old.engine) (image_in flash new.engine)
-  pub quiet : is_turn x.command ≡ true → x.result ≡ Ok tt → LeavesTwelve old.engine.geometry (is_bad_by (ram old.engine)) went.log (image_in flash new.engine)
-  pub stopped : SurvivesStops old.engine.geometry old.engine.mapping.capacity x.command x.result (image_in flash old.engine) (image_in flash new.engine) (recorded new.engine.nand) went.log
-  pub versions : AddsNoOld old.engine.geometry (image_in flash old.engine) (image_in flash new.engine)
+  pub flushed : is_flush x.command ≡ true → x.result ≡ Ok tt → IsFlushedOut (first_of (ram old.engine)) went.log (image_in view.flash new.engine)
+  pub reads : is_read x.command ≡ true → (went.log ≡ []) × (die_in view.flash new ≡ die_in view.flash old)
+  pub rescues : is_turn x.command ≡ true → x.result ≡ Ok tt → Rescues old.engine.geometry (is_bad_by (ram old.engine)) went.log (image_in view.flash old.engine) (image_in view.flash new.engine)
+  pub quiet : is_turn x.command ≡ true → x.result ≡ Ok tt → LeavesTwelve old.engine.geometry (is_bad_by (ram old.engine)) went.log (image_in view.flash new.engine)
+  pub stopped : SurvivesStops old.engine.geometry old.engine.mapping.capacity x.command x.result (image_in view.flash old.engine) (image_in view.flash new.engine) (view.recorded new.engine.nand) went.log
+  pub versions : AddsNoOld old.engine.geometry (image_in view.flash old.engine) (image_in view.flash new.engine)
 
 -- WHAT THE CONTRACT OF A TURN SAYS (`Device::turn`). It is refused by a device that is read-only or has no sequence. One that is done has made room,
 -- and then rescued a page from a bad block, or gone on with a collection, or found nothing to do. Where the die is honest, it has
@@ -65,63 +65,63 @@ pub record Happened {N : Type 0} (flash : N → Flash) (recorded : N → Option 
 -- there was room; where none did, it has erased,
 -- or left less of the collection, or changed nothing; and one that has neither programmed nor erased leaves twelve free blocks, where three more
 -- are good than the geometry asks for.
-pub record TakesTurn {N : Type 0} (flash : N → Flash) (recorded : N → Option Recording) (honest : N → Bool) (erases : N → ℕ) (old : Device N) (result : Result (Unit {0}) DeviceFault) (new : Device N) : Type 0 where
+pub record TakesTurn {N : Type 0} (view : View N) (old : Device N) (result : Result (Unit {0}) DeviceFault) (new : Device N) : Type 0 where
   pub refuses : RefusesUpkeep old result new
   pub turned : OnOk result (HasTurned (ram old.engine) (ram new.engine))
   pub rests : HasNoneAiling (ram old.engine).blocks → old.engine.pinned ≡ None → 12 ≤ free_count (ram old.engine).blocks → OnOk result (new.engine ≡ old.engine)
-  pub quiet : honest old.engine.nand ≡ true → IsWell flash old → OnOk result (IsQuiet erases old.engine new.engine)
-  pub falls : honest old.engine.nand ≡ true → IsWell flash old → HasNoneAiling (ram old.engine).blocks → OnOk result (HasFallen flash erases old.engine new.engine)
-  pub rescued : honest old.engine.nand ≡ true → IsWell flash old → OnOk result (HasRescued (ram old.engine) (ram new.engine))
-  pub lowest : honest old.engine.nand ≡ true → IsWell flash old → OnOk result (RescuesLowest flash recorded old.engine new.engine)
-  pub worked : honest old.engine.nand ≡ true → IsWell flash old → HasAiling (ram old.engine).blocks
-      → OnOk result (HasWorked (ram old.engine) (ram new.engine) (erases old.engine.nand) (erases new.engine.nand))
+  pub quiet : view.honest old.engine.nand ≡ true → IsWell view.flash old → OnOk result (IsQuiet view.erases old.engine new.engine)
+  pub falls : view.honest old.engine.nand ≡ true → IsWell view.flash old → HasNoneAiling (ram old.engine).blocks → OnOk result (HasFallen view old.engine new.engine)
+  pub rescued : view.honest old.engine.nand ≡ true → IsWell view.flash old → OnOk result (HasRescued (ram old.engine) (ram new.engine))
+  pub lowest : view.honest old.engine.nand ≡ true → IsWell view.flash old → OnOk result (RescuesLowest view old.engine new.engine)
+  pub worked : view.honest old.engine.nand ≡ true → IsWell view.flash old → HasAiling (ram old.engine).blocks
+      → OnOk result (HasWorked (ram old.engine) (ram new.engine) (view.erases old.engine.nand) (view.erases new.engine.nand))
 
 -- and where the command is one
-abbrev pub TakesIfTurn : {N : Type 0} → (N → Flash) → (N → Option Recording) → (N → Bool) → (N → ℕ) → step.Command → Device N → Result (Unit {0}) DeviceFault → Device N → Type 0
-TakesIfTurn flash recorded honest erases (step.Read sector) old result new = Unit {0}
-TakesIfTurn flash recorded honest erases (step.Write sector body) old result new = Unit {0}
-TakesIfTurn flash recorded honest erases (step.Trim sector) old result new = Unit {0}
-TakesIfTurn flash recorded honest erases step.Flush old result new = Unit {0}
-TakesIfTurn flash recorded honest erases step.Turn old result new = TakesTurn flash recorded honest erases old result new
+abbrev pub TakesIfTurn : {N : Type 0} → View N → step.Command → Device N → Result (Unit {0}) DeviceFault → Device N → Type 0
+TakesIfTurn view (step.Read sector) old result new = Unit {0}
+TakesIfTurn view (step.Write sector body) old result new = Unit {0}
+TakesIfTurn view (step.Trim sector) old result new = Unit {0}
+TakesIfTurn view step.Flush old result new = Unit {0}
+TakesIfTurn view step.Turn old result new = TakesTurn view old result new
 
 -- WHAT A WRITE, A TRIM AND A FLUSH PROGRAM THAT ARE DONE (`Device::write`, `trim`, `flush`): room was made, and a page of the command's kind is the sector's
 -- newest; or each translation page that lacked a row was written back, room was made, and the table pages were written
-abbrev pub Programs : {N : Type 0} → (N → Flash) → (N → Option Recording) → (N → Bool) → step.Command → Device N → Result (Unit {0}) DeviceFault → Device N → Type 0
-Programs flash recorded honest (step.Read sector) old result new = Unit {0}
-Programs flash recorded honest (step.Write sector body) old result new = ProgramsSector flash honest sector (step.Write sector body) old result new
-Programs flash recorded honest (step.Trim sector) old result new = ProgramsSector flash honest sector (step.Trim sector) old result new
-Programs flash recorded honest step.Flush old result new = OnOk result (HasFlushed flash recorded honest old.engine new.engine)
-Programs flash recorded honest step.Turn old result new = Unit {0}
+abbrev pub Programs : {N : Type 0} → View N → step.Command → Device N → Result (Unit {0}) DeviceFault → Device N → Type 0
+Programs view (step.Read sector) old result new = Unit {0}
+Programs view (step.Write sector body) old result new = ProgramsSector view sector (step.Write sector body) old result new
+Programs view (step.Trim sector) old result new = ProgramsSector view sector (step.Trim sector) old result new
+Programs view step.Flush old result new = OnOk result (HasFlushed view old.engine new.engine)
+Programs view step.Turn old result new = Unit {0}
 
 -- ONE CALL, as a run needs it: what holds whatever the die does, and then what is true of an honest die that gave every outcome.
-pub record Tells {N : Type 0} (flash : N → Flash) (recorded : N → Option Recording) (honest : N → Bool) (failed erases : N → ℕ) (old : Device N) (x : Exchange) (new : Device N) : Type 0 where
-  pub device : IsDevice flash new
+pub record Tells {N : Type 0} (view : View N) (old : Device N) (x : Exchange) (new : Device N) : Type 0 where
+  pub device : IsDevice view.flash new
   pub sized : new.engine.geometry ≡ old.engine.geometry
   pub limits : HasLimitsOf old.engine.mapping new.engine.mapping
-  pub honest_is : honest new.engine.nand ≡ honest old.engine.nand
-  pub failed_is : failed old.engine.nand ≤ failed new.engine.nand
+  pub honest_is : view.honest new.engine.nand ≡ view.honest old.engine.nand
+  pub failed_is : view.failed old.engine.nand ≤ view.failed new.engine.nand
   -- a stopped device answers its fault, and the fault that stopped it is the one that it answered
   pub stopped : ForSome (stop_of old.engine.fault) (λ fault. (x.result ≡ Err fault) × (new ≡ old))
   pub stops : IfErr x.result (λ fault. StopsDevice x.command fault → stop_of new.engine.fault ≡ Some fault)
   pub standing : ForSome (stop_of new.engine.fault) (λ fault. x.result ≡ Err fault)
-  pub rose : stop_of old.engine.fault ≡ None → x.result ≡ Err BusFault → HasRisen (failed old.engine.nand) (failed new.engine.nand)
-  pub well : honest old.engine.nand ≡ true → IsWell flash old → x.result ≢ Err BusFault → IsWell flash new
-  pub happened : honest old.engine.nand ≡ true → IsWell flash old → x.result ≢ Err BusFault → Happened flash recorded old x new
-  pub turned : TakesIfTurn flash recorded honest erases x.command old x.result new
-  pub programs : Programs flash recorded honest x.command old x.result new
+  pub rose : stop_of old.engine.fault ≡ None → x.result ≡ Err BusFault → HasRisen (view.failed old.engine.nand) (view.failed new.engine.nand)
+  pub well : view.honest old.engine.nand ≡ true → IsWell view.flash old → x.result ≢ Err BusFault → IsWell view.flash new
+  pub happened : view.honest old.engine.nand ≡ true → IsWell view.flash old → x.result ≢ Err BusFault → Happened view old x new
+  pub turned : TakesIfTurn view x.command old x.result new
+  pub programs : Programs view x.command old x.result new
   -- only a turn begins a collection that goes on after it, unless the call was stopped short
   pub pins : is_turn x.command ≡ false → LeavesUnpinned old x.result new
 
 -- EACH CALL DID WHAT IT PROMISES, from a device to the next: a chain of devices, from the one to the other
-abbrev pub ToldEach : {N : Type 0} → (N → Flash) → (N → Option Recording) → (N → Bool) → (failed erases : N → ℕ) → Device N → List Exchange → Device N → Type 0
-ToldEach flash recorded honest failed erases old [] new = new ≡ old
-ToldEach {N} flash recorded honest failed erases old (x ∷ xs) new = (mid : Device N) × Tells flash recorded honest failed erases old x mid × ToldEach flash recorded honest failed erases mid xs new
+abbrev pub ToldEach : {N : Type 0} → (view : View N) → Device N → List Exchange → Device N → Type 0
+ToldEach view old [] new = new ≡ old
+ToldEach {N} view old (x ∷ xs) new = (mid : Device N) × Tells view old x mid × ToldEach view mid xs new
 
 -- ---- laws
 
 -- WHAT IS PROGRAMMED IS TOLD, of a flush, a write and a trim that are done
-abbrev pub ToldProgramsLaw : {N : Type 0} → (N → Flash) → (N → Option Recording) → (N → Bool) → (failed erases : N → ℕ) → Type 0
-ToldProgramsLaw {N} flash recorded honest failed erases = (old new : Device N) (x : Exchange) → Tells flash recorded honest failed erases old x new → x.result ≡ Ok tt
-    → (x.command ≡ step.Flush → HasFlushed flash recorded honest old.engine new.engine)
-    × ((n : ℕ) (bytes : List ℕ) → x.command ≡ step.Write n bytes → ProgramsSector flash honest n (step.Write n bytes) old (Ok tt) new)
-    × ((n : ℕ) → x.command ≡ step.Trim n → ProgramsSector flash honest n (step.Trim n) old (Ok tt) new)
+abbrev pub ToldProgramsLaw : {N : Type 0} → (view : View N) → Type 0
+ToldProgramsLaw {N} view = (old new : Device N) (x : Exchange) → Tells view old x new → x.result ≡ Ok tt
+    → (x.command ≡ step.Flush → HasFlushed view old.engine new.engine)
+    × ((n : ℕ) (bytes : List ℕ) → x.command ≡ step.Write n bytes → ProgramsSector view n (step.Write n bytes) old (Ok tt) new)
+    × ((n : ℕ) → x.command ≡ step.Trim n → ProgramsSector view n (step.Trim n) old (Ok tt) new)

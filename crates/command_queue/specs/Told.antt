@@ -1,11 +1,10 @@
 -- What a device was told: many calls, one after another.
-use Rattle.std.specs.Prelude.{◌≡◌, ◌≢◌, ◌⊎◌, ℕ, ◌≤◌, Bool, true, List, [], ◌∷◌, ◌++◌, Option}
+use Rattle.std.specs.Prelude.{◌≡◌, ◌≢◌, ◌⊎◌, ℕ, ◌≤◌, true, List, [], ◌∷◌, ◌++◌, Option}
 use Rattle.std.specs.Prelude.{None, Some, Err}
 use Rattle.std.specs.Option.{ForSome}
 use Rattle.std.specs.List.{AllByRecursion}
+use Rattle.page_layout.specs.View.{View}
 use Rattle.page_layout.specs.Counter.{HasRisen}
-use Rattle.page_layout.specs.Flash.{Flash}
-use Rattle.page_layout.specs.Recording.{Recording}
 use Rattle.mapping_cache.specs.Mapping.{HasLimitsOf}
 use Rattle.image_check.specs.Accepted.{Acceptance}
 use Rattle.collection.specs.Safe.{ram}
@@ -27,18 +26,18 @@ AreHalted stop xs = AllByRecursion (λ (x : Exchange). (fault : DeviceFault) →
 
 -- MANY CALLS, one after another, from the one device to the other, whatever the die does. A device that was stopped, before them or by one of
 -- them, stays so; `BusFault` came, of a device not stopped before, only where the die's count of failures rose or stands at its top.
-pub record AreTold {N : Type 0} (flash : N → Flash) (recorded : N → Option Recording) (honest : N → Bool) (failed erases : N → ℕ) (old : Device N) (xs : List Exchange) (new : Device N) : Type 0 where
-  pub device : IsDevice flash new
+pub record AreTold {N : Type 0} (view : View N) (old : Device N) (xs : List Exchange) (new : Device N) : Type 0 where
+  pub device : IsDevice view.flash new
   pub sized : new.engine.geometry ≡ old.engine.geometry
   pub limits : HasLimitsOf old.engine.mapping new.engine.mapping
-  pub honest_is : honest new.engine.nand ≡ honest old.engine.nand
-  pub failed_is : failed old.engine.nand ≤ failed new.engine.nand
+  pub honest_is : view.honest new.engine.nand ≡ view.honest old.engine.nand
+  pub failed_is : view.failed old.engine.nand ≤ view.failed new.engine.nand
   pub stopped : ForSome (stop_of old.engine.fault) (λ fault. AreRefused fault xs × (new ≡ old))
   pub halted : AreHalted (stop_of new.engine.fault) xs
   pub stays : StaysStopped xs
   pub going : stop_of old.engine.fault ≡ None → AreKnown xs → stop_of new.engine.fault ≢ Some BusFault
-  pub rose : stop_of old.engine.fault ≡ None → AreKnown xs ⊎ HasRisen (failed old.engine.nand) (failed new.engine.nand)
-  pub each : ToldEach flash recorded honest failed erases old xs new
+  pub rose : stop_of old.engine.fault ≡ None → AreKnown xs ⊎ HasRisen (view.failed old.engine.nand) (view.failed new.engine.nand)
+  pub each : ToldEach view old xs new
 
 -- ---- up to the first fault of the bus
 
@@ -61,25 +60,25 @@ pub record Until {S : Type 0} (Runs : List Exchange → S → Type 0) (Fails : S
   pub fails : EndsBy Fails mid rest new
 
 -- calls that were all answered: of an honest die they are a run
-abbrev pub RunsTo : {N : Type 0} → (N → Flash) → (N → Option Recording) → (N → Bool) → (failed erases : N → ℕ) → Device N → List Exchange → Device N → Type 0
-RunsTo flash recorded honest failed erases old xs mid = AreTold flash recorded honest failed erases old xs mid × (honest old.engine.nand ≡ true → IsWell flash old → IsWell flash mid × Ran flash recorded honest failed erases old xs mid)
+abbrev pub RunsTo : {N : Type 0} → (view : View N) → Device N → List Exchange → Device N → Type 0
+RunsTo view old xs mid = AreTold view old xs mid × (view.honest old.engine.nand ≡ true → IsWell view.flash old → IsWell view.flash mid × Ran view old xs mid)
 
 -- A LIST OF CALLS: those before the first fault of the bus are a run, and all from it on answer that fault.
-pub record WasTold {N : Type 0} (flash : N → Flash) (recorded : N → Option Recording) (honest : N → Bool) (failed erases : N → ℕ) (old : Device N) (xs : List Exchange) (new : Device N) : Type 0 where
-  pub calls : AreTold flash recorded honest failed erases old xs new
-  pub until : Until (RunsTo flash recorded honest failed erases old) (Tells flash recorded honest failed erases) xs new
+pub record WasTold {N : Type 0} (view : View N) (old : Device N) (xs : List Exchange) (new : Device N) : Type 0 where
+  pub calls : AreTold view old xs new
+  pub until : Until (RunsTo view old) (Tells view) xs new
 
 -- ---- from an accepted certificate
 
 -- the same of a device that `start` began over this die
-abbrev pub RunsFrom : {N : Type 0} → (N → Flash) → (N → Option Recording) → (N → Bool) → (failed erases : N → ℕ) → N → Acceptance → List Exchange → Device N → Type 0
-RunsFrom flash recorded honest failed erases nand accepted xs mid = honest nand ≡ true → IsAcceptedFor (flash nand) accepted
-    → IsWell flash mid × RanFrom flash recorded honest failed erases (flash nand) accepted.claim xs mid
+abbrev pub RunsFrom : {N : Type 0} → (view : View N) → N → Acceptance → List Exchange → Device N → Type 0
+RunsFrom view nand accepted xs mid = view.honest nand ≡ true → IsAcceptedFor (view.flash nand) accepted
+    → IsWell view.flash mid × RanFrom view (view.flash nand) accepted.claim xs mid
 
 -- `start` began a device over this die, and it was told these, one after another
-pub record ToldFrom {N : Type 0} (flash : N → Flash) (recorded : N → Option Recording) (honest : N → Bool) (failed erases : N → ℕ) (nand : N)
+pub record ToldFrom {N : Type 0} (view : View N) (nand : N)
     (accepted : Acceptance) (xs : List Exchange) (new : Device N) : Type 0 where
   pub first : Device N
   pub nand_is : first.engine.nand ≡ nand
-  pub begun : ram first.engine ≡ begun_ram (flash nand).geometry accepted.claim accepted.stale
-  pub told : WasTold flash recorded honest failed erases first xs new
+  pub begun : ram first.engine ≡ begun_ram (view.flash nand).geometry accepted.claim accepted.stale
+  pub told : WasTold view first xs new

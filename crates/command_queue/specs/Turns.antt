@@ -1,10 +1,10 @@
 -- WHAT TURNS IN A ROW COME TO.
-use Rattle.std.specs.Prelude.{◌≡◌, ◌⊎◌, ℕ, ◌+◌, ◌<◌, ◌≤◌, Bool, true, false, List, [], ◌∷◌, length, Ok, Option}
+use Rattle.std.specs.Prelude.{◌≡◌, ◌⊎◌, ℕ, ◌+◌, ◌<◌, ◌≤◌, true, false, List, [], ◌∷◌, length, Ok}
 use Rattle.std.specs.List.{AllByRecursion}
+use Rattle.page_layout.specs.View.{View}
 use Rattle.page_layout.specs.declared.geometry.Geometry.{Geometry}
 use Rattle.page_layout.specs.Counter.{HasRisen}
-use Rattle.page_layout.specs.Flash.{Flash, Operation}
-use Rattle.page_layout.specs.Recording.{Recording}
+use Rattle.page_layout.specs.Flash.{Operation}
 use Rattle.page_layout.specs.Geometry.{need}
 use Rattle.promises.specs.Log.{programs_in, good_count, free_count}
 use Rattle.promises.specs.Run as runs
@@ -30,31 +30,31 @@ abbrev pub FailNowhere : Geometry → List Event → Type 0
 FailNowhere g events = AllByRecursion (λ (e : Event). FailsNowhere g e.piece) events
 
 -- of these calls one erased a block, or found nothing to do
-abbrev pub OneRests : {N : Type 0} → (flash : N → Flash) → (recorded : N → Option Recording) → (honest : N → Bool) → (failed erases : N → ℕ)
+abbrev pub OneRests : {N : Type 0} → (view : View N)
     → (old : Device N) → (events : List Event) → (xs : List Exchange) → (new : Device N)
-    → HappensEach flash recorded honest failed erases old events xs new → Type 0
-OneRests flash recorded honest failed erases old [] [] new each = ⊥
-OneRests flash recorded honest failed erases old [] (x ∷ xs) new each = ⊥
-OneRests flash recorded honest failed erases old (event ∷ events) [] new each = ⊥
-OneRests flash recorded honest failed erases old (event ∷ events) (x ∷ xs) new each =
-    (each.0.engine ≡ old.engine) ⊎ HasRisen (erases old.engine.nand) (erases each.0.engine.nand) ⊎ OneRests flash recorded honest failed erases each.0 events xs new each.2
+    → HappensEach view old events xs new → Type 0
+OneRests view old [] [] new each = ⊥
+OneRests view old [] (x ∷ xs) new each = ⊥
+OneRests view old (event ∷ events) [] new each = ⊥
+OneRests view old (event ∷ events) (x ∷ xs) new each =
+    (each.0.engine ≡ old.engine) ⊎ HasRisen (view.erases old.engine.nand) (view.erases each.0.engine.nand) ⊎ OneRests view each.0 events xs new each.2
 
 -- ---- laws
 
 -- AMONG AS MANY TURNS IN A ROW as a block has pages, each done and none with a failure, begun while no bad block held a newest page, one erases a
 -- block or finds nothing to do
-abbrev pub TurnsInARowLaw : {N : Type 0} → (N → Flash) → (N → Option Recording) → (N → Bool) → (failed erases : N → ℕ) → Type 0
-TurnsInARowLaw {N} flash recorded honest failed erases = (old new : Device N) (events : List Event) (xs : List Exchange) → IsDevice flash old
-    → honest old.engine.nand ≡ true → IsWell flash old → old.read_only ≡ false → HasNoneAiling (ram old.engine).blocks
+abbrev pub TurnsInARowLaw : {N : Type 0} → (view : View N) → Type 0
+TurnsInARowLaw {N} view = (old new : Device N) (events : List Event) (xs : List Exchange) → IsDevice view.flash old
+    → view.honest old.engine.nand ≡ true → IsWell view.flash old → old.read_only ≡ false → HasNoneAiling (ram old.engine).blocks
     → length xs ≡ old.engine.geometry.pages → AreTurnsDone xs → FailNowhere old.engine.geometry events
-    → (each : HappensEach flash recorded honest failed erases old events xs new) → OneRests flash recorded honest failed erases old events xs new each
+    → (each : HappensEach view old events xs new) → OneRests view old events xs new each
 
 -- A TURN THAT IS DONE AND QUIET, that programs nothing and of which the die counts no erase, leaves twelve free blocks by the image, where three more are good
 -- than the geometry asks for
-abbrev pub QuietTurnLaw : {N : Type 0} → (N → Flash) → (N → Option Recording) → (N → Bool) → (failed erases : N → ℕ) → Type 0
-QuietTurnLaw {N} flash recorded honest failed erases = (old new : Device N) (event : Event) (x : Exchange) → honest old.engine.nand ≡ true
-    → IsWell flash old → is_turn x.command ≡ true → x.result ≡ Ok tt → IsEventOf flash recorded honest failed erases old event x new
-    → (0 < programs_in event.piece) ⊎ HasRisen (erases old.engine.nand) (erases new.engine.nand) ⊎ (need new.engine.geometry + 3 ≤ good_by (ram new.engine) → 12 ≤ free_by (ram new.engine) (image_in flash new.engine))
+abbrev pub QuietTurnLaw : {N : Type 0} → (view : View N) → Type 0
+QuietTurnLaw {N} view = (old new : Device N) (event : Event) (x : Exchange) → view.honest old.engine.nand ≡ true
+    → IsWell view.flash old → is_turn x.command ≡ true → x.result ≡ Ok tt → IsEventOf view old event x new
+    → (0 < programs_in event.piece) ⊎ HasRisen (view.erases old.engine.nand) (view.erases new.engine.nand) ⊎ (need new.engine.geometry + 3 ≤ good_by (ram new.engine) → 12 ≤ free_by (ram new.engine) (image_in view.flash new.engine))
 
 -- A TURN OF A RUN THAT IS DONE AND PROGRAMS AND ERASES NOTHING leaves twelve free blocks by the image and the log up to it, where three more are good by
 -- that log than the geometry asks for

@@ -12,14 +12,14 @@ use onfi_cycles::Nand;
 /// nothing and erases nothing leaves twelve free blocks, where three more are good than the geometry asks
 /// for: by the die's count of erases, and by the log of a run. (This project.)
 pub fn turn_run_laws<N: Nand>()
-    ensures row { TurnsInARowLaw N.flash N.recorded N.honest N.failed N.erases }
-    ensures quiet { QuietTurnLaw N.flash N.recorded N.honest N.failed N.erases }
+    ensures row { TurnsInARowLaw N.view }
+    ensures quiet { QuietTurnLaw N.view }
     ensures event { QuietEventLaw }
 {}
 
 /// What a flush, a write and a trim program that are done is told of the call. (This project.)
 pub fn told_laws<N: Nand>()
-    ensures programs { ToldProgramsLaw N.flash N.recorded N.honest N.failed N.erases }
+    ensures programs { ToldProgramsLaw N.view }
 {}
 
 /// Calls of a device one after another, commands that it was told and calls of `migrate_one` in any order:
@@ -28,19 +28,19 @@ pub fn told_laws<N: Nand>()
 /// moment of a call leaves either array. And where it has room for records of version 2, no newest page is
 /// of version 1 once `migrate_one` has answered `false` and a later flush was done. (This project.)
 pub fn asked_laws<N: Nand>()
-    ensures told { ToldAskedLaw N.flash N.recorded N.honest N.calm N.programs N.failed N.erases }
-    ensures join { AskedJoinLaw N.flash N.recorded N.honest N.calm N.programs N.failed N.erases }
-    ensures run { AskedRunLaw N.flash N.recorded N.honest N.calm N.programs N.failed N.erases }
-    ensures forward { AskedForwardLaw N.flash N.recorded N.honest N.calm N.programs N.failed N.erases }
+    ensures told { ToldAskedLaw N.view }
+    ensures join { AskedJoinLaw N.view }
+    ensures run { AskedRunLaw N.view }
+    ensures forward { AskedForwardLaw N.view }
 {}
 
 /// What the events of a run say of the calls that they are. Each tells the record that its die tells, and that record has gained just their
 /// logs, unless it has ended. Where there is one, a stop in a call leaves the array before it or the one after it. And a write or a trim of a
 /// sector that is stale, while no block is pinned, is never answered `OutOfMemory`, nor is a read, a flush or a turn. (This project.)
 pub fn event_laws<N: Nand>()
-    ensures tells { EventTellsLaw N.flash N.recorded N.honest N.failed N.erases }
-    ensures stops { RunStopsLaw N.flash N.recorded N.honest N.failed N.erases }
-    ensures records { RunRecordsLaw N.flash N.recorded N.honest N.failed N.erases }
+    ensures tells { EventTellsLaw N.view }
+    ensures stops { RunStopsLaw N.view }
+    ensures records { RunRecordsLaw N.view }
     ensures stale { StaleMemoryLaw }
     ensures quiet { QuietMemoryLaw }
 {}

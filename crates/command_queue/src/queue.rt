@@ -35,27 +35,27 @@ pub fn tell<N: Nand>(
     command: Command<'_>,
     bytes: &mut [u8],
 ) -> Result<(), DeviceFault>
-    requires device { IsDevice N.flash device.old }
+    requires device { IsDevice N.view.flash device.old }
     requires room { HasRoom device.old.engine.geometry command bytes.old }
-    ensures device { IsDevice N.flash device.new }
+    ensures device { IsDevice N.view.flash device.new }
     ensures geometry { device.new.engine.geometry ≡ device.old.engine.geometry }
     ensures limits { HasLimitsOf device.old.engine.mapping device.new.engine.mapping }
-    ensures honest { N.honest device.new.engine.nand ≡ N.honest device.old.engine.nand }
-    ensures calm { N.calm device.new.engine.nand ≡ N.calm device.old.engine.nand }
+    ensures honest { N.view.honest device.new.engine.nand ≡ N.view.honest device.old.engine.nand }
+    ensures calm { N.view.calm device.new.engine.nand ≡ N.view.calm device.old.engine.nand }
     ensures room { HasRoom device.old.engine.geometry command.entry bytes.new }
-    ensures failed { N.failed device.old.engine.nand ≤ N.failed device.new.engine.nand }
+    ensures failed { N.view.failed device.old.engine.nand ≤ N.view.failed device.new.engine.nand }
     ensures kept { KeepsBytes (command_of command.entry) result bytes.old bytes.new }
     ensures stopped { ForSome (stop_of device.old.engine.fault) (λ fault. (result ≡ Err fault) × (device.new ≡ device.old)) }
     ensures stops { IfErr result (λ fault. StopsDevice (command_of command.entry) fault → stop_of device.new.engine.fault ≡ Some fault) }
     ensures standing { ForSome (stop_of device.new.engine.fault) (λ fault. result ≡ Err fault) }
     ensures rose { stop_of device.old.engine.fault ≡ None → result ≡ Err DeviceFault.BusFault →
-        HasRisen (N.failed device.old.engine.nand) (N.failed device.new.engine.nand) }
-    ensures well { N.honest device.old.engine.nand ≡ true → IsWell N.flash device.old → result ≢ Err DeviceFault.BusFault →
-        IsWell N.flash device.new }
-    ensures happened { N.honest device.old.engine.nand ≡ true → IsWell N.flash device.old → result ≢ Err DeviceFault.BusFault →
-        Happened N.flash N.recorded device.old (record { command = command_of command.entry; result = result; bytes = bytes.new }) device.new }
-    ensures turned { TakesIfTurn N.flash N.recorded N.honest N.erases (command_of command.entry) device.old result device.new }
-    ensures programs { Programs N.flash N.recorded N.honest (command_of command.entry) device.old result device.new }
+        HasRisen (N.view.failed device.old.engine.nand) (N.view.failed device.new.engine.nand) }
+    ensures well { N.view.honest device.old.engine.nand ≡ true → IsWell N.view.flash device.old → result ≢ Err DeviceFault.BusFault →
+        IsWell N.view.flash device.new }
+    ensures happened { N.view.honest device.old.engine.nand ≡ true → IsWell N.view.flash device.old → result ≢ Err DeviceFault.BusFault →
+        Happened N.view device.old (record { command = command_of command.entry; result = result; bytes = bytes.new }) device.new }
+    ensures turned { TakesIfTurn N.view (command_of command.entry) device.old result device.new }
+    ensures programs { Programs N.view (command_of command.entry) device.old result device.new }
     ensures pins { is_turn (command_of command.entry) ≡ false → LeavesUnpinned device.old result device.new }
 {
     match command {
@@ -74,8 +74,8 @@ pub fn tell<N: Nand>(
 ///
 /// Those of `Device::migrate_one`. (This project.)
 pub fn migrate<N: Nand>(device: &mut Device<N>) -> Result<bool, DeviceFault>
-    requires device { IsDevice N.flash device.old }
-    ensures migrates { MigratesOne N.flash N.recorded N.honest N.calm N.programs N.erases N.failed device.old result device.new }
+    requires device { IsDevice N.view.flash device.old }
+    ensures migrates { MigratesOne N.view device.old result device.new }
 {
     device.migrate_one()
 }
@@ -97,10 +97,10 @@ pub fn migrate<N: Nand>(device: &mut Device<N>) -> Result<bool, DeviceFault>
 ///
 /// (This project.)
 pub fn run<N: Nand>(device: &mut Device<N>, calls: &mut [Call<'_>])
-    requires device { IsDevice N.flash device.old }
+    requires device { IsDevice N.view.flash device.old }
     requires whole { AreWhole device.old.engine.geometry calls.old }
-    ensures calm { N.calm device.new.engine.nand ≡ N.calm device.old.engine.nand }
-    ensures told { WasTold N.flash N.recorded N.honest N.failed N.erases device.old (exchanges_of calls.new) device.new }
+    ensures calm { N.view.calm device.new.engine.nand ≡ N.view.calm device.old.engine.nand }
+    ensures told { WasTold N.view device.old (exchanges_of calls.new) device.new }
     ensures whole { AreWhole device.old.engine.geometry calls.new }
     ensures commands { map told calls.new ≡ map told calls.old }
     ensures answered { AreAnswered calls.new }
@@ -132,20 +132,20 @@ pub fn run_accepted<'a, N: Nand>(
     accepted: Accepted<'a>,
     calls: &mut [Call<'_>],
 ) -> Result<Device<N>, StartFault<'a, N>>
-    requires same_geometry { sizes_of (N.flash nand).geometry ≡ accepted.claim.sizes }
-    requires whole { AreWhole (N.flash nand).geometry calls.old }
-    ensures device { IfOk result (IsDevice N.flash) }
+    requires same_geometry { sizes_of (N.view.flash nand).geometry ≡ accepted.claim.sizes }
+    requires whole { AreWhole (N.view.flash nand).geometry calls.old }
+    ensures device { IfOk result (IsDevice N.view.flash) }
     ensures commands { map told calls.new ≡ map told calls.old }
     ensures answered { OnOk result (AreAnswered calls.new) }
     ensures kept { OnOk result (HaveKept calls.old calls.new) }
-    ensures calm { IfOk result (λ d. N.calm d.engine.nand ≡ N.calm nand) }
-    ensures failed { IfOk result (λ d. N.failed nand ≤ N.failed d.engine.nand) }
+    ensures calm { IfOk result (λ d. N.view.calm d.engine.nand ≡ N.view.calm nand) }
+    ensures failed { IfOk result (λ d. N.view.failed nand ≤ N.view.failed d.engine.nand) }
     ensures stays { OnOk result (StaysStopped (exchanges_of calls.new)) }
-    ensures each { IfOk result (ToldFrom N.flash N.recorded N.honest N.failed N.erases nand accepted.entry (exchanges_of calls.new)) }
-    ensures rose { IfOk result (λ d. AreKnown (exchanges_of calls.new) ⊎ HasRisen (N.failed nand) (N.failed d.engine.nand)) }
+    ensures each { IfOk result (ToldFrom N.view nand accepted.entry (exchanges_of calls.new)) }
+    ensures rose { IfOk result (λ d. AreKnown (exchanges_of calls.new) ⊎ HasRisen (N.view.failed nand) (N.view.failed d.engine.nand)) }
 
     // Up to the first fault of the bus.
-    ensures until { IfOk result (Until (RunsFrom N.flash N.recorded N.honest N.failed N.erases nand accepted.entry) (Tells N.flash N.recorded N.honest N.failed N.erases) (exchanges_of calls.new)) }
+    ensures until { IfOk result (Until (RunsFrom N.view nand accepted.entry) (Tells N.view) (exchanges_of calls.new)) }
     ensures fault { IfErr result (λ fault. fault ≡ StartFault.OutOfMemory nand accepted.entry) }
     ensures untold { OnErr result (calls.new ≡ calls.old) }
 {

@@ -1,10 +1,9 @@
 -- Calls of `migrate_one` one after another: the array stays, and each leaves fewer pages of version 1.
-use Rattle.std.proofs.Common.{◌≡◌, ◌≢◌, inr, ℕ, suc, ◌+◌, ◌<◌, ◌≤◌, Bool, true, false, Option, Result, Ok, Err, refl, sym, ap, subst, ◌∙◌, arith}
+use Rattle.std.proofs.Common.{◌≡◌, ◌≢◌, inr, ℕ, suc, ◌+◌, ◌<◌, ◌≤◌, Bool, true, false, Result, Ok, Err, refl, sym, ap, subst, ◌∙◌, arith}
 use Rattle.std.specs.Prelude.{OnOk, IfOk, nat_le, if◌then◌else◌}
+use Rattle.page_layout.specs.View.{View}
 use Rattle.page_layout.specs.Counter.{HasRisen}
-use Rattle.page_layout.specs.Flash.{Flash}
 use Rattle.page_layout.specs.OnlyReads.{OnlyReads}
-use Rattle.page_layout.specs.Recording.{Recording}
 use Rattle.page_layout.specs.declared.geometry.Geometry.{Geometry}
 use Rattle.page_layout.specs.Sound.{version_for}
 use Rattle.page_layout.specs.Geometry.{key_count}
@@ -51,21 +50,21 @@ quiet_array old new _ is = absurd is
 abbrev refused_as : DeviceFault → Result (Unit {0}) DeviceFault
 refused_as fault = Err fault
 
-module _ {N : Type 0} (flash : N → Flash) (recorded : N → Option Recording) (honest calm : N → Bool) (programs erases failed : N → ℕ) where
+module _ {N : Type 0} (view : View N) where
   -- a turn's promise and a flush's
-  pub turn_keeps : (old new : Device N) (result : Result (Unit {0}) DeviceFault) → honest old.engine.nand ≡ true → IsWell flash old → result ≢ Err BusFault
-      → Upkeeps flash recorded honest calm failed Turn old result new → KeepsAll flash recorded old new
+  pub turn_keeps : (old new : Device N) (result : Result (Unit {0}) DeviceFault) → view.honest old.engine.nand ≡ true → IsWell view.flash old → result ≢ Err BusFault
+      → Upkeeps view Turn old result new → KeepsAll view old new
   turn_keeps old new result still well ne its =
       let means = its.means still well ne in
-      record { well = means.well; array = quiet_array (state_in flash old) (state_in flash new) (reply_of result) means.step; capacity = its.stays.limits.capacity; went = (its.logs still ne).went }
+      record { well = means.well; array = quiet_array (state_in view.flash old) (state_in view.flash new) (reply_of result) means.step; capacity = its.stays.limits.capacity; went = (its.logs still ne).went }
 
-  pub flush_keeps : (old new : Device N) (result : Result (Unit {0}) DeviceFault) → honest old.engine.nand ≡ true → IsWell flash old → result ≢ Err BusFault
-      → Upkeeps flash recorded honest calm failed Flush old result new → KeepsAll flash recorded old new
+  pub flush_keeps : (old new : Device N) (result : Result (Unit {0}) DeviceFault) → view.honest old.engine.nand ≡ true → IsWell view.flash old → result ≢ Err BusFault
+      → Upkeeps view Flush old result new → KeepsAll view old new
   flush_keeps old new result still well ne its =
       let means = its.means still well ne in
-      record { well = means.well; array = quiet_array (state_in flash old) (state_in flash new) (reply_of result) means.step; capacity = its.stays.limits.capacity; went = (its.logs still ne).went }
+      record { well = means.well; array = quiet_array (state_in view.flash old) (state_in view.flash new) (reply_of result) means.step; capacity = its.stays.limits.capacity; went = (its.logs still ne).went }
 
-  pub keeps_then : (old mid new : Device N) → mid.engine.geometry ≡ old.engine.geometry → KeepsAll flash recorded old mid → KeepsAll flash recorded mid new → KeepsAll flash recorded old new
+  pub keeps_then : (old mid new : Device N) → mid.engine.geometry ≡ old.engine.geometry → KeepsAll view old mid → KeepsAll view mid new → KeepsAll view old new
   keeps_then old mid new sized first next = record {
     well = next.well;
     array = next.array ∙ first.array;
@@ -74,25 +73,25 @@ module _ {N : Type 0} (flash : N → Flash) (recorded : N → Option Recording) 
   }
 
   -- it counts a fault of the bus
-  pub rose_by : {command : Command} (old mid new : Device N) (result : Result (Unit {0}) DeviceFault) → failed old.engine.nand ≤ failed mid.engine.nand → IsWell flash mid
-      → Upkeeps flash recorded honest calm failed command mid result new → result ≡ Err BusFault → HasRisen (failed old.engine.nand) (failed new.engine.nand)
+  pub rose_by : {command : Command} (old mid new : Device N) (result : Result (Unit {0}) DeviceFault) → view.failed old.engine.nand ≤ view.failed mid.engine.nand → IsWell view.flash mid
+      → Upkeeps view command mid result new → result ≡ Err BusFault → HasRisen (view.failed old.engine.nand) (view.failed new.engine.nand)
   rose_by old mid new result le well its is =
-      risen_over (failed old.engine.nand) (failed mid.engine.nand) (failed new.engine.nand) le (its.refuses.rose well.going is)
+      risen_over (view.failed old.engine.nand) (view.failed mid.engine.nand) (view.failed new.engine.nand) le (its.refuses.rose well.going is)
 
   -- ---- one after another
 
   -- after so many calls that answered true
   pub record IsGoing (g : Geometry) (old : Device N) (count : ℕ) (new : Device N) : Type 0 where
-    pub device : IsDevice flash new
+    pub device : IsDevice view.flash new
     pub began : old.engine.geometry ≡ g
     pub sized : new.engine.geometry ≡ g
-    pub still : honest new.engine.nand ≡ true
-    pub le : failed old.engine.nand ≤ failed new.engine.nand
-    pub renews : Renews flash recorded honest calm programs erases failed count old new
-    pub keeps : KeepsAll flash recorded old new
-    pub left : count + old_pages g (image_in flash new.engine) ≤ key_count g
+    pub still : view.honest new.engine.nand ≡ true
+    pub le : view.failed old.engine.nand ≤ view.failed new.engine.nand
+    pub renews : Renews view count old new
+    pub keeps : KeepsAll view old new
+    pub left : count + old_pages g (image_in view.flash new.engine) ≤ key_count g
 
-  pub begins : (g : Geometry) (old : Device N) → IsDevice flash old → old.engine.geometry ≡ g → honest old.engine.nand ≡ true → IsWell flash old → IsGoing g old 0 old
+  pub begins : (g : Geometry) (old : Device N) → IsDevice view.flash old → old.engine.geometry ≡ g → view.honest old.engine.nand ≡ true → IsWell view.flash old → IsGoing g old 0 old
   begins g old device sized still well = record {
     device = device;
     began = sized;
@@ -101,7 +100,7 @@ module _ {N : Type 0} (flash : N → Flash) (recorded : N → Option Recording) 
     le = omega arith;
     renews = refl;
     keeps = record { well = well; array = refl; capacity = refl; went = went_same _ _ _ };
-    left = omega (arith, few_old g (image_in flash old.engine));
+    left = omega (arith, few_old g (image_in view.flash old.engine));
   }
 
   same_size : (g : Geometry) (old mid : Device N) (count : ℕ) → IsGoing g old count mid → mid.engine.geometry ≡ old.engine.geometry
@@ -109,15 +108,15 @@ module _ {N : Type 0} (flash : N → Flash) (recorded : N → Option Recording) 
 
   -- what a call promises, after them
   pub calls_as : (g : Geometry) (old mid new : Device N) (count : ℕ) (result : Result Bool DeviceFault) → 40 ≤ g.spare_bytes → IsGoing g old count mid
-      → Upkeeps flash recorded honest calm failed Turn mid (ended result) new
-      → (honest mid.engine.nand ≡ true → IsWell flash mid → 40 ≤ mid.engine.geometry.spare_bytes
-      → IfOk result (λ found. Migrates found mid.engine.geometry (image_in flash mid.engine) (image_in flash new.engine)))
-      → IfOk result (λ found. found ≡ false → OnlyReads flash honest calm programs erases failed mid.engine.nand new.engine.nand)
+      → Upkeeps view Turn mid (ended result) new
+      → (view.honest mid.engine.nand ≡ true → IsWell view.flash mid → 40 ≤ mid.engine.geometry.spare_bytes
+      → IfOk result (λ found. Migrates found mid.engine.geometry (image_in view.flash mid.engine) (image_in view.flash new.engine)))
+      → IfOk result (λ found. found ≡ false → OnlyReads view mid.engine.nand new.engine.nand)
       → (result ≡ Ok true → HasBrought (ram mid.engine) (ram new.engine))
-      → (honest mid.engine.nand ≡ true → IsWell flash mid → result ≡ Ok true → BringsOne flash recorded mid new)
+      → (view.honest mid.engine.nand ≡ true → IsWell view.flash mid → result ≡ Ok true → BringsOne view mid new)
       → (result ≢ Ok true → new.cursor ≡ mid.cursor)
-      → (honest mid.engine.nand ≡ true → IsWell flash mid → result ≡ Ok true → HasMovedOn mid.cursor (image_in flash mid.engine) new.cursor)
-      → CallsMigrate flash recorded honest calm programs erases failed mid result new
+      → (view.honest mid.engine.nand ≡ true → IsWell view.flash mid → result ≡ Ok true → HasMovedOn mid.cursor (image_in view.flash mid.engine) new.cursor)
+      → CallsMigrate view mid result new
   calls_as g old mid new count result roomy going upkeeps migrates rests brought brings stays moves_on = record {
     upkeeps = upkeeps;
     migrates = migrates going.still going.keeps.well (subst (λ (k : Geometry). 40 ≤ k.spare_bytes) (sym going.sized) roomy);
@@ -129,11 +128,11 @@ module _ {N : Type 0} (flash : N → Flash) (recorded : N → Option Recording) 
   }
 
   -- the next that answered true
-  pub goes_on : (g : Geometry) (old mid new : Device N) (count : ℕ) → 40 ≤ g.spare_bytes → IsGoing g old count mid → CallsMigrate flash recorded honest calm programs erases failed mid (Ok true) new
-      → IsDevice flash new → new.engine.geometry ≡ mid.engine.geometry → IsGoing g old (count + 1) new
+  pub goes_on : (g : Geometry) (old mid new : Device N) (count : ℕ) → 40 ≤ g.spare_bytes → IsGoing g old count mid → CallsMigrate view mid (Ok true) new
+      → IsDevice view.flash new → new.engine.geometry ≡ mid.engine.geometry → IsGoing g old (count + 1) new
   goes_on g old mid new count roomy going its device sized =
-      let fewer : old_pages g (image_in flash new.engine) < old_pages g (image_in flash mid.engine) =
-      subst (λ (k : Geometry). version_for k ≡ 2 → old_pages k (image_in flash new.engine) < old_pages k (image_in flash mid.engine)) going.sized its.migrates (has_room g roomy) in
+      let fewer : old_pages g (image_in view.flash new.engine) < old_pages g (image_in view.flash mid.engine) =
+      subst (λ (k : Geometry). version_for k ≡ 2 → old_pages k (image_in view.flash new.engine) < old_pages k (image_in view.flash mid.engine)) going.sized its.migrates (has_room g roomy) in
       let one_more : suc count ≡ count + 1 = omega arith in
       record {
         device = device;
@@ -141,7 +140,7 @@ module _ {N : Type 0} (flash : N → Flash) (recorded : N → Option Recording) 
         sized = sized ∙ going.sized;
         still = its.upkeeps.stays.honest_is ∙ going.still;
         le = omega (arith, going.le, its.upkeeps.stays.failed_is);
-        renews = subst (λ n. Renews flash recorded honest calm programs erases failed n old new) one_more (mid, going.renews, its);
+        renews = subst (λ n. Renews view n old new) one_more (mid, going.renews, its);
         keeps = keeps_then old mid new (same_size g old mid count going) going.keeps (turn_keeps mid new (Ok tt) going.still going.keeps.well (λ is. (let never : ⊥ = cc in never)) its.upkeeps);
         left = omega (arith, going.left, fewer);
       }
@@ -149,14 +148,14 @@ module _ {N : Type 0} (flash : N → Flash) (recorded : N → Option Recording) 
   -- the one that answered false, or that was refused
   pub record HasEnded (g : Geometry) (old : Device N) (result : Result ℕ DeviceFault) (new : Device N) : Type 0 where
     pub began : old.engine.geometry ≡ g
-    pub still : honest new.engine.nand ≡ true
-    pub le : failed old.engine.nand ≤ failed new.engine.nand
-    pub renews : RenewsAll flash recorded honest calm programs erases failed old result new
-    pub keeps : result ≢ Err BusFault → KeepsAll flash recorded old new
-    pub rose : result ≡ Err BusFault → HasRisen (failed old.engine.nand) (failed new.engine.nand)
-    pub none : OnOk result (HasOldTablesOnly (image_in flash new.engine))
+    pub still : view.honest new.engine.nand ≡ true
+    pub le : view.failed old.engine.nand ≤ view.failed new.engine.nand
+    pub renews : RenewsAll view old result new
+    pub keeps : result ≢ Err BusFault → KeepsAll view old new
+    pub rose : result ≡ Err BusFault → HasRisen (view.failed old.engine.nand) (view.failed new.engine.nand)
+    pub none : OnOk result (HasOldTablesOnly (image_in view.flash new.engine))
 
-  pub ends_done : (g : Geometry) (old mid new : Device N) (count : ℕ) → IsGoing g old count mid → CallsMigrate flash recorded honest calm programs erases failed mid (Ok false) new → HasEnded g old (Ok count) new
+  pub ends_done : (g : Geometry) (old mid new : Device N) (count : ℕ) → IsGoing g old count mid → CallsMigrate view mid (Ok false) new → HasEnded g old (Ok count) new
   ends_done g old mid new count going its = record {
     began = going.began;
     still = its.upkeeps.stays.honest_is ∙ going.still;
@@ -170,7 +169,7 @@ module _ {N : Type 0} (flash : N → Flash) (recorded : N → Option Recording) 
   err_ne : (fault : DeviceFault) → fault ≢ BusFault → refused_as fault ≢ refused_as BusFault
   err_ne fault ne is = ne (let same : fault ≡ BusFault = cc in same)
 
-  pub ends_refused : (g : Geometry) (old mid new : Device N) (count : ℕ) (fault : DeviceFault) → IsGoing g old count mid → CallsMigrate flash recorded honest calm programs erases failed mid (Err fault) new → HasEnded g old (Err fault) new
+  pub ends_refused : (g : Geometry) (old mid new : Device N) (count : ℕ) (fault : DeviceFault) → IsGoing g old count mid → CallsMigrate view mid (Err fault) new → HasEnded g old (Err fault) new
   ends_refused g old mid new count fault going its = record {
     began = going.began;
     still = its.upkeeps.stays.honest_is ∙ going.still;
@@ -183,30 +182,30 @@ module _ {N : Type 0} (flash : N → Flash) (recorded : N → Option Recording) 
 
   -- and then the flush, which was done or refused
   pub record HasFlushed (g : Geometry) (old : Device N) (result : Result ℕ DeviceFault) (new : Device N) : Type 0 where
-    pub le : failed old.engine.nand ≤ failed new.engine.nand
-    pub renews : RenewsThenFlushes flash recorded honest calm programs erases failed old result new
-    pub keeps : result ≢ Err BusFault → KeepsAll flash recorded old new
-    pub rose : result ≡ Err BusFault → HasRisen (failed old.engine.nand) (failed new.engine.nand)
-    pub settled : OnOk result (IsSettled g (image_in flash new.engine))
+    pub le : view.failed old.engine.nand ≤ view.failed new.engine.nand
+    pub renews : RenewsThenFlushes view old result new
+    pub keeps : result ≢ Err BusFault → KeepsAll view old new
+    pub rose : result ≡ Err BusFault → HasRisen (view.failed old.engine.nand) (view.failed new.engine.nand)
+    pub settled : OnOk result (IsSettled g (image_in view.flash new.engine))
 
   -- what a flush is worth that was done
-  settles : (g : Geometry) (mid new : Device N) → honest mid.engine.nand ≡ true → IsWell flash mid → mid.engine.geometry ≡ g
-      → Upkeeps flash recorded honest calm failed Flush mid (Ok tt) new → 40 ≤ g.spare_bytes → HasOldTablesOnly (image_in flash mid.engine)
-      → Finishes mid.engine.geometry (image_in flash mid.engine) (image_in flash new.engine) → IsSettled g (image_in flash new.engine)
+  settles : (g : Geometry) (mid new : Device N) → view.honest mid.engine.nand ≡ true → IsWell view.flash mid → mid.engine.geometry ≡ g
+      → Upkeeps view Flush mid (Ok tt) new → 40 ≤ g.spare_bytes → HasOldTablesOnly (image_in view.flash mid.engine)
+      → Finishes mid.engine.geometry (image_in view.flash mid.engine) (image_in view.flash new.engine) → IsSettled g (image_in view.flash new.engine)
   settles g mid new still well sized its roomy tables finishes =
       let worth = (its.logs still (λ is. (let never : ⊥ = cc in never))).flushed well refl refl in
-      subst (λ (k : Geometry). IsSettled k (image_in flash new.engine)) sized (record {
+      subst (λ (k : Geometry). IsSettled k (image_in view.flash new.engine)) sized (record {
         anywhere = worth.anywhere;
         fresh = worth.fresh;
         none = finishes (subst (λ (k : Geometry). version_for k ≡ 2) (sym sized) (has_room g roomy)) tables;
       })
 
   pub flush_done : (g : Geometry) (old mid new : Device N) (count : ℕ) → HasEnded g old (Ok count) mid → mid.engine.geometry ≡ g → 40 ≤ g.spare_bytes
-      → Upkeeps flash recorded honest calm failed Flush mid (Ok tt) new
-      → (honest mid.engine.nand ≡ true → IsWell flash mid → Finishes mid.engine.geometry (image_in flash mid.engine) (image_in flash new.engine))
+      → Upkeeps view Flush mid (Ok tt) new
+      → (view.honest mid.engine.nand ≡ true → IsWell view.flash mid → Finishes mid.engine.geometry (image_in view.flash mid.engine) (image_in view.flash new.engine))
       → HasFlushed g old (Ok count) new
   flush_done g old mid new count ended sized roomy its finishes =
-      let kept : KeepsAll flash recorded old mid = ended.keeps (λ is. (let never : ⊥ = cc in never)) in
+      let kept : KeepsAll view old mid = ended.keeps (λ is. (let never : ⊥ = cc in never)) in
       record {
         le = omega (arith, ended.le, its.stays.failed_is);
         renews = (mid, ended.renews, its);
@@ -216,9 +215,9 @@ module _ {N : Type 0} (flash : N → Flash) (recorded : N → Option Recording) 
       }
 
   pub flush_refused : (g : Geometry) (old mid new : Device N) (count : ℕ) (fault : DeviceFault) → HasEnded g old (Ok count) mid → mid.engine.geometry ≡ g
-      → Upkeeps flash recorded honest calm failed Flush mid (Err fault) new → HasFlushed g old (Err fault) new
+      → Upkeeps view Flush mid (Err fault) new → HasFlushed g old (Err fault) new
   flush_refused g old mid new count fault ended sized its =
-      let kept : KeepsAll flash recorded old mid = ended.keeps (λ is. (let never : ⊥ = cc in never)) in
+      let kept : KeepsAll view old mid = ended.keeps (λ is. (let never : ⊥ = cc in never)) in
       record {
         le = omega (arith, ended.le, its.stays.failed_is);
         renews = inr (count, mid, ended.renews, its);

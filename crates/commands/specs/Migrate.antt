@@ -2,11 +2,11 @@
 use Rattle.std.specs.Prelude.{◌≡◌, ◌≢◌, ◌⊎◌, ℕ, zero, suc, ◌+◌, ◌<◌, ◌≤◌, Bool, true, false, List, [], ◌∷◌, ◌++◌, codes, Option, Result, Ok, Err, IfOk, OnOk}
 use Rattle.std.specs.Io.KnownBytes.{Appends, Keeps}
 use Rattle.std.specs.Fmt.{decimal}
+use Rattle.page_layout.specs.View.{View}
 use Rattle.page_layout.specs.declared.geometry.Geometry.{Geometry}
 use Rattle.page_layout.specs.Array.{array_of}
 use Rattle.page_layout.specs.Flash.{Flash}
 use Rattle.page_layout.specs.OnlyReads.{OnlyReads}
-use Rattle.page_layout.specs.Recording.{Recording}
 use Rattle.page_layout.specs.Raw.{raw_image, raw_bytes}
 use Rattle.page_layout.specs.Page.{Image}
 use Rattle.certificate.specs.Claim.{Claim}
@@ -45,52 +45,52 @@ use Rattle.commands.specs.Serve.{erases_of, failures_of, flash_behind, is_calm_a
 -- WHAT ONE CALL PROMISES: all that a turn promises of the array; where it answered true there are fewer newest pages of version 1 than before, and where it
 -- answered false none but table pages, and nothing was programmed or erased. One that answered true made room and brought one page: the one that its look found, or none
 -- where making room had moved it; and the cursor went past its row.
-pub record CallsMigrate {N : Type 0} (flash : N → Flash) (recorded : N → Option Recording) (honest calm : N → Bool) (programs erases failed : N → ℕ)
+pub record CallsMigrate {N : Type 0} (view : View N)
     (old : Device N) (result : Result Bool DeviceFault) (new : Device N) : Type 0 where
-  pub upkeeps : Upkeeps flash recorded honest calm failed Turn old (ended result) new
-  pub migrates : IfOk result (λ found. Migrates found old.engine.geometry (image_in flash old.engine) (image_in flash new.engine))
-  pub rests : IfOk result (λ found. found ≡ false → OnlyReads flash honest calm programs erases failed old.engine.nand new.engine.nand)
+  pub upkeeps : Upkeeps view Turn old (ended result) new
+  pub migrates : IfOk result (λ found. Migrates found old.engine.geometry (image_in view.flash old.engine) (image_in view.flash new.engine))
+  pub rests : IfOk result (λ found. found ≡ false → OnlyReads view old.engine.nand new.engine.nand)
   pub brought : result ≡ Ok true → HasBrought (ram old.engine) (ram new.engine)
-  pub brings : result ≡ Ok true → BringsOne flash recorded old new
+  pub brings : result ≡ Ok true → BringsOne view old new
   pub stays : result ≢ Ok true → new.cursor ≡ old.cursor
-  pub moves_on : result ≡ Ok true → HasMovedOn old.cursor (image_in flash old.engine) new.cursor
+  pub moves_on : result ≡ Ok true → HasMovedOn old.cursor (image_in view.flash old.engine) new.cursor
 
 -- so many calls, each of which answered true
-abbrev pub Renews : {N : Type 0} → (N → Flash) → (N → Option Recording) → (honest calm : N → Bool) → (programs erases failed : N → ℕ)
+abbrev pub Renews : {N : Type 0} → (view : View N)
     → ℕ → Device N → Device N → Type 0
-Renews flash recorded honest calm programs erases failed zero old new = new ≡ old
-Renews {N} flash recorded honest calm programs erases failed (suc count) old new =
-    (mid : Device N) × Renews flash recorded honest calm programs erases failed count old mid
-    × CallsMigrate flash recorded honest calm programs erases failed mid (Ok true) new
+Renews view zero old new = new ≡ old
+Renews {N} view (suc count) old new =
+    (mid : Device N) × Renews view count old mid
+    × CallsMigrate view mid (Ok true) new
 
 -- ALL CALLS: so many answered true and the next one false, or after so many one was refused
-abbrev pub RenewsAll : {N : Type 0} → (N → Flash) → (N → Option Recording) → (honest calm : N → Bool) → (programs erases failed : N → ℕ)
+abbrev pub RenewsAll : {N : Type 0} → (view : View N)
     → Device N → Result ℕ DeviceFault → Device N → Type 0
-RenewsAll {N} flash recorded honest calm programs erases failed old (Ok count) new =
-    (mid : Device N) × Renews flash recorded honest calm programs erases failed count old mid
-    × CallsMigrate flash recorded honest calm programs erases failed mid (Ok false) new
-RenewsAll {N} flash recorded honest calm programs erases failed old (Err refused) new =
-    (count : ℕ) × (mid : Device N) × Renews flash recorded honest calm programs erases failed count old mid
-    × CallsMigrate flash recorded honest calm programs erases failed mid (Err refused) new
+RenewsAll {N} view old (Ok count) new =
+    (mid : Device N) × Renews view count old mid
+    × CallsMigrate view mid (Ok false) new
+RenewsAll {N} view old (Err refused) new =
+    (count : ℕ) × (mid : Device N) × Renews view count old mid
+    × CallsMigrate view mid (Err refused) new
 
 -- and then, where none was refused, a flush
-abbrev pub RenewsThenFlushes : {N : Type 0} → (N → Flash) → (N → Option Recording) → (honest calm : N → Bool) → (programs erases failed : N → ℕ)
+abbrev pub RenewsThenFlushes : {N : Type 0} → (view : View N)
     → Device N → Result ℕ DeviceFault → Device N → Type 0
-RenewsThenFlushes {N} flash recorded honest calm programs erases failed old (Ok count) new =
-    (mid : Device N) × RenewsAll flash recorded honest calm programs erases failed old (Ok count) mid
-    × Upkeeps flash recorded honest calm failed Flush mid (Ok tt) new
-RenewsThenFlushes {N} flash recorded honest calm programs erases failed old (Err refused) new =
-    RenewsAll flash recorded honest calm programs erases failed old (Err refused) new
-    ⊎ ((count : ℕ) × (mid : Device N) × RenewsAll flash recorded honest calm programs erases failed old (Ok count) mid
-    × Upkeeps flash recorded honest calm failed Flush mid (Err refused) new)
+RenewsThenFlushes {N} view old (Ok count) new =
+    (mid : Device N) × RenewsAll view old (Ok count) mid
+    × Upkeeps view Flush mid (Ok tt) new
+RenewsThenFlushes {N} view old (Err refused) new =
+    RenewsAll view old (Err refused) new
+    ⊎ ((count : ℕ) × (mid : Device N) × RenewsAll view old (Ok count) mid
+    × Upkeeps view Flush mid (Err refused) new)
 
 -- WHAT STAYS, whether or not a call was refused: the array, and the capacity of the cache. The memory is true of the image; and one log, that of all
 -- calls, leads from the one die to the other.
-pub record KeepsAll {N : Type 0} (flash : N → Flash) (recorded : N → Option Recording) (old new : Device N) : Type 0 where
-  pub well : IsWell flash new
-  pub array : array_in flash new ≡ array_in flash old
+pub record KeepsAll {N : Type 0} (view : View N) (old new : Device N) : Type 0 where
+  pub well : IsWell view.flash new
+  pub array : array_in view.flash new ≡ array_in view.flash old
   pub capacity : new.engine.mapping.capacity ≡ old.engine.mapping.capacity
-  pub went : Went (ram old.engine) (flash old.engine.nand) (recorded old.engine.nand) (ram new.engine) (flash new.engine.nand) (recorded new.engine.nand)
+  pub went : Went (ram old.engine) (view.flash old.engine.nand) (view.recorded old.engine.nand) (ram new.engine) (view.flash new.engine.nand) (view.recorded new.engine.nand)
 
 -- WHAT AN IMAGE IS WORTH after all calls and the flush: it has a certificate at every capacity, no entry is stale, and no newest page is of version 1
 pub record IsSettled (g : Geometry) (image : Image) : Type 0 where

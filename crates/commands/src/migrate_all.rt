@@ -14,19 +14,19 @@ use page_layout::geometry::Geometry;
 // Calls `migrate_one` until it answers false, and answers how many calls answered true. Each of them leaves fewer newest pages of version 1, of which
 // there is one for each key at most.
 fn renew_all<N: Nand>(device: &mut Device<N>, geometry: &Geometry) -> Result<u32, DeviceFault>
-    requires device { IsDevice N.flash device.old }
-    requires honest { N.honest device.old.engine.nand ≡ true }
-    requires well { IsWell N.flash device.old }
+    requires device { IsDevice N.view.flash device.old }
+    requires honest { N.view.honest device.old.engine.nand ≡ true }
+    requires well { IsWell N.view.flash device.old }
     requires same_geometry { device.old.engine.geometry ≡ geometry.now }
     requires roomy { 40 ≤ geometry.now.spare_bytes }
-    ensures device { IsDevice N.flash device.new }
+    ensures device { IsDevice N.view.flash device.new }
     ensures geometry { device.new.engine.geometry ≡ geometry.now }
-    ensures honest { N.honest device.new.engine.nand ≡ true }
-    ensures failed { N.failed device.old.engine.nand ≤ N.failed device.new.engine.nand }
-    ensures renews { RenewsAll N.flash N.recorded N.honest N.calm N.programs N.erases N.failed device.old result device.new }
-    ensures keeps { result ≢ Err DeviceFault.BusFault → KeepsAll N.flash N.recorded device.old device.new }
-    ensures rose { result ≡ Err DeviceFault.BusFault → HasRisen (N.failed device.old.engine.nand) (N.failed device.new.engine.nand) }
-    ensures none { OnOk result (HasOldTablesOnly (image_in N.flash device.new.engine)) }
+    ensures honest { N.view.honest device.new.engine.nand ≡ true }
+    ensures failed { N.view.failed device.old.engine.nand ≤ N.view.failed device.new.engine.nand }
+    ensures renews { RenewsAll N.view device.old result device.new }
+    ensures keeps { result ≢ Err DeviceFault.BusFault → KeepsAll N.view device.old device.new }
+    ensures rose { result ≡ Err DeviceFault.BusFault → HasRisen (N.view.failed device.old.engine.nand) (N.view.failed device.new.engine.nand) }
+    ensures none { OnOk result (HasOldTablesOnly (image_in N.view.flash device.new.engine)) }
 {
     let calls = geometry.sectors() + geometry.translation_pages() + geometry.table_pages() + 1;
     'calls: for count in 0..calls {
@@ -49,18 +49,18 @@ pub fn renew_and_flush<N: Nand>(
     device: &mut Device<N>,
     geometry: &Geometry,
 ) -> Result<u32, DeviceFault>
-    requires device { IsDevice N.flash device.old }
-    requires honest { N.honest device.old.engine.nand ≡ true }
-    requires well { IsWell N.flash device.old }
+    requires device { IsDevice N.view.flash device.old }
+    requires honest { N.view.honest device.old.engine.nand ≡ true }
+    requires well { IsWell N.view.flash device.old }
     requires same_geometry { device.old.engine.geometry ≡ geometry.now }
     requires roomy { 40 ≤ geometry.now.spare_bytes }
-    ensures device { IsDevice N.flash device.new }
+    ensures device { IsDevice N.view.flash device.new }
     ensures geometry { device.new.engine.geometry ≡ geometry.now }
-    ensures failed { N.failed device.old.engine.nand ≤ N.failed device.new.engine.nand }
-    ensures renews { RenewsThenFlushes N.flash N.recorded N.honest N.calm N.programs N.erases N.failed device.old result device.new }
-    ensures keeps { result ≢ Err DeviceFault.BusFault → KeepsAll N.flash N.recorded device.old device.new }
-    ensures rose { result ≡ Err DeviceFault.BusFault → HasRisen (N.failed device.old.engine.nand) (N.failed device.new.engine.nand) }
-    ensures settled { OnOk result (IsSettled geometry.now (image_in N.flash device.new.engine)) }
+    ensures failed { N.view.failed device.old.engine.nand ≤ N.view.failed device.new.engine.nand }
+    ensures renews { RenewsThenFlushes N.view device.old result device.new }
+    ensures keeps { result ≢ Err DeviceFault.BusFault → KeepsAll N.view device.old device.new }
+    ensures rose { result ≡ Err DeviceFault.BusFault → HasRisen (N.view.failed device.old.engine.nand) (N.view.failed device.new.engine.nand) }
+    ensures settled { OnOk result (IsSettled geometry.now (image_in N.view.flash device.new.engine)) }
 {
     let count = renew_all(device, geometry)?;
     device.flush()?;

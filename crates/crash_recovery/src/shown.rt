@@ -24,16 +24,16 @@ fn is_told_bad<N: PageSource>(
     body: &mut [u8],
     spare: &mut [u8],
 ) -> Result<bool, SourceFault>
-    requires geometry { (N.flash source.old).geometry ≡ geometry.now }
+    requires geometry { (N.view.flash source.old).geometry ≡ geometry.now }
     requires whole { IsCertificateOf geometry.now certificate.now }
     requires sizes { certificate.now.sizes ≡ sizes_of geometry.now }
     requires in_range { block < geometry.now.blocks }
     requires body { length body.old ≡ geometry.now.data_bytes }
     requires spare { length spare.old ≡ geometry.now.spare_bytes }
-    ensures named { IfOk result (λ named. N.honest source.old ≡ true → (capacity : ℕ) → Agrees geometry.now capacity (N.flash source.old).image certificate.now →
-        named ≡ (table_class geometry.now (N.flash source.old).image block == 2)) }
-    ensures same { OnOk result (N.honest source.old ≡ true → N.flash source.new ≡ N.flash source.old) }
-    ensures only_reads { OnlyReads N.flash N.honest N.calm N.programs N.erases N.failed source.old source.new }
+    ensures named { IfOk result (λ named. N.view.honest source.old ≡ true → (capacity : ℕ) → Agrees geometry.now capacity (N.view.flash source.old).image certificate.now →
+        named ≡ (table_class geometry.now (N.view.flash source.old).image block == 2)) }
+    ensures same { OnOk result (N.view.honest source.old ≡ true → N.view.flash source.new ≡ N.view.flash source.old) }
+    ensures only_reads { OnlyReads N.view source.old source.new }
 {
     let entries = geometry.entries();
     let Some(row) = certificate.directory_row(geometry.translation_pages() + block / entries) else {
@@ -52,18 +52,18 @@ fn shows_it<N: PageSource>(
     body: &mut [u8],
     spare: &mut [u8],
 ) -> Result<bool, SourceFault>
-    requires geometry { (N.flash source.old).geometry ≡ geometry.now }
+    requires geometry { (N.view.flash source.old).geometry ≡ geometry.now }
     requires whole { IsCertificateOf geometry.now certificate.now }
     requires sizes { certificate.now.sizes ≡ sizes_of geometry.now }
     requires in_range { block < geometry.now.blocks }
     requires body { length body.old ≡ geometry.now.data_bytes }
     requires spare { length spare.old ≡ geometry.now.spare_bytes }
-    ensures torn { IfOk result (λ torn. N.honest source.old ≡ true → (capacity : ℕ) → Agrees geometry.now capacity (N.flash source.old).image certificate.now →
-        torn ≡ true → IsTorn geometry.now (N.flash source.old).image block) }
-    ensures fine { IfOk result (λ torn. N.honest source.old ≡ true → (capacity : ℕ) → Agrees geometry.now capacity (N.flash source.old).image certificate.now →
-        torn ≡ false → ¬ IsTorn geometry.now (N.flash source.old).image block) }
-    ensures same { OnOk result (N.honest source.old ≡ true → N.flash source.new ≡ N.flash source.old) }
-    ensures only_reads { OnlyReads N.flash N.honest N.calm N.programs N.erases N.failed source.old source.new }
+    ensures torn { IfOk result (λ torn. N.view.honest source.old ≡ true → (capacity : ℕ) → Agrees geometry.now capacity (N.view.flash source.old).image certificate.now →
+        torn ≡ true → IsTorn geometry.now (N.view.flash source.old).image block) }
+    ensures fine { IfOk result (λ torn. N.view.honest source.old ≡ true → (capacity : ℕ) → Agrees geometry.now capacity (N.view.flash source.old).image certificate.now →
+        torn ≡ false → ¬ IsTorn geometry.now (N.view.flash source.old).image block) }
+    ensures same { OnOk result (N.view.honest source.old ≡ true → N.view.flash source.new ≡ N.view.flash source.old) }
+    ensures only_reads { OnlyReads N.view source.old source.new }
 {
     if certificate.block(block).class != SHOWN_BAD {
         return Ok(false);
@@ -79,15 +79,15 @@ fn shows_any<N: PageSource>(
     body: &mut [u8],
     spare: &mut [u8],
 ) -> Result<bool, SourceFault>
-    requires geometry { (N.flash source.old).geometry ≡ geometry.now }
+    requires geometry { (N.view.flash source.old).geometry ≡ geometry.now }
     requires whole { IsCertificateOf geometry.now certificate.now }
     requires sizes { certificate.now.sizes ≡ sizes_of geometry.now }
     requires body { length body.old ≡ geometry.now.data_bytes }
     requires spare { length spare.old ≡ geometry.now.spare_bytes }
-    ensures none { IfOk result (λ torn. N.honest source.old ≡ true → (capacity : ℕ) → Agrees geometry.now capacity (N.flash source.old).image certificate.now →
-        torn ≡ false → NoneTorn geometry.now (N.flash source.old).image geometry.now.blocks) }
-    ensures same { OnOk result (N.honest source.old ≡ true → N.flash source.new ≡ N.flash source.old) }
-    ensures only_reads { OnlyReads N.flash N.honest N.calm N.programs N.erases N.failed source.old source.new }
+    ensures none { IfOk result (λ torn. N.view.honest source.old ≡ true → (capacity : ℕ) → Agrees geometry.now capacity (N.view.flash source.old).image certificate.now →
+        torn ≡ false → NoneTorn geometry.now (N.view.flash source.old).image geometry.now.blocks) }
+    ensures same { OnOk result (N.view.honest source.old ≡ true → N.view.flash source.new ≡ N.view.flash source.old) }
+    ensures only_reads { OnlyReads N.view source.old source.new }
 {
     for block in 0..geometry.blocks() {
         if shows_it(source, geometry, certificate, block, body, spare)? {
@@ -109,11 +109,11 @@ pub fn shows_torn<N: PageSource>(
     geometry: &Geometry,
     certificate: &Certificate,
 ) -> Result<bool, RecoveryFault>
-    requires geometry { (N.flash source.old).geometry ≡ geometry.now }
-    ensures none { IfOk result (λ torn. N.honest source.old ≡ true → (capacity : ℕ) → Agrees geometry.now capacity (N.flash source.old).image certificate.now →
-        torn ≡ false → NoneTorn geometry.now (N.flash source.old).image geometry.now.blocks) }
-    ensures same { OnOk result (N.honest source.old ≡ true → N.flash source.new ≡ N.flash source.old) }
-    ensures only_reads { OnlyReads N.flash N.honest N.calm N.programs N.erases N.failed source.old source.new }
+    requires geometry { (N.view.flash source.old).geometry ≡ geometry.now }
+    ensures none { IfOk result (λ torn. N.view.honest source.old ≡ true → (capacity : ℕ) → Agrees geometry.now capacity (N.view.flash source.old).image certificate.now →
+        torn ≡ false → NoneTorn geometry.now (N.view.flash source.old).image geometry.now.blocks) }
+    ensures same { OnOk result (N.view.honest source.old ≡ true → N.view.flash source.new ≡ N.view.flash source.old) }
+    ensures only_reads { OnlyReads N.view source.old source.new }
 {
     if !is_of(certificate, geometry) {
         return Ok(false);

@@ -65,7 +65,7 @@ pub fn hold_mounted<N: Nand + Drop>(
     name: &str,
     its: &Mounted,
 ) -> Result<(), Fail>
-    requires { (N.flash nand).geometry ≡ geometry.now }
+    requires { (N.view.flash nand).geometry ≡ geometry.now }
 {
     let certificate = mounted(alloc, &mut nand, geometry, its.capacity)?;
     hold_certificate(&certificate, name, its)?;

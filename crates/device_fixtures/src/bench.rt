@@ -94,8 +94,8 @@ pub fn unwired(driver: Driver<Recorder>) -> (Die, Vec<Cycle>) {
 
 // Formats a die. How many blocks are good.
 fn format_die<N: Nand>(alloc: Global, nand: &mut N, geometry: &Geometry) -> Result<u32, Fail>
-    requires { (N.flash nand.old).geometry ≡ geometry.now }
-    ensures { (N.flash nand.new).geometry ≡ geometry.now }
+    requires { (N.view.flash nand.old).geometry ≡ geometry.now }
+    ensures { (N.view.flash nand.new).geometry ≡ geometry.now }
 {
     Ok(format(alloc, nand, geometry)?)
 }
@@ -167,8 +167,8 @@ pub fn mounted<S: PageSource>(
     geometry: &Geometry,
     capacity: u32,
 ) -> Result<Certificate, Fail>
-    requires { (S.flash source.old).geometry ≡ geometry.now }
-    ensures { (S.flash source.new).geometry ≡ geometry.now }
+    requires { (S.view.flash source.old).geometry ≡ geometry.now }
+    ensures { (S.view.flash source.new).geometry ≡ geometry.now }
 {
     if !geometry.is_capacity(capacity) {
         return Err("no capacity")?;
@@ -188,8 +188,8 @@ pub fn checked<'a, S: PageSource>(
     capacity: u32,
     certificate: &'a Certificate,
 ) -> Result<Accepted<'a>, Fail>
-    requires { (S.flash source.old).geometry ≡ geometry.now }
-    ensures same { (S.flash source.new).geometry ≡ geometry.now }
+    requires { (S.view.flash source.old).geometry ≡ geometry.now }
+    ensures same { (S.view.flash source.new).geometry ≡ geometry.now }
     ensures sizes { IfOk result (λ accepted. sizes_of geometry.now ≡ accepted.claim.sizes) }
 {
     Ok(check(alloc, source, geometry, capacity, certificate)?)
@@ -205,8 +205,8 @@ pub fn start_on<N: Nand + Drop>(
     nand: N,
     accepted: Accepted<'_>,
 ) -> Result<Device<N>, Fail>
-    requires { sizes_of (N.flash nand).geometry ≡ accepted.claim.sizes }
-    ensures { IfOk result (IsDevice N.flash) }
+    requires { sizes_of (N.view.flash nand).geometry ≡ accepted.claim.sizes }
+    ensures { IfOk result (IsDevice N.view.flash) }
 {
     match Device::start(alloc, nand, accepted) {
         Ok(device) => Ok(device),
@@ -230,8 +230,8 @@ pub fn started<N: Nand + Drop>(
     geometry: &Geometry,
     capacity: u32,
 ) -> Result<Device<N>, Fail>
-    requires { (N.flash nand).geometry ≡ geometry.now }
-    ensures { IfOk result (IsDevice N.flash) }
+    requires { (N.view.flash nand).geometry ≡ geometry.now }
+    ensures { IfOk result (IsDevice N.view.flash) }
 {
     let certificate = mounted(alloc, &mut nand, geometry, capacity)?;
     let accepted = checked(alloc, &mut nand, geometry, capacity, &certificate)?;
@@ -324,8 +324,8 @@ pub fn recorded(
 
 /// The die, given up by its device, and its geometry.
 pub fn given_up<N: Nand>(device: Device<N>) -> (N, Geometry)
-    requires { IsDevice N.flash device }
-    ensures { (N.flash result.0).geometry ≡ result.1 }
+    requires { IsDevice N.view.flash device }
+    ensures { (N.view.flash result.0).geometry ≡ result.1 }
 {
     let geometry = device.engine.geometry;
     (device.into_nand(), geometry)
@@ -342,8 +342,8 @@ pub fn after_calls<N: Nand + Drop>(
     geometry: &Geometry,
     calls: &[Call],
 ) -> Result<(N, Geometry), Fail>
-    requires { (N.flash nand).geometry ≡ geometry.now }
-    ensures { IfOk result (λ pair. (N.flash pair.0).geometry ≡ pair.1) }
+    requires { (N.view.flash nand).geometry ≡ geometry.now }
+    ensures { IfOk result (λ pair. (N.view.flash pair.0).geometry ≡ pair.1) }
 {
     let mut device = started(alloc, nand, geometry, 4)?;
     hold_calls(&mut device, "before", calls, Ok(()))?;

@@ -41,8 +41,8 @@ impl Call {
 
 // Writes a sector.
 fn write_body<N: Nand>(device: &mut Device<N>, sector: u32, body: &[u8]) -> Result<Answer, Fail>
-    requires { IsDevice N.flash device.old }
-    ensures { IsDevice N.flash device.new }
+    requires { IsDevice N.view.flash device.old }
+    ensures { IsDevice N.view.flash device.new }
 {
     if device.engine.geometry.data_bytes() != body.len() {
         return Err("a body of another length")?;
@@ -52,8 +52,8 @@ fn write_body<N: Nand>(device: &mut Device<N>, sector: u32, body: &[u8]) -> Resu
 
 // Reads a sector.
 fn read_into<N: Nand>(device: &mut Device<N>, sector: u32, out: &mut [u8]) -> Result<Answer, Fail>
-    requires { IsDevice N.flash device.old }
-    ensures { IsDevice N.flash device.new }
+    requires { IsDevice N.view.flash device.old }
+    ensures { IsDevice N.view.flash device.new }
 {
     if device.engine.geometry.data_bytes() != out.len() {
         return Err("a sector of another length")?;
@@ -63,8 +63,8 @@ fn read_into<N: Nand>(device: &mut Device<N>, sector: u32, out: &mut [u8]) -> Re
 
 // Writes a sector of 64 bytes, all of them this one.
 fn write<N: Nand>(device: &mut Device<N>, sector: u32, byte: u8) -> Result<Answer, Fail>
-    requires { IsDevice N.flash device.old }
-    ensures { IsDevice N.flash device.new }
+    requires { IsDevice N.view.flash device.old }
+    ensures { IsDevice N.view.flash device.new }
 {
     write_body(device, sector, &[byte; 64])
 }
@@ -80,8 +80,8 @@ pub fn read<N: Nand>(
     sector: u32,
     byte: u8,
 ) -> Result<Answer, Fail>
-    requires { IsDevice N.flash device.old }
-    ensures { IsDevice N.flash device.new }
+    requires { IsDevice N.view.flash device.old }
+    ensures { IsDevice N.view.flash device.new }
 {
     let mut out = [!byte; 64];
     let answer = read_into(device, sector, &mut out)?;
@@ -93,32 +93,32 @@ pub fn read<N: Nand>(
 
 // Trims a sector.
 fn trim<N: Nand>(device: &mut Device<N>, sector: u32) -> Answer
-    requires { IsDevice N.flash device.old }
-    ensures { IsDevice N.flash device.new }
+    requires { IsDevice N.view.flash device.old }
+    ensures { IsDevice N.view.flash device.new }
 {
     device.trim(sector)
 }
 
 // Flushes.
 fn flush<N: Nand>(device: &mut Device<N>) -> Answer
-    requires { IsDevice N.flash device.old }
-    ensures { IsDevice N.flash device.new }
+    requires { IsDevice N.view.flash device.old }
+    ensures { IsDevice N.view.flash device.new }
 {
     device.flush()
 }
 
 // Takes a turn.
 fn turn<N: Nand>(device: &mut Device<N>) -> Answer
-    requires { IsDevice N.flash device.old }
-    ensures { IsDevice N.flash device.new }
+    requires { IsDevice N.view.flash device.old }
+    ensures { IsDevice N.view.flash device.new }
 {
     device.turn()
 }
 
 // Brings a page of version 1 forward, if there is one.
 fn migrate<N: Nand>(device: &mut Device<N>) -> Answer
-    requires { IsDevice N.flash device.old }
-    ensures { IsDevice N.flash device.new }
+    requires { IsDevice N.view.flash device.old }
+    ensures { IsDevice N.view.flash device.new }
 {
     device.migrate_one()?;
     Ok(())
@@ -130,8 +130,8 @@ fn migrate<N: Nand>(device: &mut Device<N>) -> Answer
 ///
 /// A read that is done gives other bytes, or the sectors don't have 64 bytes.
 pub fn make<N: Nand>(device: &mut Device<N>, name: &str, call: Call) -> Result<Answer, Fail>
-    requires { IsDevice N.flash device.old }
-    ensures { IsDevice N.flash device.new }
+    requires { IsDevice N.view.flash device.old }
+    ensures { IsDevice N.view.flash device.new }
 {
     match call {
         Call::Write(sector, byte) => write(device, sector, byte),
@@ -154,8 +154,8 @@ pub fn hold_call<N: Nand>(
     call: Call,
     answer: Answer,
 ) -> Result<(), Fail>
-    requires { IsDevice N.flash device.old }
-    ensures { IsDevice N.flash device.new }
+    requires { IsDevice N.view.flash device.old }
+    ensures { IsDevice N.view.flash device.new }
 {
     let found = make(device, name, call)?;
     hold_answer(name, call, found, answer)
@@ -180,8 +180,8 @@ pub fn hold_calls<N: Nand>(
     calls: &[Call],
     answer: Answer,
 ) -> Result<(), Fail>
-    requires { IsDevice N.flash device.old }
-    ensures { IsDevice N.flash device.new }
+    requires { IsDevice N.view.flash device.old }
+    ensures { IsDevice N.view.flash device.new }
 {
     for call in calls {
         hold_call(device, name, *call, answer)?;

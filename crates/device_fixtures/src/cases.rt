@@ -136,8 +136,8 @@ fn hold_over<N: Nand>(
     sector: u32,
     count: u16,
 ) -> Result<(), Fail>
-    requires { IsDevice N.flash device.old }
-    ensures { IsDevice N.flash device.new }
+    requires { IsDevice N.view.flash device.old }
+    ensures { IsDevice N.view.flash device.new }
 {
     for nth in 0..count {
         hold_call(device, name, nth_write(sector, nth), Ok(()))?;
@@ -153,8 +153,8 @@ fn hold_spread<N: Nand>(
     other: u32,
     times: u16,
 ) -> Result<(), Fail>
-    requires { IsDevice N.flash device.old }
-    ensures { IsDevice N.flash device.new }
+    requires { IsDevice N.view.flash device.old }
+    ensures { IsDevice N.view.flash device.new }
 {
     for sector in 0..count {
         let byte = (sector % 255 + 1) as u8;
@@ -165,8 +165,8 @@ fn hold_spread<N: Nand>(
 }
 
 fn hold_step<N: Nand>(device: &mut Device<N>, name: &str, step: &Step) -> Result<(), Fail>
-    requires { IsDevice N.flash device.old }
-    ensures { IsDevice N.flash device.new }
+    requires { IsDevice N.view.flash device.old }
+    ensures { IsDevice N.view.flash device.new }
 {
     match step {
         Step::Done(calls) => hold_calls(device, name, calls, Ok(())),
@@ -177,8 +177,8 @@ fn hold_step<N: Nand>(device: &mut Device<N>, name: &str, step: &Step) -> Result
 }
 
 fn hold_steps<N: Nand>(device: &mut Device<N>, name: &str, steps: &[Step]) -> Result<(), Fail>
-    requires { IsDevice N.flash device.old }
-    ensures { IsDevice N.flash device.new }
+    requires { IsDevice N.view.flash device.old }
+    ensures { IsDevice N.view.flash device.new }
 {
     for step in steps {
         hold_step(device, name, step)?;
@@ -254,7 +254,7 @@ fn hold_order(mapping: &mut Mapping, name: &str, order: &[Cached]) -> Result<(),
 
 // Collects blocks.
 fn collect_all<N: Nand>(engine: &mut Engine<N>, blocks: &[(u32, bool)]) -> Result<(), Fail>
-    requires safe { IsSafe N.flash engine.old }
+    requires safe { IsSafe N.view.flash engine.old }
     requires calm { engine.old.fault ≡ None → IsCalm (ram engine.old) }
 {
     for its in blocks {
@@ -272,7 +272,7 @@ fn collect_all<N: Nand>(engine: &mut Engine<N>, blocks: &[(u32, bool)]) -> Resul
 
 // The device's memory is what the case says, after what is collected then. The die is given up.
 fn hold_memory<N: Nand + Drop>(device: Device<N>, case: &Case) -> Result<N, Fail>
-    requires { IsDevice N.flash device }
+    requires { IsDevice N.view.flash device }
 {
     hold_same(case.name, "read only", &device.read_only(), &case.read_only)?;
     let mut engine = device.into_engine();
@@ -302,8 +302,8 @@ fn hold_all_pages<S: PageSource>(
     geometry: &Geometry,
     case: &Case,
 ) -> Result<(), Fail>
-    requires { (S.flash source.old).geometry ≡ geometry.now }
-    ensures { (S.flash source.new).geometry ≡ geometry.now }
+    requires { (S.view.flash source.old).geometry ≡ geometry.now }
+    ensures { (S.view.flash source.new).geometry ≡ geometry.now }
 {
     if matches!(case.told, Told::Nothing | Told::ChangesAlone) {
         return Ok(());
@@ -334,8 +334,8 @@ fn after_steps<N: Nand + Drop>(
     geometry: &Geometry,
     case: &Case,
 ) -> Result<(N, Geometry), Fail>
-    requires { (N.flash nand).geometry ≡ geometry.now }
-    ensures { IfOk result (λ pair. (N.flash pair.0).geometry ≡ pair.1) }
+    requires { (N.view.flash nand).geometry ≡ geometry.now }
+    ensures { IfOk result (λ pair. (N.view.flash pair.0).geometry ≡ pair.1) }
 {
     let mut device = started(alloc, nand, geometry, case.before_capacity)?;
     hold_steps(&mut device, case.name, case.before)?;

@@ -119,8 +119,8 @@ fn read_areas<S: PageSource>(
     body: &mut [u8],
     spare: &mut [u8],
 ) -> Result<(), Fail>
-    requires { (S.flash source.old).geometry ≡ geometry.now }
-    ensures { (S.flash source.new).geometry ≡ geometry.now }
+    requires { (S.view.flash source.old).geometry ≡ geometry.now }
+    ensures { (S.view.flash source.new).geometry ≡ geometry.now }
 {
     if geometry.data_bytes() != body.len() || geometry.spare_bytes() != spare.len() {
         return Err("pages of another size")?;
@@ -148,8 +148,8 @@ fn hold_row<S: PageSource>(
     pages: &[PageAt],
     row: u32,
 ) -> Result<(), Fail>
-    requires { (S.flash source.old).geometry ≡ geometry.now }
-    ensures { (S.flash source.new).geometry ≡ geometry.now }
+    requires { (S.view.flash source.old).geometry ≡ geometry.now }
+    ensures { (S.view.flash source.new).geometry ≡ geometry.now }
 {
     let mut body = [0; 64];
     let mut spare = [0; 32];
@@ -184,8 +184,8 @@ pub fn hold_pages<S: PageSource>(
     name: &str,
     pages: &[PageAt],
 ) -> Result<(), Fail>
-    requires { (S.flash source.old).geometry ≡ geometry.now }
-    ensures { (S.flash source.new).geometry ≡ geometry.now }
+    requires { (S.view.flash source.old).geometry ≡ geometry.now }
+    ensures { (S.view.flash source.new).geometry ≡ geometry.now }
 {
     for row in 2..256 {
         hold_row(source, geometry, name, pages, row)?;
@@ -209,8 +209,8 @@ pub fn hold_spare<S: PageSource>(
     name: &str,
     first: &[u8],
 ) -> Result<(), Fail>
-    requires { (S.flash source.old).geometry ≡ geometry.now }
-    ensures { (S.flash source.new).geometry ≡ geometry.now }
+    requires { (S.view.flash source.old).geometry ≡ geometry.now }
+    ensures { (S.view.flash source.new).geometry ≡ geometry.now }
 {
     let mut body = [0; 64];
     let mut spare = [0; 32];

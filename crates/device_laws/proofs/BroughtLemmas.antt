@@ -2,11 +2,11 @@
 use Rattle.std.proofs.Common.{◌≡◌, ◌⊎◌, inl, inr, ℕ, zero, suc, ◌+◌, ◌-◌, ◌/◌, ◌<◌, Bool, true, false, Option, None, Some, Ok, refl, sym, ◌∙◌, ap, subst, arith}
 use Rattle.std.specs.Map.{keys_of}
 use Rattle.std.proofs.lemmas.Bool.{cases_lt}
+use Rattle.page_layout.specs.View.{View}
 use Rattle.page_layout.specs.declared.record.Key.{Key}
 use Rattle.page_layout.specs.declared.record.Key.TheVariants.{Sector, Translation, Table}
 use Rattle.page_layout.specs.Key.{key_of}
 use Rattle.page_layout.specs.Flash.{Flash}
-use Rattle.page_layout.specs.Recording.{Recording}
 use Rattle.page_layout.specs.Geometry.{entries}
 use Rattle.page_layout.specs.Page.{Image}
 use Rattle.page_layout.specs.Sound.{version_for}
@@ -136,37 +136,37 @@ record IsAlike {N : Type 0} (flash : N → Flash) (a b : Device N) : Type 0 wher
   geometry : b.engine.geometry ≡ a.engine.geometry
   keys : keys_of b.engine.mapping.cached ≡ keys_of a.engine.mapping.cached
 
-module _ {N : Type 0} (flash : N → Flash) (recorded : N → Option Recording) where
+module _ {N : Type 0} (view : View N) where
   abbrev image_of : Device N → Image
-  image_of d = image_in flash d.engine
+  image_of d = image_in view.flash d.engine
 
-  sized_one : (a b : Device N) → BringsOne flash recorded a b → b.engine.geometry ≡ a.engine.geometry
+  sized_one : (a b : Device N) → BringsOne view a b → b.engine.geometry ≡ a.engine.geometry
   sized_one a b one = one.brings.goes.geometry ∙ one.brings.room.made.goes.geometry
 
-  keys_one : (a b : Device N) → BringsOne flash recorded a b → keys_of b.engine.mapping.cached ≡ keys_of a.engine.mapping.cached
+  keys_one : (a b : Device N) → BringsOne view a b → keys_of b.engine.mapping.cached ≡ keys_of a.engine.mapping.cached
   keys_one a b one = one.brings.keys.keys ∙ one.brings.room.made.keys.keys
 
-  two_there : (a b : Device N) → version_for a.engine.geometry ≡ 2 → (one : BringsOne flash recorded a b) → version_for one.brings.mid.geometry ≡ 2
+  two_there : (a b : Device N) → version_for a.engine.geometry ≡ 2 → (one : BringsOne view a b) → version_for one.brings.mid.geometry ≡ 2
   two_there a b two one = ap version_for one.brings.room.made.goes.geometry ∙ two
 
-  adds_one : (a b : Device N) → version_for a.engine.geometry ≡ 2 → BringsOne flash recorded a b → (key : Key) (row : ℕ) → HasOldAt (image_of b) key row → HasOldAt (image_of a) key row
+  adds_one : (a b : Device N) → version_for a.engine.geometry ≡ 2 → BringsOne view a b → (key : Key) (row : ℕ) → HasOldAt (image_of b) key row → HasOldAt (image_of a) key row
   adds_one a b two one key row at =
-      one.brings.room.rearranged.versions two key row (none_added one.row (ram one.brings.mid) (ram b.engine) (image_in flash one.brings.mid) (image_of b) one.brings.renewed (two_there a b two one) one.brings.renews key row at)
+      one.brings.room.rearranged.versions two key row (none_added one.row (ram one.brings.mid) (ram b.engine) (image_in view.flash one.brings.mid) (image_of b) one.brings.renewed (two_there a b two one) one.brings.renews key row at)
 
   -- once there is room they are alike in this, too
-  mids_there : (stays : Key → ℕ → Bool) (a b a' b' : Device N) → version_for a.engine.geometry ≡ 2 → IsAlike flash a a' → (x : BringsBy flash recorded stays a b) → (y : BringsBy flash recorded stays a' b')
-      → (key : Key) (row : ℕ) → HasOldAt (image_in flash x.one.brings.mid) key row → HasOldAt (image_in flash y.one.brings.mid) key row
+  mids_there : (stays : Key → ℕ → Bool) (a b a' b' : Device N) → version_for a.engine.geometry ≡ 2 → IsAlike view.flash a a' → (x : BringsBy view stays a b) → (y : BringsBy view stays a' b')
+      → (key : Key) (row : ℕ) → HasOldAt (image_in view.flash x.one.brings.mid) key row → HasOldAt (image_in view.flash y.one.brings.mid) key row
   mids_there stays a b a' b' two alike x y key row at = y.kept key row (alike.old.there key row (x.one.brings.room.rearranged.versions two key row at)) (x.stood key row at)
 
-  turned_round : (a b : Device N) → IsAlike flash a b → IsAlike flash b a
+  turned_round : (a b : Device N) → IsAlike view.flash a b → IsAlike view.flash b a
   turned_round a b k = record { old = turned (image_of a) (image_of b) k.old; cursor = sym k.cursor; geometry = sym k.geometry; keys = sym k.keys }
 
-  alike_after : (stays : Key → ℕ → Bool) (a b a' b' : Device N) → version_for a.engine.geometry ≡ 2 → IsAlike flash a a' → BringsBy flash recorded stays a b → BringsBy flash recorded stays a' b' → IsAlike flash b b'
+  alike_after : (stays : Key → ℕ → Bool) (a b a' b' : Device N) → version_for a.engine.geometry ≡ 2 → IsAlike view.flash a a' → BringsBy view stays a b → BringsBy view stays a' b' → IsAlike view.flash b b'
   alike_after stays a b a' b' two alike x y = record {
     old = record {
-      there = old_after row (ram mid) (ram mid') (image_in flash mid) (image_in flash mid') (two_there a b two x.one) sized keys mids (ram b.engine) (ram b'.engine) (image_of b) (image_of b') x.one.brings.renewed y.one.brings.renewed x.one.brings.renews theirs;
-      back = old_after row (ram mid') (ram mid) (image_in flash mid') (image_in flash mid) (two_there a' b' two' y.one) (sym sized) (sym keys)
-          (turned (image_in flash mid) (image_in flash mid') mids) (ram b'.engine) (ram b.engine) (image_of b') (image_of b) y.one.brings.renewed
+      there = old_after row (ram mid) (ram mid') (image_in view.flash mid) (image_in view.flash mid') (two_there a b two x.one) sized keys mids (ram b.engine) (ram b'.engine) (image_of b) (image_of b') x.one.brings.renewed y.one.brings.renewed x.one.brings.renews theirs;
+      back = old_after row (ram mid') (ram mid) (image_in view.flash mid') (image_in view.flash mid) (two_there a' b' two' y.one) (sym sized) (sym keys)
+          (turned (image_in view.flash mid) (image_in view.flash mid') mids) (ram b'.engine) (ram b.engine) (image_of b') (image_of b) y.one.brings.renewed
           x.one.brings.renewed theirs x.one.brings.renews;
     };
     cursor = y.one.cursor_is ∙ (ap (λ k. k + 1) rows ∙ sym x.one.cursor_is);
@@ -186,7 +186,7 @@ module _ {N : Type 0} (flash : N → Flash) (recorded : N → Option Recording) 
       two' : version_for a'.engine.geometry ≡ 2
       two' = ap version_for alike.geometry ∙ two
 
-      mids : AreAsOld (image_in flash mid) (image_in flash mid')
+      mids : AreAsOld (image_in view.flash mid) (image_in view.flash mid')
       mids = record { there = mids_there stays a b a' b' two alike x y; back = mids_there stays a' b' a b two' (turned_round a a' alike) y x }
 
       sized : (ram mid').geometry ≡ (ram mid).geometry
@@ -201,8 +201,8 @@ module _ {N : Type 0} (flash : N → Flash) (recorded : N → Option Recording) 
           let same : Some y.one.row ≡ Some row = one_found a'.cursor (image_of a') (Some y.one.row) (Some row) y.one.found found in
           cc
 
-      theirs : IsRenewedAt row (ram mid') (image_in flash mid') (ram b'.engine) (image_of b') y.one.brings.renewed
-      theirs = subst (λ k. IsRenewedAt k (ram mid') (image_in flash mid') (ram b'.engine) (image_of b') y.one.brings.renewed) rows y.one.brings.renews
+      theirs : IsRenewedAt row (ram mid') (image_in view.flash mid') (ram b'.engine) (image_of b') y.one.brings.renewed
+      theirs = subst (λ k. IsRenewedAt k (ram mid') (image_in view.flash mid') (ram b'.engine) (image_of b') y.one.brings.renewed) rows y.one.brings.renews
 
   -- a call leaves one page of version 1 less
   record HasGone (a b : Device N) : Type 0 where
@@ -211,27 +211,27 @@ module _ {N : Type 0} (flash : N → Flash) (recorded : N → Option Recording) 
     was : HasOldAt (image_of a) key row
     gone : ¬ HasOldAt (image_of b) key row
 
-  gone_one : (a b : Device N) → version_for a.engine.geometry ≡ 2 → BringsOne flash recorded a b → HasGone a b
+  gone_one : (a b : Device N) → version_for a.engine.geometry ≡ 2 → BringsOne view a b → HasGone a b
   gone_one a b two one =
       let due : HasDue one.row (image_of a) = due_from a.cursor one.row (image_of a) one.found in
       record {
         key = due.key;
         row = one.row;
         was = due.old;
-        gone = none_in_row one.row (ram one.brings.mid) (ram b.engine) (image_in flash one.brings.mid) (image_of b) one.brings.renewed (two_there a b two one) one.brings.renews due.key due.no_table;
+        gone = none_in_row one.row (ram one.brings.mid) (ram b.engine) (image_in view.flash one.brings.mid) (image_of b) one.brings.renewed (two_there a b two one) one.brings.renews due.key due.no_table;
       }
 
   -- ---- many calls
 
   module _ (stays : ℕ → Key → ℕ → Bool) where
     abbrev Each : ℕ → Device N → Device N → Type 0
-    Each count a b = BringsEachBy flash recorded stays count a b
+    Each count a b = BringsEachBy view stays count a b
 
     sized_each : (count : ℕ) (a b : Device N) → Each count a b → b.engine.geometry ≡ a.engine.geometry
     sized_each zero a b same = ap (λ (d : Device N). d.engine.geometry) same
     sized_each (suc count) a b each = sized_one each.0 b each.2.one ∙ sized_each count a each.0 each.1
 
-    alike_same : (a b : Device N) → b ≡ a → IsAlike flash a b
+    alike_same : (a b : Device N) → b ≡ a → IsAlike view.flash a b
     alike_same a b same = record {
       old = record {
         there = λ key row at. subst (λ (d : Device N). HasOldAt (image_of d) key row) (sym same) at;
@@ -243,7 +243,7 @@ module _ {N : Type 0} (flash : N → Flash) (recorded : N → Option Recording) 
     }
 
     -- as many calls of one device leave devices that are alike
-    alike_each : (count : ℕ) (old a b : Device N) → version_for old.engine.geometry ≡ 2 → Each count old a → Each count old b → IsAlike flash a b
+    alike_each : (count : ℕ) (old a b : Device N) → version_for old.engine.geometry ≡ 2 → Each count old a → Each count old b → IsAlike view.flash a b
     alike_each zero old a b two x y = alike_same a b (y ∙ sym x)
     alike_each (suc count) old a b two x y =
         alike_after (stays count) x.0 a y.0 b (ap version_for (sized_each count old x.0 x.1) ∙ two) (alike_each count old x.0 y.0 two x.1 y.1) x.2 y.2
@@ -265,7 +265,7 @@ module _ {N : Type 0} (flash : N → Flash) (recorded : N → Option Recording) 
         let alike = alike_each count old new s.0 two each s.1 in
         s.2.gone (subst (λ x. HasOldAt x s.2.key s.2.row) (sym same) (alike.old.back s.2.key s.2.row s.2.was))
 
-  pub counted_by : CountedByLaw flash recorded
+  pub counted_by : CountedByLaw view
   counted_by stays count count' old new new' two same each each' = elim (cases_lt count count') [
     | inl less ↦ absurd (not_fewer stays count count' old new new' less two same each each')
     | inr ge ↦ elim (cases_lt count' count) [
@@ -276,10 +276,10 @@ module _ {N : Type 0} (flash : N → Flash) (recorded : N → Option Recording) 
 
   -- ---- one call with nine free blocks
 
-  pub one_renewed : OneRenewedLaw flash recorded
+  pub one_renewed : OneRenewedLaw view
   one_renewed old new one nine = by one.brings.renewed one.brings.cost (subst (λ (f : Flash). IsRenewedAt one.row (ram one.brings.mid) f.image (ram new.engine) (image_of new) one.brings.renewed) rests.1 one.brings.renews)
     where
-      rests : (ram one.brings.mid ≡ ram old.engine) × (flash one.brings.mid.nand ≡ flash old.engine.nand)
+      rests : (ram one.brings.mid ≡ ram old.engine) × (view.flash one.brings.mid.nand ≡ view.flash old.engine.nand)
       rests = one.brings.room.rests nine
 
       by : (renewed : Bool) → RescueCosts (ram one.brings.mid) (ram new.engine) (Ok renewed) → IsRenewedAt one.row (ram one.brings.mid) (image_of old) (ram new.engine) (image_of new) renewed
@@ -287,7 +287,7 @@ module _ {N : Type 0} (flash : N → Flash) (recorded : N → Option Recording) 
       by true cost its = (subst (λ r. HasRescuedPage r (ram new.engine)) rests.0 cost, subst (λ r. IsRenewedPage one.row r (image_of old) (ram new.engine) (image_of new)) rests.0 its)
       by false cost its = absurd (let due = due_from old.cursor one.row (image_of old) one.found in its.0 due.key due.no_table due.old)
 
-  pub room_log : RoomLogLaw flash recorded
+  pub room_log : RoomLogLaw view
   room_log old new room = (room.went.leads, room.went.next)
 
 -- ---- what a call costs

@@ -1,11 +1,10 @@
 -- The order in which a flush programs translation pages.
-use Rattle.std.proofs.Common.{◌≡◌, ◌≢◌, inl, inr, ℕ, zero, suc, ◌+◌, ◌/◌, ◌≤◌, Bool, true, List, [], ◌∷◌, Option, refl, sym, ◌∙◌, ap, subst, arith}
+use Rattle.std.proofs.Common.{◌≡◌, ◌≢◌, inl, inr, ℕ, zero, suc, ◌+◌, ◌/◌, ◌≤◌, Bool, true, List, [], ◌∷◌, refl, sym, ◌∙◌, ap, subst, arith}
 use Rattle.std.proofs.lemmas.Bool.{cases_lt}
+use Rattle.page_layout.specs.View.{View}
 use Rattle.page_layout.specs.declared.geometry.Geometry.{Geometry}
 use Rattle.page_layout.specs.Geometry.{entries, table_pages}
 use Rattle.page_layout.specs.declared.record.Kind.TheVariants as kind
-use Rattle.page_layout.specs.Flash.{Flash}
-use Rattle.page_layout.specs.Recording.{Recording}
 use Rattle.bad_blocks.specs.Table.{good_count}
 use Rattle.budget.specs.declared.stream.Stream.TheVariants.{Meta}
 use Rattle.mapping_cache.specs.Mapping.{MappingState, IsMapping, per_page, pending, cleaned}
@@ -63,15 +62,15 @@ put_takes a b put = elim put.put.put.cases [
   ]
 ]
 
-module _ {N : Type 0} (flash : N → Flash) (recorded : N → Option Recording) (honest : N → Bool) where
-  brought_falls : (t : ℕ) (a b : Engine N) → BringsUp flash recorded honest t a b → good_in (ram b) ≤ good_in (ram a)
+module _ {N : Type 0} (view : View N) where
+  brought_falls : (t : ℕ) (a b : Engine N) → BringsUp view t a b → good_in (ram b) ≤ good_in (ram a)
   brought_falls t a b its =
       let room = its.cleared.room.collects in
       let less = good_collects true room.0 (ram a) (ram its.mid) room.1 in
       let put : good_in (ram its.mid) ≡ good_in (ram b) + its.back.put.failures = its.back.put.put.good in
       omega (arith, less, put)
 
-  good_falls : (t : ℕ) (a b : Engine N) → FlushesPage flash recorded honest t a b → good_in (ram b) ≤ good_in (ram a)
+  good_falls : (t : ℕ) (a b : Engine N) → FlushesPage view t a b → good_in (ram b) ≤ good_in (ram a)
   good_falls t a b h = elim (cases_lt (good_in (ram a)) (good_in (ram b))) [
     | inl more ↦ absurd (
         let lacks : IsClean a.geometry t a.mapping → ⊥ = λ clean. (let same : good_in (ram b) ≡ good_in (ram a) = ap (λ (e : Engine N). good_in (ram e)) (h.clean clean) in omega (arith, more, same)) in
@@ -100,7 +99,7 @@ module _ {N : Type 0} (flash : N → Flash) (recorded : N → Option Recording) 
     free = (let free = is.free in omega (arith, free));
   })
 
-  brought_on : (k : ℕ) (old mid now : Engine N) → IsAsBefore k old mid → 9 ≤ free_in (ram mid) → BringsUp flash recorded honest k mid now → IsAsBefore (suc k) old now
+  brought_on : (k : ℕ) (old mid now : Engine N) → IsAsBefore k old mid → 9 ≤ free_in (ram mid) → BringsUp view k mid now → IsAsBefore (suc k) old now
   brought_on k old mid now is nine its = record {
     sized = its.back.blocks.geometry ∙ (ap (λ (r : Ram). r.geometry) rests ∙ is.sized);
     mapping = subst (λ (m : MappingState). IsMapping m) (sym cleans) (IsMapping-cleaned mid.mapping k is.mapping);
@@ -124,7 +123,7 @@ module _ {N : Type 0} (flash : N → Flash) (recorded : N → Option Recording) 
       cleans = its.back.mapping ∙ ap (λ (r : Ram). cleaned r.mapping k) rests
 
   -- it cannot be that it is not so; whether a page lacks a row is not told apart here
-  as_before : (k t good : ℕ) (old now : Engine N) → IsRam (ram old) → k ≤ t → 9 + t + good_in (ram old) ≤ free_in (ram old) + good → good ≤ good_in (ram now) → FlushesPages flash recorded honest k old now → (IsAsBefore k old now → ⊥) → ⊥
+  as_before : (k t good : ℕ) (old now : Engine N) → IsRam (ram old) → k ≤ t → 9 + t + good_in (ram old) ≤ free_in (ram old) + good → good ≤ good_in (ram now) → FlushesPages view k old now → (IsAsBefore k old now → ⊥) → ⊥
   as_before zero t good old now safe le free least h never = never (subst (λ e. IsAsBefore 0 old e) (sym h) (first_of old safe))
   as_before (suc k) t good old now safe le free least h never =
       let falls = good_falls k h.0 now h.2 in
@@ -134,7 +133,7 @@ module _ {N : Type 0} (flash : N → Flash) (recorded : N → Option Recording) 
       let nine : 9 ≤ free_in (ram h.0) = omega (arith, le, free, least, falls, so_far) in
       never (brought_on k old h.0 now is nine (h.2.lacking lacks)))
 
-  pub highest_last : HighestLastLaw flash recorded honest
+  pub highest_last : HighestLastLaw view
   highest_last t old new safe lacked free h = (h.2.lacking lacks).back.page
     where
       lacks : IsClean h.0.geometry t h.0.mapping → ⊥
@@ -148,20 +147,20 @@ module _ {N : Type 0} (flash : N → Flash) (recorded : N → Option Recording) 
 
   -- ---- table pages
 
-  sized_first : (k : ℕ) (a b : Engine N) → WritesFirst flash recorded honest k a b → b.geometry ≡ a.geometry
+  sized_first : (k : ℕ) (a b : Engine N) → WritesFirst view k a b → b.geometry ≡ a.geometry
   sized_first zero a b h = ap (λ (e : Engine N). e.geometry) h
   sized_first (suc k) a b h = h.2.blocks.geometry ∙ sized_first k a h.0 h.1
 
-  last_of : (k u : ℕ) (a b : Engine N) → k ≡ suc u → WritesFirst flash recorded honest k a b → IsLastPage kind.Table u (ram b) (page_in b.page)
+  last_of : (k u : ℕ) (a b : Engine N) → k ≡ suc u → WritesFirst view k a b → IsLastPage kind.Table u (ram b) (page_in b.page)
   last_of zero u a b is h = absurd (omega (arith, is))
   last_of (suc k) u a b is h = (let same : k ≡ u = omega (arith, is) in subst (λ j. IsLastPage kind.Table j (ram b) (page_in b.page)) same h.2.page)
 
-  pub last_table : LastTableLaw flash recorded honest
+  pub last_table : LastTableLaw view
   last_table u old new h is =
       let last = h.tables.last in
       let pages = h.tables.round.pages in
       let sized : table_pages last.geometry ≡ table_pages new.geometry = ap table_pages (sym (sized_first (table_pages last.geometry) last new pages)) in
       last_of (table_pages last.geometry) u last new (sized ∙ is) pages
 
-  pub spelled_table : SpelledTableLaw flash recorded honest
+  pub spelled_table : SpelledTableLaw view
   spelled_table u old new h = h.spelled

@@ -65,17 +65,17 @@ pub fn flush_laws()
 /// In which order a flush programs its pages, whatever the die does: of the first translation pages the highest that lacks a row is last, while free
 /// blocks are left for each; and the last table page is last of all. A table page spells the table as it is then. (This project.)
 pub fn order_laws<N: Nand>()
-    ensures highest { HighestLastLaw N.flash N.recorded N.honest }
-    ensures last { LastTableLaw N.flash N.recorded N.honest }
-    ensures spelled { SpelledTableLaw N.flash N.recorded N.honest }
+    ensures highest { HighestLastLaw N.view }
+    ensures last { LastTableLaw N.view }
+    ensures spelled { SpelledTableLaw N.view }
 {}
 
 /// How many calls of `migrate_one` answered `true`, one after another, from one device on, also where room had to be made for them: the image
 /// that they leave tells it, with the pages of version 1 that each call's room left where they were. With nine blocks free such a call
 /// programs two pages at most, beside those that fail, and renews the page that was found. The log of making room leads from die to die. (This project.)
 pub fn brought_laws<N: Nand>()
-    ensures counted { CountedByLaw N.flash N.recorded }
+    ensures counted { CountedByLaw N.view }
     ensures few { FewProgramsLaw }
-    ensures renewed { OneRenewedLaw N.flash N.recorded }
-    ensures room { RoomLogLaw N.flash N.recorded }
+    ensures renewed { OneRenewedLaw N.view }
+    ensures room { RoomLogLaw N.view }
 {}

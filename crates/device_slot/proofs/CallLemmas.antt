@@ -1,13 +1,12 @@
 -- Calls on a device, one after another.
-use Rattle.std.proofs.Common.{◌≡◌, ◌≢◌, inl, inr, ℕ, Bool, true, false, List, [], ◌∷◌, ◌++◌, Option, Some, None, Result, Ok, Err, refl, sym, ap, ◌∙◌, subst, append_assoc, append-nil}
+use Rattle.std.proofs.Common.{◌≡◌, ◌≢◌, inl, inr, ℕ, true, false, List, [], ◌∷◌, ◌++◌, Option, Some, None, Result, Ok, Err, refl, sym, ap, ◌∙◌, subst, append_assoc, append-nil}
 use Rattle.std.proofs.lemmas.Bool.{cases_eq}
-use Rattle.page_layout.specs.Flash.{Flash}
-use Rattle.page_layout.specs.Recording.{Recording}
 use Rattle.promises.specs.Step as step
 use Rattle.ftl_device.specs.declared.device.Device.{Device}
 use Rattle.ftl_device.specs.declared.fault.DeviceFault.{DeviceFault}
 use Rattle.std.specs.Prelude.{IfErr}
 use Rattle.std.specs.Option.{ForSome}
+use Rattle.page_layout.specs.View.{View}
 use Rattle.ftl_device.specs.declared.fault.DeviceFault.TheVariants.{OutOfRange, ReadOnly, SequenceSpent, OutOfMemory, Damaged, BusFault}
 use Rattle.ftl_device.specs.Calls.{stop_of, IsWell}
 use Rattle.ftl_device.specs.Device.{IsDevice}
@@ -53,11 +52,11 @@ going_was : {N : Type 0} (old new : Device N) (result : Result (Unit {0}) Device
 going_was old new result None is stopped going = is
 going_was {N} old new result (Some fault) is stopped going = ap (λ (d : Device N). stop_of d.engine.fault) (sym (stopped fault is).1) ∙ going
 
-pub kept_on : {N : Type 0} (flash : N → Flash) (honest : N → Bool) (old new : Device N) (command : step.Command) (result : Result (Unit {0}) DeviceFault) → IsDeviceKept flash honest old → IsDevice flash new
-    → honest new.engine.nand ≡ honest old.engine.nand → ForSome (stop_of old.engine.fault) (λ fault. (result ≡ Err fault) × (new ≡ old))
+pub kept_on : {N : Type 0} (view : View N) (old new : Device N) (command : step.Command) (result : Result (Unit {0}) DeviceFault) → IsDeviceKept view old → IsDevice view.flash new
+    → view.honest new.engine.nand ≡ view.honest old.engine.nand → ForSome (stop_of old.engine.fault) (λ fault. (result ≡ Err fault) × (new ≡ old))
     → IfErr result (λ fault. StopsDevice command fault → stop_of new.engine.fault ≡ Some fault)
-    → (honest old.engine.nand ≡ true → IsWell flash old → result ≢ Err BusFault → IsWell flash new) → IsDeviceKept flash honest new
-kept_on flash honest old new command result kept device same stopped stops well = record {
+    → (view.honest old.engine.nand ≡ true → IsWell view.flash old → result ≢ Err BusFault → IsWell view.flash new) → IsDeviceKept view new
+kept_on view old new command result kept device same stopped stops well = record {
   device = device;
   well = λ h going.
       let was = sym same ∙ h in
@@ -74,13 +73,13 @@ none_of (step.Trim sector) result out quiet kept = kept
 none_of step.Flush result out quiet kept = kept
 none_of step.Turn result out quiet kept = kept
 
-module _ {N : Type 0} (flash : N → Flash) (recorded : N → Option Recording) (honest : N → Bool) (failed erases : N → ℕ) where
+module _ {N : Type 0} (view : View N) where
   pub told_none_out : (old new : Device N) (command : step.Command) (answer : Result (Unit {0}) CallFault) (out : List ℕ) (noted : Option Shortage) → is_read command ≡ false
-      → ToldCommand flash recorded honest failed erases old command [] answer out new noted → ToldCommand flash recorded honest failed erases old command [] answer [] new noted
+      → ToldCommand view old command [] answer out new noted → ToldCommand view old command [] answer [] new noted
   told_none_out old new command answer out noted quiet told =
-      subst (λ (o : List ℕ). ToldCommand flash recorded honest failed erases old command [] answer o new noted) (none_of command told.result out quiet told.kept) told
+      subst (λ (o : List ℕ). ToldCommand view old command [] answer o new noted) (none_of command told.result out quiet told.kept) told
 
-  pub sized_call : SizedCallLaw flash recorded honest failed erases
+  pub sized_call : SizedCallLaw view
   sized_call old new noted noted' call size given sized = elim (cases_eq size old.engine.geometry.data_bytes) [
     | inl same ↦ inr (record { given = given; noted = noted'; told = sized.whole same })
     | inr other ↦ (let its = sized.other other in inl (its.answered, its.same))
@@ -93,39 +92,39 @@ module _ {N : Type 0} (flash : N → Flash) (recorded : N → Option Recording) 
   its_exchange command (Ok done) out = refl
   its_exchange command (Err fault) out = refl
 
-  told_on : (old mid new : Device N) (xs : List Exchange) (calls : List Call) → IsDevice flash old → WasTold flash recorded honest failed erases old xs mid
-      → CalledEach flash recorded honest failed erases mid calls new → WasTold flash recorded honest failed erases old (xs ++ exchanges_in calls) new
+  told_on : (old mid new : Device N) (xs : List Exchange) (calls : List Call) → IsDevice view.flash old → WasTold view old xs mid
+      → CalledEach view mid calls new → WasTold view old (xs ++ exchanges_in calls) new
   told_on old mid new xs [] safe told each =
-      subst (λ (ys : List Exchange). WasTold flash recorded honest failed erases old ys new) (sym (append-nil xs))
-      (subst (λ (d : Device N). WasTold flash recorded honest failed erases old xs d) (sym each) told)
+      subst (λ (ys : List Exchange). WasTold view old ys new) (sym (append-nil xs))
+      (subst (λ (d : Device N). WasTold view old xs d) (sym each) told)
   told_on old mid new xs (call ∷ calls) safe told each = elim each.1 [
     | inl untold ↦
-        subst (λ (a : Result (Unit {0}) CallFault). WasTold flash recorded honest failed erases old (xs ++ (exchange_by call.command a call.out ++ exchanges_in calls)) new) (sym untold.0)
-        (subst (λ (ys : List Exchange). WasTold flash recorded honest failed erases old (xs ++ ys) new) (sym (nil_on (exchanges_in calls)))
-        (told_on old each.0 new xs calls safe (subst (λ (d : Device N). WasTold flash recorded honest failed erases old xs d) (sym untold.1) told) each.2))
+        subst (λ (a : Result (Unit {0}) CallFault). WasTold view old (xs ++ (exchange_by call.command a call.out ++ exchanges_in calls)) new) (sym untold.0)
+        (subst (λ (ys : List Exchange). WasTold view old (xs ++ ys) new) (sym (nil_on (exchanges_in calls)))
+        (told_on old each.0 new xs calls safe (subst (λ (d : Device N). WasTold view old xs d) (sym untold.1) told) each.2))
     | inr its ↦
         let x : Exchange = record { command = call.command; result = its.told.result; bytes = call.out } in
         let one : exchange_by call.command call.answer call.out ≡ x ∷ [] =
         ap (λ (a : Result (Unit {0}) CallFault). exchange_by call.command a call.out) its.told.answered ∙ its_exchange call.command its.told.result call.out in
-        let more = told_more flash recorded honest failed erases old mid each.0 xs x safe told its.told.tells in
-        subst (λ (ys : List Exchange). WasTold flash recorded honest failed erases old (xs ++ (ys ++ exchanges_in calls)) new) (sym one)
-        (subst (λ (ys : List Exchange). WasTold flash recorded honest failed erases old ys new) (append_assoc xs (x ∷ []) (exchanges_in calls))
+        let more = told_more view old mid each.0 xs x safe told its.told.tells in
+        subst (λ (ys : List Exchange). WasTold view old (xs ++ (ys ++ exchanges_in calls)) new) (sym one)
+        (subst (λ (ys : List Exchange). WasTold view old ys new) (append_assoc xs (x ∷ []) (exchanges_in calls))
         (told_on old each.0 new (xs ++ x ∷ []) calls safe more each.2))
   ]
 
-  pub calls_told : CallsToldLaw flash recorded honest failed erases
+  pub calls_told : CallsToldLaw view
   calls_told old new calls safe each =
-      subst (λ (xs : List Exchange). WasTold flash recorded honest failed erases old xs new) (nil_on (exchanges_in calls))
-      (told_on old old new [] calls safe (told_none flash recorded honest failed erases old safe) each)
+      subst (λ (xs : List Exchange). WasTold view old xs new) (nil_on (exchanges_in calls))
+      (told_on old old new [] calls safe (told_none view old safe) each)
 
-  pub calls_run : CallsRunLaw flash recorded honest failed erases
+  pub calls_run : CallsRunLaw view
   calls_run first new calls begun each =
-      let s = flash first.engine.nand in
+      let s = view.flash first.engine.nand in
       let told = calls_told first new calls begun.kept.device each in
-      until_so (λ d. d) (RunsTo flash recorded honest failed erases first) (RunsFromBegun flash recorded honest failed erases first begun)
-      (Tells flash recorded honest failed erases) (Tells flash recorded honest failed erases) (exchanges_in calls) new
+      until_so (λ d. d) (RunsTo view first) (RunsFromBegun view first begun)
+      (Tells view) (Tells view) (exchanges_in calls) new
       (λ before mid runs h.
-      let well = started_well flash first s.geometry begun.accepted.claim begun.accepted.stale begun.begun (begun.truth h) in
+      let well = started_well view.flash first s.geometry begun.accepted.claim begun.accepted.stale begun.begun (begun.truth h) in
       let both = runs.1 h well in
-      (both.0, ran_accepted flash recorded honest failed erases s begun.accepted first mid before refl begun.begun (begun.its h) (begun.free h) (begun.accounts h) both.1))
+      (both.0, ran_accepted view s begun.accepted first mid before refl begun.begun (begun.its h) (begun.free h) (begun.accounts h) both.1))
       (λ before mid x known runs bus fails. fails) told.until

@@ -1,7 +1,6 @@
 -- WHAT A CALL COMES TO, and many calls.
-use Rattle.std.specs.Prelude.{◌≡◌, ◌≢◌, ◌⊎◌, ℕ, Bool, List, [], ◌∷◌, ◌++◌, Option, None, Some, Result, Ok, Err}
-use Rattle.page_layout.specs.Flash.{Flash}
-use Rattle.page_layout.specs.Recording.{Recording}
+use Rattle.std.specs.Prelude.{◌≡◌, ◌≢◌, ◌⊎◌, ℕ, List, [], ◌∷◌, ◌++◌, Option, None, Some, Result, Ok, Err}
+use Rattle.page_layout.specs.View.{View}
 use Rattle.promises.specs.Step as step
 use Rattle.ftl_device.specs.declared.device.Device.{Device}
 use Rattle.ftl_device.specs.declared.fault.DeviceFault.{DeviceFault}
@@ -33,12 +32,12 @@ shortage_in (Err BusFault) = None
 
 -- THE DEVICE WAS TOLD ONE COMMAND, and did of it all that a run of commands needs. The caller has its answer and, of a read that is done, its
 -- bytes; of a refusal for want of blocks the counts are noted.
-pub record ToldCommand {N : Type 0} (flash : N → Flash) (recorded : N → Option Recording) (honest : N → Bool) (failed erases : N → ℕ)
+pub record ToldCommand {N : Type 0} (view : View N)
     (old : Device N) (command : step.Command) (given : List ℕ) (answer : Result (Unit {0}) CallFault) (out : List ℕ) (new : Device N) (noted : Option Shortage) : Type 0 where
   pub result : Result (Unit {0}) DeviceFault
   pub answered : answer ≡ answer_of result
   pub shortage : noted ≡ shortage_in result
-  pub tells : Tells flash recorded honest failed erases old (record { command = command; result = result; bytes = out }) new
+  pub tells : Tells view old (record { command = command; result = result; bytes = out }) new
   pub kept : KeepsBytes command result given out
 
 -- a call that was refused before the device was told
@@ -50,11 +49,11 @@ pub record IsUntold {N : Type 0} (why : CallFault) (old : Device N) (noted : Opt
   pub kept : out ≡ given
 
 -- A CALL THAT HANDS OVER BYTES: `WrongSize` where they are not as many as a sector has, and nothing is done; else the device is told
-pub record ToldSized {N : Type 0} (flash : N → Flash) (recorded : N → Option Recording) (honest : N → Bool) (failed erases : N → ℕ)
+pub record ToldSized {N : Type 0} (view : View N)
     (old : Device N) (noted : Option Shortage) (command : step.Command) (size : ℕ) (given : List ℕ) (answer : Result (Unit {0}) CallFault) (out : List ℕ)
     (new : Device N) (noted' : Option Shortage) : Type 0 where
   pub other : size ≢ old.engine.geometry.data_bytes → IsUntold WrongSize old noted given answer out new noted'
-  pub whole : size ≡ old.engine.geometry.data_bytes → ToldCommand flash recorded honest failed erases old command given answer out new noted'
+  pub whole : size ≡ old.engine.geometry.data_bytes → ToldCommand view old command given answer out new noted'
 
 -- A CALL OF A SLOT: `NotStarted` where no device stands there, and nothing is done; else what it comes to of the one that does
 abbrev pub IsCallOn : {N : Type 0} → Option (Device N) → SlotState N → (Device N → Device N → Type 0) → List ℕ → Result (Unit {0}) CallFault → List ℕ → SlotState N → Type 0
@@ -73,19 +72,19 @@ pub record Call : Type 0 where
   pub out : List ℕ
 
 -- the device was told it, or it was refused before that and changed nothing
-pub record IsCallTold {N : Type 0} (flash : N → Flash) (recorded : N → Option Recording) (honest : N → Bool) (failed erases : N → ℕ) (old : Device N) (call : Call) (new : Device N) : Type 0 where
+pub record IsCallTold {N : Type 0} (view : View N) (old : Device N) (call : Call) (new : Device N) : Type 0 where
   pub given : List ℕ
   pub noted : Option Shortage
-  pub told : ToldCommand flash recorded honest failed erases old call.command given call.answer call.out new noted
+  pub told : ToldCommand view old call.command given call.answer call.out new noted
 
-abbrev pub HasCalled : {N : Type 0} → (N → Flash) → (N → Option Recording) → (N → Bool) → (failed erases : N → ℕ) → Device N → Call → Device N → Type 0
-HasCalled flash recorded honest failed erases old call new = ((call.answer ≡ Err WrongSize) × (new ≡ old)) ⊎ IsCallTold flash recorded honest failed erases old call new
+abbrev pub HasCalled : {N : Type 0} → (view : View N) → Device N → Call → Device N → Type 0
+HasCalled view old call new = ((call.answer ≡ Err WrongSize) × (new ≡ old)) ⊎ IsCallTold view old call new
 
 -- ONE CALL AFTER ANOTHER, from a device to the next
-abbrev pub CalledEach : {N : Type 0} → (N → Flash) → (N → Option Recording) → (N → Bool) → (failed erases : N → ℕ) → Device N → List Call → Device N → Type 0
-CalledEach flash recorded honest failed erases old [] new = new ≡ old
-CalledEach {N} flash recorded honest failed erases old (call ∷ calls) new =
-    (mid : Device N) × HasCalled flash recorded honest failed erases old call mid × CalledEach flash recorded honest failed erases mid calls new
+abbrev pub CalledEach : {N : Type 0} → (view : View N) → Device N → List Call → Device N → Type 0
+CalledEach view old [] new = new ≡ old
+CalledEach {N} view old (call ∷ calls) new =
+    (mid : Device N) × HasCalled view old call mid × CalledEach view mid calls new
 
 -- the exchange that a call is, if the device was told it
 abbrev pub exchange_by : step.Command → Result (Unit {0}) CallFault → List ℕ → List Exchange

@@ -8,7 +8,7 @@ use onfi_cycles::Nand;
 /// one array that the die's image held, the image holds that array after each, the log of it all is legal, and each refusal is named. (This
 /// project's.)
 pub fn call_laws<N: Nand>()
-    ensures sized { SizedCallLaw N.flash N.recorded N.honest N.failed N.erases }
-    ensures told { CallsToldLaw N.flash N.recorded N.honest N.failed N.erases }
-    ensures run { CallsRunLaw N.flash N.recorded N.honest N.failed N.erases }
+    ensures sized { SizedCallLaw N.view }
+    ensures told { CallsToldLaw N.view }
+    ensures run { CallsRunLaw N.view }
 {}

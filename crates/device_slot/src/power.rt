@@ -50,11 +50,11 @@ impl<N> PowerFault<N> {
 
 // The device that begins from an accepted certificate. The die comes back where a growth was refused.
 fn begin<'a, N: Nand>(alloc: Global, nand: N, accepted: Accepted<'a>) -> Result<Device<N>, N>
-    requires same_geometry { sizes_of (N.flash nand).geometry ≡ accepted.claim.sizes }
-    requires accepted { N.honest nand ≡ true → IsAcceptedFor (N.flash nand) accepted }
-    ensures begun { IfOk result (IsDeviceBegun N.flash N.honest) }
+    requires same_geometry { sizes_of (N.view.flash nand).geometry ≡ accepted.claim.sizes }
+    requires accepted { N.view.honest nand ≡ true → IsAcceptedFor (N.view.flash nand) accepted }
+    ensures begun { IfOk result (IsDeviceBegun N.view) }
     ensures nand { IfOk result (λ d. d.engine.nand ≡ nand) }
-    ensures geometry { IfOk result (λ d. d.engine.geometry ≡ (N.flash nand).geometry) }
+    ensures geometry { IfOk result (λ d. d.engine.geometry ≡ (N.view.flash nand).geometry) }
     ensures capacity { IfOk result (λ d. d.engine.mapping.capacity ≡ accepted.entry.claim.capacity) }
     ensures back { IfErr result (λ back. back ≡ nand) }
 {
@@ -82,17 +82,17 @@ pub fn start_mounted<N: Nand>(
     geometry: &Geometry,
     capacity: u32,
 ) -> Result<Device<N>, PowerFault<N>>
-    requires same_geometry { (N.flash nand).geometry ≡ geometry.now }
+    requires same_geometry { (N.view.flash nand).geometry ≡ geometry.now }
     requires least { 1 ≤ capacity }
     requires most { capacity ≤ 65536 }
-    ensures begun { IfOk result (IsDeviceBegun N.flash N.honest) }
+    ensures begun { IfOk result (IsDeviceBegun N.view) }
     ensures geometry { IfOk result (λ d. d.engine.geometry ≡ geometry.now) }
     ensures capacity { IfOk result (λ d. d.engine.mapping.capacity ≡ capacity) }
-    ensures array { IfOk result (λ d. N.honest nand ≡ true → array_in N.flash d ≡ array_of geometry.now (N.flash nand).image) }
-    ensures pages { IfOk result (λ d. N.honest nand ≡ true → N.flash d.engine.nand ≡ N.flash nand) }
-    ensures reads { IfOk result (λ d. OnlyReads N.flash N.honest N.calm N.programs N.erases N.failed nand d.engine.nand) }
-    ensures fault { IfErr result (ArePagesUnmounted N.flash N.honest N.failed nand geometry.now capacity) }
-    ensures given { IfErr result (λ fault. OnlyReads N.flash N.honest N.calm N.programs N.erases N.failed nand (nand_of fault)) }
+    ensures array { IfOk result (λ d. N.view.honest nand ≡ true → array_in N.view.flash d ≡ array_of geometry.now (N.view.flash nand).image) }
+    ensures pages { IfOk result (λ d. N.view.honest nand ≡ true → N.view.flash d.engine.nand ≡ N.view.flash nand) }
+    ensures reads { IfOk result (λ d. OnlyReads N.view nand d.engine.nand) }
+    ensures fault { IfErr result (ArePagesUnmounted N.view nand geometry.now capacity) }
+    ensures given { IfErr result (λ fault. OnlyReads N.view nand (nand_of fault)) }
 {
     let (certificate, stale) = match mount_counted(alloc, &mut nand, geometry, capacity) {
         Ok(Mounted { certificate, stale }) => (certificate, stale),
@@ -122,15 +122,15 @@ pub fn start_checked<N: Nand>(
     capacity: u32,
     certificate: &Certificate,
 ) -> Result<Device<N>, PowerFault<N>>
-    requires same_geometry { (N.flash nand).geometry ≡ geometry.now }
-    ensures begun { IfOk result (IsDeviceBegun N.flash N.honest) }
+    requires same_geometry { (N.view.flash nand).geometry ≡ geometry.now }
+    ensures begun { IfOk result (IsDeviceBegun N.view) }
     ensures geometry { IfOk result (λ d. d.engine.geometry ≡ geometry.now) }
     ensures capacity { IfOk result (λ d. d.engine.mapping.capacity ≡ capacity) }
-    ensures array { IfOk result (λ d. N.honest nand ≡ true → array_in N.flash d ≡ array_of geometry.now (N.flash nand).image) }
-    ensures pages { IfOk result (λ d. N.honest nand ≡ true → N.flash d.engine.nand ≡ N.flash nand) }
-    ensures reads { IfOk result (λ d. OnlyReads N.flash N.honest N.calm N.programs N.erases N.failed nand d.engine.nand) }
-    ensures fault { IfErr result (IsCertificateUnaccepted N.flash N.honest N.failed nand geometry.now capacity certificate.now) }
-    ensures given { IfErr result (λ fault. OnlyReads N.flash N.honest N.calm N.programs N.erases N.failed nand (nand_of fault)) }
+    ensures array { IfOk result (λ d. N.view.honest nand ≡ true → array_in N.view.flash d ≡ array_of geometry.now (N.view.flash nand).image) }
+    ensures pages { IfOk result (λ d. N.view.honest nand ≡ true → N.view.flash d.engine.nand ≡ N.view.flash nand) }
+    ensures reads { IfOk result (λ d. OnlyReads N.view nand d.engine.nand) }
+    ensures fault { IfErr result (IsCertificateUnaccepted N.view nand geometry.now capacity certificate.now) }
+    ensures given { IfErr result (λ fault. OnlyReads N.view nand (nand_of fault)) }
 {
     let accepted = match check(alloc, &mut nand, geometry, capacity, certificate) {
         Ok(accepted) => accepted,
@@ -144,10 +144,10 @@ pub fn start_checked<N: Nand>(
 
 /// The die of a device, as where the power goes: nothing is written. Of a device that is well it holds the array. (This project's.)
 pub fn stop<N: Nand>(device: Device<N>) -> N
-    requires { IsDevice N.flash device }
+    requires { IsDevice N.view.flash device }
     ensures nand { result ≡ device.engine.nand }
-    ensures geometry { (N.flash result).geometry ≡ device.engine.geometry }
-    ensures array { array_of device.engine.geometry (N.flash result).image ≡ array_in N.flash device }
+    ensures geometry { (N.view.flash result).geometry ≡ device.engine.geometry }
+    ensures array { array_of device.engine.geometry (N.view.flash result).image ≡ array_in N.view.flash device }
 {
     device.into_nand()
 }
@@ -173,13 +173,13 @@ fn settle<N: Nand>(
     geometry: &Geometry,
     stale: u32,
 ) -> Result<N, PowerFault<N>>
-    requires same_geometry { (N.flash nand).geometry ≡ geometry.now }
+    requires same_geometry { (N.view.flash nand).geometry ≡ geometry.now }
     requires least { 1 ≤ stale }
     requires most { stale ≤ 65536 }
-    ensures back { IfOk result (IsDieHandedBack N.flash N.honest N.failed nand) }
-    ensures array { IfOk result (HoldsSame N.flash N.honest geometry.now nand) }
-    ensures fault { IfErr result (IsUnsettledWith N.flash N.honest N.failed nand geometry.now stale) }
-    ensures given { IfErr result (λ fault. IsDieHandedBack N.flash N.honest N.failed nand (nand_of fault)) }
+    ensures back { IfOk result (IsDieHandedBack N.view nand) }
+    ensures array { IfOk result (HoldsSame N.view geometry.now nand) }
+    ensures fault { IfErr result (IsUnsettledWith N.view nand geometry.now stale) }
+    ensures given { IfErr result (λ fault. IsDieHandedBack N.view nand (nand_of fault)) }
 {
     let mut device = start_mounted(alloc, nand, geometry, stale)?;
     match settled(device.flush()) {
@@ -214,13 +214,13 @@ fn look<N: Nand>(
     geometry: &Geometry,
     entries: u32,
 ) -> Result<Device<N>, PowerFault<N>>
-    requires same_geometry { (N.flash nand).geometry ≡ geometry.now }
+    requires same_geometry { (N.view.flash nand).geometry ≡ geometry.now }
     requires least { 1 ≤ entries }
     requires most { entries ≤ 65536 }
-    ensures brings { IfOk result (IsBrought N.flash N.honest N.failed nand geometry.now entries) }
-    ensures pages { IfOk result (λ d. N.honest nand ≡ true → N.flash d.engine.nand ≡ N.flash nand) }
-    ensures fault { IfErr result (ArePagesUnmounted N.flash N.honest N.failed nand geometry.now entries) }
-    ensures given { IfErr result (λ fault. IsDieHandedBack N.flash N.honest N.failed nand (nand_of fault)) }
+    ensures brings { IfOk result (IsBrought N.view nand geometry.now entries) }
+    ensures pages { IfOk result (λ d. N.view.honest nand ≡ true → N.view.flash d.engine.nand ≡ N.view.flash nand) }
+    ensures fault { IfErr result (ArePagesUnmounted N.view nand geometry.now entries) }
+    ensures given { IfErr result (λ fault. IsDieHandedBack N.view nand (nand_of fault)) }
 {
     match start_mounted(alloc, nand, geometry, entries) {
         Ok(device) => Ok(device),
@@ -235,12 +235,12 @@ fn start_either<N: Nand>(
     geometry: &Geometry,
     capacity: u32,
 ) -> Result<Device<N>, PowerFault<N>>
-    requires same_geometry { (N.flash nand).geometry ≡ geometry.now }
+    requires same_geometry { (N.view.flash nand).geometry ≡ geometry.now }
     requires least { 1 ≤ capacity }
     requires most { capacity ≤ 65536 }
-    ensures brings { IfOk result (IsBrought N.flash N.honest N.failed nand geometry.now capacity) }
-    ensures fault { IfErr result (IsUnbrought N.flash N.honest N.failed nand geometry.now capacity) }
-    ensures given { IfErr result (λ fault. IsDieHandedBack N.flash N.honest N.failed nand (nand_of fault)) }
+    ensures brings { IfOk result (IsBrought N.view nand geometry.now capacity) }
+    ensures fault { IfErr result (IsUnbrought N.view nand geometry.now capacity) }
+    ensures given { IfErr result (λ fault. IsDieHandedBack N.view nand (nand_of fault)) }
 {
     let fault = match look(alloc, nand, geometry, capacity) {
         Ok(device) => return Ok(device),
@@ -260,14 +260,14 @@ fn start_settled<N: Nand>(
     capacity: u32,
     stale: u32,
 ) -> Result<Device<N>, PowerFault<N>>
-    requires same_geometry { (N.flash nand).geometry ≡ geometry.now }
+    requires same_geometry { (N.view.flash nand).geometry ≡ geometry.now }
     requires least { 1 ≤ capacity }
     requires more { capacity < stale }
     requires most { stale ≤ 65536 }
-    requires wanted { N.honest nand ≡ true → IsTooStale geometry.now capacity (N.flash nand).image stale }
-    ensures brings { IfOk result (IsBrought N.flash N.honest N.failed nand geometry.now capacity) }
-    ensures fault { IfErr result (IsUnsettled N.flash N.honest N.failed nand geometry.now capacity) }
-    ensures given { IfErr result (λ fault. IsDieHandedBack N.flash N.honest N.failed nand (nand_of fault)) }
+    requires wanted { N.view.honest nand ≡ true → IsTooStale geometry.now capacity (N.view.flash nand).image stale }
+    ensures brings { IfOk result (IsBrought N.view nand geometry.now capacity) }
+    ensures fault { IfErr result (IsUnsettled N.view nand geometry.now capacity) }
+    ensures given { IfErr result (λ fault. IsDieHandedBack N.view nand (nand_of fault)) }
 {
     let nand = match settle(alloc, nand, geometry, stale) {
         Ok(nand) => nand,
@@ -295,14 +295,14 @@ pub fn start<N: Nand>(
     geometry: &Geometry,
     capacity: u32,
 ) -> Result<Device<N>, PowerFault<N>>
-    requires same_geometry { (N.flash nand).geometry ≡ geometry.now }
+    requires same_geometry { (N.view.flash nand).geometry ≡ geometry.now }
     requires least { 1 ≤ capacity }
     requires most { capacity ≤ 65536 }
-    ensures brings { IfOk result (IsBrought N.flash N.honest N.failed nand geometry.now capacity) }
+    ensures brings { IfOk result (IsBrought N.view nand geometry.now capacity) }
     // Where the cache has room for what is stale, nothing is written.
-    ensures still { IfOk result (λ d. N.honest nand ≡ true → stale_count geometry.now (N.flash nand).image ≤ capacity → N.flash d.engine.nand ≡ N.flash nand) }
-    ensures fault { IfErr result (IsUnsettled N.flash N.honest N.failed nand geometry.now capacity) }
-    ensures given { IfErr result (λ fault. IsDieHandedBack N.flash N.honest N.failed nand (nand_of fault)) }
+    ensures still { IfOk result (λ d. N.view.honest nand ≡ true → stale_count geometry.now (N.view.flash nand).image ≤ capacity → N.view.flash d.engine.nand ≡ N.view.flash nand) }
+    ensures fault { IfErr result (IsUnsettled N.view nand geometry.now capacity) }
+    ensures given { IfErr result (λ fault. IsDieHandedBack N.view nand (nand_of fault)) }
 {
     let fault = match look(alloc, nand, geometry, capacity) {
         Ok(device) => return Ok(device),

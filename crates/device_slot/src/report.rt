@@ -53,7 +53,7 @@ fn stop_for(fault: Option<EngineFault>) -> Option<DeviceFault>
 
 /// How this one stands.
 pub(crate) fn report_of<N: Nand>(device: &Device<N>) -> Report
-    requires { IsDeviceKept N.flash N.honest device.now }
+    requires { IsDeviceKept N.view device.now }
     ensures { DeviceStands device.now result }
 {
     let blocks = &device.engine.blocks;

@@ -48,7 +48,7 @@ impl<N: Nand> Model for DeviceSlot<N> {
 
     ghost view = { λ s. record { device = s.device; shortage = s.shortage } };
 
-    ghost invariant = { λ s. IfSome s.device (IsDeviceKept N.flash N.honest) };
+    ghost invariant = { λ s. IfSome s.device (IsDeviceKept N.view) };
 }
 
 // The device's answer as that of a call.
@@ -85,10 +85,10 @@ fn told<N: Nand>(
     command: Command<'_>,
     bytes: &mut [u8],
 ) -> Result<(), CallFault>
-    requires kept { IsDeviceKept N.flash N.honest device.old }
+    requires kept { IsDeviceKept N.view device.old }
     requires room { HasRoom device.old.engine.geometry command bytes.old }
-    ensures kept { IsDeviceKept N.flash N.honest device.new }
-    ensures told { ToldCommand N.flash N.recorded N.honest N.failed N.erases device.old (command_of command.entry) bytes.old result bytes.new device.new shortage.new }
+    ensures kept { IsDeviceKept N.view device.new }
+    ensures told { ToldCommand N.view device.old (command_of command.entry) bytes.old result bytes.new device.new shortage.new }
 {
     let done = tell(device, command, bytes);
     *shortage = shortage_for(done);
@@ -101,11 +101,11 @@ fn told_only<N: Nand>(
     shortage: &mut Option<Shortage>,
     command: Command<'_>,
 ) -> Result<(), CallFault>
-    requires kept { IsDeviceKept N.flash N.honest device.old }
+    requires kept { IsDeviceKept N.view device.old }
     requires room { HasRoom device.old.engine.geometry command [] }
     requires only { is_read (command_of command) ≡ false }
-    ensures kept { IsDeviceKept N.flash N.honest device.new }
-    ensures told { ToldCommand N.flash N.recorded N.honest N.failed N.erases device.old (command_of command.entry) [] result [] device.new shortage.new }
+    ensures kept { IsDeviceKept N.view device.new }
+    ensures told { ToldCommand N.view device.old (command_of command.entry) [] result [] device.new shortage.new }
 {
     told(device, shortage, command, &mut [])
 }
@@ -117,9 +117,9 @@ fn read<N: Nand>(
     sector: u32,
     out: &mut [u8],
 ) -> Result<(), CallFault>
-    requires { IsDeviceKept N.flash N.honest device.old }
-    ensures kept { IsDeviceKept N.flash N.honest device.new }
-    ensures told { ToldSized N.flash N.recorded N.honest N.failed N.erases device.old shortage.old (step.Read sector) (length out.old) out.old result out.new device.new shortage.new }
+    requires { IsDeviceKept N.view device.old }
+    ensures kept { IsDeviceKept N.view device.new }
+    ensures told { ToldSized N.view device.old shortage.old (step.Read sector) (length out.old) out.old result out.new device.new shortage.new }
 {
     if out.len() != device.engine.geometry.data_bytes() {
         return Err(CallFault::WrongSize);
@@ -134,9 +134,9 @@ fn write<N: Nand>(
     sector: u32,
     body: &[u8],
 ) -> Result<(), CallFault>
-    requires { IsDeviceKept N.flash N.honest device.old }
-    ensures kept { IsDeviceKept N.flash N.honest device.new }
-    ensures told { ToldSized N.flash N.recorded N.honest N.failed N.erases device.old shortage.old (step.Write sector body.now) (length body.now) [] result [] device.new shortage.new }
+    requires { IsDeviceKept N.view device.old }
+    ensures kept { IsDeviceKept N.view device.new }
+    ensures told { ToldSized N.view device.old shortage.old (step.Write sector body.now) (length body.now) [] result [] device.new shortage.new }
 {
     if body.len() != device.engine.geometry.data_bytes() {
         return Err(CallFault::WrongSize);
@@ -201,7 +201,7 @@ impl<N: Nand> DeviceSlot<N> {
     ///
     /// `NotStarted` where no device stands there, `WrongSize` where `out` is not as long as a sector: nothing is done. Those of the device.
     pub fn read(&mut self, sector: u32, out: &mut [u8]) -> Result<(), CallFault>
-        ensures { IsSlotCall self.old (λ d now. ToldSized N.flash N.recorded N.honest N.failed N.erases d self.old.shortage (step.Read sector) (length out.old) out.old result out.new now self.new.shortage)
+        ensures { IsSlotCall self.old (λ d now. ToldSized N.view d self.old.shortage (step.Read sector) (length out.old) out.old result out.new now self.new.shortage)
             out.old result out.new self.new }
     {
         let Some(device) = &mut self.device else {
@@ -216,7 +216,7 @@ impl<N: Nand> DeviceSlot<N> {
     ///
     /// As `read`, `WrongSize` where `body` is not as long as a sector.
     pub fn write(&mut self, sector: u32, body: &[u8]) -> Result<(), CallFault>
-        ensures { IsSlotCall self.old (λ d now. ToldSized N.flash N.recorded N.honest N.failed N.erases d self.old.shortage (step.Write sector body.now) (length body.now) [] result [] now self.new.shortage)
+        ensures { IsSlotCall self.old (λ d now. ToldSized N.view d self.old.shortage (step.Write sector body.now) (length body.now) [] result [] now self.new.shortage)
             [] result [] self.new }
     {
         let Some(device) = &mut self.device else {
@@ -231,7 +231,7 @@ impl<N: Nand> DeviceSlot<N> {
     ///
     /// `NotStarted` where no device stands there: nothing is done. Those of the device.
     pub fn trim(&mut self, sector: u32) -> Result<(), CallFault>
-        ensures { IsSlotCall self.old (λ d now. ToldCommand N.flash N.recorded N.honest N.failed N.erases d (step.Trim sector) [] result [] now self.new.shortage) [] result [] self.new }
+        ensures { IsSlotCall self.old (λ d now. ToldCommand N.view d (step.Trim sector) [] result [] now self.new.shortage) [] result [] self.new }
     {
         let Some(device) = &mut self.device else {
             return Err(CallFault::NotStarted);
@@ -245,7 +245,7 @@ impl<N: Nand> DeviceSlot<N> {
     ///
     /// As `trim`.
     pub fn flush(&mut self) -> Result<(), CallFault>
-        ensures { IsSlotCall self.old (λ d now. ToldCommand N.flash N.recorded N.honest N.failed N.erases d step.Flush [] result [] now self.new.shortage) [] result [] self.new }
+        ensures { IsSlotCall self.old (λ d now. ToldCommand N.view d step.Flush [] result [] now self.new.shortage) [] result [] self.new }
     {
         let Some(device) = &mut self.device else {
             return Err(CallFault::NotStarted);
@@ -259,7 +259,7 @@ impl<N: Nand> DeviceSlot<N> {
     ///
     /// As `trim`.
     pub fn turn(&mut self) -> Result<(), CallFault>
-        ensures { IsSlotCall self.old (λ d now. ToldCommand N.flash N.recorded N.honest N.failed N.erases d step.Turn [] result [] now self.new.shortage) [] result [] self.new }
+        ensures { IsSlotCall self.old (λ d now. ToldCommand N.view d step.Turn [] result [] now self.new.shortage) [] result [] self.new }
     {
         let Some(device) = &mut self.device else {
             return Err(CallFault::NotStarted);
@@ -274,7 +274,7 @@ impl<N: Nand + Drop> DeviceSlot<N> {
 
     /// Puts a device there, in place of what stood there. No refusal is noted.
     pub fn put(&mut self, device: Device<N>)
-        requires { IsDeviceKept N.flash N.honest device }
+        requires { IsDeviceKept N.view device }
         ensures { self.new ≡ record { device = Some device; shortage = None } }
     {
         self.device = Some(device);
@@ -297,7 +297,7 @@ impl<N: Nand> DeviceSlot<N> {
     /// Gives up the slot for what stands there.
     pub fn into_device(self) -> Option<Device<N>>
         ensures device { result ≡ self.device }
-        ensures kept { IfSome result (IsDeviceKept N.flash N.honest) }
+        ensures kept { IfSome result (IsDeviceKept N.view) }
     {
         self.device
     }

@@ -1,11 +1,10 @@
 -- What is found of a disk where its server is killed inside a call.
-use Rattle.std.proofs.Common.{◌≡◌, ◌≢◌, inl, inr, ℕ, Bool, true, [], ◌∷◌, ◌++◌, Option, Some, Result, Ok, Err, refl, sym, ap, ◌∙◌, subst}
+use Rattle.std.proofs.Common.{◌≡◌, ◌≢◌, inl, inr, ℕ, true, [], ◌∷◌, ◌++◌, Some, Result, Ok, Err, refl, sym, ap, ◌∙◌, subst}
 use Rattle.std.specs.Prelude.{◌⊎◌}
+use Rattle.page_layout.specs.View.{View}
 use Rattle.page_layout.specs.declared.geometry.Geometry.{Geometry}
 use Rattle.page_layout.specs.Page.{Image}
 use Rattle.page_layout.specs.Array.{array_of}
-use Rattle.page_layout.specs.Flash.{Flash}
-use Rattle.page_layout.specs.Recording.{Recording}
 use Rattle.page_layout.proofs.FlashLemmas.{geometry-Leads}
 use Rattle.promises.specs.Step.{Command, Flush, Turn}
 use Rattle.promises.specs.Stop.{MayLeave}
@@ -25,35 +24,35 @@ use Rattle.disk_laws.specs.Killed.{AreFoundIn, FoundTornLaw, HoldsThrough, Mount
 use Rattle.disk_server.proofs.Calls.{no_bus}
 use Rattle.disk_server.proofs.Holding.{parts, held}
 
-module _ {N : Type 0} (flash : N → Flash) (recorded : N → Option Recording) (honest : N → Bool) (failed : N → ℕ) (old new : Device N) (found : Image) (call : HoldsThrough flash honest old new) (at : AreFoundIn flash recorded old new found) where
+module _ {N : Type 0} (view : View N) (old new : Device N) (found : Image) (call : HoldsThrough view old new) (at : AreFoundIn view old new found) where
   -- what the call may leave by its own log is what it may leave by its record
-  survives : (command : Command) (answer : Result (Unit {0}) DeviceFault) → Logs flash recorded command old answer new
-      → Survives old.engine.geometry old.engine.mapping.capacity command answer (flash old.engine.nand).image (flash new.engine.nand).image found
+  survives : (command : Command) (answer : Result (Unit {0}) DeviceFault) → Logs view command old answer new
+      → Survives old.engine.geometry old.engine.mapping.capacity command answer (view.flash old.engine.nand).image (view.flash new.engine.nand).image found
   survives command answer logs =
-      let one : at.log ≡ logs.went.log = one_gain (recorded old.engine.nand) (recorded new.engine.nand) at.log logs.went.log at.told at.records logs.went.records in
-      logs.stopped (call.was.well call.held) at.told found (subst (λ l. MayLeave old.engine.geometry (flash old.engine.nand).image l found) one at.left)
+      let one : at.log ≡ logs.went.log = one_gain (view.recorded old.engine.nand) (view.recorded new.engine.nand) at.log logs.went.log at.told at.records logs.went.records in
+      logs.stopped (call.was.well call.held) at.told found (subst (λ l. MayLeave old.engine.geometry (view.flash old.engine.nand).image l found) one at.left)
 
-  went_on : (answer : Result (Unit {0}) DeviceFault) → Refuses failed old answer new → answer ≢ Err BusFault
-  went_on answer refuses = no_bus (ram old.engine) (ram new.engine) answer refuses.says (parts honest new call.holds_on).1
+  went_on : (answer : Result (Unit {0}) DeviceFault) → Refuses view.failed old answer new → answer ≢ Err BusFault
+  went_on answer refuses = no_bus (ram old.engine) (ram new.engine) answer refuses.says (parts view.honest new call.holds_on).1
 
-  its_die : honest old.engine.nand ≡ true
-  its_die = (parts honest old call.held).0
+  its_die : view.honest old.engine.nand ≡ true
+  its_die = (parts view.honest old call.held).0
 
-  geometry_same : (command : Command) (answer : Result (Unit {0}) DeviceFault) → Logs flash recorded command old answer new → new.engine.geometry ≡ old.engine.geometry
+  geometry_same : (command : Command) (answer : Result (Unit {0}) DeviceFault) → Logs view command old answer new → new.engine.geometry ≡ old.engine.geometry
   geometry_same command answer logs =
-      sym call.is.device.engine.geometry ∙ geometry-Leads (flash old.engine.nand) (flash new.engine.nand) logs.went.log logs.went.leads ∙ call.was.device.engine.geometry
+      sym call.is.device.engine.geometry ∙ geometry-Leads (view.flash old.engine.nand) (view.flash new.engine.nand) logs.went.log logs.went.leads ∙ call.was.device.engine.geometry
 
-  as_before : array_of old.engine.geometry found ≡ array_of old.engine.geometry (flash old.engine.nand).image → bytes_found old found ≡ (contents_of flash honest old).bytes
-  as_before same = ap flat same ∙ sym (held flash honest old call.held)
+  as_before : array_of old.engine.geometry found ≡ array_of old.engine.geometry (view.flash old.engine.nand).image → bytes_found old found ≡ (contents_of view old).bytes
+  as_before same = ap flat same ∙ sym (held view old call.held)
 
-  as_after : new.engine.geometry ≡ old.engine.geometry → array_of old.engine.geometry found ≡ array_of old.engine.geometry (flash new.engine.nand).image
-      → bytes_found old found ≡ (contents_of flash honest new).bytes
+  as_after : new.engine.geometry ≡ old.engine.geometry → array_of old.engine.geometry found ≡ array_of old.engine.geometry (view.flash new.engine.nand).image
+      → bytes_found old found ≡ (contents_of view new).bytes
   as_after sized same =
-      ap flat (same ∙ ap (λ (g : Geometry). array_of g (flash new.engine.nand).image) (sym sized)) ∙ sym (held flash honest new call.holds_on)
+      ap flat (same ∙ ap (λ (g : Geometry). array_of g (view.flash new.engine.nand).image) (sym sized)) ∙ sym (held view new call.holds_on)
 
   -- a change
-  pub killed_change : (command : Command) (answer : Result (Unit {0}) DeviceFault) (result : Result (Unit {0}) DiskFault) → result ≡ change_answer answer → Logs flash recorded command old answer new
-      → MountsFor old found × ((bytes_found old found ≡ (contents_of flash honest old).bytes) ⊎ ((result ≡ Ok tt) × (bytes_found old found ≡ (contents_of flash honest new).bytes)))
+  pub killed_change : (command : Command) (answer : Result (Unit {0}) DeviceFault) (result : Result (Unit {0}) DiskFault) → result ≡ change_answer answer → Logs view command old answer new
+      → MountsFor old found × ((bytes_found old found ≡ (contents_of view old).bytes) ⊎ ((result ≡ Ok tt) × (bytes_found old found ≡ (contents_of view new).bytes)))
   killed_change command answer result told logs =
       let s = survives command answer logs in
       let sized : new.engine.geometry ≡ old.engine.geometry = geometry_same command answer logs in (
@@ -65,8 +64,8 @@ module _ {N : Type 0} (flash : N → Flash) (recorded : N → Option Recording) 
       )
 
   -- what changes no sector
-  pub killed_quiet : (command : Command) (answer : Result (Unit {0}) DeviceFault) → changes_sector command ≢ true → Logs flash recorded command old answer new
-      → MountsFor old found × (bytes_found old found ≡ (contents_of flash honest old).bytes)
+  pub killed_quiet : (command : Command) (answer : Result (Unit {0}) DeviceFault) → changes_sector command ≢ true → Logs view command old answer new
+      → MountsFor old found × (bytes_found old found ≡ (contents_of view old).bytes)
   killed_quiet command answer quiet logs =
       let s = survives command answer logs in (
         s.mountable,
@@ -76,39 +75,39 @@ module _ {N : Type 0} (flash : N → Flash) (recorded : N → Option Recording) 
         ],
       )
 
-pub killed_change_law : {N : Type 0} (flash : N → Flash) (recorded : N → Option Recording) (honest calm : N → Bool) (failed : N → ℕ) → KilledChangeLaw flash recorded honest calm failed
-killed_change_law flash recorded honest calm failed old new n command result found call asks at =
-    killed_change flash recorded honest failed old new found call at command asks.answer result asks.told
-    (asks.changes.logs (its_die flash recorded honest failed old new found call at) (went_on flash recorded honest failed old new found call at asks.answer asks.changes.refuses))
+pub killed_change_law : {N : Type 0} (view : View N) → KilledChangeLaw view
+killed_change_law view old new n command result found call asks at =
+    killed_change view old new found call at command asks.answer result asks.told
+    (asks.changes.logs (its_die view old new found call at) (went_on view old new found call at asks.answer asks.changes.refuses))
 
-pub killed_flush_law : {N : Type 0} (flash : N → Flash) (recorded : N → Option Recording) (honest calm : N → Bool) (failed : N → ℕ) → KilledFlushLaw flash recorded honest calm failed
-killed_flush_law flash recorded honest calm failed old new result found call asks at =
-    killed_quiet flash recorded honest failed old new found call at Flush asks.answer (λ e. cc)
-    (asks.upkeeps.logs (its_die flash recorded honest failed old new found call at) (went_on flash recorded honest failed old new found call at asks.answer asks.upkeeps.refuses))
+pub killed_flush_law : {N : Type 0} (view : View N) → KilledFlushLaw view
+killed_flush_law view old new result found call asks at =
+    killed_quiet view old new found call at Flush asks.answer (λ e. cc)
+    (asks.upkeeps.logs (its_die view old new found call at) (went_on view old new found call at asks.answer asks.upkeeps.refuses))
 
-pub killed_turn_law : {N : Type 0} (flash : N → Flash) (recorded : N → Option Recording) (honest calm : N → Bool) (erases failed : N → ℕ) → KilledTurnLaw flash recorded honest calm erases failed
-killed_turn_law flash recorded honest calm erases failed old new result found call asks at =
-    killed_quiet flash recorded honest failed old new found call at Turn asks.answer (λ e. cc)
-    (asks.upkeeps.logs (its_die flash recorded honest failed old new found call at) (went_on flash recorded honest failed old new found call at asks.answer asks.upkeeps.refuses))
+pub killed_turn_law : {N : Type 0} (view : View N) → KilledTurnLaw view
+killed_turn_law view old new result found call asks at =
+    killed_quiet view old new found call at Turn asks.answer (λ e. cc)
+    (asks.upkeeps.logs (its_die view old new found call at) (went_on view old new found call at asks.answer asks.upkeeps.refuses))
 
-pub found_as_it_was_law : {N : Type 0} (flash : N → Flash) (recorded : N → Option Recording) (honest : N → Bool) → FoundAsItWasLaw flash recorded honest
-found_as_it_was_law flash recorded honest old new log was h some records = record {
+pub found_as_it_was_law : {N : Type 0} (view : View N) → FoundAsItWasLaw view
+found_as_it_was_law view old new log was h some records = record {
   told = some;
   log = log;
   records = records;
-  left = record { whole = (was.well h).truth.whole; by = between old.engine.geometry.pages (flash old.engine.nand).image [] log };
+  left = record { whole = (was.well h).truth.whole; by = between old.engine.geometry.pages (view.flash old.engine.nand).image [] log };
 }
 
 pub store_tells : {S : Type 0} (held : S → Held) → StoreTellsLaw held (λ d. Some d.told)
 store_tells held d = record { told = refl; pages = refl }
 
-pub found_torn_law : {N : Type 0} (flash : N → Flash) (recorded : N → Option Recording) → FoundTornLaw flash recorded
-found_torn_law flash recorded old new before after op torn still gains whole tears = record {
+pub found_torn_law : {N : Type 0} (view : View N) → FoundTornLaw view
+found_torn_law view old new before after op torn still gains whole tears = record {
   told = still;
   log = before ++ op ∷ after;
   records = gains;
   left = record {
     whole = whole;
-    by = (torn_in_one_law old.engine.geometry.pages (flash old.engine.nand).image torn (before ++ op ∷ after)).1 (inr (record { before = before; op = op; after = after; cut = refl; tears = tears }));
+    by = (torn_in_one_law old.engine.geometry.pages (view.flash old.engine.nand).image torn (before ++ op ∷ after)).1 (inr (record { before = before; op = op; after = after; cut = refl; tears = tears }));
   };
 }

@@ -4,6 +4,7 @@ use Rattle.std.specs.List.{range_with_len}
 use Rattle.std.specs.Prelude.{get_or, map}
 use Rattle.std.proofs.lemmas.List.{append_assoc}
 use Rattle.std.proofs.lemmas.List.FromFn.{get_or-map-range_with_len, length-map-range_with_len}
+use Rattle.page_layout.specs.View.{View}
 use Rattle.page_layout.specs.declared.geometry.Geometry.{Geometry}
 use Rattle.page_layout.specs.Page.{Image, IsImage}
 use Rattle.page_layout.specs.Array.{array_of, sector_of}
@@ -35,7 +36,7 @@ use Rattle.disk_server.specs.Disk.{AsksRead}
 use Rattle.disk_server.proofs.Calls.{no_bus}
 use Rattle.disk_server.proofs.Holding.{parts}
 use Rattle.disk_laws.specs.Lost.{LostBy, MayLose}
-use Rattle.disk_laws.specs.Runs.{CutIn, CutLeavesLaw, DieWords, Does, HasOnTheWay, IsFoundAfterLoss, IsOneCall, KilledRunLaw, LostRunLaw, NoCall, OneCallLaw, OneMore, DeviceCalls, image_on}
+use Rattle.disk_laws.specs.Runs.{CutIn, CutLeavesLaw, View, Does, HasOnTheWay, IsFoundAfterLoss, IsOneCall, KilledRunLaw, LostRunLaw, NoCall, OneCallLaw, OneMore, DeviceCalls, image_on}
 use Rattle.disk_laws.proofs.FitLemmas.{Fits}
 use Rattle.disk_laws.proofs.GrowLemmas.{GrewSince, Stands, since_begin}
 use Rattle.disk_laws.proofs.LogLemmas.{Goes, grew, lasts_after, lost, lost_apart}
@@ -105,7 +106,7 @@ module _ {N : Type 0} (flash : N → Flash) (d : Device N) where
 -- ---- one call
 
 -- WHAT ONE CALL COMES TO, of a device with this geometry and so many entries
-pub record Called {N : Type 0} (g : Geometry) (capacity : ℕ) (die : DieWords N) (old : Device N) (log : List Operation) (new : Device N) : Type 0 where
+pub record Called {N : Type 0} (g : Geometry) (capacity : ℕ) (die : View N) (old : Device N) (log : List Operation) (new : Device N) : Type 0 where
   pub sized : new.engine.geometry ≡ g
   pub room : new.engine.mapping.capacity ≡ capacity
   pub die_sized : (die.flash old.engine.nand).geometry ≡ g
@@ -117,7 +118,7 @@ pub record Called {N : Type 0} (g : Geometry) (capacity : ℕ) (die : DieWords N
   pub survives : (left : Image) → MayLeave g (image_on die old) log left → (capacity + g.pages ≤ 65536 → IsMountable g (capacity + g.pages) left)
       × ((array_of g left ≡ array_of g (image_on die old)) ⊎ (array_of g left ≡ array_of g (image_on die new)))
 
-module _ {N : Type 0} (die : DieWords N) (old : Device N) (log : List Operation) (new : Device N) (does : Does die old log new) where
+module _ {N : Type 0} (die : View N) (old : Device N) (log : List Operation) (new : Device N) (does : Does die old log new) where
   its_die : die.honest old.engine.nand ≡ true
   its_die = (parts die.honest old does.through.held).0
 
@@ -130,7 +131,7 @@ module _ {N : Type 0} (die : DieWords N) (old : Device N) (log : List Operation)
   starts : Begun old.engine.geometry.pages (ram old.engine).next (image_on die old) (ram old.engine).blocks
   starts = begun die.flash old truth does.through.was.device.engine.memory.blocks_of
 
-  logged : (command : Command) (answer : Result (Unit {0}) DeviceFault) → new.engine.mapping.capacity ≡ old.engine.mapping.capacity → Logs die.flash die.recorded command old answer new
+  logged : (command : Command) (answer : Result (Unit {0}) DeviceFault) → new.engine.mapping.capacity ≡ old.engine.mapping.capacity → Logs die command old answer new
       → Called old.engine.geometry old.engine.mapping.capacity die old log new
   logged command answer room logs =
       let one : logs.went.log ≡ log = sym (one_gain (die.recorded old.engine.nand) (die.recorded new.engine.nand) log logs.went.log does.told does.records logs.went.records) in
@@ -147,7 +148,7 @@ module _ {N : Type 0} (die : DieWords N) (old : Device N) (log : List Operation)
         survives = λ left m. (let s = logs.stopped was does.told left m in (s.mountable, elim s.array [ inl before ↦ inl before | inr after ↦ inr after.2 ]));
       })
 
-  read : AsksRead die.flash die.recorded die.honest die.calm die.programs die.erases die.failed old new → Called old.engine.geometry old.engine.mapping.capacity die old log new
+  read : AsksRead die old new → Called old.engine.geometry old.engine.mapping.capacity die old log new
   read asks =
       let leaves = asks.leaves does.through.held does.through.holds_on in
       let same : die.flash new.engine.nand ≡ die.flash old.engine.nand = leaves.die_same in
@@ -182,7 +183,7 @@ module _ {N : Type 0} (die : DieWords N) (old : Device N) (log : List Operation)
 
 -- ---- calls one after another
 
-module _ {N : Type 0} (die : DieWords N) (old : Device N) where
+module _ {N : Type 0} (die : View N) (old : Device N) where
   run_sized : (log : List Operation) (new : Device N) → DeviceCalls die old log new → (new.engine.geometry ≡ old.engine.geometry) × (new.engine.mapping.capacity ≡ old.engine.mapping.capacity)
   run_sized log new NoCall = (refl, refl)
   run_sized log new (OneMore before mid more last run does) =
@@ -367,14 +368,14 @@ module _ {N : Type 0} (die : DieWords N) (old : Device N) where
               inr (record { one = f.one; mounts = f.mounts; sectors = f.sectors })
         ]
 
-pub killed_run : {N : Type 0} (die : DieWords N) → KilledRunLaw die
+pub killed_run : {N : Type 0} (die : View N) → KilledRunLaw die
 killed_run die old new log found run m = killed die old log new found run m
 
-pub lost_run_law : {N : Type 0} (die : DieWords N) → LostRunLaw die
+pub lost_run_law : {N : Type 0} (die : View N) → LostRunLaw die
 lost_run_law die old new log found run few m = lost_run die old few log new found run m
 
-pub one_call : {N : Type 0} (die : DieWords N) → OneCallLaw die
+pub one_call : {N : Type 0} (die : View N) → OneCallLaw die
 one_call die old new log does = OneMore [] old log new NoCall does
 
-pub cut_leaves_law : {N : Type 0} (die : DieWords N) → CutLeavesLaw die
+pub cut_leaves_law : {N : Type 0} (die : View N) → CutLeavesLaw die
 cut_leaves_law die old new log found c = cut_leaves die old log new found c

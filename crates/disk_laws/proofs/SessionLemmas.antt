@@ -1,6 +1,7 @@
 -- All that is asked of a device in a session, as calls one after another.
 use Rattle.std.proofs.Common.{◌≡◌, inl, inr, ℕ, suc, zero, true, List, [], ◌++◌, IsSome, Result, sym, subst, append-nil}
 use Rattle.std.proofs.lemmas.List.{append_assoc}
+use Rattle.page_layout.specs.View.{View}
 use Rattle.page_layout.specs.Flash.{Operation}
 use Rattle.page_layout.specs.Recording.{Records}
 use Rattle.page_layout.proofs.RecordingLemmas.{records_none, told_on}
@@ -13,9 +14,9 @@ use Rattle.disk_server.specs.Asked.{AsksCall}
 use Rattle.disk_server.specs.Disk.{AsksChange, AsksClear, AsksFlush, AsksRead, AsksTurn, ChangesOne, IsDisk, holds}
 use Rattle.disk_server.proofs.Calls.{no_bus}
 use Rattle.disk_server.proofs.Holding.{back, parts}
-use Rattle.disk_laws.specs.Runs.{DieWords, Does, IsDiskCall, NoCall, OneMore, DeviceCalls, SessionLaw}
+use Rattle.disk_laws.specs.Runs.{View, Does, IsDiskCall, NoCall, OneMore, DeviceCalls, SessionLaw}
 
-module _ {N : Type 0} (die : DieWords N) where
+module _ {N : Type 0} (die : View N) where
   run_join : (a b c : Device N) (xs ys : List Operation) → DeviceCalls die a xs b → DeviceCalls die b ys c → DeviceCalls die a (xs ++ ys) c
   run_join a b c xs ys run NoCall = subst (λ l. DeviceCalls die a l b) (sym (append-nil xs)) run
   run_join a b c xs ys run (OneMore before mid more last rest does) =
@@ -28,7 +29,7 @@ module _ {N : Type 0} (die : DieWords N) where
     pub log : List Operation
     pub run : DeviceCalls die old log new
 
-  module _ (old new : Device N) (was : IsDisk die.flash die.honest old) (on : holds die.honest new ≡ true) (some : IsSome (die.recorded new.engine.nand)) where
+  module _ (old new : Device N) (was : IsDisk die old) (on : holds die.honest new ≡ true) (some : IsSome (die.recorded new.engine.nand)) where
     one : (log : List Operation) → Does die old log new → Goes old new
     one log does = record {
       held = does.through.held;
@@ -37,7 +38,7 @@ module _ {N : Type 0} (die : DieWords N) where
       run = OneMore [] old log new NoCall does;
     }
 
-    of_change : (n : ℕ) (command : Command) (result : Result (Unit {0}) DiskFault) → AsksChange die.flash die.recorded die.honest die.calm die.failed n command old result new → Goes old new
+    of_change : (n : ℕ) (command : Command) (result : Result (Unit {0}) DiskFault) → AsksChange die n command old result new → Goes old new
     of_change n command result asks =
         let held : holds die.honest old ≡ true = back die.honest old new asks.answer asks.changes.stays.honest_is asks.changes.refuses.stopped on in
         let logs = asks.changes.logs (parts die.honest old held).0 (no_bus (ram old.engine) (ram new.engine) asks.answer asks.changes.refuses.says (parts die.honest new on).1) in
@@ -48,7 +49,7 @@ module _ {N : Type 0} (die : DieWords N) where
           records = logs.went.records;
         })
 
-    of_flush : (result : Result (Unit {0}) DiskFault) → AsksFlush die.flash die.recorded die.honest die.calm die.failed old result new → Goes old new
+    of_flush : (result : Result (Unit {0}) DiskFault) → AsksFlush die old result new → Goes old new
     of_flush result asks =
         let held : holds die.honest old ≡ true = back die.honest old new asks.answer asks.upkeeps.stays.honest_is asks.upkeeps.refuses.stopped on in
         let logs = asks.upkeeps.logs (parts die.honest old held).0 (no_bus (ram old.engine) (ram new.engine) asks.answer asks.upkeeps.refuses.says (parts die.honest new on).1) in
@@ -59,7 +60,7 @@ module _ {N : Type 0} (die : DieWords N) where
           records = logs.went.records;
         })
 
-    of_turn : (result : Result (Unit {0}) DiskFault) → AsksTurn die.flash die.recorded die.honest die.calm die.erases die.failed old result new → Goes old new
+    of_turn : (result : Result (Unit {0}) DiskFault) → AsksTurn die old result new → Goes old new
     of_turn result asks =
         let held : holds die.honest old ≡ true = back die.honest old new asks.answer asks.upkeeps.stays.honest_is asks.upkeeps.refuses.stopped on in
         let logs = asks.upkeeps.logs (parts die.honest old held).0 (no_bus (ram old.engine) (ram new.engine) asks.answer asks.upkeeps.refuses.says (parts die.honest new on).1) in
@@ -70,7 +71,7 @@ module _ {N : Type 0} (die : DieWords N) where
           records = logs.went.records;
         })
 
-    of_read : AsksRead die.flash die.recorded die.honest die.calm die.programs die.erases die.failed old new → Goes old new
+    of_read : AsksRead die old new → Goes old new
     of_read asks =
         let held : holds die.honest old ≡ true = asks.back on in
         one [] (record {
@@ -81,8 +82,8 @@ module _ {N : Type 0} (die : DieWords N) where
         })
 
   -- a sector that is cleared is a read, and a change where that did not give zeros
-  of_clear : (old new : Device N) → IsDisk die.flash die.honest old → holds die.honest new ≡ true → IsSome (die.recorded new.engine.nand) → (n : ℕ) (result : Result (Unit {0}) DiskFault)
-      → AsksClear die.flash die.recorded die.honest die.calm die.programs die.erases die.failed n old result new → Goes old new
+  of_clear : (old new : Device N) → IsDisk die old → holds die.honest new ≡ true → IsSome (die.recorded new.engine.nand) → (n : ℕ) (result : Result (Unit {0}) DiskFault)
+      → AsksClear die n old result new → Goes old new
   of_clear old new was on some n result asks = elim asks.trims [
     | inl zeros ↦ subst (Goes old) (sym zeros.3) (of_read old asks.mid was (subst (λ d. holds die.honest d ≡ true) zeros.3 on) (subst (λ d. IsSome (die.recorded d.engine.nand)) zeros.3 some) asks.asks)
     | inr trims ↦
@@ -91,7 +92,7 @@ module _ {N : Type 0} (die : DieWords N) where
         record { held = first.held; told = first.told; log = first.log ++ second.log; run = run_join old asks.mid new first.log second.log first.run second.run }
   ]
 
-  goes : (old new : Device N) → IsDisk die.flash die.honest old → holds die.honest new ≡ true → IsSome (die.recorded new.engine.nand) → IsDiskCall die old new → Goes old new
+  goes : (old new : Device N) → IsDisk die old → holds die.honest new ≡ true → IsSome (die.recorded new.engine.nand) → IsDiskCall die old new → Goes old new
   unfolding AsksCall ChangesOne
   goes old new was on some (inl (inl read)) = of_read old new was on some read
   goes old new was on some (inl (inr (inl (n, result, inl (command, asks))))) = of_change old new was on some n command result asks
@@ -100,23 +101,23 @@ module _ {N : Type 0} (die : DieWords N) where
   goes old new was on some (inr (result, asks)) = of_turn old new was on some result asks
 
   -- it stays a disk
-  disk_on : (old new : Device N) → IsDisk die.flash die.honest old → IsDiskCall die old new → IsDisk die.flash die.honest new
+  disk_on : (old new : Device N) → IsDisk die old → IsDiskCall die old new → IsDisk die new
   unfolding AsksCall ChangesOne
   disk_on old new was (inl (inl read)) = read.disk
   disk_on old new was (inl (inr (inl (n, result, inl (command, asks))))) = asks.disk
   disk_on old new was (inl (inr (inl (n, result, inr asks)))) = elim asks.trims [
-    | inl zeros ↦ subst (IsDisk die.flash die.honest) (sym zeros.3) asks.asks.disk
+    | inl zeros ↦ subst (IsDisk die) (sym zeros.3) asks.asks.disk
     | inr trims ↦ trims.1.disk
   ]
   disk_on old new was (inl (inr (inr (result, asks)))) = asks.disk
   disk_on old new was (inr (result, asks)) = asks.disk
 
-  disk_of : (n : ℕ) (old new : Device N) → IsDisk die.flash die.honest old → Times (IsDiskCall die) n old new → IsDisk die.flash die.honest new
+  disk_of : (n : ℕ) (old new : Device N) → IsDisk die old → Times (IsDiskCall die) n old new → IsDisk die new
   unfolding Times
-  disk_of zero old new was same = subst (IsDisk die.flash die.honest) (sym same) was
+  disk_of zero old new was same = subst (IsDisk die) (sym same) was
   disk_of (suc n) old new was (mid, before, call) = disk_on mid new (disk_of n old mid was before) call
 
-  run_of : (n : ℕ) (old new : Device N) → IsDisk die.flash die.honest old → Times (IsDiskCall die) n old new → holds die.honest new ≡ true → IsSome (die.recorded new.engine.nand)
+  run_of : (n : ℕ) (old new : Device N) → IsDisk die old → Times (IsDiskCall die) n old new → holds die.honest new ≡ true → IsSome (die.recorded new.engine.nand)
       → (log : List Operation) × DeviceCalls die old log new
   unfolding Times
   run_of zero old new was same on some = ([], subst (DeviceCalls die old []) (sym same) NoCall)

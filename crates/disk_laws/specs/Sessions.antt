@@ -1,5 +1,6 @@
 -- WHAT IS ASKED OF THE DEVICE OF A STORE in a session, through what guards its lost sectors and what opens it anew.
 use Rattle.std.specs.Prelude.{◌≡◌, Bool, false, true, ℕ, List, Option, Some, Result}
+use Rattle.page_layout.specs.View.{View}
 use Rattle.page_layout.specs.Flash.{Operation}
 use Rattle.onfi_cycles.specs.Driver.{DriverState}
 use Rattle.file_die.specs.Die.{FileState}
@@ -22,10 +23,10 @@ use Rattle.disk_server.specs.Synced.{Closes, RestsSynced, SyncsTask}
 use Rattle.disk_server.specs.Guarded.{ChangesGuarded, PassesOn, ReadsGuarded}
 use Rattle.disk_server.specs.Opened.{always_in, flash_in, is_honest_in, told_in}
 use Rattle.disk_server.specs.Reopened.{AsksDevice, ReadsDevice, Reopened, changes_in, flushes_of, reads_of, rests_of}
-use Rattle.disk_laws.specs.Runs.{AsksOneOf, DeviceCalls, DieWords, IsDiskCall}
+use Rattle.disk_laws.specs.Runs.{AsksOneOf, DeviceCalls, View, IsDiskCall}
 
 -- the words of the die over a store
-abbrev pub words_of : {S : Type 0} → (S → Held) → (honest : S → Bool) → DieWords (DriverState (FileState S))
+abbrev pub words_of : {S : Type 0} → (S → Held) → (honest : S → Bool) → View (DriverState (FileState S))
 words_of held honest = record {
   flash = flash_in held;
   recorded = told_in;

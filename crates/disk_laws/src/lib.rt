@@ -16,11 +16,11 @@ use page_layout::source::PageSource;
 /// What is found of a disk whose server is killed inside a call, or whose die is stopped in it, where the device still holds its array after the whole call: the die's pages at each moment mount, with the bytes
 /// from before the call; or, of a change that was done, from after it. A flush and a turn lose nothing. It is said by what the record of the die gained. (This project's.)
 pub fn kill_laws<N: Nand>()
-    ensures change { KilledChangeLaw N.flash N.recorded N.honest N.calm N.failed }
-    ensures flush { KilledFlushLaw N.flash N.recorded N.honest N.calm N.failed }
-    ensures turn { KilledTurnLaw N.flash N.recorded N.honest N.calm N.erases N.failed }
-    ensures as_it_was { FoundAsItWasLaw N.flash N.recorded N.honest }
-    ensures torn { FoundTornLaw N.flash N.recorded }
+    ensures change { KilledChangeLaw N.view }
+    ensures flush { KilledFlushLaw N.view }
+    ensures turn { KilledTurnLaw N.view }
+    ensures as_it_was { FoundAsItWasLaw N.view }
+    ensures torn { FoundTornLaw N.view }
 {}
 
 /// The die over any store tells a record at each moment, and its pages are the store's: so what `kill_laws` says of a die is said of the pages of a store. (This project's.)
@@ -41,11 +41,11 @@ pub fn loss_laws()
 /// loss of power, since all pages lasted: it is one array, each sector has the bytes that it had then or after one of the calls since, and it mounts with each cache that has room for what is stale. It is said of a device
 /// that holds its array through each call, by what the record of its die gained. (This project.)
 pub fn run_laws<N: Nand>()
-    ensures one { OneCallLaw (record { flash = N.flash; recorded = N.recorded; honest = N.honest; calm = N.calm; programs = N.programs; erases = N.erases; failed = N.failed }) }
-    ensures session { SessionLaw (record { flash = N.flash; recorded = N.recorded; honest = N.honest; calm = N.calm; programs = N.programs; erases = N.erases; failed = N.failed }) }
-    ensures killed { KilledRunLaw (record { flash = N.flash; recorded = N.recorded; honest = N.honest; calm = N.calm; programs = N.programs; erases = N.erases; failed = N.failed }) }
-    ensures cut { CutLeavesLaw (record { flash = N.flash; recorded = N.recorded; honest = N.honest; calm = N.calm; programs = N.programs; erases = N.erases; failed = N.failed }) }
-    ensures lost { LostRunLaw (record { flash = N.flash; recorded = N.recorded; honest = N.honest; calm = N.calm; programs = N.programs; erases = N.erases; failed = N.failed }) }
+    ensures one { OneCallLaw (record { flash = N.view.flash; recorded = N.view.recorded; honest = N.view.honest; calm = N.view.calm; programs = N.view.programs; erases = N.view.erases; failed = N.view.failed }) }
+    ensures session { SessionLaw (record { flash = N.view.flash; recorded = N.view.recorded; honest = N.view.honest; calm = N.view.calm; programs = N.view.programs; erases = N.view.erases; failed = N.view.failed }) }
+    ensures killed { KilledRunLaw (record { flash = N.view.flash; recorded = N.view.recorded; honest = N.view.honest; calm = N.view.calm; programs = N.view.programs; erases = N.view.erases; failed = N.view.failed }) }
+    ensures cut { CutLeavesLaw (record { flash = N.view.flash; recorded = N.view.recorded; honest = N.view.honest; calm = N.view.calm; programs = N.view.programs; erases = N.view.erases; failed = N.view.failed }) }
+    ensures lost { LostRunLaw (record { flash = N.view.flash; recorded = N.view.recorded; honest = N.view.honest; calm = N.view.calm; programs = N.view.programs; erases = N.view.erases; failed = N.view.failed }) }
 {}
 
 /// What a session asks of the disk in a store, whose lost sectors are guarded, and which is opened anew where its store was full: as long as it was not opened anew and its device is there, that was there from the first, and

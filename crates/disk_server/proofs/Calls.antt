@@ -1,11 +1,10 @@
 -- One call of the device as one call of a disk.
-use Rattle.std.proofs.Common.{◌≡◌, ◌≢◌, ◌*◌, ◌<◌, inl, inr, ℕ, Bool, true, false, List, [], length, replicate, Option, Some, None, Result, Ok, Err, refl, sym, ap, ◌∙◌, subst, arith}
+use Rattle.std.proofs.Common.{◌≡◌, ◌≢◌, ◌*◌, ◌<◌, inl, inr, ℕ, true, false, List, [], length, replicate, Option, Some, None, Result, Ok, Err, refl, sym, ap, ◌∙◌, subst, arith}
 use Rattle.std.specs.Prelude.{◌↔◌, slice_index, IfOk, IfErr, IsSome, OnOk, OnErr}
 use Rattle.std.specs.Option.{ForSome}
+use Rattle.page_layout.specs.View.{View}
 use Rattle.page_layout.specs.declared.geometry.Geometry.{Geometry}
 use Rattle.page_layout.specs.Array.{zeros}
-use Rattle.page_layout.specs.Flash.{Flash}
-use Rattle.page_layout.specs.Recording.{Recording}
 use Rattle.promises.specs.Step as step
 use Rattle.promises.specs.Step.{State, Command, Reply, ArrayStep, ReadStep, WriteStep, QuietStep}
 use Rattle.promises.proofs.StepLemmas as steps
@@ -172,52 +171,52 @@ no_bus old new (Err OutOfMemory) says going = λ x. cc
 no_bus old new (Err Damaged) says going = λ x. cc
 no_bus old new (Err BusFault) says going = λ x. (let no : ⊥ = cc in absurd no)
 
-module _ {N : Type 0} (flash : N → Flash) (recorded : N → Option Recording) (honest calm : N → Bool) (failed : N → ℕ) where
-  module _ (old new : Device N) (result : Result (Unit {0}) DeviceFault) (command : Command) (was : IsDisk flash honest old)
-      (stays : Stays honest calm failed old new) (refuses : Refuses failed old result new)
-      (means : honest old.engine.nand ≡ true → IsWell flash old → result ≢ Err BusFault → Means flash command old result new) where
-    back_here : holds honest new ≡ true → holds honest old ≡ true
-    back_here = back honest old new result stays.honest_is refuses.stopped
+module _ {N : Type 0} (view : View N) where
+  module _ (old new : Device N) (result : Result (Unit {0}) DeviceFault) (command : Command) (was : IsDisk view old)
+      (stays : Stays view old new) (refuses : Refuses view.failed old result new)
+      (means : view.honest old.engine.nand ≡ true → IsWell view.flash old → result ≢ Err BusFault → Means view.flash command old result new) where
+    back_here : holds view.honest new ≡ true → holds view.honest old ≡ true
+    back_here = back view.honest old new result stays.honest_is refuses.stopped
 
-    kept_here : result ≢ Err Damaged → result ≢ Err BusFault → holds honest new ≡ holds honest old
-    kept_here = kept honest old new result stays.honest_is refuses.stopped refuses.standing
+    kept_here : result ≢ Err Damaged → result ≢ Err BusFault → holds view.honest new ≡ holds view.honest old
+    kept_here = kept view.honest old new result stays.honest_is refuses.stopped refuses.standing
 
-    meant : holds honest new ≡ true → Means flash command old result new
+    meant : holds view.honest new ≡ true → Means view.flash command old result new
     meant h =
         let before = back_here h in
-        means (parts honest old before).0 (was.well before) (no_bus (ram old.engine) (ram new.engine) result refuses.says (parts honest new h).1)
+        means (parts view.honest old before).0 (was.well before) (no_bus (ram old.engine) (ram new.engine) result refuses.says (parts view.honest new h).1)
 
-    still_disk : IsDevice flash new → IsDisk flash honest new
+    still_disk : IsDevice view.flash new → IsDisk view new
     still_disk device = record { device = device; well = λ h. (meant h).well }
 
   -- ---- a write and a trim
 
-  module _ (n : ℕ) (set : List ℕ) (command : Command) (old new : Device N) (result : Result (Unit {0}) DeviceFault) (was : IsDisk flash honest old)
-      (its : Changes flash recorded honest calm failed n command old result new) where
-    pub changed_disk : IsDevice flash new → IsDisk flash honest new
+  module _ (n : ℕ) (set : List ℕ) (command : Command) (old new : Device N) (result : Result (Unit {0}) DeviceFault) (was : IsDisk view old)
+      (its : Changes view n command old result new) where
+    pub changed_disk : IsDevice view.flash new → IsDisk view new
     changed_disk = still_disk old new result command was its.stays its.refuses its.means
 
     module _ (within : n < old.engine.geometry.sectors) (its_long : length set ≡ old.engine.geometry.data_bytes)
-        (is : ArrayStep old.engine.geometry (state_in flash old) command (reply_of result) (state_in flash new)
-        → WriteStep old.engine.geometry (state_in flash old) n set (reply_of result) (state_in flash new)) where
-      set_here : holds honest new ≡ true → IsSetAt (n * old.engine.geometry.data_bytes) set (bytes flash honest old) result (bytes flash honest new)
+        (is : ArrayStep old.engine.geometry (state_in view.flash old) command (reply_of result) (state_in view.flash new)
+        → WriteStep old.engine.geometry (state_in view.flash old) n set (reply_of result) (state_in view.flash new)) where
+      set_here : holds view.honest new ≡ true → IsSetAt (n * old.engine.geometry.data_bytes) set (bytes view old) result (bytes view new)
       set_here h =
-          let before : holds honest old ≡ true = back_here old new result command was its.stays its.refuses its.means h in
-          let set_in = sets_at old.engine.geometry n set (state_in flash old) (state_in flash new) result (array_sectors_of flash honest old was before)
-          (omega (arith, array_count flash honest old, within)) its_long (is (meant old new result command was its.stays its.refuses its.means h).step) in
-          subst (λ (l : List ℕ). IsSetAt (n * old.engine.geometry.data_bytes) set (bytes flash honest old) result l) (sym (held flash honest new h))
-          (subst (λ (l : List ℕ). IsSetAt (n * old.engine.geometry.data_bytes) set l result (flat (array_in flash new))) (sym (held flash honest old before)) set_in)
+          let before : holds view.honest old ≡ true = back_here old new result command was its.stays its.refuses its.means h in
+          let set_in = sets_at old.engine.geometry n set (state_in view.flash old) (state_in view.flash new) result (array_sectors_of view old was before)
+          (omega (arith, array_count view old, within)) its_long (is (meant old new result command was its.stays its.refuses its.means h).step) in
+          subst (λ (l : List ℕ). IsSetAt (n * old.engine.geometry.data_bytes) set (bytes view old) result l) (sym (held view new h))
+          (subst (λ (l : List ℕ). IsSetAt (n * old.engine.geometry.data_bytes) set l result (flat (array_in view.flash new))) (sym (held view old before)) set_in)
 
-      pub keeps_here : KeepsOnError flash honest old (change_answer result) new
-      keeps_here = keeps_by (n * old.engine.geometry.data_bytes) set (bytes flash honest old) (bytes flash honest new) result set_here
+      pub keeps_here : KeepsOnError view old (change_answer result) new
+      keeps_here = keeps_by (n * old.engine.geometry.data_bytes) set (bytes view old) (bytes view new) result set_here
 
-      module _ (sized_is : new.engine.geometry ≡ old.engine.geometry) (device : IsDevice flash new) (task : Task) (body : List ℕ) where
+      module _ (sized_is : new.engine.geometry ≡ old.engine.geometry) (device : IsDevice view.flash new) (task : Task) (body : List ℕ) where
         changed : ((r : RequestError) → IsOfChange r → MayAnswer task r) → count_given task ≡ 0
-            → (IsSetAt (n * old.engine.geometry.data_bytes) set (bytes flash honest old) result (bytes flash honest new)
-            → Sets task body (bytes flash honest old) (answer_from (change_answer result) []) (bytes flash honest new))
-            → PerformsTask (contents_of flash honest) (holds honest) (λ d. false) task body old (answer_from (change_answer result) []) new
-        changed may none sets = performs_by (bytes flash honest) (holds honest) task body old (answer_from (change_answer result) []) new
-            (sized flash honest old new was (changed_disk device) sized_is)
+            → (IsSetAt (n * old.engine.geometry.data_bytes) set (bytes view old) result (bytes view new)
+            → Sets task body (bytes view old) (answer_from (change_answer result) []) (bytes view new))
+            → PerformsTask (contents_of view) (holds view.honest) (λ d. false) task body old (answer_from (change_answer result) []) new
+        changed may none sets = performs_by (bytes view) (holds view.honest) task body old (answer_from (change_answer result) []) new
+            (sized view old new was (changed_disk device) sized_is)
             (going_on result (kept_here old new result command was its.stays its.refuses its.means))
             (back_here old new result command was its.stays its.refuses its.means)
             (err_may task result may)
@@ -225,47 +224,47 @@ module _ {N : Type 0} (flash : N → Flash) (recorded : N → Option Recording) 
             (λ h. sets (set_here h))
 
   -- a write of a sector
-  module _ (n : ℕ) (body : List ℕ) (old new : Device N) (result : Result (Unit {0}) DeviceFault) (was : IsDisk flash honest old) (within : n < old.engine.geometry.sectors)
-      (its_long : length body ≡ old.engine.geometry.data_bytes) (its : Changes flash recorded honest calm failed n (step.Write n body) old result new) where
-    pub write_keeps : KeepsOnError flash honest old (change_answer result) new
+  module _ (n : ℕ) (body : List ℕ) (old new : Device N) (result : Result (Unit {0}) DeviceFault) (was : IsDisk view old) (within : n < old.engine.geometry.sectors)
+      (its_long : length body ≡ old.engine.geometry.data_bytes) (its : Changes view n (step.Write n body) old result new) where
+    pub write_keeps : KeepsOnError view old (change_answer result) new
     write_keeps = keeps_here n body (step.Write n body) old new result was its within its_long (λ s. s)
 
-    pub write_performs : new.engine.geometry ≡ old.engine.geometry → IsDevice flash new
-        → PerformsTask (contents_of flash honest) (holds honest) (λ d. false) (Write (n * old.engine.geometry.data_bytes) old.engine.geometry.data_bytes false) body old
+    pub write_performs : new.engine.geometry ≡ old.engine.geometry → IsDevice view.flash new
+        → PerformsTask (contents_of view) (holds view.honest) (λ d. false) (Write (n * old.engine.geometry.data_bytes) old.engine.geometry.data_bytes false) body old
         (answer_from (change_answer result) []) new
     write_performs same device = changed n body (step.Write n body) old new result was its within its_long (λ s. s) same device
         (Write (n * old.engine.geometry.data_bytes) old.engine.geometry.data_bytes false) body (λ r of. of) refl
-        (sets_write (n * old.engine.geometry.data_bytes) old.engine.geometry.data_bytes body (bytes flash honest old) (bytes flash honest new) result)
+        (sets_write (n * old.engine.geometry.data_bytes) old.engine.geometry.data_bytes body (bytes view old) (bytes view new) result)
 
   -- a trim of one
-  module _ (n : ℕ) (old new : Device N) (result : Result (Unit {0}) DeviceFault) (was : IsDisk flash honest old) (within : n < old.engine.geometry.sectors)
-      (its : Changes flash recorded honest calm failed n (step.Trim n) old result new) where
-    pub trim_keeps : KeepsOnError flash honest old (change_answer result) new
+  module _ (n : ℕ) (old new : Device N) (result : Result (Unit {0}) DeviceFault) (was : IsDisk view old) (within : n < old.engine.geometry.sectors)
+      (its : Changes view n (step.Trim n) old result new) where
+    pub trim_keeps : KeepsOnError view old (change_answer result) new
     trim_keeps = keeps_here n (zeros old.engine.geometry) (step.Trim n) old new result was its within (zeros_long old.engine.geometry) (λ s. s)
 
-    pub trim_performs : new.engine.geometry ≡ old.engine.geometry → IsDevice flash new
-        → PerformsTask (contents_of flash honest) (holds honest) (λ d. false) (Trim (n * old.engine.geometry.data_bytes) old.engine.geometry.data_bytes false) [] old
+    pub trim_performs : new.engine.geometry ≡ old.engine.geometry → IsDevice view.flash new
+        → PerformsTask (contents_of view) (holds view.honest) (λ d. false) (Trim (n * old.engine.geometry.data_bytes) old.engine.geometry.data_bytes false) [] old
         (answer_from (change_answer result) []) new
     trim_performs same device = changed n (zeros old.engine.geometry) (step.Trim n) old new result was its within (zeros_long old.engine.geometry) (λ s. s) same device
         (Trim (n * old.engine.geometry.data_bytes) old.engine.geometry.data_bytes false) [] (λ r of. of) refl
-        (sets_trim (n * old.engine.geometry.data_bytes) old.engine.geometry.data_bytes (bytes flash honest old) (bytes flash honest new) result)
+        (sets_trim (n * old.engine.geometry.data_bytes) old.engine.geometry.data_bytes (bytes view old) (bytes view new) result)
 
   -- ---- a flush and a turn
 
-  module _ (command : Command) (old new : Device N) (result : Result (Unit {0}) DeviceFault) (was : IsDisk flash honest old)
-      (its : Upkeeps flash recorded honest calm failed command old result new)
-      (quiet : ArrayStep old.engine.geometry (state_in flash old) command (reply_of result) (state_in flash new) → array_in flash new ≡ array_in flash old) where
-    pub upkept_disk : IsDevice flash new → IsDisk flash honest new
+  module _ (command : Command) (old new : Device N) (result : Result (Unit {0}) DeviceFault) (was : IsDisk view old)
+      (its : Upkeeps view command old result new)
+      (quiet : ArrayStep old.engine.geometry (state_in view.flash old) command (reply_of result) (state_in view.flash new) → array_in view.flash new ≡ array_in view.flash old) where
+    pub upkept_disk : IsDevice view.flash new → IsDisk view new
     upkept_disk = still_disk old new result command was its.stays its.refuses its.means
 
-    same_bytes : holds honest new ≡ true → bytes flash honest new ≡ bytes flash honest old
+    same_bytes : holds view.honest new ≡ true → bytes view new ≡ bytes view old
     same_bytes h =
-        let before : holds honest old ≡ true = back_here old new result command was its.stays its.refuses its.means h in
-        held flash honest new h ∙ ap flat (quiet (meant old new result command was its.stays its.refuses its.means h).step) ∙ sym (held flash honest old before)
+        let before : holds view.honest old ≡ true = back_here old new result command was its.stays its.refuses its.means h in
+        held view new h ∙ ap flat (quiet (meant old new result command was its.stays its.refuses its.means h).step) ∙ sym (held view old before)
 
-    idled : new.engine.geometry ≡ old.engine.geometry → IsDevice flash new → Idles (contents_of flash honest) (holds honest) (λ d. false) old (rest_answer result) new
+    idled : new.engine.geometry ≡ old.engine.geometry → IsDevice view.flash new → Idles (contents_of view) (holds view.honest) (λ d. false) old (rest_answer result) new
     idled same device = record {
-      sized = sized flash honest old new was (upkept_disk device) same;
+      sized = sized view old new was (upkept_disk device) same;
       kept = rest_going result (kept_here old new result command was its.stays its.refuses its.means);
       was_honest = back_here old new result command was its.stays its.refuses its.means;
       calm_is = refl;
@@ -275,33 +274,33 @@ module _ {N : Type 0} (flash : N → Flash) (recorded : N → Option Recording) 
       stays = λ h p. inr (ap (λ (l : List ℕ). slice_index l p) (same_bytes h));
     }
 
-    flushed : new.engine.geometry ≡ old.engine.geometry → IsDevice flash new
-        → PerformsTask (contents_of flash honest) (holds honest) (λ d. false) Flush [] old (answer_from (flush_answer result) []) new
-    flushed same device = performs_by (bytes flash honest) (holds honest) Flush [] old (answer_from (flush_answer result) []) new
-        (sized flash honest old new was (upkept_disk device) same)
+    flushed : new.engine.geometry ≡ old.engine.geometry → IsDevice view.flash new
+        → PerformsTask (contents_of view) (holds view.honest) (λ d. false) Flush [] old (answer_from (flush_answer result) []) new
+    flushed same device = performs_by (bytes view) (holds view.honest) Flush [] old (answer_from (flush_answer result) []) new
+        (sized view old new was (upkept_disk device) same)
         (flush_going result (kept_here old new result command was its.stays its.refuses its.means))
         (back_here old new result command was its.stays its.refuses its.means)
         (flush_may result)
         (flush_gives result)
-        (λ h. sets_flush (bytes flash honest old) (bytes flash honest new) result (same_bytes h))
+        (λ h. sets_flush (bytes view old) (bytes view new) result (same_bytes h))
 
-  module _ (old new : Device N) (result : Result (Unit {0}) DeviceFault) (was : IsDisk flash honest old) where
-    pub flush_performs : Upkeeps flash recorded honest calm failed step.Flush old result new → new.engine.geometry ≡ old.engine.geometry → IsDevice flash new
-        → PerformsTask (contents_of flash honest) (holds honest) (λ d. false) Flush [] old (answer_from (flush_answer result) []) new
-    flush_performs its = flushed step.Flush old new result was its (steps.quiet old.engine.geometry (state_in flash old) (state_in flash new) (reply_of result)).0
+  module _ (old new : Device N) (result : Result (Unit {0}) DeviceFault) (was : IsDisk view old) where
+    pub flush_performs : Upkeeps view step.Flush old result new → new.engine.geometry ≡ old.engine.geometry → IsDevice view.flash new
+        → PerformsTask (contents_of view) (holds view.honest) (λ d. false) Flush [] old (answer_from (flush_answer result) []) new
+    flush_performs its = flushed step.Flush old new result was its (steps.quiet old.engine.geometry (state_in view.flash old) (state_in view.flash new) (reply_of result)).0
 
-    pub flush_disk : Upkeeps flash recorded honest calm failed step.Flush old result new → IsDevice flash new → IsDisk flash honest new
-    flush_disk its = upkept_disk step.Flush old new result was its (steps.quiet old.engine.geometry (state_in flash old) (state_in flash new) (reply_of result)).0
+    pub flush_disk : Upkeeps view step.Flush old result new → IsDevice view.flash new → IsDisk view new
+    flush_disk its = upkept_disk step.Flush old new result was its (steps.quiet old.engine.geometry (state_in view.flash old) (state_in view.flash new) (reply_of result)).0
 
-    pub turn_idles : Upkeeps flash recorded honest calm failed step.Turn old result new → new.engine.geometry ≡ old.engine.geometry → IsDevice flash new
-        → Idles (contents_of flash honest) (holds honest) (λ d. false) old (rest_answer result) new
-    turn_idles its = idled step.Turn old new result was its (steps.quiet old.engine.geometry (state_in flash old) (state_in flash new) (reply_of result)).1
+    pub turn_idles : Upkeeps view step.Turn old result new → new.engine.geometry ≡ old.engine.geometry → IsDevice view.flash new
+        → Idles (contents_of view) (holds view.honest) (λ d. false) old (rest_answer result) new
+    turn_idles its = idled step.Turn old new result was its (steps.quiet old.engine.geometry (state_in view.flash old) (state_in view.flash new) (reply_of result)).1
 
-    pub turn_stops : Upkeeps flash recorded honest calm failed step.Turn old result new → (rest_answer result ≡ Err fault.Failed) ↔ IsSome (stop_of new.engine.fault)
+    pub turn_stops : Upkeeps view step.Turn old result new → (rest_answer result ≡ Err fault.Failed) ↔ IsSome (stop_of new.engine.fault)
     turn_stops its = (
       rest_stops (ram old.engine) (ram new.engine) result its.refuses.says,
       rest_stopped new.engine.fault result its.refuses.standing,
     )
 
-    pub turn_disk : Upkeeps flash recorded honest calm failed step.Turn old result new → IsDevice flash new → IsDisk flash honest new
-    turn_disk its = upkept_disk step.Turn old new result was its (steps.quiet old.engine.geometry (state_in flash old) (state_in flash new) (reply_of result)).1
+    pub turn_disk : Upkeeps view step.Turn old result new → IsDevice view.flash new → IsDisk view new
+    turn_disk its = upkept_disk step.Turn old new result was its (steps.quiet old.engine.geometry (state_in view.flash old) (state_in view.flash new) (reply_of result)).1

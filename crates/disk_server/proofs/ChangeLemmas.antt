@@ -1,7 +1,6 @@
 -- One change of a sector, by what its calls say of it; and calls of sectors one after another.
-use Rattle.std.proofs.Common.{inl, inr, ℕ, Bool, true, false, [], Option, Result, Ok, rules}
-use Rattle.page_layout.specs.Flash.{Flash}
-use Rattle.page_layout.specs.Recording.{Recording}
+use Rattle.std.proofs.Common.{inl, inr, ℕ, Bool, true, false, [], Result, Ok, rules}
+use Rattle.page_layout.specs.View.{View}
 use Rattle.promises.specs.Step.{Command}
 use Rattle.file_die.specs.Store.{Held}
 use Rattle.nbd_stream.specs.declared.fault.DiskFault.{DiskFault}
@@ -15,12 +14,12 @@ use Rattle.disk_server.specs.Asked.{AsksCall}
 use Rattle.disk_server.specs.Disk.{AsksChange, AsksClear, ChangesOne}
 use Rattle.disk_server.specs.Reopened.{Reopened, AsksDevice, changes_in, changes_of, clears_of}
 
-module _ {N : Type 0} (flash : N → Flash) (recorded : N → Option Recording) (honest calm : N → Bool) (programs erases failed : N → ℕ) (old new : Device N) (n : ℕ) (result : Result (Unit {0}) DiskFault) where
-  pub sets_one : (command : Command) → AsksChange flash recorded honest calm failed n command old result new → ChangesOne flash recorded honest calm programs erases failed old new
+module _ {N : Type 0} (view : View N) (old new : Device N) (n : ℕ) (result : Result (Unit {0}) DiskFault) where
+  pub sets_one : (command : Command) → AsksChange view n command old result new → ChangesOne view old new
   unfolding ChangesOne
   sets_one command asks = (n, result, inl (command, asks))
 
-  pub clears_one : AsksClear flash recorded honest calm programs erases failed n old result new → ChangesOne flash recorded honest calm programs erases failed old new
+  pub clears_one : AsksClear view n old result new → ChangesOne view old new
   unfolding ChangesOne
   clears_one asks = (n, result, inr asks)
 

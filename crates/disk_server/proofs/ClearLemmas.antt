@@ -5,8 +5,7 @@ use Rattle.std.specs.List.{list_all}
 use Rattle.std.specs.Option.{ForSome}
 use Rattle.std.proofs.lemmas.Bool.{and_parts, eqb-true, false≢true}
 use Rattle.std.proofs.lemmas.List.{ext_get_or, get_or-replicate, length-replicate}
-use Rattle.page_layout.specs.Flash.{Flash}
-use Rattle.page_layout.specs.Recording.{Recording}
+use Rattle.page_layout.specs.View.{View}
 use Rattle.promises.specs.Step as step
 use Rattle.nbd_stream.specs.declared.fault.DiskFault.{DiskFault}
 use Rattle.nbd_stream.specs.declared.fault.DiskFault.TheVariants as fault
@@ -82,7 +81,7 @@ not_stopped : {X : Type 0} (done : Unit {0}) (o : Option DeviceFault) → ForSom
 not_stopped done None h = refl
 not_stopped done (Some e) h = (let both = (h e refl).0 in let no : ⊥ = cc in absurd no)
 
-module _ {N : Type 0} (flash : N → Flash) (recorded : N → Option Recording) (honest calm : N → Bool) (failed : N → ℕ) (n : ℕ) (old mid new : Device N)
+module _ {N : Type 0} (view : View N) (n : ℕ) (old mid new : Device N)
     (read : Result (Unit {0}) DiskFault) (given : List ℕ) where
   going_before : stop_of mid.engine.fault ≡ None → (IsSome (stop_of old.engine.fault) → (read ≡ Err fault.Failed) × (mid ≡ old)) → (o : Option DeviceFault) → stop_of old.engine.fault ≡ o → o ≡ None
   going_before none stopped None is = refl
@@ -91,22 +90,22 @@ module _ {N : Type 0} (flash : N → Flash) (recorded : N → Option Recording) 
       let both : Some e ≡ None = sym is ∙ ap (λ d. stop_of d.engine.fault) (sym same) ∙ none in
       (let no : ⊥ = cc in absurd no)
 
-  still_by : honest mid.engine.nand ≡ honest old.engine.nand → (IsSome (stop_of old.engine.fault) → (read ≡ Err fault.Failed) × (mid ≡ old))
+  still_by : view.honest mid.engine.nand ≡ view.honest old.engine.nand → (IsSome (stop_of old.engine.fault) → (read ≡ Err fault.Failed) × (mid ≡ old))
       → (answer : Result (Unit {0}) DeviceFault) (result : Result (Unit {0}) DiskFault) → result ≡ change_answer answer → ForSome (stop_of mid.engine.fault) (λ e. (answer ≡ Err e) × (new ≡ mid))
-      → OnOk (answer_from result []) (holds honest mid ≡ holds honest old)
+      → OnOk (answer_from result []) (holds view.honest mid ≡ holds view.honest old)
   still_by same stopped (Ok done) (Ok done') told standing =
       let none : stop_of mid.engine.fault ≡ None = not_stopped done (stop_of mid.engine.fault) standing in
-      holds_same honest old mid same (going_before none stopped (stop_of old.engine.fault) refl) none
+      holds_same view.honest old mid same (going_before none stopped (stop_of old.engine.fault) refl) none
   still_by same stopped (Err e) (Ok done') told standing = (let no : ⊥ = cc in absurd no)
   still_by same stopped answer (Err e) told standing = tt
 
   -- a trim that was done of a sector that was read before, whatever came of that
-  pub trimmed : (size size' : ℕ) → size' ≡ size → (result : Result (Unit {0}) DiskFault) → honest mid.engine.nand ≡ honest old.engine.nand → (IsSome (stop_of old.engine.fault) → (read ≡ Err fault.Failed) × (mid ≡ old))
-      → AsksChange flash recorded honest calm failed n (step.Trim n) mid result new
-      → PerformsTask (contents_of flash honest) (holds honest) (λ d. false) (Read (n * size) size) [] old (answer_from read given) mid
-      → PerformsTask (contents_of flash honest) (holds honest) (λ d. false) (Trim (n * size') size' false) [] mid (answer_from result []) new
-      → PerformsTask (contents_of flash honest) (holds honest) (λ d. false) (Trim (n * size) size false) [] old (answer_from result []) new
+  pub trimmed : (size size' : ℕ) → size' ≡ size → (result : Result (Unit {0}) DiskFault) → view.honest mid.engine.nand ≡ view.honest old.engine.nand → (IsSome (stop_of old.engine.fault) → (read ≡ Err fault.Failed) × (mid ≡ old))
+      → AsksChange view n (step.Trim n) mid result new
+      → PerformsTask (contents_of view) (holds view.honest) (λ d. false) (Read (n * size) size) [] old (answer_from read given) mid
+      → PerformsTask (contents_of view) (holds view.honest) (λ d. false) (Trim (n * size') size' false) [] mid (answer_from result []) new
+      → PerformsTask (contents_of view) (holds view.honest) (λ d. false) (Trim (n * size) size false) [] old (answer_from result []) new
   trimmed size size' size_is result same stopped asks one two =
-      read_then (contents_of flash honest) (holds honest) (λ d. false) (n * size) size (n * size) size old mid new (answer_from read given) (answer_from result [])
+      read_then (contents_of view) (holds view.honest) (λ d. false) (n * size) size (n * size) size old mid new (answer_from read given) (answer_from result [])
       (still_by same stopped asks.answer result asks.told asks.changes.refuses.stopped) one
-      (subst (λ k. PerformsTask (contents_of flash honest) (holds honest) (λ d. false) (Trim (n * k) k false) [] mid (answer_from result []) new) size_is two)
+      (subst (λ k. PerformsTask (contents_of view) (holds view.honest) (λ d. false) (Trim (n * k) k false) [] mid (answer_from result []) new) size_is two)

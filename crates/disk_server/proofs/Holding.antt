@@ -2,9 +2,9 @@
 use Rattle.std.proofs.Common.{◌≡◌, ◌≢◌, ◌*◌, ◌<◌, ◌&&◌, ℕ, Bool, true, false, List, length, replicate, Option, Some, None, Result, Err, refl, sym, ap, ◌∙◌, subst, arith}
 use Rattle.std.specs.Prelude.{if◌then◌else◌}
 use Rattle.std.specs.Option.{ForSome, is_none}
+use Rattle.page_layout.specs.View.{View}
 use Rattle.page_layout.specs.declared.geometry.Geometry.{Geometry}
 use Rattle.page_layout.specs.Array.{zeros}
-use Rattle.page_layout.specs.Flash.{Flash}
 use Rattle.disk_server.specs.Flat.{AreSectors, flat}
 use Rattle.disk_server.proofs.FlatLemmas.{flat_law}
 use Rattle.collection.specs.declared.fault.EngineFault.{EngineFault}
@@ -76,32 +76,32 @@ module _ {N : Type 0} (honest : N → Bool) where
 
 -- ---- its bytes
 
-module _ {N : Type 0} (flash : N → Flash) (honest : N → Bool) where
+module _ {N : Type 0} (view : View N) where
   abbrev pub bytes : Device N → List ℕ
-  bytes d = flat (sectors_of flash honest d)
+  bytes d = flat (sectors_of view d)
 
-  pub held : (d : Device N) → holds honest d ≡ true → bytes d ≡ flat (array_in flash d)
-  held d h = ap (λ (b : Bool). flat (if b then array_in flash d else replicate d.engine.geometry.sectors (zeros d.engine.geometry))) h
+  pub held : (d : Device N) → holds view.honest d ≡ true → bytes d ≡ flat (array_in view.flash d)
+  held d h = ap (λ (b : Bool). flat (if b then array_in view.flash d else replicate d.engine.geometry.sectors (zeros d.engine.geometry))) h
 
-  are_sectors : (d : Device N) → IsDisk flash honest d → AreSectors d.engine.geometry.data_bytes (sectors_of flash honest d)
-  are_sectors d is = chosen_sectors d.engine.geometry (flash d.engine.nand).image (holds honest d) (λ h. (is.well h).truth.whole)
+  are_sectors : (d : Device N) → IsDisk view d → AreSectors d.engine.geometry.data_bytes (sectors_of view d)
+  are_sectors d is = chosen_sectors d.engine.geometry (view.flash d.engine.nand).image (holds view.honest d) (λ h. (is.well h).truth.whole)
 
-  count_is : (d : Device N) → length (sectors_of flash honest d) ≡ d.engine.geometry.sectors
-  count_is d = chosen_long d.engine.geometry (flash d.engine.nand).image (holds honest d)
+  count_is : (d : Device N) → length (sectors_of view d) ≡ d.engine.geometry.sectors
+  count_is d = chosen_long d.engine.geometry (view.flash d.engine.nand).image (holds view.honest d)
 
-  pub long : (d : Device N) → IsDisk flash honest d → length (bytes d) ≡ d.engine.geometry.sectors * d.engine.geometry.data_bytes
+  pub long : (d : Device N) → IsDisk view d → length (bytes d) ≡ d.engine.geometry.sectors * d.engine.geometry.data_bytes
   long d is =
       let g : Geometry = d.engine.geometry in
-      let some : 0 < length (sectors_of flash honest d) = omega (arith, count_is d, g.limits.sector_count.least) in
-      (flat_law g.data_bytes 0 (zeros g) (sectors_of flash honest d) (are_sectors d is) some (zeros_long g)).0
+      let some : 0 < length (sectors_of view d) = omega (arith, count_is d, g.limits.sector_count.least) in
+      (flat_law g.data_bytes 0 (zeros g) (sectors_of view d) (are_sectors d is) some (zeros_long g)).0
       ∙ ap (λ (k : ℕ). k * g.data_bytes) (count_is d)
 
-  pub sized : (old new : Device N) → IsDisk flash honest old → IsDisk flash honest new → new.engine.geometry ≡ old.engine.geometry → length (bytes new) ≡ length (bytes old)
+  pub sized : (old new : Device N) → IsDisk view old → IsDisk view new → new.engine.geometry ≡ old.engine.geometry → length (bytes new) ≡ length (bytes old)
   sized old new was is same = long new is ∙ ap (λ (g : Geometry). g.sectors * g.data_bytes) same ∙ sym (long old was)
 
   -- the array as such, of one that holds it
-  pub array_sectors_of : (d : Device N) → IsDisk flash honest d → holds honest d ≡ true → AreSectors d.engine.geometry.data_bytes (array_in flash d)
-  array_sectors_of d is h = array_sectors d.engine.geometry (flash d.engine.nand).image (is.well h).truth.whole
+  pub array_sectors_of : (d : Device N) → IsDisk view d → holds view.honest d ≡ true → AreSectors d.engine.geometry.data_bytes (array_in view.flash d)
+  array_sectors_of d is h = array_sectors d.engine.geometry (view.flash d.engine.nand).image (is.well h).truth.whole
 
-  pub array_count : (d : Device N) → length (array_in flash d) ≡ d.engine.geometry.sectors
-  array_count d = array_long d.engine.geometry (flash d.engine.nand).image
+  pub array_count : (d : Device N) → length (array_in view.flash d) ≡ d.engine.geometry.sectors
+  array_count d = array_long d.engine.geometry (view.flash d.engine.nand).image

@@ -1,10 +1,9 @@
 -- What the definitions of a device as a disk come to.
-use Rattle.std.proofs.Common.{◌≡◌, ◌+◌, ◌-◌, ◌*◌, ◌^◌, ◌&&◌, inl, inr, ℕ, Bool, true, false, List, [], Option, Result, Ok, Err, refl, sym, ap, ◌∙◌, arith}
+use Rattle.std.proofs.Common.{◌≡◌, ◌+◌, ◌-◌, ◌*◌, ◌^◌, ◌&&◌, inl, inr, ℕ, Bool, true, false, List, [], Result, Ok, Err, refl, sym, ap, ◌∙◌, arith}
 use Rattle.std.specs.Prelude.{slice_range, not, ◌==◌}
 use Rattle.std.proofs.lemmas.Bool.{eq-eqb, lt-ltb}
+use Rattle.page_layout.specs.View.{View}
 use Rattle.page_layout.specs.Array.{zeros}
-use Rattle.page_layout.specs.Flash.{Flash}
-use Rattle.page_layout.specs.Recording.{Recording}
 use Rattle.promises.specs.Step.{Flush}
 use Rattle.allocation.specs.State.{free_count}
 use Rattle.image_check.specs.Stale.{stale_sectors}
@@ -20,18 +19,18 @@ use Rattle.disk_server.specs.Laws.{BelowLaw, LengthLaw, SectorLaw, LastsLaw, Hol
 use Rattle.disk_server.proofs.Sizes.{zeros_long}
 use Rattle.disk_server.proofs.Holding.{parts, holds_from, held, long, array_sectors_of, array_count}
 
-pub length_law : {N : Type 0} (flash : N → Flash) (honest : N → Bool) → LengthLaw flash honest
-length_law flash honest d is = long flash honest d is
+pub length_law : {N : Type 0} (view : View N) → LengthLaw view
+length_law view d is = long view d is
 
-pub sector_law : {N : Type 0} (flash : N → Flash) (honest : N → Bool) → SectorLaw flash honest
-sector_law flash honest d n is h within =
+pub sector_law : {N : Type 0} (view : View N) → SectorLaw view
+sector_law view d n is h within =
     let size : ℕ = d.engine.geometry.data_bytes in
-    ap (λ (l : List ℕ). slice_range l (n * size) (n * size + size)) (held flash honest d h)
-    ∙ (flat_law size n (zeros d.engine.geometry) (array_in flash d) (array_sectors_of flash honest d is h) (omega (arith, array_count flash honest d, within))
+    ap (λ (l : List ℕ). slice_range l (n * size) (n * size + size)) (held view d h)
+    ∙ (flat_law size n (zeros d.engine.geometry) (array_in view.flash d) (array_sectors_of view d is h) (omega (arith, array_count view d, within))
     (zeros_long d.engine.geometry)).1
 
-pub lasts_law : {N : Type 0} (flash : N → Flash) (honest : N → Bool) → LastsLaw flash honest
-lasts_law flash honest d = refl
+pub lasts_law : {N : Type 0} (view : View N) → LastsLaw view
+lasts_law view d = refl
 
 pub holds_law : {N : Type 0} (honest : N → Bool) → HoldsLaw honest
 holds_law honest d = (parts honest d, λ its. holds_from honest d its.0 its.1)
@@ -62,8 +61,8 @@ closed BusFault = ((λ e. cc), λ o. (elim o [ inl is ↦ cc | inr its ↦ (let 
 
 -- ---- what a mark says
 
-pub below_law : {N : Type 0} (flash : N → Flash) (honest : N → Bool) → BelowLaw flash honest
-below_law flash honest d is h = (is.well h).truth.below
+pub below_law : {N : Type 0} (view : View N) → BelowLaw view
+below_law view d is h = (is.well h).truth.below
 
 -- a device that takes changes is not read-only, and its last sequence is not given out
 takes : (a b : Bool) → (not a && not b) ≡ true → (a ≡ false) × (b ≡ false)
@@ -71,11 +70,11 @@ takes false false e = (refl, refl)
 takes false true e = (let no : ⊥ = cc in absurd no)
 takes true b e = (let no : ⊥ = cc in absurd no)
 
-module _ {N : Type 0} (flash : N → Flash) (recorded : N → Option Recording) (honest calm : N → Bool) (failed : N → ℕ) (old new : Device N) (was : IsDisk flash honest old) (is : IsDisk flash honest new)
-    (h : holds honest old ≡ true) (going : takes_changes new ≡ true) where
-  written_by : (answer : Result (Unit {0}) DeviceFault) → Ok tt ≡ flush_answer answer → Upkeeps flash recorded honest calm failed Flush old answer new
-      → stale_sectors old.engine.geometry (flash new.engine.nand).image ≡ []
-  written_by (Ok done) told upkeeps = ((upkeeps.logs (parts honest old h).0 (λ e. cc)).flushed (was.well h) refl refl).fresh
+module _ {N : Type 0} (view : View N) (old new : Device N) (was : IsDisk view old) (is : IsDisk view new)
+    (h : holds view.honest old ≡ true) (going : takes_changes new ≡ true) where
+  written_by : (answer : Result (Unit {0}) DeviceFault) → Ok tt ≡ flush_answer answer → Upkeeps view Flush old answer new
+      → stale_sectors old.engine.geometry (view.flash new.engine.nand).image ≡ []
+  written_by (Ok done) told upkeeps = ((upkeeps.logs (parts view.honest old h).0 (λ e. cc)).flushed (was.well h) refl refl).fresh
   written_by (Err (ReadOnly good wanted grown)) told upkeeps =
       let closed : new.read_only ≡ true = is.device.read_only ∙ lt-ltb (free_count (ram new.engine).blocks) 5 upkeeps.refuses.says.scarce in
       let no : false ≡ true = sym (takes new.read_only (new.engine.next == 2 ^ 64 - 1) going).0 ∙ closed in
@@ -89,5 +88,5 @@ module _ {N : Type 0} (flash : N → Flash) (recorded : N → Option Recording) 
   written_by (Err Damaged) told upkeeps = (let no : ⊥ = cc in absurd no)
   written_by (Err BusFault) told upkeeps = (let no : ⊥ = cc in absurd no)
 
-pub written_law : {N : Type 0} (flash : N → Flash) (recorded : N → Option Recording) (honest calm : N → Bool) (failed : N → ℕ) → WrittenLaw flash recorded honest calm failed
-written_law flash recorded honest calm failed old new was is asks h going = written_by flash recorded honest calm failed old new was is h going asks.answer asks.told asks.upkeeps
+pub written_law : {N : Type 0} (view : View N) → WrittenLaw view
+written_law view old new was is asks h going = written_by view old new was is h going asks.answer asks.told asks.upkeeps

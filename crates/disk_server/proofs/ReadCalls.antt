@@ -1,14 +1,13 @@
 -- A read of the device as one of a disk.
-use Rattle.std.proofs.Common.{◌≡◌, ◌≢◌, ◌+◌, ◌*◌, ◌<◌, ◌≤◌, ℕ, Bool, true, false, List, [], length, Option, Some, None, Result, Ok, Err, refl, sym, ap, ◌∙◌, subst, arith}
+use Rattle.std.proofs.Common.{◌≡◌, ◌≢◌, ◌+◌, ◌*◌, ◌<◌, ◌≤◌, ℕ, true, false, List, [], length, Some, None, Result, Ok, Err, refl, sym, ap, ◌∙◌, subst, arith}
 use Rattle.std.specs.Prelude.{IsOk, IfOk, IfErr, OnOk}
 use Rattle.std.specs.Option.{ForSome}
 use Rattle.std.proofs.lemmas.Option.{get_or_from_slice_get}
+use Rattle.page_layout.specs.View.{View}
 use Rattle.page_layout.specs.declared.geometry.Geometry.{Geometry}
 use Rattle.page_layout.specs.Array.{zeros}
 use Rattle.page_layout.specs.Page.{Page}
-use Rattle.page_layout.specs.Flash.{Flash}
 use Rattle.page_layout.specs.OnlyReads.{OnlyReads}
-use Rattle.page_layout.specs.Recording.{Recording}
 use Rattle.promises.specs.Step as step
 use Rattle.promises.specs.Step.{State, ReadStep, ArrayStep}
 use Rattle.promises.proofs.StepLemmas as steps
@@ -89,72 +88,72 @@ given_by g n out s t (Err OutOfMemory) within h = absurd h
 given_by g n out s t (Err Damaged) within h = absurd h
 given_by g n out s t (Err BusFault) within h = absurd h
 
-module _ {N : Type 0} (flash : N → Flash) (honest : N → Bool) (n : ℕ) (old new : Device N) (result : Result (Unit {0}) DeviceFault) (p q : Page) (out : List ℕ)
-    (was : IsDisk flash honest old) (same : honest new.engine.nand ≡ honest old.engine.nand)
+module _ {N : Type 0} (view : View N) (n : ℕ) (old new : Device N) (result : Result (Unit {0}) DeviceFault) (p q : Page) (out : List ℕ)
+    (was : IsDisk view old) (same : view.honest new.engine.nand ≡ view.honest old.engine.nand)
     (stopped : ForSome (stop_of old.engine.fault) (λ fault. (result ≡ Err fault) × (new ≡ old)))
     (left : LeavesRead n result (ram old.engine) (ram new.engine) p q out) where
   pub geometry_is : new.engine.geometry ≡ old.engine.geometry
   geometry_is = read_geometry n result (ram old.engine) (ram new.engine) p q out left
 
-  no_bus : holds honest new ≡ true → result ≢ Err BusFault
-  no_bus h = read_going n result (ram old.engine) (ram new.engine) p q out left (parts honest new h).1
+  no_bus : holds view.honest new ≡ true → result ≢ Err BusFault
+  no_bus h = read_going n result (ram old.engine) (ram new.engine) p q out left (parts view.honest new h).1
 
-  back_here : holds honest new ≡ true → holds honest old ≡ true
-  back_here = back honest old new result same stopped
+  back_here : holds view.honest new ≡ true → holds view.honest old ≡ true
+  back_here = back view.honest old new result same stopped
 
-  pub read_disk : (honest old.engine.nand ≡ true → IsWell flash old → result ≢ Err BusFault → IsWell flash new) → IsDevice flash new → IsDisk flash honest new
+  pub read_disk : (view.honest old.engine.nand ≡ true → IsWell view.flash old → result ≢ Err BusFault → IsWell view.flash new) → IsDevice view.flash new → IsDisk view new
   read_disk well device = record {
     device = device;
-    well = λ h. (let before = back_here h in well (parts honest old before).0 (was.well before) (no_bus h));
+    well = λ h. (let before = back_here h in well (parts view.honest old before).0 (was.well before) (no_bus h));
   }
 
   -- it asked its die for reads, and left it as it was
-  pub read_asks : (recorded : N → Option Recording) (calm : N → Bool) (programs erases failed : N → ℕ) → OnlyReads flash honest calm programs erases failed old.engine.nand new.engine.nand
-      → HasLimitsOf old.engine.mapping new.engine.mapping → IsDisk flash honest new
-      → (honest old.engine.nand ≡ true → result ≢ Err BusFault → flash new.engine.nand ≡ flash old.engine.nand)
-      → (honest old.engine.nand ≡ true → result ≢ Err BusFault → recorded new.engine.nand ≡ recorded old.engine.nand)
-      → (honest old.engine.nand ≡ true → IsWell flash old → result ≢ Err BusFault → old.engine.mapping.capacity + old.engine.geometry.pages ≤ 65536
-      → IsMountable old.engine.geometry (old.engine.mapping.capacity + old.engine.geometry.pages) (flash new.engine.nand).image)
-      → AsksRead flash recorded honest calm programs erases failed old new
-  read_asks recorded calm programs erases failed only limits disk same told mounts = record {
+  pub read_asks : (view : View N) → OnlyReads view old.engine.nand new.engine.nand
+      → HasLimitsOf old.engine.mapping new.engine.mapping → IsDisk view new
+      → (view.honest old.engine.nand ≡ true → result ≢ Err BusFault → view.flash new.engine.nand ≡ view.flash old.engine.nand)
+      → (view.honest old.engine.nand ≡ true → result ≢ Err BusFault → view.recorded new.engine.nand ≡ view.recorded old.engine.nand)
+      → (view.honest old.engine.nand ≡ true → IsWell view.flash old → result ≢ Err BusFault → old.engine.mapping.capacity + old.engine.geometry.pages ≤ 65536
+      → IsMountable old.engine.geometry (old.engine.mapping.capacity + old.engine.geometry.pages) (view.flash new.engine.nand).image)
+      → AsksRead view old new
+  read_asks view only limits disk same told mounts = record {
     only_reads = only;
     limits = limits;
     disk = disk;
     back = back_here;
     leaves = λ held on. record {
-      die_same = same (parts honest old held).0 (no_bus on);
-      told_same = told (parts honest old held).0 (no_bus on);
-      mountable = mounts (parts honest old held).0 (was.well held) (no_bus on);
+      die_same = same (parts view.honest old held).0 (no_bus on);
+      told_same = told (parts view.honest old held).0 (no_bus on);
+      mountable = mounts (parts view.honest old held).0 (was.well held) (no_bus on);
     };
   }
 
   -- a device that holds its array still has given the sector
   pub read_given : n < old.engine.geometry.sectors
-      → (honest old.engine.nand ≡ true → IsWell flash old → result ≢ Err BusFault
-      → ArrayStep old.engine.geometry (state_in flash old) (step.Read n) (read_reply_of out result) (state_in flash new))
-      → holds honest new ≡ true → IsOk (read_answer result)
+      → (view.honest old.engine.nand ≡ true → IsWell view.flash old → result ≢ Err BusFault
+      → ArrayStep old.engine.geometry (state_in view.flash old) (step.Read n) (read_reply_of out result) (state_in view.flash new))
+      → holds view.honest new ≡ true → IsOk (read_answer result)
   read_given within step_is h =
-      let before : holds honest old ≡ true = back_here h in
-      given_by old.engine.geometry n out (state_in flash old) (state_in flash new) result within (step_is (parts honest old before).0 (was.well before) (no_bus h))
+      let before : holds view.honest old ≡ true = back_here h in
+      given_by old.engine.geometry n out (state_in view.flash old) (state_in view.flash new) result within (step_is (parts view.honest old before).0 (was.well before) (no_bus h))
 
-  pub read_performs : n < old.engine.geometry.sectors → length out ≡ old.engine.geometry.data_bytes → IsDisk flash honest new
-      → (honest old.engine.nand ≡ true → IsWell flash old → result ≢ Err BusFault
-      → ArrayStep old.engine.geometry (state_in flash old) (step.Read n) (read_reply_of out result) (state_in flash new))
-      → PerformsTask (contents_of flash honest) (holds honest) (λ d. false) (Read (n * old.engine.geometry.data_bytes) old.engine.geometry.data_bytes) [] old
+  pub read_performs : n < old.engine.geometry.sectors → length out ≡ old.engine.geometry.data_bytes → IsDisk view new
+      → (view.honest old.engine.nand ≡ true → IsWell view.flash old → result ≢ Err BusFault
+      → ArrayStep old.engine.geometry (state_in view.flash old) (step.Read n) (read_reply_of out result) (state_in view.flash new))
+      → PerformsTask (contents_of view) (holds view.honest) (λ d. false) (Read (n * old.engine.geometry.data_bytes) old.engine.geometry.data_bytes) [] old
       (answer_from (read_answer result) out) new
-  read_performs within its_long now step_is = performs_by (bytes flash honest) (holds honest) (Read (n * old.engine.geometry.data_bytes) old.engine.geometry.data_bytes) [] old
+  read_performs within its_long now step_is = performs_by (bytes view) (holds view.honest) (Read (n * old.engine.geometry.data_bytes) old.engine.geometry.data_bytes) [] old
       (answer_from (read_answer result) out) new
-      (sized flash honest old new was now geometry_is)
-      (read_fault n result (ram old.engine) (ram new.engine) p q out out left (holds_still honest old new same))
+      (sized view old new was now geometry_is)
+      (read_fault n result (ram old.engine) (ram new.engine) p q out out left (holds_still view.honest old new same))
       back_here
       (read_may (n * old.engine.geometry.data_bytes) old.engine.geometry.data_bytes result out)
       (read_gives old.engine.geometry.data_bytes result out its_long)
       (λ h.
-      let before : holds honest old ≡ true = back_here h in
-      let taken = step_is (parts honest old before).0 (was.well before) (no_bus h) in
-      let set_in = sets_read old.engine.geometry n out (state_in flash old) (state_in flash new) result (array_sectors_of flash honest old was before)
-      (omega (arith, array_count flash honest old, within)) taken in
-      subst (λ (l : List ℕ). Sets (Read (n * old.engine.geometry.data_bytes) old.engine.geometry.data_bytes) [] (bytes flash honest old) (answer_from (read_answer result) out) l)
-      (sym (held flash honest new h))
-      (subst (λ (l : List ℕ). Sets (Read (n * old.engine.geometry.data_bytes) old.engine.geometry.data_bytes) [] l (answer_from (read_answer result) out) (flat (array_in flash new)))
-      (sym (held flash honest old before)) set_in))
+      let before : holds view.honest old ≡ true = back_here h in
+      let taken = step_is (parts view.honest old before).0 (was.well before) (no_bus h) in
+      let set_in = sets_read old.engine.geometry n out (state_in view.flash old) (state_in view.flash new) result (array_sectors_of view old was before)
+      (omega (arith, array_count view old, within)) taken in
+      subst (λ (l : List ℕ). Sets (Read (n * old.engine.geometry.data_bytes) old.engine.geometry.data_bytes) [] (bytes view old) (answer_from (read_answer result) out) l)
+      (sym (held view new h))
+      (subst (λ (l : List ℕ). Sets (Read (n * old.engine.geometry.data_bytes) old.engine.geometry.data_bytes) [] l (answer_from (read_answer result) out) (flat (array_in view.flash new)))
+      (sym (held view old before)) set_in))

@@ -1,8 +1,8 @@
 -- A device as it was started knows its image.
-use Rattle.std.proofs.Common.{◌≡◌, ℕ, Bool, true, List, None, sym, ap, ◌∙◌, subst}
+use Rattle.std.proofs.Common.{◌≡◌, ℕ, true, List, None, sym, ap, ◌∙◌, subst}
+use Rattle.page_layout.specs.View.{View}
 use Rattle.page_layout.specs.declared.geometry.Geometry.{Geometry}
 use Rattle.page_layout.specs.Page.{Image}
-use Rattle.page_layout.specs.Flash.{Flash}
 use Rattle.certificate.specs.Claim.{Claim}
 use Rattle.image_check.specs.Accepted.{Acceptance}
 use Rattle.collection.specs.State.{Ram}
@@ -21,17 +21,17 @@ begun_pinned r g c stale image is =
     let P : Ram → Type 0 = λ q. PinIsTrue q.fault q image in
     subst P (sym is) ((λ p at. (let no : ⊥ = cc in absurd no)), (λ p at. (let no : ⊥ = cc in absurd no)))
 
-pub started_disk : {N : Type 0} (flash : N → Flash) (honest : N → Bool) (d : Device N) (nand : N) (g : Geometry) (a : Acceptance) → IsDevice flash d → d.engine.nand ≡ nand
+pub started_disk : {N : Type 0} (view : View N) (d : Device N) (nand : N) (g : Geometry) (a : Acceptance) → IsDevice view.flash d → d.engine.nand ≡ nand
     → ram d.engine ≡ begun_ram g a.claim a.stale
-    → (honest nand ≡ true → IsAcceptedFor (flash nand) a → IsTrue None (ram d.engine) (image_in flash d.engine))
-    → (honest nand ≡ true → IsAcceptedFor (flash nand) a) → IsDisk flash honest d
-started_disk flash honest d nand g a device is begun truth accepted = record {
+    → (view.honest nand ≡ true → IsAcceptedFor (view.flash nand) a → IsTrue None (ram d.engine) (image_in view.flash d.engine))
+    → (view.honest nand ≡ true → IsAcceptedFor (view.flash nand) a) → IsDisk view d
+started_disk view d nand g a device is begun truth accepted = record {
   device = device;
   well = λ h.
-      let its : honest nand ≡ true = sym (ap honest is) ∙ (parts honest d h).0 in
+      let its : view.honest nand ≡ true = sym (ap view.honest is) ∙ (parts view.honest d h).0 in
       record {
         going = ap (λ (r : Ram). stop_of r.fault) begun;
         truth = truth its (accepted its);
-        pinned = begun_pinned (ram d.engine) g a.claim a.stale (image_in flash d.engine) begun;
+        pinned = begun_pinned (ram d.engine) g a.claim a.stale (image_in view.flash d.engine) begun;
       };
 }

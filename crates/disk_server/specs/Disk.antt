@@ -1,10 +1,9 @@
 -- A DEVICE AS SECTORS OF A DISK: whether it still holds its array, and the array as bytes.
-use Rattle.std.specs.Prelude.{◌≡◌, ◌≢◌, ◌⊎◌, ◌≤◌, ◌+◌, ◌-◌, ◌*◌, ◌^◌, ◌==◌, ◌&&◌, not, ℕ, Bool, true, false, List, [], replicate, Option, None, Result, Ok, Err, OnOk, OnErr, if◌then◌else◌}
+use Rattle.std.specs.Prelude.{◌≡◌, ◌≢◌, ◌⊎◌, ◌≤◌, ◌+◌, ◌-◌, ◌*◌, ◌^◌, ◌==◌, ◌&&◌, not, ℕ, Bool, true, false, List, [], replicate, None, Result, Ok, Err, OnOk, OnErr, if◌then◌else◌}
 use Rattle.std.specs.Option.{is_none}
+use Rattle.page_layout.specs.View.{View}
 use Rattle.page_layout.specs.Array.{zeros}
-use Rattle.page_layout.specs.Flash.{Flash}
 use Rattle.page_layout.specs.OnlyReads.{OnlyReads}
-use Rattle.page_layout.specs.Recording.{Recording}
 use Rattle.promises.specs.Step as step
 use Rattle.promises.specs.Step.{Command, Flush, Turn}
 use Rattle.mapping_cache.specs.Mapping.{HasLimitsOf}
@@ -31,17 +30,17 @@ holds honest d = honest d.engine.nand && is_none (stop_of d.engine.fault)
 
 -- ITS SECTORS: the array that the image on its die holds. Of a device that holds it no more nothing is known, and as many sectors of zeros stand
 -- for it.
-abbrev pub sectors_of : {N : Type 0} → (N → Flash) → (honest : N → Bool) → Device N → List (List ℕ)
-sectors_of flash honest d = if holds honest d then array_in flash d else replicate d.engine.geometry.sectors (zeros d.engine.geometry)
+abbrev pub sectors_of : {N : Type 0} → (view : View N) → Device N → List (List ℕ)
+sectors_of view d = if holds view.honest d then array_in view.flash d else replicate d.engine.geometry.sectors (zeros d.engine.geometry)
 
 -- between two calls a stop of the die leaves that array: so what will be there if it stops now is what is there
-abbrev pub contents_of : {N : Type 0} → (N → Flash) → (honest : N → Bool) → Device N → Contents
-contents_of flash honest d = record { bytes = flat (sectors_of flash honest d); durable = flat (sectors_of flash honest d) }
+abbrev pub contents_of : {N : Type 0} → (view : View N) → Device N → Contents
+contents_of view d = record { bytes = flat (sectors_of view d); durable = flat (sectors_of view d) }
 
 -- whatever its die does; and what it knows of the image is so, as long as it holds the array
-pub record IsDisk {N : Type 0} (flash : N → Flash) (honest : N → Bool) (d : Device N) : Type 0 where
-  pub device : IsDevice flash d
-  pub well : holds honest d ≡ true → IsWell flash d
+pub record IsDisk {N : Type 0} (view : View N) (d : Device N) : Type 0 where
+  pub device : IsDevice view.flash d
+  pub well : holds view.honest d ≡ true → IsWell view.flash d
 
 -- IT STILL TAKES CHANGES: it is not read-only, and its last sequence is not given out
 abbrev pub takes_changes : {N : Type 0} → Device N → Bool
@@ -90,67 +89,67 @@ rest_answer (Err BusFault) = Err fault.Failed
 -- ---- calls
 
 -- A SECTOR IS SET WHOLE OR NOT AT ALL: where the call failed and the device holds its array, the bytes are as they were
-abbrev pub KeepsOnError : {N : Type 0} → (N → Flash) → (honest : N → Bool) → Device N → Result (Unit {0}) DiskFault → Device N → Type 0
-KeepsOnError flash honest old result new = OnErr result (holds honest new ≡ true → contents_of flash honest new ≡ contents_of flash honest old)
+abbrev pub KeepsOnError : {N : Type 0} → (view : View N) → Device N → Result (Unit {0}) DiskFault → Device N → Type 0
+KeepsOnError view old result new = OnErr result (holds view.honest new ≡ true → contents_of view new ≡ contents_of view old)
 
 -- IT IS ONE CALL OF THE DEVICE, whatever the die does: a change of a sector, with all that this says, and its answer as a disk's
-pub record AsksChange {N : Type 0} (flash : N → Flash) (recorded : N → Option Recording) (honest calm : N → Bool) (failed : N
+pub record AsksChange {N : Type 0} (view : View N) (failed : N
     → ℕ) (n : ℕ) (command : Command) (old : Device N) (result : Result (Unit {0}) DiskFault) (new : Device N) : Type 0 where
   pub answer : Result (Unit {0}) DeviceFault
   pub told : result ≡ change_answer answer
-  pub changes : Changes flash recorded honest calm failed n command old answer new
-  pub disk : IsDisk flash honest new
+  pub changes : Changes view failed n command old answer new
+  pub disk : IsDisk view new
 
 -- A DIE IS LEFT AS IT WAS: it tells what it told, and mounts
-pub record LeavesDie {N : Type 0} (flash : N → Flash) (recorded : N → Option Recording) (old new : Device N) : Type 0 where
-  pub die_same : flash new.engine.nand ≡ flash old.engine.nand
-  pub told_same : recorded new.engine.nand ≡ recorded old.engine.nand
+pub record LeavesDie {N : Type 0} (view : View N) (old new : Device N) : Type 0 where
+  pub die_same : view.flash new.engine.nand ≡ view.flash old.engine.nand
+  pub told_same : view.recorded new.engine.nand ≡ view.recorded old.engine.nand
   pub mountable : old.engine.mapping.capacity + old.engine.geometry.pages ≤ 65536
-      → IsMountable old.engine.geometry (old.engine.mapping.capacity + old.engine.geometry.pages) (flash new.engine.nand).image
+      → IsMountable old.engine.geometry (old.engine.mapping.capacity + old.engine.geometry.pages) (view.flash new.engine.nand).image
 
 -- or a read: its die is asked for reads, and programs and erases nothing; where the device holds its array before it and after it, the die is left as it was
-pub record AsksRead {N : Type 0} (flash : N → Flash) (recorded : N → Option Recording) (honest calm : N → Bool) (programs erases failed : N → ℕ) (old new : Device N) : Type 0 where
-  pub only_reads : OnlyReads flash honest calm programs erases failed old.engine.nand new.engine.nand
+pub record AsksRead {N : Type 0} (view : View N) (old new : Device N) : Type 0 where
+  pub only_reads : OnlyReads view old.engine.nand new.engine.nand
   pub limits : HasLimitsOf old.engine.mapping new.engine.mapping
-  pub disk : IsDisk flash honest new
-  pub back : holds honest new ≡ true → holds honest old ≡ true
-  pub leaves : holds honest old ≡ true → holds honest new ≡ true → LeavesDie flash recorded old new
+  pub disk : IsDisk view new
+  pub back : holds view.honest new ≡ true → holds view.honest old ≡ true
+  pub leaves : holds view.honest old ≡ true → holds view.honest new ≡ true → LeavesDie view old new
 
 -- or a sector to be cleared: a read that gave zeros, and nothing else; or a read that did not, or failed, and then a trim
-pub record AsksClear {N : Type 0} (flash : N → Flash) (recorded : N → Option Recording) (honest calm : N → Bool) (programs erases failed : N → ℕ) (n : ℕ) (old : Device N) (result : Result (Unit {0}) DiskFault) (new : Device N)
+pub record AsksClear {N : Type 0} (view : View N) (n : ℕ) (old : Device N) (result : Result (Unit {0}) DiskFault) (new : Device N)
     : Type 0 where
   pub mid : Device N
   pub answer : Result (Unit {0}) DiskFault
   pub given : List ℕ
-  pub read : PerformsTask (contents_of flash honest) (holds honest) (λ d. false) (Read (n * old.engine.geometry.data_bytes) old.engine.geometry.data_bytes) [] old (answer_from answer given) mid
-  pub asks : AsksRead flash recorded honest calm programs erases failed old mid
+  pub read : PerformsTask (contents_of view) (holds view.honest) (λ d. false) (Read (n * old.engine.geometry.data_bytes) old.engine.geometry.data_bytes) [] old (answer_from answer given) mid
+  pub asks : AsksRead view old mid
   pub trims : ((answer ≡ Ok tt) × (given ≡ replicate old.engine.geometry.data_bytes 0) × (result ≡ Ok tt) × (new ≡ mid))
-      ⊎ (((answer ≡ Ok tt → given ≢ replicate old.engine.geometry.data_bytes 0) × AsksChange flash recorded honest calm failed n (step.Trim n) mid result new))
+      ⊎ (((answer ≡ Ok tt → given ≢ replicate old.engine.geometry.data_bytes 0) × AsksChange view n (step.Trim n) mid result new))
 
 -- ONE CHANGE OF A SECTOR, of any sector and with any answer: it is set, or cleared
-unfoldable pub ChangesOne : {N : Type 0} → (flash : N → Flash) → (recorded : N → Option Recording) → (honest calm : N → Bool) → (programs erases failed : N → ℕ) → (old new : Device N) → Type 0
+unfoldable pub ChangesOne : {N : Type 0} → (view : View N) → (old new : Device N) → Type 0
 ChangesOne flash recorded honest calm programs erases failed old new = (n : ℕ) × (result : Result (Unit {0}) DiskFault)
     × (((command : Command) × AsksChange flash recorded honest calm failed n command old result new) ⊎ AsksClear flash recorded honest calm programs erases failed n old result new)
 
 -- or a flush
-pub record AsksFlush {N : Type 0} (flash : N → Flash) (recorded : N → Option Recording) (honest calm : N → Bool) (failed : N
+pub record AsksFlush {N : Type 0} (view : View N) (failed : N
     → ℕ) (old : Device N) (result : Result (Unit {0}) DiskFault) (new : Device N) : Type 0 where
   pub answer : Result (Unit {0}) DeviceFault
   pub told : result ≡ flush_answer answer
-  pub upkeeps : Upkeeps flash recorded honest calm failed Flush old answer new
-  pub disk : IsDisk flash honest new
+  pub upkeeps : Upkeeps view failed Flush old answer new
+  pub disk : IsDisk view new
 
 -- or a turn, and where the device held its array, what the turn did
-pub record AsksTurn {N : Type 0} (flash : N → Flash) (recorded : N → Option Recording) (honest calm : N → Bool) (erases failed : N
+pub record AsksTurn {N : Type 0} (view : View N) (erases failed : N
     → ℕ) (old : Device N) (result : Result (Unit {0}) DiskFault) (new : Device N) : Type 0 where
   pub answer : Result (Unit {0}) DeviceFault
   pub told : result ≡ rest_answer answer
-  pub upkeeps : Upkeeps flash recorded honest calm failed Turn old answer new
-  pub disk : IsDisk flash honest new
+  pub upkeeps : Upkeeps view failed Turn old answer new
+  pub disk : IsDisk view new
   pub turned : OnOk answer (HasTurned (ram old.engine) (ram new.engine))
   pub idle : HasNoneAiling (ram old.engine).blocks → old.engine.pinned ≡ None → 12 ≤ free_count (ram old.engine).blocks → OnOk answer (new.engine ≡ old.engine)
-  pub quiet : holds honest old ≡ true → OnOk answer (IsQuiet erases old.engine new.engine)
-  pub falls : holds honest old ≡ true → HasNoneAiling (ram old.engine).blocks → OnOk answer (HasFallen flash erases old.engine new.engine)
-  pub rescued : holds honest old ≡ true → OnOk answer (HasRescued (ram old.engine) (ram new.engine))
-  pub worked : holds honest old ≡ true → HasAiling (ram old.engine).blocks
+  pub quiet : holds view.honest old ≡ true → OnOk answer (IsQuiet erases old.engine new.engine)
+  pub falls : holds view.honest old ≡ true → HasNoneAiling (ram old.engine).blocks → OnOk answer (HasFallen view.flash erases old.engine new.engine)
+  pub rescued : holds view.honest old ≡ true → OnOk answer (HasRescued (ram old.engine) (ram new.engine))
+  pub worked : holds view.honest old ≡ true → HasAiling (ram old.engine).blocks
       → OnOk answer (HasWorked (ram old.engine) (ram new.engine) (erases old.engine.nand) (erases new.engine.nand))

@@ -1,5 +1,6 @@
 -- A DISK AS IT IS OPENED, and why there is none.
 use Rattle.std.specs.Prelude.{◌≡◌, ◌≢◌, ℕ, Bool, true, List, [], Option, Some}
+use Rattle.page_layout.specs.View.{View}
 use Rattle.page_layout.specs.declared.geometry.Geometry.{Geometry}
 use Rattle.page_layout.specs.Array.{array_of}
 use Rattle.page_layout.specs.Counter.{HasRisen}
@@ -21,19 +22,19 @@ use Rattle.disk_server.specs.declared.opened.OpenStoreFault.{OpenStoreFault}
 use Rattle.disk_server.specs.declared.opened.OpenStoreFault.TheVariants as why
 
 -- the image was not mounted: of an honest die for what is so of it, and it is as it was unless a read failed
-pub record IsMountRefused {N : Type 0} (flash : N → Flash) (honest : N → Bool) (nand : N) (g : Geometry) (capacity : ℕ) (why : Refusal) (given : N) : Type 0 where
-  pub refuses : honest nand ≡ true → Refuses g capacity (flash nand).image why
-  pub same : why ≢ Source → honest nand ≡ true → flash given ≡ flash nand
+pub record IsMountRefused {N : Type 0} (view : View N) (nand : N) (g : Geometry) (capacity : ℕ) (why : Refusal) (given : N) : Type 0 where
+  pub refuses : view.honest nand ≡ true → Refuses g capacity (view.flash nand).image why
+  pub same : why ≢ Source → view.honest nand ≡ true → view.flash given ≡ view.flash nand
 
 -- it has a certificate, and is as it was, but no memory was left to start a device
-pub record IsMountedUnstarted {N : Type 0} (flash : N → Flash) (honest : N → Bool) (nand : N) (g : Geometry) (capacity : ℕ) (given : N) : Type 0 where
+pub record IsMountedUnstarted {N : Type 0} (view : View N) (nand : N) (g : Geometry) (capacity : ℕ) (given : N) : Type 0 where
   pub certificate : Claim
-  pub mounted : honest nand ≡ true → IsMounted g capacity (flash nand).image certificate
-  pub same : honest nand ≡ true → flash given ≡ flash nand
+  pub mounted : view.honest nand ≡ true → IsMounted g capacity (view.flash nand).image certificate
+  pub same : view.honest nand ≡ true → view.flash given ≡ view.flash nand
 
-abbrev pub IsUnmounted : {N : Type 0} → (N → Flash) → (honest : N → Bool) → N → Geometry → (capacity : ℕ) → OpenFault N → Type 0
-IsUnmounted flash honest nand g capacity (Refused why given) = IsMountRefused flash honest nand g capacity why given
-IsUnmounted flash honest nand g capacity (Start given) = IsMountedUnstarted flash honest nand g capacity given
+abbrev pub IsUnmounted : {N : Type 0} → (view : View N) → N → Geometry → (capacity : ℕ) → OpenFault N → Type 0
+IsUnmounted view nand g capacity (Refused why given) = IsMountRefused view nand g capacity why given
+IsUnmounted view nand g capacity (Start given) = IsMountedUnstarted view nand g capacity given
 
 -- how that is told of a store
 abbrev pub why_of : {N : Type 0} → OpenFault N → OpenStoreFault

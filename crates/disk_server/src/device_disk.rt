@@ -35,14 +35,14 @@ impl<N: Nand> Model for DeviceDisk<N> {
 
     ghost view = { λ d. d.device };
 
-    ghost invariant = { λ d. IsDisk N.flash N.honest d.device };
+    ghost invariant = { λ d. IsDisk N.view d.device };
 }
 
 impl<N: Nand> DeviceDisk<N> {
     /// The disk of a device. Where its die is honest and it was not stopped, what it knows of its image is true, as of each device that was started
     /// from an accepted certificate and called since.
     pub fn new(device: Device<N>) -> DeviceDisk<N>
-        requires disk { IsDisk N.flash N.honest device }
+        requires disk { IsDisk N.view device }
         ensures { result ≡ device }
     {
         DeviceDisk { device }
@@ -58,10 +58,10 @@ impl<N: Nand> DeviceDisk<N> {
         nand: N,
         accepted: Accepted<'a>,
     ) -> Result<DeviceDisk<N>, StartFault<'a, N>>
-        requires same_geometry { sizes_of (N.flash nand).geometry ≡ accepted.claim.sizes }
-        requires accepted { N.honest nand ≡ true → IsAcceptedFor (N.flash nand) accepted }
+        requires same_geometry { sizes_of (N.view.flash nand).geometry ≡ accepted.claim.sizes }
+        requires accepted { N.view.honest nand ≡ true → IsAcceptedFor (N.view.flash nand) accepted }
         ensures nand { IfOk result (λ d. d.engine.nand ≡ nand) }
-        ensures begun { IfOk result (λ d. ram d.engine ≡ begun_ram (N.flash nand).geometry accepted.entry.claim accepted.entry.stale) }
+        ensures begun { IfOk result (λ d. ram d.engine ≡ begun_ram (N.view.flash nand).geometry accepted.entry.claim accepted.entry.stale) }
         ensures fault { IfErr result (λ fault. fault ≡ StartFault.OutOfMemory nand accepted.entry) }
     {
         let device = Device::start(alloc, nand, accepted)?;
@@ -84,17 +84,17 @@ impl<N: Nand> Sectors for DeviceDisk<N> {
     ghost use Rattle.disk_server.specs.Asked.{SparesZeros};
     ghost use Rattle.disk_server.specs.Disk.{contents_of, holds, takes_changes, AsksChange, AsksClear, AsksFlush, AsksRead, AsksTurn, ChangesOne, KeepsOnError};
 
-    ghost contents = { contents_of N.flash N.honest };
+    ghost contents = { contents_of N.view };
 
-    ghost honest = { holds N.honest };
+    ghost honest = { holds N.view.honest };
 
     ghost calm = { λ d. false };
 
     // A rest is one turn.
-    ghost rests = { AsksTurn N.flash N.recorded N.honest N.calm N.erases N.failed };
+    ghost rests = { AsksTurn N.view };
 
     // A read programs and erases nothing.
-    ghost reads = { AsksRead N.flash N.recorded N.honest N.calm N.programs N.erases N.failed };
+    ghost reads = { AsksRead N.view };
 
     ghost size = { λ d. d.engine.geometry.data_bytes };
 
@@ -103,10 +103,10 @@ impl<N: Nand> Sectors for DeviceDisk<N> {
     ghost next = { λ d. d.engine.next };
 
     // A change is one of the device, or a read and then one.
-    ghost changes = { ChangesOne N.flash N.recorded N.honest N.calm N.programs N.erases N.failed };
+    ghost changes = { ChangesOne N.view };
 
     // A flush is one of the device.
-    ghost flushes = { AsksFlush N.flash N.recorded N.honest N.calm N.failed };
+    ghost flushes = { AsksFlush N.view };
 
     // It is not read-only, and its last sequence is not given out.
     ghost takes = { takes_changes };
@@ -122,14 +122,14 @@ impl<N: Nand> Sectors for DeviceDisk<N> {
         requires whole { length buffer.old ≡ self.old.engine.geometry.data_bytes }
         ensures size { self.new.engine.geometry.data_bytes ≡ self.old.engine.geometry.data_bytes }
         ensures count { self.new.engine.geometry.sectors ≡ self.old.engine.geometry.sectors }
-        ensures performs { PerformsTask (contents_of N.flash N.honest) (holds N.honest) (λ d. false)
+        ensures performs { PerformsTask (contents_of N.view) (holds N.view.honest) (λ d. false)
             (Task.Read (sector * self.old.engine.geometry.data_bytes) self.old.engine.geometry.data_bytes) [] self.old (answer_from result buffer.new) self.new }
-        ensures given { holds N.honest self.new ≡ true → IsOk result }
+        ensures given { holds N.view.honest self.new ≡ true → IsOk result }
 
         // Whatever the die does.
         ensures stopped { IsSome (stop_of self.old.engine.fault) → (result ≡ Err DiskFault.Failed) × (self.new ≡ self.old) }
         ensures refused { OnErr result (buffer.new ≡ buffer.old) }
-        ensures reads { AsksRead N.flash N.recorded N.honest N.calm N.programs N.erases N.failed self.old self.new }
+        ensures reads { AsksRead N.view self.old self.new }
     {
         read_answer(self.device.read(sector as u32, buffer))
     }
@@ -146,13 +146,13 @@ impl<N: Nand> Sectors for DeviceDisk<N> {
         requires whole { length bytes.now ≡ self.old.engine.geometry.data_bytes }
         ensures size { self.new.engine.geometry.data_bytes ≡ self.old.engine.geometry.data_bytes }
         ensures count { self.new.engine.geometry.sectors ≡ self.old.engine.geometry.sectors }
-        ensures performs { PerformsTask (contents_of N.flash N.honest) (holds N.honest) (λ d. false)
+        ensures performs { PerformsTask (contents_of N.view) (holds N.view.honest) (λ d. false)
             (Task.Write (sector * self.old.engine.geometry.data_bytes) self.old.engine.geometry.data_bytes false) bytes.now self.old (answer_from result []) self.new }
-        ensures whole { KeepsOnError N.flash N.honest self.old result self.new }
+        ensures whole { KeepsOnError N.view self.old result self.new }
 
         // Whatever the die does.
-        ensures asked { AsksChange N.flash N.recorded N.honest N.calm N.failed sector (Write sector bytes.now) self.old result self.new }
-        ensures changes { ChangesOne N.flash N.recorded N.honest N.calm N.programs N.erases N.failed self.old self.new }
+        ensures asked { AsksChange N.view sector (Write sector bytes.now) self.old result self.new }
+        ensures changes { ChangesOne N.view self.old self.new }
     {
         change_answer(self.device.write(sector as u32, bytes))
     }
@@ -166,13 +166,13 @@ impl<N: Nand> Sectors for DeviceDisk<N> {
         requires within { sector < self.old.engine.geometry.sectors }
         ensures size { self.new.engine.geometry.data_bytes ≡ self.old.engine.geometry.data_bytes }
         ensures count { self.new.engine.geometry.sectors ≡ self.old.engine.geometry.sectors }
-        ensures performs { PerformsTask (contents_of N.flash N.honest) (holds N.honest) (λ d. false)
+        ensures performs { PerformsTask (contents_of N.view) (holds N.view.honest) (λ d. false)
             (Task.Trim (sector * self.old.engine.geometry.data_bytes) self.old.engine.geometry.data_bytes false) [] self.old (answer_from result []) self.new }
-        ensures whole { KeepsOnError N.flash N.honest self.old result self.new }
+        ensures whole { KeepsOnError N.view self.old result self.new }
 
         // Whatever the die does.
-        ensures asked { AsksChange N.flash N.recorded N.honest N.calm N.failed sector (Trim sector) self.old result self.new }
-        ensures changes { ChangesOne N.flash N.recorded N.honest N.calm N.programs N.erases N.failed self.old self.new }
+        ensures asked { AsksChange N.view sector (Trim sector) self.old result self.new }
+        ensures changes { ChangesOne N.view self.old self.new }
     {
         change_answer(self.device.trim(sector as u32))
     }
@@ -187,14 +187,14 @@ impl<N: Nand> Sectors for DeviceDisk<N> {
         requires whole { length buffer.old ≡ self.old.engine.geometry.data_bytes }
         ensures size { self.new.engine.geometry.data_bytes ≡ self.old.engine.geometry.data_bytes }
         ensures count { self.new.engine.geometry.sectors ≡ self.old.engine.geometry.sectors }
-        ensures performs { PerformsTask (contents_of N.flash N.honest) (holds N.honest) (λ d. false)
+        ensures performs { PerformsTask (contents_of N.view) (holds N.view.honest) (λ d. false)
             (Task.Trim (sector * self.old.engine.geometry.data_bytes) self.old.engine.geometry.data_bytes false) [] self.old (answer_from result []) self.new }
-        ensures spares { SparesZeros (contents_of N.flash N.honest) (holds N.honest) (AsksRead N.flash N.recorded N.honest N.calm N.programs N.erases N.failed)
+        ensures spares { SparesZeros (contents_of N.view) (holds N.view.honest) (AsksRead N.view)
             (sector * self.old.engine.geometry.data_bytes) self.old.engine.geometry.data_bytes self.old self.new }
 
         // Whatever the die does.
-        ensures asked { AsksClear N.flash N.recorded N.honest N.calm N.programs N.erases N.failed sector self.old result self.new }
-        ensures changes { ChangesOne N.flash N.recorded N.honest N.calm N.programs N.erases N.failed self.old self.new }
+        ensures asked { AsksClear N.view sector self.old result self.new }
+        ensures changes { ChangesOne N.view self.old self.new }
     {
         let _count = self.sector_count();
         match self.read_sector(sector, buffer) {
@@ -217,10 +217,10 @@ impl<N: Nand> Sectors for DeviceDisk<N> {
     fn flush(&mut self) -> Result<(), DiskFault>
         ensures size { self.new.engine.geometry.data_bytes ≡ self.old.engine.geometry.data_bytes }
         ensures count { self.new.engine.geometry.sectors ≡ self.old.engine.geometry.sectors }
-        ensures performs { PerformsTask (contents_of N.flash N.honest) (holds N.honest) (λ d. false) Task.Flush [] self.old (answer_from result []) self.new }
+        ensures performs { PerformsTask (contents_of N.view) (holds N.view.honest) (λ d. false) Task.Flush [] self.old (answer_from result []) self.new }
 
         // Whatever the die does.
-        ensures flushes { AsksFlush N.flash N.recorded N.honest N.calm N.failed self.old result self.new }
+        ensures flushes { AsksFlush N.view self.old result self.new }
     {
         flush_answer(self.device.flush())
     }
@@ -234,10 +234,10 @@ impl<N: Nand> Sectors for DeviceDisk<N> {
     fn rest(&mut self) -> Result<(), DiskFault>
         ensures size { self.new.engine.geometry.data_bytes ≡ self.old.engine.geometry.data_bytes }
         ensures count { self.new.engine.geometry.sectors ≡ self.old.engine.geometry.sectors }
-        ensures idles { Idles (contents_of N.flash N.honest) (holds N.honest) (λ d. false) self.old result self.new }
+        ensures idles { Idles (contents_of N.view) (holds N.view.honest) (λ d. false) self.old result self.new }
 
         // Whatever the die does.
-        ensures rests { AsksTurn N.flash N.recorded N.honest N.calm N.erases N.failed self.old result self.new }
+        ensures rests { AsksTurn N.view self.old result self.new }
         ensures stopped { (result ≡ Err DiskFault.Failed) ↔ IsSome (stop_of self.new.engine.fault) }
     {
         rest_answer(self.device.turn())

@@ -24,17 +24,17 @@ pub fn flat_laws()
 /// A sector of the array that the image on the die holds is a range of the disk's bytes, which are as many as all sectors have. That is said of a
 /// device that was not stopped over a die that is honest, and of no other. (This project's.)
 pub fn array_laws<N: Nand>()
-    ensures length { LengthLaw N.flash N.honest }
-    ensures sector { SectorLaw N.flash N.honest }
-    ensures lasts { LastsLaw N.flash N.honest }
-    ensures holds { HoldsLaw N.honest }
+    ensures length { LengthLaw N.view }
+    ensures sector { SectorLaw N.view }
+    ensures lasts { LastsLaw N.view }
+    ensures holds { HoldsLaw N.view.honest }
 {}
 
 /// What a mark says of a device's pages, where it is written after a sync: all sound pages lie below the sequence that was next, and where the device was flushed before and takes changes, no sector is stale.
 /// (This project's.)
 pub fn sequence_laws<N: Nand>()
-    ensures below { BelowLaw N.flash N.honest }
-    ensures written { WrittenLaw N.flash N.recorded N.honest N.calm N.failed }
+    ensures below { BelowLaw N.view }
+    ensures written { WrittenLaw N.view }
 {}
 
 /// What a disk joined with its syncs is marked with: no task marks it as flushed; a flush and a durable change that is done are synced last; and one that was closed, and takes changes, is marked as flushed up to

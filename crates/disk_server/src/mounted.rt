@@ -28,10 +28,10 @@ fn start_disk<'a, N: Nand>(
     nand: N,
     accepted: Accepted<'a>,
 ) -> Result<SectorDisk<DeviceDisk<N>>, N>
-    requires same_geometry { sizes_of (N.flash nand).geometry ≡ accepted.claim.sizes }
-    requires accepted { N.honest nand ≡ true → IsAcceptedFor (N.flash nand) accepted }
+    requires same_geometry { sizes_of (N.view.flash nand).geometry ≡ accepted.claim.sizes }
+    requires accepted { N.view.honest nand ≡ true → IsAcceptedFor (N.view.flash nand) accepted }
     ensures nand { IfOk result (λ d. d.engine.nand ≡ nand) }
-    ensures begun { IfOk result (λ d. ram d.engine ≡ begun_ram (N.flash nand).geometry accepted.entry.claim accepted.entry.stale) }
+    ensures begun { IfOk result (λ d. ram d.engine ≡ begun_ram (N.view.flash nand).geometry accepted.entry.claim accepted.entry.stale) }
     ensures back { IfErr result (λ back. back ≡ nand) }
 {
     let disk = match DeviceDisk::start(alloc, nand, accepted) {
@@ -60,17 +60,17 @@ pub fn open_mounted<N: Nand>(
     geometry: &Geometry,
     capacity: u32,
 ) -> Result<SectorDisk<DeviceDisk<N>>, OpenFault<N>>
-    requires same_geometry { (N.flash nand).geometry ≡ geometry.now }
+    requires same_geometry { (N.view.flash nand).geometry ≡ geometry.now }
     requires least { 1 ≤ capacity }
     requires most { capacity ≤ 65536 }
     ensures geometry { IfOk result (λ d. d.engine.geometry ≡ geometry.now) }
     ensures entries { IfOk result (λ d. d.engine.mapping.capacity ≡ capacity) }
-    ensures honest { IfOk result (λ d. holds N.honest d ≡ N.honest nand) }
-    ensures array { IfOk result (λ d. N.honest nand ≡ true → array_in N.flash d ≡ array_of geometry.now (N.flash nand).image) }
-    ensures pages { IfOk result (λ d. N.honest nand ≡ true → N.flash d.engine.nand ≡ N.flash nand) }
-    ensures reads { IfOk result (λ d. OnlyReads N.flash N.honest N.calm N.programs N.erases N.failed nand d.engine.nand) }
-    ensures unmounted { IfErr result (IsUnmounted N.flash N.honest nand geometry.now capacity) }
-    ensures fault { IfErr result (λ fault. OnlyReads N.flash N.honest N.calm N.programs N.erases N.failed nand (nand_of fault)) }
+    ensures honest { IfOk result (λ d. holds N.view.honest d ≡ N.view.honest nand) }
+    ensures array { IfOk result (λ d. N.view.honest nand ≡ true → array_in N.view.flash d ≡ array_of geometry.now (N.view.flash nand).image) }
+    ensures pages { IfOk result (λ d. N.view.honest nand ≡ true → N.view.flash d.engine.nand ≡ N.view.flash nand) }
+    ensures reads { IfOk result (λ d. OnlyReads N.view nand d.engine.nand) }
+    ensures unmounted { IfErr result (IsUnmounted N.view nand geometry.now capacity) }
+    ensures fault { IfErr result (λ fault. OnlyReads N.view nand (nand_of fault)) }
 {
     let (certificate, stale) = match mount_counted(alloc, &mut nand, geometry, capacity) {
         Ok(Mounted { certificate, stale }) => (certificate, stale),
@@ -86,8 +86,8 @@ pub fn open_mounted<N: Nand>(
 /// The die behind a disk. That of one which holds its array holds it too.
 pub(crate) fn nand_behind<N: Nand>(disk: SectorDisk<DeviceDisk<N>>) -> N
     ensures nand { result ≡ disk.engine.nand }
-    ensures honest { holds N.honest disk ≡ true → N.honest result ≡ true }
-    ensures bytes { holds N.honest disk ≡ true → flat (array_of (N.flash result).geometry (N.flash result).image) ≡ (contents_of N.flash N.honest disk).bytes }
+    ensures honest { holds N.view.honest disk ≡ true → N.view.honest result ≡ true }
+    ensures bytes { holds N.view.honest disk ≡ true → flat (array_of (N.view.flash result).geometry (N.view.flash result).image) ≡ (contents_of N.view disk).bytes }
 {
     disk.into_sectors().into_device().into_nand()
 }

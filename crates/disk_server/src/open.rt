@@ -42,13 +42,13 @@ pub fn open_checked<N: Nand>(
     capacity: u32,
     certificate: &Certificate,
 ) -> Result<DeviceDisk<N>, OpenFault<N>>
-    requires same_geometry { (N.flash nand).geometry ≡ geometry.now }
+    requires same_geometry { (N.view.flash nand).geometry ≡ geometry.now }
     ensures geometry { IfOk result (λ d. d.engine.geometry ≡ geometry.now) }
-    ensures honest { IfOk result (λ d. holds N.honest d ≡ N.honest nand) }
-    ensures array { IfOk result (λ d. N.honest nand ≡ true → array_in N.flash d ≡ array_of geometry.now (N.flash nand).image) }
-    ensures reads { IfOk result (λ d. OnlyReads N.flash N.honest N.calm N.programs N.erases N.failed nand d.engine.nand) }
-    ensures unopened { IfErr result (IsUnopened N.flash N.honest nand geometry.now capacity certificate.now) }
-    ensures fault { IfErr result (λ fault. OnlyReads N.flash N.honest N.calm N.programs N.erases N.failed nand (nand_of fault)) }
+    ensures honest { IfOk result (λ d. holds N.view.honest d ≡ N.view.honest nand) }
+    ensures array { IfOk result (λ d. N.view.honest nand ≡ true → array_in N.view.flash d ≡ array_of geometry.now (N.view.flash nand).image) }
+    ensures reads { IfOk result (λ d. OnlyReads N.view nand d.engine.nand) }
+    ensures unopened { IfErr result (IsUnopened N.view nand geometry.now capacity certificate.now) }
+    ensures fault { IfErr result (λ fault. OnlyReads N.view nand (nand_of fault)) }
 {
     let accepted = match check(alloc, &mut nand, geometry, capacity, certificate) {
         Ok(accepted) => accepted,

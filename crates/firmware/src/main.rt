@@ -47,8 +47,8 @@ fn prepare<N: Nand>(
     nand: &mut N,
     geometry: &Geometry,
 ) -> Result<(), Failure>
-    requires { (N.flash nand.old).geometry ≡ geometry.now }
-    ensures { (N.flash nand.new).geometry ≡ geometry.now }
+    requires { (N.view.flash nand.old).geometry ≡ geometry.now }
+    ensures { (N.view.flash nand.new).geometry ≡ geometry.now }
 {
     let good = format(alloc, nand, geometry)?;
     println!(rt; "formatted: {good} good blocks")?;
@@ -62,8 +62,8 @@ fn serve<N: Nand>(
     device: &mut Device<N>,
     requests: &[Request],
 ) -> Result<(), Failure>
-    requires { IsDevice N.flash device.old }
-    ensures { IsDevice N.flash device.new }
+    requires { IsDevice N.view.flash device.old }
+    ensures { IsDevice N.view.flash device.new }
 {
     for request in requests {
         answer(rt, alloc, device, *request)?;
@@ -79,8 +79,8 @@ fn live<N: Nand + Drop>(
     geometry: Geometry,
     requests: &[Request],
 ) -> Result<(N, Geometry), Failure>
-    requires { (N.flash nand).geometry ≡ geometry }
-    ensures { IfOk result (λ left. (N.flash left.0).geometry ≡ left.1) }
+    requires { (N.view.flash nand).geometry ≡ geometry }
+    ensures { IfOk result (λ left. (N.view.flash left.0).geometry ≡ left.1) }
 {
     let mut device = start(alloc, nand, &geometry)?;
     serve(rt, alloc, &mut device, requests)?;

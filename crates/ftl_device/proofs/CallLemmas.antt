@@ -1,10 +1,10 @@
 -- What is true after a call.
 use Rattle.std.proofs.Common.{◌≡◌, ◌≢◌, ℕ, ◌+◌, ◌≤◌, List, None, Option, Some, Result, Ok, Err, MatchResult, refl, sym, ap, subst, ◌∙◌}
 use Rattle.std.specs.Prelude.{OnOk}
+use Rattle.page_layout.specs.View.{View}
 use Rattle.page_layout.specs.declared.geometry.Geometry.{Geometry}
 use Rattle.page_layout.specs.Page.{Image}
 use Rattle.page_layout.specs.Flash.{Flash}
-use Rattle.page_layout.specs.Recording.{Recording}
 use Rattle.mapping_cache.specs.Mapping.{HasLimitsOf}
 use Rattle.image_check.specs.Mountable.{IsMountable}
 use Rattle.collection.specs.declared.engine.Engine.{Engine}
@@ -84,10 +84,10 @@ recent_after {N} e last n answer result good same is first =
     subst (λ r. OnOk r (IsMostRecent n last.mapping)) (sym is) (done_too (IsMostRecent n last.mapping) answer good (ram last) here)
 
 -- and the log of a call is the engine's
-pub went_after : {N : Type 0} (flash : N → Flash) (recorded : N → Option Recording) (old e last : Engine N) (answer : Result (Unit {0}) CallFault)
+pub went_after : {N : Type 0} (view : View N) (old e last : Engine N) (answer : Result (Unit {0}) CallFault)
     (result : Result (Unit {0}) DeviceFault) (good : ℕ) → last ≡ e → result ≡ answer_of (ram last) good answer
-    → (answer ≢ Err (call.Engine engine_fault.Bus) → Went (ram old) (flash old.nand) (recorded old.nand) (ram e) (flash e.nand) (recorded e.nand))
-    → result ≢ Err BusFault → Went (ram old) (flash old.nand) (recorded old.nand) (ram last) (flash last.nand) (recorded last.nand)
-went_after {N} flash recorded old e last answer result good same is w ne =
-    let P : Engine N → Type 0 = λ x. Went (ram old) (flash old.nand) (recorded old.nand) (ram x) (flash x.nand) (recorded x.nand) in
+    → (answer ≢ Err (call.Engine engine_fault.Bus) → Went (ram old) (view.flash old.nand) (view.recorded old.nand) (ram e) (view.flash e.nand) (view.recorded e.nand))
+    → result ≢ Err BusFault → Went (ram old) (view.flash old.nand) (view.recorded old.nand) (ram last) (view.flash last.nand) (view.recorded last.nand)
+went_after {N} view old e last answer result good same is w ne =
+    let P : Engine N → Type 0 = λ x. Went (ram old) (view.flash old.nand) (view.recorded old.nand) (ram x) (view.flash x.nand) (view.recorded x.nand) in
     subst P (sym same) (w (λ bus. ne (is ∙ ap (answer_of (ram last) good) bus)))

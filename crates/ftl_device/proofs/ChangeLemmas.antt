@@ -4,10 +4,9 @@ use Rattle.std.specs.Prelude.{IfErr, IsSome}
 use Rattle.std.specs.Option.{ForSome}
 use Rattle.std.specs.Map.{keys_of}
 use Rattle.std.proofs.lemmas.Bool.{lt-ltb}
+use Rattle.page_layout.specs.View.{View}
 use Rattle.page_layout.specs.declared.geometry.Geometry.{Geometry}
 use Rattle.page_layout.specs.Page.{Image}
-use Rattle.page_layout.specs.Flash.{Flash}
-use Rattle.page_layout.specs.Recording.{Recording}
 use Rattle.page_layout.specs.Array.{array_of}
 use Rattle.page_layout.specs.Version.{AddsNoOld}
 use Rattle.page_layout.specs.Counter.{HasRisen}
@@ -153,25 +152,25 @@ no_flush_is command off P its = (let no : ⊥ = cc in absurd no)
 
 -- ---- the call was made
 
-module _ {N : Type 0} (flash : N → Flash) (recorded : N → Option Recording) (honest calm : N → Bool) (failed : N → ℕ) (n : ℕ) (bytes : List ℕ)
-    (command : Command) (old new : Device N) (device : IsDevice flash old) (device' : IsDevice flash new)
+module _ {N : Type 0} (view : View N) (n : ℕ) (bytes : List ℕ)
+    (command : Command) (old new : Device N) (device : IsDevice view.flash old) (device' : IsDevice view.flash new)
     (may : MayChange (ram old.engine) old.read_only n)
-    (takes : (reply : Reply) (s : State) → WriteStep old.engine.geometry (state_in flash old) n bytes reply s → ArrayStep old.engine.geometry (state_in flash old) command reply s) (no_flush : is_flush command ≡ false) (changes : changes_sector command ≡ true) where
+    (takes : (reply : Reply) (s : State) → WriteStep old.engine.geometry (state_in view.flash old) n bytes reply s → ArrayStep old.engine.geometry (state_in view.flash old) command reply s) (no_flush : is_flush command ≡ false) (changes : changes_sector command ≡ true) where
   abbrev good_then : ℕ
   good_then = good_count (ram old.engine).blocks.table
 
   abbrev Holds : Engine N → Result (Unit {0}) CallFault → Type 0
-  Holds e answer = honest old.engine.nand ≡ true → Knows (ram old.engine) (image_in flash old.engine)
-      → MatchResult answer (λ _. HoldsSector old.engine.geometry n bytes (image_in flash old.engine) (ram e) (image_in flash e))
-      (CallRefused old.engine.geometry (image_in flash old.engine) (ram e) (image_in flash e))
+  Holds e answer = view.honest old.engine.nand ≡ true → Knows (ram old.engine) (image_in view.flash old.engine)
+      → MatchResult answer (λ _. HoldsSector old.engine.geometry n bytes (image_in view.flash old.engine) (ram e) (image_in view.flash e))
+      (CallRefused old.engine.geometry (image_in view.flash old.engine) (ram e) (image_in view.flash e))
 
   abbrev Pages : Engine N → Result (Unit {0}) CallFault → Type 0
   Pages e answer = OnOk answer (IsLastOf old.engine.geometry command (ram e) (page_in e.page))
 
   abbrev Newest : Engine N → Result (Unit {0}) CallFault → Type 0
-  Newest e answer = honest old.engine.nand ≡ true → Knows (ram old.engine) (image_in flash old.engine) → OnOk answer (HasPageOf old.engine.geometry command (ram e) (image_in flash e))
+  Newest e answer = view.honest old.engine.nand ≡ true → Knows (ram old.engine) (image_in view.flash old.engine) → OnOk answer (HasPageOf old.engine.geometry command (ram e) (image_in view.flash e))
 
-  module _ (answer : Result (Unit {0}) CallFault) (ends : EndsCall flash recorded honest calm failed old.engine answer new.engine) (readies : Readies flash honest n 2 old.engine answer new.engine) (cost : OnOk answer (HasCost n (ram old.engine) (ram new.engine)))
+  module _ (answer : Result (Unit {0}) CallFault) (ends : EndsCall view old.engine answer new.engine) (readies : Readies view n 2 old.engine answer new.engine) (cost : OnOk answer (HasCost n (ram old.engine) (ram new.engine)))
       (checked : OnOk answer (HasLookedUp n (ram old.engine) (ram new.engine) (page_in new.engine.scratch))) (page : Pages new.engine answer) (newest : Newest new.engine answer) (truth : Holds new.engine answer) where
     abbrev replied : Result (Unit {0}) DeviceFault
     replied = answer_of (ram new.engine) good_then answer
@@ -185,55 +184,55 @@ module _ {N : Type 0} (flash : N → Flash) (recorded : N → Option Recording) 
       cached = λ some e. readies.cached some (memory_only answer replied good_then (ram new.engine) refl e);
     }
 
-    here : IsWell flash old → Knows (ram old.engine) (image_in flash old.engine)
-    here well = knows_well flash old device well may.going
+    here : IsWell view.flash old → Knows (ram old.engine) (image_in view.flash old.engine)
+    here well = knows_well view.flash old device well may.going
 
-    programs_done : ProgramsSector flash honest n command old replied new
+    programs_done : ProgramsSector view n command old replied new
     programs_done = record {
       recent = done_too (IsMostRecent n new.engine.mapping) answer good_then (ram new.engine) readies.recent;
       keys = done_too (keys_of new.engine.mapping.cached ≡ order_after old.engine.mapping n) answer good_then (ram new.engine) readies.keys;
       cost = done_too (HasCost n (ram old.engine) (ram new.engine)) answer good_then (ram new.engine) cost;
       checked = done_too (HasLookedUp n (ram old.engine) (ram new.engine) (page_in new.engine.scratch)) answer good_then (ram new.engine) checked;
       page = done_too (IsLastOf old.engine.geometry command (ram new.engine) (page_in new.engine.page)) answer good_then (ram new.engine) page;
-      newest = λ is_honest well. done_too (HasPageOf old.engine.geometry command (ram new.engine) (image_in flash new.engine)) answer good_then (ram new.engine) (newest is_honest (here well));
+      newest = λ is_honest well. done_too (HasPageOf old.engine.geometry command (ram new.engine) (image_in view.flash new.engine)) answer good_then (ram new.engine) (newest is_honest (here well));
       unwritten = λ e. readies.unwritten (memory_only answer replied good_then (ram new.engine) refl e);
       same_keys = λ e. readies.same_keys (memory_only answer replied good_then (ram new.engine) refl e);
     }
 
-    short : honest old.engine.nand ≡ true → Knows (ram old.engine) (image_in flash old.engine) → CallShort (ram old.engine) (ram new.engine) answer
-    short is_honest well = call_short (HasFunds (honest old.engine.nand) (ram old.engine) (image_in flash old.engine)) answer (ram old.engine)
+    short : view.honest old.engine.nand ≡ true → Knows (ram old.engine) (image_in view.flash old.engine) → CallShort (ram old.engine) (ram new.engine) answer
+    short is_honest well = call_short (HasFunds (view.honest old.engine.nand) (ram old.engine) (image_in view.flash old.engine)) answer (ram old.engine)
         (ram new.engine) device.engine.memory readies.costs
         (is_honest, well, funded_begun (ram old.engine) old.read_only device.read_only may.writable)
 
-    logs_done : honest old.engine.nand ≡ true → replied ≢ Err BusFault → Logs flash recorded command old replied new
+    logs_done : view.honest old.engine.nand ≡ true → replied ≢ Err BusFault → Logs view command old replied new
     logs_done is_honest ne =
-        let w = went_after flash recorded old.engine new.engine new.engine answer replied good_then refl refl (ends.went is_honest) ne in
+        let w = went_after view old.engine new.engine new.engine answer replied good_then refl refl (ends.went is_honest) ne in
         record {
           went = w;
-          shown = λ well. shown_after flash recorded old.engine new.engine new.engine w n bytes old.read_only answer replied good_then refl device.engine.memory ends.safe.memory ends.geometry refl refl ends.tells (short is_honest (here well)) (truth is_honest (here well)) ne;
-          left = λ well on. left_after flash recorded command old.engine new.engine new.engine w old.read_only new.read_only answer replied good_then refl refl device.engine.memory device'.engine.memory ends.geometry device'.read_only on (short is_honest (here well));
+          shown = λ well. shown_after view old.engine new.engine new.engine w n bytes old.read_only answer replied good_then refl device.engine.memory ends.safe.memory ends.geometry refl refl ends.tells (short is_honest (here well)) (truth is_honest (here well)) ne;
+          left = λ well on. left_after view command old.engine new.engine new.engine w old.read_only new.read_only answer replied good_then refl refl device.engine.memory device'.engine.memory ends.geometry device'.read_only on (short is_honest (here well));
           flushed = λ well its done. no_flush_is command no_flush _ its;
-          stopped = λ well. stopped_call flash recorded old.engine new.engine command replied w.log device.engine w.records (ends.stops is_honest (here well) (λ bus. ne (ap (answer_of (ram new.engine) good_then) bus)))
-              (changed_or old.engine.geometry n bytes command changes (image_in flash old.engine) (image_in flash new.engine) (ram new.engine) (ram new.engine) good_then answer (truth is_honest (here well)) ne);
+          stopped = λ well. stopped_call view old.engine new.engine command replied w.log device.engine w.records (ends.stops is_honest (here well) (λ bus. ne (ap (answer_of (ram new.engine) good_then) bus)))
+              (changed_or old.engine.geometry n bytes command changes (image_in view.flash old.engine) (image_in view.flash new.engine) (ram new.engine) (ram new.engine) good_then answer (truth is_honest (here well)) ne);
         }
 
-    means_done : honest old.engine.nand ≡ true → Knows (ram old.engine) (image_in flash old.engine) → replied ≢ Err BusFault → Means flash command old replied new
+    means_done : view.honest old.engine.nand ≡ true → Knows (ram old.engine) (image_in view.flash old.engine) → replied ≢ Err BusFault → Means view.flash command old replied new
     means_done is_honest known ne =
-        let after = well_device flash new new.engine refl (well_ram answer replied good_then n bytes _ _ _ (ram new.engine) (ram new.engine) ends.fault refl ne (truth is_honest known)) in
+        let after = well_device view.flash new new.engine refl (well_ram answer replied good_then n bytes _ _ _ (ram new.engine) (ram new.engine) ends.fault refl ne (truth is_honest known)) in
         record {
           step = takes _ _
-              (step_of old.engine.geometry new.engine.geometry n bytes (image_in flash old.engine) (image_in flash new.engine) (ram old.engine)
+              (step_of old.engine.geometry new.engine.geometry n bytes (image_in view.flash old.engine) (image_in view.flash new.engine) (ram old.engine)
               (ram new.engine) old.read_only new.read_only good_then may.within may.writable device'.read_only ends.geometry answer ends.tells
               (truth is_honest known) ne);
           well = after;
-          versions = changed_versions old.engine.geometry n bytes (image_in flash old.engine) (image_in flash new.engine) (ram new.engine) (ram new.engine) good_then answer (truth is_honest known) ne;
-          mountable = λ most. mountable_after flash old.engine new new.engine refl ends.geometry ends.limits device'.engine.memory after most;
+          versions = changed_versions old.engine.geometry n bytes (image_in view.flash old.engine) (image_in view.flash new.engine) (ram new.engine) (ram new.engine) good_then answer (truth is_honest known) ne;
+          mountable = λ most. mountable_after view.flash old.engine new new.engine refl ends.geometry ends.limits device'.engine.memory after most;
         }
 
-    change_done : Changes flash recorded honest calm failed n command old replied new
+    change_done : Changes view n command old replied new
     change_done = record {
       stays = record { limits = ends.limits; honest_is = ends.honest_is; calm_is = ends.calm_is; failed_is = ends.failed_is };
-      refuses = refuses_made failed old new may.going may.writable answer ends.fault ends.tells ends.rose;
+      refuses = refuses_made view.failed old new may.going may.writable answer ends.fault ends.tells ends.rose;
       refuses_sector = refuses_sector_done;
       programs = programs_done;
       pins = λ none some. pins_of answer old.engine new.engine (ram new.engine) good_then readies.pins none some;
@@ -244,19 +243,19 @@ module _ {N : Type 0} (flash : N → Flash) (recorded : N → Option Recording) 
 
   -- the device noted nothing else
   pub changed_by : (mid : Engine N) (good : ℕ) (answer : Result (Unit {0}) CallFault) (result : Result (Unit {0}) DeviceFault) → new.engine ≡ mid
-      → good ≡ good_then → result ≡ answer_of (ram new.engine) good answer → EndsCall flash recorded honest calm failed old.engine answer mid
-      → Readies flash honest n 2 old.engine answer mid
-      → OnOk answer (HasCost n (ram old.engine) (ram mid)) → OnOk answer (HasLookedUp n (ram old.engine) (ram mid) (page_in mid.scratch)) → Pages mid answer → Newest mid answer → Holds mid answer → Changes flash recorded honest calm failed n command old result new
+      → good ≡ good_then → result ≡ answer_of (ram new.engine) good answer → EndsCall view old.engine answer mid
+      → Readies view n 2 old.engine answer mid
+      → OnOk answer (HasCost n (ram old.engine) (ram mid)) → OnOk answer (HasLookedUp n (ram old.engine) (ram mid) (page_in mid.scratch)) → Pages mid answer → Newest mid answer → Holds mid answer → Changes view n command old result new
   changed_by mid good answer result same many is ends readies cost checked page newest truth =
-      let E : Engine N → Type 0 = λ e. EndsCall flash recorded honest calm failed old.engine answer e in
-      let R : Engine N → Type 0 = λ e. Readies flash honest n 2 old.engine answer e in
+      let E : Engine N → Type 0 = λ e. EndsCall view old.engine answer e in
+      let R : Engine N → Type 0 = λ e. Readies view n 2 old.engine answer e in
       let C : Engine N → Type 0 = λ e. OnOk answer (HasCost n (ram old.engine) (ram e)) in
       let L : Engine N → Type 0 = λ e. OnOk answer (HasLookedUp n (ram old.engine) (ram e) (page_in e.scratch)) in
       let P : Engine N → Type 0 = λ e. Pages e answer in
       let Q : Engine N → Type 0 = λ e. Newest e answer in
       let T : Engine N → Type 0 = λ e. Holds e answer in
       let done = change_done answer (subst E (sym same) ends) (subst R (sym same) readies) (subst C (sym same) cost) (subst L (sym same) checked) (subst P (sym same) page) (subst Q (sym same) newest) (subst T (sym same) truth) in
-      subst (λ r. Changes flash recorded honest calm failed n command old r new) (sym (is ∙ ap (λ k. answer_of (ram new.engine) k answer) many)) done
+      subst (λ r. Changes view n command old r new) (sym (is ∙ ap (λ k. answer_of (ram new.engine) k answer) many)) done
 
 -- ---- it was refused at once
 
@@ -301,8 +300,8 @@ refuses_at_once failed old fault why = record {
   standing = λ other is. ap Err (stopped_refusal (ram old.engine) fault other why is);
 }
 
-pub stays_same : {N : Type 0} (honest calm : N → Bool) (failed : N → ℕ) (d : Device N) → Stays honest calm failed d d
-stays_same honest calm failed d = record { limits = record { geometry = refl; capacity = refl }; honest_is = refl; calm_is = refl; failed_is = omega arith }
+pub stays_same : {N : Type 0} (view : View N) (d : Device N) → Stays view d d
+stays_same view d = record { limits = record { geometry = refl; capacity = refl }; honest_is = refl; calm_is = refl; failed_is = omega arith }
 
 module _ (r : Ram) (ro : Bool) (n : ℕ) where
   why_not : (fault : DeviceFault) → MayNot r ro n fault → Why r fault
@@ -335,12 +334,12 @@ module _ (r : Ram) (ro : Bool) (n : ℕ) where
   step_refusal g xs bytes Damaged same not going = no_stop (stop_of r.fault) Damaged _ going not
   step_refusal g xs bytes BusFault same not going = no_stop (stop_of r.fault) BusFault _ going not
 
-module _ {N : Type 0} (flash : N → Flash) (recorded : N → Option Recording) (honest calm : N → Bool) (failed : N → ℕ) (n : ℕ) (bytes : List ℕ) (command : Command) (old : Device N) (device : IsDevice flash old)
-    (takes : (reply : Reply) (s : State) → WriteStep old.engine.geometry (state_in flash old) n bytes reply s → ArrayStep old.engine.geometry (state_in flash old) command reply s) (no_flush : is_flush command ≡ false) where
-  pub not_changed : (fault : DeviceFault) → MayNot (ram old.engine) old.read_only n fault → Changes flash recorded honest calm failed n command old (Err fault) old
+module _ {N : Type 0} (view : View N) (n : ℕ) (bytes : List ℕ) (command : Command) (old : Device N) (device : IsDevice view.flash old)
+    (takes : (reply : Reply) (s : State) → WriteStep old.engine.geometry (state_in view.flash old) n bytes reply s → ArrayStep old.engine.geometry (state_in view.flash old) command reply s) (no_flush : is_flush command ≡ false) where
+  pub not_changed : (fault : DeviceFault) → MayNot (ram old.engine) old.read_only n fault → Changes view n command old (Err fault) old
   not_changed fault not = record {
-    stays = stays_same honest calm failed old;
-    refuses = refuses_at_once failed old fault (why_not (ram old.engine) old.read_only n fault not);
+    stays = stays_same view old;
+    refuses = refuses_at_once view.failed old fault (why_not (ram old.engine) old.read_only n fault not);
     refuses_sector = record {
       past = λ going. ((λ e. past_refusal (ram old.engine) old.read_only n fault not e), (λ past. ap Err (refusal_past (ram old.engine) old.read_only n fault not going past)));
       untouched = λ e. refl;
@@ -360,16 +359,16 @@ module _ {N : Type 0} (flash : N → Flash) (recorded : N → Option Recording) 
     };
     pins = λ none some. absurd (unpinned_some old.engine.pinned none some);
     logs = λ is_honest ne.
-        let w = went_same (ram old.engine) (flash old.engine.nand) (recorded old.engine.nand) in
+        let w = went_same (ram old.engine) (view.flash old.engine.nand) (view.recorded old.engine.nand) in
         record {
           went = w;
-          shown = λ well. shown_refused (ram old.engine) (flash old.engine.nand) w old.read_only n fault device.engine.memory well.truth well.going not;
+          shown = λ well. shown_refused (ram old.engine) (view.flash old.engine.nand) w old.read_only n fault device.engine.memory well.truth well.going not;
           left = λ well on. left_refused command (ram old.engine) w.log old.read_only n fault not;
           flushed = λ well its done. no_flush_is command no_flush _ its;
-          stopped = λ well. stopped_call flash recorded old.engine old.engine command (Err fault) w.log device.engine w.records (stops_same flash recorded old.engine device.engine well.truth) (inl refl);
+          stopped = λ well. stopped_call view old.engine old.engine command (Err fault) w.log device.engine w.records (stops_same view old.engine device.engine well.truth) (inl refl);
         };
     means = λ is_honest well ne. record {
-      step = takes _ _ (step_refusal (ram old.engine) old.read_only n old.engine.geometry (array_of old.engine.geometry (image_in flash old.engine)) bytes fault refl not well.going);
+      step = takes _ _ (step_refusal (ram old.engine) old.read_only n old.engine.geometry (array_of old.engine.geometry (image_in view.flash old.engine)) bytes fault refl not well.going);
       well = well;
       versions = λ two key row at. at;
       mountable = λ most. restart_law (ram old.engine) _ device.engine.memory well.truth most;

@@ -1,9 +1,9 @@
 -- Where a look for pages of version 1 goes on.
-use Rattle.std.proofs.Common.{◌≡◌, ◌≢◌, inl, inr, ℕ, ◌≤◌, Bool, true, Option, None, Some, Result, Err, MatchResult, IfErr, refl, ap, subst, arith}
+use Rattle.std.proofs.Common.{◌≡◌, ◌≢◌, inl, inr, ℕ, ◌≤◌, true, Option, None, Some, Result, Err, MatchResult, IfErr, refl, ap, subst, arith}
 use Rattle.std.specs.Option.{ForSome}
 use Rattle.std.proofs.lemmas.Bool.{cases_lt}
+use Rattle.page_layout.specs.View.{View}
 use Rattle.page_layout.specs.Flash.{Flash}
-use Rattle.page_layout.specs.Recording.{Recording}
 use Rattle.page_layout.specs.Page.{Image}
 use Rattle.allocation.specs.State.{free_count}
 use Rattle.promises.specs.Step as step
@@ -76,27 +76,27 @@ goes_on cursor row image ge due (Some next) (inr behind) = absurd (due_or_none r
 
 -- ---- the engine after a look, and after the call
 
-module _ {N : Type 0} (flash : N → Flash) (recorded : N → Option Recording) (honest calm : N → Bool) (failed : N → ℕ) where
+module _ {N : Type 0} (view : View N) where
   -- a look leaves the engine as a call that wants no room does
-  pub leaves_look : {A : Type 0} (old new : Engine N) (result : Result A EngineFault) → old.fault ≡ None → Stands flash recorded honest calm failed old new result → ram new ≡ record (ram old) { fault = new.fault } → IfErr result IsReadFault
-      → (honest old.nand ≡ true → Knows (ram old) (image_in flash old) → result ≢ Err Bus → StopsSafely flash recorded old new) → EngineLeaves flash recorded honest calm failed old result new
-  leaves_look old new result none stands still faults stops = leaves_by flash recorded honest calm failed old new result none stands (ap (λ (r : Ram). r.geometry) still) (look_tells result (ram old) (ram new) (ap (λ (r : Ram). r.blocks) still) faults) stops
+  pub leaves_look : {A : Type 0} (old new : Engine N) (result : Result A EngineFault) → old.fault ≡ None → Stands view old new result → ram new ≡ record (ram old) { fault = new.fault } → IfErr result IsReadFault
+      → (view.honest old.nand ≡ true → Knows (ram old) (image_in view.flash old) → result ≢ Err Bus → StopsSafely view old new) → EngineLeaves view old result new
+  leaves_look old new result none stands still faults stops = leaves_by view old new result none stands (ap (λ (r : Ram). r.geometry) still) (look_tells result (ram old) (ram new) (ap (λ (r : Ram). r.blocks) still) faults) stops
 
   -- what is known of a turn, or of a page brought forward, as the part ends that asks the die
-  pub kept_ready : (old : Device N) (mid : Engine N) (answer : Result (Unit {0}) CallFault) → IsDevice flash old → MayFlush (ram old.engine) old.read_only → EndsCall flash recorded honest calm failed old.engine answer mid → answer ≢ Err call.OutOfMemory
-      → (honest old.engine.nand ≡ true → Knows (ram old.engine) (image_in flash old.engine)
-      → MatchResult answer (λ _. KeepsArray old.engine.geometry (image_in flash old.engine) (ram mid) (image_in flash mid))
-      (CallRefused old.engine.geometry (image_in flash old.engine) (ram mid) (image_in flash mid)))
-      → (HasFunds (honest old.engine.nand) (ram old.engine) (image_in flash old.engine) → 5 ≤ free_count (ram old.engine).blocks → CallShort (ram old.engine) (ram mid) answer)
-      → IsUpkept flash recorded honest calm failed step.Turn old answer mid
+  pub kept_ready : (old : Device N) (mid : Engine N) (answer : Result (Unit {0}) CallFault) → IsDevice view.flash old → MayFlush (ram old.engine) old.read_only → EndsCall view old.engine answer mid → answer ≢ Err call.OutOfMemory
+      → (view.honest old.engine.nand ≡ true → Knows (ram old.engine) (image_in view.flash old.engine)
+      → MatchResult answer (λ _. KeepsArray old.engine.geometry (image_in view.flash old.engine) (ram mid) (image_in view.flash mid))
+      (CallRefused old.engine.geometry (image_in view.flash old.engine) (ram mid) (image_in view.flash mid)))
+      → (HasFunds (view.honest old.engine.nand) (ram old.engine) (image_in view.flash old.engine) → 5 ≤ free_count (ram old.engine).blocks → CallShort (ram old.engine) (ram mid) answer)
+      → IsUpkept view step.Turn old answer mid
   kept_ready old mid answer device may ends memory truth count = record {
     ends = ends;
     no_memory = memory;
     truth = truth;
     lacks = λ is_honest w fault is. short is_honest w;
-    left = λ is_honest w log ro flag on. left_after flash recorded step.Turn old.engine mid mid log old.read_only ro answer _ _ refl refl device.engine.memory ends.safe.memory ends.geometry flag on (short is_honest w);
+    left = λ is_honest w log ro flag on. left_after view step.Turn old.engine mid mid log old.read_only ro answer _ _ refl refl device.engine.memory ends.safe.memory ends.geometry flag on (short is_honest w);
     worth = λ is_honest w log its. (let no : ⊥ = cc in absurd no);
   }
     where
-      short : honest old.engine.nand ≡ true → Knows (ram old.engine) (image_in flash old.engine) → CallShort (ram old.engine) (ram mid) answer
+      short : view.honest old.engine.nand ≡ true → Knows (ram old.engine) (image_in view.flash old.engine) → CallShort (ram old.engine) (ram mid) answer
       short is_honest w = count (is_honest, w, funded_begun (ram old.engine) old.read_only device.read_only may.writable) (five_free (ram old.engine) old.read_only device.read_only may.writable)

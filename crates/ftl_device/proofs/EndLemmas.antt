@@ -1,9 +1,8 @@
 -- Calls of the engine that make a sector ready and program a page of it.
-use Rattle.std.proofs.Common.{◌≡◌, ◌≢◌, ℕ, ◌≤◌, ◌∙◌, Bool, true, None, Option, Some, Result, Ok, Err, sym, ap, subst, arith}
+use Rattle.std.proofs.Common.{◌≡◌, ◌≢◌, ℕ, ◌≤◌, ◌∙◌, true, None, Option, Some, Result, Ok, Err, sym, ap, subst, arith}
 use Rattle.std.specs.Map.{keys_of}
+use Rattle.page_layout.specs.View.{View}
 use Rattle.page_layout.specs.Counter.{HasRisen}
-use Rattle.page_layout.specs.Flash.{Flash}
-use Rattle.page_layout.specs.Recording.{Recording}
 use Rattle.bad_blocks.specs.Table.{good_count}
 use Rattle.budget.specs.declared.stream.Stream.TheVariants.{Data}
 use Rattle.mapping_cache.specs.Mapping.{HasLimitsOf, loaded}
@@ -51,13 +50,13 @@ call_of (Err fault) = Err (call.Engine fault)
 abbrev ended : CallFault → Result (Unit {0}) CallFault
 ended fault = Err fault
 
-module _ {N : Type 0} (flash : N → Flash) (recorded : N → Option Recording) (honest calm : N → Bool) (failed : N → ℕ) where
+module _ {N : Type 0} (view : View N) where
   -- ---- nothing was made ready
 
-  pub ends_refused : (old new : Engine N) (fault : EngineFault) → IsSafe flash new → new.fault ≡ Some fault → new.geometry ≡ old.geometry → honest new.nand ≡ honest old.nand → calm new.nand ≡ calm old.nand → failed old.nand ≤ failed new.nand
-      → (fault ≡ Bus → HasRisen (failed old.nand) (failed new.nand)) → HasLimitsOf old.mapping new.mapping → Tells {A = Option ℕ} (ram old) (ram new) (Err fault)
-      → (honest old.nand ≡ true → fault ≢ Bus → Went (ram old) (flash old.nand) (recorded old.nand) (ram new) (flash new.nand) (recorded new.nand))
-      → (honest old.nand ≡ true → Knows (ram old) (image_in flash old) → fault ≢ Bus → StopsSafely flash recorded old new) → EndsCall flash recorded honest calm failed old (Err (call.Engine fault)) new
+  pub ends_refused : (old new : Engine N) (fault : EngineFault) → IsSafe view.flash new → new.fault ≡ Some fault → new.geometry ≡ old.geometry → view.honest new.nand ≡ view.honest old.nand → view.calm new.nand ≡ view.calm old.nand → view.failed old.nand ≤ view.failed new.nand
+      → (fault ≡ Bus → HasRisen (view.failed old.nand) (view.failed new.nand)) → HasLimitsOf old.mapping new.mapping → Tells {A = Option ℕ} (ram old) (ram new) (Err fault)
+      → (view.honest old.nand ≡ true → fault ≢ Bus → Went (ram old) (view.flash old.nand) (view.recorded old.nand) (ram new) (view.flash new.nand) (view.recorded new.nand))
+      → (view.honest old.nand ≡ true → Knows (ram old) (image_in view.flash old) → fault ≢ Bus → StopsSafely view old new) → EndsCall view old (Err (call.Engine fault)) new
   ends_refused old new fault safe stands geometry as_honest as_calm more rose limits tells went stops = record {
     safe = safe;
     fault = stands;
@@ -75,12 +74,12 @@ module _ {N : Type 0} (flash : N → Flash) (recorded : N → Option Recording) 
 
   -- ---- a sector was made ready, and then cached or not
 
-  module _ (old mid : Engine N) (safe : IsSafe flash mid) (going : mid.fault ≡ None) (geometry : mid.geometry ≡ old.geometry) (as_honest : honest mid.nand ≡ honest old.nand) (as_calm : calm mid.nand ≡ calm old.nand)
-      (more : failed old.nand ≤ failed mid.nand) (limits : HasLimitsOf old.mapping mid.mapping) (calm_mid : IsCalm (ram mid)) (fewer : good_count (ram mid).blocks.table ≤ good_count (ram old).blocks.table)
-      (went : honest old.nand ≡ true → Went (ram old) (flash old.nand) (recorded old.nand) (ram mid) (flash mid.nand) (recorded mid.nand))
-      (stops : honest old.nand ≡ true → Knows (ram old) (image_in flash old) → StopsSafely flash recorded old mid) where
-    pub ends_memory : (new : Engine N) → new ≡ mid → EndsCall flash recorded honest calm failed old (Err call.OutOfMemory) new
-    ends_memory new same = subst (λ e. EndsCall flash recorded honest calm failed old (Err call.OutOfMemory) e) (sym same) (record {
+  module _ (old mid : Engine N) (safe : IsSafe view.flash mid) (going : mid.fault ≡ None) (geometry : mid.geometry ≡ old.geometry) (as_honest : view.honest mid.nand ≡ view.honest old.nand) (as_calm : view.calm mid.nand ≡ view.calm old.nand)
+      (more : view.failed old.nand ≤ view.failed mid.nand) (limits : HasLimitsOf old.mapping mid.mapping) (calm_mid : IsCalm (ram mid)) (fewer : good_count (ram mid).blocks.table ≤ good_count (ram old).blocks.table)
+      (went : view.honest old.nand ≡ true → Went (ram old) (view.flash old.nand) (view.recorded old.nand) (ram mid) (view.flash mid.nand) (view.recorded mid.nand))
+      (stops : view.honest old.nand ≡ true → Knows (ram old) (image_in view.flash old) → StopsSafely view old mid) where
+    pub ends_memory : (new : Engine N) → new ≡ mid → EndsCall view old (Err call.OutOfMemory) new
+    ends_memory new same = subst (λ e. EndsCall view old (Err call.OutOfMemory) e) (sym same) (record {
       safe = safe;
       fault = going;
       geometry = geometry;
@@ -95,31 +94,31 @@ module _ {N : Type 0} (flash : N → Flash) (recorded : N → Option Recording) 
       stops = λ is_honest k ne. stops is_honest k;
     })
 
-    pub ends_loaded : (new : Engine N) (n : ℕ) (row : Option ℕ) → new ≡ record mid { mapping = loaded mid.mapping n row } → IsSafe flash new → EndsCall flash recorded honest calm failed old (Ok tt) new
+    pub ends_loaded : (new : Engine N) (n : ℕ) (row : Option ℕ) → new ≡ record mid { mapping = loaded mid.mapping n row } → IsSafe view.flash new → EndsCall view old (Ok tt) new
     ends_loaded new n row is safe' = record {
       safe = safe';
       fault = ap (λ (e : Engine N). e.fault) is ∙ going;
       geometry = ap (λ (e : Engine N). e.geometry) is ∙ geometry;
-      honest_is = ap (λ (e : Engine N). honest e.nand) is ∙ as_honest;
-      calm_is = ap (λ (e : Engine N). calm e.nand) is ∙ as_calm;
-      failed_is = subst (λ (e : Engine N). failed old.nand ≤ failed e.nand) (sym is) more;
+      honest_is = ap (λ (e : Engine N). view.honest e.nand) is ∙ as_honest;
+      calm_is = ap (λ (e : Engine N). view.calm e.nand) is ∙ as_calm;
+      failed_is = subst (λ (e : Engine N). view.failed old.nand ≤ view.failed e.nand) (sym is) more;
       rose = λ e. (let no : ⊥ = cc in absurd no);
       limits = limits_loaded mid new n row is old.mapping limits;
       calm_memory = λ none. calm_law (ram mid) (ram new) (beside_now mid new n row is) calm_mid;
       tells = subst (λ (e : Engine N). good_count (ram e).blocks.table ≤ good_count (ram old).blocks.table) (sym is) fewer;
-      went = λ is_honest ne. went_loaded mid new n row is flash recorded (ram old) (flash old.nand) (recorded old.nand) (went is_honest);
-      stops = λ is_honest k ne. stops_still flash recorded old mid new (ap (λ (e : Engine N). flash e.nand) is) (ap (λ (e : Engine N). recorded e.nand) is) (stops is_honest k);
+      went = λ is_honest ne. went_loaded mid new n row is view (ram old) (view.flash old.nand) (view.recorded old.nand) (went is_honest);
+      stops = λ is_honest k ne. stops_still view old mid new (ap (λ (e : Engine N). view.flash e.nand) is) (ap (λ (e : Engine N). view.recorded e.nand) is) (stops is_honest k);
     }
 
   -- ---- a page of it comes after
 
-  module _ (old mid new : Engine N) (made : Unit {0}) (before : EndsCall flash recorded honest calm failed old (Ok made) mid) (safe : IsSafe flash new) (goes : Goes (ram mid) (ram new)) (as_honest : honest new.nand ≡ honest mid.nand) (as_calm : calm new.nand ≡ calm mid.nand)
-      (more : failed mid.nand ≤ failed new.nand) (beside : LeavesPin (ram mid) (ram new)) (no_more : HasNoMore mid.mapping new.mapping) where
+  module _ (old mid new : Engine N) (made : Unit {0}) (before : EndsCall view old (Ok made) mid) (safe : IsSafe view.flash new) (goes : Goes (ram mid) (ram new)) (as_honest : view.honest new.nand ≡ view.honest mid.nand) (as_calm : view.calm new.nand ≡ view.calm mid.nand)
+      (more : view.failed mid.nand ≤ view.failed new.nand) (beside : LeavesPin (ram mid) (ram new)) (no_more : HasNoMore mid.mapping new.mapping) where
     ended_fault : (answer : Result (Unit {0}) EngineFault) → new.fault ≡ fault_after mid.fault answer → new.fault ≡ standing_after (call_of answer)
     ended_fault (Ok done) is = is ∙ before.fault
     ended_fault (Err fault) is = is
 
-    ended_rose : (answer : Result (Unit {0}) EngineFault) → (answer ≡ Err Bus → HasRisen (failed mid.nand) (failed new.nand)) → call_of answer ≡ Err (call.Engine Bus) → HasRisen (failed mid.nand) (failed new.nand)
+    ended_rose : (answer : Result (Unit {0}) EngineFault) → (answer ≡ Err Bus → HasRisen (view.failed mid.nand) (view.failed new.nand)) → call_of answer ≡ Err (call.Engine Bus) → HasRisen (view.failed mid.nand) (view.failed new.nand)
     ended_rose (Ok done) rose e = (let no : ⊥ = cc in absurd no)
     ended_rose (Err fault) rose e = (let same : fault ≡ Bus = cc in rose (ap Err same))
 
@@ -127,13 +126,13 @@ module _ {N : Type 0} (flash : N → Flash) (recorded : N → Option Recording) 
     ended_tells (Ok done) p = omega (arith, p.put.good, before.tells)
     ended_tells (Err fault) p = page_tells fault (ram old) (ram mid) (ram new) before.tells p
 
-    ended_went : (answer : Result (Unit {0}) EngineFault) → (answer ≢ Err Bus → Went (ram mid) (flash mid.nand) (recorded mid.nand) (ram new) (flash new.nand) (recorded new.nand)) → honest old.nand ≡ true → call_of answer ≢ Err (call.Engine Bus)
-        → Went (ram old) (flash old.nand) (recorded old.nand) (ram new) (flash new.nand) (recorded new.nand)
+    ended_went : (answer : Result (Unit {0}) EngineFault) → (answer ≢ Err Bus → Went (ram mid) (view.flash mid.nand) (view.recorded mid.nand) (ram new) (view.flash new.nand) (view.recorded new.nand)) → view.honest old.nand ≡ true → call_of answer ≢ Err (call.Engine Bus)
+        → Went (ram old) (view.flash old.nand) (view.recorded old.nand) (ram new) (view.flash new.nand) (view.recorded new.nand)
     ended_went answer went is_honest ne = went_then (ram old) (ram mid) (ram new) _ _ _ _ _ _ before.geometry (before.went is_honest (λ e. (let no : ⊥ = cc in no))) (went (λ bus. ne (ap call_of bus)))
 
-    pub ends_page : (answer : Result (Unit {0}) EngineFault) → new.fault ≡ fault_after mid.fault answer → (mid.fault ≡ None → answer ≡ Err Bus → HasRisen (failed mid.nand) (failed new.nand)) → (mid.fault ≡ None → PageCosts Data (ram mid) (ram new) answer)
-        → (honest mid.nand ≡ true → answer ≢ Err Bus → Went (ram mid) (flash mid.nand) (recorded mid.nand) (ram new) (flash new.nand) (recorded new.nand)) → KeepsOn flash honest old mid
-        → (honest mid.nand ≡ true → mid.fault ≡ None → IsTrue None (ram mid) (image_in flash mid) → answer ≢ Err Bus → StopsSafely flash recorded mid new) → EndsCall flash recorded honest calm failed old (call_of answer) new
+    pub ends_page : (answer : Result (Unit {0}) EngineFault) → new.fault ≡ fault_after mid.fault answer → (mid.fault ≡ None → answer ≡ Err Bus → HasRisen (view.failed mid.nand) (view.failed new.nand)) → (mid.fault ≡ None → PageCosts Data (ram mid) (ram new) answer)
+        → (view.honest mid.nand ≡ true → answer ≢ Err Bus → Went (ram mid) (view.flash mid.nand) (view.recorded mid.nand) (ram new) (view.flash new.nand) (view.recorded new.nand)) → KeepsOn view old mid
+        → (view.honest mid.nand ≡ true → mid.fault ≡ None → IsTrue None (ram mid) (image_in view.flash mid) → answer ≢ Err Bus → StopsSafely view mid new) → EndsCall view old (call_of answer) new
     ends_page answer fault rose cost went keeps stops = record {
       safe = safe;
       fault = ended_fault answer fault;
@@ -141,38 +140,38 @@ module _ {N : Type 0} (flash : N → Flash) (recorded : N → Option Recording) 
       honest_is = as_honest ∙ before.honest_is;
       calm_is = as_calm ∙ before.calm_is;
       failed_is = omega (arith, more, before.failed_is);
-      rose = λ e. risen_over (failed old.nand) (failed mid.nand) (failed new.nand) before.failed_is (ended_rose answer (rose before.fault) e);
+      rose = λ e. risen_over (view.failed old.nand) (view.failed mid.nand) (view.failed new.nand) before.failed_is (ended_rose answer (rose before.fault) e);
       limits = limits_then old.mapping mid.mapping new.mapping before.limits no_more.limits;
       calm_memory = λ none. calm_law (ram mid) (ram new) beside (before.calm_memory before.fault);
       tells = ended_tells answer (cost before.fault);
       went = λ is_honest ne. ended_went answer (went (before.honest_is ∙ is_honest)) is_honest ne;
       stops = λ is_honest k ne.
           let kept = keeps is_honest k in
-          stops_on flash recorded old mid new before.geometry before.limits kept.array (before.stops is_honest k (λ e. (let no : ⊥ = cc in no))) (stops (before.honest_is ∙ is_honest) before.fault kept.truth.truth (λ bus. ne (ap call_of bus)));
+          stops_on view old mid new before.geometry before.limits kept.array (before.stops is_honest k (λ e. (let no : ⊥ = cc in no))) (stops (before.honest_is ∙ is_honest) before.fault kept.truth.truth (λ bus. ne (ap call_of bus)));
     }
 
-module _ {N : Type 0} (flash : N → Flash) (honest : N → Bool) (n : ℕ) where
+module _ {N : Type 0} (view : View N) (n : ℕ) where
   -- what it may cost with a page of the sector
-  pub readies_kept : (old new : Engine N) (fault : CallFault) → Readies flash honest n 1 old (Err fault) new → Readies flash honest n 2 old (Err fault) new
+  pub readies_kept : (old new : Engine N) (fault : CallFault) → Readies view n 1 old (Err fault) new → Readies view n 2 old (Err fault) new
   readies_kept old new fault r = record {
     recent = tt;
     keys = tt;
     unwritten = r.unwritten;
     same_keys = r.same_keys;
     cached = r.cached;
-    costs = call_kept (HasFunds (honest old.nand) (ram old) (image_in flash old)) fault (ram old) (ram new) r.costs;
+    costs = call_kept (HasFunds (view.honest old.nand) (ram old) (image_in view.flash old)) fault (ram old) (ram new) r.costs;
     pins = r.pins;
   }
 
-  module _ (old mid new : Engine N) (same : mid.geometry ≡ old.geometry) (made : Unit {0}) (before : Readies flash honest n 1 old (Ok made) mid) (pin : new.pinned ≡ mid.pinned) (keys : keys_of new.mapping.cached ≡ keys_of mid.mapping.cached) where
-    pub readies_page : (answer : Result (Unit {0}) EngineFault) → PageCosts Data (ram mid) (ram new) answer → Readies flash honest n 2 old (call_of answer) new
+  module _ (old mid new : Engine N) (same : mid.geometry ≡ old.geometry) (made : Unit {0}) (before : Readies view n 1 old (Ok made) mid) (pin : new.pinned ≡ mid.pinned) (keys : keys_of new.mapping.cached ≡ keys_of mid.mapping.cached) where
+    pub readies_page : (answer : Result (Unit {0}) EngineFault) → PageCosts Data (ram mid) (ram new) answer → Readies view n 2 old (call_of answer) new
     readies_page (Ok done) p = record {
       recent = recent_kept n mid.mapping new.mapping keys before.recent;
       keys = keys ∙ before.keys;
       unwritten = λ e. (let no : ⊥ = cc in absurd no);
       same_keys = λ e. (let no : ⊥ = cc in absurd no);
       cached = λ some e. (let no : ⊥ = cc in absurd no);
-      costs = room_page (HasFunds (honest old.nand) (ram old) (image_in flash old)) (ram old) (ram mid) (ram new) same before.costs p;
+      costs = room_page (HasFunds (view.honest old.nand) (ram old) (image_in view.flash old)) (ram old) (ram mid) (ram new) same before.costs p;
       pins = λ none. pin ∙ before.pins none;
     }
     readies_page (Err fault) p = record {
@@ -181,7 +180,7 @@ module _ {N : Type 0} (flash : N → Flash) (honest : N → Bool) (n : ℕ) wher
       unwritten = λ e. (let no : ⊥ = cc in absurd no);
       same_keys = λ e. (let no : ⊥ = cc in absurd no);
       cached = λ some e. (let no : ⊥ = cc in absurd no);
-      costs = page_refused (HasFunds (honest old.nand) (ram old) (image_in flash old)) fault (ram old) (ram mid) (ram new) same before.costs p;
+      costs = page_refused (HasFunds (view.honest old.nand) (ram old) (image_in view.flash old)) fault (ram old) (ram mid) (ram new) same before.costs p;
       pins = tt;
     }
 

@@ -1,6 +1,7 @@
 -- What is true after a flush.
 use Rattle.std.proofs.Common.{◌≡◌, ◌≢◌, ◌↔◌, ℕ, ◌+◌, ◌<◌, ◌≤◌, min, Bool, true, List, [], inr, Option, None, Result, Ok, Err, MatchResult, refl, sym, ap, subst, ◌∙◌}
 use Rattle.std.specs.Prelude.{OnOk, IfErr}
+use Rattle.page_layout.specs.View.{View}
 use Rattle.page_layout.specs.declared.geometry.Geometry.{Geometry}
 use Rattle.page_layout.specs.Page.{Image}
 use Rattle.page_layout.specs.Flash.{Flash, Operation}
@@ -40,17 +41,17 @@ pub flush_well : (answer : Result (Unit {0}) CallFault) (result : Result (Unit {
 flush_well (Ok done) result good g before after r q fault is ne h = (ap stop_of fault, h.truth.truth, pin_at r after None fault (h.truth.passed, h.truth.few))
 flush_well (Err f) result good g before after r q fault is ne h = well_ram (Err f) result good 0 [] g before after r q fault is ne h
 
-pub flush_shown : {N : Type 0} (flash : N → Flash) (recorded : N → Option Recording) (old e last : Engine N)
-    (w : Went (ram old) (flash old.nand) (recorded old.nand) (ram last) (flash last.nand) (recorded last.nand)) (ro : Bool)
+pub flush_shown : {N : Type 0} (view : View N) (old e last : Engine N)
+    (w : Went (ram old) (view.flash old.nand) (view.recorded old.nand) (ram last) (view.flash last.nand) (view.recorded last.nand)) (ro : Bool)
     (answer : Result (Unit {0}) CallFault) (result : Result (Unit {0}) DeviceFault) (good : ℕ) → last ≡ e → IsRam (ram old) → IsRam (ram e)
     → e.geometry ≡ old.geometry → good ≡ good_count (ram old).blocks.table
     → result ≡ answer_of (ram last) good answer → CallTells (ram old) (ram e) answer
     → ((fault : CallFault) → answer ≡ Err fault → CallShort (ram old) (ram e) answer)
-    → MatchResult answer (λ _. KeepsArray old.geometry (image_in flash old) (ram e) (image_in flash e))
-    (CallRefused old.geometry (image_in flash old) (ram e) (image_in flash e))
-    → result ≢ Err BusFault → IfErr result (IsShown old.geometry (is_bad_by (ram old)) old.next [] w.log ro (image_in flash last))
-flush_shown flash recorded old e last w ro (Ok done) result good same safe safe' sized many is tells lacks so ne = subst (λ y. IfErr y (IsShown old.geometry (is_bad_by (ram old)) old.next [] w.log ro (image_in flash last))) (sym is) tt
-flush_shown flash recorded old e last w ro (Err f) result good same safe safe' sized many is tells lacks so ne = shown_after flash recorded old e last w 0 [] ro (Err f) result good same safe safe' sized many is tells (lacks f refl) so ne
+    → MatchResult answer (λ _. KeepsArray old.geometry (image_in view.flash old) (ram e) (image_in view.flash e))
+    (CallRefused old.geometry (image_in view.flash old) (ram e) (image_in view.flash e))
+    → result ≢ Err BusFault → IfErr result (IsShown old.geometry (is_bad_by (ram old)) old.next [] w.log ro (image_in view.flash last))
+flush_shown view old e last w ro (Ok done) result good same safe safe' sized many is tells lacks so ne = subst (λ y. IfErr y (IsShown old.geometry (is_bad_by (ram old)) old.next [] w.log ro (image_in view.flash last))) (sym is) tt
+flush_shown view old e last w ro (Err f) result good same safe safe' sized many is tells lacks so ne = shown_after view old e last w 0 [] ro (Err f) result good same safe safe' sized many is tells (lacks f refl) so ne
 
 -- where it was not to begin
 pub flush_refused : (r : Ram) (s : Flash) {told told' : Option Recording} (w : Went r s told r s told') (ro : Bool) (fault : DeviceFault) → IsRam r

@@ -1,13 +1,12 @@
 -- What a flush has programmed, step after step.
-use Rattle.std.proofs.Common.{◌≡◌, ◌≢◌, ℕ, zero, suc, ◌+◌, ◌*◌, ◌/◌, ◌<◌, ◌≤◌, ◌∙◌, true, false, Bool, List, [], ◌∷◌, get_or, Option, Some, None, IsSome, Result, Ok, Err, OnOk, MatchResult, refl, sym, ap, subst, arith}
+use Rattle.std.proofs.Common.{◌≡◌, ◌≢◌, ℕ, zero, suc, ◌+◌, ◌*◌, ◌/◌, ◌<◌, ◌≤◌, ◌∙◌, true, false, List, [], ◌∷◌, get_or, Some, None, IsSome, Result, Ok, Err, OnOk, MatchResult, refl, sym, ap, subst, arith}
+use Rattle.page_layout.specs.View.{View}
 use Rattle.page_layout.specs.declared.geometry.Geometry.{Geometry}
 use Rattle.page_layout.specs.declared.record.Record.{Record}
 use Rattle.page_layout.specs.declared.record.Kind.{Kind}
 use Rattle.page_layout.specs.declared.record.Kind.TheVariants as kind
 use Rattle.page_layout.specs.declared.record.Key.TheVariants.{Sector}
 use Rattle.page_layout.specs.Key.{key_from}
-use Rattle.page_layout.specs.Flash.{Flash}
-use Rattle.page_layout.specs.Recording.{Recording}
 use Rattle.page_layout.specs.Page.{Page, Image, body_at}
 use Rattle.page_layout.specs.Geometry.{entries, translation_pages, table_pages}
 use Rattle.page_layout.specs.Array.{marks, zeros}
@@ -50,15 +49,15 @@ lacks_by g t m same some clean =
 
 -- ---- the steps
 
-module _ {N : Type 0} (flash : N → Flash) (recorded : N → Option Recording) (honest calm : N → Bool) (failed : N → ℕ) where
+module _ {N : Type 0} (view : View N) where
   -- nothing was done for a page that lacks no row
-  pub page_clean : (t : ℕ) (e : Engine N) → IsClean e.geometry t e.mapping → FlushesPage flash recorded honest t e e
+  pub page_clean : (t : ℕ) (e : Engine N) → IsClean e.geometry t e.mapping → FlushesPage view t e e
   page_clean t e is = record { clean = λ also. refl; lacking = λ lacks. absurd (lacks is) }
 
   -- room was made
-  pub cleared_by : (old mid : Engine N) (done : Unit {0}) → EngineLeaves flash recorded honest calm failed old (Ok done) mid → HasMadeRoom true (ram old) (ram mid)
-      → (honest old.nand ≡ true → Knows (ram old) (image_in flash old) → KeepsArray old.geometry (image_in flash old) (ram mid) (image_in flash mid))
-      → HasCleared flash recorded honest old mid
+  pub cleared_by : (old mid : Engine N) (done : Unit {0}) → EngineLeaves view old (Ok done) mid → HasMadeRoom true (ram old) (ram mid)
+      → (view.honest old.nand ≡ true → Knows (ram old) (image_in view.flash old) → KeepsArray old.geometry (image_in view.flash old) (ram mid) (image_in view.flash mid))
+      → HasCleared view old mid
   cleared_by old mid done leaves room keeps = record {
     room = room;
     honest_is = leaves.honest_is;
@@ -66,10 +65,10 @@ module _ {N : Type 0} (flash : N → Flash) (recorded : N → Option Recording) 
   }
 
   -- a translation page was written back
-  pub written_back : (t : ℕ) (mid new : Engine N) (result : Result (Unit {0}) EngineFault) → IsRam (ram mid) → IsRam (ram new) → LeavesPin (ram mid) (ram new) → Goes (ram mid) (ram new) → Stands flash recorded honest calm failed mid new result
+  pub written_back : (t : ℕ) (mid new : Engine N) (result : Result (Unit {0}) EngineFault) → IsRam (ram mid) → IsRam (ram new) → LeavesPin (ram mid) (ram new) → Goes (ram mid) (ram new) → Stands view mid new result
       → OnOk result (new.mapping ≡ cleaned mid.mapping t) → OnOk result (IsLastPage kind.Translation t (ram new) (page_in new.page)) → WriteBackCosts (ram mid) (ram new) result
-      → (honest mid.nand ≡ true → IsTrue None (ram mid) (image_in flash mid) → MatchResult result (λ done. IsWrittenBack t (ram mid) (image_in flash mid) (ram new) (image_in flash new)) (Refused (ram mid) (image_in flash mid) (ram new) (image_in flash new)))
-      → OnOk result (WritesBack flash recorded honest t mid new)
+      → (view.honest mid.nand ≡ true → IsTrue None (ram mid) (image_in view.flash mid) → MatchResult result (λ done. IsWrittenBack t (ram mid) (image_in view.flash mid) (ram new) (image_in view.flash new)) (Refused (ram mid) (image_in view.flash mid) (ram new) (image_in view.flash new)))
+      → OnOk result (WritesBack view t mid new)
   written_back t mid new (Ok done) s s' beside blocks stands mapping page cost truth = record {
     blocks = blocks;
     put = cost;
@@ -78,29 +77,29 @@ module _ {N : Type 0} (flash : N → Flash) (recorded : N → Option Recording) 
     honest_is = stands.honest_is;
     goes = λ is_honest k. record {
       went = stands.went is_honest (λ bus. (let no : ⊥ = cc in no));
-      keeps = engine_keeps mid.geometry (ram mid) (ram new) (image_in flash mid) (image_in flash mid) (image_in flash new) refl s s' beside (keeps_same (ram mid) (image_in flash mid) k) (truth is_honest k.truth).same;
+      keeps = engine_keeps mid.geometry (ram mid) (ram new) (image_in view.flash mid) (image_in view.flash mid) (image_in view.flash new) refl s s' beside (keeps_same (ram mid) (image_in view.flash mid) k) (truth is_honest k.truth).same;
     };
     means = λ is_honest k. truth is_honest k.truth;
   }
   written_back t mid new (Err fault) s s' beside blocks stands mapping page cost truth = tt
 
   -- room first, and then the page, which lacked a row
-  pub page_flushed : (t : ℕ) (old mid new : Engine N) (result : Result (Unit {0}) EngineFault) → (IsClean old.geometry t old.mapping → ⊥) → HasCleared flash recorded honest old mid → OnOk result (WritesBack flash recorded honest t mid new)
-      → OnOk result (FlushesPage flash recorded honest t old new)
+  pub page_flushed : (t : ℕ) (old mid new : Engine N) (result : Result (Unit {0}) EngineFault) → (IsClean old.geometry t old.mapping → ⊥) → HasCleared view old mid → OnOk result (WritesBack view t mid new)
+      → OnOk result (FlushesPage view t old new)
   page_flushed t old mid new (Ok done) lacks cleared back = record { clean = λ is. absurd (lacks is); lacking = λ also. record { mid = mid; cleared = cleared; back = back } }
   page_flushed t old mid new (Err fault) lacks cleared back = tt
 
-  pub pages_then : (t : ℕ) (old mid new : Engine N) → FlushesPages flash recorded honest t old mid → FlushesPage flash recorded honest t mid new → FlushesPages flash recorded honest (t + 1) old new
+  pub pages_then : (t : ℕ) (old mid new : Engine N) → FlushesPages view t old mid → FlushesPage view t mid new → FlushesPages view (t + 1) old new
   pages_then t old mid new before page =
       let one_more : suc t ≡ t + 1 = omega arith in
-      subst (λ n. FlushesPages flash recorded honest n old new) one_more (mid, before, page)
+      subst (λ n. FlushesPages view n old new) one_more (mid, before, page)
 
   -- ---- table pages
 
-  pub table_written : (u : ℕ) (mid new : Engine N) (done : Unit {0}) → IsRam (ram mid) → IsRam (ram new) → LeavesPin (ram mid) (ram new) → Goes (ram mid) (ram new) → Stands flash recorded honest calm failed mid new (Ok done)
+  pub table_written : (u : ℕ) (mid new : Engine N) (done : Unit {0}) → IsRam (ram mid) → IsRam (ram new) → LeavesPin (ram mid) (ram new) → Goes (ram mid) (ram new) → Stands view mid new (Ok done)
       → new.mapping ≡ mid.mapping → IsLastPage kind.Table u (ram new) (page_in new.page) → new.page.body.items ≡ table_bytes (entries mid.geometry) (ram mid).blocks.table u → HasPut Meta (ram mid) (ram new)
-      → (honest mid.nand ≡ true → IsTrue None (ram mid) (image_in flash mid) → IsTabled u (ram mid) (image_in flash mid) (ram new) (image_in flash new))
-      → WritesTable flash recorded honest u mid new
+      → (view.honest mid.nand ≡ true → IsTrue None (ram mid) (image_in view.flash mid) → IsTabled u (ram mid) (image_in view.flash mid) (ram new) (image_in view.flash new))
+      → WritesTable view u mid new
   table_written u mid new done s s' beside blocks stands mapping page spelled cost truth = record {
     blocks = blocks;
     put = cost;
@@ -110,39 +109,39 @@ module _ {N : Type 0} (flash : N → Flash) (recorded : N → Option Recording) 
     honest_is = stands.honest_is;
     goes = λ is_honest k. record {
       went = stands.went is_honest (λ bus. (let no : ⊥ = cc in no));
-      keeps = engine_keeps mid.geometry (ram mid) (ram new) (image_in flash mid) (image_in flash mid) (image_in flash new) refl s s' beside (keeps_same (ram mid) (image_in flash mid) k) (truth is_honest k.truth).same;
+      keeps = engine_keeps mid.geometry (ram mid) (ram new) (image_in view.flash mid) (image_in view.flash mid) (image_in view.flash new) refl s s' beside (keeps_same (ram mid) (image_in view.flash mid) k) (truth is_honest k.truth).same;
     };
     means = λ is_honest k. truth is_honest k.truth;
   }
 
-  pub tables_then : (u : ℕ) (old mid new : Engine N) → WritesFirst flash recorded honest u old mid → WritesTable flash recorded honest u mid new → WritesFirst flash recorded honest (u + 1) old new
+  pub tables_then : (u : ℕ) (old mid new : Engine N) → WritesFirst view u old mid → WritesTable view u mid new → WritesFirst view (u + 1) old new
   tables_then u old mid new before page =
       let one_more : suc u ≡ u + 1 = omega arith in
-      subst (λ n. WritesFirst flash recorded honest n old new) one_more (mid, before, page)
+      subst (λ n. WritesFirst view n old new) one_more (mid, before, page)
 
   -- rounds so far, of which each but the last saw a failure; so many blocks were good as the last began
   pub record IsInRounds (good : ℕ) (old now : Engine N) : Type 0 where
     pub starts : List (Engine N)
     pub last : Engine N
-    pub failures : Repeats flash recorded honest old starts last
-    pub round : HasRound flash recorded honest last now
+    pub failures : Repeats view old starts last
+    pub round : HasRound view last now
     pub good_is : good ≡ good_count (ram last).blocks.table
 
-  pub rounds_first : (good : ℕ) (a b : Engine N) → good ≡ good_count (ram a).blocks.table → HasRound flash recorded honest a b → IsInRounds good a b
+  pub rounds_first : (good : ℕ) (a b : Engine N) → good ≡ good_count (ram a).blocks.table → HasRound view a b → IsInRounds good a b
   rounds_first good a b is round = record { starts = []; last = a; failures = refl; round = round; good_is = is }
 
-  pub rounds_next : (good now : ℕ) (a b c : Engine N) → now ≡ good_count (ram b).blocks.table → now < good → IsInRounds good a b → HasRound flash recorded honest b c → IsInRounds now a c
+  pub rounds_next : (good now : ℕ) (a b c : Engine N) → now ≡ good_count (ram b).blocks.table → now < good → IsInRounds good a b → HasRound view b c → IsInRounds now a c
   rounds_next good now a b c is lt i round = record { starts = i.last ∷ i.starts; last = b; failures = (i.failures, i.round, omega (arith, is, lt, i.good_is)); round = round; good_is = is }
 
-  pub rounds_last : (good : ℕ) (a b : Engine N) → IsInRounds good a b → good ≤ good_count (ram b).blocks.table → good_count (ram b).blocks.table ≤ good → WritesRounds flash recorded honest a b
+  pub rounds_last : (good : ℕ) (a b : Engine N) → IsInRounds good a b → good ≤ good_count (ram b).blocks.table → good_count (ram b).blocks.table ≤ good → WritesRounds view a b
   rounds_last good a b i le ge = record { starts = i.starts; last = i.last; failed = i.failures; round = i.round; none = omega (arith, i.good_is, le, ge) }
 
 -- the device noted nothing else
-pub flushed_answer : {N : Type 0} (flash : N → Flash) (recorded : N → Option Recording) (honest : N → Bool) (old mid new : Engine N) (answer : Result (Unit {0}) CallFault) (result : Result (Unit {0}) DeviceFault) (good : ℕ) → new ≡ mid → result ≡ answer_of (ram new) good answer
-    → OnOk answer (HasFlushed flash recorded honest old mid) → OnOk result (HasFlushed flash recorded honest old new)
-flushed_answer {N} flash recorded honest old mid new answer result good same is done =
-    let here : OnOk answer (HasFlushed flash recorded honest old new) = subst (λ (e : Engine N). OnOk answer (HasFlushed flash recorded honest old e)) (sym same) done in
-    subst (λ r. OnOk r (HasFlushed flash recorded honest old new)) (sym is) (done_too (HasFlushed flash recorded honest old new) answer good (ram new) here)
+pub flushed_answer : {N : Type 0} (view : View N) (old mid new : Engine N) (answer : Result (Unit {0}) CallFault) (result : Result (Unit {0}) DeviceFault) (good : ℕ) → new ≡ mid → result ≡ answer_of (ram new) good answer
+    → OnOk answer (HasFlushed view old mid) → OnOk result (HasFlushed view old new)
+flushed_answer {N} view old mid new answer result good same is done =
+    let here : OnOk answer (HasFlushed view old new) = subst (λ (e : Engine N). OnOk answer (HasFlushed view old e)) (sym same) done in
+    subst (λ r. OnOk r (HasFlushed view old new)) (sym is) (done_too (HasFlushed view old new) answer good (ram new) here)
 
 -- ---- the page of a sector
 
@@ -179,12 +178,12 @@ write_or_trim g n bytes other r image p = (
 
 -- ---- a flush of what lacks nothing
 
-module _ {N : Type 0} (flash : N → Flash) (recorded : N → Option Recording) (honest : N → Bool) where
-  pages_kept : (k : ℕ) (old back : Engine N) → ((t : ℕ) → t < k → IsClean old.geometry t old.mapping) → FlushesPages flash recorded honest k old back → back ≡ old
+module _ {N : Type 0} (view : View N) where
+  pages_kept : (k : ℕ) (old back : Engine N) → ((t : ℕ) → t < k → IsClean old.geometry t old.mapping) → FlushesPages view k old back → back ≡ old
   pages_kept zero old back clean h = h
   pages_kept (suc k) old back clean h =
       let is : h.0 ≡ old = pages_kept k old h.0 (λ t lt. clean t (omega (arith, lt))) h.1 in
-      let page : FlushesPage flash recorded honest k old back = subst (λ e. FlushesPage flash recorded honest k e back) is h.2 in
+      let page : FlushesPage view k old back = subst (λ e. FlushesPage view k e back) is h.2 in
       page.clean (clean k (omega arith))
 
   -- each page takes a sequence, and each failure one more and a good block
@@ -194,7 +193,7 @@ module _ {N : Type 0} (flash : N → Flash) (recorded : N → Option Recording) 
   abbrev data_of : Engine N → ℕ
   data_of e = (counts_of (ram e).blocks).data_left
 
-  tables_counted : (k : ℕ) (a b : Engine N) → WritesFirst flash recorded honest k a b → (good_of b ≤ good_of a) × (b.next + good_of b ≡ a.next + good_of a + k) × (data_of b ≡ data_of a)
+  tables_counted : (k : ℕ) (a b : Engine N) → WritesFirst view k a b → (good_of b ≤ good_of a) × (b.next + good_of b ≡ a.next + good_of a + k) × (data_of b ≡ data_of a)
   tables_counted zero a b h =
       let goods : good_of b ≡ good_of a = ap good_of h in
       let nexts : b.next ≡ a.next = ap (λ (e : Engine N). e.next) h in
@@ -205,16 +204,16 @@ module _ {N : Type 0} (flash : N → Flash) (recorded : N → Option Recording) 
       let next : b.next ≡ h.0.next + h.2.put.failures + 1 = h.2.put.next in
       (omega (arith, before.0, good), omega (arith, before.1, good, next), h.2.put.put.other ∙ before.2)
 
-  repeats_lose : (starts : List (Engine N)) (a b : Engine N) → Repeats flash recorded honest a starts b → good_of b ≤ good_of a
+  repeats_lose : (starts : List (Engine N)) (a b : Engine N) → Repeats view a starts b → good_of b ≤ good_of a
   repeats_lose [] a b h = (let goods : good_of b ≡ good_of a = ap good_of h in omega (arith, goods))
   repeats_lose (start ∷ before) a b h = (let fewer = repeats_lose before a start h.0 in let less : good_of b < good_of start = h.2 in omega (arith, fewer, less))
 
-  repeats_none : (starts : List (Engine N)) (a b : Engine N) → good_of b ≡ good_of a → Repeats flash recorded honest a starts b → b ≡ a
+  repeats_none : (starts : List (Engine N)) (a b : Engine N) → good_of b ≡ good_of a → Repeats view a starts b → b ≡ a
   repeats_none [] a b is h = h
   repeats_none (start ∷ before) a b is h = (let fewer = repeats_lose before a start h.0 in let less : good_of b < good_of start = h.2 in absurd (omega (arith, fewer, less, is)))
 
   -- the die as room was made, where nothing was to be done: the memory is as it was
-  rested : (old new : Engine N) → ((t : ℕ) → t < translation_pages old.geometry → IsClean old.geometry t old.mapping) → 9 ≤ free_count (ram old).blocks → (h : HasFlushed flash recorded honest old new) → ram h.ready ≡ ram old
+  rested : (old new : Engine N) → ((t : ℕ) → t < translation_pages old.geometry → IsClean old.geometry t old.mapping) → 9 ≤ free_count (ram old).blocks → (h : HasFlushed view old new) → ram h.ready ≡ ram old
   rested old new clean nine h =
       let is : h.back ≡ old = pages_kept (translation_pages old.geometry) old h.back clean h.pages in
       let room : HasMadeRoom true (ram old) (ram h.ready) = subst (λ (e : Engine N). HasMadeRoom true (ram e) (ram h.ready)) is h.cleared.room in
@@ -223,28 +222,28 @@ module _ {N : Type 0} (flash : N → Flash) (recorded : N → Option Recording) 
   abbrev tables_of : Ram → ℕ
   tables_of r = table_pages r.geometry
 
-  pub clean_flush : CleanFlushLaw flash recorded honest
+  pub clean_flush : CleanFlushLaw view
   clean_flush old new clean nine good h =
       let rests : ram h.ready ≡ ram old = rested old new clean nine h in
       let begun : good_of h.ready ≡ good_of old = ap (λ (r : Ram). good_count r.blocks.table) rests in
       let ended : good_of new ≡ good_of h.tables.last = h.tables.none in
       let last : h.tables.last ≡ h.ready = repeats_none h.tables.starts h.ready h.tables.last (omega (arith, begun, ended, good)) h.tables.failed in
-      let round : HasRound flash recorded honest h.ready new = subst (λ (e : Engine N). HasRound flash recorded honest e new) last h.tables.round in
+      let round : HasRound view h.ready new = subst (λ (e : Engine N). HasRound view e new) last h.tables.round in
       let counted = tables_counted (table_pages h.ready.geometry) h.ready new round.pages in
       let nexts : h.ready.next ≡ old.next = ap (λ (r : Ram). r.next) rests in
       let sized : table_pages h.ready.geometry ≡ table_pages old.geometry = ap tables_of rests in
       (omega (arith, counted.1, nexts, sized, begun, good), counted.2 ∙ ap (λ (r : Ram). (counts_of r.blocks).data_left) rests)
 
   -- one block failed, so in the first round of two
-  sized_first : (k : ℕ) (a b : Engine N) → WritesFirst flash recorded honest k a b → b.geometry ≡ a.geometry
+  sized_first : (k : ℕ) (a b : Engine N) → WritesFirst view k a b → b.geometry ≡ a.geometry
   sized_first zero a b h = ap (λ (e : Engine N). e.geometry) h
   sized_first (suc k) a b h = h.2.blocks.geometry ∙ sized_first k a h.0 h.1
 
-  two_rounds : (starts : List (Engine N)) (a last new : Engine N) → Repeats flash recorded honest a starts last → HasRound flash recorded honest last new → good_of new ≡ good_of last → good_of a ≡ good_of new + 1
+  two_rounds : (starts : List (Engine N)) (a last new : Engine N) → Repeats view a starts last → HasRound view last new → good_of new ≡ good_of last → good_of a ≡ good_of new + 1
       → new.next ≡ a.next + 2 * table_pages a.geometry + 1
   two_rounds [] a last new h round none one = (let goods : good_of last ≡ good_of a = ap good_of h in absurd (omega (arith, goods, none, one)))
   two_rounds (start ∷ []) a last new h round none one =
-      let first : HasRound flash recorded honest a last = subst (λ (e : Engine N). HasRound flash recorded honest e last) h.0 h.1 in
+      let first : HasRound view a last = subst (λ (e : Engine N). HasRound view e last) h.0 h.1 in
       let before = tables_counted (table_pages a.geometry) a last first.pages in
       let after = tables_counted (table_pages last.geometry) last new round.pages in
       let sized : table_pages last.geometry ≡ table_pages a.geometry = ap table_pages (sized_first (table_pages a.geometry) a last first.pages) in
@@ -255,7 +254,7 @@ module _ {N : Type 0} (flash : N → Flash) (recorded : N → Option Recording) 
       let least : good_of last < good_of start = h.2 in
       absurd (omega (arith, fewer, less, least, none, one))
 
-  pub failed_flush : FailedFlushLaw flash recorded honest
+  pub failed_flush : FailedFlushLaw view
   failed_flush old new clean nine one h =
       let rests : ram h.ready ≡ ram old = rested old new clean nine h in
       let begun : good_of h.ready ≡ good_of old = ap (λ (r : Ram). good_count r.blocks.table) rests in
@@ -264,7 +263,7 @@ module _ {N : Type 0} (flash : N → Flash) (recorded : N → Option Recording) 
       let sized : table_pages h.ready.geometry ≡ table_pages old.geometry = ap tables_of rests in
       omega (arith, twice, nexts, sized)
 
-  pub lacking_page : LackingPageLaw flash recorded honest
+  pub lacking_page : LackingPageLaw view
   lacking_page t old new lacks nine h =
       let its = h.lacking lacks in
       let rests : ram its.mid ≡ ram old = its.cleared.room.rests nine in

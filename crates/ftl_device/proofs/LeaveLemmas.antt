@@ -1,8 +1,7 @@
 -- Calls of the engine one after another, where no fault stood.
-use Rattle.std.proofs.Common.{◌≡◌, ◌≢◌, ◌≤◌, ◌∙◌, Bool, true, ℕ, Option, None, Some, Result, Ok, Err, refl, ap, arith}
+use Rattle.std.proofs.Common.{◌≡◌, ◌≢◌, ◌≤◌, ◌∙◌, true, ℕ, None, Some, Result, Ok, Err, refl, ap, arith}
+use Rattle.page_layout.specs.View.{View}
 use Rattle.bad_blocks.specs.Table.{good_count}
-use Rattle.page_layout.specs.Flash.{Flash}
-use Rattle.page_layout.specs.Recording.{Recording}
 use Rattle.mapping_cache.specs.Mapping.{MappingState, HasLimitsOf}
 use Rattle.collection.specs.declared.engine.Engine.{Engine}
 use Rattle.collection.specs.declared.fault.EngineFault.{EngineFault}
@@ -55,10 +54,10 @@ refused_tells A B SequenceSpent a b h = h
 refused_tells A B Damaged a b h = tt
 refused_tells A B Bus a b h = tt
 
-module _ {N : Type 0} (flash : N → Flash) (recorded : N → Option Recording) (honest calm : N → Bool) (failed : N → ℕ) where
+module _ {N : Type 0} (view : View N) where
   -- a call that the engine's standing fault would have stopped
-  pub leaves_by : {A : Type 0} (old new : Engine N) (result : Result A EngineFault) → old.fault ≡ None → Stands flash recorded honest calm failed old new result → new.geometry ≡ old.geometry → Tells (ram old) (ram new) result
-      → (honest old.nand ≡ true → Knows (ram old) (image_in flash old) → result ≢ Err Bus → StopsSafely flash recorded old new) → EngineLeaves flash recorded honest calm failed old result new
+  pub leaves_by : {A : Type 0} (old new : Engine N) (result : Result A EngineFault) → old.fault ≡ None → Stands view old new result → new.geometry ≡ old.geometry → Tells (ram old) (ram new) result
+      → (view.honest old.nand ≡ true → Knows (ram old) (image_in view.flash old) → result ≢ Err Bus → StopsSafely view old new) → EngineLeaves view old result new
   leaves_by old new result none s same tells stops = record {
     safe = s.safe;
     fault = fault_noted result (ram old) (ram new) none s.fault;
@@ -73,7 +72,7 @@ module _ {N : Type 0} (flash : N → Flash) (recorded : N → Option Recording) 
   }
 
   -- nothing was asked
-  pub leaves_same : (e : Engine N) → IsSafe flash e → e.fault ≡ None → EngineLeaves {A = Unit {0}} flash recorded honest calm failed e (Ok tt) e
+  pub leaves_same : (e : Engine N) → IsSafe view.flash e → e.fault ≡ None → EngineLeaves {A = Unit {0}} view e (Ok tt) e
   leaves_same e safe none = record {
     safe = safe;
     fault = none;
@@ -83,14 +82,14 @@ module _ {N : Type 0} (flash : N → Flash) (recorded : N → Option Recording) 
     failed_is = omega arith;
     rose = λ bus. (let no : ⊥ = cc in absurd no);
     tells = omega arith;
-    went = λ is_honest ne. went_same (ram e) (flash e.nand) (recorded e.nand);
-    stops = λ is_honest k ne. stops_same flash recorded e safe k.truth;
+    went = λ is_honest ne. went_same (ram e) (view.flash e.nand) (view.recorded e.nand);
+    stops = λ is_honest k ne. stops_same view e safe k.truth;
   }
 
   -- one after another, the first done
-  pub leaves_then : {A B : Type 0} (old mid new : Engine N) (done : A) (result : Result B EngineFault) → KeepsOn flash honest old mid
-      → HasLimitsOf old.mapping mid.mapping → EngineLeaves flash recorded honest calm failed old (Ok done) mid
-      → EngineLeaves flash recorded honest calm failed mid result new → EngineLeaves flash recorded honest calm failed old result new
+  pub leaves_then : {A B : Type 0} (old mid new : Engine N) (done : A) (result : Result B EngineFault) → KeepsOn view old mid
+      → HasLimitsOf old.mapping mid.mapping → EngineLeaves view old (Ok done) mid
+      → EngineLeaves view mid result new → EngineLeaves view old result new
   leaves_then old mid new done result keeps limits first next = record {
     safe = next.safe;
     fault = next.fault;
@@ -98,16 +97,16 @@ module _ {N : Type 0} (flash : N → Flash) (recorded : N → Option Recording) 
     honest_is = next.honest_is ∙ first.honest_is;
     calm_is = next.calm_is ∙ first.calm_is;
     failed_is = omega (arith, first.failed_is, next.failed_is);
-    rose = λ bus. risen_over (failed old.nand) (failed mid.nand) (failed new.nand) first.failed_is (next.rose bus);
+    rose = λ bus. risen_over (view.failed old.nand) (view.failed mid.nand) (view.failed new.nand) first.failed_is (next.rose bus);
     tells = tells_then (ram old) (ram mid) (ram new) result first.tells next.tells;
     went = λ is_honest ne. went_then (ram old) (ram mid) (ram new) _ _ _ _ _ _ first.geometry (first.went is_honest (λ bus. (let no : ⊥ = cc in no))) (next.went (first.honest_is ∙ is_honest) ne);
     stops = λ is_honest k ne.
         let kept = keeps is_honest k in
-        stops_on flash recorded old mid new first.geometry limits kept.array (first.stops is_honest k (λ bus. (let no : ⊥ = cc in no))) (next.stops (first.honest_is ∙ is_honest) kept.truth ne);
+        stops_on view old mid new first.geometry limits kept.array (first.stops is_honest k (λ bus. (let no : ⊥ = cc in no))) (next.stops (first.honest_is ∙ is_honest) kept.truth ne);
   }
 
   -- a refusal, whatever the call would have given
-  pub leaves_refused : (A B : Type 0) (old new : Engine N) (fault : EngineFault) → EngineLeaves {A = A} flash recorded honest calm failed old (Err fault) new → EngineLeaves {A = B} flash recorded honest calm failed old (Err fault) new
+  pub leaves_refused : (A B : Type 0) (old new : Engine N) (fault : EngineFault) → EngineLeaves {A = A} view old (Err fault) new → EngineLeaves {A = B} view old (Err fault) new
   leaves_refused A B old new fault l = record {
     safe = l.safe;
     fault = l.fault;
@@ -122,9 +121,9 @@ module _ {N : Type 0} (flash : N → Flash) (recorded : N → Option Recording) 
   }
 
   -- and as the end of the part of a device's call that asks the die
-  pub leaves_ends : (old new : Engine N) (result : Result (Unit {0}) EngineFault) → EngineLeaves flash recorded honest calm failed old result new
+  pub leaves_ends : (old new : Engine N) (result : Result (Unit {0}) EngineFault) → EngineLeaves view old result new
       → HasLimitsOf old.mapping new.mapping → (new.fault ≡ None → IsCalm (ram new))
-      → EndsCall flash recorded honest calm failed old (call_of result) new
+      → EndsCall view old (call_of result) new
   leaves_ends old new result l limits calm_now = record {
     safe = l.safe;
     fault = call_fault result (ram new) l.fault;
@@ -141,11 +140,11 @@ module _ {N : Type 0} (flash : N → Flash) (recorded : N → Option Recording) 
   }
 
   -- where it was refused the fault stands, and nothing more is said of what waits in memory
-  pub leaves_stuck : {A : Type 0} (old new : Engine N) (fault : EngineFault) → EngineLeaves {A = A} flash recorded honest calm failed old (Err fault) new → HasLimitsOf old.mapping new.mapping → EndsCall flash recorded honest calm failed old (Err (call.Engine fault)) new
+  pub leaves_stuck : {A : Type 0} (old new : Engine N) (fault : EngineFault) → EngineLeaves {A = A} view old (Err fault) new → HasLimitsOf old.mapping new.mapping → EndsCall view old (Err (call.Engine fault)) new
   leaves_stuck old new fault l limits = leaves_ends old new (Err fault) (leaves_refused _ _ old new fault l) limits (λ none. (let stands : new.fault ≡ Some fault = l.fault in let no : ⊥ = cc in absurd no))
 
   -- what was done gives what it likes
-  pub leaves_done : {A B : Type 0} (old new : Engine N) (a : A) (b : B) → EngineLeaves flash recorded honest calm failed old (Ok a) new → EngineLeaves flash recorded honest calm failed old (Ok b) new
+  pub leaves_done : {A B : Type 0} (old new : Engine N) (a : A) (b : B) → EngineLeaves view old (Ok a) new → EngineLeaves view old (Ok b) new
   leaves_done old new a b l = record {
     safe = l.safe;
     fault = l.fault;

@@ -1,6 +1,7 @@
 -- Pages of version 1 are brought forward.
-use Rattle.std.proofs.Common.{◌≡◌, inl, inr, ℕ, Bool, true, false, Option, Some, Result, Ok, Err, ap, sym, ◌∙◌, subst, arith}
+use Rattle.std.proofs.Common.{◌≡◌, inl, inr, ℕ, Bool, true, false, Some, Result, Ok, Err, ap, sym, ◌∙◌, subst, arith}
 use Rattle.std.proofs.lemmas.Bool.{cases_Bool}
+use Rattle.page_layout.specs.View.{View}
 use Rattle.page_layout.specs.declared.geometry.Geometry.{Geometry}
 use Rattle.page_layout.specs.declared.record.Key.{Key}
 use Rattle.page_layout.specs.Page.{Image}
@@ -14,8 +15,6 @@ use Rattle.collection.specs.Collect.{IsRearranged}
 use Rattle.std.specs.Option.{ForSome}
 use Rattle.collection.specs.Results.{IsSame}
 use Rattle.collection.specs.Renew.{HasNoneDue, HasDue, IsRenewedAt}
-use Rattle.page_layout.specs.Flash.{Flash}
-use Rattle.page_layout.specs.Recording.{Recording}
 use Rattle.std.specs.Prelude.{IfErr, OnOk}
 use Rattle.bad_blocks.specs.Table.{good_count}
 use Rattle.allocation.specs.State.{State}
@@ -119,15 +118,15 @@ call_tells_then a b c (Err (call.Engine Damaged)) same h = tt
 call_tells_then a b c (Err (call.Engine Bus)) same h = tt
 call_tells_then a b c (Err call.OutOfMemory) same h = h
 
-module _ {N : Type 0} (flash : N → Flash) (recorded : N → Option Recording) (honest calm : N → Bool) (failed : N → ℕ) where
+module _ {N : Type 0} (view : View N) where
   -- a call that was done after a look keeps what is known
-  pub keeps_look : (old mid : Engine N) → ram mid ≡ ram old → (honest old.nand ≡ true → flash mid.nand ≡ flash old.nand) → KeepsOn flash honest old mid
-  keeps_look old mid same still = λ is_honest k. over (λ r i. KeepsArray old.geometry (image_in flash old) r i) (ram mid) (ram old) (image_in flash mid) (image_in flash old) (sym same) (ap (λ f. f.image) (sym (still is_honest))) (keeps_same (ram old) (image_in flash old) k)
+  pub keeps_look : (old mid : Engine N) → ram mid ≡ ram old → (view.honest old.nand ≡ true → view.flash mid.nand ≡ view.flash old.nand) → KeepsOn view old mid
+  keeps_look old mid same still = λ is_honest k. over (λ r i. KeepsArray old.geometry (image_in view.flash old) r i) (ram mid) (ram old) (image_in view.flash mid) (image_in view.flash old) (sym same) (ap (λ f. f.image) (sym (still is_honest))) (keeps_same (ram old) (image_in view.flash old) k)
 
   -- the rest of the call after it
   pub ends_after : {A : Type 0} (old mid new : Engine N) (x : A) (result : Result (Unit {0}) CallFault) → ram mid ≡ ram old
-      → (honest old.nand ≡ true → flash mid.nand ≡ flash old.nand) → EngineLeaves flash recorded honest calm failed old (Ok x) mid
-      → EndsCall flash recorded honest calm failed mid result new → EndsCall flash recorded honest calm failed old result new
+      → (view.honest old.nand ≡ true → view.flash mid.nand ≡ view.flash old.nand) → EngineLeaves view old (Ok x) mid
+      → EndsCall view mid result new → EndsCall view old result new
   ends_after old mid new x result same still first next = record {
     safe = next.safe;
     fault = next.fault;
@@ -135,14 +134,14 @@ module _ {N : Type 0} (flash : N → Flash) (recorded : N → Option Recording) 
     honest_is = next.honest_is ∙ first.honest_is;
     calm_is = next.calm_is ∙ first.calm_is;
     failed_is = omega (arith, first.failed_is, next.failed_is);
-    rose = λ bus. risen_over (failed old.nand) (failed mid.nand) (failed new.nand) first.failed_is (next.rose bus);
+    rose = λ bus. risen_over (view.failed old.nand) (view.failed mid.nand) (view.failed new.nand) first.failed_is (next.rose bus);
     limits = limits_then _ _ _ limits next.limits;
     calm_memory = next.calm_memory;
     tells = call_tells_then (ram old) (ram mid) (ram new) result (ap (λ (r : Ram). r.blocks) same) next.tells;
     went = λ is_honest ne. went_then (ram old) (ram mid) (ram new) _ _ _ _ _ _ first.geometry (first.went is_honest (λ bus. (let no : ⊥ = cc in no))) (next.went (first.honest_is ∙ is_honest) ne);
     stops = λ is_honest k ne.
         let kept = keeps_look old mid same still is_honest k in
-        stops_on flash recorded old mid new first.geometry limits kept.array (first.stops is_honest k (λ bus. (let no : ⊥ = cc in no))) (next.stops (first.honest_is ∙ is_honest) kept.truth ne);
+        stops_on view old mid new first.geometry limits kept.array (first.stops is_honest k (λ bus. (let no : ⊥ = cc in no))) (next.stops (first.honest_is ∙ is_honest) kept.truth ne);
   }
     where
       limits : HasLimitsOf old.mapping mid.mapping

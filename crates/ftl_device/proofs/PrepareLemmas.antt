@@ -1,5 +1,6 @@
 -- A sector is made ready, one step after another.
 use Rattle.std.proofs.Common.{◌≡◌, ◌≢◌, ℕ, ◌≤◌, ◌∙◌, None, Option, Some, Result, Ok, Err, OnOk, IfErr, MatchResult, MatchOption, false, [], refl, sym, ap, subst, arith}
+use Rattle.page_layout.specs.View.{View}
 use Rattle.page_layout.specs.declared.geometry.Geometry.{Geometry}
 use Rattle.page_layout.specs.declared.record.Key.TheVariants.{Sector}
 use Rattle.page_layout.specs.Page.{Image}
@@ -106,9 +107,9 @@ module _ {N : Type 0} (e f : Engine N) (n : ℕ) (row : Option ℕ) (is : f ≡ 
       let here = loaded_limits e.mapping n row in
       subst P (sym is) (record { geometry = here.geometry ∙ l.geometry; capacity = here.capacity ∙ l.capacity })
 
-  pub went_loaded : (flash : N → Flash) (recorded : N → Option Recording) (a : Ram) (s : Flash) (rs : Option Recording) → Went a s rs (ram e) (flash e.nand) (recorded e.nand) → Went a s rs (ram f) (flash f.nand) (recorded f.nand)
-  went_loaded flash recorded a s rs w =
-      let P : Engine N → Type 0 = λ x. Went a s rs (ram x) (flash x.nand) (recorded x.nand) in
+  pub went_loaded : (view : View N) (a : Ram) (s : Flash) (rs : Option Recording) → Went a s rs (ram e) (view.flash e.nand) (view.recorded e.nand) → Went a s rs (ram f) (view.flash f.nand) (view.recorded f.nand)
+  went_loaded view a s rs w =
+      let P : Engine N → Type 0 = λ x. Went a s rs (ram x) (view.flash x.nand) (view.recorded x.nand) in
       subst P (sym is) (record { log = w.log; leads = w.leads; records = w.records; follows = w.follows; next = w.next; wears = w.wears; numbers = w.numbers })
 
   pub keeps_loaded : (flash : N → Flash) (g : Geometry) (before : Image) → IsRam (ram e) → IsRam (ram f) → KeepsArray g before (ram e) (image_in flash e) → IsTrue None (ram f) (image_in flash e) → KeepsArray g before (ram f) (image_in flash f)

@@ -1,14 +1,13 @@
 -- Pages of version 1 over many calls: they only fall.
-use Rattle.std.proofs.Common.{◌≡◌, ◌≢◌, ◌↔◌, inl, inr, ℕ, zero, suc, ◌+◌, ◌<◌, ◌≤◌, Bool, true, false, Option, Some, List, [], ◌∷◌, Result, Ok, Err, refl, sym, ◌∙◌, ap, subst, arith}
+use Rattle.std.proofs.Common.{◌≡◌, ◌≢◌, ◌↔◌, inl, inr, ℕ, zero, suc, ◌+◌, ◌<◌, ◌≤◌, Bool, true, false, Some, List, [], ◌∷◌, Result, Ok, Err, refl, sym, ◌∙◌, ap, subst, arith}
 use Rattle.std.specs.Prelude.{count_by, OnOk}
 use Rattle.std.proofs.lemmas.Bool.{cases_Bool}
 use Rattle.std.proofs.Math.Nat.{eq-or-lt_of_le}
+use Rattle.page_layout.specs.View.{View}
 use Rattle.page_layout.specs.declared.geometry.Geometry.{Geometry}
 use Rattle.page_layout.specs.declared.record.Key.{Key}
 use Rattle.page_layout.specs.declared.record.Key.TheVariants.{Sector, Translation, Table}
 use Rattle.page_layout.specs.Page.{Image}
-use Rattle.page_layout.specs.Flash.{Flash}
-use Rattle.page_layout.specs.Recording.{Recording}
 use Rattle.page_layout.specs.Geometry.{table_pages}
 use Rattle.page_layout.specs.Sound.{version_for}
 use Rattle.page_layout.specs.Key.{key_eq}
@@ -68,14 +67,14 @@ finishes g x y adds tables two only (Table u) = tables two u
 not_bus : (result : Result (Unit {0}) DeviceFault) → result ≡ Ok tt → result ≢ Err BusFault
 not_bus result done e = (let no : ⊥ = cc in no)
 
-pub flush_finishes : {N : Type 0} (flash : N → Flash) (recorded : N → Option Recording) (honest calm : N → Bool) (failed : N → ℕ) (old new : Device N)
-    (result : Result (Unit {0}) DeviceFault) → Upkeeps flash recorded honest calm failed Flush old result new → honest old.engine.nand ≡ true
-    → IsWell flash old
-    → OnOk result (Finishes old.engine.geometry (image_in flash old.engine) (image_in flash new.engine))
-flush_finishes flash recorded honest calm failed old new (Ok done) k is_honest well =
+pub flush_finishes : {N : Type 0} (view : View N) (old new : Device N)
+    (result : Result (Unit {0}) DeviceFault) → Upkeeps view Flush old result new → view.honest old.engine.nand ≡ true
+    → IsWell view.flash old
+    → OnOk result (Finishes old.engine.geometry (image_in view.flash old.engine) (image_in view.flash new.engine))
+flush_finishes view old new (Ok done) k is_honest well =
     let some = not_bus (Ok done) refl in
-    finishes old.engine.geometry (image_in flash old.engine) (image_in flash new.engine) (k.means is_honest well some).versions ((k.logs is_honest some).flushed well refl refl).renewed
-flush_finishes flash recorded honest calm failed old new (Err fault) k is_honest well = tt
+    finishes old.engine.geometry (image_in view.flash old.engine) (image_in view.flash new.engine) (k.means is_honest well some).versions ((k.logs is_honest some).flushed well refl refl).renewed
+flush_finishes view old new (Err fault) k is_honest well = tt
 
 -- ---- how many are old
 

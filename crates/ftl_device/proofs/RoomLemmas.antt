@@ -3,6 +3,7 @@ use Rattle.std.proofs.Common.{◌≡◌, ◌≢◌, ℕ, zero, suc, ◌+◌, ◌
 use Rattle.std.proofs.Common.{get_or, Option, Some, None, Result, Ok, Err, IsOk, OnOk, IfErr, MatchResult, refl, sym, ap, subst, arith}
 use Rattle.std.proofs.lemmas.List.{get_or-replicate}
 use Rattle.std.proofs.lemmas.List.Sums.{sum_by-cons}
+use Rattle.page_layout.specs.View.{View}
 use Rattle.page_layout.specs.declared.geometry.Geometry.{Geometry}
 use Rattle.page_layout.specs.Page.{Image}
 use Rattle.page_layout.specs.Geometry.{entries, translation_pages}
@@ -18,7 +19,6 @@ use Rattle.collection.specs.Safe.{IsRam, is_shut, ram, image_in}
 use Rattle.collection.specs.Left.{IsCalm, PinIsFew}
 use Rattle.collection.specs.Acts.{RestsOrErases}
 use Rattle.collection.specs.Room.{Collects}
-use Rattle.page_layout.specs.Flash.{Flash}
 use Rattle.collection.specs.Results.{Goes, fault_after}
 use Rattle.collection.specs.Collect.{GoesOn, KeepsKeys, Refreshes, IsUpToDate, HasRoom, RoomTells, IsRearranged, RoomRefused}
 use Rattle.collection.specs.Collect.{IsAiling, HasAiling, HasNoneAiling, RescueCosts, IsRescued}
@@ -114,14 +114,14 @@ refused_room a b x y Damaged r few = r
 refused_room a b x y Bus r few = tt
 
 -- what is known of the pinned block then: where nothing was done it is as it was, and else none is pinned
-pub room_knows : {N : Type 0} (flash : N → Flash) (erases : N → ℕ) (result : Result (Unit {0}) EngineFault) (e f : Engine N)
-    → OnOk result (IsCalm (ram f)) → OnOk result (RestsOrErases erases e f)
-    → MatchResult result (λ done. IsRearranged (ram e) (image_in flash e) (ram f) (image_in flash f))
-    (RoomRefused (ram e) (image_in flash e) (ram f) (image_in flash f))
-    → (result ≢ Err Bus → PinIsFew 0 (ram f)) → Knows (ram e) (image_in flash e) → MatchResult result (λ done. Knows (ram f) (image_in flash f)) (λ fault. fault ≢ Bus → PinIsFew 0 (ram f))
-room_knows {N} flash erases (Ok done) e f calm (inl same) r few k = (let P : Engine N → Type 0 = λ z. Knows (ram z) (image_in flash z) in subst P (sym same) k)
-room_knows flash erases (Ok done) e f calm (inr erased) r few k = knows_none (ram f) (image_in flash f) r.truth calm erased.1
-room_knows flash erases (Err fault) e f calm or r few k = λ ne. few (λ is. ne (cc))
+pub room_knows : {N : Type 0} (view : View N) (result : Result (Unit {0}) EngineFault) (e f : Engine N)
+    → OnOk result (IsCalm (ram f)) → OnOk result (RestsOrErases view.erases e f)
+    → MatchResult result (λ done. IsRearranged (ram e) (image_in view.flash e) (ram f) (image_in view.flash f))
+    (RoomRefused (ram e) (image_in view.flash e) (ram f) (image_in view.flash f))
+    → (result ≢ Err Bus → PinIsFew 0 (ram f)) → Knows (ram e) (image_in view.flash e) → MatchResult result (λ done. Knows (ram f) (image_in view.flash f)) (λ fault. fault ≢ Bus → PinIsFew 0 (ram f))
+room_knows {N} view (Ok done) e f calm (inl same) r few k = (let P : Engine N → Type 0 = λ z. Knows (ram z) (image_in view.flash z) in subst P (sym same) k)
+room_knows view (Ok done) e f calm (inr erased) r few k = knows_none (ram f) (image_in view.flash f) r.truth calm erased.1
+room_knows view (Err fault) e f calm or r few k = λ ne. few (λ is. ne (cc))
 
 -- what holds of a call that was done holds where no fault stands after it
 pub when_done : (P : Type 0) (result : Result (Unit {0}) EngineFault) (fault : Option EngineFault) → fault ≡ fault_after None result → OnOk result P → fault ≡ None → P

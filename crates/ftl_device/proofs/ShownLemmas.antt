@@ -3,6 +3,7 @@ use Rattle.std.proofs.Common.{◌≡◌, ◌≢◌, ℕ, ◌+◌, ◌≤◌, ◌
 use Rattle.std.proofs.Common.{subst, ◌∙◌, arith}
 use Rattle.std.specs.Prelude.{IfErr}
 use Rattle.std.proofs.lemmas.Bool.{ltb-true}
+use Rattle.page_layout.specs.View.{View}
 use Rattle.page_layout.specs.declared.geometry.Geometry.{Geometry}
 use Rattle.page_layout.specs.Flash.{Flash, Operation}
 use Rattle.page_layout.specs.Recording.{Recording}
@@ -50,19 +51,19 @@ shown_at old r s t w g n bytes ro (Err (call.Engine engine_fault.Damaged)) safe 
 shown_at old r s t w g n bytes ro (Err (call.Engine engine_fault.Bus)) safe safe' same tells lacks so ne = ne refl
 shown_at old r s t w g n bytes ro (Err call.OutOfMemory) safe safe' same tells lacks so ne = tt
 
-pub shown_after : {N : Type 0} (flash : N → Flash) (recorded : N → Option Recording) (old e last : Engine N)
-    (w : Went (ram old) (flash old.nand) (recorded old.nand) (ram last) (flash last.nand) (recorded last.nand)) (n : ℕ) (bytes : List ℕ)
+pub shown_after : {N : Type 0} (view : View N) (old e last : Engine N)
+    (w : Went (ram old) (view.flash old.nand) (view.recorded old.nand) (ram last) (view.flash last.nand) (view.recorded last.nand)) (n : ℕ) (bytes : List ℕ)
     (ro : Bool) (answer : Result (Unit {0}) CallFault) (result : Result (Unit {0}) DeviceFault) (good : ℕ) → last ≡ e → IsRam (ram old)
     → IsRam (ram e) → e.geometry ≡ old.geometry → good ≡ good_count (ram old).blocks.table
     → result ≡ answer_of (ram last) good answer → CallTells (ram old) (ram e) answer → CallShort (ram old) (ram e) answer
-    → MatchResult answer (λ _. HoldsSector old.geometry n bytes (image_in flash old) (ram e) (image_in flash e))
-    (CallRefused old.geometry (image_in flash old) (ram e) (image_in flash e))
-    → result ≢ Err BusFault → IfErr result (IsShown old.geometry (is_bad_by (ram old)) old.next [] w.log ro (image_in flash last))
-shown_after {N} flash recorded old e last w n bytes ro answer result good same safe safe' sized many is tells lacks so ne =
+    → MatchResult answer (λ _. HoldsSector old.geometry n bytes (image_in view.flash old) (ram e) (image_in view.flash e))
+    (CallRefused old.geometry (image_in view.flash old) (ram e) (image_in view.flash e))
+    → result ≢ Err BusFault → IfErr result (IsShown old.geometry (is_bad_by (ram old)) old.next [] w.log ro (image_in view.flash last))
+shown_after {N} view old e last w n bytes ro answer result good same safe safe' sized many is tells lacks so ne =
     let whole : result ≡ answer_of (ram e) (good_count (ram old).blocks.table) answer = is ∙ (ap (λ x. answer_of (ram x) good answer) same ∙ ap (λ k. answer_of (ram e) k answer) many) in
-    let P : Engine N → Type 0 = λ x. (v : Went (ram old) (flash old.nand) (recorded old.nand) (ram x) (flash x.nand) (recorded x.nand)) → IfErr result (IsShown old.geometry (is_bad_by (ram old)) old.next [] v.log ro (image_in flash x)) in
-    let here : P e = λ v. subst (λ y. IfErr y (IsShown old.geometry (is_bad_by (ram old)) old.next [] v.log ro (image_in flash e))) (sym whole)
-    (shown_at (ram old) (ram e) (flash old.nand) (flash e.nand) v old.geometry n bytes ro answer safe safe' sized tells lacks so (λ bus. ne (whole ∙ bus))) in
+    let P : Engine N → Type 0 = λ x. (v : Went (ram old) (view.flash old.nand) (view.recorded old.nand) (ram x) (view.flash x.nand) (view.recorded x.nand)) → IfErr result (IsShown old.geometry (is_bad_by (ram old)) old.next [] v.log ro (image_in view.flash x)) in
+    let here : P e = λ v. subst (λ y. IfErr y (IsShown old.geometry (is_bad_by (ram old)) old.next [] v.log ro (image_in view.flash e))) (sym whole)
+    (shown_at (ram old) (ram e) (view.flash old.nand) (view.flash e.nand) v old.geometry n bytes ro answer safe safe' sized tells lacks so (λ bus. ne (whole ∙ bus))) in
     subst P (sym same) here w
 
 -- ---- where the device is left read-only
@@ -97,8 +98,8 @@ module _ (command : Command) (old r : Ram) (s t : Flash) {told told' : Option Re
   flush_left_at its good (Err (call.Engine engine_fault.Bus)) h = tt
   flush_left_at its good (Err call.OutOfMemory) h = absurd h
 
-module _ {N : Type 0} (flash : N → Flash) (recorded : N → Option Recording) (command : Command) (old e last : Engine N)
-    (w : Went (ram old) (flash old.nand) (recorded old.nand) (ram last) (flash last.nand) (recorded last.nand)) (ro after : Bool)
+module _ {N : Type 0} (view : View N) (command : Command) (old e last : Engine N)
+    (w : Went (ram old) (view.flash old.nand) (view.recorded old.nand) (ram last) (view.flash last.nand) (view.recorded last.nand)) (ro after : Bool)
     (answer : Result (Unit {0}) CallFault) (result : Result (Unit {0}) DeviceFault) (good : ℕ)
     (same : last ≡ e) (is : result ≡ answer_of (ram last) good answer) (safe : IsRam (ram old)) (safe' : IsRam (ram last)) (sized : e.geometry ≡ old.geometry) (flag : after ≡ is_scarce (free_count (ram last).blocks)) (on : after ≡ true) where
   abbrev Left : Result (Unit {0}) DeviceFault → Type 0
@@ -108,10 +109,10 @@ module _ {N : Type 0} (flash : N → Flash) (recorded : N → Option Recording) 
   here = ap (λ (x : Engine N). x.geometry) same ∙ sized
 
   pub left_after : CallShort (ram old) (ram e) answer → IsLeftReadOnly command old.geometry (is_bad_by (ram old)) [] w.log ro result
-  left_after lacks = subst Left (sym is) (left_at command (ram old) (ram last) (flash old.nand) (flash last.nand) w ro safe safe' here (sym flag ∙ on) good answer (subst (λ (x : Engine N). CallShort (ram old) (ram x) answer) (sym same) lacks))
+  left_after lacks = subst Left (sym is) (left_at command (ram old) (ram last) (view.flash old.nand) (view.flash last.nand) w ro safe safe' here (sym flag ∙ on) good answer (subst (λ (x : Engine N). CallShort (ram old) (ram x) answer) (sym same) lacks))
 
   pub flush_left_after : is_flush command ≡ true → FlushShort (ram old) (ram e) answer → IsLeftReadOnly command old.geometry (is_bad_by (ram old)) [] w.log ro result
-  flush_left_after its lacks = subst Left (sym is) (flush_left_at command (ram old) (ram last) (flash old.nand) (flash last.nand) w ro safe safe' here (sym flag ∙ on) its good answer (subst (λ (x : Engine N). FlushShort (ram old) (ram x) answer) (sym same) lacks))
+  flush_left_after its lacks = subst Left (sym is) (flush_left_at command (ram old) (ram last) (view.flash old.nand) (view.flash last.nand) w ro safe safe' here (sym flag ∙ on) its good answer (subst (λ (x : Engine N). FlushShort (ram old) (ram x) answer) (sym same) lacks))
 
 -- where it was not to begin
 pub left_refused : (command : Command) (r : Ram) (log : List Operation) (ro : Bool) (n : ℕ) (fault : DeviceFault) → MayNot r ro n fault → IsLeftReadOnly command r.geometry (is_bad_by r) [] log ro (Err fault)

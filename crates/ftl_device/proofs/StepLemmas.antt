@@ -1,11 +1,11 @@
 -- A step of the pinned block, as a turn takes it.
 use Rattle.std.proofs.Common.{◌≡◌, ◌≢◌, ◌⊎◌, ℕ, ◌+◌, ◌-◌, ◌^◌, ◌<◌, ◌≤◌, ◌==◌, ◌&&◌, ◌||◌, ◌∙◌, inl, inr, not, Bool, true, false, List, [], length, IsSome, None, Option, Some, Result, Ok, Err, OnOk, MatchResult, MatchOption, refl, sym, ap, subst, arith}
 use Rattle.std.proofs.lemmas.Bool.{cases_lt}
+use Rattle.page_layout.specs.View.{View}
 use Rattle.page_layout.specs.Counter.{counted, HasRisen}
 use Rattle.page_layout.specs.declared.geometry.Geometry.{Geometry}
 use Rattle.page_layout.specs.Page.{Image}
 use Rattle.page_layout.specs.Flash.{Flash}
-use Rattle.page_layout.specs.Recording.{Recording}
 use Rattle.page_layout.specs.Geometry.{vmax}
 use Rattle.page_layout.specs.Array.{marks, array_of}
 use Rattle.page_layout.specs.Version.{AddsNoOld}
@@ -243,9 +243,9 @@ module _ {N : Type 0} (flash : N → Flash) (e f : Engine N) (block : ℕ) (is :
   pub worked_pinned : (erases : N → ℕ) (new : Engine N) → HasWorked (ram f) (ram new) (erases f.nand) (erases new.nand) → HasWorked (ram e) (ram new) (erases e.nand) (erases new.nand)
   worked_pinned erases new h = (let P : Engine N → Type 0 = λ z. HasWorked (ram z) (ram new) (erases z.nand) (erases new.nand) in subst P is h)
 
-  module _ (recorded : N → Option Recording) (honest calm : N → Bool) (erases failed : N → ℕ) where
-    leaves_pinned : IsSafe flash e → IsSafe flash f → e.fault ≡ None → EngineLeaves {A = Unit {0}} flash recorded honest calm failed e (Ok tt) f
-    leaves_pinned was safe none = (let P : Engine N → Type 0 = λ z. IsSafe flash z → EngineLeaves {A = Unit {0}} flash recorded honest calm failed e (Ok tt) z in subst P (sym is) (λ s. record {
+  module _ (view : View N) where
+    leaves_pinned : IsSafe flash e → IsSafe flash f → e.fault ≡ None → EngineLeaves {A = Unit {0}} flash view e (Ok tt) f
+    leaves_pinned was safe none = (let P : Engine N → Type 0 = λ z. IsSafe flash z → EngineLeaves {A = Unit {0}} flash view e (Ok tt) z in subst P (sym is) (λ s. record {
       safe = s;
       fault = none;
       geometry = refl;
@@ -254,27 +254,27 @@ module _ {N : Type 0} (flash : N → Flash) (e f : Engine N) (block : ℕ) (is :
       failed_is = omega arith;
       rose = λ bus. (let no : ⊥ = cc in absurd no);
       tells = omega arith;
-      went = λ is_honest ne. (let w = went_same (ram e) (flash e.nand) (recorded e.nand) in record { log = w.log; leads = w.leads; records = w.records; follows = w.follows; next = w.next; wears = w.wears; numbers = w.numbers });
-      stops = λ is_honest k ne. stops_same flash recorded e was k.truth;
+      went = λ is_honest ne. (let w = went_same (ram e) (flash e.nand) (view.recorded e.nand) in record { log = w.log; leads = w.leads; records = w.records; follows = w.follows; next = w.next; wears = w.wears; numbers = w.numbers });
+      stops = λ is_honest k ne. stops_same flash view.recorded e was k.truth;
     }) safe)
 
     -- the step after it is one of the engine before
     pub collects_pinned : (new : Engine N) (result : Result (Unit {0}) EngineFault) → IsSafe flash e → IsSafe flash f → e.fault ≡ None
         → (Knows (ram e) (image_in flash e) → Knows (ram f) (image_in flash f))
-        → CollectsOn flash recorded honest calm erases failed f result new → CollectsOn flash recorded honest calm erases failed e result new
+        → CollectsOn flash view f result new → CollectsOn flash view e result new
     collects_pinned new result was safe going begun k = record {
-      leaves = leaves_then flash recorded honest calm failed e f new tt result (λ known w. keeps_pinned (begun w)) limits_pinned (leaves_pinned was safe going) k.leaves;
+      leaves = leaves_then flash view e f new tt result (λ known w. keeps_pinned (begun w)) limits_pinned (leaves_pinned was safe going) k.leaves;
       limits = (let P : Engine N → Type 0 = λ z. HasLimitsOf z.mapping new.mapping in subst P is k.limits);
       calm_memory = k.calm_memory;
       goes = goes_pinned new k.goes;
       counts = counts_pinned (ram new) result k.counts;
-      risen = (let P : Engine N → Type 0 = λ z. OnOk result ((before : ℕ) → HasRisen before (erases z.nand) → HasRisen before (erases new.nand)) in subst P is k.risen);
+      risen = (let P : Engine N → Type 0 = λ z. OnOk result ((before : ℕ) → HasRisen before (view.erases z.nand) → HasRisen before (view.erases new.nand)) in subst P is k.risen);
       bad = λ known w. ok_map result (bad_pinned new) (k.bad (honest_pinned ∙ known) (begun w));
       truth = λ known w. truth_pinned result (ram new) (image_in flash new) (k.truth (honest_pinned ∙ known) (begun w));
     }
       where
-        honest_pinned : honest f.nand ≡ honest e.nand
-        honest_pinned = ap (λ (z : Engine N). honest z.nand) is
+        honest_pinned : view.honest f.nand ≡ view.honest e.nand
+        honest_pinned = ap (λ (z : Engine N). view.honest z.nand) is
 
         keeps_pinned : Knows (ram f) (image_in flash f) → KeepsArray e.geometry (image_in flash e) (ram f) (image_in flash f)
         keeps_pinned k = record {
@@ -287,9 +287,9 @@ module _ {N : Type 0} (flash : N → Flash) (e f : Engine N) (block : ℕ) (is :
         limits_pinned = subst (λ (z : Engine N). HasLimitsOf e.mapping z.mapping) (sym is) (record { geometry = refl; capacity = refl })
 
 -- none begins
-pub collects_none : {N : Type 0} (flash : N → Flash) (recorded : N → Option Recording) (honest calm : N → Bool) (erases failed : N → ℕ) (e : Engine N) → IsSafe flash e → e.fault ≡ None → IsCalm (ram e) → CollectsOn flash recorded honest calm erases failed e (Ok tt) e
-collects_none flash recorded honest calm erases failed e safe going calm_now = record {
-  leaves = leaves_same flash recorded honest calm failed e safe going;
+pub collects_none : {N : Type 0} (view : View N) (e : Engine N) → IsSafe view.flash e → e.fault ≡ None → IsCalm (ram e) → CollectsOn view e (Ok tt) e
+collects_none view e safe going calm_now = record {
+  leaves = leaves_same view e safe going;
   limits = record { geometry = refl; capacity = refl };
   calm_memory = λ none. calm_now;
   goes = on_same (ram e);
@@ -316,9 +316,9 @@ pub quiet_then : {N : Type 0} (erases : N → ℕ) (a b c : Engine N) → RestsO
 quiet_then erases a b c or risen (inl w) = inl (worked_then erases a b c or risen w)
 quiet_then erases a b c or risen (inr q) = inr q
 
-pub fallen_then : {N : Type 0} (flash : N → Flash) (erases : N → ℕ) (a b c : Engine N) → RestsOrErases erases a b → ((before : ℕ) → HasRisen before (erases b.nand) → HasRisen before (erases c.nand)) → HasFallen flash erases b c → HasFallen flash erases a c
-fallen_then {N} flash erases a b c (inl same) risen h = (let P : Engine N → Type 0 = λ z. HasFallen flash erases z c in subst P same h)
-fallen_then flash erases a b c (inr rose) risen h = inr (inl (risen (erases a.nand) rose.0))
+pub fallen_then : {N : Type 0} (view : View N) (a b c : Engine N) → RestsOrErases view.erases a b → ((before : ℕ) → HasRisen before (view.erases b.nand) → HasRisen before (view.erases c.nand)) → HasFallen view b c → HasFallen view a c
+fallen_then {N} view a b c (inl same) risen h = (let P : Engine N → Type 0 = λ z. HasFallen view z c in subst P same h)
+fallen_then view a b c (inr rose) risen h = inr (inl (risen (view.erases a.nand) rose.0))
 
 -- with twelve free blocks and nothing pinned nothing is done for room, and no page is rescued that was in no bad block
 pub no_rescue : {N : Type 0} (a b : Engine N) → b ≡ a → HasNoneAiling (ram a).blocks → HasAiling (ram b).blocks → ⊥
@@ -335,9 +335,9 @@ none_worked {N} erases a b c (inl same) risen none some = absurd (not_ailing (ra
 none_worked erases a b c (inr rose) risen none some = inr (risen (erases a.nand) rose.0)
 
 -- the rescue of a turn: where nothing was done for room, a bad block had a page as the turn began
-pub rescue_falls : {N : Type 0} (flash : N → Flash) (erases : N → ℕ) (a b c : Engine N) → RestsOrErases erases a b → erases c.nand ≡ erases b.nand → HasAiling (ram b).blocks → HasNoneAiling (ram a).blocks → HasFallen flash erases a c
-rescue_falls {N} flash erases a b c (inl same) e some none = absurd (not_ailing (ram b).blocks (let P : Engine N → Type 0 = λ z. HasNoneAiling (ram z).blocks in subst P (sym same) none) some)
-rescue_falls flash erases a b c (inr rose) e some none = inr (inl (subst (HasRisen (erases a.nand)) (sym e) rose.0))
+pub rescue_falls : {N : Type 0} (view : View N) (a b c : Engine N) → RestsOrErases view.erases a b → view.erases c.nand ≡ view.erases b.nand → HasAiling (ram b).blocks → HasNoneAiling (ram a).blocks → HasFallen view a c
+rescue_falls {N} view a b c (inl same) e some none = absurd (not_ailing (ram b).blocks (let P : Engine N → Type 0 = λ z. HasNoneAiling (ram z).blocks in subst P (sym same) none) some)
+rescue_falls view a b c (inr rose) e some none = inr (inl (subst (HasRisen (view.erases a.nand)) (sym e) rose.0))
 
 pub risen_same : (n m : ℕ) → m ≡ n → (before : ℕ) → HasRisen before n → HasRisen before m
 risen_same n m e before r = subst (HasRisen before) (sym e) r

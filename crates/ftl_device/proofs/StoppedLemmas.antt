@@ -1,6 +1,7 @@
 -- What stops inside a device's calls leave, one part of a call after another.
-use Rattle.std.proofs.Common.{◌≡◌, ◌⊎◌, inl, inr, ◌+◌, ◌≤◌, ◌∙◌, Bool, true, ℕ, List, [], length, Option, Some, None, IsSome, Result, Ok, Err, ap, sym, subst, slice_get, arith}
+use Rattle.std.proofs.Common.{◌≡◌, ◌⊎◌, inl, inr, ◌+◌, ◌≤◌, ◌∙◌, true, ℕ, List, [], length, Option, Some, None, IsSome, Result, Ok, Err, ap, sym, subst, slice_get, arith}
 use Rattle.std.proofs.lemmas.List.FromFn.{length-map-range_with_len}
+use Rattle.page_layout.specs.View.{View}
 use Rattle.page_layout.specs.declared.geometry.Geometry.{Geometry}
 use Rattle.page_layout.specs.Page.{Image}
 use Rattle.page_layout.specs.Array.{array_of, sector_of}
@@ -23,43 +24,43 @@ use Rattle.ftl_device.specs.Calls.{Knows, KeepsArray, reply_of}
 use Rattle.ftl_device.specs.Stopped.{changes_sector, HoldsEither, SurvivesStops, QuietStopLaw, RefusedStopLaw, MountsStopLaw, AnsweredStaysLaw}
 
 -- the part before keeps the array, and what is known of the image is so after it
-abbrev pub KeepsOn : {N : Type 0} → (N → Flash) → (N → Bool) → Engine N → Engine N → Type 0
-KeepsOn flash honest old mid = honest old.nand ≡ true → Knows (ram old) (image_in flash old) → KeepsArray old.geometry (image_in flash old) (ram mid) (image_in flash mid)
+abbrev pub KeepsOn : {N : Type 0} → View N → Engine N → Engine N → Type 0
+KeepsOn view old mid = view.honest old.nand ≡ true → Knows (ram old) (image_in view.flash old) → KeepsArray old.geometry (image_in view.flash old) (ram mid) (image_in view.flash mid)
 
-module _ {N : Type 0} (flash : N → Flash) (recorded : N → Option Recording) where
+module _ {N : Type 0} (view : View N) where
   -- nothing was asked
-  pub stops_same : (e : Engine N) → IsSafe flash e → IsTrue None (ram e) (image_in flash e) → StopsSafely flash recorded e e
-  stops_same e safe truth = leaves_nothing (flash e.nand) (recorded e.nand) _ (same_left (ram e) (image_in flash e) (image_in flash e) safe.memory truth)
+  pub stops_same : (e : Engine N) → IsSafe view.flash e → IsTrue None (ram e) (image_in view.flash e) → StopsSafely view e e
+  stops_same e safe truth = leaves_nothing (view.flash e.nand) (view.recorded e.nand) _ (same_left (ram e) (image_in view.flash e) (image_in view.flash e) safe.memory truth)
 
   -- of the die nothing was asked after it
-  pub stops_still : (old mid new : Engine N) → flash new.nand ≡ flash mid.nand → recorded new.nand ≡ recorded mid.nand → StopsSafely flash recorded old mid → StopsSafely flash recorded old new
+  pub stops_still : (old mid new : Engine N) → view.flash new.nand ≡ view.flash mid.nand → view.recorded new.nand ≡ view.recorded mid.nand → StopsSafely view old mid → StopsSafely view old new
   stops_still old mid new same still stops =
-      let P : Flash → Option Recording → Type 0 = λ s t. LeavesOnly (flash old.nand) s (recorded old.nand) t (IsLeftByStop (ram old) (flash old.nand).image s.image) in
-      subst (λ s. P s (recorded new.nand)) (sym same) (subst (λ t. P (flash mid.nand) t) (sym still) stops)
+      let P : Flash → Option Recording → Type 0 = λ s t. LeavesOnly (view.flash old.nand) s (view.recorded old.nand) t (IsLeftByStop (ram old) (view.flash old.nand).image s.image) in
+      subst (λ s. P s (view.recorded new.nand)) (sym same) (subst (λ t. P (view.flash mid.nand) t) (sym still) stops)
 
   -- one after another, of which the first keeps the array
   pub stops_on : (old mid new : Engine N) → mid.geometry ≡ old.geometry → HasLimitsOf old.mapping mid.mapping
-      → array_of old.geometry (image_in flash mid) ≡ array_of old.geometry (image_in flash old) → StopsSafely flash recorded old mid
-      → StopsSafely flash recorded mid new → StopsSafely flash recorded old new
-  stops_on old mid new same limits kept first next = stops_then (ram old) (ram mid) (flash old.nand) (flash mid.nand) (flash new.nand) _ _ _ (record { geometry = same; capacity = limits.capacity }) kept first next
+      → array_of old.geometry (image_in view.flash mid) ≡ array_of old.geometry (image_in view.flash old) → StopsSafely view old mid
+      → StopsSafely view mid new → StopsSafely view old new
+  stops_on old mid new same limits kept first next = stops_then (ram old) (ram mid) (view.flash old.nand) (view.flash mid.nand) (view.flash new.nand) _ _ _ (record { geometry = same; capacity = limits.capacity }) kept first next
 
   -- ---- the whole call: one record, and so one log
 
-  module _ (old new : Engine N) (command : Command) (result : Result (Unit {0}) DeviceFault) (log : List Operation) (safe : IsSafe flash old) (records : Records (recorded old.nand) log (recorded new.nand)) (stops : StopsSafely flash recorded old new)
-      (changes : (array_of old.geometry (image_in flash new) ≡ array_of old.geometry (image_in flash old)) ⊎ ((changes_sector command ≡ true) × (result ≡ Ok tt))) where
-    left_by : (left : Image) → IsSome (recorded new.nand) → MayLeave old.geometry (image_in flash old) log left → IsLeftByStop (ram old) (image_in flash old) (image_in flash new) left
+  module _ (old new : Engine N) (command : Command) (result : Result (Unit {0}) DeviceFault) (log : List Operation) (safe : IsSafe view.flash old) (records : Records (view.recorded old.nand) log (view.recorded new.nand)) (stops : StopsSafely view old new)
+      (changes : (array_of old.geometry (image_in view.flash new) ≡ array_of old.geometry (image_in view.flash old)) ⊎ ((changes_sector command ≡ true) × (result ≡ Ok tt))) where
+    left_by : (left : Image) → IsSome (view.recorded new.nand) → MayLeave old.geometry (image_in view.flash old) log left → IsLeftByStop (ram old) (image_in view.flash old) (image_in view.flash new) left
     left_by left some may =
-        let one : log ≡ stops.log = one_gain (recorded old.nand) (recorded new.nand) log stops.log some records stops.records in
-        stops.left left (subst (λ (g : Geometry). MayLeave g (image_in flash old) stops.log left) (sym safe.geometry) (subst (λ l. MayLeave old.geometry (image_in flash old) l left) one may))
+        let one : log ≡ stops.log = one_gain (view.recorded old.nand) (view.recorded new.nand) log stops.log some records stops.records in
+        stops.left left (subst (λ (g : Geometry). MayLeave g (image_in view.flash old) stops.log left) (sym safe.geometry) (subst (λ l. MayLeave old.geometry (image_in view.flash old) l left) one may))
 
-    either : (left : Image) → (array_of old.geometry left ≡ array_of old.geometry (image_in flash old)) ⊎ (array_of old.geometry left ≡ array_of old.geometry (image_in flash new)) → HoldsEither old.geometry command result (image_in flash old) (image_in flash new) left
+    either : (left : Image) → (array_of old.geometry left ≡ array_of old.geometry (image_in view.flash old)) ⊎ (array_of old.geometry left ≡ array_of old.geometry (image_in view.flash new)) → HoldsEither old.geometry command result (image_in view.flash old) (image_in view.flash new) left
     either left (inl was) = inl was
     either left (inr is) = elim changes [
       | inl kept ↦ inl (is ∙ kept)
       | inr done ↦ inr (done.0, done.1, is)
     ]
 
-    pub stopped_call : SurvivesStops old.geometry old.mapping.capacity command result (image_in flash old) (image_in flash new) (recorded new.nand) log
+    pub stopped_call : SurvivesStops old.geometry old.mapping.capacity command result (image_in view.flash old) (image_in view.flash new) (view.recorded new.nand) log
     stopped_call some left may =
         let l = left_by left some may in
         record {

@@ -1,5 +1,6 @@
 -- Turns one after another: less is left of a collection each time.
 use Rattle.std.proofs.Common.{◌≡◌, ◌≢◌, ◌⊎◌, ℕ, zero, suc, ◌+◌, ◌-◌, ◌<◌, ◌≤◌, ◌∙◌, inl, inr, true, false, None, Option, Some, sym, ap, subst, refl, arith}
+use Rattle.page_layout.specs.View.{View}
 use Rattle.page_layout.specs.Counter.{HasRisen}
 use Rattle.page_layout.specs.Page.{Image}
 use Rattle.page_layout.specs.Flash.{Flash}
@@ -36,27 +37,27 @@ left_below_law flash d device well writable = left_below (ram d.engine) (image_i
 
 -- ---- of so many turns one erases or changes nothing
 
-module _ {N : Type 0} (flash : N → Flash) (erases : N → ℕ) (engine_at : ℕ → Engine N) (pages : ℕ) where
+module _ {N : Type 0} (view : View N) (engine_at : ℕ → Engine N) (pages : ℕ) where
   abbrev left_at : ℕ → ℕ
-  left_at k = left (ram (engine_at k)) (image_in flash (engine_at k))
+  left_at k = left (ram (engine_at k)) (image_in view.flash (engine_at k))
 
   abbrev IsFound : Type 0
-  IsFound = (k : ℕ) × (k < pages) × ((engine_at (k + 1) ≡ engine_at k) ⊎ HasRisen (erases (engine_at k).nand) (erases (engine_at (k + 1)).nand))
+  IsFound = (k : ℕ) × (k < pages) × ((engine_at (k + 1) ≡ engine_at k) ⊎ HasRisen (view.erases (engine_at k).nand) (view.erases (engine_at (k + 1)).nand))
 
-  one_more : (n : ℕ) → n < pages → left_at n + n ≤ left_at 0 → HasFallen flash erases (engine_at n) (engine_at (n + 1)) → IsFound ⊎ (left_at (n + 1) + (n + 1) ≤ left_at 0)
+  one_more : (n : ℕ) → n < pages → left_at n + n ≤ left_at 0 → HasFallen view (engine_at n) (engine_at (n + 1)) → IsFound ⊎ (left_at (n + 1) + (n + 1) ≤ left_at 0)
   one_more n lt le (inl same) = inl (n, lt, inl same)
   one_more n lt le (inr (inl rose)) = inl (n, lt, inr rose)
   one_more n lt le (inr (inr less)) = inr (omega (arith, le, less))
 
-  so_far : ((k : ℕ) → k < pages → HasFallen flash erases (engine_at k) (engine_at (k + 1))) → (n : ℕ) → n ≤ pages → IsFound ⊎ (left_at n + n ≤ left_at 0)
+  so_far : ((k : ℕ) → k < pages → HasFallen view (engine_at k) (engine_at (k + 1))) → (n : ℕ) → n ≤ pages → IsFound ⊎ (left_at n + n ≤ left_at 0)
   so_far falls zero le = inr (omega arith)
   so_far falls (suc n) le = elim (so_far falls n (omega (arith, le))) [
     | inl found ↦ inl found
     | inr less ↦ (let next : n + 1 ≡ suc n = omega arith in let P : ℕ → Type 0 = λ k. IsFound ⊎ (left_at k + k ≤ left_at 0) in subst P next (one_more n (omega (arith, le)) less (falls n (omega (arith, le)))))
   ]
 
-pub turns_law : {N : Type 0} (flash : N → Flash) (erases : N → ℕ) → TurnsLaw flash erases
-turns_law flash erases engine_at pages below falls = elim (so_far flash erases engine_at pages falls pages (omega arith)) [
+pub turns_law : {N : Type 0} (view : View N) → TurnsLaw view
+turns_law view engine_at pages below falls = elim (so_far view engine_at pages falls pages (omega arith)) [
   | inl found ↦ found
   | inr less ↦ absurd (omega (arith, less, below))
 ]

@@ -1,12 +1,11 @@
 -- A device's call that changes no sector, a flush or a turn, from the engine's.
-use Rattle.std.proofs.Common.{◌≡◌, ◌≢◌, inl, ℕ, ◌∙◌, Bool, true, false, Option, None, [], Result, Ok, Err, OnOk, MatchResult, refl, sym, ap, subst, arith}
+use Rattle.std.proofs.Common.{◌≡◌, ◌≢◌, inl, ℕ, ◌∙◌, Bool, true, false, None, [], Result, Ok, Err, OnOk, MatchResult, refl, sym, ap, subst, arith}
 use Rattle.std.specs.Prelude.{IsSome}
 use Rattle.std.proofs.lemmas.Bool.{lt-ltb}
+use Rattle.page_layout.specs.View.{View}
 use Rattle.page_layout.specs.declared.geometry.Geometry.{Geometry}
 use Rattle.page_layout.specs.Geometry.{need}
 use Rattle.page_layout.specs.Page.{Image}
-use Rattle.page_layout.specs.Flash.{Flash}
-use Rattle.page_layout.specs.Recording.{Recording}
 use Rattle.page_layout.specs.Array.{array_of}
 use Rattle.page_layout.specs.Version.{AddsNoOld}
 use Rattle.bad_blocks.specs.Table.{good_count}
@@ -90,65 +89,65 @@ done_only P (Err call.OutOfMemory) good r h e = (let no : ⊥ = cc in absurd no)
 
 -- ---- the call was made
 
-module _ {N : Type 0} (flash : N → Flash) (recorded : N → Option Recording) (honest calm : N → Bool) (failed : N → ℕ) (command : Command) (old : Device N) where
+module _ {N : Type 0} (view : View N) (command : Command) (old : Device N) where
   abbrev good_then : ℕ
   good_then = good_count (ram old.engine).blocks.table
 
   -- what is known of the engine as the part ends that asks the die: what a refusal lacks, what leaves the device read-only, and, of a flush,
   -- what the image is worth
   pub record IsUpkept (answer : Result (Unit {0}) CallFault) (e : Engine N) : Type 0 where
-    pub ends : EndsCall flash recorded honest calm failed old.engine answer e
+    pub ends : EndsCall view old.engine answer e
     pub no_memory : answer ≢ Err call.OutOfMemory
-    pub truth : honest old.engine.nand ≡ true → Knows (ram old.engine) (image_in flash old.engine)
-        → MatchResult answer (λ _. KeepsArray old.engine.geometry (image_in flash old.engine) (ram e) (image_in flash e))
-        (CallRefused old.engine.geometry (image_in flash old.engine) (ram e) (image_in flash e))
-    pub lacks : honest old.engine.nand ≡ true → Knows (ram old.engine) (image_in flash old.engine) → (fault : CallFault) → answer ≡ Err fault → CallShort (ram old.engine) (ram e) answer
-    pub left : honest old.engine.nand ≡ true → Knows (ram old.engine) (image_in flash old.engine)
-        → (w : Went (ram old.engine) (flash old.engine.nand) (recorded old.engine.nand) (ram e) (flash e.nand) (recorded e.nand))
+    pub truth : view.honest old.engine.nand ≡ true → Knows (ram old.engine) (image_in view.flash old.engine)
+        → MatchResult answer (λ _. KeepsArray old.engine.geometry (image_in view.flash old.engine) (ram e) (image_in view.flash e))
+        (CallRefused old.engine.geometry (image_in view.flash old.engine) (ram e) (image_in view.flash e))
+    pub lacks : view.honest old.engine.nand ≡ true → Knows (ram old.engine) (image_in view.flash old.engine) → (fault : CallFault) → answer ≡ Err fault → CallShort (ram old.engine) (ram e) answer
+    pub left : view.honest old.engine.nand ≡ true → Knows (ram old.engine) (image_in view.flash old.engine)
+        → (w : Went (ram old.engine) (view.flash old.engine.nand) (view.recorded old.engine.nand) (ram e) (view.flash e.nand) (view.recorded e.nand))
         → (ro : Bool) → ro ≡ is_scarce (free_count (ram e).blocks) → ro ≡ true
         → IsLeftReadOnly command old.engine.geometry (is_bad_by (ram old.engine)) [] w.log old.read_only (answer_of (ram e) good_then answer)
-    pub worth : honest old.engine.nand ≡ true → Knows (ram old.engine) (image_in flash old.engine)
-        → (w : Went (ram old.engine) (flash old.engine.nand) (recorded old.engine.nand) (ram e) (flash e.nand) (recorded e.nand))
-        → is_flush command ≡ true → OnOk answer (IsFlushedOut (first_of (ram old.engine)) w.log (image_in flash e))
+    pub worth : view.honest old.engine.nand ≡ true → Knows (ram old.engine) (image_in view.flash old.engine)
+        → (w : Went (ram old.engine) (view.flash old.engine.nand) (view.recorded old.engine.nand) (ram e) (view.flash e.nand) (view.recorded e.nand))
+        → is_flush command ≡ true → OnOk answer (IsFlushedOut (first_of (ram old.engine)) w.log (image_in view.flash e))
 
-  module _ (new : Device N) (device : IsDevice flash old) (device' : IsDevice flash new) (may : MayFlush (ram old.engine) old.read_only)
-      (takes : (reply : Reply) (s : State) → QuietStep (state_in flash old) reply s → ArrayStep old.engine.geometry (state_in flash old) command reply s) where
+  module _ (new : Device N) (device : IsDevice view.flash old) (device' : IsDevice view.flash new) (may : MayFlush (ram old.engine) old.read_only)
+      (takes : (reply : Reply) (s : State) → QuietStep (state_in view.flash old) reply s → ArrayStep old.engine.geometry (state_in view.flash old) command reply s) where
     module _ (answer : Result (Unit {0}) CallFault) (k : IsUpkept answer new.engine) where
       abbrev replied : Result (Unit {0}) DeviceFault
       replied = answer_of (ram new.engine) good_then answer
 
-      here : IsWell flash old → Knows (ram old.engine) (image_in flash old.engine)
-      here well = knows_well flash old device well may.going
+      here : IsWell view.flash old → Knows (ram old.engine) (image_in view.flash old.engine)
+      here well = knows_well view.flash old device well may.going
 
-      logs_done : honest old.engine.nand ≡ true → replied ≢ Err BusFault → Logs flash recorded command old replied new
+      logs_done : view.honest old.engine.nand ≡ true → replied ≢ Err BusFault → Logs view command old replied new
       logs_done is_honest ne =
-          let w = went_after flash recorded old.engine new.engine new.engine answer replied good_then refl refl (k.ends.went is_honest) ne in
+          let w = went_after view old.engine new.engine new.engine answer replied good_then refl refl (k.ends.went is_honest) ne in
           record {
             went = w;
-            shown = λ well. flush_shown flash recorded old.engine new.engine new.engine w old.read_only answer replied good_then refl device.engine.memory k.ends.safe.memory k.ends.geometry refl refl k.ends.tells (k.lacks is_honest (here well)) (k.truth is_honest (here well)) ne;
+            shown = λ well. flush_shown view old.engine new.engine new.engine w old.read_only answer replied good_then refl device.engine.memory k.ends.safe.memory k.ends.geometry refl refl k.ends.tells (k.lacks is_honest (here well)) (k.truth is_honest (here well)) ne;
             left = λ well on. k.left is_honest (here well) w new.read_only device'.read_only on;
             flushed = λ well its done. done_only _ answer good_then (ram new.engine) (k.worth is_honest (here well) w its) done;
-            stopped = λ well. stopped_call flash recorded old.engine new.engine command replied w.log device.engine w.records (k.ends.stops is_honest (here well) (λ bus. ne (ap (answer_of (ram new.engine) good_then) bus)))
-                (inl (kept_array old.engine.geometry (image_in flash old.engine) (image_in flash new.engine) (ram new.engine) (ram new.engine) good_then answer (k.truth is_honest (here well)) ne));
+            stopped = λ well. stopped_call view old.engine new.engine command replied w.log device.engine w.records (k.ends.stops is_honest (here well) (λ bus. ne (ap (answer_of (ram new.engine) good_then) bus)))
+                (inl (kept_array old.engine.geometry (image_in view.flash old.engine) (image_in view.flash new.engine) (ram new.engine) (ram new.engine) good_then answer (k.truth is_honest (here well)) ne));
           }
 
-      means_done : honest old.engine.nand ≡ true → Knows (ram old.engine) (image_in flash old.engine) → replied ≢ Err BusFault → Means flash command old replied new
+      means_done : view.honest old.engine.nand ≡ true → Knows (ram old.engine) (image_in view.flash old.engine) → replied ≢ Err BusFault → Means view.flash command old replied new
       means_done is_honest known ne =
-          let after = well_device flash new new.engine refl (flush_well answer replied good_then _ _ _ (ram new.engine) (ram new.engine) k.ends.fault refl ne (k.truth is_honest known)) in
+          let after = well_device view.flash new new.engine refl (flush_well answer replied good_then _ _ _ (ram new.engine) (ram new.engine) k.ends.fault refl ne (k.truth is_honest known)) in
           record {
             step = takes _ _
-                (quiet_step old.engine.geometry new.engine.geometry (image_in flash old.engine) (image_in flash new.engine) (ram old.engine)
+                (quiet_step old.engine.geometry new.engine.geometry (image_in view.flash old.engine) (image_in view.flash new.engine) (ram old.engine)
                 (ram new.engine) old.read_only new.read_only good_then may.writable device'.read_only k.ends.geometry answer k.ends.tells
                 (k.truth is_honest known) k.no_memory ne);
             well = after;
-            versions = kept_versions old.engine.geometry (image_in flash old.engine) (image_in flash new.engine) (ram new.engine) (ram new.engine) good_then answer (k.truth is_honest known) ne;
-            mountable = λ most. mountable_after flash old.engine new new.engine refl k.ends.geometry k.ends.limits device'.engine.memory after most;
+            versions = kept_versions old.engine.geometry (image_in view.flash old.engine) (image_in view.flash new.engine) (ram new.engine) (ram new.engine) good_then answer (k.truth is_honest known) ne;
+            mountable = λ most. mountable_after view.flash old.engine new new.engine refl k.ends.geometry k.ends.limits device'.engine.memory after most;
           }
 
-      upkeep_done : Upkeeps flash recorded honest calm failed command old replied new
+      upkeep_done : Upkeeps view command old replied new
       upkeep_done = record {
         stays = record { limits = k.ends.limits; honest_is = k.ends.honest_is; calm_is = k.ends.calm_is; failed_is = k.ends.failed_is };
-        refuses = refuses_made failed old new may.going may.writable answer k.ends.fault k.ends.tells k.ends.rose;
+        refuses = refuses_made view.failed old new may.going may.writable answer k.ends.fault k.ends.tells k.ends.rose;
         refuses_upkeep = record {
           read_only = λ going on. (let off : old.read_only ≡ false = may.writable in let no : ⊥ = cc in absurd no);
           spent = λ going off last. absurd (omega (arith, may.sequence, last));
@@ -162,10 +161,10 @@ module _ {N : Type 0} (flash : N → Flash) (recorded : N → Option Recording) 
     -- the device noted nothing else
     pub upkept_by : (mid : Engine N) (good : ℕ) (answer : Result (Unit {0}) CallFault) (result : Result (Unit {0}) DeviceFault) → new.engine ≡ mid
         → good ≡ good_then → result ≡ answer_of (ram new.engine) good answer → IsUpkept answer mid
-        → Upkeeps flash recorded honest calm failed command old result new
+        → Upkeeps view command old result new
     upkept_by mid good answer result same many is kept =
         let done = upkeep_done answer (subst (IsUpkept answer) (sym same) kept) in
-        subst (λ r. Upkeeps flash recorded honest calm failed command old r new) (sym (is ∙ ap (λ k. answer_of (ram new.engine) k answer) many)) done
+        subst (λ r. Upkeeps view command old r new) (sym (is ∙ ap (λ k. answer_of (ram new.engine) k answer) many)) done
 
 -- a flush pins no block, unless it was stopped short
 pub flush_pins : {N : Type 0} (answer : Result (Unit {0}) CallFault) (old e last : Engine N) (result : Result (Unit {0}) DeviceFault) (good : ℕ)
@@ -226,12 +225,12 @@ module _ (r : Ram) (ro : Bool) where
   quiet_refusal s Damaged same not going = (let no : ⊥ = cc in absurd no)
   quiet_refusal s BusFault same not going = (let no : ⊥ = cc in absurd no)
 
-module _ {N : Type 0} (flash : N → Flash) (recorded : N → Option Recording) (honest calm : N → Bool) (failed : N → ℕ) (command : Command) (old : Device N) (device : IsDevice flash old)
-    (takes : (reply : Reply) (s : State) → QuietStep (state_in flash old) reply s → ArrayStep old.engine.geometry (state_in flash old) command reply s) where
-  pub not_upkept : (fault : DeviceFault) → MayNotFlush (ram old.engine) old.read_only fault → Upkeeps flash recorded honest calm failed command old (Err fault) old
+module _ {N : Type 0} (view : View N) (command : Command) (old : Device N) (device : IsDevice view.flash old)
+    (takes : (reply : Reply) (s : State) → QuietStep (state_in view.flash old) reply s → ArrayStep old.engine.geometry (state_in view.flash old) command reply s) where
+  pub not_upkept : (fault : DeviceFault) → MayNotFlush (ram old.engine) old.read_only fault → Upkeeps view command old (Err fault) old
   not_upkept fault not = record {
-    stays = stays_same honest calm failed old;
-    refuses = refuses_at_once failed old fault (why_not (ram old.engine) old.read_only fault not);
+    stays = stays_same view old;
+    refuses = refuses_at_once view.failed old fault (why_not (ram old.engine) old.read_only fault not);
     refuses_upkeep = record {
       read_only = λ going on. ap Err (closed_is (ram old.engine) old.read_only fault not going on);
       spent = λ going off last. (ap Err (spent_is (ram old.engine) old.read_only fault not going off), refl);
@@ -239,16 +238,16 @@ module _ {N : Type 0} (flash : N → Flash) (recorded : N → Option Recording) 
       memory = λ e. (refused_otherwise (ram old.engine) old.read_only fault not).1 (cc);
     };
     logs = λ is_honest ne.
-        let w = went_same (ram old.engine) (flash old.engine.nand) (recorded old.engine.nand) in
+        let w = went_same (ram old.engine) (view.flash old.engine.nand) (view.recorded old.engine.nand) in
         record {
           went = w;
-          shown = λ well. flush_refused (ram old.engine) (flash old.engine.nand) w old.read_only fault device.engine.memory well.truth well.going not;
+          shown = λ well. flush_refused (ram old.engine) (view.flash old.engine.nand) w old.read_only fault device.engine.memory well.truth well.going not;
           left = λ well on. flush_left_refused command (ram old.engine) w.log old.read_only fault not;
           flushed = λ well its done. (let no : ⊥ = cc in absurd no);
-          stopped = λ well. stopped_call flash recorded old.engine old.engine command (Err fault) w.log device.engine w.records (stops_same flash recorded old.engine device.engine well.truth) (inl refl);
+          stopped = λ well. stopped_call view old.engine old.engine command (Err fault) w.log device.engine w.records (stops_same view old.engine device.engine well.truth) (inl refl);
         };
     means = λ is_honest well ne. record {
-      step = takes _ _ (quiet_refusal (ram old.engine) old.read_only (state_in flash old) fault refl not well.going);
+      step = takes _ _ (quiet_refusal (ram old.engine) old.read_only (state_in view.flash old) fault refl not well.going);
       well = well;
       versions = λ two key row at. at;
       mountable = λ most. restart_law (ram old.engine) _ device.engine.memory well.truth most;

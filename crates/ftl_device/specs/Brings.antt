@@ -1,7 +1,6 @@
 -- What is done once room was made: a page is brought forward, or a turn rescues one.
-use Rattle.std.specs.Prelude.{◌≡◌, ◌⊎◌, ℕ, zero, suc, ◌+◌, ◌≤◌, Bool, false, Option, Some, Ok}
-use Rattle.page_layout.specs.Flash.{Flash}
-use Rattle.page_layout.specs.Recording.{Recording}
+use Rattle.std.specs.Prelude.{◌≡◌, ◌⊎◌, ℕ, zero, suc, ◌+◌, ◌≤◌, Bool, false, Some, Ok}
+use Rattle.page_layout.specs.View.{View}
 use Rattle.page_layout.specs.Sound.{version_for}
 use Rattle.allocation.specs.State.{free_count}
 use Rattle.collection.specs.declared.engine.Engine.{Engine}
@@ -17,19 +16,19 @@ use Rattle.ftl_device.specs.Migrate.{FindsFrom}
 
 -- ROOM WAS MADE as outside a flush, by an honest die: what memory says of it, where newest pages are then, and its log. With nine blocks free nothing
 -- was done for it.
-pub record MadeRoom {N : Type 0} (flash : N → Flash) (recorded : N → Option Recording) (old new : Engine N) : Type 0 where
+pub record MadeRoom {N : Type 0} (view : View N) (old new : Engine N) : Type 0 where
   pub made : HasMadeRoom false (ram old) (ram new)
-  pub rests : 9 ≤ free_count (ram old).blocks → (ram new ≡ ram old) × (flash new.nand ≡ flash old.nand)
-  pub rearranged : IsRearranged (ram old) (image_in flash old) (ram new) (image_in flash new)
-  pub went : Went (ram old) (flash old.nand) (recorded old.nand) (ram new) (flash new.nand) (recorded new.nand)
+  pub rests : 9 ≤ free_count (ram old).blocks → (ram new ≡ ram old) × (view.flash new.nand ≡ view.flash old.nand)
+  pub rearranged : IsRearranged (ram old) (image_in view.flash old) (ram new) (image_in view.flash new)
+  pub went : Went (ram old) (view.flash old.nand) (view.recorded old.nand) (ram new) (view.flash new.nand) (view.recorded new.nand)
 
 -- ---- a turn
 
 -- WHERE THE DIE IS HONEST: while a bad block holds a newest page once there is room, a turn rescues one page, that of lowest row in such a block
-pub record RescuesLowest {N : Type 0} (flash : N → Flash) (recorded : N → Option Recording) (old new : Engine N) : Type 0 where
+pub record RescuesLowest {N : Type 0} (view : View N) (old new : Engine N) : Type 0 where
   pub mid : Engine N
-  pub room : MadeRoom flash recorded old mid
-  pub lowest : HasAiling (ram mid).blocks → HasRescuedPage (ram mid) (ram new) × LeavesLowest (ram mid) (image_in flash mid) (image_in flash new)
+  pub room : MadeRoom view old mid
+  pub lowest : HasAiling (ram mid).blocks → HasRescuedPage (ram mid) (ram new) × LeavesLowest (ram mid) (image_in view.flash mid) (image_in view.flash new)
 
 -- ---- a page of version 1
 
@@ -42,37 +41,37 @@ pub record HasBrought (old new : Ram) : Type 0 where
 
 -- WHERE IT IS HONEST: once there is room, the page in the row is renewed, where it has to be. No newest page is touched then but that one and the
 -- page that follows its copy.
-pub record BringsPage {N : Type 0} (flash : N → Flash) (recorded : N → Option Recording) (row : ℕ) (old new : Engine N) : Type 0 where
+pub record BringsPage {N : Type 0} (view : View N) (row : ℕ) (old new : Engine N) : Type 0 where
   pub mid : Engine N
-  pub room : MadeRoom flash recorded old mid
+  pub room : MadeRoom view old mid
   pub goes : Goes (ram mid) (ram new)
   pub keys : KeepsKeys mid.mapping new.mapping
   pub renewed : Bool
   pub cost : RescueCosts (ram mid) (ram new) (Ok renewed)
-  pub renews : IsRenewedAt row (ram mid) (image_in flash mid) (ram new) (image_in flash new) renewed
+  pub renews : IsRenewedAt row (ram mid) (image_in view.flash mid) (ram new) (image_in view.flash new) renewed
 
 -- of a device: the row is the one that its look finds, and the cursor goes to the row after it
-pub record BringsOne {N : Type 0} (flash : N → Flash) (recorded : N → Option Recording) (old new : Device N) : Type 0 where
+pub record BringsOne {N : Type 0} (view : View N) (old new : Device N) : Type 0 where
   pub row : ℕ
-  pub found : FindsFrom old.cursor (image_in flash old.engine) (Some row)
-  pub brings : BringsPage flash recorded row old.engine new.engine
+  pub found : FindsFrom old.cursor (image_in view.flash old.engine) (Some row)
+  pub brings : BringsPage view row old.engine new.engine
   pub cursor_is : new.cursor ≡ row + 1
 
 -- so many such calls, one after another, each begun with nine free blocks
-abbrev pub BringsEach : {N : Type 0} → (N → Flash) → (N → Option Recording) → ℕ → Device N → Device N → Type 0
-BringsEach flash recorded zero old new = new ≡ old
-BringsEach {N} flash recorded (suc count) old new =
-    (mid : Device N) × BringsEach flash recorded count old mid × (9 ≤ free_count (ram mid.engine).blocks) × BringsOne flash recorded mid new
+abbrev pub BringsEach : {N : Type 0} → View N → ℕ → Device N → Device N → Type 0
+BringsEach view zero old new = new ≡ old
+BringsEach {N} view (suc count) old new =
+    (mid : Device N) × BringsEach view count old mid × (9 ≤ free_count (ram mid.engine).blocks) × BringsOne view mid new
 
 -- ---- laws
 
 -- A TURN RESCUES THE PAGE OF LOWEST ROW, where a bad block holds a newest page and nine blocks are free as it begins
-abbrev pub LowestRowLaw : {N : Type 0} → (N → Flash) → (N → Option Recording) → Type 0
-LowestRowLaw {N} flash recorded = (old new : Engine N) → RescuesLowest flash recorded old new → 9 ≤ free_count (ram old).blocks → HasAiling (ram old).blocks
-    → HasRescuedPage (ram old) (ram new) × LeavesLowest (ram old) (image_in flash old) (image_in flash new)
+abbrev pub LowestRowLaw : {N : Type 0} → View N → Type 0
+LowestRowLaw {N} view = (old new : Engine N) → RescuesLowest view old new → 9 ≤ free_count (ram old).blocks → HasAiling (ram old).blocks
+    → HasRescuedPage (ram old) (ram new) × LeavesLowest (ram old) (image_in view.flash old) (image_in view.flash new)
 
 -- THE NUMBER OF CALLS that brought a page forward is told by the images, where nine blocks are free as each begins and the die has version 2: two
 -- ways to tell it, from one device to one image, have as many
-abbrev pub CountedLaw : {N : Type 0} → (N → Flash) → (N → Option Recording) → Type 0
-CountedLaw {N} flash recorded = (count count' : ℕ) (old new new' : Device N) → version_for old.engine.geometry ≡ 2 → image_in flash new'.engine ≡ image_in flash new.engine
-    → BringsEach flash recorded count old new → BringsEach flash recorded count' old new' → count ≡ count'
+abbrev pub CountedLaw : {N : Type 0} → View N → Type 0
+CountedLaw {N} view = (count count' : ℕ) (old new new' : Device N) → version_for old.engine.geometry ≡ 2 → image_in view.flash new'.engine ≡ image_in view.flash new.engine
+    → BringsEach view count old new → BringsEach view count' old new' → count ≡ count'

@@ -2,6 +2,7 @@
 use Rattle.std.specs.Prelude.{◌≡◌, ◌⊎◌, ℕ, ◌+◌, ◌-◌, ◌<◌, ◌≤◌, ◌^◌, Bool, true, false, List, [], get_or, slice_get, slice_set, Option, Some, None, IsSome}
 use Rattle.std.specs.Prelude.{Result, Ok, Err}
 use Rattle.std.specs.Map.{keys_of}
+use Rattle.page_layout.specs.View.{View}
 use Rattle.page_layout.specs.declared.geometry.Geometry.{Geometry}
 use Rattle.page_layout.specs.declared.record.Key.TheVariants.{Sector}
 use Rattle.page_layout.specs.declared.record.Kind.{Kind}
@@ -332,13 +333,13 @@ abbrev pub IsQuiet : {N : Type 0} → (erases : N → ℕ) → (old new : engine
 IsQuiet erases old new = HasWorked (ram old) (ram new) (erases old.nand) (erases new.nand) ⊎ (need new.geometry + 3 ≤ good_count (ram new).blocks.table → 12 ≤ free_count (ram new).blocks)
 
 -- it has erased, or less is left of the collection under way
-abbrev pub HasLess : {N : Type 0} → (flash : N → Flash) → (erases : N → ℕ) → (old new : engines.Engine N) → Type 0
-HasLess flash erases old new = HasRisen (erases old.nand) (erases new.nand) ⊎ (left (ram new) (image_in flash new) < left (ram old) (image_in flash old))
+abbrev pub HasLess : {N : Type 0} → (view : View N) → (old new : engines.Engine N) → Type 0
+HasLess view old new = HasRisen (view.erases old.nand) (view.erases new.nand) ⊎ (left (ram new) (image_in view.flash new) < left (ram old) (image_in view.flash old))
 
 -- A TURN THAT IS DONE where no bad block holds a newest page: nothing has changed, or it has erased or
 -- left less to do
-abbrev pub HasFallen : {N : Type 0} → (flash : N → Flash) → (erases : N → ℕ) → (old new : engines.Engine N) → Type 0
-HasFallen flash erases old new = (new ≡ old) ⊎ HasLess flash erases old new
+abbrev pub HasFallen : {N : Type 0} → (view : View N) → (old new : engines.Engine N) → Type 0
+HasFallen view old new = (new ≡ old) ⊎ HasLess view old new
 
 -- ---- laws
 
@@ -348,10 +349,10 @@ LeftBelowLaw {N} flash = (d : Device N) → IsDevice flash d → IsWell flash d 
 
 -- SO OF AS MANY TURNS IN A ROW as a block has pages, each without a failure and begun while no bad block held a newest page, one has erased or
 -- changed nothing
-abbrev pub TurnsLaw : {N : Type 0} → (flash : N → Flash) → (erases : N → ℕ) → Type 0
-TurnsLaw {N} flash erases = (engine_at : ℕ → engines.Engine N) (pages : ℕ) → left (ram (engine_at 0)) (image_in flash (engine_at 0)) < pages
-    → ((k : ℕ) → k < pages → HasFallen flash erases (engine_at k) (engine_at (k + 1))) → (k : ℕ) × (k < pages)
-    × ((engine_at (k + 1) ≡ engine_at k) ⊎ HasRisen (erases (engine_at k).nand) (erases (engine_at (k + 1)).nand))
+abbrev pub TurnsLaw : {N : Type 0} → (view : View N) → Type 0
+TurnsLaw {N} view = (engine_at : ℕ → engines.Engine N) (pages : ℕ) → left (ram (engine_at 0)) (image_in view.flash (engine_at 0)) < pages
+    → ((k : ℕ) → k < pages → HasFallen view (engine_at k) (engine_at (k + 1))) → (k : ℕ) × (k < pages)
+    × ((engine_at (k + 1) ≡ engine_at k) ⊎ HasRisen (view.erases (engine_at k).nand) (view.erases (engine_at (k + 1)).nand))
 
 -- A PAGE IS OF ONE KIND: the newest page of a sector is not that of a write and of a trim, and holds one data area
 abbrev pub OneKindLaw : Type 0

@@ -1,10 +1,10 @@
 -- What the calls promise: each clause that `write` and `trim` share, or `flush` and `turn`, or the calls within them, stands here once.
-use Rattle.std.specs.Prelude.{◌≡◌, ◌≢◌, ◌↔◌, ℕ, ◌+◌, ◌-◌, ◌^◌, ◌<◌, ◌≤◌, Bool, true, false, [], Option, None, IsSome, Result, Ok, Err, IfErr, OnOk, MatchResult}
+use Rattle.std.specs.Prelude.{◌≡◌, ◌≢◌, ◌↔◌, ℕ, ◌+◌, ◌-◌, ◌^◌, ◌<◌, ◌≤◌, true, false, [], None, IsSome, Result, Ok, Err, IfErr, OnOk, MatchResult}
 use Rattle.std.specs.Option.{ForSome}
 use Rattle.std.specs.Map.{keys_of}
+use Rattle.page_layout.specs.View.{View}
 use Rattle.page_layout.specs.Counter.{HasRisen}
 use Rattle.page_layout.specs.Flash.{Flash}
-use Rattle.page_layout.specs.Recording.{Recording}
 use Rattle.page_layout.specs.Geometry.{need}
 use Rattle.page_layout.specs.Page.{Page}
 use Rattle.page_layout.specs.Version.{AddsNoOld}
@@ -41,34 +41,34 @@ use Rattle.ftl_device.specs.Stopped.{SurvivesStops}
 -- ---- inside the device
 
 -- WHAT A CALL OF THE ENGINE LEAVES where no fault stood, whatever it answers: the fault that it answers stands from then on
-pub record EngineLeaves {A N : Type 0} (flash : N → Flash) (recorded : N → Option Recording) (honest calm : N → Bool) (failed : N → ℕ) (old : Engine N)
+pub record EngineLeaves {A N : Type 0} (view : View N) (old : Engine N)
     (result : Result A EngineFault) (new : Engine N) : Type 0 where
-  pub safe : IsSafe flash new
+  pub safe : IsSafe view.flash new
   pub fault : new.fault ≡ fault_after None result
   pub geometry : new.geometry ≡ old.geometry
-  pub honest_is : honest new.nand ≡ honest old.nand
-  pub calm_is : calm new.nand ≡ calm old.nand
-  pub failed_is : failed old.nand ≤ failed new.nand
-  pub rose : result ≡ Err Bus → HasRisen (failed old.nand) (failed new.nand)
+  pub honest_is : view.honest new.nand ≡ view.honest old.nand
+  pub calm_is : view.calm new.nand ≡ view.calm old.nand
+  pub failed_is : view.failed old.nand ≤ view.failed new.nand
+  pub rose : result ≡ Err Bus → HasRisen (view.failed old.nand) (view.failed new.nand)
   pub tells : Tells (ram old) (ram new) result
-  pub went : honest old.nand ≡ true → result ≢ Err Bus → Went (ram old) (flash old.nand) (recorded old.nand) (ram new) (flash new.nand) (recorded new.nand)
-  pub stops : honest old.nand ≡ true → Knows (ram old) (image_in flash old) → result ≢ Err Bus → StopsSafely flash recorded old new
+  pub went : view.honest old.nand ≡ true → result ≢ Err Bus → Went (ram old) (view.flash old.nand) (view.recorded old.nand) (ram new) (view.flash new.nand) (view.recorded new.nand)
+  pub stops : view.honest old.nand ≡ true → Knows (ram old) (image_in view.flash old) → result ≢ Err Bus → StopsSafely view old new
 
 -- AND WHERE THE CALL MAY WANT MEMORY TOO: how the part of a device's call ends that asks the die
-pub record EndsCall {N : Type 0} (flash : N → Flash) (recorded : N → Option Recording) (honest calm : N → Bool) (failed : N → ℕ) (old : Engine N)
+pub record EndsCall {N : Type 0} (view : View N) (old : Engine N)
     (result : Result (Unit {0}) CallFault) (new : Engine N) : Type 0 where
-  pub safe : IsSafe flash new
+  pub safe : IsSafe view.flash new
   pub fault : new.fault ≡ standing_after result
   pub geometry : new.geometry ≡ old.geometry
-  pub honest_is : honest new.nand ≡ honest old.nand
-  pub calm_is : calm new.nand ≡ calm old.nand
-  pub failed_is : failed old.nand ≤ failed new.nand
-  pub rose : result ≡ Err (call.Engine Bus) → HasRisen (failed old.nand) (failed new.nand)
+  pub honest_is : view.honest new.nand ≡ view.honest old.nand
+  pub calm_is : view.calm new.nand ≡ view.calm old.nand
+  pub failed_is : view.failed old.nand ≤ view.failed new.nand
+  pub rose : result ≡ Err (call.Engine Bus) → HasRisen (view.failed old.nand) (view.failed new.nand)
   pub limits : HasLimitsOf old.mapping new.mapping
   pub calm_memory : new.fault ≡ None → IsCalm (ram new)
   pub tells : CallTells (ram old) (ram new) result
-  pub went : honest old.nand ≡ true → result ≢ Err (call.Engine Bus) → Went (ram old) (flash old.nand) (recorded old.nand) (ram new) (flash new.nand) (recorded new.nand)
-  pub stops : honest old.nand ≡ true → Knows (ram old) (image_in flash old) → result ≢ Err (call.Engine Bus) → StopsSafely flash recorded old new
+  pub went : view.honest old.nand ≡ true → result ≢ Err (call.Engine Bus) → Went (ram old) (view.flash old.nand) (view.recorded old.nand) (ram new) (view.flash new.nand) (view.recorded new.nand)
+  pub stops : view.honest old.nand ≡ true → Knows (ram old) (image_in view.flash old) → result ≢ Err (call.Engine Bus) → StopsSafely view old new
 
 -- where it was done, or memory was refused, no block is pinned that was not
 abbrev pub PinsNone : {N : Type 0} → Result (Unit {0}) CallFault → Engine N → Engine N → Type 0
@@ -77,29 +77,29 @@ PinsNone (Err (call.Engine fault)) old new = Unit {0}
 PinsNone (Err call.OutOfMemory) old new = old.pinned ≡ None → new.pinned ≡ None
 
 -- and of one that makes a sector ready, and programs at most so many pages once there is room
-pub record Readies {N : Type 0} (flash : N → Flash) (honest : N → Bool) (n pages : ℕ) (old : Engine N) (result : Result (Unit {0}) CallFault) (new : Engine N) : Type 0 where
+pub record Readies {N : Type 0} (view : View N) (n pages : ℕ) (old : Engine N) (result : Result (Unit {0}) CallFault) (new : Engine N) : Type 0 where
   pub recent : OnOk result (IsMostRecent n new.mapping)
   pub keys : OnOk result (keys_of new.mapping.cached ≡ order_after old.mapping n)
   pub unwritten : result ≡ Err call.OutOfMemory → IsReady n (ram old) (ram new)
   pub same_keys : result ≡ Err call.OutOfMemory → keys_of new.mapping.cached ≡ keys_of old.mapping.cached
   pub cached : IsSome (slot_of old.mapping n) → result ≢ Err call.OutOfMemory
-  pub costs : CallRoomCosts (HasFunds (honest old.nand) (ram old) (image_in flash old)) pages (ram old) (ram new) result
+  pub costs : CallRoomCosts (HasFunds (view.honest old.nand) (ram old) (image_in view.flash old)) pages (ram old) (ram new) result
   pub pins : PinsNone result old new
 
 -- and of a step of a collection that a turn takes: bad blocks get no page; where the die is honest the array stays
-pub record CollectsOn {N : Type 0} (flash : N → Flash) (recorded : N → Option Recording) (honest calm : N → Bool) (erases failed : N → ℕ)
+pub record CollectsOn {N : Type 0} (view : View N)
     (old : Engine N) (result : Result (Unit {0}) EngineFault) (new : Engine N) : Type 0 where
-  pub leaves : EngineLeaves flash recorded honest calm failed old result new
+  pub leaves : EngineLeaves view old result new
   pub limits : HasLimitsOf old.mapping new.mapping
   pub calm_memory : new.fault ≡ None → IsCalm (ram new)
   pub goes : GoesOn (ram old) (ram new)
   pub counts : StepCounts (ram old) (ram new) result
-  pub risen : OnOk result ((before : ℕ) → HasRisen before (erases old.nand) → HasRisen before (erases new.nand))
-  pub bad : honest old.nand ≡ true → Knows (ram old) (image_in flash old) → OnOk result (KeepsBad (ram old) (ram new))
-  pub truth : honest old.nand ≡ true → Knows (ram old) (image_in flash old)
+  pub risen : OnOk result ((before : ℕ) → HasRisen before (view.erases old.nand) → HasRisen before (view.erases new.nand))
+  pub bad : view.honest old.nand ≡ true → Knows (ram old) (image_in view.flash old) → OnOk result (KeepsBad (ram old) (ram new))
+  pub truth : view.honest old.nand ≡ true → Knows (ram old) (image_in view.flash old)
       → MatchResult result
-      (λ done. KeepsArray old.geometry (image_in flash old) (ram new) (image_in flash new))
-      (λ fault. CallRefused old.geometry (image_in flash old) (ram new) (image_in flash new) (call.Engine fault))
+      (λ done. KeepsArray old.geometry (image_in view.flash old) (ram new) (image_in view.flash new))
+      (λ fault. CallRefused old.geometry (image_in view.flash old) (ram new) (image_in view.flash new) (call.Engine fault))
 
 -- THE ROW THAT THE SECTOR HAD WAS LOOKED UP before a page of it was programmed: memory knew it once there was room, or else this page of
 -- entries gives it, a sound translation page. Then its new row was set, and no other.
@@ -113,11 +113,11 @@ pub record HasLookedUp (n : ℕ) (old new : Ram) (entries_page : Page) : Type 0 
 -- ---- whatever the die does
 
 -- what every call leaves alone
-pub record Stays {N : Type 0} (honest calm : N → Bool) (failed : N → ℕ) (old new : Device N) : Type 0 where
+pub record Stays {N : Type 0} (view : View N) (old new : Device N) : Type 0 where
   pub limits : HasLimitsOf old.engine.mapping new.engine.mapping
-  pub honest_is : honest new.engine.nand ≡ honest old.engine.nand
-  pub calm_is : calm new.engine.nand ≡ calm old.engine.nand
-  pub failed_is : failed old.engine.nand ≤ failed new.engine.nand
+  pub honest_is : view.honest new.engine.nand ≡ view.honest old.engine.nand
+  pub calm_is : view.calm new.engine.nand ≡ view.calm old.engine.nand
+  pub failed_is : view.failed old.engine.nand ≤ view.failed new.engine.nand
 
 -- what a refusal tells of the memory, and what a device that was stopped or is read-only answers
 pub record Refuses {N : Type 0} (failed : N → ℕ) (old : Device N) (result : Result (Unit {0}) DeviceFault) (new : Device N) : Type 0 where
@@ -145,14 +145,14 @@ pub record RefusesSector {N : Type 0} (n : ℕ) (old : Device N) (result : Resul
 
 -- what a change programs, by which row, and which sectors it leaves cached: the page of the sector is of the command's kind, and where the die is
 -- honest it is the sector's newest
-pub record ProgramsSector {N : Type 0} (flash : N → Flash) (honest : N → Bool) (n : ℕ) (command : Command) (old : Device N) (result : Result (Unit {0}) DeviceFault)
+pub record ProgramsSector {N : Type 0} (view : View N) (n : ℕ) (command : Command) (old : Device N) (result : Result (Unit {0}) DeviceFault)
     (new : Device N) : Type 0 where
   pub recent : OnOk result (IsMostRecent n new.engine.mapping)
   pub keys : OnOk result (keys_of new.engine.mapping.cached ≡ order_after old.engine.mapping n)
   pub cost : OnOk result (HasCost n (ram old.engine) (ram new.engine))
   pub checked : OnOk result (HasLookedUp n (ram old.engine) (ram new.engine) (page_in new.engine.scratch))
   pub page : OnOk result (IsLastOf old.engine.geometry command (ram new.engine) (page_in new.engine.page))
-  pub newest : honest old.engine.nand ≡ true → IsWell flash old → OnOk result (HasPageOf old.engine.geometry command (ram new.engine) (image_in flash new.engine))
+  pub newest : view.honest old.engine.nand ≡ true → IsWell view.flash old → OnOk result (HasPageOf old.engine.geometry command (ram new.engine) (image_in view.flash new.engine))
   pub unwritten : result ≡ Err OutOfMemory → IsReady n (ram old.engine) (ram new.engine)
   pub same_keys : result ≡ Err OutOfMemory → keys_of new.engine.mapping.cached ≡ keys_of old.engine.mapping.cached
 
@@ -173,13 +173,13 @@ LeavesUnpinned old result new = old.engine.pinned ≡ None → IsSome new.engine
 -- ---- where the die is honest and gave every outcome
 
 -- THE LOG OF A CALL, and what its answer says of that log
-pub record Logs {N : Type 0} (flash : N → Flash) (recorded : N → Option Recording) (command : Command) (old : Device N) (result : Result (Unit {0}) DeviceFault) (new : Device N) : Type 0 where
-  pub went : Went (ram old.engine) (flash old.engine.nand) (recorded old.engine.nand) (ram new.engine) (flash new.engine.nand) (recorded new.engine.nand)
-  pub shown : IsWell flash old → IfErr result (IsShown old.engine.geometry (is_bad_by (ram old.engine)) old.engine.next [] went.log old.read_only (image_in flash new.engine))
-  pub left : IsWell flash old → new.read_only ≡ true → IsLeftReadOnly command old.engine.geometry (is_bad_by (ram old.engine)) [] went.log old.read_only result
-  pub flushed : IsWell flash old → is_flush command ≡ true → result ≡ Ok tt → IsFlushedOut (first_of (ram old.engine)) went.log (image_in flash new.engine)
-  pub stopped : IsWell flash old
-      → SurvivesStops old.engine.geometry old.engine.mapping.capacity command result (image_in flash old.engine) (image_in flash new.engine) (recorded new.engine.nand) went.log
+pub record Logs {N : Type 0} (view : View N) (command : Command) (old : Device N) (result : Result (Unit {0}) DeviceFault) (new : Device N) : Type 0 where
+  pub went : Went (ram old.engine) (view.flash old.engine.nand) (view.recorded old.engine.nand) (ram new.engine) (view.flash new.engine.nand) (view.recorded new.engine.nand)
+  pub shown : IsWell view.flash old → IfErr result (IsShown old.engine.geometry (is_bad_by (ram old.engine)) old.engine.next [] went.log old.read_only (image_in view.flash new.engine))
+  pub left : IsWell view.flash old → new.read_only ≡ true → IsLeftReadOnly command old.engine.geometry (is_bad_by (ram old.engine)) [] went.log old.read_only result
+  pub flushed : IsWell view.flash old → is_flush command ≡ true → result ≡ Ok tt → IsFlushedOut (first_of (ram old.engine)) went.log (image_in view.flash new.engine)
+  pub stopped : IsWell view.flash old
+      → SurvivesStops old.engine.geometry old.engine.mapping.capacity command result (image_in view.flash old.engine) (image_in view.flash new.engine) (view.recorded new.engine.nand) went.log
 
 -- what is true of the image after it: where the die has version 2, no newest page of version 1 is added
 pub record Means {N : Type 0} (flash : N → Flash) (command : Command) (old : Device N) (result : Result (Unit {0}) DeviceFault) (new : Device N) : Type 0 where
@@ -192,22 +192,22 @@ pub record Means {N : Type 0} (flash : N → Flash) (command : Command) (old : D
 -- ---- the whole
 
 -- A CALL THAT CHANGES A SECTOR
-pub record Changes {N : Type 0} (flash : N → Flash) (recorded : N → Option Recording) (honest calm : N → Bool) (failed : N
+pub record Changes {N : Type 0} (view : View N) (failed : N
     → ℕ) (n : ℕ) (command : Command) (old : Device N) (result : Result (Unit {0}) DeviceFault) (new : Device N) : Type 0 where
-  pub stays : Stays honest calm failed old new
+  pub stays : Stays view failed old new
   pub refuses : Refuses failed old result new
   pub refuses_sector : RefusesSector n old result new
-  pub programs : ProgramsSector flash honest n command old result new
+  pub programs : ProgramsSector view n command old result new
   pub pins : LeavesUnpinned old result new
-  pub logs : honest old.engine.nand ≡ true → result ≢ Err BusFault → Logs flash recorded command old result new
-  pub means : honest old.engine.nand ≡ true → IsWell flash old → result ≢ Err BusFault → Means flash command old result new
-  pub stale : honest old.engine.nand ≡ true → IsWell flash old → old.engine.pinned ≡ None → is_stale old.engine.geometry (image_in flash old.engine) n ≡ true → result ≢ Err OutOfMemory
+  pub logs : view.honest old.engine.nand ≡ true → result ≢ Err BusFault → Logs view command old result new
+  pub means : view.honest old.engine.nand ≡ true → IsWell view.flash old → result ≢ Err BusFault → Means view.flash command old result new
+  pub stale : view.honest old.engine.nand ≡ true → IsWell view.flash old → old.engine.pinned ≡ None → is_stale old.engine.geometry (image_in view.flash old.engine) n ≡ true → result ≢ Err OutOfMemory
 
 -- A CALL THAT CHANGES NO SECTOR: a flush, or a turn
-pub record Upkeeps {N : Type 0} (flash : N → Flash) (recorded : N → Option Recording) (honest calm : N → Bool) (failed : N
+pub record Upkeeps {N : Type 0} (view : View N) (failed : N
     → ℕ) (command : Command) (old : Device N) (result : Result (Unit {0}) DeviceFault) (new : Device N) : Type 0 where
-  pub stays : Stays honest calm failed old new
+  pub stays : Stays view failed old new
   pub refuses : Refuses failed old result new
   pub refuses_upkeep : RefusesUpkeep old result new
-  pub logs : honest old.engine.nand ≡ true → result ≢ Err BusFault → Logs flash recorded command old result new
-  pub means : honest old.engine.nand ≡ true → IsWell flash old → result ≢ Err BusFault → Means flash command old result new
+  pub logs : view.honest old.engine.nand ≡ true → result ≢ Err BusFault → Logs view command old result new
+  pub means : view.honest old.engine.nand ≡ true → IsWell view.flash old → result ≢ Err BusFault → Means view.flash command old result new

@@ -1,7 +1,6 @@
 -- What a flush that is done has programmed, one step after another: a chain of engines, from the one before it to the one after it.
-use Rattle.std.specs.Prelude.{◌≡◌, ◌≢◌, ℕ, ◌+◌, ◌*◌, ◌<◌, ◌≤◌, Bool, true, suc, zero, List, [], ◌∷◌, Option}
-use Rattle.page_layout.specs.Flash.{Flash}
-use Rattle.page_layout.specs.Recording.{Recording}
+use Rattle.std.specs.Prelude.{◌≡◌, ◌≢◌, ℕ, ◌+◌, ◌*◌, ◌<◌, ◌≤◌, true, suc, zero, List, [], ◌∷◌}
+use Rattle.page_layout.specs.View.{View}
 use Rattle.page_layout.specs.Geometry.{entries, translation_pages, table_pages}
 use Rattle.page_layout.specs.declared.record.Kind.TheVariants as kind
 use Rattle.bad_blocks.specs.Table.{good_count}
@@ -21,112 +20,112 @@ use Rattle.ftl_device.specs.Flush.{IsClean}
 -- ---- a step
 
 -- A STEP AT AN HONEST DIE: one piece of its log, and the array is as it was
-pub record GoesOver {N : Type 0} (flash : N → Flash) (recorded : N → Option Recording) (old new : Engine N) : Type 0 where
-  pub went : Went (ram old) (flash old.nand) (recorded old.nand) (ram new) (flash new.nand) (recorded new.nand)
-  pub keeps : KeepsArray old.geometry (image_in flash old) (ram new) (image_in flash new)
+pub record GoesOver {N : Type 0} (view : View N) (old new : Engine N) : Type 0 where
+  pub went : Went (ram old) (view.flash old.nand) (view.recorded old.nand) (ram new) (view.flash new.nand) (view.recorded new.nand)
+  pub keeps : KeepsArray old.geometry (image_in view.flash old) (ram new) (image_in view.flash new)
 
 -- the same where the die is honest, and what is known of the image is so
-abbrev pub GoesHonestly : {N : Type 0} → (N → Flash) → (N → Option Recording) → (N → Bool) → Engine N → Engine N → Type 0
-GoesHonestly flash recorded honest old new = honest old.nand ≡ true → Knows (ram old) (image_in flash old) → GoesOver flash recorded old new
+abbrev pub GoesHonestly : {N : Type 0} → View N → Engine N → Engine N → Type 0
+GoesHonestly view old new = view.honest old.nand ≡ true → Knows (ram old) (image_in view.flash old) → GoesOver view old new
 
 -- room was made as in a flush
-pub record HasCleared {N : Type 0} (flash : N → Flash) (recorded : N → Option Recording) (honest : N → Bool) (old new : Engine N) : Type 0 where
+pub record HasCleared {N : Type 0} (view : View N) (old new : Engine N) : Type 0 where
   pub room : HasMadeRoom true (ram old) (ram new)
-  pub honest_is : honest new.nand ≡ honest old.nand
-  pub goes : GoesHonestly flash recorded honest old new
+  pub honest_is : view.honest new.nand ≡ view.honest old.nand
+  pub goes : GoesHonestly view old new
 
 -- ---- translation pages
 
 -- TRANSLATION PAGE t WAS WRITTEN BACK: one page of the meta stream was programmed, again after each failure, and it lacks no row any more. Where the
 -- die is honest, it has the row of each of its sectors, and no other newest page has moved.
-pub record WritesBack {N : Type 0} (flash : N → Flash) (recorded : N → Option Recording) (honest : N → Bool) (t : ℕ) (old new : Engine N) : Type 0 where
+pub record WritesBack {N : Type 0} (view : View N) (t : ℕ) (old new : Engine N) : Type 0 where
   pub blocks : Goes (ram old) (ram new)
   pub put : HasPut Meta (ram old) (ram new)
   pub page : IsLastPage kind.Translation t (ram new) (page_in new.page)
   pub mapping : new.mapping ≡ cleaned old.mapping t
-  pub honest_is : honest new.nand ≡ honest old.nand
-  pub goes : GoesHonestly flash recorded honest old new
-  pub means : honest old.nand ≡ true → Knows (ram old) (image_in flash old) → IsWrittenBack t (ram old) (image_in flash old) (ram new) (image_in flash new)
+  pub honest_is : view.honest new.nand ≡ view.honest old.nand
+  pub goes : GoesHonestly view old new
+  pub means : view.honest old.nand ≡ true → Knows (ram old) (image_in view.flash old) → IsWrittenBack t (ram old) (image_in view.flash old) (ram new) (image_in view.flash new)
 
 -- room was made first
-pub record BringsUp {N : Type 0} (flash : N → Flash) (recorded : N → Option Recording) (honest : N → Bool) (t : ℕ) (old new : Engine N) : Type 0 where
+pub record BringsUp {N : Type 0} (view : View N) (t : ℕ) (old new : Engine N) : Type 0 where
   pub mid : Engine N
-  pub cleared : HasCleared flash recorded honest old mid
-  pub back : WritesBack flash recorded honest t mid new
+  pub cleared : HasCleared view old mid
+  pub back : WritesBack view t mid new
 
 -- JUST WHERE THE PAGE LACKED A ROW, which is asked before room is made; else nothing was done
-pub record FlushesPage {N : Type 0} (flash : N → Flash) (recorded : N → Option Recording) (honest : N → Bool) (t : ℕ) (old new : Engine N) : Type 0 where
+pub record FlushesPage {N : Type 0} (view : View N) (t : ℕ) (old new : Engine N) : Type 0 where
   pub clean : IsClean old.geometry t old.mapping → new ≡ old
-  pub lacking : (IsClean old.geometry t old.mapping → ⊥) → BringsUp flash recorded honest t old new
+  pub lacking : (IsClean old.geometry t old.mapping → ⊥) → BringsUp view t old new
 
 -- so of the first so many translation pages, one after another
-abbrev pub FlushesPages : {N : Type 0} → (N → Flash) → (N → Option Recording) → (N → Bool) → ℕ → Engine N → Engine N → Type 0
-FlushesPages flash recorded honest zero old new = new ≡ old
-FlushesPages {N} flash recorded honest (suc t) old new = (mid : Engine N) × FlushesPages flash recorded honest t old mid × FlushesPage flash recorded honest t mid new
+abbrev pub FlushesPages : {N : Type 0} → View N → ℕ → Engine N → Engine N → Type 0
+FlushesPages view zero old new = new ≡ old
+FlushesPages {N} view (suc t) old new = (mid : Engine N) × FlushesPages view t old mid × FlushesPage view t mid new
 
 -- ---- table pages
 
 -- TABLE PAGE u WAS WRITTEN: one page of the meta stream was programmed, again after each failure, and it spells the table as it was before
-pub record WritesTable {N : Type 0} (flash : N → Flash) (recorded : N → Option Recording) (honest : N → Bool) (u : ℕ) (old new : Engine N) : Type 0 where
+pub record WritesTable {N : Type 0} (view : View N) (u : ℕ) (old new : Engine N) : Type 0 where
   pub blocks : Goes (ram old) (ram new)
   pub put : HasPut Meta (ram old) (ram new)
   pub page : IsLastPage kind.Table u (ram new) (page_in new.page)
   pub spelled : new.page.body.items ≡ table_bytes (entries old.geometry) (ram old).blocks.table u
   pub mapping : new.mapping ≡ old.mapping
-  pub honest_is : honest new.nand ≡ honest old.nand
-  pub goes : GoesHonestly flash recorded honest old new
-  pub means : honest old.nand ≡ true → Knows (ram old) (image_in flash old) → IsTabled u (ram old) (image_in flash old) (ram new) (image_in flash new)
+  pub honest_is : view.honest new.nand ≡ view.honest old.nand
+  pub goes : GoesHonestly view old new
+  pub means : view.honest old.nand ≡ true → Knows (ram old) (image_in view.flash old) → IsTabled u (ram old) (image_in view.flash old) (ram new) (image_in view.flash new)
 
 -- so of the first so many table pages, one after another
-abbrev pub WritesFirst : {N : Type 0} → (N → Flash) → (N → Option Recording) → (N → Bool) → ℕ → Engine N → Engine N → Type 0
-WritesFirst flash recorded honest zero old new = new ≡ old
-WritesFirst {N} flash recorded honest (suc u) old new = (mid : Engine N) × WritesFirst flash recorded honest u old mid × WritesTable flash recorded honest u mid new
+abbrev pub WritesFirst : {N : Type 0} → View N → ℕ → Engine N → Engine N → Type 0
+WritesFirst view zero old new = new ≡ old
+WritesFirst {N} view (suc u) old new = (mid : Engine N) × WritesFirst view u old mid × WritesTable view u mid new
 
 -- A ROUND: each table page was written once
-pub record HasRound {N : Type 0} (flash : N → Flash) (recorded : N → Option Recording) (honest : N → Bool) (old new : Engine N) : Type 0 where
-  pub pages : WritesFirst flash recorded honest (table_pages old.geometry) old new
+pub record HasRound {N : Type 0} (view : View N) (old new : Engine N) : Type 0 where
+  pub pages : WritesFirst view (table_pages old.geometry) old new
 
 -- rounds in each of which a block failed, with the engines as they began, the latest first
-abbrev pub Repeats : {N : Type 0} → (N → Flash) → (N → Option Recording) → (N → Bool) → Engine N → List (Engine N) → Engine N → Type 0
-Repeats flash recorded honest old [] new = new ≡ old
-Repeats flash recorded honest old (start ∷ before) new = Repeats flash recorded honest old before start × HasRound flash recorded honest start new
+abbrev pub Repeats : {N : Type 0} → View N → Engine N → List (Engine N) → Engine N → Type 0
+Repeats view old [] new = new ≡ old
+Repeats view old (start ∷ before) new = Repeats view old before start × HasRound view start new
     × (good_count (ram new).blocks.table < good_count (ram start).blocks.table)
 
 -- such rounds, and after them one in which none failed
-pub record WritesRounds {N : Type 0} (flash : N → Flash) (recorded : N → Option Recording) (honest : N → Bool) (old new : Engine N) : Type 0 where
+pub record WritesRounds {N : Type 0} (view : View N) (old new : Engine N) : Type 0 where
   pub starts : List (Engine N)
   pub last : Engine N
-  pub failed : Repeats flash recorded honest old starts last
-  pub round : HasRound flash recorded honest last new
+  pub failed : Repeats view old starts last
+  pub round : HasRound view last new
   pub none : good_count (ram new).blocks.table ≡ good_count (ram last).blocks.table
 
 -- ---- the whole
 
 -- A FLUSH THAT IS DONE, whatever the die does: translation pages were brought up one after another, room was made, and the table pages were written
-pub record HasFlushed {N : Type 0} (flash : N → Flash) (recorded : N → Option Recording) (honest : N → Bool) (old new : Engine N) : Type 0 where
+pub record HasFlushed {N : Type 0} (view : View N) (old new : Engine N) : Type 0 where
   pub back : Engine N
   pub ready : Engine N
-  pub pages : FlushesPages flash recorded honest (translation_pages old.geometry) old back
-  pub cleared : HasCleared flash recorded honest back ready
-  pub tables : WritesRounds flash recorded honest ready new
+  pub pages : FlushesPages view (translation_pages old.geometry) old back
+  pub cleared : HasCleared view back ready
+  pub tables : WritesRounds view ready new
 
 -- ---- laws
 
 -- A FLUSH OF WHAT LACKS NOTHING, with nine free blocks, in which no block fails, programs each table page once, in the meta stream, and nothing else
-abbrev pub CleanFlushLaw : {N : Type 0} → (N → Flash) → (N → Option Recording) → (N → Bool) → Type 0
-CleanFlushLaw {N} flash recorded honest = (old new : Engine N) → ((t : ℕ) → t < translation_pages old.geometry → IsClean old.geometry t old.mapping)
-    → 9 ≤ free_count (ram old).blocks → good_count (ram new).blocks.table ≡ good_count (ram old).blocks.table → HasFlushed flash recorded honest old new
+abbrev pub CleanFlushLaw : {N : Type 0} → View N → Type 0
+CleanFlushLaw {N} view = (old new : Engine N) → ((t : ℕ) → t < translation_pages old.geometry → IsClean old.geometry t old.mapping)
+    → 9 ≤ free_count (ram old).blocks → good_count (ram new).blocks.table ≡ good_count (ram old).blocks.table → HasFlushed view old new
     → (new.next ≡ old.next + table_pages old.geometry) × ((counts_of (ram new).blocks).data_left ≡ (counts_of (ram old).blocks).data_left)
 
 -- AND WHERE ONE BLOCK FAILS, each table page is programmed twice, since all of them are written again, and the one whose program failed once more
-abbrev pub FailedFlushLaw : {N : Type 0} → (N → Flash) → (N → Option Recording) → (N → Bool) → Type 0
-FailedFlushLaw {N} flash recorded honest = (old new : Engine N) → ((t : ℕ) → t < translation_pages old.geometry → IsClean old.geometry t old.mapping)
-    → 9 ≤ free_count (ram old).blocks → good_count (ram old).blocks.table ≡ good_count (ram new).blocks.table + 1 → HasFlushed flash recorded honest old new
+abbrev pub FailedFlushLaw : {N : Type 0} → View N → Type 0
+FailedFlushLaw {N} view = (old new : Engine N) → ((t : ℕ) → t < translation_pages old.geometry → IsClean old.geometry t old.mapping)
+    → 9 ≤ free_count (ram old).blocks → good_count (ram old).blocks.table ≡ good_count (ram new).blocks.table + 1 → HasFlushed view old new
     → new.next ≡ old.next + 2 * table_pages old.geometry + 1
 
 -- A TRANSLATION PAGE THAT LACKS A ROW is programmed once, with nine free blocks, and once more for each block that fails; then it lacks none
-abbrev pub LackingPageLaw : {N : Type 0} → (N → Flash) → (N → Option Recording) → (N → Bool) → Type 0
-LackingPageLaw {N} flash recorded honest = (t : ℕ) (old new : Engine N) → (IsClean old.geometry t old.mapping → ⊥) → 9 ≤ free_count (ram old).blocks
-    → FlushesPage flash recorded honest t old new
+abbrev pub LackingPageLaw : {N : Type 0} → View N → Type 0
+LackingPageLaw {N} view = (t : ℕ) (old new : Engine N) → (IsClean old.geometry t old.mapping → ⊥) → 9 ≤ free_count (ram old).blocks
+    → FlushesPage view t old new
     → (new.next + good_count (ram new).blocks.table ≡ old.next + good_count (ram old).blocks.table + 1) × IsLastPage kind.Translation t (ram new) (page_in new.page)
     × (new.mapping ≡ cleaned old.mapping t)

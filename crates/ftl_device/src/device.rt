@@ -50,19 +50,19 @@ impl<N: Nand> Device<N> {
         nand: N,
         accepted: Accepted<'a>,
     ) -> Result<Device<N>, StartFault<'a, N>>
-        requires same_geometry { sizes_of (N.flash nand).geometry ≡ accepted.claim.sizes }
-        ensures device { IfOk result (IsDevice N.flash) }
+        requires same_geometry { sizes_of (N.view.flash nand).geometry ≡ accepted.claim.sizes }
+        ensures device { IfOk result (IsDevice N.view.flash) }
         ensures nand { IfOk result (λ d. d.engine.nand ≡ nand) }
         ensures cursor { IfOk result (λ d. d.cursor ≡ 0) }
-        ensures begun { IfOk result (λ d. ram d.engine ≡ begun_ram (N.flash nand).geometry accepted.entry.claim accepted.entry.stale) }
+        ensures begun { IfOk result (λ d. ram d.engine ≡ begun_ram (N.view.flash nand).geometry accepted.entry.claim accepted.entry.stale) }
         ensures good { IfOk result (λ d. good_count (state d.engine.blocks).table ≡ good_blocks accepted.entry.claim) }
         // The truth of it, for a die that keeps its promises.
-        ensures truth { IfOk result (λ d. N.honest nand ≡ true → IsAcceptedFor (N.flash nand) accepted.entry →
-            IsTrue None (ram d.engine) (image_in N.flash d.engine)) }
-        ensures free { IfOk result (λ d. N.honest nand ≡ true → IsAcceptedFor (N.flash nand) accepted.entry →
-            d.read_only ≡ is_scarce (free_in (N.flash nand).geometry accepted.entry.claim (N.flash nand).image)) }
-        ensures accounts { IfOk result (λ d. N.honest nand ≡ true → IsAcceptedFor (N.flash nand) accepted.entry →
-            IsAccounted (accounts_of (N.flash nand).geometry (N.flash nand).image (is_bad_in accepted.entry.claim)) (state d.engine.blocks)) }
+        ensures truth { IfOk result (λ d. N.view.honest nand ≡ true → IsAcceptedFor (N.view.flash nand) accepted.entry →
+            IsTrue None (ram d.engine) (image_in N.view.flash d.engine)) }
+        ensures free { IfOk result (λ d. N.view.honest nand ≡ true → IsAcceptedFor (N.view.flash nand) accepted.entry →
+            d.read_only ≡ is_scarce (free_in (N.view.flash nand).geometry accepted.entry.claim (N.view.flash nand).image)) }
+        ensures accounts { IfOk result (λ d. N.view.honest nand ≡ true → IsAcceptedFor (N.view.flash nand) accepted.entry →
+            IsAccounted (accounts_of (N.view.flash nand).geometry (N.view.flash nand).image (is_bad_in accepted.entry.claim)) (state d.engine.blocks)) }
         ensures fault { IfErr result (λ fault. fault ≡ StartFault.OutOfMemory nand accepted.entry) }
     {
         let certificate = accepted.certificate();

@@ -26,25 +26,25 @@ use onfi_cycles::Nand;
 
 // Writes translation page `t` back where it lacks a row. Whether it does is asked before room is made.
 fn flush_translation<N: Nand>(engine: &mut Engine<N>, t: u32) -> Result<(), EngineFault>
-    requires safe { IsSafe N.flash engine.old }
+    requires safe { IsSafe N.view.flash engine.old }
     requires going { engine.old.fault ≡ None }
     requires calm { IsCalm (ram engine.old) }
     requires page { t < translation_pages engine.old.geometry }
-    ensures leaves { EngineLeaves N.flash N.recorded N.honest N.calm N.failed engine.old result engine.new }
+    ensures leaves { EngineLeaves N.view engine.old result engine.new }
     ensures pins { OnOk result (engine.old.pinned ≡ None → engine.new.pinned ≡ None) }
     ensures keys { keys_of engine.new.mapping.cached ≡ keys_of engine.old.mapping.cached }
     ensures limits { HasLimitsOf engine.old.mapping engine.new.mapping }
     ensures calm { engine.new.fault ≡ None → IsCalm (ram engine.new) }
     ensures clean { OnOk result (IsClean engine.old.geometry t engine.new.mapping) }
     ensures cleans { OnOk result (KeepsClean engine.old.geometry engine.old.mapping engine.new.mapping) }
-    ensures page { OnOk result (FlushesPage N.flash N.recorded N.honest t engine.old engine.new) }
-    ensures count { N.honest engine.old.nand ≡ true → Knows (ram engine.old) (image_in N.flash engine.old) →
+    ensures page { OnOk result (FlushesPage N.view t engine.old engine.new) }
+    ensures count { N.view.honest engine.old.nand ≡ true → Knows (ram engine.old) (image_in N.view.flash engine.old) →
         (failures : ℕ) → IsFunded engine.old.geometry.pages failures (counts_of (ram engine.old).blocks) →
         FlushCounts failures (ram engine.old) (ram engine.new) result }
-    ensures truth { N.honest engine.old.nand ≡ true → Knows (ram engine.old) (image_in N.flash engine.old) →
+    ensures truth { N.view.honest engine.old.nand ≡ true → Knows (ram engine.old) (image_in N.view.flash engine.old) →
         MatchResult result
-        (λ _. KeepsArray engine.old.geometry (image_in N.flash engine.old) (ram engine.new) (image_in N.flash engine.new))
-        (λ fault. CallRefused engine.old.geometry (image_in N.flash engine.old) (ram engine.new) (image_in N.flash engine.new) (CallFault.Engine fault)) }
+        (λ _. KeepsArray engine.old.geometry (image_in N.view.flash engine.old) (ram engine.new) (image_in N.view.flash engine.new))
+        (λ fault. CallRefused engine.old.geometry (image_in N.view.flash engine.old) (ram engine.new) (image_in N.view.flash engine.new) (CallFault.Engine fault)) }
 {
     if !engine.mapping.lacks(t) {
         return Ok(());
@@ -55,23 +55,23 @@ fn flush_translation<N: Nand>(engine: &mut Engine<N>, t: u32) -> Result<(), Engi
 
 // Writes back each translation page that lacks a row.
 fn flush_translations<N: Nand>(engine: &mut Engine<N>) -> Result<(), EngineFault>
-    requires safe { IsSafe N.flash engine.old }
+    requires safe { IsSafe N.view.flash engine.old }
     requires going { engine.old.fault ≡ None }
     requires calm { IsCalm (ram engine.old) }
-    ensures leaves { EngineLeaves N.flash N.recorded N.honest N.calm N.failed engine.old result engine.new }
+    ensures leaves { EngineLeaves N.view engine.old result engine.new }
     ensures pins { OnOk result (engine.old.pinned ≡ None → engine.new.pinned ≡ None) }
     ensures keys { keys_of engine.new.mapping.cached ≡ keys_of engine.old.mapping.cached }
     ensures limits { HasLimitsOf engine.old.mapping engine.new.mapping }
     ensures calm { engine.new.fault ≡ None → IsCalm (ram engine.new) }
     ensures clean { OnOk result ((t : ℕ) → t < translation_pages engine.old.geometry → IsClean engine.old.geometry t engine.new.mapping) }
-    ensures pages { OnOk result (FlushesPages N.flash N.recorded N.honest (translation_pages engine.old.geometry) engine.old engine.new) }
-    ensures count { N.honest engine.old.nand ≡ true → Knows (ram engine.old) (image_in N.flash engine.old) →
+    ensures pages { OnOk result (FlushesPages N.view (translation_pages engine.old.geometry) engine.old engine.new) }
+    ensures count { N.view.honest engine.old.nand ≡ true → Knows (ram engine.old) (image_in N.view.flash engine.old) →
         (failures : ℕ) → IsFunded engine.old.geometry.pages failures (counts_of (ram engine.old).blocks) →
         FlushCounts failures (ram engine.old) (ram engine.new) result }
-    ensures truth { N.honest engine.old.nand ≡ true → Knows (ram engine.old) (image_in N.flash engine.old) →
+    ensures truth { N.view.honest engine.old.nand ≡ true → Knows (ram engine.old) (image_in N.view.flash engine.old) →
         MatchResult result
-        (λ _. KeepsArray engine.old.geometry (image_in N.flash engine.old) (ram engine.new) (image_in N.flash engine.new))
-        (λ fault. CallRefused engine.old.geometry (image_in N.flash engine.old) (ram engine.new) (image_in N.flash engine.new) (CallFault.Engine fault)) }
+        (λ _. KeepsArray engine.old.geometry (image_in N.view.flash engine.old) (ram engine.new) (image_in N.view.flash engine.new))
+        (λ fault. CallRefused engine.old.geometry (image_in N.view.flash engine.old) (ram engine.new) (image_in N.view.flash engine.new) (CallFault.Engine fault)) }
 {
     'translations: for t in 0..engine.geometry.translation_pages() {
         flush_translation(engine, t)?;
@@ -81,19 +81,19 @@ fn flush_translations<N: Nand>(engine: &mut Engine<N>) -> Result<(), EngineFault
 
 // Writes each table page once. Where no block has failed meanwhile, they tell the table as it is.
 fn write_tables_once<N: Nand>(engine: &mut Engine<N>) -> Result<(), EngineFault>
-    requires safe { IsSafe N.flash engine.old }
+    requires safe { IsSafe N.view.flash engine.old }
     requires going { engine.old.fault ≡ None }
-    ensures leaves { EngineLeaves N.flash N.recorded N.honest N.calm N.failed engine.old result engine.new }
+    ensures leaves { EngineLeaves N.view engine.old result engine.new }
     ensures mapping { engine.new.mapping ≡ engine.old.mapping }
     ensures beside { LeavesPin (ram engine.old) (ram engine.new) }
     ensures table { KeepsTable (ram engine.old).blocks (ram engine.new).blocks }
     ensures cost { OnOk result (AddsPages (table_pages engine.old.geometry) (ram engine.old) (ram engine.new)) }
-    ensures round { OnOk result (HasRound N.flash N.recorded N.honest engine.old engine.new) }
+    ensures round { OnOk result (HasRound N.view engine.old engine.new) }
     ensures out { result ≡ Err EngineFault.ReadOnly → FailsAmong (table_pages engine.old.geometry) (ram engine.old) (ram engine.new) }
-    ensures truth { N.honest engine.old.nand ≡ true → Knows (ram engine.old) (image_in N.flash engine.old) →
+    ensures truth { N.view.honest engine.old.nand ≡ true → Knows (ram engine.old) (image_in N.view.flash engine.old) →
         MatchResult result
-        (λ _. KeepsTables (table_pages engine.old.geometry) (ram engine.old) (image_in N.flash engine.old) (ram engine.new) (image_in N.flash engine.new))
-        (λ fault. CallRefused engine.old.geometry (image_in N.flash engine.old) (ram engine.new) (image_in N.flash engine.new) (CallFault.Engine fault)) }
+        (λ _. KeepsTables (table_pages engine.old.geometry) (ram engine.old) (image_in N.view.flash engine.old) (ram engine.new) (image_in N.view.flash engine.new))
+        (λ fault. CallRefused engine.old.geometry (image_in N.view.flash engine.old) (ram engine.new) (image_in N.view.flash engine.new) (CallFault.Engine fault)) }
 {
     'pages: for u in 0..engine.geometry.table_pages() {
         engine.write_table(u)?;
@@ -103,18 +103,18 @@ fn write_tables_once<N: Nand>(engine: &mut Engine<N>) -> Result<(), EngineFault>
 
 // Writes the table pages, and all of them again as long as a block has failed while they were written.
 fn write_tables<N: Nand>(engine: &mut Engine<N>) -> Result<(), EngineFault>
-    requires safe { IsSafe N.flash engine.old }
+    requires safe { IsSafe N.view.flash engine.old }
     requires going { engine.old.fault ≡ None }
-    ensures leaves { EngineLeaves N.flash N.recorded N.honest N.calm N.failed engine.old result engine.new }
+    ensures leaves { EngineLeaves N.view engine.old result engine.new }
     ensures mapping { engine.new.mapping ≡ engine.old.mapping }
     ensures beside { LeavesPin (ram engine.old) (ram engine.new) }
     ensures cost { OnOk result (WritesTables (ram engine.old) (ram engine.new)) }
-    ensures rounds { OnOk result (WritesRounds N.flash N.recorded N.honest engine.old engine.new) }
+    ensures rounds { OnOk result (WritesRounds N.view engine.old engine.new) }
     ensures out { result ≡ Err EngineFault.ReadOnly → RunsOut (ram engine.old) (ram engine.new) }
-    ensures truth { N.honest engine.old.nand ≡ true → Knows (ram engine.old) (image_in N.flash engine.old) →
+    ensures truth { N.view.honest engine.old.nand ≡ true → Knows (ram engine.old) (image_in N.view.flash engine.old) →
         MatchResult result
-        (λ _. SpellsAll engine.old.geometry (image_in N.flash engine.old) (ram engine.new) (image_in N.flash engine.new))
-        (λ fault. CallRefused engine.old.geometry (image_in N.flash engine.old) (ram engine.new) (image_in N.flash engine.new) (CallFault.Engine fault)) }
+        (λ _. SpellsAll engine.old.geometry (image_in N.view.flash engine.old) (ram engine.new) (image_in N.view.flash engine.new))
+        (λ fault. CallRefused engine.old.geometry (image_in N.view.flash engine.old) (ram engine.new) (image_in N.view.flash engine.new) (CallFault.Engine fault)) }
 {
     let mut good = engine.blocks.good();
     write_tables_once(engine)?;
@@ -127,24 +127,24 @@ fn write_tables<N: Nand>(engine: &mut Engine<N>) -> Result<(), EngineFault>
 
 // Writes back what waits, and then the table.
 pub(crate) fn flush_ready<N: Nand>(engine: &mut Engine<N>) -> Result<(), CallFault>
-    requires safe { IsSafe N.flash engine.old }
+    requires safe { IsSafe N.view.flash engine.old }
     requires going { engine.old.fault ≡ None }
     requires calm { IsCalm (ram engine.old) }
-    ensures ends { EndsCall N.flash N.recorded N.honest N.calm N.failed engine.old result engine.new }
+    ensures ends { EndsCall N.view engine.old result engine.new }
     ensures memory { result ≢ Err CallFault.OutOfMemory }
     ensures pins { OnOk result (engine.old.pinned ≡ None → engine.new.pinned ≡ None) }
     ensures keys { keys_of engine.new.mapping.cached ≡ keys_of engine.old.mapping.cached }
     ensures clean { OnOk result ((t : ℕ) → t < translation_pages engine.old.geometry → IsClean engine.old.geometry t engine.new.mapping) }
-    ensures programs { OnOk result (HasFlushed N.flash N.recorded N.honest engine.old engine.new) }
-    ensures count { HasFunds (N.honest engine.old.nand) (ram engine.old) (image_in N.flash engine.old) → FlushShort (ram engine.old) (ram engine.new) result }
-    ensures truth { N.honest engine.old.nand ≡ true → Knows (ram engine.old) (image_in N.flash engine.old) →
+    ensures programs { OnOk result (HasFlushed N.view engine.old engine.new) }
+    ensures count { HasFunds (N.view.honest engine.old.nand) (ram engine.old) (image_in N.view.flash engine.old) → FlushShort (ram engine.old) (ram engine.new) result }
+    ensures truth { N.view.honest engine.old.nand ≡ true → Knows (ram engine.old) (image_in N.view.flash engine.old) →
         MatchResult result
-        (λ _. KeepsArray engine.old.geometry (image_in N.flash engine.old) (ram engine.new) (image_in N.flash engine.new))
-        (CallRefused engine.old.geometry (image_in N.flash engine.old) (ram engine.new) (image_in N.flash engine.new)) }
-    ensures flushed { N.honest engine.old.nand ≡ true → Knows (ram engine.old) (image_in N.flash engine.old) →
-        OnOk result (IsFlushed (ram engine.new) (image_in N.flash engine.new)) }
-    ensures renewed { N.honest engine.old.nand ≡ true → Knows (ram engine.old) (image_in N.flash engine.old) →
-        OnOk result (HasNewTables (table_pages engine.old.geometry) engine.old.geometry (image_in N.flash engine.new)) }
+        (λ _. KeepsArray engine.old.geometry (image_in N.view.flash engine.old) (ram engine.new) (image_in N.view.flash engine.new))
+        (CallRefused engine.old.geometry (image_in N.view.flash engine.old) (ram engine.new) (image_in N.view.flash engine.new)) }
+    ensures flushed { N.view.honest engine.old.nand ≡ true → Knows (ram engine.old) (image_in N.view.flash engine.old) →
+        OnOk result (IsFlushed (ram engine.new) (image_in N.view.flash engine.new)) }
+    ensures renewed { N.view.honest engine.old.nand ≡ true → Knows (ram engine.old) (image_in N.view.flash engine.old) →
+        OnOk result (HasNewTables (table_pages engine.old.geometry) engine.old.geometry (image_in N.view.flash engine.new)) }
 {
     flush_translations(engine)?;
     make_room(engine, true)?;
@@ -155,7 +155,7 @@ pub(crate) fn flush_ready<N: Nand>(engine: &mut Engine<N>) -> Result<(), CallFau
 impl<N: Nand> Device<N> {
     // Whether a flush may begin.
     pub(crate) fn may_flush(&self) -> Result<(), DeviceFault>
-        requires device { IsDevice N.flash self.now }
+        requires device { IsDevice N.view.flash self.now }
         ensures may { OnOk result (MayFlush (ram self.now.engine) self.now.read_only) }
         ensures may_not { IfErr result (MayNotFlush (ram self.now.engine) self.now.read_only) }
     {
@@ -196,16 +196,16 @@ impl<N: Nand> Device<N> {
     ///
     /// Source: this project.
     pub fn flush(&mut self) -> Result<(), DeviceFault>
-        requires device { IsDevice N.flash self.old }
-        ensures device { IsDevice N.flash self.new }
+        requires device { IsDevice N.view.flash self.old }
+        ensures device { IsDevice N.view.flash self.new }
         ensures geometry { self.new.engine.geometry ≡ self.old.engine.geometry }
         ensures cursor { self.new.cursor ≡ self.old.cursor }
-        ensures upkeeps { Upkeeps N.flash N.recorded N.honest N.calm N.failed Flush self.old result self.new }
+        ensures upkeeps { Upkeeps N.view Flush self.old result self.new }
         ensures pins { LeavesUnpinned self.old result self.new }
-        ensures renewed { N.honest self.old.engine.nand ≡ true → IsWell N.flash self.old →
-            OnOk result (Finishes self.old.engine.geometry (image_in N.flash self.old.engine) (image_in N.flash self.new.engine)) }
+        ensures renewed { N.view.honest self.old.engine.nand ≡ true → IsWell N.view.flash self.old →
+            OnOk result (Finishes self.old.engine.geometry (image_in N.view.flash self.old.engine) (image_in N.view.flash self.new.engine)) }
         ensures keys { keys_of self.new.engine.mapping.cached ≡ keys_of self.old.engine.mapping.cached }
-        ensures programs { OnOk result (HasFlushed N.flash N.recorded N.honest self.old.engine self.new.engine) }
+        ensures programs { OnOk result (HasFlushed N.view self.old.engine self.new.engine) }
     {
         self.may_flush()?;
         let good = self.engine.blocks.good();

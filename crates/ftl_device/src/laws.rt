@@ -33,8 +33,8 @@ pub fn restart_laws()
 /// read-only. So of as many turns in a row as a block has pages, each of them what `turn` says of one
 /// without a failure, one erases a block or changes nothing. (This project.)
 pub fn turn_laws<N: Nand>()
-    ensures below { LeftBelowLaw N.flash }
-    ensures turns { TurnsLaw N.flash N.erases }
+    ensures below { LeftBelowLaw N.view.flash }
+    ensures turns { TurnsLaw N.view }
 {}
 
 /// At every call: the good and the free blocks of a memory that agrees with the image are those that
@@ -65,9 +65,9 @@ pub fn flushed_laws()
 pub fn program_laws<N: Nand>()
     ensures kind { OneKindLaw }
     ensures apart { WriteOrTrimLaw }
-    ensures clean { CleanFlushLaw N.flash N.recorded N.honest }
-    ensures again { FailedFlushLaw N.flash N.recorded N.honest }
-    ensures lacking { LackingPageLaw N.flash N.recorded N.honest }
+    ensures clean { CleanFlushLaw N.view }
+    ensures again { FailedFlushLaw N.view }
+    ensures lacking { LackingPageLaw N.view }
 {}
 
 /// What a call that begins with nine free blocks leaves: five, unless three blocks fail in it; and the
@@ -90,8 +90,8 @@ pub fn migrate_laws()
 /// are free as each begins, the image that they leave tells it. So no two of them are one, and none is two.
 /// And a turn rescues the page of lowest row, where a bad block holds a newest page and nine are free. (This project.)
 pub fn brought_laws<N: Nand>()
-    ensures counted { CountedLaw N.flash N.recorded }
-    ensures lowest { LowestRowLaw N.flash N.recorded }
+    ensures counted { CountedLaw N.view }
+    ensures lowest { LowestRowLaw N.view }
 {}
 
 /// What a stop inside a call leaves: a read, a flush and a turn change no sector, nor does a command

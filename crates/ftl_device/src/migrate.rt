@@ -26,23 +26,23 @@ const SPARE_FOR_VERSION_2: usize = 40;
 
 // Makes room; then copies the page of a row, where it still has to be renewed.
 fn renew_ready<N: Nand>(engine: &mut Engine<N>, row: u32) -> Result<(), CallFault>
-    requires safe { IsSafe N.flash engine.old }
+    requires safe { IsSafe N.view.flash engine.old }
     requires going { engine.old.fault ≡ None }
     requires calm { IsCalm (ram engine.old) }
     requires row { row < row_count engine.old.geometry }
-    ensures ends { EndsCall N.flash N.recorded N.honest N.calm N.failed engine.old result engine.new }
+    ensures ends { EndsCall N.view engine.old result engine.new }
     ensures memory { result ≢ Err CallFault.OutOfMemory }
-    ensures count { HasFunds (N.honest engine.old.nand) (ram engine.old) (image_in N.flash engine.old) →
+    ensures count { HasFunds (N.view.honest engine.old.nand) (ram engine.old) (image_in N.view.flash engine.old) →
         5 ≤ free_count (ram engine.old).blocks → CallShort (ram engine.old) (ram engine.new) result }
-    ensures truth { N.honest engine.old.nand ≡ true → Knows (ram engine.old) (image_in N.flash engine.old) →
+    ensures truth { N.view.honest engine.old.nand ≡ true → Knows (ram engine.old) (image_in N.view.flash engine.old) →
         MatchResult result
-        (λ _. KeepsArray engine.old.geometry (image_in N.flash engine.old) (ram engine.new) (image_in N.flash engine.new))
-        (CallRefused engine.old.geometry (image_in N.flash engine.old) (ram engine.new) (image_in N.flash engine.new)) }
-    ensures renews { N.honest engine.old.nand ≡ true → Knows (ram engine.old) (image_in N.flash engine.old) →
-        OnOk result (Renews row engine.old.geometry (image_in N.flash engine.old) (image_in N.flash engine.new)) }
+        (λ _. KeepsArray engine.old.geometry (image_in N.view.flash engine.old) (ram engine.new) (image_in N.view.flash engine.new))
+        (CallRefused engine.old.geometry (image_in N.view.flash engine.old) (ram engine.new) (image_in N.view.flash engine.new)) }
+    ensures renews { N.view.honest engine.old.nand ≡ true → Knows (ram engine.old) (image_in N.view.flash engine.old) →
+        OnOk result (Renews row engine.old.geometry (image_in N.view.flash engine.old) (image_in N.view.flash engine.new)) }
     ensures brought { OnOk result (HasBrought (ram engine.old) (ram engine.new)) }
-    ensures brings { N.honest engine.old.nand ≡ true → Knows (ram engine.old) (image_in N.flash engine.old) →
-        OnOk result (BringsPage N.flash N.recorded row engine.old engine.new) }
+    ensures brings { N.view.honest engine.old.nand ≡ true → Knows (ram engine.old) (image_in N.view.flash engine.old) →
+        OnOk result (BringsPage N.view row engine.old engine.new) }
 {
     make_room(engine, false)?;
     engine.renew_at(row)?;
@@ -52,17 +52,17 @@ fn renew_ready<N: Nand>(engine: &mut Engine<N>, row: u32) -> Result<(), CallFaul
 // The next row, from a cursor on, whose page has to be renewed; where none is left there, the first one of
 // all. The die is only read.
 fn next_from<N: Nand>(engine: &mut Engine<N>, cursor: u32) -> Result<Option<u32>, EngineFault>
-    requires safe { IsSafe N.flash engine.old }
+    requires safe { IsSafe N.view.flash engine.old }
     requires going { engine.old.fault ≡ None }
-    ensures leaves { EngineLeaves N.flash N.recorded N.honest N.calm N.failed engine.old result engine.new }
-    ensures only_reads { OnlyReads N.flash N.honest N.calm N.programs N.erases N.failed engine.old.nand engine.new.nand }
+    ensures leaves { EngineLeaves N.view engine.old result engine.new }
+    ensures only_reads { OnlyReads N.view engine.old.nand engine.new.nand }
     ensures still { ram engine.new ≡ record (ram engine.old) { fault = engine.new.fault } }
-    ensures same { N.honest engine.old.nand ≡ true → OnOk result (N.flash engine.new.nand ≡ N.flash engine.old.nand) }
+    ensures same { N.view.honest engine.old.nand ≡ true → OnOk result (N.view.flash engine.new.nand ≡ N.view.flash engine.old.nand) }
     ensures faults { IfErr result IsReadFault }
     ensures row { IfOk result (λ found. ForSome found (λ row. row < row_count engine.old.geometry)) }
-    ensures truth { N.honest engine.old.nand ≡ true → Knows (ram engine.old) (image_in N.flash engine.old) →
+    ensures truth { N.view.honest engine.old.nand ≡ true → Knows (ram engine.old) (image_in N.view.flash engine.old) →
         MatchResult result
-        (FindsFrom cursor (image_in N.flash engine.old))
+        (FindsFrom cursor (image_in N.view.flash engine.old))
         (λ fault. fault ≡ EngineFault.Bus) }
 {
     let ahead = engine.next_old(cursor)?;
@@ -79,27 +79,27 @@ fn migrate_ready<N: Nand>(
     cursor: u32,
     found: &mut Option<u32>,
 ) -> Result<(), CallFault>
-    requires safe { IsSafe N.flash engine.old }
+    requires safe { IsSafe N.view.flash engine.old }
     requires going { engine.old.fault ≡ None }
     requires calm { IsCalm (ram engine.old) }
-    ensures ends { EndsCall N.flash N.recorded N.honest N.calm N.failed engine.old result engine.new }
+    ensures ends { EndsCall N.view engine.old result engine.new }
     ensures memory { result ≢ Err CallFault.OutOfMemory }
-    ensures count { HasFunds (N.honest engine.old.nand) (ram engine.old) (image_in N.flash engine.old) →
+    ensures count { HasFunds (N.view.honest engine.old.nand) (ram engine.old) (image_in N.view.flash engine.old) →
         5 ≤ free_count (ram engine.old).blocks → CallShort (ram engine.old) (ram engine.new) result }
-    ensures truth { N.honest engine.old.nand ≡ true → Knows (ram engine.old) (image_in N.flash engine.old) →
+    ensures truth { N.view.honest engine.old.nand ≡ true → Knows (ram engine.old) (image_in N.view.flash engine.old) →
         MatchResult result
-        (λ _. KeepsArray engine.old.geometry (image_in N.flash engine.old) (ram engine.new) (image_in N.flash engine.new))
-        (CallRefused engine.old.geometry (image_in N.flash engine.old) (ram engine.new) (image_in N.flash engine.new)) }
+        (λ _. KeepsArray engine.old.geometry (image_in N.view.flash engine.old) (ram engine.new) (image_in N.view.flash engine.new))
+        (CallRefused engine.old.geometry (image_in N.view.flash engine.old) (ram engine.new) (image_in N.view.flash engine.new)) }
     ensures rests { OnOk result (found.new ≡ None →
-        OnlyReads N.flash N.honest N.calm N.programs N.erases N.failed engine.old.nand engine.new.nand) }
-    ensures migrates { N.honest engine.old.nand ≡ true → Knows (ram engine.old) (image_in N.flash engine.old) →
-        OnOk result (Migrates (is_some found.new) engine.old.geometry (image_in N.flash engine.old) (image_in N.flash engine.new)) }
+        OnlyReads N.view engine.old.nand engine.new.nand) }
+    ensures migrates { N.view.honest engine.old.nand ≡ true → Knows (ram engine.old) (image_in N.view.flash engine.old) →
+        OnOk result (Migrates (is_some found.new) engine.old.geometry (image_in N.view.flash engine.old) (image_in N.view.flash engine.new)) }
     ensures row { OnOk result (ForSome found.new (λ row. row < row_count engine.old.geometry)) }
     ensures brought { OnOk result (ForSome found.new (λ _. HasBrought (ram engine.old) (ram engine.new))) }
-    ensures brings { N.honest engine.old.nand ≡ true → Knows (ram engine.old) (image_in N.flash engine.old) →
-        OnOk result (ForSome found.new (λ row. BringsPage N.flash N.recorded row engine.old engine.new)) }
-    ensures next { N.honest engine.old.nand ≡ true → Knows (ram engine.old) (image_in N.flash engine.old) →
-        OnOk result (FindsFrom cursor (image_in N.flash engine.old) found.new) }
+    ensures brings { N.view.honest engine.old.nand ≡ true → Knows (ram engine.old) (image_in N.view.flash engine.old) →
+        OnOk result (ForSome found.new (λ row. BringsPage N.view row engine.old engine.new)) }
+    ensures next { N.view.honest engine.old.nand ≡ true → Knows (ram engine.old) (image_in N.view.flash engine.old) →
+        OnOk result (FindsFrom cursor (image_in N.view.flash engine.old) found.new) }
 {
     let next = next_from(engine, cursor)?;
     let Some(row) = next else {
@@ -128,21 +128,21 @@ impl<N: Nand> Device<N> {
     ///
     /// Those of `turn`, as there; the cursor stays. (This project.)
     pub fn migrate_one(&mut self) -> Result<bool, DeviceFault>
-        requires device { IsDevice N.flash self.old }
-        ensures device { IsDevice N.flash self.new }
+        requires device { IsDevice N.view.flash self.old }
+        ensures device { IsDevice N.view.flash self.new }
         ensures geometry { self.new.engine.geometry ≡ self.old.engine.geometry }
-        ensures upkeeps { Upkeeps N.flash N.recorded N.honest N.calm N.failed Turn self.old (ended result) self.new }
+        ensures upkeeps { Upkeeps N.view Turn self.old (ended result) self.new }
         ensures small { self.old.engine.geometry.spare_bytes < 40 → (self.new ≡ self.old) × IfOk result (λ found. found ≡ false) }
         ensures rests { IfOk result (λ found. found ≡ false →
-            OnlyReads N.flash N.honest N.calm N.programs N.erases N.failed self.old.engine.nand self.new.engine.nand) }
-        ensures migrates { N.honest self.old.engine.nand ≡ true → IsWell N.flash self.old → 40 ≤ self.old.engine.geometry.spare_bytes →
-            IfOk result (λ found. Migrates found self.old.engine.geometry (image_in N.flash self.old.engine) (image_in N.flash self.new.engine)) }
+            OnlyReads N.view self.old.engine.nand self.new.engine.nand) }
+        ensures migrates { N.view.honest self.old.engine.nand ≡ true → IsWell N.view.flash self.old → 40 ≤ self.old.engine.geometry.spare_bytes →
+            IfOk result (λ found. Migrates found self.old.engine.geometry (image_in N.view.flash self.old.engine) (image_in N.view.flash self.new.engine)) }
         ensures brought { result ≡ Ok true → HasBrought (ram self.old.engine) (ram self.new.engine) }
-        ensures brings { N.honest self.old.engine.nand ≡ true → IsWell N.flash self.old → result ≡ Ok true →
-            BringsOne N.flash N.recorded self.old self.new }
+        ensures brings { N.view.honest self.old.engine.nand ≡ true → IsWell N.view.flash self.old → result ≡ Ok true →
+            BringsOne N.view self.old self.new }
         ensures stays { result ≢ Ok true → self.new.cursor ≡ self.old.cursor }
-        ensures moves_on { N.honest self.old.engine.nand ≡ true → IsWell N.flash self.old → result ≡ Ok true →
-            HasMovedOn self.old.cursor (image_in N.flash self.old.engine) self.new.cursor }
+        ensures moves_on { N.view.honest self.old.engine.nand ≡ true → IsWell N.view.flash self.old → result ≡ Ok true →
+            HasMovedOn self.old.cursor (image_in N.view.flash self.old.engine) self.new.cursor }
     {
         self.may_flush()?;
         if self.engine.geometry.spare_bytes() < SPARE_FOR_VERSION_2 {

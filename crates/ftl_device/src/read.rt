@@ -27,10 +27,10 @@ impl<N: Nand> Device<N> {
     // A sector that was read becomes the most recently used. One that was not cached is cached where
     // it is not moved and no dirty entry has to leave for it; where memory is refused, it isn't.
     fn remember(&mut self, sector: u32, row: Option<u32>)
-        requires device { IsDevice N.flash self.old }
+        requires device { IsDevice N.view.flash self.old }
         requires sector { sector < self.old.engine.geometry.sectors }
         requires row { ForSome row (λ r. r < row_count self.old.engine.geometry) }
-        ensures device { IsDevice N.flash self.new }
+        ensures device { IsDevice N.view.flash self.new }
         ensures same { self.new ≡ record self.old { engine = record self.old.engine { mapping = self.new.engine.mapping } } }
         ensures looks_up { LooksUp sector row self.old.engine.mapping self.new.engine.mapping }
         ensures limits { HasLimitsOf self.old.engine.mapping self.new.engine.mapping }
@@ -48,9 +48,9 @@ impl<N: Nand> Device<N> {
 
     // The answer to a fault of a read: the die's fault stops the device.
     fn refused_read(&mut self, fault: EngineFault) -> DeviceFault
-        requires device { IsDevice N.flash self.old }
+        requires device { IsDevice N.view.flash self.old }
         requires of_read { IsReadFault fault }
-        ensures device { IsDevice N.flash self.new }
+        ensures device { IsDevice N.view.flash self.new }
         ensures damaged { fault ≡ EngineFault.Damaged → (result ≡ DeviceFault.Damaged) × (self.new ≡ self.old) }
         ensures bus { fault ≡ EngineFault.Bus → (result ≡ DeviceFault.BusFault) × (self.new ≡ record self.old { engine = record self.old.engine { fault = Some fault } }) }
         ensures either { IsReadRefusal result }
@@ -89,9 +89,9 @@ impl<N: Nand> Device<N> {
     ///
     /// (This project.)
     pub fn read(&mut self, sector: u32, out: &mut [u8]) -> Result<(), DeviceFault>
-        requires device { IsDevice N.flash self.old }
+        requires device { IsDevice N.view.flash self.old }
         requires whole { length out.old ≡ self.old.engine.geometry.data_bytes }
-        ensures device { IsDevice N.flash self.new }
+        ensures device { IsDevice N.view.flash self.new }
         ensures stopped { ForSome (stop_of self.old.engine.fault) (λ fault. (result ≡ Err fault) × (self.new ≡ self.old)) }
         ensures past { stop_of self.old.engine.fault ≡ None → self.old.engine.geometry.sectors ≤ sector → (result ≡ Err DeviceFault.OutOfRange) × (self.new ≡ self.old) }
         ensures within { sector < self.old.engine.geometry.sectors → result ≢ Err DeviceFault.OutOfRange }
@@ -100,31 +100,31 @@ impl<N: Nand> Device<N> {
         ensures limits { HasLimitsOf self.old.engine.mapping self.new.engine.mapping }
         ensures read_only { self.new.read_only ≡ self.old.read_only }
         ensures cursor { self.new.cursor ≡ self.old.cursor }
-        ensures only_reads { OnlyReads N.flash N.honest N.calm N.programs N.erases N.failed self.old.engine.nand self.new.engine.nand }
-        ensures reads { N.reads self.new.engine.nand ≤ N.reads self.old.engine.nand + 2 }
-        ensures hit { IsSome (known self.old.engine.mapping sector) → N.reads self.new.engine.nand ≤ N.reads self.old.engine.nand + 1 }
+        ensures only_reads { OnlyReads N.view self.old.engine.nand self.new.engine.nand }
+        ensures reads { N.view.reads self.new.engine.nand ≤ N.view.reads self.old.engine.nand + 2 }
+        ensures hit { IsSome (known self.old.engine.mapping sector) → N.view.reads self.new.engine.nand ≤ N.view.reads self.old.engine.nand + 1 }
         ensures rose { stop_of self.old.engine.fault ≡ None → result ≡ Err DeviceFault.BusFault →
-            HasRisen (N.failed self.old.engine.nand) (N.failed self.new.engine.nand) }
+            HasRisen (N.view.failed self.old.engine.nand) (N.view.failed self.new.engine.nand) }
 
         // Whatever the die does: the row that was found, the pages in the buffers that give it and the sector, and the row that is cached.
         ensures memory { LeavesRead sector result (ram self.old.engine) (ram self.new.engine)
             (page_in self.new.engine.scratch) (page_in self.new.engine.page) out.new }
 
         // The truth of it, for a die that keeps its promises.
-        ensures same { N.honest self.old.engine.nand ≡ true → result ≢ Err DeviceFault.BusFault →
-            N.flash self.new.engine.nand ≡ N.flash self.old.engine.nand }
-        ensures told { N.honest self.old.engine.nand ≡ true → result ≢ Err DeviceFault.BusFault →
-            N.recorded self.new.engine.nand ≡ N.recorded self.old.engine.nand }
-        ensures survives { N.honest self.old.engine.nand ≡ true → IsWell N.flash self.old → result ≢ Err DeviceFault.BusFault →
+        ensures same { N.view.honest self.old.engine.nand ≡ true → result ≢ Err DeviceFault.BusFault →
+            N.view.flash self.new.engine.nand ≡ N.view.flash self.old.engine.nand }
+        ensures told { N.view.honest self.old.engine.nand ≡ true → result ≢ Err DeviceFault.BusFault →
+            N.view.recorded self.new.engine.nand ≡ N.view.recorded self.old.engine.nand }
+        ensures survives { N.view.honest self.old.engine.nand ≡ true → IsWell N.view.flash self.old → result ≢ Err DeviceFault.BusFault →
             SurvivesStops self.old.engine.geometry self.old.engine.mapping.capacity (Read sector) result
-            (image_in N.flash self.old.engine) (image_in N.flash self.new.engine) (N.recorded self.new.engine.nand) [] }
-        ensures well { N.honest self.old.engine.nand ≡ true → IsWell N.flash self.old → result ≢ Err DeviceFault.BusFault →
-            IsWell N.flash self.new }
-        ensures step { N.honest self.old.engine.nand ≡ true → IsWell N.flash self.old → result ≢ Err DeviceFault.BusFault →
-            ArrayStep self.old.engine.geometry (state_in N.flash self.old) (Read sector) (read_reply_of out.new result) (state_in N.flash self.new) }
-        ensures mountable { N.honest self.old.engine.nand ≡ true → IsWell N.flash self.old → result ≢ Err DeviceFault.BusFault →
+            (image_in N.view.flash self.old.engine) (image_in N.view.flash self.new.engine) (N.view.recorded self.new.engine.nand) [] }
+        ensures well { N.view.honest self.old.engine.nand ≡ true → IsWell N.view.flash self.old → result ≢ Err DeviceFault.BusFault →
+            IsWell N.view.flash self.new }
+        ensures step { N.view.honest self.old.engine.nand ≡ true → IsWell N.view.flash self.old → result ≢ Err DeviceFault.BusFault →
+            ArrayStep self.old.engine.geometry (state_in N.view.flash self.old) (Read sector) (read_reply_of out.new result) (state_in N.view.flash self.new) }
+        ensures mountable { N.view.honest self.old.engine.nand ≡ true → IsWell N.view.flash self.old → result ≢ Err DeviceFault.BusFault →
             self.old.engine.mapping.capacity + self.old.engine.geometry.pages ≤ 65536 →
-            IsMountable self.old.engine.geometry (self.old.engine.mapping.capacity + self.old.engine.geometry.pages) (image_in N.flash self.new.engine) }
+            IsMountable self.old.engine.geometry (self.old.engine.mapping.capacity + self.old.engine.geometry.pages) (image_in N.view.flash self.new.engine) }
     {
         self.going()?;
         if sector >= self.engine.geometry.sectors() {

@@ -33,24 +33,24 @@ use onfi_cycles::Nand;
 
 // Sees that there are free blocks enough for a call that programs.
 pub(crate) fn make_room<N: Nand>(engine: &mut Engine<N>, flushing: bool) -> Result<(), EngineFault>
-    requires safe { IsSafe N.flash engine.old }
+    requires safe { IsSafe N.view.flash engine.old }
     requires going { engine.old.fault ≡ None }
     requires calm { IsCalm (ram engine.old) }
-    ensures leaves { EngineLeaves N.flash N.recorded N.honest N.calm N.failed engine.old result engine.new }
+    ensures leaves { EngineLeaves N.view engine.old result engine.new }
     ensures made { OnOk result (HasMadeRoom flushing (ram engine.old) (ram engine.new)) }
     ensures rests { 9 ≤ free_count (ram engine.old).blocks → IsOk result × (engine.new ≡ engine.old) }
-    ensures erases { OnOk result (RestsOrErases N.erases engine.old engine.new) }
+    ensures erases { OnOk result (RestsOrErases N.view.erases engine.old engine.new) }
     ensures keys { KeepsKeys engine.old.mapping engine.new.mapping }
     ensures cleans { flushing ≡ true → OnOk result (KeepsClean engine.old.geometry engine.old.mapping engine.new.mapping) }
-    ensures truth { N.honest engine.old.nand ≡ true → Knows (ram engine.old) (image_in N.flash engine.old) →
+    ensures truth { N.view.honest engine.old.nand ≡ true → Knows (ram engine.old) (image_in N.view.flash engine.old) →
         MatchResult result
-        (λ _. IsRearranged (ram engine.old) (image_in N.flash engine.old) (ram engine.new) (image_in N.flash engine.new))
-        (RoomRefused (ram engine.old) (image_in N.flash engine.old) (ram engine.new) (image_in N.flash engine.new)) }
-    ensures pinned { N.honest engine.old.nand ≡ true → Knows (ram engine.old) (image_in N.flash engine.old) →
+        (λ _. IsRearranged (ram engine.old) (image_in N.view.flash engine.old) (ram engine.new) (image_in N.view.flash engine.new))
+        (RoomRefused (ram engine.old) (image_in N.view.flash engine.old) (ram engine.new) (image_in N.view.flash engine.new)) }
+    ensures pinned { N.view.honest engine.old.nand ≡ true → Knows (ram engine.old) (image_in N.view.flash engine.old) →
         MatchResult result
-        (λ _. Knows (ram engine.new) (image_in N.flash engine.new))
+        (λ _. Knows (ram engine.new) (image_in N.view.flash engine.new))
         (λ fault. fault ≢ EngineFault.Bus → PinIsFew 0 (ram engine.new)) }
-    ensures count { N.honest engine.old.nand ≡ true → Knows (ram engine.old) (image_in N.flash engine.old) →
+    ensures count { N.view.honest engine.old.nand ≡ true → Knows (ram engine.old) (image_in N.view.flash engine.old) →
         (failures : ℕ) → IsFunded engine.old.geometry.pages failures (counts_of (ram engine.old).blocks) →
         RoomCounts failures (ram engine.old) (ram engine.new) result }
 {
@@ -60,9 +60,9 @@ pub(crate) fn make_room<N: Nand>(engine: &mut Engine<N>, flushing: bool) -> Resu
 // Writes back the translation page of the least recently used sector, where caching this one would
 // drop an entry that its page lacks.
 fn make_place<N: Nand>(engine: &mut Engine<N>, sector: u32) -> Result<(), EngineFault>
-    requires safe { IsSafe N.flash engine.old }
+    requires safe { IsSafe N.view.flash engine.old }
     requires going { engine.old.fault ≡ None }
-    ensures leaves { EngineLeaves N.flash N.recorded N.honest N.calm N.failed engine.old result engine.new }
+    ensures leaves { EngineLeaves N.view engine.old result engine.new }
     ensures place { OnOk result (CanLoad engine.new.mapping sector) }
     ensures keys { keys_of engine.new.mapping.cached ≡ keys_of engine.old.mapping.cached }
     ensures beside { LeavesPin (ram engine.old) (ram engine.new) }
@@ -70,10 +70,10 @@ fn make_place<N: Nand>(engine: &mut Engine<N>, sector: u32) -> Result<(), Engine
     ensures cost { OnOk result (HasMadePlace sector (ram engine.old) (ram engine.new)) }
     ensures mapping { OnOk result (HasWrittenBack engine.old.mapping engine.new.mapping) }
     ensures costs { PlaceCosts (ram engine.old) (ram engine.new) result }
-    ensures truth { N.honest engine.old.nand ≡ true → IsTrue None (ram engine.old) (image_in N.flash engine.old) →
+    ensures truth { N.view.honest engine.old.nand ≡ true → IsTrue None (ram engine.old) (image_in N.view.flash engine.old) →
         MatchResult result
-        (λ _. IsSame (ram engine.old) (image_in N.flash engine.old) (ram engine.new) (image_in N.flash engine.new))
-        (Refused (ram engine.old) (image_in N.flash engine.old) (ram engine.new) (image_in N.flash engine.new)) }
+        (λ _. IsSame (ram engine.old) (image_in N.view.flash engine.old) (ram engine.new) (image_in N.view.flash engine.new))
+        (Refused (ram engine.old) (image_in N.view.flash engine.old) (ram engine.new) (image_in N.view.flash engine.new)) }
 {
     if engine.mapping.can_load(sector) {
         return Ok(());
@@ -90,23 +90,23 @@ fn make_place<N: Nand>(engine: &mut Engine<N>, sector: u32) -> Result<(), Engine
 // The row of a sector's newest page. A fault stops the engine. Whatever the die does, the row is the one that
 // memory has, or else the one that a sound translation page gives.
 fn find_row<N: Nand>(engine: &mut Engine<N>, sector: u32) -> Result<Option<u32>, EngineFault>
-    requires safe { IsSafe N.flash engine.old }
+    requires safe { IsSafe N.view.flash engine.old }
     requires going { engine.old.fault ≡ None }
     requires sector { sector < engine.old.geometry.sectors }
-    ensures safe { IsSafe N.flash engine.new }
+    ensures safe { IsSafe N.view.flash engine.new }
     ensures memory { ram engine.new ≡ record (ram engine.old) { fault = fault_after None result } }
-    ensures honest { N.honest engine.new.nand ≡ N.honest engine.old.nand }
-    ensures calm { N.calm engine.new.nand ≡ N.calm engine.old.nand }
-    ensures failed { N.failed engine.old.nand ≤ N.failed engine.new.nand }
-    ensures rose { result ≡ Err EngineFault.Bus → HasRisen (N.failed engine.old.nand) (N.failed engine.new.nand) }
+    ensures honest { N.view.honest engine.new.nand ≡ N.view.honest engine.old.nand }
+    ensures calm { N.view.calm engine.new.nand ≡ N.view.calm engine.old.nand }
+    ensures failed { N.view.failed engine.old.nand ≤ N.view.failed engine.new.nand }
+    ensures rose { result ≡ Err EngineFault.Bus → HasRisen (N.view.failed engine.old.nand) (N.view.failed engine.new.nand) }
     ensures faults { IfErr result IsReadFault }
     ensures checked { IfOk result (FindsRow (ram engine.old) sector (page_in engine.new.scratch)) }
     ensures row { IfOk result (λ row. ForSome row (λ r. r < row_count engine.old.geometry)) }
-    ensures same { N.honest engine.old.nand ≡ true → result ≢ Err EngineFault.Bus → N.flash engine.new.nand ≡ N.flash engine.old.nand }
-    ensures told { N.honest engine.old.nand ≡ true → result ≢ Err EngineFault.Bus → N.recorded engine.new.nand ≡ N.recorded engine.old.nand }
-    ensures truth { N.honest engine.old.nand ≡ true → IsTrue None (ram engine.old) (image_in N.flash engine.old) →
+    ensures same { N.view.honest engine.old.nand ≡ true → result ≢ Err EngineFault.Bus → N.view.flash engine.new.nand ≡ N.view.flash engine.old.nand }
+    ensures told { N.view.honest engine.old.nand ≡ true → result ≢ Err EngineFault.Bus → N.view.recorded engine.new.nand ≡ N.view.recorded engine.old.nand }
+    ensures truth { N.view.honest engine.old.nand ≡ true → IsTrue None (ram engine.old) (image_in N.view.flash engine.old) →
         MatchResult result
-        (λ row. row ≡ newest_row (image_in N.flash engine.old) (Sector sector))
+        (λ row. row ≡ newest_row (image_in N.view.flash engine.old) (Sector sector))
         (λ fault. fault ≡ EngineFault.Bus) }
 {
     match engine.row_of_sector(sector) {
@@ -121,11 +121,11 @@ fn find_row<N: Nand>(engine: &mut Engine<N>, sector: u32) -> Result<Option<u32>,
 // Sees that there is room for the sector's page and a place for its entry, and finds the row that it
 // has so far.
 fn prepare<N: Nand>(engine: &mut Engine<N>, sector: u32) -> Result<Option<u32>, EngineFault>
-    requires safe { IsSafe N.flash engine.old }
+    requires safe { IsSafe N.view.flash engine.old }
     requires going { engine.old.fault ≡ None }
     requires calm { IsCalm (ram engine.old) }
     requires sector { sector < engine.old.geometry.sectors }
-    ensures leaves { EngineLeaves N.flash N.recorded N.honest N.calm N.failed engine.old result engine.new }
+    ensures leaves { EngineLeaves N.view engine.old result engine.new }
     ensures place { OnOk result (CanLoad engine.new.mapping sector) }
     ensures row { IfOk result (λ row. ForSome row (λ r. r < row_count engine.old.geometry)) }
     ensures checked { IfOk result (FindsRow (ram engine.new) sector (page_in engine.new.scratch)) }
@@ -135,12 +135,12 @@ fn prepare<N: Nand>(engine: &mut Engine<N>, sector: u32) -> Result<Option<u32>, 
     ensures calm { OnOk result (IsCalm (ram engine.new)) }
     ensures pins { OnOk result (engine.old.pinned ≡ None → engine.new.pinned ≡ None) }
     ensures cost { OnOk result (IsReady sector (ram engine.old) (ram engine.new)) }
-    ensures costs { RoomCosts (HasFunds (N.honest engine.old.nand) (ram engine.old) (image_in N.flash engine.old)) 1
+    ensures costs { RoomCosts (HasFunds (N.view.honest engine.old.nand) (ram engine.old) (image_in N.view.flash engine.old)) 1
         (ram engine.old) (ram engine.new) result }
-    ensures truth { N.honest engine.old.nand ≡ true → Knows (ram engine.old) (image_in N.flash engine.old) →
+    ensures truth { N.view.honest engine.old.nand ≡ true → Knows (ram engine.old) (image_in N.view.flash engine.old) →
         MatchResult result
-        (λ row. IsFound sector row engine.old.geometry (image_in N.flash engine.old) (ram engine.new) (image_in N.flash engine.new))
-        (λ fault. CallRefused engine.old.geometry (image_in N.flash engine.old) (ram engine.new) (image_in N.flash engine.new) (CallFault.Engine fault)) }
+        (λ row. IsFound sector row engine.old.geometry (image_in N.view.flash engine.old) (ram engine.new) (image_in N.view.flash engine.new))
+        (λ fault. CallRefused engine.old.geometry (image_in N.view.flash engine.old) (ram engine.new) (image_in N.view.flash engine.new) (CallFault.Engine fault)) }
 {
     make_room(engine, false)?;
     make_place(engine, sector)?;
@@ -149,19 +149,19 @@ fn prepare<N: Nand>(engine: &mut Engine<N>, sector: u32) -> Result<Option<u32>, 
 
 // Caches a sector before anything of it is programmed.
 fn make_ready<N: Nand>(engine: &mut Engine<N>, sector: u32) -> Result<(), CallFault>
-    requires safe { IsSafe N.flash engine.old }
+    requires safe { IsSafe N.view.flash engine.old }
     requires going { engine.old.fault ≡ None }
     requires calm { IsCalm (ram engine.old) }
     requires sector { sector < engine.old.geometry.sectors }
-    ensures ends { EndsCall N.flash N.recorded N.honest N.calm N.failed engine.old result engine.new }
-    ensures readies { Readies N.flash N.honest sector 1 engine.old result engine.new }
+    ensures ends { EndsCall N.view engine.old result engine.new }
+    ensures readies { Readies N.view sector 1 engine.old result engine.new }
     ensures holds { OnOk result (IsSome (slot_of engine.new.mapping sector)) }
     ensures checked { OnOk result (IsLookedUp sector (ram engine.old) (ram engine.new) (page_in engine.new.scratch)) }
     ensures cost { OnOk result (IsReady sector (ram engine.old) (ram engine.new)) }
-    ensures truth { N.honest engine.old.nand ≡ true → Knows (ram engine.old) (image_in N.flash engine.old) →
+    ensures truth { N.view.honest engine.old.nand ≡ true → Knows (ram engine.old) (image_in N.view.flash engine.old) →
         MatchResult result
-        (λ _. KeepsArray engine.old.geometry (image_in N.flash engine.old) (ram engine.new) (image_in N.flash engine.new))
-        (CallRefused engine.old.geometry (image_in N.flash engine.old) (ram engine.new) (image_in N.flash engine.new)) }
+        (λ _. KeepsArray engine.old.geometry (image_in N.view.flash engine.old) (ram engine.new) (image_in N.view.flash engine.new))
+        (CallRefused engine.old.geometry (image_in N.view.flash engine.old) (ram engine.new) (image_in N.view.flash engine.new)) }
 {
     let row = prepare(engine, sector)?;
     engine.cache_sector(sector, row)?;
@@ -174,22 +174,22 @@ pub(crate) fn write_ready<N: Nand>(
     sector: u32,
     body: &[u8],
 ) -> Result<(), CallFault>
-    requires safe { IsSafe N.flash engine.old }
+    requires safe { IsSafe N.view.flash engine.old }
     requires going { engine.old.fault ≡ None }
     requires calm { IsCalm (ram engine.old) }
     requires sector { sector < engine.old.geometry.sectors }
     requires body { length body.now ≡ engine.old.geometry.data_bytes }
-    ensures ends { EndsCall N.flash N.recorded N.honest N.calm N.failed engine.old result engine.new }
-    ensures readies { Readies N.flash N.honest sector 2 engine.old result engine.new }
+    ensures ends { EndsCall N.view engine.old result engine.new }
+    ensures readies { Readies N.view sector 2 engine.old result engine.new }
     ensures cost { OnOk result (HasCost sector (ram engine.old) (ram engine.new)) }
     ensures checked { OnOk result (HasLookedUp sector (ram engine.old) (ram engine.new) (page_in engine.new.scratch)) }
     ensures page { OnOk result (IsLastOf engine.old.geometry (Write sector body.now) (ram engine.new) (page_in engine.new.page)) }
-    ensures newest { N.honest engine.old.nand ≡ true → Knows (ram engine.old) (image_in N.flash engine.old) →
-        OnOk result (HasPageOf engine.old.geometry (Write sector body.now) (ram engine.new) (image_in N.flash engine.new)) }
-    ensures truth { N.honest engine.old.nand ≡ true → Knows (ram engine.old) (image_in N.flash engine.old) →
+    ensures newest { N.view.honest engine.old.nand ≡ true → Knows (ram engine.old) (image_in N.view.flash engine.old) →
+        OnOk result (HasPageOf engine.old.geometry (Write sector body.now) (ram engine.new) (image_in N.view.flash engine.new)) }
+    ensures truth { N.view.honest engine.old.nand ≡ true → Knows (ram engine.old) (image_in N.view.flash engine.old) →
         MatchResult result
-        (λ _. HoldsSector engine.old.geometry sector body.now (image_in N.flash engine.old) (ram engine.new) (image_in N.flash engine.new))
-        (CallRefused engine.old.geometry (image_in N.flash engine.old) (ram engine.new) (image_in N.flash engine.new)) }
+        (λ _. HoldsSector engine.old.geometry sector body.now (image_in N.view.flash engine.old) (ram engine.new) (image_in N.view.flash engine.new))
+        (CallRefused engine.old.geometry (image_in N.view.flash engine.old) (ram engine.new) (image_in N.view.flash engine.new)) }
 {
     make_ready(engine, sector)?;
     engine.write_sector(sector, body)?;
@@ -198,21 +198,21 @@ pub(crate) fn write_ready<N: Nand>(
 
 // Makes a sector ready and programs a trim page of it.
 pub(crate) fn trim_ready<N: Nand>(engine: &mut Engine<N>, sector: u32) -> Result<(), CallFault>
-    requires safe { IsSafe N.flash engine.old }
+    requires safe { IsSafe N.view.flash engine.old }
     requires going { engine.old.fault ≡ None }
     requires calm { IsCalm (ram engine.old) }
     requires sector { sector < engine.old.geometry.sectors }
-    ensures ends { EndsCall N.flash N.recorded N.honest N.calm N.failed engine.old result engine.new }
-    ensures readies { Readies N.flash N.honest sector 2 engine.old result engine.new }
+    ensures ends { EndsCall N.view engine.old result engine.new }
+    ensures readies { Readies N.view sector 2 engine.old result engine.new }
     ensures cost { OnOk result (HasCost sector (ram engine.old) (ram engine.new)) }
     ensures checked { OnOk result (HasLookedUp sector (ram engine.old) (ram engine.new) (page_in engine.new.scratch)) }
     ensures page { OnOk result (IsLastOf engine.old.geometry (Trim sector) (ram engine.new) (page_in engine.new.page)) }
-    ensures newest { N.honest engine.old.nand ≡ true → Knows (ram engine.old) (image_in N.flash engine.old) →
-        OnOk result (HasPageOf engine.old.geometry (Trim sector) (ram engine.new) (image_in N.flash engine.new)) }
-    ensures truth { N.honest engine.old.nand ≡ true → Knows (ram engine.old) (image_in N.flash engine.old) →
+    ensures newest { N.view.honest engine.old.nand ≡ true → Knows (ram engine.old) (image_in N.view.flash engine.old) →
+        OnOk result (HasPageOf engine.old.geometry (Trim sector) (ram engine.new) (image_in N.view.flash engine.new)) }
+    ensures truth { N.view.honest engine.old.nand ≡ true → Knows (ram engine.old) (image_in N.view.flash engine.old) →
         MatchResult result
-        (λ _. HoldsSector engine.old.geometry sector (zeros engine.old.geometry) (image_in N.flash engine.old) (ram engine.new) (image_in N.flash engine.new))
-        (CallRefused engine.old.geometry (image_in N.flash engine.old) (ram engine.new) (image_in N.flash engine.new)) }
+        (λ _. HoldsSector engine.old.geometry sector (zeros engine.old.geometry) (image_in N.view.flash engine.old) (ram engine.new) (image_in N.view.flash engine.new))
+        (CallRefused engine.old.geometry (image_in N.view.flash engine.old) (ram engine.new) (image_in N.view.flash engine.new)) }
 {
     make_ready(engine, sector)?;
     engine.trim_sector(sector)?;

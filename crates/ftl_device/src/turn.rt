@@ -22,15 +22,15 @@ use onfi_cycles::Nand;
 
 // Takes the collection of the pinned block one step further.
 fn step_pinned<N: Nand>(engine: &mut Engine<N>) -> Result<(), EngineFault>
-    requires safe { IsSafe N.flash engine.old }
+    requires safe { IsSafe N.view.flash engine.old }
     requires going { engine.old.fault ≡ None }
     requires calm { IsCalm (ram engine.old) }
     requires pinned { IsSome engine.old.pinned }
-    ensures collects { CollectsOn N.flash N.recorded N.honest N.calm N.erases N.failed engine.old result engine.new }
+    ensures collects { CollectsOn N.view engine.old result engine.new }
     ensures gone_on { OnOk result (HasGoneOn (ram engine.old) (ram engine.new)) }
-    ensures worked { OnOk result (HasWorked (ram engine.old) (ram engine.new) (N.erases engine.old.nand) (N.erases engine.new.nand)) }
-    ensures less { N.honest engine.old.nand ≡ true → Knows (ram engine.old) (image_in N.flash engine.old) →
-        OnOk result (HasLess N.flash N.erases engine.old engine.new) }
+    ensures worked { OnOk result (HasWorked (ram engine.old) (ram engine.new) (N.view.erases engine.old.nand) (N.view.erases engine.new.nand)) }
+    ensures less { N.view.honest engine.old.nand ≡ true → Knows (ram engine.old) (image_in N.view.flash engine.old) →
+        OnOk result (HasLess N.view engine.old engine.new) }
 {
     engine.step(false)?;
     Ok(())
@@ -39,16 +39,16 @@ fn step_pinned<N: Nand>(engine: &mut Engine<N>) -> Result<(), EngineFault>
 // Goes on with the collection under way; with none, one begins where fewer than twelve blocks are free
 // and one is worth it.
 fn collect_on<N: Nand>(engine: &mut Engine<N>) -> Result<(), EngineFault>
-    requires safe { IsSafe N.flash engine.old }
+    requires safe { IsSafe N.view.flash engine.old }
     requires going { engine.old.fault ≡ None }
     requires calm { IsCalm (ram engine.old) }
-    ensures collects { CollectsOn N.flash N.recorded N.honest N.calm N.erases N.failed engine.old result engine.new }
+    ensures collects { CollectsOn N.view engine.old result engine.new }
     ensures gone_on { OnOk result (((ram engine.new ≡ ram engine.old) × HasNoneToCollect (ram engine.old)) ⊎ HasGoneOn (ram engine.old) (ram engine.new)) }
     ensures rests { engine.old.pinned ≡ None → 12 ≤ free_count (ram engine.old).blocks → IsOk result × (engine.new ≡ engine.old) }
-    ensures quiet { N.honest engine.old.nand ≡ true → Knows (ram engine.old) (image_in N.flash engine.old) →
-        OnOk result (IsQuiet N.erases engine.old engine.new) }
-    ensures falls { N.honest engine.old.nand ≡ true → Knows (ram engine.old) (image_in N.flash engine.old) →
-        OnOk result (HasFallen N.flash N.erases engine.old engine.new) }
+    ensures quiet { N.view.honest engine.old.nand ≡ true → Knows (ram engine.old) (image_in N.view.flash engine.old) →
+        OnOk result (IsQuiet N.view.erases engine.old engine.new) }
+    ensures falls { N.view.honest engine.old.nand ≡ true → Knows (ram engine.old) (image_in N.view.flash engine.old) →
+        OnOk result (HasFallen N.view engine.old engine.new) }
 {
     if engine.pinned.is_some() {
         return step_pinned(engine);
@@ -64,30 +64,30 @@ fn collect_on<N: Nand>(engine: &mut Engine<N>) -> Result<(), EngineFault>
 // Makes room; then copies the page of lowest row that a bad block holds, or, where none holds one,
 // collects.
 fn turn_ready<N: Nand>(engine: &mut Engine<N>) -> Result<(), CallFault>
-    requires safe { IsSafe N.flash engine.old }
+    requires safe { IsSafe N.view.flash engine.old }
     requires going { engine.old.fault ≡ None }
     requires calm { IsCalm (ram engine.old) }
-    ensures ends { EndsCall N.flash N.recorded N.honest N.calm N.failed engine.old result engine.new }
+    ensures ends { EndsCall N.view engine.old result engine.new }
     ensures memory { result ≢ Err CallFault.OutOfMemory }
     ensures turned { OnOk result (HasTurned (ram engine.old) (ram engine.new)) }
-    ensures count { HasFunds (N.honest engine.old.nand) (ram engine.old) (image_in N.flash engine.old) →
+    ensures count { HasFunds (N.view.honest engine.old.nand) (ram engine.old) (image_in N.view.flash engine.old) →
         5 ≤ free_count (ram engine.old).blocks → CallShort (ram engine.old) (ram engine.new) result }
     ensures rests { HasNoneAiling (ram engine.old).blocks → engine.old.pinned ≡ None → 12 ≤ free_count (ram engine.old).blocks →
         IsOk result × (engine.new ≡ engine.old) }
-    ensures quiet { N.honest engine.old.nand ≡ true → Knows (ram engine.old) (image_in N.flash engine.old) →
-        OnOk result (IsQuiet N.erases engine.old engine.new) }
-    ensures falls { N.honest engine.old.nand ≡ true → Knows (ram engine.old) (image_in N.flash engine.old) → HasNoneAiling (ram engine.old).blocks →
-        OnOk result (HasFallen N.flash N.erases engine.old engine.new) }
-    ensures truth { N.honest engine.old.nand ≡ true → Knows (ram engine.old) (image_in N.flash engine.old) →
+    ensures quiet { N.view.honest engine.old.nand ≡ true → Knows (ram engine.old) (image_in N.view.flash engine.old) →
+        OnOk result (IsQuiet N.view.erases engine.old engine.new) }
+    ensures falls { N.view.honest engine.old.nand ≡ true → Knows (ram engine.old) (image_in N.view.flash engine.old) → HasNoneAiling (ram engine.old).blocks →
+        OnOk result (HasFallen N.view engine.old engine.new) }
+    ensures truth { N.view.honest engine.old.nand ≡ true → Knows (ram engine.old) (image_in N.view.flash engine.old) →
         MatchResult result
-        (λ _. KeepsArray engine.old.geometry (image_in N.flash engine.old) (ram engine.new) (image_in N.flash engine.new))
-        (CallRefused engine.old.geometry (image_in N.flash engine.old) (ram engine.new) (image_in N.flash engine.new)) }
-    ensures rescued { N.honest engine.old.nand ≡ true → Knows (ram engine.old) (image_in N.flash engine.old) →
+        (λ _. KeepsArray engine.old.geometry (image_in N.view.flash engine.old) (ram engine.new) (image_in N.view.flash engine.new))
+        (CallRefused engine.old.geometry (image_in N.view.flash engine.old) (ram engine.new) (image_in N.view.flash engine.new)) }
+    ensures rescued { N.view.honest engine.old.nand ≡ true → Knows (ram engine.old) (image_in N.view.flash engine.old) →
         OnOk result (HasRescued (ram engine.old) (ram engine.new)) }
-    ensures lowest { N.honest engine.old.nand ≡ true → Knows (ram engine.old) (image_in N.flash engine.old) →
-        OnOk result (RescuesLowest N.flash N.recorded engine.old engine.new) }
-    ensures worked { N.honest engine.old.nand ≡ true → Knows (ram engine.old) (image_in N.flash engine.old) → HasAiling (ram engine.old).blocks →
-        OnOk result (HasWorked (ram engine.old) (ram engine.new) (N.erases engine.old.nand) (N.erases engine.new.nand)) }
+    ensures lowest { N.view.honest engine.old.nand ≡ true → Knows (ram engine.old) (image_in N.view.flash engine.old) →
+        OnOk result (RescuesLowest N.view engine.old engine.new) }
+    ensures worked { N.view.honest engine.old.nand ≡ true → Knows (ram engine.old) (image_in N.view.flash engine.old) → HasAiling (ram engine.old).blocks →
+        OnOk result (HasWorked (ram engine.old) (ram engine.new) (N.view.erases engine.old.nand) (N.view.erases engine.new.nand)) }
 {
     make_room(engine, false)?;
     if engine.needs_rescue() {
@@ -121,24 +121,24 @@ impl<N: Nand> Device<N> {
     /// Then each as it comes, with what `write` says of it: `ReadOnly`, `SequenceSpent`, `Damaged`,
     /// `BusFault`. After the first two the array is as it was. (This project.)
     pub fn turn(&mut self) -> Result<(), DeviceFault>
-        requires device { IsDevice N.flash self.old }
-        ensures device { IsDevice N.flash self.new }
+        requires device { IsDevice N.view.flash self.old }
+        ensures device { IsDevice N.view.flash self.new }
         ensures geometry { self.new.engine.geometry ≡ self.old.engine.geometry }
         ensures cursor { self.new.cursor ≡ self.old.cursor }
-        ensures upkeeps { Upkeeps N.flash N.recorded N.honest N.calm N.failed Turn self.old result self.new }
+        ensures upkeeps { Upkeeps N.view Turn self.old result self.new }
         ensures turned { OnOk result (HasTurned (ram self.old.engine) (ram self.new.engine)) }
         ensures rests { HasNoneAiling (ram self.old.engine).blocks → self.old.engine.pinned ≡ None → 12 ≤ free_count (ram self.old.engine).blocks →
             OnOk result (self.new.engine ≡ self.old.engine) }
-        ensures quiet { N.honest self.old.engine.nand ≡ true → IsWell N.flash self.old →
-            OnOk result (IsQuiet N.erases self.old.engine self.new.engine) }
-        ensures falls { N.honest self.old.engine.nand ≡ true → IsWell N.flash self.old → HasNoneAiling (ram self.old.engine).blocks →
-            OnOk result (HasFallen N.flash N.erases self.old.engine self.new.engine) }
-        ensures rescued { N.honest self.old.engine.nand ≡ true → IsWell N.flash self.old →
+        ensures quiet { N.view.honest self.old.engine.nand ≡ true → IsWell N.view.flash self.old →
+            OnOk result (IsQuiet N.view.erases self.old.engine self.new.engine) }
+        ensures falls { N.view.honest self.old.engine.nand ≡ true → IsWell N.view.flash self.old → HasNoneAiling (ram self.old.engine).blocks →
+            OnOk result (HasFallen N.view self.old.engine self.new.engine) }
+        ensures rescued { N.view.honest self.old.engine.nand ≡ true → IsWell N.view.flash self.old →
             OnOk result (HasRescued (ram self.old.engine) (ram self.new.engine)) }
-        ensures lowest { N.honest self.old.engine.nand ≡ true → IsWell N.flash self.old →
-            OnOk result (RescuesLowest N.flash N.recorded self.old.engine self.new.engine) }
-        ensures worked { N.honest self.old.engine.nand ≡ true → IsWell N.flash self.old → HasAiling (ram self.old.engine).blocks →
-            OnOk result (HasWorked (ram self.old.engine) (ram self.new.engine) (N.erases self.old.engine.nand) (N.erases self.new.engine.nand)) }
+        ensures lowest { N.view.honest self.old.engine.nand ≡ true → IsWell N.view.flash self.old →
+            OnOk result (RescuesLowest N.view self.old.engine self.new.engine) }
+        ensures worked { N.view.honest self.old.engine.nand ≡ true → IsWell N.view.flash self.old → HasAiling (ram self.old.engine).blocks →
+            OnOk result (HasWorked (ram self.old.engine) (ram self.new.engine) (N.view.erases self.old.engine.nand) (N.view.erases self.new.engine.nand)) }
     {
         self.may_flush()?;
         let good = self.engine.blocks.good();

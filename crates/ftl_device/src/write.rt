@@ -45,7 +45,7 @@ impl<N: Nand> Device<N> {
 
     // Whether a call may change a sector.
     pub(crate) fn may_change(&self, sector: u32) -> Result<(), DeviceFault>
-        requires device { IsDevice N.flash self.now }
+        requires device { IsDevice N.view.flash self.now }
         ensures may { OnOk result (MayChange (ram self.now.engine) self.now.read_only sector) }
         ensures may_not { IfErr result (MayNot (ram self.now.engine) self.now.read_only sector) }
     {
@@ -68,7 +68,7 @@ impl<N: Nand> Device<N> {
         good: u32,
         answer: Result<(), CallFault>,
     ) -> Result<(), DeviceFault>
-        requires safe { IsSafe N.flash self.old.engine }
+        requires safe { IsSafe N.view.flash self.old.engine }
         requires fault { self.old.engine.fault ≡ standing_after answer }
         requires scarce { answer ≡ Err (CallFault.Engine EngineFault.ReadOnly) → free_count (ram self.old.engine).blocks < 5 }
         requires fewer { answer ≡ Err (CallFault.Engine EngineFault.ReadOnly) → good_count (ram self.old.engine).blocks.table ≤ good }
@@ -76,7 +76,7 @@ impl<N: Nand> Device<N> {
         requires spent { answer ≡ Err (CallFault.Engine EngineFault.SequenceSpent) → self.old.engine.next ≡ 2 ^ 64 - 1 }
         ensures engine { self.new.engine ≡ self.old.engine }
         ensures cursor { self.new.cursor ≡ self.old.cursor }
-        ensures device { IsDevice N.flash self.new }
+        ensures device { IsDevice N.view.flash self.new }
         ensures answer { result ≡ answer_of (ram self.new.engine) good answer }
     {
         self.read_only = self.engine.blocks.free() < LEAST_FREE;
@@ -136,12 +136,12 @@ impl<N: Nand> Device<N> {
     ///
     /// Source: the DFTL paper, for the eviction; the rest is this project's.
     pub fn write(&mut self, sector: u32, body: &[u8]) -> Result<(), DeviceFault>
-        requires device { IsDevice N.flash self.old }
+        requires device { IsDevice N.view.flash self.old }
         requires body { length body.now ≡ self.old.engine.geometry.data_bytes }
-        ensures device { IsDevice N.flash self.new }
+        ensures device { IsDevice N.view.flash self.new }
         ensures geometry { self.new.engine.geometry ≡ self.old.engine.geometry }
         ensures cursor { self.new.cursor ≡ self.old.cursor }
-        ensures changes { Changes N.flash N.recorded N.honest N.calm N.failed sector (Write sector body.now) self.old result self.new }
+        ensures changes { Changes N.view sector (Write sector body.now) self.old result self.new }
     {
         self.may_change(sector)?;
         let good = self.engine.blocks.good();
@@ -159,11 +159,11 @@ impl<N: Nand> Device<N> {
     ///
     /// Source: the DFTL paper, for the eviction; the rest is this project's.
     pub fn trim(&mut self, sector: u32) -> Result<(), DeviceFault>
-        requires device { IsDevice N.flash self.old }
-        ensures device { IsDevice N.flash self.new }
+        requires device { IsDevice N.view.flash self.old }
+        ensures device { IsDevice N.view.flash self.new }
         ensures geometry { self.new.engine.geometry ≡ self.old.engine.geometry }
         ensures cursor { self.new.cursor ≡ self.old.cursor }
-        ensures changes { Changes N.flash N.recorded N.honest N.calm N.failed sector (Trim sector) self.old result self.new }
+        ensures changes { Changes N.view sector (Trim sector) self.old result self.new }
     {
         self.may_change(sector)?;
         let good = self.engine.blocks.good();

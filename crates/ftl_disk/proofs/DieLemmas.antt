@@ -1,10 +1,10 @@
 -- What a call comes to over a die, from what was brought over it.
-use Rattle.std.proofs.Common.{◌≡◌, ◌≢◌, inl, inr, ℕ, Bool, true, List, [], length, Option, Some, None, Result, Ok, Err, sym, ◌∙◌, subst}
+use Rattle.std.proofs.Common.{◌≡◌, ◌≢◌, inl, inr, ℕ, true, List, [], length, Some, None, Result, Ok, Err, sym, ◌∙◌, subst}
 use Rattle.std.specs.Prelude.{false, IfOk, IfErr}
 use Rattle.std.proofs.lemmas.Bool.{cases_eq}
+use Rattle.page_layout.specs.View.{View}
 use Rattle.page_layout.specs.declared.geometry.Geometry.{Geometry}
 use Rattle.page_layout.specs.Array.{array_of}
-use Rattle.page_layout.specs.Flash.{Flash}
 use Rattle.page_layout.specs.Raw.{still}
 use Rattle.onfi_cycles.specs.Cycles.{Unreset}
 use Rattle.certificate.specs.Claim.{Claim}
@@ -33,23 +33,23 @@ pub reached : (p : Plan) (way link : Descriptors) (number : ℕ) (Stays : Type 0
 reached p way link number Stays Comes is reaches = subst (λ (l : Descriptors). Reaches stays p l number Stays Comes) is reaches
 
 -- a device that was begun is kept
-pub begun_kept : {N : Type 0} (flash : N → Flash) (honest : N → Bool) (r : Result (Device N) (PowerFault N)) → IfOk r (IsDeviceBegun flash honest) → IfOk r (IsDeviceKept flash honest)
-begun_kept flash honest (Ok device) begun = begun.kept
-begun_kept flash honest (Err why) begun = tt
+pub begun_kept : {N : Type 0} (view : View N) (r : Result (Device N) (PowerFault N)) → IfOk r (IsDeviceBegun view) → IfOk r (IsDeviceKept view)
+begun_kept view (Ok device) begun = begun.kept
+begun_kept view (Err why) begun = tt
 
-pub brought_kept : {N : Type 0} (flash : N → Flash) (honest : N → Bool) (failed : N → ℕ) (die : N) (g : Geometry) (cache : ℕ) (r : Result (Device N) (PowerFault N))
-    → IfOk r (IsBrought flash honest failed die g cache) → IfOk r (IsDeviceKept flash honest)
-brought_kept flash honest failed die g cache (Ok device) brings = brings.begun.kept
-brought_kept flash honest failed die g cache (Err why) brings = tt
+pub brought_kept : {N : Type 0} (view : View N) (die : N) (g : Geometry) (cache : ℕ) (r : Result (Device N) (PowerFault N))
+    → IfOk r (IsBrought view die g cache) → IfOk r (IsDeviceKept view)
+brought_kept view die g cache (Ok device) brings = brings.begun.kept
+brought_kept view die g cache (Err why) brings = tt
 
 -- a certificate, put into bytes that may be as many
-pub filled : {N : Type 0} (flash : N → Flash) (honest : N → Bool) (failed : N → ℕ) (g : Geometry) (cache : ℕ) (die : N) (given out bytes : List ℕ) (number : ℕ) → IsCertifiedBy flash honest g cache die bytes
-    → (length bytes ≡ length given → (number ≡ 0) × (out ≡ bytes)) → (length bytes ≢ length given → (number ≡ 18) × (out ≡ given)) → CertifiesBy flash honest failed g cache die given number out
-filled flash honest failed g cache die given out bytes number its same other = elim (cases_eq (length bytes) (length given)) [
+pub filled : {N : Type 0} (view : View N) (g : Geometry) (cache : ℕ) (die : N) (given out bytes : List ℕ) (number : ℕ) → IsCertifiedBy view g cache die bytes
+    → (length bytes ≡ length given → (number ≡ 0) × (out ≡ bytes)) → (length bytes ≢ length given → (number ≡ 18) × (out ≡ given)) → CertifiesBy view g cache die given number out
+filled view g cache die given out bytes number its same other = elim (cases_eq (length bytes) (length given)) [
   | inl e ↦ (let so = same e in record {
     kept = λ some. absurd (some so.0);
     why = λ some. absurd (some so.0);
-    made = λ done. subst (λ (b : List ℕ). IsCertifiedBy flash honest g cache die b) (sym so.1) its;
+    made = λ done. subst (λ (b : List ℕ). IsCertifiedBy view g cache die b) (sym so.1) its;
   })
   | inr ne ↦ (let so = other ne in record {
     kept = λ some. so.1;
@@ -58,15 +58,15 @@ filled flash honest failed g cache die given out bytes number its same other = e
   })
 ]
 
-module _ {N : Type 0} (flash : N → Flash) (honest : N → Bool) (failed : N → ℕ) (g : Geometry) (cache : ℕ) (die : N) (was : SlotState N) (number : ℕ) (is : SlotState N) where
-  pub starts : (r : Result (Device N) (PowerFault N)) → IfOk r (IsBrought flash honest failed die g cache) → IfErr r (IsUnsettled flash honest failed die g cache) → IsPut r was number is
-      → StartsBy flash honest failed g cache die was number is
+module _ {N : Type 0} (view : View N) (g : Geometry) (cache : ℕ) (die : N) (was : SlotState N) (number : ℕ) (is : SlotState N) where
+  pub starts : (r : Result (Device N) (PowerFault N)) → IfOk r (IsBrought view die g cache) → IfErr r (IsUnsettled view die g cache) → IsPut r was number is
+      → StartsBy view g cache die was number is
   starts (Ok device) brings fault put = inl (put.0, record { device = device; stands = put.1; brings = brings })
   starts (Err why) brings fault put = inr (put.1, record { fault = why; number_is = put.0; unsettled = fault })
 
-  pub starts_by : (c : Claim) (r : Result (Device N) (PowerFault N)) → IfOk r (IsDeviceBegun flash honest) → IfOk r (λ d. d.engine.geometry ≡ g) → IfOk r (λ d. d.engine.mapping.capacity ≡ cache)
-      → IfOk r (λ d. honest die ≡ true → array_in flash d ≡ array_of g (flash die).image) → IfOk r (λ d. honest die ≡ true → flash d.engine.nand ≡ flash die)
-      → IfErr r (IsCertificateUnaccepted flash honest failed die g cache c) → IsPut r was number is → StartsByClaim flash honest failed g cache c die was number is
+  pub starts_by : (c : Claim) (r : Result (Device N) (PowerFault N)) → IfOk r (IsDeviceBegun view) → IfOk r (λ d. d.engine.geometry ≡ g) → IfOk r (λ d. d.engine.mapping.capacity ≡ cache)
+      → IfOk r (λ d. view.honest die ≡ true → array_in view.flash d ≡ array_of g (view.flash die).image) → IfOk r (λ d. view.honest die ≡ true → view.flash d.engine.nand ≡ view.flash die)
+      → IfErr r (IsCertificateUnaccepted view die g cache c) → IsPut r was number is → StartsByClaim view g cache c die was number is
   starts_by c (Ok device) begun sized capacity array pages fault put =
       inl (put.0, record { device = device; stands = put.1; brings = record { begun = begun; sized = sized; cache_is = capacity; array = array; pages = pages } })
   starts_by c (Err why) begun sized capacity array pages fault put = inr (put.1, record { fault = why; number_is = put.0; unaccepted = fault })

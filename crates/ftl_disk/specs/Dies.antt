@@ -1,9 +1,9 @@
 -- WHAT A CALL OF A DISK COMES TO OVER ANY DIE, and by which number.
-use Rattle.std.specs.Prelude.{◌≡◌, ◌≢◌, ◌⊎◌, ℕ, Bool, true, List, length, Some, None, Result, Ok, Err}
+use Rattle.std.specs.Prelude.{◌≡◌, ◌≢◌, ◌⊎◌, ℕ, true, List, length, Some, None, Result, Ok, Err}
+use Rattle.page_layout.specs.View.{View}
 use Rattle.page_layout.specs.declared.geometry.Geometry.{Geometry}
 use Rattle.page_layout.specs.Array.{array_of}
 use Rattle.page_layout.specs.Counter.{HasRisen}
-use Rattle.page_layout.specs.Flash.{Flash}
 use Rattle.certificate.specs.Claim.{Claim}
 use Rattle.certificate.specs.Spelling as spelling
 use Rattle.image_check.specs.Agrees.{IsAsked}
@@ -23,17 +23,17 @@ use Rattle.ftl_disk.specs.Measures.{certificate_length}
 use Rattle.ftl_disk.specs.Numbers.{of_formatting, of_power, of_refusal}
 
 -- A FORMAT: its number is that of what the format answered, which an honest die shows, and a failed bus was counted
-pub record FormatsBy {N : Type 0} (flash : N → Flash) (honest : N → Bool) (programs failed : N → ℕ) (g : Geometry) (old : N) (number : ℕ) (new : N) : Type 0 where
+pub record FormatsBy {N : Type 0} (view : View N) (g : Geometry) (old : N) (number : ℕ) (new : N) : Type 0 where
   pub result : Result ℕ FormatFault
   pub number_is : number ≡ of_formatting result
-  pub formats : honest old ≡ true → Formats g (flash old) (flash new) result
-  pub answers : Answers g (programs old) (programs new) result
-  pub rose : result ≡ Err Bus → HasRisen (failed old) (failed new)
+  pub formats : view.honest old ≡ true → Formats g (view.flash old) (view.flash new) result
+  pub answers : Answers g (view.programs old) (view.programs new) result
+  pub rose : result ≡ Err Bus → HasRisen (view.failed old) (view.failed new)
 
 -- one that was done or refused
-pub record IsFormattedBy {N : Type 0} (flash : N → Flash) (honest : N → Bool) (programs failed : N → ℕ) (g : Geometry) (die : N) (number : ℕ) : Type 0 where
+pub record IsFormattedBy {N : Type 0} (view : View N) (g : Geometry) (die : N) (number : ℕ) : Type 0 where
   pub after : N
-  pub formats : FormatsBy flash honest programs failed g die number after
+  pub formats : FormatsBy view g die number after
 
 -- the device that was brought stands in the slot; or the number is that of why there is none, and the slot is as it was
 abbrev pub IsPut : {N : Type 0} → Result (Device N) (PowerFault N) → (was : SlotState N) → (number : ℕ) → (is : SlotState N) → Type 0
@@ -41,68 +41,68 @@ IsPut (Ok device) was number is = (number ≡ 0) × (is ≡ record { device = So
 IsPut (Err fault) was number is = (number ≡ of_power fault) × (is ≡ was)
 
 -- A DEVICE STANDS IN THE SLOT, which power brought over the die
-pub record IsPutBy {N : Type 0} (flash : N → Flash) (honest : N → Bool) (failed : N → ℕ) (g : Geometry) (cache : ℕ) (die : N) (slot : SlotState N) : Type 0 where
+pub record IsPutBy {N : Type 0} (view : View N) (g : Geometry) (cache : ℕ) (die : N) (slot : SlotState N) : Type 0 where
   pub device : Device N
   pub stands : slot ≡ record { device = Some device; shortage = None }
-  pub brings : IsBrought flash honest failed die g cache device
+  pub brings : IsBrought view die g cache device
 
 -- NO DEVICE WAS BROUGHT: the number is that of why
-pub record IsUnstartedBy {N : Type 0} (flash : N → Flash) (honest : N → Bool) (failed : N → ℕ) (g : Geometry) (cache : ℕ) (die : N) (number : ℕ) : Type 0 where
+pub record IsUnstartedBy {N : Type 0} (view : View N) (g : Geometry) (cache : ℕ) (die : N) (number : ℕ) : Type 0 where
   pub fault : PowerFault N
   pub number_is : number ≡ of_power fault
-  pub unsettled : IsUnsettled flash honest failed die g cache fault
+  pub unsettled : IsUnsettled view die g cache fault
 
 -- A START over a die: the one or the other, and then the slot is as it was
-abbrev pub StartsBy : {N : Type 0} → (N → Flash) → (N → Bool) → (N → ℕ) → Geometry → (cache : ℕ) → N → SlotState N → (number : ℕ) → SlotState N → Type 0
-StartsBy flash honest failed g cache die was number is =
-    ((number ≡ 0) × IsPutBy flash honest failed g cache die is) ⊎ ((is ≡ was) × IsUnstartedBy flash honest failed g cache die number)
+abbrev pub StartsBy : {N : Type 0} → View N → Geometry → (cache : ℕ) → N → SlotState N → (number : ℕ) → SlotState N → Type 0
+StartsBy view g cache die was number is =
+    ((number ≡ 0) × IsPutBy view g cache die is) ⊎ ((is ≡ was) × IsUnstartedBy view g cache die number)
 
 -- A DEVICE WAS BROUGHT BY A CERTIFICATE: of an honest die it holds the array that the image holds, and nothing was written
-pub record IsBroughtBy {N : Type 0} (flash : N → Flash) (honest : N → Bool) (die : N) (g : Geometry) (cache : ℕ) (d : Device N) : Type 0 where
-  pub begun : IsDeviceBegun flash honest d
+pub record IsBroughtBy {N : Type 0} (view : View N) (die : N) (g : Geometry) (cache : ℕ) (d : Device N) : Type 0 where
+  pub begun : IsDeviceBegun view d
   pub sized : d.engine.geometry ≡ g
   pub cache_is : d.engine.mapping.capacity ≡ cache
-  pub array : honest die ≡ true → array_in flash d ≡ array_of g (flash die).image
-  pub pages : honest die ≡ true → flash d.engine.nand ≡ flash die
+  pub array : view.honest die ≡ true → array_in view.flash d ≡ array_of g (view.flash die).image
+  pub pages : view.honest die ≡ true → view.flash d.engine.nand ≡ view.flash die
 
-pub record IsPutByClaim {N : Type 0} (flash : N → Flash) (honest : N → Bool) (g : Geometry) (cache : ℕ) (die : N) (slot : SlotState N) : Type 0 where
+pub record IsPutByClaim {N : Type 0} (view : View N) (g : Geometry) (cache : ℕ) (die : N) (slot : SlotState N) : Type 0 where
   pub device : Device N
   pub stands : slot ≡ record { device = Some device; shortage = None }
-  pub brings : IsBroughtBy flash honest die g cache device
+  pub brings : IsBroughtBy view die g cache device
 
 -- nor by a certificate
-pub record IsUncheckedBy {N : Type 0} (flash : N → Flash) (honest : N → Bool) (failed : N → ℕ) (g : Geometry) (cache : ℕ) (c : Claim) (die : N) (number : ℕ) : Type 0 where
+pub record IsUncheckedBy {N : Type 0} (view : View N) (g : Geometry) (cache : ℕ) (c : Claim) (die : N) (number : ℕ) : Type 0 where
   pub fault : PowerFault N
   pub number_is : number ≡ of_power fault
-  pub unaccepted : IsCertificateUnaccepted flash honest failed die g cache c fault
+  pub unaccepted : IsCertificateUnaccepted view die g cache c fault
 
-abbrev pub StartsByClaim : {N : Type 0} → (N → Flash) → (N → Bool) → (N → ℕ) → Geometry → (cache : ℕ) → Claim → N → SlotState N → (number : ℕ) → SlotState N → Type 0
-StartsByClaim flash honest failed g cache c die was number is =
-    ((number ≡ 0) × IsPutByClaim flash honest g cache die is) ⊎ ((is ≡ was) × IsUncheckedBy flash honest failed g cache c die number)
+abbrev pub StartsByClaim : {N : Type 0} → View N → Geometry → (cache : ℕ) → Claim → N → SlotState N → (number : ℕ) → SlotState N → Type 0
+StartsByClaim view g cache c die was number is =
+    ((number ≡ 0) × IsPutByClaim view g cache die is) ⊎ ((is ≡ was) × IsUncheckedBy view g cache c die number)
 
 -- THE BYTES OF THE CERTIFICATE of what a die holds, as many as one of its geometry has: of an honest one it agrees with the image, and leaves no sequence out
-pub record IsCertifiedBy {N : Type 0} (flash : N → Flash) (honest : N → Bool) (g : Geometry) (cache : ℕ) (die : N) (bytes : List ℕ) : Type 0 where
+pub record IsCertifiedBy {N : Type 0} (view : View N) (g : Geometry) (cache : ℕ) (die : N) (bytes : List ℕ) : Type 0 where
   pub claim : Claim
   pub fits : spelling.Fits claim
   pub spelled : bytes ≡ spelling.certificate_bytes claim
   pub sized : length bytes ≡ certificate_length g
   pub asked : IsAsked g cache claim
-  pub mounted : honest die ≡ true → IsMounted g cache (flash die).image claim
+  pub mounted : view.honest die ≡ true → IsMounted g cache (view.flash die).image claim
 
 -- the pages were refused: of an honest die for what is so of them, and a read that failed was counted
-pub record IsRefusedBy {N : Type 0} (flash : N → Flash) (honest : N → Bool) (failed : N → ℕ) (g : Geometry) (cache : ℕ) (die : N) (number : ℕ) (given : N) : Type 0 where
+pub record IsRefusedBy {N : Type 0} (view : View N) (g : Geometry) (cache : ℕ) (die : N) (number : ℕ) (given : N) : Type 0 where
   pub why : Refusal
   pub number_is : number ≡ of_refusal why
   pub only : IsOfMounting why
-  pub refuses : honest die ≡ true → Refuses g cache (flash die).image why
-  pub rose : why ≡ Source → HasRisen (failed die) (failed given)
+  pub refuses : view.honest die ≡ true → Refuses g cache (view.flash die).image why
+  pub rose : why ≡ Source → HasRisen (view.failed die) (view.failed given)
 
 -- THERE IS NO CERTIFICATE: for that, or memory was refused
-abbrev pub IsUncertifiedBy : {N : Type 0} → (N → Flash) → (N → Bool) → (N → ℕ) → Geometry → (cache : ℕ) → N → (number : ℕ) → N → Type 0
-IsUncertifiedBy flash honest failed g cache die number given = (number ≡ 4) ⊎ IsRefusedBy flash honest failed g cache die number given
+abbrev pub IsUncertifiedBy : {N : Type 0} → View N → Geometry → (cache : ℕ) → N → (number : ℕ) → N → Type 0
+IsUncertifiedBy view g cache die number given = (number ≡ 4) ⊎ IsRefusedBy view g cache die number given
 
 -- A CERTIFICATE IS MADE over a die, or the number says why not, and the bytes stay: 18 where they are not as many
-pub record CertifiesBy {N : Type 0} (flash : N → Flash) (honest : N → Bool) (failed : N → ℕ) (g : Geometry) (cache : ℕ) (die : N) (given : List ℕ) (number : ℕ) (out : List ℕ) : Type 0 where
+pub record CertifiesBy {N : Type 0} (view : View N) (g : Geometry) (cache : ℕ) (die : N) (given : List ℕ) (number : ℕ) (out : List ℕ) : Type 0 where
   pub kept : number ≢ 0 → out ≡ given
-  pub why : number ≢ 0 → ((number ≡ 18) × (length given ≢ certificate_length g)) ⊎ ((after : N) × IsUncertifiedBy flash honest failed g cache die number after)
-  pub made : number ≡ 0 → IsCertifiedBy flash honest g cache die out
+  pub why : number ≢ 0 → ((number ≡ 18) × (length given ≢ certificate_length g)) ⊎ ((after : N) × IsUncertifiedBy view g cache die number after)
+  pub made : number ≡ 0 → IsCertifiedBy view g cache die out

@@ -15,8 +15,8 @@ use std::alloc::Global;
 
 /// Makes a die ready.
 pub(crate) fn format_over<N: Nand + Drop>(alloc: Global, mut die: N, geometry: &Geometry) -> u32
-    requires { (N.flash die).geometry ≡ geometry.now }
-    ensures { IsFormattedBy N.flash N.honest N.programs N.failed geometry.now die result }
+    requires { (N.view.flash die).geometry ≡ geometry.now }
+    ensures { IsFormattedBy N.view geometry.now die result }
 {
     match format(alloc, &mut die, geometry) {
         Ok(_) => DONE,
@@ -26,7 +26,7 @@ pub(crate) fn format_over<N: Nand + Drop>(alloc: Global, mut die: N, geometry: &
 
 // The device that power brought stands in the slot; or the number of why there is none comes.
 fn put<N: Nand + Drop>(brought: Result<Device<N>, PowerFault<N>>, slot: &mut DeviceSlot<N>) -> u32
-    requires { IfOk brought (IsDeviceKept N.flash N.honest) }
+    requires { IfOk brought (IsDeviceKept N.view) }
     ensures { IsPut brought slot.old result slot.new }
 {
     match brought {
@@ -46,8 +46,8 @@ pub(crate) fn start_over<N: Nand + Drop>(
     plan: &Plan,
     slot: &mut DeviceSlot<N>,
 ) -> u32
-    requires { (N.flash die).geometry ≡ plan.now.geometry }
-    ensures { StartsBy N.flash N.honest N.failed plan.now.geometry plan.now.cache die slot.old result slot.new }
+    requires { (N.view.flash die).geometry ≡ plan.now.geometry }
+    ensures { StartsBy N.view plan.now.geometry plan.now.cache die slot.old result slot.new }
 {
     let brought = start(alloc, die, &plan.geometry, plan.cache);
     put(brought, slot)
@@ -62,8 +62,8 @@ pub(crate) fn start_checked_over<N: Nand + Drop>(
     certificate: &Certificate,
     slot: &mut DeviceSlot<N>,
 ) -> u32
-    requires { (N.flash die).geometry ≡ plan.now.geometry }
-    ensures { StartsByClaim N.flash N.honest N.failed plan.now.geometry plan.now.cache certificate.now die slot.old result slot.new }
+    requires { (N.view.flash die).geometry ≡ plan.now.geometry }
+    ensures { StartsByClaim N.view plan.now.geometry plan.now.cache certificate.now die slot.old result slot.new }
 {
     let brought = start_checked(alloc, die, &plan.geometry, plan.cache, certificate);
     put(brought, slot)
@@ -71,9 +71,9 @@ pub(crate) fn start_checked_over<N: Nand + Drop>(
 
 // The bytes of the certificate of what a die holds, or the number of what kept it from one.
 fn certificate_of<N: Nand>(alloc: Global, die: &mut N, plan: &Plan) -> Result<Vec<u8>, u32>
-    requires { (N.flash die.old).geometry ≡ plan.now.geometry }
-    ensures made { IfOk result (λ bytes. IsCertifiedBy N.flash N.honest plan.now.geometry plan.now.cache die.old bytes.items) }
-    ensures fault { IfErr result (λ number. IsUncertifiedBy N.flash N.honest N.failed plan.now.geometry plan.now.cache die.old number die.new) }
+    requires { (N.view.flash die.old).geometry ≡ plan.now.geometry }
+    ensures made { IfOk result (λ bytes. IsCertifiedBy N.view plan.now.geometry plan.now.cache die.old bytes.items) }
+    ensures fault { IfErr result (λ number. IsUncertifiedBy N.view plan.now.geometry plan.now.cache die.old number die.new) }
     ensures not_done { IfErr result (λ number. number ≢ 0) }
 {
     let certificate = match mount(alloc, die, &plan.geometry, plan.cache) {
@@ -105,8 +105,8 @@ pub(crate) fn certify_over<N: Nand + Drop>(
     plan: &Plan,
     out: &mut [u8],
 ) -> u32
-    requires { (N.flash die).geometry ≡ plan.now.geometry }
-    ensures { CertifiesBy N.flash N.honest N.failed plan.now.geometry plan.now.cache die out.old result out.new }
+    requires { (N.view.flash die).geometry ≡ plan.now.geometry }
+    ensures { CertifiesBy N.view plan.now.geometry plan.now.cache die out.old result out.new }
 {
     match certificate_of(alloc, &mut die, plan) {
         Ok(bytes) => fill(&bytes, out),

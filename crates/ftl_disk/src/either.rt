@@ -17,19 +17,18 @@ pub enum EitherDie<L: ChipLink> {
 }
 
 impl<L: ChipLink> PageSource for EitherDie<L> {
-    ghost flash = { λ d. flash_of L.die L.chip d };
+    ghost use Rattle.std.specs.Prelude.{false};
 
-    ghost honest = { λ d. honest_of L.honest L.keeps d };
-
-    ghost reads = { λ d. reads_of d };
-
-    ghost programs = { λ d. programs_of d };
-
-    ghost erases = { λ d. erases_of d };
-
-    ghost failed = { λ d. failed_of d };
-
-    ghost recorded = { λ d. recorded_of d };
+    ghost view = { record {
+        flash = λ d. flash_of L.die L.chip d;
+        recorded = λ d. recorded_of d;
+        honest = λ d. honest_of L.honest L.keeps d;
+        calm = λ _. false;
+        reads = λ d. reads_of d;
+        programs = λ d. programs_of d;
+        erases = λ d. erases_of d;
+        failed = λ d. failed_of d;
+    } };
 
     fn read_page(
         &mut self,

@@ -44,20 +44,20 @@ fn show_pages<S: PageSource>(
     body: &mut [u8],
     spare: &mut [u8],
 ) -> Result<(), SourceFault>
-    requires same_geometry { (S.flash source.old).geometry ≡ geometry.now }
+    requires same_geometry { (S.view.flash source.old).geometry ≡ geometry.now }
     requires pass { IsPass 0 pass.old }
     requires pass_geometry { pass.old.survey.geometry ≡ geometry.now }
     requires body_whole { length body.old ≡ geometry.now.data_bytes }
     requires spare_whole { length spare.old ≡ geometry.now.spare_bytes }
     ensures pass { OnOk result (IsPass (row_count geometry.now) pass.new) }
     ensures same_pass { OnOk result (IsSamePass pass.old pass.new) }
-    ensures shows { OnOk result (S.honest source.old ≡ true → Shows (S.flash source.old).image 0 pass.old → Shows (S.flash source.old).image (row_count geometry.now) pass.new) }
-    ensures same { OnOk result (S.honest source.old ≡ true → S.flash source.new ≡ S.flash source.old) }
-    ensures told { OnOk result (S.honest source.old ≡ true → S.recorded source.new ≡ S.recorded source.old) }
-    ensures whole { OnOk result (S.honest source.old ≡ true → IsImage geometry.now (S.flash source.new).image) }
-    ensures only_reads { OnlyReads S.flash S.honest S.calm S.programs S.erases S.failed source.old source.new }
-    ensures reads { S.reads source.new ≤ S.reads source.old + row_count geometry.now }
-    ensures rose { OnErr result (HasRisen (S.failed source.old) (S.failed source.new)) }
+    ensures shows { OnOk result (S.view.honest source.old ≡ true → Shows (S.view.flash source.old).image 0 pass.old → Shows (S.view.flash source.old).image (row_count geometry.now) pass.new) }
+    ensures same { OnOk result (S.view.honest source.old ≡ true → S.view.flash source.new ≡ S.view.flash source.old) }
+    ensures told { OnOk result (S.view.honest source.old ≡ true → S.view.recorded source.new ≡ S.view.recorded source.old) }
+    ensures whole { OnOk result (S.view.honest source.old ≡ true → IsImage geometry.now (S.view.flash source.new).image) }
+    ensures only_reads { OnlyReads S.view source.old source.new }
+    ensures reads { S.view.reads source.new ≤ S.view.reads source.old + row_count geometry.now }
+    ensures rose { OnErr result (HasRisen (S.view.failed source.old) (S.view.failed source.new)) }
 {
     for row in 0..geometry.rows() {
         source.read_page(row, body, spare)?;
@@ -84,22 +84,22 @@ pub fn check<'a, S: PageSource>(
     capacity: u32,
     certificate: &'a Certificate,
 ) -> Result<Accepted<'a>, Refusal>
-    requires same_geometry { (S.flash source.old).geometry ≡ geometry.now }
+    requires same_geometry { (S.view.flash source.old).geometry ≡ geometry.now }
     // The truth of the answer, for a source that keeps its promises.
-    ensures ok { IfOk result (λ accepted. S.honest source.old ≡ true → IsAcceptance geometry.now capacity (S.flash source.old).image certificate.now accepted) }
-    ensures whole { OnOk result (S.honest source.old ≡ true → IsImage geometry.now (S.flash source.old).image) }
-    ensures err { IfErr result (λ refusal. S.honest source.old ≡ true → IsRefusal geometry.now capacity (S.flash source.old).image certificate.now refusal) }
-    ensures same { result ≢ Err Refusal.Source → S.honest source.old ≡ true → S.flash source.new ≡ S.flash source.old }
-    ensures told { result ≢ Err Refusal.Source → S.honest source.old ≡ true → S.recorded source.new ≡ S.recorded source.old }
+    ensures ok { IfOk result (λ accepted. S.view.honest source.old ≡ true → IsAcceptance geometry.now capacity (S.view.flash source.old).image certificate.now accepted) }
+    ensures whole { OnOk result (S.view.honest source.old ≡ true → IsImage geometry.now (S.view.flash source.old).image) }
+    ensures err { IfErr result (λ refusal. S.view.honest source.old ≡ true → IsRefusal geometry.now capacity (S.view.flash source.old).image certificate.now refusal) }
+    ensures same { result ≢ Err Refusal.Source → S.view.honest source.old ≡ true → S.view.flash source.new ≡ S.view.flash source.old }
+    ensures told { result ≢ Err Refusal.Source → S.view.honest source.old ≡ true → S.view.recorded source.new ≡ S.view.recorded source.old }
     // Whatever the source does.
     ensures asked { (result ≡ Err Refusal.GeometryDiffers) ↔ (¬ IsAsked geometry.now capacity certificate.now) }
     ensures unread { result ≡ Err Refusal.GeometryDiffers → source.new ≡ source.old }
     ensures memory { result ≡ Err Refusal.OutOfMemory → source.new ≡ source.old }
     ensures only { result ≢ Err Refusal.WrongLength }
     ensures accepted { IfOk result (λ accepted. (accepted.claim ≡ certificate.now) × IsAsked geometry.now capacity certificate.now) }
-    ensures only_reads { OnlyReads S.flash S.honest S.calm S.programs S.erases S.failed source.old source.new }
-    ensures reads { S.reads source.new ≤ S.reads source.old + row_count geometry.now }
-    ensures rose { result ≡ Err Refusal.Source → HasRisen (S.failed source.old) (S.failed source.new) }
+    ensures only_reads { OnlyReads S.view source.old source.new }
+    ensures reads { S.view.reads source.new ≤ S.view.reads source.old + row_count geometry.now }
+    ensures rose { result ≡ Err Refusal.Source → HasRisen (S.view.failed source.old) (S.view.failed source.new) }
 {
     if !is_asked(geometry, capacity, certificate) {
         return Err(Refusal::GeometryDiffers);

@@ -132,17 +132,17 @@ fn latest_of<S: PageSource>(
     body: &mut [u8],
     spare: &mut [u8],
 ) -> Result<Latest, SourceFault>
-    requires same_geometry { (S.flash source.old).geometry ≡ geometry.now }
+    requires same_geometry { (S.view.flash source.old).geometry ≡ geometry.now }
     requires body_whole { length body.old ≡ geometry.now.data_bytes }
     requires spare_whole { length spare.old ≡ geometry.now.spare_bytes }
-    ensures found { IfOk result (λ latest. S.honest source.old ≡ true → latest ≡ latest_below (marks (S.flash source.old).image) key (row_count geometry.now)) }
+    ensures found { IfOk result (λ latest. S.view.honest source.old ≡ true → latest ≡ latest_below (marks (S.view.flash source.old).image) key (row_count geometry.now)) }
     ensures within { IfOk result (IsBelow (row_count geometry.now)) }
-    ensures same { OnOk result (S.honest source.old ≡ true → S.flash source.new ≡ S.flash source.old) }
-    ensures whole { OnOk result (S.honest source.old ≡ true → IsImage geometry.now (S.flash source.new).image) }
-    ensures only_reads { OnlyReads S.flash S.honest S.calm S.programs S.erases S.failed source.old source.new }
-    ensures reads { S.reads source.new ≤ S.reads source.old + row_count geometry.now }
-    ensures counted { S.reads source.old < 2 ^ 64 → (S.reads source.old ≤ S.reads source.new) × (S.reads source.new < 2 ^ 64) }
-    ensures rose { OnErr result (HasRisen (S.failed source.old) (S.failed source.new)) }
+    ensures same { OnOk result (S.view.honest source.old ≡ true → S.view.flash source.new ≡ S.view.flash source.old) }
+    ensures whole { OnOk result (S.view.honest source.old ≡ true → IsImage geometry.now (S.view.flash source.new).image) }
+    ensures only_reads { OnlyReads S.view source.old source.new }
+    ensures reads { S.view.reads source.new ≤ S.view.reads source.old + row_count geometry.now }
+    ensures counted { S.view.reads source.old < 2 ^ 64 → (S.view.reads source.old ≤ S.view.reads source.new) × (S.view.reads source.new < 2 ^ 64) }
+    ensures rose { OnErr result (HasRisen (S.view.failed source.old) (S.view.failed source.new)) }
 {
     let mut newest = Latest::Never;
     for row in 0..geometry.rows() {
@@ -178,28 +178,28 @@ pub fn sector<S: PageSource>(
     page: &mut [u8],
     out: &mut [u8],
 ) -> Result<(), SectorFault>
-    requires same_geometry { (S.flash source.old).geometry ≡ geometry.now }
+    requires same_geometry { (S.view.flash source.old).geometry ≡ geometry.now }
     requires page_whole { length page.old ≡ page_bytes geometry.now }
     requires out_whole { length out.old ≡ geometry.now.data_bytes }
     ensures range { (result ≡ Err SectorFault.OutOfRange) ↔ (geometry.now.sectors ≤ sector) }
     ensures zeros { OnErr result (out.new ≡ zeros geometry.now) }
-    ensures rose { result ≡ Err SectorFault.Source → HasRisen (S.failed source.old) (S.failed source.new) }
+    ensures rose { result ≡ Err SectorFault.Source → HasRisen (S.view.failed source.old) (S.view.failed source.new) }
 
     // What an honest source's image says.
-    ensures ok { OnOk result (S.honest source.old ≡ true → out.new ≡ sector_of geometry.now (S.flash source.old).image sector) }
-    ensures repeated { S.honest source.old ≡ true → result ≢ Err SectorFault.Source → (IsRepeated result ↔ IsAmbiguous geometry.now (S.flash source.old).image sector) }
-    ensures rows { S.honest source.old ≡ true → IfErr result (NamesRows (S.flash source.old).image sector) }
-    ensures lowest { S.honest source.old ≡ true → IfErr result (NamesLowest (S.flash source.old).image sector) }
-    ensures same { S.honest source.old ≡ true → result ≢ Err SectorFault.Source → S.flash source.new ≡ S.flash source.old }
+    ensures ok { OnOk result (S.view.honest source.old ≡ true → out.new ≡ sector_of geometry.now (S.view.flash source.old).image sector) }
+    ensures repeated { S.view.honest source.old ≡ true → result ≢ Err SectorFault.Source → (IsRepeated result ↔ IsAmbiguous geometry.now (S.view.flash source.old).image sector) }
+    ensures rows { S.view.honest source.old ≡ true → IfErr result (NamesRows (S.view.flash source.old).image sector) }
+    ensures lowest { S.view.honest source.old ≡ true → IfErr result (NamesLowest (S.view.flash source.old).image sector) }
+    ensures same { S.view.honest source.old ≡ true → result ≢ Err SectorFault.Source → S.view.flash source.new ≡ S.view.flash source.old }
 
     // What any source shows: zeros, or the page that `page` then holds, which is a sound one of the sector.
     ensures own { OnOk result (MayShow geometry.now sector page.new out.new) }
 
     // What stays the same of any source.
     ensures unread { geometry.now.sectors ≤ sector → source.new ≡ source.old }
-    ensures only_reads { OnlyReads S.flash S.honest S.calm S.programs S.erases S.failed source.old source.new }
-    ensures reads { S.reads source.new ≤ S.reads source.old + row_count geometry.now + 1 }
-    ensures counted { S.reads source.old < 2 ^ 64 → S.reads source.old ≤ S.reads source.new }
+    ensures only_reads { OnlyReads S.view source.old source.new }
+    ensures reads { S.view.reads source.new ≤ S.view.reads source.old + row_count geometry.now + 1 }
+    ensures counted { S.view.reads source.old < 2 ^ 64 → S.view.reads source.old ≤ S.view.reads source.new }
 {
     out.fill(0);
     if sector >= geometry.sectors() {

@@ -52,15 +52,15 @@ fn read_translation<S: PageSource>(
     body: &mut [u8],
     spare: &mut [u8],
 ) -> Result<(), SourceFault>
-    requires same_geometry { (S.flash source.old).geometry ≡ geometry.now }
+    requires same_geometry { (S.view.flash source.old).geometry ≡ geometry.now }
     requires within { IsRowOf (row_count geometry.now) (place_in latest) }
     requires body_whole { length body.old ≡ geometry.now.data_bytes }
     requires spare_whole { length spare.old ≡ geometry.now.spare_bytes }
-    ensures entries { OnOk result (S.honest source.old ≡ true → (i : ℕ) → i < entries geometry.now → entry_at body.new i ≡ entry_in (S.flash source.old).image i (place_in latest)) }
-    ensures same { OnOk result (S.honest source.old ≡ true → S.flash source.new ≡ S.flash source.old) }
-    ensures only_reads { OnlyReads S.flash S.honest S.calm S.programs S.erases S.failed source.old source.new }
-    ensures reads { S.reads source.new ≤ S.reads source.old + 1 }
-    ensures rose { OnErr result (HasRisen (S.failed source.old) (S.failed source.new)) }
+    ensures entries { OnOk result (S.view.honest source.old ≡ true → (i : ℕ) → i < entries geometry.now → entry_at body.new i ≡ entry_in (S.view.flash source.old).image i (place_in latest)) }
+    ensures same { OnOk result (S.view.honest source.old ≡ true → S.view.flash source.new ≡ S.view.flash source.old) }
+    ensures only_reads { OnlyReads S.view source.old source.new }
+    ensures reads { S.view.reads source.new ≤ S.view.reads source.old + 1 }
+    ensures rose { OnErr result (HasRisen (S.view.failed source.old) (S.view.failed source.new)) }
 {
     match latest.row() {
         Some(row) => source.read_page(row, body, spare),
@@ -85,20 +85,20 @@ pub fn find_stale<S: PageSource>(
     spare: &mut [u8],
     stale: &mut Vec<u32>,
 ) -> Result<(), Refusal>
-    requires same_geometry { (S.flash source.old).geometry ≡ geometry.now }
+    requires same_geometry { (S.view.flash source.old).geometry ≡ geometry.now }
     requires newest { length newest.now ≡ key_count geometry.now }
     requires within { All (λ x. IsRowOf (row_count geometry.now) (place_in x)) newest.now }
     requires body_whole { length body.old ≡ geometry.now.data_bytes }
     requires spare_whole { length spare.old ≡ geometry.now.spare_bytes }
     requires empty { stale.old.items ≡ [] }
-    ensures stale { OnOk result (S.honest source.old ≡ true → SurveysKeys geometry.now (S.flash source.old).image newest.now →
-        stale.new.items ≡ stale_sectors geometry.now (S.flash source.old).image) }
+    ensures stale { OnOk result (S.view.honest source.old ≡ true → SurveysKeys geometry.now (S.view.flash source.old).image newest.now →
+        stale.new.items ≡ stale_sectors geometry.now (S.view.flash source.old).image) }
     ensures rising { OnOk result (IsRisingBelow geometry.now.sectors stale.new.items) }
-    ensures same { result ≢ Err Refusal.Source → S.honest source.old ≡ true → S.flash source.new ≡ S.flash source.old }
+    ensures same { result ≢ Err Refusal.Source → S.view.honest source.old ≡ true → S.view.flash source.new ≡ S.view.flash source.old }
     ensures stops { IfErr result IsStop }
-    ensures only_reads { OnlyReads S.flash S.honest S.calm S.programs S.erases S.failed source.old source.new }
-    ensures reads { S.reads source.new ≤ S.reads source.old + translation_pages geometry.now }
-    ensures rose { result ≡ Err Refusal.Source → HasRisen (S.failed source.old) (S.failed source.new) }
+    ensures only_reads { OnlyReads S.view source.old source.new }
+    ensures reads { S.view.reads source.new ≤ S.view.reads source.old + translation_pages geometry.now }
+    ensures rose { result ≡ Err Refusal.Source → HasRisen (S.view.failed source.old) (S.view.failed source.new) }
 {
     let sectors = geometry.sectors();
     let entries = geometry.entries();

@@ -30,22 +30,22 @@ const _: () = prove!(size_of::<Class>() == 1);
 /// whatever is left. `OutOfMemory` leaves the die untouched. `Bus` comes only where a page read or a
 /// program failed, and then nothing is known of the die.
 pub fn format<N: Nand>(alloc: Global, nand: &mut N, geometry: &Geometry) -> Result<u32, FormatFault>
-    requires { (N.flash nand.old).geometry ≡ geometry.now }
-    ensures formats { N.honest nand.old ≡ true → Formats geometry.now (N.flash nand.old) (N.flash nand.new) result }
-    ensures answers { Answers geometry.now (N.programs nand.old) (N.programs nand.new) result }
-    ensures bus { IsErrOf result FormatFault.Bus → HasRisen (N.failed nand.old) (N.failed nand.new) }
+    requires { (N.view.flash nand.old).geometry ≡ geometry.now }
+    ensures formats { N.view.honest nand.old ≡ true → Formats geometry.now (N.view.flash nand.old) (N.view.flash nand.new) result }
+    ensures answers { Answers geometry.now (N.view.programs nand.old) (N.view.programs nand.new) result }
+    ensures bus { IsErrOf result FormatFault.Bus → HasRisen (N.view.failed nand.old) (N.view.failed nand.new) }
     ensures memory { IsErrOf result FormatFault.OutOfMemory → nand.new ≡ nand.old }
 
     // Each page is read once, and nothing is erased.
-    ensures reads { OnOk result (N.reads nand.old + row_count geometry.now < 2 ^ 64 →
-        N.reads nand.new ≡ N.reads nand.old + row_count geometry.now) }
-    ensures most_reads { N.reads nand.new ≤ N.reads nand.old + row_count geometry.now }
-    ensures most_programs { N.programs nand.new ≤ N.programs nand.old + 3 * table_pages geometry.now }
-    ensures erases { N.erases nand.new ≡ N.erases nand.old }
-    ensures geometry { (N.flash nand.new).geometry ≡ (N.flash nand.old).geometry }
-    ensures honest { N.honest nand.new ≡ N.honest nand.old }
-    ensures calm { N.calm nand.new ≡ N.calm nand.old }
-    ensures failed { N.failed nand.old ≤ N.failed nand.new }
+    ensures reads { OnOk result (N.view.reads nand.old + row_count geometry.now < 2 ^ 64 →
+        N.view.reads nand.new ≡ N.view.reads nand.old + row_count geometry.now) }
+    ensures most_reads { N.view.reads nand.new ≤ N.view.reads nand.old + row_count geometry.now }
+    ensures most_programs { N.view.programs nand.new ≤ N.view.programs nand.old + 3 * table_pages geometry.now }
+    ensures erases { N.view.erases nand.new ≡ N.view.erases nand.old }
+    ensures geometry { (N.view.flash nand.new).geometry ≡ (N.view.flash nand.old).geometry }
+    ensures honest { N.view.honest nand.new ≡ N.view.honest nand.old }
+    ensures calm { N.view.calm nand.new ≡ N.view.calm nand.old }
+    ensures failed { N.view.failed nand.old ≤ N.view.failed nand.new }
 {
     let mut classes = vec![in alloc; Class::Good; geometry.blocks() as usize]?;
     let mut body = vec![in alloc; 0; geometry.data_bytes()]?;

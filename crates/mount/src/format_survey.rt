@@ -63,15 +63,15 @@ fn read_look<S: PageSource>(
     spare: &mut [u8],
 ) -> Result<PageLook, SourceFault>
     requires within { row < row_count geometry.now }
-    requires geometry { (S.flash source.old).geometry ≡ geometry.now }
+    requires geometry { (S.view.flash source.old).geometry ≡ geometry.now }
     requires body_whole { length body.old ≡ geometry.now.data_bytes }
     requires spare_whole { length spare.old ≡ geometry.now.spare_bytes }
-    ensures looked { IfOk result (λ look. S.honest source.old ≡ true → look ≡ look_of (page_at (S.flash source.old) row)) }
-    ensures same { OnOk result (S.honest source.old ≡ true → S.flash source.new ≡ S.flash source.old) }
-    ensures whole { OnOk result (S.honest source.old ≡ true → IsImage geometry.now (S.flash source.old).image) }
-    ensures only_reads { OnlyReads S.flash S.honest S.calm S.programs S.erases S.failed source.old source.new }
-    ensures reads { S.reads source.new ≡ counted (S.reads source.old) }
-    ensures rose { OnErr result (HasRisen (S.failed source.old) (S.failed source.new)) }
+    ensures looked { IfOk result (λ look. S.view.honest source.old ≡ true → look ≡ look_of (page_at (S.view.flash source.old) row)) }
+    ensures same { OnOk result (S.view.honest source.old ≡ true → S.view.flash source.new ≡ S.view.flash source.old) }
+    ensures whole { OnOk result (S.view.honest source.old ≡ true → IsImage geometry.now (S.view.flash source.old).image) }
+    ensures only_reads { OnlyReads S.view source.old source.new }
+    ensures reads { S.view.reads source.new ≡ counted (S.view.reads source.old) }
+    ensures rose { OnErr result (HasRisen (S.view.failed source.old) (S.view.failed source.new)) }
 {
     source.read_page(row, body, spare)?;
     Ok(look_at(geometry, body, spare))
@@ -90,18 +90,18 @@ fn used_between<S: PageSource>(
 ) -> Result<Option<u32>, SourceFault>
     requires order { from ≤ to }
     requires within { to ≤ row_count geometry.now }
-    requires geometry { (S.flash source.old).geometry ≡ geometry.now }
+    requires geometry { (S.view.flash source.old).geometry ≡ geometry.now }
     requires body_whole { length body.old ≡ geometry.now.data_bytes }
     requires spare_whole { length spare.old ≡ geometry.now.spare_bytes }
-    ensures first { IfOk result (λ first. S.honest source.old ≡ true →
-        IsFirst (λ row. is_page_used marked (page_at (S.flash source.old) row)) from to first) }
+    ensures first { IfOk result (λ first. S.view.honest source.old ≡ true →
+        IsFirst (λ row. is_page_used marked (page_at (S.view.flash source.old) row)) from to first) }
     ensures row { IfOk result (λ first. IfSome first (λ row. row < to)) }
-    ensures same { OnOk result (S.honest source.old ≡ true → S.flash source.new ≡ S.flash source.old) }
-    ensures only_reads { OnlyReads S.flash S.honest S.calm S.programs S.erases S.failed source.old source.new }
-    ensures reads { OnOk result (S.reads source.old + (to - from) < 2 ^ 64 →
-        S.reads source.new ≡ S.reads source.old + (to - from)) }
-    ensures most_reads { S.reads source.new ≤ S.reads source.old + (to - from) }
-    ensures rose { OnErr result (HasRisen (S.failed source.old) (S.failed source.new)) }
+    ensures same { OnOk result (S.view.honest source.old ≡ true → S.view.flash source.new ≡ S.view.flash source.old) }
+    ensures only_reads { OnlyReads S.view source.old source.new }
+    ensures reads { OnOk result (S.view.reads source.old + (to - from) < 2 ^ 64 →
+        S.view.reads source.new ≡ S.view.reads source.old + (to - from)) }
+    ensures most_reads { S.view.reads source.new ≤ S.view.reads source.old + (to - from) }
+    ensures rose { OnErr result (HasRisen (S.view.failed source.old) (S.view.failed source.new)) }
 {
     let mut first = None;
     for row in from..to {
@@ -149,22 +149,22 @@ fn survey_block<S: PageSource>(
     spare: &mut [u8],
 ) -> Result<(bool, Option<u32>), SourceFault>
     requires within { block < geometry.now.blocks }
-    requires geometry { (S.flash source.old).geometry ≡ geometry.now }
+    requires geometry { (S.view.flash source.old).geometry ≡ geometry.now }
     requires body_whole { length body.old ≡ geometry.now.data_bytes }
     requires spare_whole { length spare.old ≡ geometry.now.spare_bytes }
-    ensures marked { IfOk result (λ found. S.honest source.old ≡ true →
-        found.0 ≡ is_marked geometry.now (S.flash source.old).image block) }
-    ensures first { IfOk result (λ found. S.honest source.old ≡ true →
-        IsFirst (is_used geometry.now (S.flash source.old).image) (block * geometry.now.pages)
+    ensures marked { IfOk result (λ found. S.view.honest source.old ≡ true →
+        found.0 ≡ is_marked geometry.now (S.view.flash source.old).image block) }
+    ensures first { IfOk result (λ found. S.view.honest source.old ≡ true →
+        IsFirst (is_used geometry.now (S.view.flash source.old).image) (block * geometry.now.pages)
         (block * geometry.now.pages + geometry.now.pages) found.1) }
     ensures row { IfOk result (λ found. IfSome found.1 (λ row. row < row_count geometry.now)) }
-    ensures same { OnOk result (S.honest source.old ≡ true → S.flash source.new ≡ S.flash source.old) }
-    ensures whole { OnOk result (S.honest source.old ≡ true → IsImage geometry.now (S.flash source.old).image) }
-    ensures only_reads { OnlyReads S.flash S.honest S.calm S.programs S.erases S.failed source.old source.new }
-    ensures reads { OnOk result (S.reads source.old + geometry.now.pages < 2 ^ 64 →
-        S.reads source.new ≡ S.reads source.old + geometry.now.pages) }
-    ensures most_reads { S.reads source.new ≤ S.reads source.old + geometry.now.pages }
-    ensures rose { OnErr result (HasRisen (S.failed source.old) (S.failed source.new)) }
+    ensures same { OnOk result (S.view.honest source.old ≡ true → S.view.flash source.new ≡ S.view.flash source.old) }
+    ensures whole { OnOk result (S.view.honest source.old ≡ true → IsImage geometry.now (S.view.flash source.old).image) }
+    ensures only_reads { OnlyReads S.view source.old source.new }
+    ensures reads { OnOk result (S.view.reads source.old + geometry.now.pages < 2 ^ 64 →
+        S.view.reads source.new ≡ S.view.reads source.old + geometry.now.pages) }
+    ensures most_reads { S.view.reads source.new ≤ S.view.reads source.old + geometry.now.pages }
+    ensures rose { OnErr result (HasRisen (S.view.failed source.old) (S.view.failed source.new)) }
 {
     let first_row = geometry.row(block, 0);
     let last_row = geometry.row(block, geometry.pages() - 1);
@@ -200,23 +200,23 @@ pub fn survey<S: PageSource>(
     body: &mut [u8],
     spare: &mut [u8],
 ) -> Result<Option<u32>, FormatFault>
-    requires geometry { (S.flash source.old).geometry ≡ geometry.now }
+    requires geometry { (S.view.flash source.old).geometry ≡ geometry.now }
     requires classes_whole { length classes.old ≡ geometry.now.blocks }
     requires body_whole { length body.old ≡ geometry.now.data_bytes }
     requires spare_whole { length spare.old ≡ geometry.now.spare_bytes }
-    ensures table { OnOk result (S.honest source.old ≡ true →
-        unworn classes.new ≡ table_after geometry.now (S.flash source.old).image []) }
-    ensures first { IfOk result (λ first. S.honest source.old ≡ true →
-        IsFirst (is_used geometry.now (S.flash source.old).image) 0 (row_count geometry.now) first) }
+    ensures table { OnOk result (S.view.honest source.old ≡ true →
+        unworn classes.new ≡ table_after geometry.now (S.view.flash source.old).image []) }
+    ensures first { IfOk result (λ first. S.view.honest source.old ≡ true →
+        IsFirst (is_used geometry.now (S.view.flash source.old).image) 0 (row_count geometry.now) first) }
     ensures row { IfOk result (λ first. IfSome first (λ row. row < row_count geometry.now)) }
     ensures only { IfErr result (λ fault. fault ≡ FormatFault.Bus) }
-    ensures same { OnOk result (S.honest source.old ≡ true → S.flash source.new ≡ S.flash source.old) }
-    ensures whole { OnOk result (S.honest source.old ≡ true → IsImage geometry.now (S.flash source.old).image) }
-    ensures only_reads { OnlyReads S.flash S.honest S.calm S.programs S.erases S.failed source.old source.new }
-    ensures reads { OnOk result (S.reads source.old + row_count geometry.now < 2 ^ 64 →
-        S.reads source.new ≡ S.reads source.old + row_count geometry.now) }
-    ensures most_reads { S.reads source.new ≤ S.reads source.old + row_count geometry.now }
-    ensures rose { OnErr result (HasRisen (S.failed source.old) (S.failed source.new)) }
+    ensures same { OnOk result (S.view.honest source.old ≡ true → S.view.flash source.new ≡ S.view.flash source.old) }
+    ensures whole { OnOk result (S.view.honest source.old ≡ true → IsImage geometry.now (S.view.flash source.old).image) }
+    ensures only_reads { OnlyReads S.view source.old source.new }
+    ensures reads { OnOk result (S.view.reads source.old + row_count geometry.now < 2 ^ 64 →
+        S.view.reads source.new ≡ S.view.reads source.old + row_count geometry.now) }
+    ensures most_reads { S.view.reads source.new ≤ S.view.reads source.old + row_count geometry.now }
+    ensures rose { OnErr result (HasRisen (S.view.failed source.old) (S.view.failed source.new)) }
 {
     let mut first = None;
     for block in 0..geometry.blocks() {

@@ -23,22 +23,22 @@ fn program_table<N: Nand>(
     body: &mut [u8],
     spare: &mut [u8],
 ) -> Result<Outcome, BusFault>
-    requires geometry { (N.flash nand.old).geometry ≡ geometry.now }
+    requires geometry { (N.view.flash nand.old).geometry ≡ geometry.now }
     requires block_in { block < geometry.now.blocks }
     requires page_in { u < table_pages geometry.now }
     requires body_whole { length body.old ≡ geometry.now.data_bytes }
     requires spare_whole { length spare.old ≡ geometry.now.spare_bytes }
-    ensures programmed { IfOk result (λ outcome. N.honest nand.old ≡ true →
-        IsTableProgram geometry.now (N.flash nand.old) (N.flash nand.new) (block * geometry.now.pages + u)
+    ensures programmed { IfOk result (λ outcome. N.view.honest nand.old ≡ true →
+        IsTableProgram geometry.now (N.view.flash nand.old) (N.view.flash nand.new) (block * geometry.now.pages + u)
         u sequence (unworn classes.now) outcome) }
-    ensures geometry { (N.flash nand.new).geometry ≡ (N.flash nand.old).geometry }
-    ensures honest { N.honest nand.new ≡ N.honest nand.old }
-    ensures calm { N.calm nand.new ≡ N.calm nand.old }
-    ensures reads { N.reads nand.new ≡ N.reads nand.old }
-    ensures programs { N.programs nand.new ≡ counted (N.programs nand.old) }
-    ensures erases { N.erases nand.new ≡ N.erases nand.old }
-    ensures failed { N.failed nand.old ≤ N.failed nand.new }
-    ensures rose { OnErr result (HasRisen (N.failed nand.old) (N.failed nand.new)) }
+    ensures geometry { (N.view.flash nand.new).geometry ≡ (N.view.flash nand.old).geometry }
+    ensures honest { N.view.honest nand.new ≡ N.view.honest nand.old }
+    ensures calm { N.view.calm nand.new ≡ N.view.calm nand.old }
+    ensures reads { N.view.reads nand.new ≡ N.view.reads nand.old }
+    ensures programs { N.view.programs nand.new ≡ counted (N.view.programs nand.old) }
+    ensures erases { N.view.erases nand.new ≡ N.view.erases nand.old }
+    ensures failed { N.view.failed nand.old ≤ N.view.failed nand.new }
+    ensures rose { OnErr result (HasRisen (N.view.failed nand.old) (N.view.failed nand.new)) }
 {
     let record = Record {
         kind: Kind::Table,
@@ -61,26 +61,26 @@ fn write_in_block<N: Nand>(
     body: &mut [u8],
     spare: &mut [u8],
 ) -> Result<Outcome, BusFault>
-    requires geometry { (N.flash nand.old).geometry ≡ geometry.now }
+    requires geometry { (N.view.flash nand.old).geometry ≡ geometry.now }
     requires block_in { block < geometry.now.blocks }
     requires good { is_good_at (unworn classes.now) block ≡ true }
     requires lowest { (lower : ℕ) → lower < block → is_good_at (unworn classes.now) lower ≡ false }
     requires sequences { sequence.old + table_pages geometry.now < 2 ^ 64 }
     requires body_whole { length body.old ≡ geometry.now.data_bytes }
     requires spare_whole { length spare.old ≡ geometry.now.spare_bytes }
-    ensures tries { IfOk result (λ outcome. N.honest nand.old ≡ true → (first : Flash) (failed : ℕ) →
-        IsTrying geometry.now first (N.flash nand.old) (unworn classes.now) block 0 sequence.old failed →
-        Tries geometry.now first (N.flash nand.new) (unworn classes.now) block sequence.new failed outcome) }
+    ensures tries { IfOk result (λ outcome. N.view.honest nand.old ≡ true → (first : Flash) (failed : ℕ) →
+        IsTrying geometry.now first (N.view.flash nand.old) (unworn classes.now) block 0 sequence.old failed →
+        Tries geometry.now first (N.view.flash nand.new) (unworn classes.now) block sequence.new failed outcome) }
     ensures sequences { sequence.new ≤ sequence.old + table_pages geometry.now }
-    ensures geometry { (N.flash nand.new).geometry ≡ (N.flash nand.old).geometry }
-    ensures honest { N.honest nand.new ≡ N.honest nand.old }
-    ensures calm { N.calm nand.new ≡ N.calm nand.old }
-    ensures reads { N.reads nand.new ≡ N.reads nand.old }
-    ensures programs { N.programs nand.new ≤ N.programs nand.old + table_pages geometry.now }
-    ensures tried { IfOk result (λ outcome. outcome ≡ Outcome.Failed → counted (N.programs nand.old) ≤ N.programs nand.new) }
-    ensures erases { N.erases nand.new ≡ N.erases nand.old }
-    ensures failed { N.failed nand.old ≤ N.failed nand.new }
-    ensures rose { OnErr result (HasRisen (N.failed nand.old) (N.failed nand.new)) }
+    ensures geometry { (N.view.flash nand.new).geometry ≡ (N.view.flash nand.old).geometry }
+    ensures honest { N.view.honest nand.new ≡ N.view.honest nand.old }
+    ensures calm { N.view.calm nand.new ≡ N.view.calm nand.old }
+    ensures reads { N.view.reads nand.new ≡ N.view.reads nand.old }
+    ensures programs { N.view.programs nand.new ≤ N.view.programs nand.old + table_pages geometry.now }
+    ensures tried { IfOk result (λ outcome. outcome ≡ Outcome.Failed → counted (N.view.programs nand.old) ≤ N.view.programs nand.new) }
+    ensures erases { N.view.erases nand.new ≡ N.view.erases nand.old }
+    ensures failed { N.view.failed nand.old ≤ N.view.failed nand.new }
+    ensures rose { OnErr result (HasRisen (N.view.failed nand.old) (N.view.failed nand.new)) }
 {
     for u in 0..geometry.table_pages() {
         let outcome = program_table(nand, geometry, classes, block, u, *sequence, body, spare)?;
@@ -146,22 +146,22 @@ pub fn write_tables<N: Nand>(
     body: &mut [u8],
     spare: &mut [u8],
 ) -> Result<u32, FormatFault>
-    requires geometry { (N.flash nand.old).geometry ≡ geometry.now }
+    requires geometry { (N.view.flash nand.old).geometry ≡ geometry.now }
     requires classes_whole { length classes.old ≡ geometry.now.blocks }
     requires body_whole { length body.old ≡ geometry.now.data_bytes }
     requires spare_whole { length spare.old ≡ geometry.now.spare_bytes }
-    ensures writes { N.honest nand.old ≡ true →
-        IsTrying geometry.now (N.flash nand.old) (N.flash nand.old) (unworn classes.old) 0 0 1 0 →
-        WritesFormat geometry.now (N.flash nand.old) (N.flash nand.new) result }
-    ensures answers { AnswersWrite geometry.now (N.programs nand.old) (N.programs nand.new) result }
-    ensures geometry { (N.flash nand.new).geometry ≡ (N.flash nand.old).geometry }
-    ensures honest { N.honest nand.new ≡ N.honest nand.old }
-    ensures calm { N.calm nand.new ≡ N.calm nand.old }
-    ensures reads { N.reads nand.new ≡ N.reads nand.old }
-    ensures programs { N.programs nand.new ≤ N.programs nand.old + 3 * table_pages geometry.now }
-    ensures erases { N.erases nand.new ≡ N.erases nand.old }
-    ensures failed { N.failed nand.old ≤ N.failed nand.new }
-    ensures rose { IsErrOf result FormatFault.Bus → HasRisen (N.failed nand.old) (N.failed nand.new) }
+    ensures writes { N.view.honest nand.old ≡ true →
+        IsTrying geometry.now (N.view.flash nand.old) (N.view.flash nand.old) (unworn classes.old) 0 0 1 0 →
+        WritesFormat geometry.now (N.view.flash nand.old) (N.view.flash nand.new) result }
+    ensures answers { AnswersWrite geometry.now (N.view.programs nand.old) (N.view.programs nand.new) result }
+    ensures geometry { (N.view.flash nand.new).geometry ≡ (N.view.flash nand.old).geometry }
+    ensures honest { N.view.honest nand.new ≡ N.view.honest nand.old }
+    ensures calm { N.view.calm nand.new ≡ N.view.calm nand.old }
+    ensures reads { N.view.reads nand.new ≡ N.view.reads nand.old }
+    ensures programs { N.view.programs nand.new ≤ N.view.programs nand.old + 3 * table_pages geometry.now }
+    ensures erases { N.view.erases nand.new ≡ N.view.erases nand.old }
+    ensures failed { N.view.failed nand.old ≤ N.view.failed nand.new }
+    ensures rose { IsErrOf result FormatFault.Bus → HasRisen (N.view.failed nand.old) (N.view.failed nand.new) }
 {
     let mut sequence = 1;
     for _failures in 0..TRIES {

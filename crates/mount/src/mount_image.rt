@@ -65,23 +65,23 @@ pub fn mount_counted<S: PageSource>(
     geometry: &Geometry,
     capacity: u32,
 ) -> Result<Mounted, Refusal>
-    requires same_geometry { (S.flash source.old).geometry ≡ geometry.now }
+    requires same_geometry { (S.view.flash source.old).geometry ≡ geometry.now }
     requires least { 1 ≤ capacity }
     requires most { capacity ≤ 65536 }
     // The truth of the answer, for a source that keeps its promises.
-    ensures ok { IfOk result (λ mounted. S.honest source.old ≡ true → IsMounted geometry.now capacity (S.flash source.old).image mounted.certificate) }
-    ensures stale { IfOk result (λ mounted. S.honest source.old ≡ true → mounted.stale.items ≡ stale_sectors geometry.now (S.flash source.old).image) }
-    ensures whole { OnOk result (S.honest source.old ≡ true → IsImage geometry.now (S.flash source.old).image) }
-    ensures err { IfErr result (λ refusal. S.honest source.old ≡ true → Refuses geometry.now capacity (S.flash source.old).image refusal) }
-    ensures same { result ≢ Err Refusal.Source → S.honest source.old ≡ true → S.flash source.new ≡ S.flash source.old }
+    ensures ok { IfOk result (λ mounted. S.view.honest source.old ≡ true → IsMounted geometry.now capacity (S.view.flash source.old).image mounted.certificate) }
+    ensures stale { IfOk result (λ mounted. S.view.honest source.old ≡ true → mounted.stale.items ≡ stale_sectors geometry.now (S.view.flash source.old).image) }
+    ensures whole { OnOk result (S.view.honest source.old ≡ true → IsImage geometry.now (S.view.flash source.old).image) }
+    ensures err { IfErr result (λ refusal. S.view.honest source.old ≡ true → Refuses geometry.now capacity (S.view.flash source.old).image refusal) }
+    ensures same { result ≢ Err Refusal.Source → S.view.honest source.old ≡ true → S.view.flash source.new ≡ S.view.flash source.old }
     // Whatever the source does.
     ensures few { IfOk result (λ mounted. length mounted.stale.items ≤ capacity) }
     ensures rising { IfOk result (λ mounted. IsRisingBelow geometry.now.sectors mounted.stale.items) }
     ensures asked { IfOk result (λ mounted. IsAsked geometry.now capacity mounted.certificate) }
     ensures only { IfErr result IsOfMounting }
-    ensures only_reads { OnlyReads S.flash S.honest S.calm S.programs S.erases S.failed source.old source.new }
-    ensures reads { S.reads source.new ≤ S.reads source.old + (row_count geometry.now + translation_pages geometry.now) }
-    ensures rose { result ≡ Err Refusal.Source → HasRisen (S.failed source.old) (S.failed source.new) }
+    ensures only_reads { OnlyReads S.view source.old source.new }
+    ensures reads { S.view.reads source.new ≤ S.view.reads source.old + (row_count geometry.now + translation_pages geometry.now) }
+    ensures rose { result ≡ Err Refusal.Source → HasRisen (S.view.failed source.old) (S.view.failed source.new) }
 {
     let pages = geometry.translation_pages() + geometry.table_pages();
     let mut sectors = Vec::with_capacity(alloc, geometry.sectors() as usize)?;
@@ -137,19 +137,19 @@ pub fn mount<S: PageSource>(
     geometry: &Geometry,
     capacity: u32,
 ) -> Result<Certificate, Refusal>
-    requires same_geometry { (S.flash source.old).geometry ≡ geometry.now }
+    requires same_geometry { (S.view.flash source.old).geometry ≡ geometry.now }
     requires least { 1 ≤ capacity }
     requires most { capacity ≤ 65536 }
     // The truth of the answer, for a source that keeps its promises.
-    ensures ok { IfOk result (λ certificate. S.honest source.old ≡ true → IsMounted geometry.now capacity (S.flash source.old).image certificate) }
-    ensures err { IfErr result (λ refusal. S.honest source.old ≡ true → Refuses geometry.now capacity (S.flash source.old).image refusal) }
-    ensures same { result ≢ Err Refusal.Source → S.honest source.old ≡ true → S.flash source.new ≡ S.flash source.old }
+    ensures ok { IfOk result (λ certificate. S.view.honest source.old ≡ true → IsMounted geometry.now capacity (S.view.flash source.old).image certificate) }
+    ensures err { IfErr result (λ refusal. S.view.honest source.old ≡ true → Refuses geometry.now capacity (S.view.flash source.old).image refusal) }
+    ensures same { result ≢ Err Refusal.Source → S.view.honest source.old ≡ true → S.view.flash source.new ≡ S.view.flash source.old }
     // Whatever the source does.
     ensures asked { IfOk result (IsAsked geometry.now capacity) }
     ensures only { IfErr result IsOfMounting }
-    ensures only_reads { OnlyReads S.flash S.honest S.calm S.programs S.erases S.failed source.old source.new }
-    ensures reads { S.reads source.new ≤ S.reads source.old + (row_count geometry.now + translation_pages geometry.now) }
-    ensures rose { result ≡ Err Refusal.Source → HasRisen (S.failed source.old) (S.failed source.new) }
+    ensures only_reads { OnlyReads S.view source.old source.new }
+    ensures reads { S.view.reads source.new ≤ S.view.reads source.old + (row_count geometry.now + translation_pages geometry.now) }
+    ensures rose { result ≡ Err Refusal.Source → HasRisen (S.view.failed source.old) (S.view.failed source.new) }
 {
     let Mounted { certificate, .. } = mount_counted(alloc, source, geometry, capacity)?;
     Ok(certificate)

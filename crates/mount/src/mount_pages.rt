@@ -36,17 +36,17 @@ fn survey_pages<S: PageSource>(
     body: &mut [u8],
     spare: &mut [u8],
 ) -> Result<Survey, Refusal>
-    requires same_geometry { (S.flash source.old).geometry ≡ geometry.now }
+    requires same_geometry { (S.view.flash source.old).geometry ≡ geometry.now }
     requires body_whole { length body.old ≡ geometry.now.data_bytes }
     requires spare_whole { length spare.old ≡ geometry.now.spare_bytes }
     ensures sized { IfOk result (IsSized geometry.now (row_count geometry.now)) }
-    ensures surveys { IfOk result (λ survey. S.honest source.old ≡ true → Surveys geometry.now (S.flash source.old).image survey) }
-    ensures whole { OnOk result (S.honest source.old ≡ true → IsImage geometry.now (S.flash source.old).image) }
+    ensures surveys { IfOk result (λ survey. S.view.honest source.old ≡ true → Surveys geometry.now (S.view.flash source.old).image survey) }
+    ensures whole { OnOk result (S.view.honest source.old ≡ true → IsImage geometry.now (S.view.flash source.old).image) }
     ensures stops { IfErr result IsStop }
-    ensures same { result ≢ Err Refusal.Source → S.honest source.old ≡ true → S.flash source.new ≡ S.flash source.old }
-    ensures only_reads { OnlyReads S.flash S.honest S.calm S.programs S.erases S.failed source.old source.new }
-    ensures reads { S.reads source.new ≤ S.reads source.old + row_count geometry.now }
-    ensures rose { result ≡ Err Refusal.Source → HasRisen (S.failed source.old) (S.failed source.new) }
+    ensures same { result ≢ Err Refusal.Source → S.view.honest source.old ≡ true → S.view.flash source.new ≡ S.view.flash source.old }
+    ensures only_reads { OnlyReads S.view source.old source.new }
+    ensures reads { S.view.reads source.new ≤ S.view.reads source.old + row_count geometry.now }
+    ensures rose { result ≡ Err Refusal.Source → HasRisen (S.view.failed source.old) (S.view.failed source.new) }
 {
     let mut survey = Survey::new(alloc, geometry)?;
     for row in 0..geometry.rows() {
@@ -80,18 +80,18 @@ pub(crate) fn show_pages<S: PageSource>(
     body: &mut [u8],
     spare: &mut [u8],
 ) -> Result<Shown, Refusal>
-    requires same_geometry { (S.flash source.old).geometry ≡ geometry.now }
+    requires same_geometry { (S.view.flash source.old).geometry ≡ geometry.now }
     requires body_whole { length body.old ≡ geometry.now.data_bytes }
     requires spare_whole { length spare.old ≡ geometry.now.spare_bytes }
     ensures sized { IfOk result (IsShownSized geometry.now) }
-    ensures shown { IfOk result (λ shown. S.honest source.old ≡ true → IsShown geometry.now (S.flash source.old).image shown) }
-    ensures whole { OnOk result (S.honest source.old ≡ true → IsImage geometry.now (S.flash source.old).image) }
-    ensures err { IfErr result (λ refusal. S.honest source.old ≡ true → (capacity : ℕ) → Refuses geometry.now capacity (S.flash source.old).image refusal) }
+    ensures shown { IfOk result (λ shown. S.view.honest source.old ≡ true → IsShown geometry.now (S.view.flash source.old).image shown) }
+    ensures whole { OnOk result (S.view.honest source.old ≡ true → IsImage geometry.now (S.view.flash source.old).image) }
+    ensures err { IfErr result (λ refusal. S.view.honest source.old ≡ true → (capacity : ℕ) → Refuses geometry.now capacity (S.view.flash source.old).image refusal) }
     ensures only { IfErr result IsOfMounting }
-    ensures same { result ≢ Err Refusal.Source → S.honest source.old ≡ true → S.flash source.new ≡ S.flash source.old }
-    ensures only_reads { OnlyReads S.flash S.honest S.calm S.programs S.erases S.failed source.old source.new }
-    ensures reads { S.reads source.new ≤ S.reads source.old + row_count geometry.now }
-    ensures rose { result ≡ Err Refusal.Source → HasRisen (S.failed source.old) (S.failed source.new) }
+    ensures same { result ≢ Err Refusal.Source → S.view.honest source.old ≡ true → S.view.flash source.new ≡ S.view.flash source.old }
+    ensures only_reads { OnlyReads S.view source.old source.new }
+    ensures reads { S.view.reads source.new ≤ S.view.reads source.old + row_count geometry.now }
+    ensures rose { result ≡ Err Refusal.Source → HasRisen (S.view.failed source.old) (S.view.failed source.new) }
 {
     let mut survey = survey_pages(alloc, source, geometry, body, spare)?;
     let blocks = describe_blocks(alloc, &mut survey)?;

@@ -117,21 +117,16 @@ impl<B: Bus> Driver<B> {
 }
 
 impl<B: Bus> PageSource for Driver<B> {
-    ghost flash = { λ d. flash_by B.die d };
-
-    ghost honest = { λ d. B.honest d.bus };
-
-    ghost reads = { λ d. d.reads };
-
-    ghost programs = { λ d. d.programs };
-
-    ghost erases = { λ d. d.erases };
-
-    ghost failed = { λ d. d.failures };
-
-    ghost calm = { λ d. B.calm d.bus };
-
-    ghost recorded = { λ d. Some d.told };
+    ghost view = { record {
+        flash = λ d. flash_by B.die d;
+        recorded = λ d. Some d.told;
+        honest = λ d. B.honest d.bus;
+        calm = λ d. B.calm d.bus;
+        reads = λ d. d.reads;
+        programs = λ d. d.programs;
+        erases = λ d. d.erases;
+        failed = λ d. d.failures;
+    } };
 
     /// Reads a page: 00h, five address cycles with column 0, 30h, then `body` and `spare` out. A fault of the bus is answered by
     /// its number, 1 to 6; of an honest bus it is 6, the device's. After it the buffers hold anything. (ONFI 1.0, Read; the

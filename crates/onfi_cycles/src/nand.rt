@@ -77,37 +77,37 @@ pub trait Nand: PageSource {
     /// Programs the page of a row with the bytes of its data area and its spare area. After an `Err` nothing is known of the pages,
     /// and the count of failures has risen or stands at 2^64 - 1.
     fn program(&mut self, row: u32, body: &[u8], spare: &[u8]) -> Result<Outcome, BusFault>
-        requires row_in { row < row_count (Self.flash self.old).geometry }
-        requires body_whole { length body.now ≡ (Self.flash self.old).geometry.data_bytes }
-        requires spare_whole { length spare.now ≡ (Self.flash self.old).geometry.spare_bytes }
-        ensures step { IfOk result (λ outcome. Self.honest self.old ≡ true →
-            Steps (Self.flash self.old) (Program row (page body.now spare.now) (is_passed outcome) (page_at (Self.flash self.new) row)) (Self.flash self.new)) }
-        ensures recorded { IfOk result (λ outcome. Self.honest self.old ≡ true →
-            Records (Self.recorded self.old) (Program row (page body.now spare.now) (is_passed outcome) (page_at (Self.flash self.new) row) ∷ []) (Self.recorded self.new)) }
-        ensures whole { OnOk result (Self.honest self.old ≡ true → IsWhole (Self.flash self.new)) }
-        ensures geometry { (Self.flash self.new).geometry ≡ (Self.flash self.old).geometry }
-        ensures honest { Self.honest self.new ≡ Self.honest self.old }
-        ensures calm { Self.calm self.new ≡ Self.calm self.old }
-        ensures reads { Self.reads self.new ≡ Self.reads self.old }
-        ensures programs { Self.programs self.new ≡ counted (Self.programs self.old) }
-        ensures erases { Self.erases self.new ≡ Self.erases self.old }
-        ensures failed { Self.failed self.old ≤ Self.failed self.new }
-        ensures rose { OnErr result (HasRisen (Self.failed self.old) (Self.failed self.new)) };
+        requires row_in { row < row_count (Self.view.flash self.old).geometry }
+        requires body_whole { length body.now ≡ (Self.view.flash self.old).geometry.data_bytes }
+        requires spare_whole { length spare.now ≡ (Self.view.flash self.old).geometry.spare_bytes }
+        ensures step { IfOk result (λ outcome. Self.view.honest self.old ≡ true →
+            Steps (Self.view.flash self.old) (Program row (page body.now spare.now) (is_passed outcome) (page_at (Self.view.flash self.new) row)) (Self.view.flash self.new)) }
+        ensures recorded { IfOk result (λ outcome. Self.view.honest self.old ≡ true →
+            Records (Self.view.recorded self.old) (Program row (page body.now spare.now) (is_passed outcome) (page_at (Self.view.flash self.new) row) ∷ []) (Self.view.recorded self.new)) }
+        ensures whole { OnOk result (Self.view.honest self.old ≡ true → IsWhole (Self.view.flash self.new)) }
+        ensures geometry { (Self.view.flash self.new).geometry ≡ (Self.view.flash self.old).geometry }
+        ensures honest { Self.view.honest self.new ≡ Self.view.honest self.old }
+        ensures calm { Self.view.calm self.new ≡ Self.view.calm self.old }
+        ensures reads { Self.view.reads self.new ≡ Self.view.reads self.old }
+        ensures programs { Self.view.programs self.new ≡ counted (Self.view.programs self.old) }
+        ensures erases { Self.view.erases self.new ≡ Self.view.erases self.old }
+        ensures failed { Self.view.failed self.old ≤ Self.view.failed self.new }
+        ensures rose { OnErr result (HasRisen (Self.view.failed self.old) (Self.view.failed self.new)) };
 
     /// Erases a block. After an `Err` nothing is known of the pages, and the count of failures has risen or stands at 2^64 - 1.
     fn erase(&mut self, block: u32) -> Result<Outcome, BusFault>
-        requires block_in { block < (Self.flash self.old).geometry.blocks }
-        ensures step { IfOk result (λ outcome. Self.honest self.old ≡ true →
-            Steps (Self.flash self.old) (Erase block (is_passed outcome) (block_at (Self.flash self.new) block)) (Self.flash self.new)) }
-        ensures recorded { IfOk result (λ outcome. Self.honest self.old ≡ true →
-            Records (Self.recorded self.old) (Erase block (is_passed outcome) (block_at (Self.flash self.new) block) ∷ []) (Self.recorded self.new)) }
-        ensures whole { OnOk result (Self.honest self.old ≡ true → IsWhole (Self.flash self.new)) }
-        ensures geometry { (Self.flash self.new).geometry ≡ (Self.flash self.old).geometry }
-        ensures honest { Self.honest self.new ≡ Self.honest self.old }
-        ensures calm { Self.calm self.new ≡ Self.calm self.old }
-        ensures reads { Self.reads self.new ≡ Self.reads self.old }
-        ensures programs { Self.programs self.new ≡ Self.programs self.old }
-        ensures erases { Self.erases self.new ≡ counted (Self.erases self.old) }
-        ensures failed { Self.failed self.old ≤ Self.failed self.new }
-        ensures rose { OnErr result (HasRisen (Self.failed self.old) (Self.failed self.new)) };
+        requires block_in { block < (Self.view.flash self.old).geometry.blocks }
+        ensures step { IfOk result (λ outcome. Self.view.honest self.old ≡ true →
+            Steps (Self.view.flash self.old) (Erase block (is_passed outcome) (block_at (Self.view.flash self.new) block)) (Self.view.flash self.new)) }
+        ensures recorded { IfOk result (λ outcome. Self.view.honest self.old ≡ true →
+            Records (Self.view.recorded self.old) (Erase block (is_passed outcome) (block_at (Self.view.flash self.new) block) ∷ []) (Self.view.recorded self.new)) }
+        ensures whole { OnOk result (Self.view.honest self.old ≡ true → IsWhole (Self.view.flash self.new)) }
+        ensures geometry { (Self.view.flash self.new).geometry ≡ (Self.view.flash self.old).geometry }
+        ensures honest { Self.view.honest self.new ≡ Self.view.honest self.old }
+        ensures calm { Self.view.calm self.new ≡ Self.view.calm self.old }
+        ensures reads { Self.view.reads self.new ≡ Self.view.reads self.old }
+        ensures programs { Self.view.programs self.new ≡ Self.view.programs self.old }
+        ensures erases { Self.view.erases self.new ≡ counted (Self.view.erases self.old) }
+        ensures failed { Self.view.failed self.old ≤ Self.view.failed self.new }
+        ensures rose { OnErr result (HasRisen (Self.view.failed self.old) (Self.view.failed self.new)) };
 }

@@ -27,38 +27,22 @@ pub enum ImageFault {
 /// image and leaves it as it is. A source stays honest or not for good. Of another source nothing is
 /// known but how often it was read, and that each fault raises its count of faults.
 pub trait PageSource {
-    ghost use Rattle.std.specs.Prelude.{◌≡◌, ◌<◌, ◌≤◌, ℕ, Bool, true, false, length, slice_get, OnOk, OnErr, Option, Some, None};
+    ghost use Rattle.std.specs.Prelude.{◌≡◌, ◌<◌, ◌≤◌, true, length, slice_get, OnOk, OnErr, Some};
     ghost use Rattle.page_layout.specs.Page.{page, IsImage};
-    ghost use Rattle.page_layout.specs.Recording.{Recording};
-    ghost use Rattle.page_layout.specs.Flash.{Flash};
+    ghost use Rattle.page_layout.specs.View.{View};
     ghost use Rattle.page_layout.specs.Counter.{counted, HasRisen};
 
-    /// What stands in it: its geometry, its pages and, for a die, whose turn it is in each block. A
-    /// source that is no die has no turns.
-    ghost flash: { Self → Flash };
-
-    /// Whether it is honest.
-    ghost honest: { Self → Bool };
-
-    /// The page reads so far, failed ones too. This and each other count stays at `2^64 - 1` once
-    /// there.
-    ghost reads: { Self → ℕ };
-
-    /// The programs asked for so far.
-    ghost programs: { Self → ℕ };
-
-    /// The erases asked for so far.
-    ghost erases: { Self → ℕ };
-
-    /// The faults so far.
-    ghost failed: { Self → ℕ };
-
-    /// A word that a source may give to a die that nothing can make fail. Of any source this only says that no call changes it; what it
-    /// means stands in the contract of the type that defines it.
-    ghost calm: { Self → Bool } = { λ _. false };
-
-    /// The record that it tells of its programs and erases, or none. None claims nothing.
-    ghost recorded: { Self → Option Recording } = { λ _. None };
+    /// What contracts say of it, each word by its name.
+    ///
+    /// - `flash`, what stands in it: its geometry, its pages and, for a die, whose turn it is in each block. A source that is no die has
+    ///   no turns.
+    /// - `recorded`, the record that it tells of its programs and erases, or none. None claims nothing.
+    /// - `honest`: whether it is honest.
+    /// - `calm`, a word that a source may give to a die that nothing can make fail. Of any source this only says that no call changes
+    ///   it; what it means stands in the contract of the type that defines it.
+    /// - `reads`, `programs`, `erases`: what was asked for so far, failed ones too; `failed`: the faults so far. Each of these counts stays
+    ///   at `2^64 - 1` once there.
+    ghost view: { View Self };
 
     /// Reads the page of a row: its data area into `body` and its spare area into `spare`, whose
     /// lengths are those of the geometry. It programs and erases nothing.
@@ -68,25 +52,25 @@ pub trait PageSource {
     /// A fault comes only where the count of faults rises or stands at its greatest value. The
     /// buffers then hold anything, and nothing is known of the image.
     fn read_page(&mut self, row: u32, body: &mut [u8], spare: &mut [u8]) -> Result<(), SourceFault>
-        requires row_in { row < row_count (flash self.old).geometry }
-        requires body_whole { length body.old ≡ (flash self.old).geometry.data_bytes }
-        requires spare_whole { length spare.old ≡ (flash self.old).geometry.spare_bytes }
-        ensures page { OnOk result (honest self.old ≡ true → slice_get (flash self.old).image row ≡ Some (page body.new spare.new)) }
-        ensures same { OnOk result (honest self.old ≡ true → flash self.new ≡ flash self.old) }
-        ensures whole { OnOk result (honest self.old ≡ true → IsImage (flash self.new).geometry (flash self.new).image) }
-        ensures recorded { OnOk result (honest self.old ≡ true → recorded self.new ≡ recorded self.old) }
-        ensures geometry { (flash self.new).geometry ≡ (flash self.old).geometry }
-        ensures honest { honest self.new ≡ honest self.old }
-        ensures calm { calm self.new ≡ calm self.old }
-        ensures reads { reads self.new ≡ counted (reads self.old) }
-        ensures programs { programs self.new ≡ programs self.old }
-        ensures erases { erases self.new ≡ erases self.old }
-        ensures failed { failed self.old ≤ failed self.new }
-        ensures rose { OnErr result (HasRisen (failed self.old) (failed self.new)) };
+        requires row_in { row < row_count (view.flash self.old).geometry }
+        requires body_whole { length body.old ≡ (view.flash self.old).geometry.data_bytes }
+        requires spare_whole { length spare.old ≡ (view.flash self.old).geometry.spare_bytes }
+        ensures page { OnOk result (view.honest self.old ≡ true → slice_get (view.flash self.old).image row ≡ Some (page body.new spare.new)) }
+        ensures same { OnOk result (view.honest self.old ≡ true → view.flash self.new ≡ view.flash self.old) }
+        ensures whole { OnOk result (view.honest self.old ≡ true → IsImage (view.flash self.new).geometry (view.flash self.new).image) }
+        ensures recorded { OnOk result (view.honest self.old ≡ true → view.recorded self.new ≡ view.recorded self.old) }
+        ensures geometry { (view.flash self.new).geometry ≡ (view.flash self.old).geometry }
+        ensures honest { view.honest self.new ≡ view.honest self.old }
+        ensures calm { view.calm self.new ≡ view.calm self.old }
+        ensures reads { view.reads self.new ≡ counted (view.reads self.old) }
+        ensures programs { view.programs self.new ≡ view.programs self.old }
+        ensures erases { view.erases self.new ≡ view.erases self.old }
+        ensures failed { view.failed self.old ≤ view.failed self.new }
+        ensures rose { OnErr result (HasRisen (view.failed self.old) (view.failed self.new)) };
 
     /// The faults so far.
     fn failures(&self) -> u64
-        ensures { result ≡ failed self.now };
+        ensures { result ≡ view.failed self.now };
 }
 
 /// The pages of a raw image in memory: in row order, each its data area and then its spare area. It is
@@ -162,21 +146,20 @@ impl<'a> ImageSlice<'a> {
 }
 
 impl PageSource for ImageSlice<'_> {
-    ghost use Rattle.std.specs.Prelude.{true, ◌≡◌, ◌<◌, IsOk, length, slice_get, Some};
+    ghost use Rattle.std.specs.Prelude.{true, ◌≡◌, ◌<◌, IsOk, length, slice_get, Some, None, false};
     ghost use Rattle.page_layout.specs.Page.{page, IsImage};
     ghost use Rattle.page_layout.specs.Counter.{counted};
 
-    ghost flash = { λ s. s.flash };
-
-    ghost honest = { λ _. true };
-
-    ghost reads = { λ s. s.reads };
-
-    ghost programs = { λ _. 0 };
-
-    ghost erases = { λ _. 0 };
-
-    ghost failed = { λ _. 0 };
+    ghost view = { record {
+        flash = λ s. s.flash;
+        recorded = λ _. None;
+        honest = λ _. true;
+        calm = λ _. false;
+        reads = λ s. s.reads;
+        programs = λ _. 0;
+        erases = λ _. 0;
+        failed = λ _. 0;
+    } };
 
     fn read_page(&mut self, row: u32, body: &mut [u8], spare: &mut [u8]) -> Result<(), SourceFault>
         requires row_in { row < row_count self.old.flash.geometry }

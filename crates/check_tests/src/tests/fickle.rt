@@ -16,19 +16,18 @@ pub struct Fickle<'a> {
 }
 
 impl PageSource for Fickle<'_> {
-    ghost use Rattle.std.specs.Prelude.{false};
+    ghost use Rattle.std.specs.Prelude.{false, None};
 
-    ghost flash = { λ s. s.first.flash };
-
-    ghost honest = { λ _. false };
-
-    ghost reads = { λ s. s.first.reads };
-
-    ghost programs = { λ _. 0 };
-
-    ghost erases = { λ _. 0 };
-
-    ghost failed = { λ _. 0 };
+    ghost view = { record {
+        flash = λ s. s.first.flash;
+        recorded = λ _. None;
+        honest = λ _. false;
+        calm = λ _. false;
+        reads = λ s. s.first.reads;
+        programs = λ _. 0;
+        erases = λ _. 0;
+        failed = λ _. 0;
+    } };
 
     fn read_page(
         &mut self,

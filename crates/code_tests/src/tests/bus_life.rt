@@ -119,11 +119,11 @@ fn wanted(geometry: &Geometry, held: Held) -> ([u8; 64], [u8; 32])
 
 // Whether a row is read as the list has it.
 fn holds<N: Nand>(rt: &impl Abort, nand: &mut N, geometry: &Geometry, row: u32, held: Held) -> bool
-    requires is { (N.flash nand.old).geometry ≡ geometry.now }
+    requires is { (N.view.flash nand.old).geometry ≡ geometry.now }
     requires rows { row_count geometry.now ≡ 512 }
     requires data_bytes { geometry.now.data_bytes ≡ 64 }
     requires spare_bytes { geometry.now.spare_bytes ≡ 32 }
-    ensures { (N.flash nand.new).geometry ≡ geometry.now }
+    ensures { (N.view.flash nand.new).geometry ≡ geometry.now }
 {
     assert!(rt; row < 512);
     let mut body = [1; 64];
@@ -141,11 +141,11 @@ fn compare<N: Nand>(
     first: u32,
     count: u32,
 )
-    requires is { (N.flash nand.old).geometry ≡ geometry.now }
+    requires is { (N.view.flash nand.old).geometry ≡ geometry.now }
     requires rows { row_count geometry.now ≡ 512 }
     requires data_bytes { geometry.now.data_bytes ≡ 64 }
     requires spare_bytes { geometry.now.spare_bytes ≡ 32 }
-    ensures { (N.flash nand.new).geometry ≡ geometry.now }
+    ensures { (N.view.flash nand.new).geometry ≡ geometry.now }
 {
     for i in 0..count {
         let row = first.wrapping_add(i);
@@ -167,11 +167,11 @@ fn program<N: Nand>(
     page: u32,
     number: u8,
 )
-    requires is { (N.flash nand.old).geometry ≡ geometry.now }
+    requires is { (N.view.flash nand.old).geometry ≡ geometry.now }
     requires rows { row_count geometry.now ≡ 512 }
     requires data_bytes { geometry.now.data_bytes ≡ 64 }
     requires spare_bytes { geometry.now.spare_bytes ≡ 32 }
-    ensures { (N.flash nand.new).geometry ≡ geometry.now }
+    ensures { (N.view.flash nand.new).geometry ≡ geometry.now }
 {
     assert!(rt; block < 16 && page < 32);
     let row = block * 32 + page;
@@ -189,9 +189,9 @@ fn program<N: Nand>(
 
 // Erases a block.
 fn erase<N: Nand>(rt: &impl Abort, nand: &mut N, geometry: &Geometry, list: &mut List, block: u32)
-    requires is { (N.flash nand.old).geometry ≡ geometry.now }
+    requires is { (N.view.flash nand.old).geometry ≡ geometry.now }
     requires blocks { geometry.now.blocks ≡ 16 }
-    ensures { (N.flash nand.new).geometry ≡ geometry.now }
+    ensures { (N.view.flash nand.new).geometry ≡ geometry.now }
 {
     assert!(rt; block < 16);
     match nand.erase(block) {
@@ -211,12 +211,12 @@ fn erase<N: Nand>(rt: &impl Abort, nand: &mut N, geometry: &Geometry, list: &mut
 
 // Programs the page that is due in a block that is drawn, or erases it: where it is full, or one in sixteen.
 fn change<N: Nand>(rt: &impl Abort, nand: &mut N, geometry: &Geometry, list: &mut List, drawn: u64)
-    requires is { (N.flash nand.old).geometry ≡ geometry.now }
+    requires is { (N.view.flash nand.old).geometry ≡ geometry.now }
     requires blocks { geometry.now.blocks ≡ 16 }
     requires rows { row_count geometry.now ≡ 512 }
     requires data_bytes { geometry.now.data_bytes ≡ 64 }
     requires spare_bytes { geometry.now.spare_bytes ≡ 32 }
-    ensures { (N.flash nand.new).geometry ≡ geometry.now }
+    ensures { (N.view.flash nand.new).geometry ≡ geometry.now }
 {
     let block = (drawn % 16) as u32;
     match list.due(block) {
@@ -239,12 +239,12 @@ fn change<N: Nand>(rt: &impl Abort, nand: &mut N, geometry: &Geometry, list: &mu
 
 // So many changes, and all rows compared.
 fn live<N: Nand>(rt: &impl Abort, nand: &mut N, geometry: &Geometry, list: &mut List)
-    requires is { (N.flash nand.old).geometry ≡ geometry.now }
+    requires is { (N.view.flash nand.old).geometry ≡ geometry.now }
     requires blocks { geometry.now.blocks ≡ 16 }
     requires rows { row_count geometry.now ≡ 512 }
     requires data_bytes { geometry.now.data_bytes ≡ 64 }
     requires spare_bytes { geometry.now.spare_bytes ≡ 32 }
-    ensures { (N.flash nand.new).geometry ≡ geometry.now }
+    ensures { (N.view.flash nand.new).geometry ≡ geometry.now }
 {
     let mut drawn = 0x9e37_79b9_7f4a_7c15;
     'changes: for _ in 0..CHANGES {

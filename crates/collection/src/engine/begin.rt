@@ -62,12 +62,12 @@ impl<N: Nand> Engine<N> {
         mapping: Mapping,
         next: u64,
     ) -> Result<Engine<N>, (N, AllocError)>
-        requires same_geometry { (N.flash nand).geometry ≡ geometry.now }
+        requires same_geometry { (N.view.flash nand).geometry ≡ geometry.now }
         requires blocks_of { (state blocks).geometry ≡ geometry.now }
         requires mapping_of { mapping.geometry ≡ geometry.now }
         requires directory { length directory ≡ translation_pages geometry.now + table_pages geometry.now }
         requires rows { (k row : ℕ) → slice_get directory k ≡ Some (Some row) → row < row_count geometry.now }
-        ensures safe { IfOk result (λ engine. IsSafe N.flash engine) }
+        ensures safe { IfOk result (λ engine. IsSafe N.view.flash engine) }
         ensures die { MatchResult result (λ engine. engine.nand ≡ nand) (λ refused. refused.0 ≡ nand) }
         ensures memory { IfOk result (λ engine. ram engine ≡ record {
           geometry = geometry.now;

@@ -25,10 +25,10 @@ impl<N: Nand> Engine<N> {
     ///
     /// Source: the cached mapping table of the DFTL paper; the moved sectors are this project's.
     pub fn cache_sector(&mut self, sector: u32, row: Option<u32>) -> Result<(), LoadFault>
-        requires safe { IsSafe N.flash self.old }
+        requires safe { IsSafe N.view.flash self.old }
         requires room { CanLoad self.old.mapping sector }
         requires entry { IsEntryOf self.old.geometry sector row }
-        ensures safe { IsSafe N.flash self.new }
+        ensures safe { IsSafe N.view.flash self.new }
         ensures loaded { OnOk result (self.new ≡ record self.old { mapping = loaded self.old.mapping sector row }) }
         ensures refused { OnErr result (self.new ≡ self.old) }
         ensures cached { IsSome (slot_of self.old.mapping sector) → IsOk result }

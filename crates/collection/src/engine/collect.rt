@@ -33,7 +33,7 @@ impl<N: Nand> Engine<N> {
     /// Whether a block is closed: good, and neither free nor open. Such a block can be collected.
     /// (This project.)
     pub fn closed(&self, block: u32) -> bool
-        requires safe { IsSafe N.flash self.now }
+        requires safe { IsSafe N.view.flash self.now }
         requires block { block < self.now.geometry.blocks }
         ensures { result ≡ is_closed (ram self.now).blocks block }
     {
@@ -42,11 +42,11 @@ impl<N: Nand> Engine<N> {
 
     // Goes on with the collection of the pinned block until it is erased, whatever fault stands.
     pub(crate) fn collect_from(&mut self, pinned: Pinned, flushing: bool) -> Result<(), EngineFault>
-        requires safe { IsSafe N.flash self.old }
+        requires safe { IsSafe N.view.flash self.old }
         requires pinned { self.old.pinned ≡ Some pinned }
         requires half_done { IsHalfDone (ram self.old) pinned }
         requires unmarked { (ram self.old).pin.marks ≡ replicate (translation_pages self.old.geometry) false }
-        ensures acts { EngineActs N.flash N.recorded N.honest N.calm N.failed self.old self.new result }
+        ensures acts { EngineActs N.view self.old self.new result }
         ensures idle { OnOk result (IsIdle (ram self.new)) }
         ensures unpinned { OnOk result (self.new.pinned ≡ None) }
         ensures goes { GoesBut pinned.block (ram self.old) (ram self.new) }
@@ -54,30 +54,30 @@ impl<N: Nand> Engine<N> {
         ensures keys { KeepsKeys self.old.mapping self.new.mapping }
         ensures refreshes { flushing ≡ true → Refreshes (ram self.old) (ram self.new) }
         ensures cost { CollectCosts flushing pinned.block (ram self.old) (ram self.new) result }
-        ensures sparing { N.honest self.old.nand ≡ true → truth.IsTrue None (ram self.old) (image_in N.flash self.old) →
-            HasPassed (ram self.old) (image_in N.flash self.old) pinned → due_count flushing (ram self.old) ≡ 0 →
+        ensures sparing { N.view.honest self.old.nand ≡ true → truth.IsTrue None (ram self.old) (image_in N.view.flash self.old) →
+            HasPassed (ram self.old) (image_in N.view.flash self.old) pinned → due_count flushing (ram self.old) ≡ 0 →
             OnOk result (CollectsFew flushing pinned.block (ram self.old) (ram self.new)) }
-        ensures reads { N.reads self.new.nand ≤
-            N.reads self.old.nand + (2 * (self.old.geometry.pages - pinned.first) + min self.old.geometry.pages (translation_pages self.old.geometry)) }
-        ensures erases { OnOk result (N.erases self.new.nand ≡ counted (N.erases self.old.nand)) }
+        ensures reads { N.view.reads self.new.nand ≤
+            N.view.reads self.old.nand + (2 * (self.old.geometry.pages - pinned.first) + min self.old.geometry.pages (translation_pages self.old.geometry)) }
+        ensures erases { OnOk result (N.view.erases self.new.nand ≡ counted (N.view.erases self.old.nand)) }
         ensures less_work { OnOk result (work_left (ram self.new) < work_left (ram self.old)) }
-        ensures truth { N.honest self.old.nand ≡ true → truth.IsTrue None (ram self.old) (image_in N.flash self.old) →
-            HasPassed (ram self.old) (image_in N.flash self.old) pinned →
+        ensures truth { N.view.honest self.old.nand ≡ true → truth.IsTrue None (ram self.old) (image_in N.view.flash self.old) →
+            HasPassed (ram self.old) (image_in N.view.flash self.old) pinned →
             MatchResult result
-            (λ _. IsEmptied pinned.block (ram self.old) (image_in N.flash self.old) (ram self.new) (image_in N.flash self.new))
-            (Refused (ram self.old) (image_in N.flash self.old) (ram self.new) (image_in N.flash self.new)) }
-        ensures count { N.honest self.old.nand ≡ true → truth.IsTrue None (ram self.old) (image_in N.flash self.old) →
-            HasPassed (ram self.old) (image_in N.flash self.old) pinned → IsFew 0 (ram self.old) pinned →
+            (λ _. IsEmptied pinned.block (ram self.old) (image_in N.view.flash self.old) (ram self.new) (image_in N.view.flash self.new))
+            (Refused (ram self.old) (image_in N.view.flash self.old) (ram self.new) (image_in N.view.flash self.new)) }
+        ensures count { N.view.honest self.old.nand ≡ true → truth.IsTrue None (ram self.old) (image_in N.view.flash self.old) →
+            HasPassed (ram self.old) (image_in N.view.flash self.old) pinned → IsFew 0 (ram self.old) pinned →
             CollectCounts (ram self.old) (ram self.new) result }
-        ensures thrifty { N.honest self.old.nand ≡ true → truth.IsTrue None (ram self.old) (image_in N.flash self.old) →
-            HasPassed (ram self.old) (image_in N.flash self.old) pinned → IsFew 0 (ram self.old) pinned →
+        ensures thrifty { N.view.honest self.old.nand ≡ true → truth.IsTrue None (ram self.old) (image_in N.view.flash self.old) →
+            HasPassed (ram self.old) (image_in N.view.flash self.old) pinned → IsFew 0 (ram self.old) pinned →
             result ≢ Err EngineFault.Bus → IsThrifty (ram self.old) (ram self.new) }
-        ensures few { N.honest self.old.nand ≡ true → truth.IsTrue None (ram self.old) (image_in N.flash self.old) →
-            HasPassed (ram self.old) (image_in N.flash self.old) pinned → IsFew 0 (ram self.old) pinned →
+        ensures few { N.view.honest self.old.nand ≡ true → truth.IsTrue None (ram self.old) (image_in N.view.flash self.old) →
+            HasPassed (ram self.old) (image_in N.view.flash self.old) pinned → IsFew 0 (ram self.old) pinned →
             result ≢ Err EngineFault.Bus → PinIsFew 0 (ram self.new) }
-        ensures stops { N.honest self.old.nand ≡ true → truth.IsTrue None (ram self.old) (image_in N.flash self.old) →
-            HasPassed (ram self.old) (image_in N.flash self.old) pinned → result ≢ Err EngineFault.Bus →
-            StopsSafely N.flash N.recorded self.old self.new }
+        ensures stops { N.view.honest self.old.nand ≡ true → truth.IsTrue None (ram self.old) (image_in N.view.flash self.old) →
+            HasPassed (ram self.old) (image_in N.view.flash self.old) pinned → result ≢ Err EngineFault.Bus →
+            StopsSafely N.view self.old self.new }
     {
         let block = pinned.block;
         let pages = self.geometry.pages();
@@ -94,11 +94,11 @@ impl<N: Nand> Engine<N> {
 
     // Collects a closed block, whatever fault stands: it is pinned, and unpinned once it is erased.
     pub(crate) fn collect_block(&mut self, block: u32, flushing: bool) -> Result<(), EngineFault>
-        requires safe { IsSafe N.flash self.old }
+        requires safe { IsSafe N.view.flash self.old }
         requires idle { IsIdle (ram self.old) }
         requires block { block < self.old.geometry.blocks }
         requires closed { is_closed (ram self.old).blocks block ≡ true }
-        ensures acts { EngineActs N.flash N.recorded N.honest N.calm N.failed self.old self.new result }
+        ensures acts { EngineActs N.view self.old self.new result }
         ensures idle { OnOk result (IsIdle (ram self.new)) }
         ensures unpinned { OnOk result (self.new.pinned ≡ None) }
         ensures goes { GoesBut block (ram self.old) (ram self.new) }
@@ -106,25 +106,25 @@ impl<N: Nand> Engine<N> {
         ensures keys { KeepsKeys self.old.mapping self.new.mapping }
         ensures refreshes { flushing ≡ true → Refreshes (ram self.old) (ram self.new) }
         ensures cost { CollectCosts flushing block (ram self.old) (ram self.new) result }
-        ensures sparing { N.honest self.old.nand ≡ true → truth.IsTrue None (ram self.old) (image_in N.flash self.old) →
+        ensures sparing { N.view.honest self.old.nand ≡ true → truth.IsTrue None (ram self.old) (image_in N.view.flash self.old) →
             OnOk result (CollectsFew flushing block (ram self.old) (ram self.new)) }
-        ensures reads { N.reads self.new.nand ≤
-            N.reads self.old.nand + (2 * self.old.geometry.pages + min self.old.geometry.pages (translation_pages self.old.geometry)) }
-        ensures erases { OnOk result (N.erases self.new.nand ≡ counted (N.erases self.old.nand)) }
+        ensures reads { N.view.reads self.new.nand ≤
+            N.view.reads self.old.nand + (2 * self.old.geometry.pages + min self.old.geometry.pages (translation_pages self.old.geometry)) }
+        ensures erases { OnOk result (N.view.erases self.new.nand ≡ counted (N.view.erases self.old.nand)) }
         ensures less_work { OnOk result (work_left (ram self.new) < work_left (ram self.old)) }
-        ensures truth { N.honest self.old.nand ≡ true → truth.IsTrue None (ram self.old) (image_in N.flash self.old) →
+        ensures truth { N.view.honest self.old.nand ≡ true → truth.IsTrue None (ram self.old) (image_in N.view.flash self.old) →
             MatchResult result
-            (λ _. IsEmptied block (ram self.old) (image_in N.flash self.old) (ram self.new) (image_in N.flash self.new))
-            (Refused (ram self.old) (image_in N.flash self.old) (ram self.new) (image_in N.flash self.new)) }
-        ensures count { N.honest self.old.nand ≡ true → truth.IsTrue None (ram self.old) (image_in N.flash self.old) →
+            (λ _. IsEmptied block (ram self.old) (image_in N.view.flash self.old) (ram self.new) (image_in N.view.flash self.new))
+            (Refused (ram self.old) (image_in N.view.flash self.old) (ram self.new) (image_in N.view.flash self.new)) }
+        ensures count { N.view.honest self.old.nand ≡ true → truth.IsTrue None (ram self.old) (image_in N.view.flash self.old) →
             live_at (ram self.old).blocks block ≤ vmax self.old.geometry → CollectCounts (ram self.old) (ram self.new) result }
-        ensures thrifty { N.honest self.old.nand ≡ true → truth.IsTrue None (ram self.old) (image_in N.flash self.old) →
+        ensures thrifty { N.view.honest self.old.nand ≡ true → truth.IsTrue None (ram self.old) (image_in N.view.flash self.old) →
             live_at (ram self.old).blocks block ≤ vmax self.old.geometry → result ≢ Err EngineFault.Bus →
             IsThrifty (ram self.old) (ram self.new) }
-        ensures few { N.honest self.old.nand ≡ true → truth.IsTrue None (ram self.old) (image_in N.flash self.old) →
+        ensures few { N.view.honest self.old.nand ≡ true → truth.IsTrue None (ram self.old) (image_in N.view.flash self.old) →
             live_at (ram self.old).blocks block ≤ vmax self.old.geometry → result ≢ Err EngineFault.Bus → PinIsFew 0 (ram self.new) }
-        ensures stops { N.honest self.old.nand ≡ true → truth.IsTrue None (ram self.old) (image_in N.flash self.old) →
-            result ≢ Err EngineFault.Bus → StopsSafely N.flash N.recorded self.old self.new }
+        ensures stops { N.view.honest self.old.nand ≡ true → truth.IsTrue None (ram self.old) (image_in N.view.flash self.old) →
+            result ≢ Err EngineFault.Bus → StopsSafely N.view self.old self.new }
     {
         let pinned = Pinned { block, first: 0 };
         self.pinned = Some(pinned);
@@ -159,35 +159,35 @@ impl<N: Nand> Engine<N> {
     /// Source: the garbage collection of the DFTL paper, with its lazy copying and batch updates; the
     /// moved sectors and flushing are this project's.
     pub fn collect(&mut self, block: u32, flushing: bool) -> Result<(), WriteFault>
-        requires safe { IsSafe N.flash self.old }
+        requires safe { IsSafe N.view.flash self.old }
         requires idle { self.old.fault ≡ None → IsIdle (ram self.old) }
         requires unpinned { self.old.fault ≡ None → self.old.pinned ≡ None }
         requires block { block < self.old.geometry.blocks }
         requires closed { self.old.fault ≡ None → is_closed (ram self.old).blocks block ≡ true }
-        ensures stands { Stands N.flash N.recorded N.honest N.calm N.failed self.old self.new result }
+        ensures stands { Stands N.view self.old self.new result }
         ensures idle { OnOk result (IsIdle (ram self.new)) }
         ensures unpinned { OnOk result (self.new.pinned ≡ None) }
         ensures goes { GoesBut block (ram self.old) (ram self.new) }
         ensures released { OnOk result (IsReleased block (ram self.old).blocks (ram self.new).blocks) }
         ensures keys { KeepsKeys self.old.mapping self.new.mapping }
         ensures refreshes { flushing ≡ true → Refreshes (ram self.old) (ram self.new) }
-        ensures reads { N.reads self.new.nand ≤
-            N.reads self.old.nand + (2 * self.old.geometry.pages + min self.old.geometry.pages (translation_pages self.old.geometry)) }
-        ensures erases { OnOk result (N.erases self.new.nand ≡ counted (N.erases self.old.nand)) }
+        ensures reads { N.view.reads self.new.nand ≤
+            N.view.reads self.old.nand + (2 * self.old.geometry.pages + min self.old.geometry.pages (translation_pages self.old.geometry)) }
+        ensures erases { OnOk result (N.view.erases self.new.nand ≡ counted (N.view.erases self.old.nand)) }
         ensures cost { self.old.fault ≡ None → CollectCosts flushing block (ram self.old) (ram self.new) result }
-        ensures sparing { N.honest self.old.nand ≡ true → self.old.fault ≡ None → truth.IsTrue None (ram self.old) (image_in N.flash self.old) →
+        ensures sparing { N.view.honest self.old.nand ≡ true → self.old.fault ≡ None → truth.IsTrue None (ram self.old) (image_in N.view.flash self.old) →
             OnOk result (CollectsFew flushing block (ram self.old) (ram self.new)) }
-        ensures truth { N.honest self.old.nand ≡ true → self.old.fault ≡ None → truth.IsTrue None (ram self.old) (image_in N.flash self.old) →
+        ensures truth { N.view.honest self.old.nand ≡ true → self.old.fault ≡ None → truth.IsTrue None (ram self.old) (image_in N.view.flash self.old) →
             MatchResult result
-            (λ _. IsEmptied block (ram self.old) (image_in N.flash self.old) (ram self.new) (image_in N.flash self.new))
-            (Refused (ram self.old) (image_in N.flash self.old) (ram self.new) (image_in N.flash self.new)) }
-        ensures count { N.honest self.old.nand ≡ true → self.old.fault ≡ None → truth.IsTrue None (ram self.old) (image_in N.flash self.old) →
+            (λ _. IsEmptied block (ram self.old) (image_in N.view.flash self.old) (ram self.new) (image_in N.view.flash self.new))
+            (Refused (ram self.old) (image_in N.view.flash self.old) (ram self.new) (image_in N.view.flash self.new)) }
+        ensures count { N.view.honest self.old.nand ≡ true → self.old.fault ≡ None → truth.IsTrue None (ram self.old) (image_in N.view.flash self.old) →
             live_at (ram self.old).blocks block ≤ vmax self.old.geometry → CollectCounts (ram self.old) (ram self.new) result }
-        ensures thrifty { N.honest self.old.nand ≡ true → self.old.fault ≡ None → truth.IsTrue None (ram self.old) (image_in N.flash self.old) →
+        ensures thrifty { N.view.honest self.old.nand ≡ true → self.old.fault ≡ None → truth.IsTrue None (ram self.old) (image_in N.view.flash self.old) →
             live_at (ram self.old).blocks block ≤ vmax self.old.geometry → result ≢ Err EngineFault.Bus →
             IsThrifty (ram self.old) (ram self.new) }
-        ensures stops { N.honest self.old.nand ≡ true → self.old.fault ≡ None → truth.IsTrue None (ram self.old) (image_in N.flash self.old) →
-            result ≢ Err EngineFault.Bus → StopsSafely N.flash N.recorded self.old self.new }
+        ensures stops { N.view.honest self.old.nand ≡ true → self.old.fault ≡ None → truth.IsTrue None (ram self.old) (image_in N.view.flash self.old) →
+            result ≢ Err EngineFault.Bus → StopsSafely N.view self.old self.new }
     {
         self.standing()?;
         let answer = self.collect_block(block, flushing);

@@ -75,11 +75,11 @@ impl<N: Nand> Engine<N> {
     /// no sector is moved yet and no translation page is marked. Nothing is asked of the die. (This
     /// project.)
     pub fn pin(&mut self, block: u32)
-        requires safe { IsSafe N.flash self.old }
+        requires safe { IsSafe N.view.flash self.old }
         requires unpinned { self.old.pinned ≡ None }
         requires block { block < self.old.geometry.blocks }
         requires closed { is_closed (ram self.old).blocks block ≡ true }
-        ensures safe { IsSafe N.flash self.new }
+        ensures safe { IsSafe N.view.flash self.new }
         ensures pinned { self.new ≡ record self.old { pinned = Some (record { block = block; first = 0 }) } }
         ensures calm { IsIdle (ram self.old) → IsCalm (ram self.new) }
         ensures passed { (image : Image) → PinHasPassed (ram self.new) image }
@@ -93,9 +93,9 @@ impl<N: Nand> Engine<N> {
         pinned: Pinned,
         flushing: bool,
     ) -> Result<Progress, EngineFault>
-        requires safe { IsSafe N.flash self.old }
+        requires safe { IsSafe N.view.flash self.old }
         requires half_done { IsHalfDone (ram self.old) pinned }
-        ensures acts { EngineActs N.flash N.recorded N.honest N.calm N.failed self.old self.new result }
+        ensures acts { EngineActs N.view self.old self.new result }
         ensures goes { GoesBut pinned.block (ram self.old) (ram self.new) }
         ensures goes_still { result ≢ Ok Progress.Erased → Goes (ram self.old) (ram self.new) }
         ensures keys { KeepsKeys self.old.mapping self.new.mapping }
@@ -109,23 +109,23 @@ impl<N: Nand> Engine<N> {
         ensures half_done { OnOk result (ForSome (ram self.new).pin.block (IsHalfDone (ram self.new))) }
         ensures idle { result ≡ Ok Progress.Erased → IsIdle (ram self.new) }
         ensures released { result ≡ Ok Progress.Erased → IsReleased pinned.block (ram self.old).blocks (ram self.new).blocks }
-        ensures reads { N.reads self.new.nand ≤
-            N.reads self.old.nand + (2 * (self.old.geometry.pages - pinned.first) + min (due_count flushing (ram self.old)) 1) }
-        ensures copied_reads { (page : ℕ) → result ≡ Ok (Progress.Copied page) → N.reads self.new.nand ≤ N.reads self.old.nand + 2 * (page + 1 - pinned.first) }
-        ensures erases { IfOk result (λ progress. N.erases self.new.nand ≡ erases_after progress (N.erases self.old.nand)) }
+        ensures reads { N.view.reads self.new.nand ≤
+            N.view.reads self.old.nand + (2 * (self.old.geometry.pages - pinned.first) + min (due_count flushing (ram self.old)) 1) }
+        ensures copied_reads { (page : ℕ) → result ≡ Ok (Progress.Copied page) → N.view.reads self.new.nand ≤ N.view.reads self.old.nand + 2 * (page + 1 - pinned.first) }
+        ensures erases { IfOk result (λ progress. N.view.erases self.new.nand ≡ erases_after progress (N.view.erases self.old.nand)) }
         ensures owed { result ≡ Err EngineFault.ReadOnly → (0 < live_at (ram self.old).blocks pinned.block) ⊎ (0 < due_count flushing (ram self.old)) }
         ensures cost { StepCosts flushing pinned.block pinned.first (ram self.old) (ram self.new) result }
-        ensures truth { N.honest self.old.nand ≡ true → truth.IsTrue None (ram self.old) (image_in N.flash self.old) →
-            HasPassed (ram self.old) (image_in N.flash self.old) pinned →
+        ensures truth { N.view.honest self.old.nand ≡ true → truth.IsTrue None (ram self.old) (image_in N.view.flash self.old) →
+            HasPassed (ram self.old) (image_in N.view.flash self.old) pinned →
             MatchResult result
-            (IsStepped pinned.block (ram self.old) (image_in N.flash self.old) (ram self.new) (image_in N.flash self.new))
-            (Refused (ram self.old) (image_in N.flash self.old) (ram self.new) (image_in N.flash self.new)) }
-        ensures touched { N.honest self.old.nand ≡ true → truth.IsTrue None (ram self.old) (image_in N.flash self.old) →
+            (IsStepped pinned.block (ram self.old) (image_in N.view.flash self.old) (ram self.new) (image_in N.view.flash self.new))
+            (Refused (ram self.old) (image_in N.view.flash self.old) (ram self.new) (image_in N.view.flash self.new)) }
+        ensures touched { N.view.honest self.old.nand ≡ true → truth.IsTrue None (ram self.old) (image_in N.view.flash self.old) →
             (page : ℕ) → result ≡ Ok (Progress.Copied page) →
-            TouchesNoMore flushing pinned.block (ram self.old) (image_in N.flash self.old) (ram self.new) }
-        ensures stops { N.honest self.old.nand ≡ true → truth.IsTrue None (ram self.old) (image_in N.flash self.old) →
-            HasPassed (ram self.old) (image_in N.flash self.old) pinned → result ≢ Err EngineFault.Bus →
-            StopsSafely N.flash N.recorded self.old self.new }
+            TouchesNoMore flushing pinned.block (ram self.old) (image_in N.view.flash self.old) (ram self.new) }
+        ensures stops { N.view.honest self.old.nand ≡ true → truth.IsTrue None (ram self.old) (image_in N.view.flash self.old) →
+            HasPassed (ram self.old) (image_in N.view.flash self.old) pinned → result ≢ Err EngineFault.Bus →
+            StopsSafely N.view self.old self.new }
     {
         let progress = self.collect_step(pinned.block, pinned.first, flushing)?;
         let next = next_pin(pinned.block, self.geometry.pages(), progress);
@@ -135,13 +135,13 @@ impl<N: Nand> Engine<N> {
 
     // The same, told as `step` tells it.
     fn advance(&mut self, pinned: Pinned, flushing: bool) -> Result<Step, EngineFault>
-        requires safe { IsSafe N.flash self.old }
+        requires safe { IsSafe N.view.flash self.old }
         requires half_done { IsHalfDone (ram self.old) pinned }
-        ensures acts { EngineActs N.flash N.recorded N.honest N.calm N.failed self.old self.new result }
-        ensures advances { Advances N.flash N.honest N.reads N.erases flushing pinned self.old self.new result }
-        ensures stops { N.honest self.old.nand ≡ true → truth.IsTrue None (ram self.old) (image_in N.flash self.old) →
-            HasPassed (ram self.old) (image_in N.flash self.old) pinned → result ≢ Err EngineFault.Bus →
-            StopsSafely N.flash N.recorded self.old self.new }
+        ensures acts { EngineActs N.view self.old self.new result }
+        ensures advances { Advances N.view flushing pinned self.old self.new result }
+        ensures stops { N.view.honest self.old.nand ≡ true → truth.IsTrue None (ram self.old) (image_in N.view.flash self.old) →
+            HasPassed (ram self.old) (image_in N.view.flash self.old) pinned → result ≢ Err EngineFault.Bus →
+            StopsSafely N.view self.old self.new }
     {
         let progress = self.step_on(pinned, flushing)?;
         Ok(told(progress))
@@ -167,15 +167,15 @@ impl<N: Nand> Engine<N> {
     ///
     /// It takes no memory. (This project.)
     pub fn step(&mut self, flushing: bool) -> Result<Step, WriteFault>
-        requires safe { IsSafe N.flash self.old }
+        requires safe { IsSafe N.view.flash self.old }
         requires pinned { IsSome self.old.pinned }
         requires half_done { self.old.fault ≡ None → ForSome (ram self.old).pin.block (IsHalfDone (ram self.old)) }
-        ensures stands { Stands N.flash N.recorded N.honest N.calm N.failed self.old self.new result }
+        ensures stands { Stands N.view self.old self.new result }
         ensures advances { self.old.fault ≡ None → ForSome (ram self.old).pin.block
-            (λ p. Advances N.flash N.honest N.reads N.erases flushing p self.old self.new result) }
-        ensures stops { N.honest self.old.nand ≡ true → self.old.fault ≡ None → truth.IsTrue None (ram self.old) (image_in N.flash self.old) →
-            PinHasPassed (ram self.old) (image_in N.flash self.old) → result ≢ Err EngineFault.Bus →
-            StopsSafely N.flash N.recorded self.old self.new }
+            (λ p. Advances N.view flushing p self.old self.new result) }
+        ensures stops { N.view.honest self.old.nand ≡ true → self.old.fault ≡ None → truth.IsTrue None (ram self.old) (image_in N.view.flash self.old) →
+            PinHasPassed (ram self.old) (image_in N.view.flash self.old) → result ≢ Err EngineFault.Bus →
+            StopsSafely N.view self.old self.new }
     {
         self.standing()?;
         let pinned = self.pinned.unwrap();

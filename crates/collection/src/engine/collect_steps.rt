@@ -63,9 +63,9 @@ fn set_mark(marks: &mut Vec<bool>, t: u32, mark: bool)
 impl<N: Nand> Engine<N> {
     // In a flush, notes that the translation page of a key's sector has to be written.
     fn mark(&mut self, key: Key, flushing: bool)
-        requires safe { IsSafe N.flash self.old }
+        requires safe { IsSafe N.view.flash self.old }
         requires key { IsKeyOf self.old.geometry key }
-        ensures safe { IsSafe N.flash self.new }
+        ensures safe { IsSafe N.view.flash self.new }
         ensures marked { ram self.new ≡ record (ram self.old) { pin = record { block = self.old.pinned; marks = marks_after flushing self.old.geometry key (ram self.old).pin.marks } } }
         ensures nand { self.new.nand ≡ self.old.nand }
         ensures page { self.new.page ≡ self.old.page }
@@ -83,13 +83,13 @@ impl<N: Nand> Engine<N> {
         row: u32,
         flushing: bool,
     ) -> Result<(), EngineFault>
-        requires safe { IsSafe N.flash self.old }
+        requires safe { IsSafe N.view.flash self.old }
         requires key { IsKeyOf self.old.geometry (key_of found.now) }
         requires row { row < row_count self.old.geometry }
         requires room { length self.old.mapping.moved < self.old.geometry.pages }
-        ensures acts { EngineActs N.flash N.recorded N.honest N.calm N.failed self.old self.new result }
+        ensures acts { EngineActs N.view self.old self.new result }
         ensures goes { Goes (ram self.old) (ram self.new) }
-        ensures only_programs { OnlyPrograms N.reads N.erases self.old.nand self.new.nand }
+        ensures only_programs { OnlyPrograms N.view self.old.nand self.new.nand }
         ensures keys { KeepsKeys self.old.mapping self.new.mapping }
         ensures refreshes { flushing ≡ true → Refreshes (ram self.old) (ram self.new) }
         ensures cost { MatchResult result (λ _. HasCopied flushing (ram self.old) (ram self.new)) (FaultCosts (ram self.old) (ram self.new)) }
@@ -97,24 +97,24 @@ impl<N: Nand> Engine<N> {
         ensures pin { (ram self.new).pin.block ≡ (ram self.old).pin.block }
         ensures settled { OnOk result ((at : ℕ) × SetsMapping (key_of found.now) at self.old.mapping self.new.mapping) }
         ensures unmoved { OnErr result (self.new.mapping ≡ self.old.mapping) }
-        ensures touched { N.honest self.old.nand ≡ true → truth.IsTrue None (ram self.old) (image_in N.flash self.old) →
-            IsLivePage row self.old.page.body.items found.now (image_in N.flash self.old) →
-            OnOk result (TouchesNoMore flushing (row / self.old.geometry.pages) (ram self.old) (image_in N.flash self.old) (ram self.new)) }
+        ensures touched { N.view.honest self.old.nand ≡ true → truth.IsTrue None (ram self.old) (image_in N.view.flash self.old) →
+            IsLivePage row self.old.page.body.items found.now (image_in N.view.flash self.old) →
+            OnOk result (TouchesNoMore flushing (row / self.old.geometry.pages) (ram self.old) (image_in N.view.flash self.old) (ram self.new)) }
         ensures programmed { OnOk result (IsLastPage found.now.kind found.now.number (ram self.new) (page_in self.new.page)) }
-        ensures truth { N.honest self.old.nand ≡ true → truth.IsTrue None (ram self.old) (image_in N.flash self.old) →
+        ensures truth { N.view.honest self.old.nand ≡ true → truth.IsTrue None (ram self.old) (image_in N.view.flash self.old) →
             is_shut (ram self.old).blocks (row / self.old.geometry.pages) ≡ true →
-            IsLivePage row self.old.page.body.items found.now (image_in N.flash self.old) →
+            IsLivePage row self.old.page.body.items found.now (image_in N.view.flash self.old) →
             MatchResult result
-            (λ _. IsMovedOut row (ram self.old) (image_in N.flash self.old) (ram self.new) (image_in N.flash self.new))
-            (Refused (ram self.old) (image_in N.flash self.old) (ram self.new) (image_in N.flash self.new)) }
-        ensures renews { N.honest self.old.nand ≡ true → truth.IsTrue None (ram self.old) (image_in N.flash self.old) →
-            IsLivePage row self.old.page.body.items found.now (image_in N.flash self.old) →
+            (λ _. IsMovedOut row (ram self.old) (image_in N.view.flash self.old) (ram self.new) (image_in N.view.flash self.new))
+            (Refused (ram self.old) (image_in N.view.flash self.old) (ram self.new) (image_in N.view.flash self.new)) }
+        ensures renews { N.view.honest self.old.nand ≡ true → truth.IsTrue None (ram self.old) (image_in N.view.flash self.old) →
+            IsLivePage row self.old.page.body.items found.now (image_in N.view.flash self.old) →
             MatchResult result
-            (λ _. IsRenewed (key_of found.now) (ram self.old) (image_in N.flash self.old) (ram self.new) (image_in N.flash self.new))
-            (Refused (ram self.old) (image_in N.flash self.old) (ram self.new) (image_in N.flash self.new)) }
-        ensures stops { N.honest self.old.nand ≡ true → truth.IsTrue None (ram self.old) (image_in N.flash self.old) →
-            IsLivePage row self.old.page.body.items found.now (image_in N.flash self.old) → result ≢ Err EngineFault.Bus →
-            StopsSafely N.flash N.recorded self.old self.new }
+            (λ _. IsRenewed (key_of found.now) (ram self.old) (image_in N.view.flash self.old) (ram self.new) (image_in N.view.flash self.new))
+            (Refused (ram self.old) (image_in N.view.flash self.old) (ram self.new) (image_in N.view.flash self.new)) }
+        ensures stops { N.view.honest self.old.nand ≡ true → truth.IsTrue None (ram self.old) (image_in N.view.flash self.old) →
+            IsLivePage row self.old.page.body.items found.now (image_in N.view.flash self.old) → result ≢ Err EngineFault.Bus →
+            StopsSafely N.view self.old self.new }
     {
         self.replace(found.kind, found.number, Some(row))?;
         self.mark(found.key(), flushing);
@@ -129,15 +129,15 @@ impl<N: Nand> Engine<N> {
         first: u32,
         flushing: bool,
     ) -> Result<Option<u32>, EngineFault>
-        requires safe { IsSafe N.flash self.old }
+        requires safe { IsSafe N.view.flash self.old }
         requires block { block < self.old.geometry.blocks }
         requires closed { is_closed (ram self.old).blocks block ≡ true }
         requires room { length self.old.mapping.moved ≤ first }
-        ensures acts { EngineActs N.flash N.recorded N.honest N.calm N.failed self.old self.new result }
+        ensures acts { EngineActs N.view self.old self.new result }
         ensures goes { Goes (ram self.old) (ram self.new) }
-        ensures reads { N.reads self.new.nand ≤ N.reads self.old.nand + 2 * (self.old.geometry.pages - first) }
-        ensures copied_reads { IfOk result (λ copied. ForSome copied (λ page. N.reads self.new.nand ≤ N.reads self.old.nand + 2 * (page + 1 - first))) }
-        ensures erases { N.erases self.new.nand ≡ N.erases self.old.nand }
+        ensures reads { N.view.reads self.new.nand ≤ N.view.reads self.old.nand + 2 * (self.old.geometry.pages - first) }
+        ensures copied_reads { IfOk result (λ copied. ForSome copied (λ page. N.view.reads self.new.nand ≤ N.view.reads self.old.nand + 2 * (page + 1 - first))) }
+        ensures erases { N.view.erases self.new.nand ≡ N.view.erases self.old.nand }
         ensures keys { KeepsKeys self.old.mapping self.new.mapping }
         ensures refreshes { flushing ≡ true → Refreshes (ram self.old) (ram self.new) }
         ensures none { result ≡ Ok None → ram self.new ≡ ram self.old }
@@ -146,16 +146,16 @@ impl<N: Nand> Engine<N> {
         ensures unmoved { OnErr result (self.new.mapping ≡ self.old.mapping) }
         ensures owed { result ≡ Err EngineFault.ReadOnly → 0 < live_at (ram self.old).blocks block }
         ensures unmarked { flushing ≡ false → OnOk result ((ram self.new).pin ≡ (ram self.old).pin) }
-        ensures touched { N.honest self.old.nand ≡ true → truth.IsTrue None (ram self.old) (image_in N.flash self.old) →
-            IfOk result (λ copied. IfSome copied (λ _. TouchesNoMore flushing block (ram self.old) (image_in N.flash self.old) (ram self.new))) }
+        ensures touched { N.view.honest self.old.nand ≡ true → truth.IsTrue None (ram self.old) (image_in N.view.flash self.old) →
+            IfOk result (λ copied. IfSome copied (λ _. TouchesNoMore flushing block (ram self.old) (image_in N.view.flash self.old) (ram self.new))) }
         ensures cost { MatchResult result (λ copied. ForSome copied (λ _. HasCopied flushing (ram self.old) (ram self.new))) (FaultCosts (ram self.old) (ram self.new)) }
-        ensures truth { N.honest self.old.nand ≡ true → truth.IsTrue None (ram self.old) (image_in N.flash self.old) →
-            HoldsNoneIn self.old.geometry.pages block 0 first (image_in N.flash self.old) →
+        ensures truth { N.view.honest self.old.nand ≡ true → truth.IsTrue None (ram self.old) (image_in N.view.flash self.old) →
+            HoldsNoneIn self.old.geometry.pages block 0 first (image_in N.view.flash self.old) →
             MatchResult result
-            (IsCopiedOr block (ram self.old) (image_in N.flash self.old) (ram self.new) (image_in N.flash self.new))
-            (Refused (ram self.old) (image_in N.flash self.old) (ram self.new) (image_in N.flash self.new)) }
-        ensures stops { N.honest self.old.nand ≡ true → truth.IsTrue None (ram self.old) (image_in N.flash self.old) →
-            result ≢ Err EngineFault.Bus → StopsSafely N.flash N.recorded self.old self.new }
+            (IsCopiedOr block (ram self.old) (image_in N.view.flash self.old) (ram self.new) (image_in N.view.flash self.new))
+            (Refused (ram self.old) (image_in N.view.flash self.old) (ram self.new) (image_in N.view.flash self.new)) }
+        ensures stops { N.view.honest self.old.nand ≡ true → truth.IsTrue None (ram self.old) (image_in N.view.flash self.old) →
+            result ≢ Err EngineFault.Bus → StopsSafely N.view self.old self.new }
     {
         if self.blocks.live(block) == 0 {
             return Ok(None);
@@ -171,7 +171,7 @@ impl<N: Nand> Engine<N> {
 
     // The lowest translation page that has to be written before a block is erased.
     fn lowest_due(&self, flushing: bool) -> Option<u32>
-        requires safe { IsSafe N.flash self.now }
+        requires safe { IsSafe N.view.flash self.now }
         ensures { MatchOption result (HasNoneDue flushing (ram self.now)) (IsLowestDue flushing (ram self.now)) }
     {
         'pages: for t in 0..self.geometry.translation_pages() {
@@ -184,11 +184,11 @@ impl<N: Nand> Engine<N> {
 
     // Writes it. Answers whether there was one.
     fn write_back_lowest(&mut self, flushing: bool) -> Result<bool, EngineFault>
-        requires safe { IsSafe N.flash self.old }
-        ensures acts { EngineActs N.flash N.recorded N.honest N.calm N.failed self.old self.new result }
+        requires safe { IsSafe N.view.flash self.old }
+        ensures acts { EngineActs N.view self.old self.new result }
         ensures goes { Goes (ram self.old) (ram self.new) }
-        ensures reads { N.reads self.new.nand ≤ N.reads self.old.nand + min (due_count flushing (ram self.old)) 1 }
-        ensures erases { N.erases self.new.nand ≡ N.erases self.old.nand }
+        ensures reads { N.view.reads self.new.nand ≤ N.view.reads self.old.nand + min (due_count flushing (ram self.old)) 1 }
+        ensures erases { N.view.erases self.new.nand ≡ N.view.erases self.old.nand }
         ensures keys { KeepsKeys self.old.mapping self.new.mapping }
         ensures refreshes { flushing ≡ true → Refreshes (ram self.old) (ram self.new) }
         ensures none { result ≡ Ok false → HasNoneDue flushing (ram self.old) × (self.new ≡ self.old) }
@@ -198,12 +198,12 @@ impl<N: Nand> Engine<N> {
             OnOk result ((ram self.new).pin.marks ≡ replicate (translation_pages self.old.geometry) false) }
         ensures owed { result ≡ Err EngineFault.ReadOnly → 0 < due_count flushing (ram self.old) }
         ensures cost { MatchResult result (λ written. written ≡ true → HasWritten flushing (ram self.old) (ram self.new)) (FaultCosts (ram self.old) (ram self.new)) }
-        ensures truth { N.honest self.old.nand ≡ true → truth.IsTrue None (ram self.old) (image_in N.flash self.old) →
+        ensures truth { N.view.honest self.old.nand ≡ true → truth.IsTrue None (ram self.old) (image_in N.view.flash self.old) →
             MatchResult result
-            (λ _. IsSame (ram self.old) (image_in N.flash self.old) (ram self.new) (image_in N.flash self.new))
-            (Refused (ram self.old) (image_in N.flash self.old) (ram self.new) (image_in N.flash self.new)) }
-        ensures stops { N.honest self.old.nand ≡ true → truth.IsTrue None (ram self.old) (image_in N.flash self.old) →
-            result ≢ Err EngineFault.Bus → StopsSafely N.flash N.recorded self.old self.new }
+            (λ _. IsSame (ram self.old) (image_in N.view.flash self.old) (ram self.new) (image_in N.view.flash self.new))
+            (Refused (ram self.old) (image_in N.view.flash self.old) (ram self.new) (image_in N.view.flash self.new)) }
+        ensures stops { N.view.honest self.old.nand ≡ true → truth.IsTrue None (ram self.old) (image_in N.view.flash self.old) →
+            result ≢ Err EngineFault.Bus → StopsSafely N.view self.old self.new }
     {
         let due = self.lowest_due(flushing);
         let Some(t) = due else {
@@ -216,10 +216,10 @@ impl<N: Nand> Engine<N> {
 
     // Erases a closed block. Where the erase fails, the block is grown bad.
     fn erase_block(&mut self, block: u32) -> Result<(), EngineFault>
-        requires safe { IsSafe N.flash self.old }
+        requires safe { IsSafe N.view.flash self.old }
         requires block { block < self.old.geometry.blocks }
         requires closed { is_closed (ram self.old).blocks block ≡ true }
-        ensures acts { EngineActs N.flash N.recorded N.honest N.calm N.failed self.old self.new result }
+        ensures acts { EngineActs N.view self.old self.new result }
         ensures goes { GoesBut block (ram self.old) (ram self.new) }
         ensures erased { OnOk result (HasErased block (ram self.old) (ram self.new)) }
         ensures pin { (ram self.new).pin.block ≡ (ram self.old).pin.block }
@@ -227,15 +227,15 @@ impl<N: Nand> Engine<N> {
         ensures released { OnOk result (IsReleased block (ram self.old).blocks (ram self.new).blocks) }
         ensures refused { OnErr result (ram self.new ≡ ram self.old) }
         ensures bus { IfErr result (λ fault. fault ≡ EngineFault.Bus) }
-        ensures reads { N.reads self.new.nand ≡ N.reads self.old.nand }
-        ensures programs { N.programs self.new.nand ≡ N.programs self.old.nand }
-        ensures erases { N.erases self.new.nand ≡ counted (N.erases self.old.nand) }
-        ensures truth { N.honest self.old.nand ≡ true → truth.IsTrue None (ram self.old) (image_in N.flash self.old) →
-            HoldsNone self.old.geometry.pages block (image_in N.flash self.old) →
-            OnOk result (IsImageKept (ram self.old) (image_in N.flash self.old) (ram self.new) (image_in N.flash self.new)) }
-        ensures stops { N.honest self.old.nand ≡ true → truth.IsTrue None (ram self.old) (image_in N.flash self.old) →
-            HoldsNone self.old.geometry.pages block (image_in N.flash self.old) → result ≢ Err EngineFault.Bus →
-            StopsSafely N.flash N.recorded self.old self.new }
+        ensures reads { N.view.reads self.new.nand ≡ N.view.reads self.old.nand }
+        ensures programs { N.view.programs self.new.nand ≡ N.view.programs self.old.nand }
+        ensures erases { N.view.erases self.new.nand ≡ counted (N.view.erases self.old.nand) }
+        ensures truth { N.view.honest self.old.nand ≡ true → truth.IsTrue None (ram self.old) (image_in N.view.flash self.old) →
+            HoldsNone self.old.geometry.pages block (image_in N.view.flash self.old) →
+            OnOk result (IsImageKept (ram self.old) (image_in N.view.flash self.old) (ram self.new) (image_in N.view.flash self.new)) }
+        ensures stops { N.view.honest self.old.nand ≡ true → truth.IsTrue None (ram self.old) (image_in N.view.flash self.old) →
+            HoldsNone self.old.geometry.pages block (image_in N.view.flash self.old) → result ≢ Err EngineFault.Bus →
+            StopsSafely N.view self.old self.new }
     {
         match self.nand.erase(block) {
             Ok(Outcome::Passed) => {
@@ -261,11 +261,11 @@ impl<N: Nand> Engine<N> {
         first: u32,
         flushing: bool,
     ) -> Result<Progress, EngineFault>
-        requires safe { IsSafe N.flash self.old }
+        requires safe { IsSafe N.view.flash self.old }
         requires block { block < self.old.geometry.blocks }
         requires closed { is_closed (ram self.old).blocks block ≡ true }
         requires room { length self.old.mapping.moved ≤ first }
-        ensures acts { EngineActs N.flash N.recorded N.honest N.calm N.failed self.old self.new result }
+        ensures acts { EngineActs N.view self.old self.new result }
         ensures goes { GoesBut block (ram self.old) (ram self.new) }
         ensures goes_still { result ≢ Ok Progress.Erased → Goes (ram self.old) (ram self.new) }
         ensures keys { KeepsKeys self.old.mapping self.new.mapping }
@@ -276,23 +276,23 @@ impl<N: Nand> Engine<N> {
             OnOk result ((ram self.new).pin.marks ≡ replicate (translation_pages self.old.geometry) false) }
         ensures idle { result ≡ Ok Progress.Erased → IsIdle (ram self.new) }
         ensures released { result ≡ Ok Progress.Erased → IsReleased block (ram self.old).blocks (ram self.new).blocks }
-        ensures reads { N.reads self.new.nand ≤
-            N.reads self.old.nand + (2 * (self.old.geometry.pages - first) + min (due_count flushing (ram self.old)) 1) }
-        ensures copied_reads { (page : ℕ) → result ≡ Ok (Progress.Copied page) → N.reads self.new.nand ≤ N.reads self.old.nand + 2 * (page + 1 - first) }
-        ensures erases { IfOk result (λ step. N.erases self.new.nand ≡ erases_after step (N.erases self.old.nand)) }
+        ensures reads { N.view.reads self.new.nand ≤
+            N.view.reads self.old.nand + (2 * (self.old.geometry.pages - first) + min (due_count flushing (ram self.old)) 1) }
+        ensures copied_reads { (page : ℕ) → result ≡ Ok (Progress.Copied page) → N.view.reads self.new.nand ≤ N.view.reads self.old.nand + 2 * (page + 1 - first) }
+        ensures erases { IfOk result (λ step. N.view.erases self.new.nand ≡ erases_after step (N.view.erases self.old.nand)) }
         ensures owed { result ≡ Err EngineFault.ReadOnly → (0 < live_at (ram self.old).blocks block) ⊎ (0 < due_count flushing (ram self.old)) }
         ensures cost { StepCosts flushing block first (ram self.old) (ram self.new) result }
-        ensures truth { N.honest self.old.nand ≡ true → truth.IsTrue None (ram self.old) (image_in N.flash self.old) →
-            HoldsNoneIn self.old.geometry.pages block 0 first (image_in N.flash self.old) →
+        ensures truth { N.view.honest self.old.nand ≡ true → truth.IsTrue None (ram self.old) (image_in N.view.flash self.old) →
+            HoldsNoneIn self.old.geometry.pages block 0 first (image_in N.view.flash self.old) →
             MatchResult result
-            (IsStepped block (ram self.old) (image_in N.flash self.old) (ram self.new) (image_in N.flash self.new))
-            (Refused (ram self.old) (image_in N.flash self.old) (ram self.new) (image_in N.flash self.new)) }
-        ensures touched { N.honest self.old.nand ≡ true → truth.IsTrue None (ram self.old) (image_in N.flash self.old) →
+            (IsStepped block (ram self.old) (image_in N.view.flash self.old) (ram self.new) (image_in N.view.flash self.new))
+            (Refused (ram self.old) (image_in N.view.flash self.old) (ram self.new) (image_in N.view.flash self.new)) }
+        ensures touched { N.view.honest self.old.nand ≡ true → truth.IsTrue None (ram self.old) (image_in N.view.flash self.old) →
             (page : ℕ) → result ≡ Ok (Progress.Copied page) →
-            TouchesNoMore flushing block (ram self.old) (image_in N.flash self.old) (ram self.new) }
-        ensures stops { N.honest self.old.nand ≡ true → truth.IsTrue None (ram self.old) (image_in N.flash self.old) →
-            HoldsNoneIn self.old.geometry.pages block 0 first (image_in N.flash self.old) → result ≢ Err EngineFault.Bus →
-            StopsSafely N.flash N.recorded self.old self.new }
+            TouchesNoMore flushing block (ram self.old) (image_in N.view.flash self.old) (ram self.new) }
+        ensures stops { N.view.honest self.old.nand ≡ true → truth.IsTrue None (ram self.old) (image_in N.view.flash self.old) →
+            HoldsNoneIn self.old.geometry.pages block 0 first (image_in N.view.flash self.old) → result ≢ Err EngineFault.Bus →
+            StopsSafely N.view self.old self.new }
     {
         let copied = self.copy_lowest(block, first, flushing)?;
         if let Some(page) = copied {

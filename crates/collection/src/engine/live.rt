@@ -31,15 +31,15 @@ fn has_key(geometry: &Geometry, key: Key) -> bool
 impl<N: Nand> Engine<N> {
     // The row of the newest page of a key, by memory or by its translation page.
     fn find_newest(&mut self, key: Key) -> Result<Option<u32>, EngineFault>
-        requires safe { IsSafe N.flash self.old }
+        requires safe { IsSafe N.view.flash self.old }
         requires key { IsKeyOf self.old.geometry key }
-        ensures looks { EngineLooks N.flash N.recorded N.honest N.calm N.programs N.erases N.failed self.old self.new result }
+        ensures looks { EngineLooks N.view self.old self.new result }
         ensures page { self.new.page ≡ self.old.page }
-        ensures reads { N.reads self.new.nand ≤ N.reads self.old.nand + 1 }
+        ensures reads { N.view.reads self.new.nand ≤ N.view.reads self.old.nand + 1 }
         ensures points { IfOk result (PointsTo (ram self.old) (page_in self.new.scratch) key) }
-        ensures truth { N.honest self.old.nand ≡ true → truth.IsTrue None (ram self.old) (image_in N.flash self.old) →
+        ensures truth { N.view.honest self.old.nand ≡ true → truth.IsTrue None (ram self.old) (image_in N.view.flash self.old) →
             MatchResult result
-            (λ row. row ≡ newest_row (image_in N.flash self.old) key)
+            (λ row. row ≡ newest_row (image_in N.view.flash self.old) key)
             (λ fault. fault ≡ EngineFault.Bus) }
     {
         match key {
@@ -54,15 +54,15 @@ impl<N: Nand> Engine<N> {
 
     // Takes the page of a row into the page buffer, and answers its record.
     fn take_page(&mut self, row: u32) -> Result<Option<Record>, EngineFault>
-        requires safe { IsSafe N.flash self.old }
+        requires safe { IsSafe N.view.flash self.old }
         requires row { row < row_count self.old.geometry }
-        ensures looks { EngineLooks N.flash N.recorded N.honest N.calm N.programs N.erases N.failed self.old self.new result }
-        ensures reads { N.reads self.new.nand ≤ N.reads self.old.nand + 1 }
+        ensures looks { EngineLooks N.view self.old self.new result }
+        ensures reads { N.view.reads self.new.nand ≤ N.view.reads self.old.nand + 1 }
         ensures faults { IfErr result (λ fault. fault ≡ EngineFault.Bus) }
         ensures sound { IfOk result (λ found. found ≡ record_of (page_in self.new.page)) }
-        ensures stands { N.honest self.old.nand ≡ true → OnOk result (slice_get (image_in N.flash self.old) row ≡ Some (page_in self.new.page)) }
-        ensures truth { N.honest self.old.nand ≡ true →
-            IfOk result (λ found. IsTaken row found self.new.page.body.items (image_in N.flash self.old)) }
+        ensures stands { N.view.honest self.old.nand ≡ true → OnOk result (slice_get (image_in N.view.flash self.old) row ≡ Some (page_in self.new.page)) }
+        ensures truth { N.view.honest self.old.nand ≡ true →
+            IfOk result (λ found. IsTaken row found self.new.page.body.items (image_in N.view.flash self.old)) }
     {
         match read_sound(
             &mut self.nand,
@@ -80,15 +80,15 @@ impl<N: Nand> Engine<N> {
     // its key. Whatever the die does, the page is sound with that record, and the key's row is this
     // one by memory or by its translation page.
     pub(crate) fn live_record(&mut self, row: u32) -> Result<Option<Record>, EngineFault>
-        requires safe { IsSafe N.flash self.old }
+        requires safe { IsSafe N.view.flash self.old }
         requires row { row < row_count self.old.geometry }
-        ensures looks { EngineLooks N.flash N.recorded N.honest N.calm N.programs N.erases N.failed self.old self.new result }
-        ensures reads { N.reads self.new.nand ≤ N.reads self.old.nand + 2 }
+        ensures looks { EngineLooks N.view self.old self.new result }
+        ensures reads { N.view.reads self.new.nand ≤ N.view.reads self.old.nand + 2 }
         ensures checked { IfOk result (λ found. ForSome found (IsFoundIn (ram self.old) (page_in self.new.page) (page_in self.new.scratch) row)) }
-        ensures stands { N.honest self.old.nand ≡ true → OnOk result (slice_get (image_in N.flash self.old) row ≡ Some (page_in self.new.page)) }
-        ensures truth { N.honest self.old.nand ≡ true → truth.IsTrue None (ram self.old) (image_in N.flash self.old) →
+        ensures stands { N.view.honest self.old.nand ≡ true → OnOk result (slice_get (image_in N.view.flash self.old) row ≡ Some (page_in self.new.page)) }
+        ensures truth { N.view.honest self.old.nand ≡ true → truth.IsTrue None (ram self.old) (image_in N.view.flash self.old) →
             MatchResult result
-            (LooksAt row self.new.page.body.items (image_in N.flash self.old))
+            (LooksAt row self.new.page.body.items (image_in N.view.flash self.old))
             (λ fault. fault ≡ EngineFault.Bus) }
     {
         let taken = self.take_page(row)?;
@@ -114,17 +114,17 @@ impl<N: Nand> Engine<N> {
         block: u32,
         first: u32,
     ) -> Result<Option<(u32, Record)>, EngineFault>
-        requires safe { IsSafe N.flash self.old }
+        requires safe { IsSafe N.view.flash self.old }
         requires block { block < self.old.geometry.blocks }
-        ensures looks { EngineLooks N.flash N.recorded N.honest N.calm N.programs N.erases N.failed self.old self.new result }
-        ensures reads { N.reads self.new.nand ≤ N.reads self.old.nand + 2 * (self.old.geometry.pages - first) }
-        ensures found_reads { IfOk result (λ found. ForSome found (λ f. N.reads self.new.nand ≤ N.reads self.old.nand + 2 * (f.0 + 1 - first))) }
+        ensures looks { EngineLooks N.view self.old self.new result }
+        ensures reads { N.view.reads self.new.nand ≤ N.view.reads self.old.nand + 2 * (self.old.geometry.pages - first) }
+        ensures found_reads { IfOk result (λ found. ForSome found (λ f. N.view.reads self.new.nand ≤ N.view.reads self.old.nand + 2 * (f.0 + 1 - first))) }
         ensures within { IfOk result (λ found. ForSome found (λ f. (first ≤ f.0) × (f.0 < self.old.geometry.pages))) }
         ensures checked { IfOk result (λ found. ForSome found (λ f.
             IsFoundIn (ram self.old) (page_in self.new.page) (page_in self.new.scratch) (block * self.old.geometry.pages + f.0) f.1)) }
-        ensures truth { N.honest self.old.nand ≡ true → truth.IsTrue None (ram self.old) (image_in N.flash self.old) →
+        ensures truth { N.view.honest self.old.nand ≡ true → truth.IsTrue None (ram self.old) (image_in N.view.flash self.old) →
             MatchResult result
-            (FindsFirst self.old.geometry.pages block first self.new.page.body.items (image_in N.flash self.old))
+            (FindsFirst self.old.geometry.pages block first self.new.page.body.items (image_in N.view.flash self.old))
             (λ fault. fault ≡ EngineFault.Bus) }
     {
         'candidates: for page in first..self.geometry.pages() {

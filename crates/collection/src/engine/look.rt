@@ -33,21 +33,21 @@ pub(crate) fn read_of<N: Nand>(
     buffer: &mut Buffer,
 ) -> Result<Record, EngineFault>
     requires row_in { row < row_count geometry.now }
-    requires same_geometry { (N.flash nand.old).geometry ≡ geometry.now }
+    requires same_geometry { (N.view.flash nand.old).geometry ≡ geometry.now }
     requires buffer { IsBuffer geometry.now buffer.old }
     ensures buffer { IsBuffer geometry.now buffer.new }
-    ensures only_reads { OnlyReads N.flash N.honest N.calm N.programs N.erases N.failed nand.old nand.new }
-    ensures reads { N.reads nand.new ≡ counted (N.reads nand.old) }
+    ensures only_reads { OnlyReads N.view nand.old nand.new }
+    ensures reads { N.view.reads nand.new ≡ counted (N.view.reads nand.old) }
     ensures faults { IfErr result IsReadFault }
-    ensures rose { result ≡ Err EngineFault.Bus → HasRisen (N.failed nand.old) (N.failed nand.new) }
+    ensures rose { result ≡ Err EngineFault.Bus → HasRisen (N.view.failed nand.old) (N.view.failed nand.new) }
 
     // Whatever the die does, what is in the buffer is a sound page of the key.
     ensures checked { IfOk result (λ found. IsPageOf key found (page buffer.new.body.items buffer.new.spare.items)) }
-    ensures same { N.honest nand.old ≡ true → result ≢ Err EngineFault.Bus → N.flash nand.new ≡ N.flash nand.old }
-    ensures told { N.honest nand.old ≡ true → result ≢ Err EngineFault.Bus → N.recorded nand.new ≡ N.recorded nand.old }
-    ensures page { N.honest nand.old ≡ true → OnOk result
-        (slice_get (N.flash nand.old).image row ≡ Some (page buffer.new.body.items buffer.new.spare.items)) }
-    ensures undamaged { N.honest nand.old ≡ true → newest_row (N.flash nand.old).image key ≡ Some row →
+    ensures same { N.view.honest nand.old ≡ true → result ≢ Err EngineFault.Bus → N.view.flash nand.new ≡ N.view.flash nand.old }
+    ensures told { N.view.honest nand.old ≡ true → result ≢ Err EngineFault.Bus → N.view.recorded nand.new ≡ N.view.recorded nand.old }
+    ensures page { N.view.honest nand.old ≡ true → OnOk result
+        (slice_get (N.view.flash nand.old).image row ≡ Some (page buffer.new.body.items buffer.new.spare.items)) }
+    ensures undamaged { N.view.honest nand.old ≡ true → newest_row (N.view.flash nand.old).image key ≡ Some row →
         IfErr result (λ fault. fault ≡ EngineFault.Bus) }
 {
     match read_sound(nand, geometry, row, &mut buffer.body, &mut buffer.spare) {
@@ -108,20 +108,20 @@ impl<N: Nand> Engine<N> {
     ///
     /// Source: the address translation of the DFTL paper; that pages are checked is this project's.
     pub fn row_of_sector(&mut self, sector: u32) -> Result<Option<u32>, EngineFault>
-        requires safe { IsSafe N.flash self.old }
+        requires safe { IsSafe N.view.flash self.old }
         requires sector { sector < self.old.geometry.sectors }
-        ensures looks { EngineLooks N.flash N.recorded N.honest N.calm N.programs N.erases N.failed self.old self.new result }
+        ensures looks { EngineLooks N.view self.old self.new result }
         ensures page { self.new.page ≡ self.old.page }
-        ensures reads { N.reads self.new.nand ≤ N.reads self.old.nand + 1 }
+        ensures reads { N.view.reads self.new.nand ≤ N.view.reads self.old.nand + 1 }
         ensures row { IfOk result (λ row. ForSome row (λ r. r < row_count self.old.geometry)) }
         ensures hit { ForSome (known self.old.mapping sector) (λ row. (result ≡ Ok row) × (self.new ≡ self.old)) }
         ensures unmapped { known self.old.mapping sector ≡ None → slice_get self.old.directory (sector / entries self.old.geometry) ≡ Some None →
             (result ≡ Ok None) × (self.new ≡ self.old) }
         ensures checked { known self.old.mapping sector ≡ None →
             IfOk result (GivesRow self.old.geometry self.old.directory sector (page_in self.new.scratch)) }
-        ensures truth { N.honest self.old.nand ≡ true → IsTrue None (ram self.old) (image_in N.flash self.old) →
+        ensures truth { N.view.honest self.old.nand ≡ true → IsTrue None (ram self.old) (image_in N.view.flash self.old) →
             MatchResult result
-            (λ row. row ≡ newest_row (image_in N.flash self.old) (Sector sector))
+            (λ row. row ≡ newest_row (image_in N.view.flash self.old) (Sector sector))
             (λ fault. fault ≡ EngineFault.Bus) }
     {
         let known = self.mapping.peek(sector);
@@ -133,19 +133,19 @@ impl<N: Nand> Engine<N> {
 
     // The row that the newest translation page gives for a sector that the mapping doesn't know.
     fn row_on_page(&mut self, sector: u32) -> Result<Option<u32>, EngineFault>
-        requires safe { IsSafe N.flash self.old }
+        requires safe { IsSafe N.view.flash self.old }
         requires sector { sector < self.old.geometry.sectors }
         requires unknown { known self.old.mapping sector ≡ None }
-        ensures looks { EngineLooks N.flash N.recorded N.honest N.calm N.programs N.erases N.failed self.old self.new result }
+        ensures looks { EngineLooks N.view self.old self.new result }
         ensures page { self.new.page ≡ self.old.page }
-        ensures reads { N.reads self.new.nand ≤ N.reads self.old.nand + 1 }
+        ensures reads { N.view.reads self.new.nand ≤ N.view.reads self.old.nand + 1 }
         ensures row { IfOk result (λ row. ForSome row (λ r. r < row_count self.old.geometry)) }
         ensures unmapped { slice_get self.old.directory (sector / entries self.old.geometry) ≡ Some None →
             (result ≡ Ok None) × (self.new ≡ self.old) }
         ensures checked { IfOk result (GivesRow self.old.geometry self.old.directory sector (page_in self.new.scratch)) }
-        ensures truth { N.honest self.old.nand ≡ true → IsTrue None (ram self.old) (image_in N.flash self.old) →
+        ensures truth { N.view.honest self.old.nand ≡ true → IsTrue None (ram self.old) (image_in N.view.flash self.old) →
             MatchResult result
-            (λ row. row ≡ newest_row (image_in N.flash self.old) (Sector sector))
+            (λ row. row ≡ newest_row (image_in N.view.flash self.old) (Sector sector))
             (λ fault. fault ≡ EngineFault.Bus) }
     {
         let entries = self.geometry.entries();
@@ -176,22 +176,22 @@ impl<N: Nand> Engine<N> {
     ///
     /// Source: the read of the DFTL paper; that pages are checked, and trims, are this project's.
     pub fn read_sector(&mut self, sector: u32, out: &mut [u8]) -> Result<Option<u32>, EngineFault>
-        requires safe { IsSafe N.flash self.old }
+        requires safe { IsSafe N.view.flash self.old }
         requires sector { sector < self.old.geometry.sectors }
         requires whole { length out.old ≡ self.old.geometry.data_bytes }
-        ensures looks { EngineLooks N.flash N.recorded N.honest N.calm N.programs N.erases N.failed self.old self.new result }
-        ensures reads { N.reads self.new.nand ≤ N.reads self.old.nand + 2 }
+        ensures looks { EngineLooks N.view self.old self.new result }
+        ensures reads { N.view.reads self.new.nand ≤ N.view.reads self.old.nand + 2 }
         ensures row { IfOk result (λ row. ForSome row (λ r. r < row_count self.old.geometry)) }
-        ensures hit { IsSome (known self.old.mapping sector) → N.reads self.new.nand ≤ N.reads self.old.nand + 1 }
+        ensures hit { IsSome (known self.old.mapping sector) → N.view.reads self.new.nand ≤ N.view.reads self.old.nand + 1 }
         ensures unwritten { known self.old.mapping sector ≡ Some None → (result ≡ Ok None) × (self.new ≡ self.old) }
         ensures unmapped { known self.old.mapping sector ≡ None → slice_get self.old.directory (sector / entries self.old.geometry) ≡ Some None →
             (result ≡ Ok None) × (self.new ≡ self.old) }
         ensures looked_up { IfOk result (FindsRow (ram self.old) sector (page_in self.new.scratch)) }
         ensures refused { OnErr result (out.new ≡ out.old) }
         ensures checked { IfOk result (λ row. GivesSector self.old.geometry sector row (page_in self.new.page) out.new) }
-        ensures truth { N.honest self.old.nand ≡ true → IsTrue None (ram self.old) (image_in N.flash self.old) →
+        ensures truth { N.view.honest self.old.nand ≡ true → IsTrue None (ram self.old) (image_in N.view.flash self.old) →
             MatchResult result
-            (λ row. IsRead sector row out.new self.old.geometry (image_in N.flash self.old))
+            (λ row. IsRead sector row out.new self.old.geometry (image_in N.view.flash self.old))
             (λ fault. fault ≡ EngineFault.Bus) }
     {
         let found = self.row_of_sector(sector)?;

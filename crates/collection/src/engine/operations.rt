@@ -26,26 +26,26 @@ pub(crate) fn program_record<N: Nand>(
     spare: &mut [u8],
 ) -> Result<Outcome, BusFault>
     requires row_in { row < row_count geometry.now }
-    requires same_geometry { (N.flash nand.old).geometry ≡ geometry.now }
+    requires same_geometry { (N.view.flash nand.old).geometry ≡ geometry.now }
     requires body_whole { length body.now ≡ geometry.now.data_bytes }
     requires spare_whole { length spare.old ≡ geometry.now.spare_bytes }
-    ensures geometry { (N.flash nand.new).geometry ≡ (N.flash nand.old).geometry }
-    ensures honest { N.honest nand.new ≡ N.honest nand.old }
-    ensures calm { N.calm nand.new ≡ N.calm nand.old }
-    ensures reads { N.reads nand.new ≡ N.reads nand.old }
-    ensures erases { N.erases nand.new ≡ N.erases nand.old }
-    ensures failed { N.failed nand.old ≤ N.failed nand.new }
-    ensures rose { OnErr result (HasRisen (N.failed nand.old) (N.failed nand.new)) }
+    ensures geometry { (N.view.flash nand.new).geometry ≡ (N.view.flash nand.old).geometry }
+    ensures honest { N.view.honest nand.new ≡ N.view.honest nand.old }
+    ensures calm { N.view.calm nand.new ≡ N.view.calm nand.old }
+    ensures reads { N.view.reads nand.new ≡ N.view.reads nand.old }
+    ensures erases { N.view.erases nand.new ≡ N.view.erases nand.old }
+    ensures failed { N.view.failed nand.old ≤ N.view.failed nand.new }
+    ensures rose { OnErr result (HasRisen (N.view.failed nand.old) (N.view.failed nand.new)) }
     ensures spare { record_of (page body.now spare.new) ≡ Some written.now }
-    ensures step { N.honest nand.old ≡ true →
-        IfOk result (λ outcome. IsStep row written.now.sequence outcome (N.flash nand.old) (N.recorded nand.old) (N.flash nand.new) (N.recorded nand.new)) }
-    ensures image { N.honest nand.old ≡ true → OnOk result (IsImage geometry.now (N.flash nand.new).image) }
-    ensures means { N.honest nand.old ≡ true → CanProgram geometry.now row written.now (N.flash nand.old).image →
+    ensures step { N.view.honest nand.old ≡ true →
+        IfOk result (λ outcome. IsStep row written.now.sequence outcome (N.view.flash nand.old) (N.view.recorded nand.old) (N.view.flash nand.new) (N.view.recorded nand.new)) }
+    ensures image { N.view.honest nand.old ≡ true → OnOk result (IsImage geometry.now (N.view.flash nand.new).image) }
+    ensures means { N.view.honest nand.old ≡ true → CanProgram geometry.now row written.now (N.view.flash nand.old).image →
         IfOk result (λ outcome. ProgramMeans geometry.now written.now row body.now (is_passed outcome)
-        (N.flash nand.old).image (N.flash nand.new).image) }
-    ensures stops { N.honest nand.old ≡ true → CanProgram geometry.now row written.now (N.flash nand.old).image →
-        IfOk result (λ _. LeavesOnly (N.flash nand.old) (N.flash nand.new) (N.recorded nand.old) (N.recorded nand.new)
-        (IsKeptOr geometry.now (N.flash nand.old).image (N.flash nand.new).image)) }
+        (N.view.flash nand.old).image (N.view.flash nand.new).image) }
+    ensures stops { N.view.honest nand.old ≡ true → CanProgram geometry.now row written.now (N.view.flash nand.old).image →
+        IfOk result (λ _. LeavesOnly (N.view.flash nand.old) (N.view.flash nand.new) (N.view.recorded nand.old) (N.view.recorded nand.new)
+        (IsKeptOr geometry.now (N.view.flash nand.old).image (N.view.flash nand.new).image)) }
 {
     write_record(geometry, written, body, spare);
     nand.program(row, body, spare)
@@ -60,17 +60,17 @@ pub(crate) fn read_sound<N: Nand>(
     spare: &mut [u8],
 ) -> Result<Option<Record>, SourceFault>
     requires row_in { row < row_count geometry.now }
-    requires same_geometry { (N.flash nand.old).geometry ≡ geometry.now }
+    requires same_geometry { (N.view.flash nand.old).geometry ≡ geometry.now }
     requires body_whole { length body.old ≡ geometry.now.data_bytes }
     requires spare_whole { length spare.old ≡ geometry.now.spare_bytes }
-    ensures only_reads { OnlyReads N.flash N.honest N.calm N.programs N.erases N.failed nand.old nand.new }
-    ensures reads { N.reads nand.new ≡ counted (N.reads nand.old) }
-    ensures rose { OnErr result (HasRisen (N.failed nand.old) (N.failed nand.new)) }
-    ensures same { N.honest nand.old ≡ true → OnOk result (N.flash nand.new ≡ N.flash nand.old) }
-    ensures told { N.honest nand.old ≡ true → OnOk result (N.recorded nand.new ≡ N.recorded nand.old) }
+    ensures only_reads { OnlyReads N.view nand.old nand.new }
+    ensures reads { N.view.reads nand.new ≡ counted (N.view.reads nand.old) }
+    ensures rose { OnErr result (HasRisen (N.view.failed nand.old) (N.view.failed nand.new)) }
+    ensures same { N.view.honest nand.old ≡ true → OnOk result (N.view.flash nand.new ≡ N.view.flash nand.old) }
+    ensures told { N.view.honest nand.old ≡ true → OnOk result (N.view.recorded nand.new ≡ N.view.recorded nand.old) }
     ensures record { IfOk result (λ found. found ≡ record_of (page body.new spare.new)) }
-    ensures page { N.honest nand.old ≡ true →
-        OnOk result (slice_get (N.flash nand.old).image row ≡ Some (page body.new spare.new)) }
+    ensures page { N.view.honest nand.old ≡ true →
+        OnOk result (slice_get (N.view.flash nand.old).image row ≡ Some (page body.new spare.new)) }
 {
     nand.read_page(row, body, spare)?;
     Ok(read_record(geometry, body, spare))

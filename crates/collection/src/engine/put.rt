@@ -49,27 +49,27 @@ impl<N: Nand> Engine<N> {
         number: u32,
         old_row: Option<u32>,
     ) -> Result<Option<u32>, EngineFault>
-        requires safe { IsSafe N.flash self.old }
+        requires safe { IsSafe N.view.flash self.old }
         requires next { self.old.next + 1 < 2 ^ 64 }
         requires key { IsKeyOf self.old.geometry (key_from kind number) }
         requires old_row { ForSome old_row (λ r. r < row_count self.old.geometry) }
-        ensures acts { EngineActs N.flash N.recorded N.honest N.calm N.failed self.old self.new result }
+        ensures acts { EngineActs N.view self.old self.new result }
         ensures goes { GoesPut (ram self.old) (ram self.new) }
         ensures page { self.new.page.body ≡ self.old.page.body }
         ensures scratch { self.new.scratch ≡ self.old.scratch }
-        ensures only_programs { OnlyPrograms N.reads N.erases self.old.nand self.new.nand }
+        ensures only_programs { OnlyPrograms N.view self.old.nand self.new.nand }
         ensures row { IfOk result (λ row. IfSome row (IsOutside (ram self.old))) }
         ensures programmed { IfOk result (λ row. IfSome row (λ _. IsLastPage kind number (ram self.new) (page_in self.new.page))) }
         ensures cost { TryCosts (stream_of kind) (ram self.old) (ram self.new) result }
-        ensures truth { N.honest self.old.nand ≡ true →
-            MayPut kind number old_row self.old.page.body.items (ram self.old) (image_in N.flash self.old) →
+        ensures truth { N.view.honest self.old.nand ≡ true →
+            MayPut kind number old_row self.old.page.body.items (ram self.old) (image_in N.view.flash self.old) →
             MatchResult result
-            (Attempted kind number self.old.page.body.items (ram self.old) (image_in N.flash self.old) (ram self.new) (image_in N.flash self.new))
-            (Refused (ram self.old) (image_in N.flash self.old) (ram self.new) (image_in N.flash self.new)) }
-        ensures stops { N.honest self.old.nand ≡ true →
-            MayPut kind number old_row self.old.page.body.items (ram self.old) (image_in N.flash self.old) →
+            (Attempted kind number self.old.page.body.items (ram self.old) (image_in N.view.flash self.old) (ram self.new) (image_in N.view.flash self.new))
+            (Refused (ram self.old) (image_in N.view.flash self.old) (ram self.new) (image_in N.view.flash self.new)) }
+        ensures stops { N.view.honest self.old.nand ≡ true →
+            MayPut kind number old_row self.old.page.body.items (ram self.old) (image_in N.view.flash self.old) →
             result ≢ Err EngineFault.Bus →
-            Stops N.flash N.recorded (IsKeptOr self.old.geometry (image_in N.flash self.old) (image_in N.flash self.new)) self.old self.new }
+            Stops N.view (IsKeptOr self.old.geometry (image_in N.view.flash self.old) (image_in N.view.flash self.new)) self.old self.new }
     {
         let Some(row) = self.blocks.take_row(Stream::of(kind)) else {
             return Err(EngineFault::ReadOnly);
@@ -110,26 +110,26 @@ impl<N: Nand> Engine<N> {
         number: u32,
         old_row: Option<u32>,
     ) -> Result<u32, EngineFault>
-        requires safe { IsSafe N.flash self.old }
+        requires safe { IsSafe N.view.flash self.old }
         requires key { IsKeyOf self.old.geometry (key_from kind number) }
         requires old_row { ForSome old_row (λ r. r < row_count self.old.geometry) }
-        ensures acts { EngineActs N.flash N.recorded N.honest N.calm N.failed self.old self.new result }
+        ensures acts { EngineActs N.view self.old self.new result }
         ensures goes { GoesPut (ram self.old) (ram self.new) }
         ensures page { self.new.page.body ≡ self.old.page.body }
         ensures scratch { self.new.scratch ≡ self.old.scratch }
-        ensures only_programs { OnlyPrograms N.reads N.erases self.old.nand self.new.nand }
+        ensures only_programs { OnlyPrograms N.view self.old.nand self.new.nand }
         ensures row { IfOk result (IsOutside (ram self.old)) }
         ensures programmed { OnOk result (IsLastPage kind number (ram self.new) (page_in self.new.page)) }
         ensures cost { PutCosts (stream_of kind) (ram self.old) (ram self.new) result }
-        ensures truth { N.honest self.old.nand ≡ true →
-            MayPut kind number old_row self.old.page.body.items (ram self.old) (image_in N.flash self.old) →
+        ensures truth { N.view.honest self.old.nand ≡ true →
+            MayPut kind number old_row self.old.page.body.items (ram self.old) (image_in N.view.flash self.old) →
             MatchResult result
-            (λ row. IsPut kind number row self.old.page.body.items (ram self.old) (image_in N.flash self.old) (ram self.new) (image_in N.flash self.new))
-            (Refused (ram self.old) (image_in N.flash self.old) (ram self.new) (image_in N.flash self.new)) }
-        ensures stops { N.honest self.old.nand ≡ true →
-            MayPut kind number old_row self.old.page.body.items (ram self.old) (image_in N.flash self.old) →
+            (λ row. IsPut kind number row self.old.page.body.items (ram self.old) (image_in N.view.flash self.old) (ram self.new) (image_in N.view.flash self.new))
+            (Refused (ram self.old) (image_in N.view.flash self.old) (ram self.new) (image_in N.view.flash self.new)) }
+        ensures stops { N.view.honest self.old.nand ≡ true →
+            MayPut kind number old_row self.old.page.body.items (ram self.old) (image_in N.view.flash self.old) →
             result ≢ Err EngineFault.Bus →
-            Stops N.flash N.recorded (IsKeptOr self.old.geometry (image_in N.flash self.old) (image_in N.flash self.new)) self.old self.new }
+            Stops N.view (IsKeptOr self.old.geometry (image_in N.view.flash self.old) (image_in N.view.flash self.new)) self.old self.new }
     {
         'tries: while self.next < u64::MAX {
             let tried = self.program_next(kind, number, old_row)?;
@@ -143,7 +143,7 @@ impl<N: Nand> Engine<N> {
 
     // The row of the newest page of a key, where it is known in memory.
     pub(crate) fn row_of_key(&self, key: Key) -> Option<u32>
-        requires safe { IsSafe N.flash self.now }
+        requires safe { IsSafe N.view.flash self.now }
         requires key { IsKeyOf self.now.geometry key }
         requires cached { IsCachedKey self.now.mapping key }
         ensures row { ForSome result (λ r. r < row_count self.now.geometry) }
@@ -186,29 +186,29 @@ impl<N: Nand> Engine<N> {
     ///
     /// It takes no memory. (This project.)
     pub fn put(&mut self, stream: Stream, written: &Record, body: &[u8]) -> Result<u32, WriteFault>
-        requires safe { IsSafe N.flash self.old }
+        requires safe { IsSafe N.view.flash self.old }
         requires stream { stream ≡ stream_of written.now.kind }
         requires key { IsKeyOf self.old.geometry (key_of written.now) }
         requires cached { IsCachedKey self.old.mapping (key_of written.now) }
         requires body { length body.now ≡ self.old.geometry.data_bytes }
-        ensures stands { Stands N.flash N.recorded N.honest N.calm N.failed self.old self.new result }
+        ensures stands { Stands N.view self.old self.new result }
         ensures goes { GoesPut (ram self.old) (ram self.new) }
-        ensures only_programs { OnlyPrograms N.reads N.erases self.old.nand self.new.nand }
+        ensures only_programs { OnlyPrograms N.view self.old.nand self.new.nand }
         ensures row { IfOk result (IsOutside (ram self.old)) }
         ensures programmed { OnOk result (IsLastPage written.now.kind written.now.number (ram self.new) (page_in self.new.page)) }
         ensures cost { self.old.fault ≡ None → PutCosts stream (ram self.old) (ram self.new) result }
-        ensures truth { N.honest self.old.nand ≡ true → self.old.fault ≡ None → IsTrue None (ram self.old) (image_in N.flash self.old) →
-            IsPageFor self.old.geometry (image_in N.flash self.old) self.old.mapping body.now (key_of written.now) →
+        ensures truth { N.view.honest self.old.nand ≡ true → self.old.fault ≡ None → IsTrue None (ram self.old) (image_in N.view.flash self.old) →
+            IsPageFor self.old.geometry (image_in N.view.flash self.old) self.old.mapping body.now (key_of written.now) →
             MatchResult result
-            (λ row. IsPut written.now.kind written.now.number row body.now (ram self.old) (image_in N.flash self.old) (ram self.new) (image_in N.flash self.new))
-            (Refused (ram self.old) (image_in N.flash self.old) (ram self.new) (image_in N.flash self.new)) }
-        ensures array { N.honest self.old.nand ≡ true → self.old.fault ≡ None → IsTrue None (ram self.old) (image_in N.flash self.old) →
-            IsPageFor self.old.geometry (image_in N.flash self.old) self.old.mapping body.now (key_of written.now) →
-            OnOk result (array_of self.old.geometry (image_in N.flash self.new) ≡
-            array_after self.old.geometry written.now.kind written.now.number body.now (array_of self.old.geometry (image_in N.flash self.old))) }
-        ensures stops { N.honest self.old.nand ≡ true → self.old.fault ≡ None → IsTrue None (ram self.old) (image_in N.flash self.old) →
-            IsPageFor self.old.geometry (image_in N.flash self.old) self.old.mapping body.now (key_of written.now) → result ≢ Err EngineFault.Bus →
-            Stops N.flash N.recorded (IsKeptOr self.old.geometry (image_in N.flash self.old) (image_in N.flash self.new)) self.old self.new }
+            (λ row. IsPut written.now.kind written.now.number row body.now (ram self.old) (image_in N.view.flash self.old) (ram self.new) (image_in N.view.flash self.new))
+            (Refused (ram self.old) (image_in N.view.flash self.old) (ram self.new) (image_in N.view.flash self.new)) }
+        ensures array { N.view.honest self.old.nand ≡ true → self.old.fault ≡ None → IsTrue None (ram self.old) (image_in N.view.flash self.old) →
+            IsPageFor self.old.geometry (image_in N.view.flash self.old) self.old.mapping body.now (key_of written.now) →
+            OnOk result (array_of self.old.geometry (image_in N.view.flash self.new) ≡
+            array_after self.old.geometry written.now.kind written.now.number body.now (array_of self.old.geometry (image_in N.view.flash self.old))) }
+        ensures stops { N.view.honest self.old.nand ≡ true → self.old.fault ≡ None → IsTrue None (ram self.old) (image_in N.view.flash self.old) →
+            IsPageFor self.old.geometry (image_in N.view.flash self.old) self.old.mapping body.now (key_of written.now) → result ≢ Err EngineFault.Bus →
+            Stops N.view (IsKeptOr self.old.geometry (image_in N.view.flash self.old) (image_in N.view.flash self.new)) self.old self.new }
     {
         let of_kind = stream == Stream::of(written.kind);
         prove!(of_kind);

@@ -46,7 +46,7 @@ fn is_old(version: Option<u8>) -> bool
 impl<N: Nand> Engine<N> {
     // Whether a sound page in the page buffer has to be renewed: one of version 1, but a table page.
     fn is_due(&self, found: &Record) -> bool
-        requires safe { IsSafe N.flash self.now }
+        requires safe { IsSafe N.view.flash self.now }
         ensures { result ≡ is_due_page found.now (page_in self.now.page) }
     {
         let version = record_version(&self.geometry, &self.page.body, &self.page.spare);
@@ -56,13 +56,13 @@ impl<N: Nand> Engine<N> {
     // Takes the page of a row into the page buffer, and answers its record where it is the newest of
     // its key and has to be renewed.
     fn due_record(&mut self, row: u32) -> Result<Option<Record>, EngineFault>
-        requires safe { IsSafe N.flash self.old }
+        requires safe { IsSafe N.view.flash self.old }
         requires row { row < row_count self.old.geometry }
-        ensures looks { EngineLooks N.flash N.recorded N.honest N.calm N.programs N.erases N.failed self.old self.new result }
+        ensures looks { EngineLooks N.view self.old self.new result }
         ensures checked { IfOk result (λ found. ForSome found (IsFoundIn (ram self.old) (page_in self.new.page) (page_in self.new.scratch) row)) }
-        ensures truth { N.honest self.old.nand ≡ true → truth.IsTrue None (ram self.old) (image_in N.flash self.old) →
+        ensures truth { N.view.honest self.old.nand ≡ true → truth.IsTrue None (ram self.old) (image_in N.view.flash self.old) →
             MatchResult result
-            (LooksAtDue row self.new.page.body.items (image_in N.flash self.old))
+            (LooksAtDue row self.new.page.body.items (image_in N.view.flash self.old))
             (λ fault. fault ≡ EngineFault.Bus) }
     {
         let live = self.live_record(row)?;
@@ -78,12 +78,12 @@ impl<N: Nand> Engine<N> {
 
     // The next row, from a row on, whose page has to be renewed, whatever fault stands.
     fn look_for_due(&mut self, from: u32) -> Result<Option<u32>, EngineFault>
-        requires safe { IsSafe N.flash self.old }
-        ensures looks { EngineLooks N.flash N.recorded N.honest N.calm N.programs N.erases N.failed self.old self.new result }
+        requires safe { IsSafe N.view.flash self.old }
+        ensures looks { EngineLooks N.view self.old self.new result }
         ensures row { IfOk result (λ found. ForSome found (λ row. row < row_count self.old.geometry)) }
-        ensures truth { N.honest self.old.nand ≡ true → truth.IsTrue None (ram self.old) (image_in N.flash self.old) →
+        ensures truth { N.view.honest self.old.nand ≡ true → truth.IsTrue None (ram self.old) (image_in N.view.flash self.old) →
             MatchResult result
-            (FindsDue from (image_in N.flash self.old))
+            (FindsDue from (image_in N.view.flash self.old))
             (λ fault. fault ≡ EngineFault.Bus) }
     {
         'rows: for row in from..self.geometry.rows() {
@@ -98,24 +98,24 @@ impl<N: Nand> Engine<N> {
     // Copies the page of a row where it has to be renewed, whatever fault stands. Answers whether it
     // was so.
     fn renew(&mut self, row: u32) -> Result<bool, EngineFault>
-        requires safe { IsSafe N.flash self.old }
+        requires safe { IsSafe N.view.flash self.old }
         requires row { row < row_count self.old.geometry }
-        ensures acts { EngineActs N.flash N.recorded N.honest N.calm N.failed self.old self.new result }
+        ensures acts { EngineActs N.view self.old self.new result }
         ensures goes { Goes (ram self.old) (ram self.new) }
-        ensures erases { N.erases self.new.nand ≡ N.erases self.old.nand }
+        ensures erases { N.view.erases self.new.nand ≡ N.view.erases self.old.nand }
         ensures keys { KeepsKeys self.old.mapping self.new.mapping }
         ensures beside { OnOk result (LeavesPin (ram self.old) (ram self.new)) }
         ensures pin { (ram self.new).pin ≡ (ram self.old).pin }
         ensures one_more { length self.new.mapping.moved ≤ length self.old.mapping.moved + 1 }
         ensures full { length self.old.mapping.moved ≡ self.old.geometry.pages → (result ≡ Err EngineFault.Damaged) × (self.new ≡ self.old) }
         ensures cost { RescueCosts (ram self.old) (ram self.new) result }
-        ensures truth { N.honest self.old.nand ≡ true → truth.IsTrue None (ram self.old) (image_in N.flash self.old) →
+        ensures truth { N.view.honest self.old.nand ≡ true → truth.IsTrue None (ram self.old) (image_in N.view.flash self.old) →
             length self.old.mapping.moved < self.old.geometry.pages →
             MatchResult result
-            (IsRenewedAt row (ram self.old) (image_in N.flash self.old) (ram self.new) (image_in N.flash self.new))
-            (Refused (ram self.old) (image_in N.flash self.old) (ram self.new) (image_in N.flash self.new)) }
-        ensures stops { N.honest self.old.nand ≡ true → truth.IsTrue None (ram self.old) (image_in N.flash self.old) → result ≢ Err EngineFault.Bus →
-            StopsSafely N.flash N.recorded self.old self.new }
+            (IsRenewedAt row (ram self.old) (image_in N.view.flash self.old) (ram self.new) (image_in N.view.flash self.new))
+            (Refused (ram self.old) (image_in N.view.flash self.old) (ram self.new) (image_in N.view.flash self.new)) }
+        ensures stops { N.view.honest self.old.nand ≡ true → truth.IsTrue None (ram self.old) (image_in N.view.flash self.old) → result ≢ Err EngineFault.Bus →
+            StopsSafely N.view self.old self.new }
     {
         if self.mapping.moved_count() >= self.geometry.pages() {
             return Err(EngineFault::Damaged);
@@ -136,19 +136,19 @@ impl<N: Nand> Engine<N> {
     ///
     /// `Bus` where a page read failed, or what stands. (This project.)
     pub fn next_old(&mut self, from: u32) -> Result<Option<u32>, EngineFault>
-        requires safe { IsSafe N.flash self.old }
-        ensures stands { Stands N.flash N.recorded N.honest N.calm N.failed self.old self.new result }
-        ensures only_reads { OnlyReads N.flash N.honest N.calm N.programs N.erases N.failed self.old.nand self.new.nand }
+        requires safe { IsSafe N.view.flash self.old }
+        ensures stands { Stands N.view self.old self.new result }
+        ensures only_reads { OnlyReads N.view self.old.nand self.new.nand }
         ensures still { ram self.new ≡ record (ram self.old) { fault = self.new.fault } }
-        ensures same { N.honest self.old.nand ≡ true → OnOk result (N.flash self.new.nand ≡ N.flash self.old.nand) }
+        ensures same { N.view.honest self.old.nand ≡ true → OnOk result (N.view.flash self.new.nand ≡ N.view.flash self.old.nand) }
         ensures faults { self.old.fault ≡ None → IfErr result IsReadFault }
         ensures row { IfOk result (λ found. ForSome found (λ row. row < row_count self.old.geometry)) }
-        ensures truth { N.honest self.old.nand ≡ true → self.old.fault ≡ None → truth.IsTrue None (ram self.old) (image_in N.flash self.old) →
+        ensures truth { N.view.honest self.old.nand ≡ true → self.old.fault ≡ None → truth.IsTrue None (ram self.old) (image_in N.view.flash self.old) →
             MatchResult result
-            (FindsDue from (image_in N.flash self.old))
+            (FindsDue from (image_in N.view.flash self.old))
             (λ fault. fault ≡ EngineFault.Bus) }
-        ensures stops { N.honest self.old.nand ≡ true → self.old.fault ≡ None → truth.IsTrue None (ram self.old) (image_in N.flash self.old) → result ≢ Err EngineFault.Bus →
-            StopsSafely N.flash N.recorded self.old self.new }
+        ensures stops { N.view.honest self.old.nand ≡ true → self.old.fault ≡ None → truth.IsTrue None (ram self.old) (image_in N.view.flash self.old) → result ≢ Err EngineFault.Bus →
+            StopsSafely N.view self.old self.new }
     {
         self.standing()?;
         let answer = self.look_for_due(from);
@@ -168,25 +168,25 @@ impl<N: Nand> Engine<N> {
     ///
     /// It takes no memory. (This project.)
     pub fn renew_at(&mut self, row: u32) -> Result<bool, WriteFault>
-        requires safe { IsSafe N.flash self.old }
+        requires safe { IsSafe N.view.flash self.old }
         requires row { row < row_count self.old.geometry }
-        ensures stands { Stands N.flash N.recorded N.honest N.calm N.failed self.old self.new result }
+        ensures stands { Stands N.view self.old self.new result }
         ensures beside { OnOk result (LeavesPin (ram self.old) (ram self.new)) }
         ensures pin { (ram self.new).pin ≡ (ram self.old).pin }
         ensures one_more { length self.new.mapping.moved ≤ length self.old.mapping.moved + 1 }
         ensures full { self.old.fault ≡ None → length self.old.mapping.moved ≡ self.old.geometry.pages →
             (result ≡ Err EngineFault.Damaged) × (self.new ≡ record self.old { fault = Some EngineFault.Damaged }) }
         ensures goes { Goes (ram self.old) (ram self.new) }
-        ensures erases { N.erases self.new.nand ≡ N.erases self.old.nand }
+        ensures erases { N.view.erases self.new.nand ≡ N.view.erases self.old.nand }
         ensures keys { KeepsKeys self.old.mapping self.new.mapping }
         ensures cost { self.old.fault ≡ None → RescueCosts (ram self.old) (ram self.new) result }
-        ensures truth { N.honest self.old.nand ≡ true → self.old.fault ≡ None → truth.IsTrue None (ram self.old) (image_in N.flash self.old) →
+        ensures truth { N.view.honest self.old.nand ≡ true → self.old.fault ≡ None → truth.IsTrue None (ram self.old) (image_in N.view.flash self.old) →
             length self.old.mapping.moved < self.old.geometry.pages →
             MatchResult result
-            (IsRenewedAt row (ram self.old) (image_in N.flash self.old) (ram self.new) (image_in N.flash self.new))
-            (Refused (ram self.old) (image_in N.flash self.old) (ram self.new) (image_in N.flash self.new)) }
-        ensures stops { N.honest self.old.nand ≡ true → self.old.fault ≡ None → truth.IsTrue None (ram self.old) (image_in N.flash self.old) → result ≢ Err EngineFault.Bus →
-            StopsSafely N.flash N.recorded self.old self.new }
+            (IsRenewedAt row (ram self.old) (image_in N.view.flash self.old) (ram self.new) (image_in N.view.flash self.new))
+            (Refused (ram self.old) (image_in N.view.flash self.old) (ram self.new) (image_in N.view.flash self.new)) }
+        ensures stops { N.view.honest self.old.nand ≡ true → self.old.fault ≡ None → truth.IsTrue None (ram self.old) (image_in N.view.flash self.old) → result ≢ Err EngineFault.Bus →
+            StopsSafely N.view self.old self.new }
     {
         self.standing()?;
         let answer = self.renew(row);

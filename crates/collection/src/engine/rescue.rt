@@ -24,7 +24,7 @@ use page_layout::record::{Key, Record};
 impl<N: Nand> Engine<N> {
     // Whether a bad block has a live page, by the count.
     fn is_ailing(&self, block: u32) -> bool
-        requires safe { IsSafe N.flash self.now }
+        requires safe { IsSafe N.view.flash self.now }
         requires block { block < self.now.geometry.blocks }
         ensures some { OnTrue result (IsAiling (ram self.now).blocks block) }
         ensures none { OnFalse result (is_good_at (ram self.now).blocks.table block ≡ false → live_at (ram self.now).blocks block ≡ 0) }
@@ -35,7 +35,7 @@ impl<N: Nand> Engine<N> {
     /// Whether a bad block holds a page that is the newest of its key, by the counts of live pages.
     /// (This project.)
     pub fn needs_rescue(&self) -> bool
-        requires safe { IsSafe N.flash self.now }
+        requires safe { IsSafe N.view.flash self.now }
         ensures some { OnTrue result (HasAiling (ram self.now).blocks) }
         ensures none { OnFalse result (HasNoneAiling (ram self.now).blocks) }
     {
@@ -50,13 +50,13 @@ impl<N: Nand> Engine<N> {
     // Looks for the page of lowest row in a bad block that is the newest of its key, and takes it into
     // the page buffer.
     fn first_ailing(&mut self) -> Result<Option<(u32, Record)>, EngineFault>
-        requires safe { IsSafe N.flash self.old }
-        ensures looks { EngineLooks N.flash N.recorded N.honest N.calm N.programs N.erases N.failed self.old self.new result }
+        requires safe { IsSafe N.view.flash self.old }
+        ensures looks { EngineLooks N.view self.old self.new result }
         ensures row { IfOk result (λ found. ForSome found (λ f. f.0 < row_count self.old.geometry)) }
         ensures checked { IfOk result (λ found. ForSome found (λ f. IsFoundIn (ram self.old) (page_in self.new.page) (page_in self.new.scratch) f.0 f.1)) }
-        ensures truth { N.honest self.old.nand ≡ true → truth.IsTrue None (ram self.old) (image_in N.flash self.old) →
+        ensures truth { N.view.honest self.old.nand ≡ true → truth.IsTrue None (ram self.old) (image_in N.view.flash self.old) →
             MatchResult result
-            (FindsAiling (ram self.old).blocks self.new.page.body.items (image_in N.flash self.old))
+            (FindsAiling (ram self.old).blocks self.new.page.body.items (image_in N.view.flash self.old))
             (λ fault. fault ≡ EngineFault.Bus) }
     {
         'numbers: for block in 0..self.geometry.blocks() {
@@ -74,22 +74,22 @@ impl<N: Nand> Engine<N> {
 
     // Writes back the translation page of a sector that was moved.
     pub(crate) fn follow_moved(&mut self, key: Key) -> Result<(), EngineFault>
-        requires safe { IsSafe N.flash self.old }
+        requires safe { IsSafe N.view.flash self.old }
         requires key { IsKeyOf self.old.geometry key }
-        ensures acts { EngineActs N.flash N.recorded N.honest N.calm N.failed self.old self.new result }
+        ensures acts { EngineActs N.view self.old self.new result }
         ensures goes { Goes (ram self.old) (ram self.new) }
-        ensures erases { N.erases self.new.nand ≡ N.erases self.old.nand }
+        ensures erases { N.view.erases self.new.nand ≡ N.view.erases self.old.nand }
         ensures keys { KeepsKeys self.old.mapping self.new.mapping }
         ensures pin { (ram self.new).pin ≡ (ram self.old).pin }
         ensures followed { OnOk result (IsFollowed key self.old.mapping self.new.mapping) }
         ensures unmoved { OnErr result (self.new.mapping ≡ self.old.mapping) }
         ensures cost { FollowCosts key (ram self.old) (ram self.new) result }
-        ensures truth { N.honest self.old.nand ≡ true → truth.IsTrue None (ram self.old) (image_in N.flash self.old) →
+        ensures truth { N.view.honest self.old.nand ≡ true → truth.IsTrue None (ram self.old) (image_in N.view.flash self.old) →
             MatchResult result
-            (λ _. IsFollowedBy key (ram self.old) (image_in N.flash self.old) (ram self.new) (image_in N.flash self.new))
-            (Refused (ram self.old) (image_in N.flash self.old) (ram self.new) (image_in N.flash self.new)) }
-        ensures stops { N.honest self.old.nand ≡ true → truth.IsTrue None (ram self.old) (image_in N.flash self.old) →
-            result ≢ Err EngineFault.Bus → StopsSafely N.flash N.recorded self.old self.new }
+            (λ _. IsFollowedBy key (ram self.old) (image_in N.view.flash self.old) (ram self.new) (image_in N.view.flash self.new))
+            (Refused (ram self.old) (image_in N.view.flash self.old) (ram self.new) (image_in N.view.flash self.new)) }
+        ensures stops { N.view.honest self.old.nand ≡ true → truth.IsTrue None (ram self.old) (image_in N.view.flash self.old) →
+            result ≢ Err EngineFault.Bus → StopsSafely N.view self.old self.new }
     {
         let Key::Sector(n) = key else {
             return Ok(());
@@ -103,23 +103,23 @@ impl<N: Nand> Engine<N> {
 
     // Copies the live page of lowest row in a bad block out of it, whatever fault stands.
     fn rescue(&mut self) -> Result<bool, EngineFault>
-        requires safe { IsSafe N.flash self.old }
-        ensures acts { EngineActs N.flash N.recorded N.honest N.calm N.failed self.old self.new result }
+        requires safe { IsSafe N.view.flash self.old }
+        ensures acts { EngineActs N.view self.old self.new result }
         ensures goes { Goes (ram self.old) (ram self.new) }
-        ensures erases { N.erases self.new.nand ≡ N.erases self.old.nand }
+        ensures erases { N.view.erases self.new.nand ≡ N.view.erases self.old.nand }
         ensures keys { KeepsKeys self.old.mapping self.new.mapping }
         ensures beside { OnOk result (LeavesPin (ram self.old) (ram self.new)) }
         ensures pin { (ram self.new).pin ≡ (ram self.old).pin }
         ensures one_more { length self.new.mapping.moved ≤ length self.old.mapping.moved + 1 }
         ensures full { length self.old.mapping.moved ≡ self.old.geometry.pages → (result ≡ Err EngineFault.Damaged) × (self.new ≡ self.old) }
         ensures cost { RescueCosts (ram self.old) (ram self.new) result }
-        ensures truth { N.honest self.old.nand ≡ true → truth.IsTrue None (ram self.old) (image_in N.flash self.old) →
+        ensures truth { N.view.honest self.old.nand ≡ true → truth.IsTrue None (ram self.old) (image_in N.view.flash self.old) →
             length self.old.mapping.moved < self.old.geometry.pages →
             MatchResult result
-            (IsRescued (ram self.old) (image_in N.flash self.old) (ram self.new) (image_in N.flash self.new))
-            (Refused (ram self.old) (image_in N.flash self.old) (ram self.new) (image_in N.flash self.new)) }
-        ensures stops { N.honest self.old.nand ≡ true → truth.IsTrue None (ram self.old) (image_in N.flash self.old) →
-            result ≢ Err EngineFault.Bus → StopsSafely N.flash N.recorded self.old self.new }
+            (IsRescued (ram self.old) (image_in N.view.flash self.old) (ram self.new) (image_in N.view.flash self.new))
+            (Refused (ram self.old) (image_in N.view.flash self.old) (ram self.new) (image_in N.view.flash self.new)) }
+        ensures stops { N.view.honest self.old.nand ≡ true → truth.IsTrue None (ram self.old) (image_in N.view.flash self.old) →
+            result ≢ Err EngineFault.Bus → StopsSafely N.view self.old self.new }
     {
         if self.mapping.moved_count() >= self.geometry.pages() {
             return Err(EngineFault::Damaged);
@@ -148,24 +148,24 @@ impl<N: Nand> Engine<N> {
     ///
     /// It takes no memory. (This project.)
     pub fn rescue_one(&mut self) -> Result<bool, WriteFault>
-        requires safe { IsSafe N.flash self.old }
-        ensures stands { Stands N.flash N.recorded N.honest N.calm N.failed self.old self.new result }
+        requires safe { IsSafe N.view.flash self.old }
+        ensures stands { Stands N.view self.old self.new result }
         ensures beside { OnOk result (LeavesPin (ram self.old) (ram self.new)) }
         ensures pin { (ram self.new).pin ≡ (ram self.old).pin }
         ensures one_more { length self.new.mapping.moved ≤ length self.old.mapping.moved + 1 }
         ensures full { self.old.fault ≡ None → length self.old.mapping.moved ≡ self.old.geometry.pages →
             (result ≡ Err EngineFault.Damaged) × (self.new ≡ record self.old { fault = Some EngineFault.Damaged }) }
         ensures goes { Goes (ram self.old) (ram self.new) }
-        ensures erases { N.erases self.new.nand ≡ N.erases self.old.nand }
+        ensures erases { N.view.erases self.new.nand ≡ N.view.erases self.old.nand }
         ensures keys { KeepsKeys self.old.mapping self.new.mapping }
         ensures cost { self.old.fault ≡ None → RescueCosts (ram self.old) (ram self.new) result }
-        ensures truth { N.honest self.old.nand ≡ true → self.old.fault ≡ None → truth.IsTrue None (ram self.old) (image_in N.flash self.old) →
+        ensures truth { N.view.honest self.old.nand ≡ true → self.old.fault ≡ None → truth.IsTrue None (ram self.old) (image_in N.view.flash self.old) →
             length self.old.mapping.moved < self.old.geometry.pages →
             MatchResult result
-            (IsRescued (ram self.old) (image_in N.flash self.old) (ram self.new) (image_in N.flash self.new))
-            (Refused (ram self.old) (image_in N.flash self.old) (ram self.new) (image_in N.flash self.new)) }
-        ensures stops { N.honest self.old.nand ≡ true → self.old.fault ≡ None → truth.IsTrue None (ram self.old) (image_in N.flash self.old) →
-            result ≢ Err EngineFault.Bus → StopsSafely N.flash N.recorded self.old self.new }
+            (IsRescued (ram self.old) (image_in N.view.flash self.old) (ram self.new) (image_in N.view.flash self.new))
+            (Refused (ram self.old) (image_in N.view.flash self.old) (ram self.new) (image_in N.view.flash self.new)) }
+        ensures stops { N.view.honest self.old.nand ≡ true → self.old.fault ≡ None → truth.IsTrue None (ram self.old) (image_in N.view.flash self.old) →
+            result ≢ Err EngineFault.Bus → StopsSafely N.view self.old self.new }
     {
         self.standing()?;
         let answer = self.rescue();

@@ -45,7 +45,7 @@ impl<N: Nand> Engine<N> {
     /// The block that is worth collecting, where fewer blocks are free than this reserve has: the next
     /// victim, if it has at most `Geometry::vmax` live pages. (This project.)
     pub fn worth(&self, reserve: Reserve) -> Option<u32>
-        requires safe { IsSafe N.flash self.now }
+        requires safe { IsSafe N.view.flash self.now }
         ensures { MatchOption result (IsMade (beyond reserve) (ram self.now)) (IsWorth (beyond reserve) (ram self.now)) }
     {
         if self.blocks.free() >= reserve.blocks() {
@@ -60,7 +60,7 @@ impl<N: Nand> Engine<N> {
 
     // Whether there are free blocks enough.
     fn enough(&self) -> Result<(), EngineFault>
-        requires safe { IsSafe N.flash self.now }
+        requires safe { IsSafe N.view.flash self.now }
         ensures ok { OnOk result (5 ≤ free_count (ram self.now).blocks) }
         ensures err { IfErr result (λ fault. (fault ≡ EngineFault.ReadOnly) × (free_count (ram self.now).blocks < 5)) }
     {
@@ -73,20 +73,20 @@ impl<N: Nand> Engine<N> {
     // Finishes the collection of the pinned block, where there is one and fewer than nine blocks are
     // free, whatever fault stands.
     fn finish(&mut self, flushing: bool) -> Result<(), EngineFault>
-        requires safe { IsSafe N.flash self.old }
+        requires safe { IsSafe N.view.flash self.old }
         requires calm { IsCalm (ram self.old) }
-        ensures acts { EngineActs N.flash N.recorded N.honest N.calm N.failed self.old self.new result }
-        ensures makes { MakesRoom N.flash N.honest N.erases flushing self.old self.new result }
+        ensures acts { EngineActs N.view self.old self.new result }
+        ensures makes { MakesRoom N.view flushing self.old self.new result }
         ensures unpinned { OnOk result ((9 ≤ free_count (ram self.new).blocks) ⊎ (self.new.pinned ≡ None)) }
-        ensures count { N.honest self.old.nand ≡ true → truth.IsTrue None (ram self.old) (image_in N.flash self.old) →
-            PinHasPassed (ram self.old) (image_in N.flash self.old) → PinIsFew 0 (ram self.old) →
+        ensures count { N.view.honest self.old.nand ≡ true → truth.IsTrue None (ram self.old) (image_in N.view.flash self.old) →
+            PinHasPassed (ram self.old) (image_in N.view.flash self.old) → PinIsFew 0 (ram self.old) →
             (failures : ℕ) → IsFunded self.old.geometry.pages failures (counts_of (ram self.old).blocks) →
             MatchResult result
             (λ _. IsFundedOn failures (ram self.old) (ram self.new))
             (λ fault. RoomCounts failures (ram self.old) (ram self.new) (Err fault)) }
-        ensures stops { N.honest self.old.nand ≡ true → truth.IsTrue None (ram self.old) (image_in N.flash self.old) →
-            PinHasPassed (ram self.old) (image_in N.flash self.old) → result ≢ Err EngineFault.Bus →
-            StopsSafely N.flash N.recorded self.old self.new }
+        ensures stops { N.view.honest self.old.nand ≡ true → truth.IsTrue None (ram self.old) (image_in N.view.flash self.old) →
+            PinHasPassed (ram self.old) (image_in N.view.flash self.old) → result ≢ Err EngineFault.Bus →
+            StopsSafely N.view self.old self.new }
     {
         let wanted = Reserve::Call.blocks();
         match self.pinned {
@@ -98,18 +98,18 @@ impl<N: Nand> Engine<N> {
     // Finishes the pinned block, and collects until nine blocks are free or none is worth it, whatever
     // fault stands.
     fn regain(&mut self, flushing: bool) -> Result<(), EngineFault>
-        requires safe { IsSafe N.flash self.old }
+        requires safe { IsSafe N.view.flash self.old }
         requires calm { IsCalm (ram self.old) }
-        ensures acts { EngineActs N.flash N.recorded N.honest N.calm N.failed self.old self.new result }
-        ensures makes { MakesRoom N.flash N.honest N.erases flushing self.old self.new result }
+        ensures acts { EngineActs N.view self.old self.new result }
+        ensures makes { MakesRoom N.view flushing self.old self.new result }
         ensures room { OnOk result (HasRoom (ram self.new)) }
-        ensures count { N.honest self.old.nand ≡ true → truth.IsTrue None (ram self.old) (image_in N.flash self.old) →
-            PinHasPassed (ram self.old) (image_in N.flash self.old) → PinIsFew 0 (ram self.old) →
+        ensures count { N.view.honest self.old.nand ≡ true → truth.IsTrue None (ram self.old) (image_in N.view.flash self.old) →
+            PinHasPassed (ram self.old) (image_in N.view.flash self.old) → PinIsFew 0 (ram self.old) →
             (failures : ℕ) → IsFunded self.old.geometry.pages failures (counts_of (ram self.old).blocks) →
             RoomCounts failures (ram self.old) (ram self.new) result }
-        ensures stops { N.honest self.old.nand ≡ true → truth.IsTrue None (ram self.old) (image_in N.flash self.old) →
-            PinHasPassed (ram self.old) (image_in N.flash self.old) → result ≢ Err EngineFault.Bus →
-            StopsSafely N.flash N.recorded self.old self.new }
+        ensures stops { N.view.honest self.old.nand ≡ true → truth.IsTrue None (ram self.old) (image_in N.view.flash self.old) →
+            PinHasPassed (ram self.old) (image_in N.view.flash self.old) → result ≢ Err EngineFault.Bus →
+            StopsSafely N.view self.old self.new }
     {
         self.finish(flushing)?;
         'rounds: loop {
@@ -149,18 +149,18 @@ impl<N: Nand> Engine<N> {
     ///
     /// It takes no memory. (This project.)
     pub fn make_room(&mut self, flushing: bool) -> Result<(), WriteFault>
-        requires safe { IsSafe N.flash self.old }
+        requires safe { IsSafe N.view.flash self.old }
         requires calm { self.old.fault ≡ None → IsCalm (ram self.old) }
-        ensures stands { Stands N.flash N.recorded N.honest N.calm N.failed self.old self.new result }
-        ensures makes { self.old.fault ≡ None → MakesRoom N.flash N.honest N.erases flushing self.old self.new result }
+        ensures stands { Stands N.view self.old self.new result }
+        ensures makes { self.old.fault ≡ None → MakesRoom N.view flushing self.old self.new result }
         ensures room { OnOk result (HasRoom (ram self.new)) }
-        ensures count { N.honest self.old.nand ≡ true → self.old.fault ≡ None → truth.IsTrue None (ram self.old) (image_in N.flash self.old) →
-            PinHasPassed (ram self.old) (image_in N.flash self.old) → PinIsFew 0 (ram self.old) →
+        ensures count { N.view.honest self.old.nand ≡ true → self.old.fault ≡ None → truth.IsTrue None (ram self.old) (image_in N.view.flash self.old) →
+            PinHasPassed (ram self.old) (image_in N.view.flash self.old) → PinIsFew 0 (ram self.old) →
             (failures : ℕ) → IsFunded self.old.geometry.pages failures (counts_of (ram self.old).blocks) →
             RoomCounts failures (ram self.old) (ram self.new) result }
-        ensures stops { N.honest self.old.nand ≡ true → self.old.fault ≡ None → truth.IsTrue None (ram self.old) (image_in N.flash self.old) →
-            PinHasPassed (ram self.old) (image_in N.flash self.old) → result ≢ Err EngineFault.Bus →
-            StopsSafely N.flash N.recorded self.old self.new }
+        ensures stops { N.view.honest self.old.nand ≡ true → self.old.fault ≡ None → truth.IsTrue None (ram self.old) (image_in N.view.flash self.old) →
+            PinHasPassed (ram self.old) (image_in N.view.flash self.old) → result ≢ Err EngineFault.Bus →
+            StopsSafely N.view self.old self.new }
     {
         self.standing()?;
         let answer = self.regain(flushing);

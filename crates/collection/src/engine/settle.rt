@@ -38,11 +38,11 @@ fn set_row(mapping: &mut Mapping, sector: u32, row: u32)
 impl<N: Nand> Engine<N> {
     // Sets the row of a key.
     fn settle(&mut self, kind: Kind, number: u32, row: u32)
-        requires safe { IsSafe N.flash self.old }
+        requires safe { IsSafe N.view.flash self.old }
         requires key { IsKeyOf self.old.geometry (key_from kind number) }
         requires place { HasPlace self.old.mapping (key_from kind number) }
         requires row { row < row_count self.old.geometry }
-        ensures safe { IsSafe N.flash self.new }
+        ensures safe { IsSafe N.view.flash self.new }
         ensures settles { SettlesRow (key_from kind number) row (ram self.old) (ram self.new) }
         ensures nand { self.new.nand ≡ self.old.nand }
         ensures page { self.new.page ≡ self.old.page }
@@ -65,15 +65,15 @@ impl<N: Nand> Engine<N> {
         number: u32,
         old_row: Option<u32>,
     ) -> Result<u32, EngineFault>
-        requires safe { IsSafe N.flash self.old }
+        requires safe { IsSafe N.view.flash self.old }
         requires key { IsKeyOf self.old.geometry (key_from kind number) }
         requires place { HasPlace self.old.mapping (key_from kind number) }
         requires old_row { ForSome old_row (λ r. r < row_count self.old.geometry) }
-        ensures acts { EngineActs N.flash N.recorded N.honest N.calm N.failed self.old self.new result }
+        ensures acts { EngineActs N.view self.old self.new result }
         ensures goes { Goes (ram self.old) (ram self.new) }
         ensures page { self.new.page.body ≡ self.old.page.body }
         ensures scratch { self.new.scratch ≡ self.old.scratch }
-        ensures only_programs { OnlyPrograms N.reads N.erases self.old.nand self.new.nand }
+        ensures only_programs { OnlyPrograms N.view self.old.nand self.new.nand }
         ensures pin { (ram self.new).pin ≡ (ram self.old).pin }
         ensures row { IfOk result (IsOutside (ram self.old)) }
         ensures table { KeepsTable (ram self.old).blocks (ram self.new).blocks }
@@ -83,13 +83,13 @@ impl<N: Nand> Engine<N> {
         ensures directory { IfOk result (λ row. SetsDirectory self.old.geometry (key_from kind number) row self.old.directory self.new.directory) }
         ensures programmed { OnOk result (IsLastPage kind number (ram self.new) (page_in self.new.page)) }
         ensures cost { PutCosts (stream_of kind) (ram self.old) (ram self.new) result }
-        ensures truth { N.honest self.old.nand ≡ true →
-            MayPut kind number old_row self.old.page.body.items (ram self.old) (image_in N.flash self.old) →
+        ensures truth { N.view.honest self.old.nand ≡ true →
+            MayPut kind number old_row self.old.page.body.items (ram self.old) (image_in N.view.flash self.old) →
             MatchResult result
-            (λ row. IsReplaced kind number row self.old.page.body.items (ram self.old) (image_in N.flash self.old) (ram self.new) (image_in N.flash self.new))
-            (Refused (ram self.old) (image_in N.flash self.old) (ram self.new) (image_in N.flash self.new)) }
-        ensures stops { N.honest self.old.nand ≡ true → MayPut kind number old_row self.old.page.body.items (ram self.old) (image_in N.flash self.old) →
-            result ≢ Err EngineFault.Bus → StopsSafely N.flash N.recorded self.old self.new }
+            (λ row. IsReplaced kind number row self.old.page.body.items (ram self.old) (image_in N.view.flash self.old) (ram self.new) (image_in N.view.flash self.new))
+            (Refused (ram self.old) (image_in N.view.flash self.old) (ram self.new) (image_in N.view.flash self.new)) }
+        ensures stops { N.view.honest self.old.nand ≡ true → MayPut kind number old_row self.old.page.body.items (ram self.old) (image_in N.view.flash self.old) →
+            result ≢ Err EngineFault.Bus → StopsSafely N.view self.old self.new }
     {
         let row = self.put_page(kind, number, old_row)?;
         self.settle(kind, number, row);
@@ -98,15 +98,15 @@ impl<N: Nand> Engine<N> {
 
     // Programs a page of a cached sector with what is in the page buffer, and sets the sector's row.
     pub(crate) fn append(&mut self, kind: Kind, sector: u32) -> Result<(), EngineFault>
-        requires safe { IsSafe N.flash self.old }
+        requires safe { IsSafe N.view.flash self.old }
         requires kind { key_from kind sector ≡ Sector sector }
         requires sector { sector < self.old.geometry.sectors }
         requires cached { IsSome (slot_of self.old.mapping sector) }
-        ensures acts { EngineActs N.flash N.recorded N.honest N.calm N.failed self.old self.new result }
+        ensures acts { EngineActs N.view self.old self.new result }
         ensures goes { Goes (ram self.old) (ram self.new) }
         ensures page { self.new.page.body ≡ self.old.page.body }
         ensures scratch { self.new.scratch ≡ self.old.scratch }
-        ensures only_programs { OnlyPrograms N.reads N.erases self.old.nand self.new.nand }
+        ensures only_programs { OnlyPrograms N.view self.old.nand self.new.nand }
         ensures pin { (ram self.new).pin ≡ (ram self.old).pin }
         ensures keys { keys_of self.new.mapping.cached ≡ keys_of self.old.mapping.cached }
         ensures no_more { HasNoMore self.old.mapping self.new.mapping }
@@ -114,12 +114,12 @@ impl<N: Nand> Engine<N> {
         ensures settled { OnOk result (HasSettled sector (ram self.old) (ram self.new)) }
         ensures programmed { OnOk result (IsLastPage kind sector (ram self.new) (page_in self.new.page)) }
         ensures cost { PageCosts (stream_of kind) (ram self.old) (ram self.new) result }
-        ensures truth { N.honest self.old.nand ≡ true → IsTrue None (ram self.old) (image_in N.flash self.old) →
+        ensures truth { N.view.honest self.old.nand ≡ true → IsTrue None (ram self.old) (image_in N.view.flash self.old) →
             MatchResult result
-            (λ _. IsWritten kind sector self.old.page.body.items (ram self.old) (image_in N.flash self.old) (ram self.new) (image_in N.flash self.new))
-            (Refused (ram self.old) (image_in N.flash self.old) (ram self.new) (image_in N.flash self.new)) }
-        ensures stops { N.honest self.old.nand ≡ true → IsTrue None (ram self.old) (image_in N.flash self.old) →
-            result ≢ Err EngineFault.Bus → StopsSafely N.flash N.recorded self.old self.new }
+            (λ _. IsWritten kind sector self.old.page.body.items (ram self.old) (image_in N.view.flash self.old) (ram self.new) (image_in N.view.flash self.new))
+            (Refused (ram self.old) (image_in N.view.flash self.old) (ram self.new) (image_in N.view.flash self.new)) }
+        ensures stops { N.view.honest self.old.nand ≡ true → IsTrue None (ram self.old) (image_in N.view.flash self.old) →
+            result ≢ Err EngineFault.Bus → StopsSafely N.view self.old self.new }
     {
         let old_row = self.row_of_key(Key::Sector(sector));
         self.replace(kind, sector, old_row)?;

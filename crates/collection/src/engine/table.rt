@@ -19,23 +19,23 @@ use page_layout::record::{Key, Kind};
 impl<N: Nand> Engine<N> {
     // Programs table page `u` as the table is now, whatever fault stands.
     fn put_table(&mut self, u: u32) -> Result<(), EngineFault>
-        requires safe { IsSafe N.flash self.old }
+        requires safe { IsSafe N.view.flash self.old }
         requires page { u < table_pages self.old.geometry }
-        ensures acts { EngineActs N.flash N.recorded N.honest N.calm N.failed self.old self.new result }
+        ensures acts { EngineActs N.view self.old self.new result }
         ensures goes { Goes (ram self.old) (ram self.new) }
         ensures table { KeepsTable (ram self.old).blocks (ram self.new).blocks }
         ensures mapping { self.new.mapping ≡ self.old.mapping }
         ensures pin { (ram self.new).pin ≡ (ram self.old).pin }
-        ensures only_programs { OnlyPrograms N.reads N.erases self.old.nand self.new.nand }
+        ensures only_programs { OnlyPrograms N.view self.old.nand self.new.nand }
         ensures spelled { self.new.page.body.items ≡ table_bytes (entries self.old.geometry) (ram self.old).blocks.table u }
         ensures programmed { OnOk result (IsLastPage Kind.Table u (ram self.new) (page_in self.new.page)) }
         ensures cost { PageCosts Meta (ram self.old) (ram self.new) result }
-        ensures truth { N.honest self.old.nand ≡ true → IsTrue None (ram self.old) (image_in N.flash self.old) →
+        ensures truth { N.view.honest self.old.nand ≡ true → IsTrue None (ram self.old) (image_in N.view.flash self.old) →
             MatchResult result
-            (λ _. IsTabled u (ram self.old) (image_in N.flash self.old) (ram self.new) (image_in N.flash self.new))
-            (Refused (ram self.old) (image_in N.flash self.old) (ram self.new) (image_in N.flash self.new)) }
-        ensures stops { N.honest self.old.nand ≡ true → IsTrue None (ram self.old) (image_in N.flash self.old) →
-            result ≢ Err EngineFault.Bus → StopsSafely N.flash N.recorded self.old self.new }
+            (λ _. IsTabled u (ram self.old) (image_in N.view.flash self.old) (ram self.new) (image_in N.view.flash self.new))
+            (Refused (ram self.old) (image_in N.view.flash self.old) (ram self.new) (image_in N.view.flash self.new)) }
+        ensures stops { N.view.honest self.old.nand ≡ true → IsTrue None (ram self.old) (image_in N.view.flash self.old) →
+            result ≢ Err EngineFault.Bus → StopsSafely N.view self.old self.new }
     {
         write_table_page(self.blocks.table(), u, &mut self.page.body);
         let old_row = self.row_of_key(Key::Table(u));
@@ -55,24 +55,24 @@ impl<N: Nand> Engine<N> {
     ///
     /// It takes no memory. (This project.)
     pub fn write_table(&mut self, u: u32) -> Result<(), WriteFault>
-        requires safe { IsSafe N.flash self.old }
+        requires safe { IsSafe N.view.flash self.old }
         requires page { u < table_pages self.old.geometry }
-        ensures stands { Stands N.flash N.recorded N.honest N.calm N.failed self.old self.new result }
+        ensures stands { Stands N.view self.old self.new result }
         ensures goes { Goes (ram self.old) (ram self.new) }
         ensures table { KeepsTable (ram self.old).blocks (ram self.new).blocks }
         ensures mapping { self.new.mapping ≡ self.old.mapping }
         ensures pin { (ram self.new).pin ≡ (ram self.old).pin }
-        ensures only_programs { OnlyPrograms N.reads N.erases self.old.nand self.new.nand }
+        ensures only_programs { OnlyPrograms N.view self.old.nand self.new.nand }
         ensures spelled { self.old.fault ≡ None →
             self.new.page.body.items ≡ table_bytes (entries self.old.geometry) (ram self.old).blocks.table u }
         ensures programmed { OnOk result (IsLastPage Kind.Table u (ram self.new) (page_in self.new.page)) }
         ensures cost { self.old.fault ≡ None → PageCosts Meta (ram self.old) (ram self.new) result }
-        ensures truth { N.honest self.old.nand ≡ true → self.old.fault ≡ None → IsTrue None (ram self.old) (image_in N.flash self.old) →
+        ensures truth { N.view.honest self.old.nand ≡ true → self.old.fault ≡ None → IsTrue None (ram self.old) (image_in N.view.flash self.old) →
             MatchResult result
-            (λ _. IsTabled u (ram self.old) (image_in N.flash self.old) (ram self.new) (image_in N.flash self.new))
-            (Refused (ram self.old) (image_in N.flash self.old) (ram self.new) (image_in N.flash self.new)) }
-        ensures stops { N.honest self.old.nand ≡ true → self.old.fault ≡ None → IsTrue None (ram self.old) (image_in N.flash self.old) →
-            result ≢ Err EngineFault.Bus → StopsSafely N.flash N.recorded self.old self.new }
+            (λ _. IsTabled u (ram self.old) (image_in N.view.flash self.old) (ram self.new) (image_in N.view.flash self.new))
+            (Refused (ram self.old) (image_in N.view.flash self.old) (ram self.new) (image_in N.view.flash self.new)) }
+        ensures stops { N.view.honest self.old.nand ≡ true → self.old.fault ≡ None → IsTrue None (ram self.old) (image_in N.view.flash self.old) →
+            result ≢ Err EngineFault.Bus → StopsSafely N.view self.old self.new }
     {
         self.standing()?;
         let answer = self.put_table(u);

@@ -29,13 +29,13 @@ impl<N: Nand> Engine<N> {
     ///
     /// It takes no memory. (This project.)
     pub fn write_sector(&mut self, sector: u32, body: &[u8]) -> Result<(), WriteFault>
-        requires safe { IsSafe N.flash self.old }
+        requires safe { IsSafe N.view.flash self.old }
         requires sector { sector < self.old.geometry.sectors }
         requires cached { IsSome (slot_of self.old.mapping sector) }
         requires body { length body.now ≡ self.old.geometry.data_bytes }
-        ensures stands { Stands N.flash N.recorded N.honest N.calm N.failed self.old self.new result }
+        ensures stands { Stands N.view self.old self.new result }
         ensures goes { Goes (ram self.old) (ram self.new) }
-        ensures only_programs { OnlyPrograms N.reads N.erases self.old.nand self.new.nand }
+        ensures only_programs { OnlyPrograms N.view self.old.nand self.new.nand }
         ensures pin { (ram self.new).pin ≡ (ram self.old).pin }
         ensures keys { keys_of self.new.mapping.cached ≡ keys_of self.old.mapping.cached }
         ensures no_more { HasNoMore self.old.mapping self.new.mapping }
@@ -45,12 +45,12 @@ impl<N: Nand> Engine<N> {
         ensures scratch { self.new.scratch ≡ self.old.scratch }
         ensures programmed { OnOk result (IsLastPage Kind.Sector sector (ram self.new) (page_in self.new.page)) }
         ensures cost { self.old.fault ≡ None → PageCosts Data (ram self.old) (ram self.new) result }
-        ensures truth { N.honest self.old.nand ≡ true → self.old.fault ≡ None → IsTrue None (ram self.old) (image_in N.flash self.old) →
+        ensures truth { N.view.honest self.old.nand ≡ true → self.old.fault ≡ None → IsTrue None (ram self.old) (image_in N.view.flash self.old) →
             MatchResult result
-            (λ _. IsWritten Kind.Sector sector body.now (ram self.old) (image_in N.flash self.old) (ram self.new) (image_in N.flash self.new))
-            (Refused (ram self.old) (image_in N.flash self.old) (ram self.new) (image_in N.flash self.new)) }
-        ensures stops { N.honest self.old.nand ≡ true → self.old.fault ≡ None → IsTrue None (ram self.old) (image_in N.flash self.old) →
-            result ≢ Err EngineFault.Bus → StopsSafely N.flash N.recorded self.old self.new }
+            (λ _. IsWritten Kind.Sector sector body.now (ram self.old) (image_in N.view.flash self.old) (ram self.new) (image_in N.view.flash self.new))
+            (Refused (ram self.old) (image_in N.view.flash self.old) (ram self.new) (image_in N.view.flash self.new)) }
+        ensures stops { N.view.honest self.old.nand ≡ true → self.old.fault ≡ None → IsTrue None (ram self.old) (image_in N.view.flash self.old) →
+            result ≢ Err EngineFault.Bus → StopsSafely N.view self.old self.new }
     {
         self.standing()?;
         self.page.body.copy_from_slice(body);
@@ -68,12 +68,12 @@ impl<N: Nand> Engine<N> {
     ///
     /// It takes no memory. (This project.)
     pub fn trim_sector(&mut self, sector: u32) -> Result<(), WriteFault>
-        requires safe { IsSafe N.flash self.old }
+        requires safe { IsSafe N.view.flash self.old }
         requires sector { sector < self.old.geometry.sectors }
         requires cached { IsSome (slot_of self.old.mapping sector) }
-        ensures stands { Stands N.flash N.recorded N.honest N.calm N.failed self.old self.new result }
+        ensures stands { Stands N.view self.old self.new result }
         ensures goes { Goes (ram self.old) (ram self.new) }
-        ensures only_programs { OnlyPrograms N.reads N.erases self.old.nand self.new.nand }
+        ensures only_programs { OnlyPrograms N.view self.old.nand self.new.nand }
         ensures pin { (ram self.new).pin ≡ (ram self.old).pin }
         ensures keys { keys_of self.new.mapping.cached ≡ keys_of self.old.mapping.cached }
         ensures no_more { HasNoMore self.old.mapping self.new.mapping }
@@ -83,12 +83,12 @@ impl<N: Nand> Engine<N> {
         ensures scratch { self.new.scratch ≡ self.old.scratch }
         ensures programmed { OnOk result (IsLastPage Kind.Trim sector (ram self.new) (page_in self.new.page)) }
         ensures cost { self.old.fault ≡ None → PageCosts Data (ram self.old) (ram self.new) result }
-        ensures truth { N.honest self.old.nand ≡ true → self.old.fault ≡ None → IsTrue None (ram self.old) (image_in N.flash self.old) →
+        ensures truth { N.view.honest self.old.nand ≡ true → self.old.fault ≡ None → IsTrue None (ram self.old) (image_in N.view.flash self.old) →
             MatchResult result
-            (λ _. IsWritten Kind.Trim sector (zeros self.old.geometry) (ram self.old) (image_in N.flash self.old) (ram self.new) (image_in N.flash self.new))
-            (Refused (ram self.old) (image_in N.flash self.old) (ram self.new) (image_in N.flash self.new)) }
-        ensures stops { N.honest self.old.nand ≡ true → self.old.fault ≡ None → IsTrue None (ram self.old) (image_in N.flash self.old) →
-            result ≢ Err EngineFault.Bus → StopsSafely N.flash N.recorded self.old self.new }
+            (λ _. IsWritten Kind.Trim sector (zeros self.old.geometry) (ram self.old) (image_in N.view.flash self.old) (ram self.new) (image_in N.view.flash self.new))
+            (Refused (ram self.old) (image_in N.view.flash self.old) (ram self.new) (image_in N.view.flash self.new)) }
+        ensures stops { N.view.honest self.old.nand ≡ true → self.old.fault ≡ None → IsTrue None (ram self.old) (image_in N.view.flash self.old) →
+            result ≢ Err EngineFault.Bus → StopsSafely N.view self.old self.new }
     {
         self.standing()?;
         clear(&mut self.page.body);

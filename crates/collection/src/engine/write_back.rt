@@ -25,14 +25,14 @@ use page_layout::record::{Key, Kind};
 impl<N: Nand> Engine<N> {
     // Takes translation page `t` as it stands on the die into the page buffer.
     fn load_translation(&mut self, t: u32, row: Option<u32>) -> Result<(), EngineFault>
-        requires safe { IsSafe N.flash self.old }
+        requires safe { IsSafe N.view.flash self.old }
         requires row { ForSome row (λ r. r < row_count self.old.geometry) }
-        ensures looks { EngineLooks N.flash N.recorded N.honest N.calm N.programs N.erases N.failed self.old self.new result }
-        ensures reads { N.reads self.new.nand ≤ N.reads self.old.nand + 1 }
+        ensures looks { EngineLooks N.view self.old self.new result }
+        ensures reads { N.view.reads self.new.nand ≤ N.view.reads self.old.nand + 1 }
         ensures checked { OnOk result (StartsFrom t row (page_in self.new.page)) }
-        ensures truth { N.honest self.old.nand ≡ true → newest_row (image_in N.flash self.old) (Translation t) ≡ row →
+        ensures truth { N.view.honest self.old.nand ≡ true → newest_row (image_in N.view.flash self.old) (Translation t) ≡ row →
             MatchResult result
-            (λ _. IsLoaded t self.new.page.body.items self.old.geometry (image_in N.flash self.old))
+            (λ _. IsLoaded t self.new.page.body.items self.old.geometry (image_in N.view.flash self.old))
             (λ fault. fault ≡ EngineFault.Bus) }
     {
         match row {
@@ -48,17 +48,17 @@ impl<N: Nand> Engine<N> {
     // Takes translation page `t` into the page buffer, with each row that it lacks, and no row in an
     // entry past the last sector's.
     fn fill_translation(&mut self, t: u32, row: Option<u32>) -> Result<(), EngineFault>
-        requires safe { IsSafe N.flash self.old }
+        requires safe { IsSafe N.view.flash self.old }
         requires page { t < translation_pages self.old.geometry }
         requires row { ForSome row (λ r. r < row_count self.old.geometry) }
-        ensures looks { EngineLooks N.flash N.recorded N.honest N.calm N.programs N.erases N.failed self.old self.new result }
-        ensures reads { N.reads self.new.nand ≤ N.reads self.old.nand + 1 }
+        ensures looks { EngineLooks N.view self.old self.new result }
+        ensures reads { N.view.reads self.new.nand ≤ N.view.reads self.old.nand + 1 }
         ensures padded { OnOk result (IsPadded self.old.geometry t self.new.page.body.items) }
         ensures checked { OnOk result (IsBroughtUp t row self.old.geometry self.old.mapping self.new.page.body.items) }
-        ensures truth { N.honest self.old.nand ≡ true → IsTrue None (ram self.old) (image_in N.flash self.old) →
-            newest_row (image_in N.flash self.old) (Translation t) ≡ row →
+        ensures truth { N.view.honest self.old.nand ≡ true → IsTrue None (ram self.old) (image_in N.view.flash self.old) →
+            newest_row (image_in N.view.flash self.old) (Translation t) ≡ row →
             MatchResult result
-            (λ _. IsFilled t self.new.page.body.items self.old.geometry (image_in N.flash self.old))
+            (λ _. IsFilled t self.new.page.body.items self.old.geometry (image_in N.view.flash self.old))
             (λ fault. fault ≡ EngineFault.Bus) }
     {
         self.load_translation(t, row)?;
@@ -68,12 +68,12 @@ impl<N: Nand> Engine<N> {
 
     // Writes translation page `t` anew, whatever fault stands.
     pub(crate) fn write_page_back(&mut self, t: u32) -> Result<(), EngineFault>
-        requires safe { IsSafe N.flash self.old }
+        requires safe { IsSafe N.view.flash self.old }
         requires page { t < translation_pages self.old.geometry }
-        ensures acts { EngineActs N.flash N.recorded N.honest N.calm N.failed self.old self.new result }
+        ensures acts { EngineActs N.view self.old self.new result }
         ensures goes { Goes (ram self.old) (ram self.new) }
-        ensures reads { N.reads self.new.nand ≤ N.reads self.old.nand + 1 }
-        ensures erases { N.erases self.new.nand ≡ N.erases self.old.nand }
+        ensures reads { N.view.reads self.new.nand ≤ N.view.reads self.old.nand + 1 }
+        ensures erases { N.view.erases self.new.nand ≡ N.view.erases self.old.nand }
         ensures pin { (ram self.new).pin ≡ (ram self.old).pin }
         ensures cleaned { OnOk result (self.new.mapping ≡ cleaned self.old.mapping t) }
         ensures cleans { OnOk result (Cleans (per_page self.old.mapping) t self.old.mapping self.new.mapping) }
@@ -85,12 +85,12 @@ impl<N: Nand> Engine<N> {
             IsBroughtUp t row self.old.geometry self.old.mapping self.new.page.body.items) }
         ensures programmed { OnOk result (IsLastPage Kind.Translation t (ram self.new) (page_in self.new.page)) }
         ensures cost { WriteBackCosts (ram self.old) (ram self.new) result }
-        ensures truth { N.honest self.old.nand ≡ true → IsTrue None (ram self.old) (image_in N.flash self.old) →
+        ensures truth { N.view.honest self.old.nand ≡ true → IsTrue None (ram self.old) (image_in N.view.flash self.old) →
             MatchResult result
-            (λ _. IsWrittenBack t (ram self.old) (image_in N.flash self.old) (ram self.new) (image_in N.flash self.new))
-            (Refused (ram self.old) (image_in N.flash self.old) (ram self.new) (image_in N.flash self.new)) }
-        ensures stops { N.honest self.old.nand ≡ true → IsTrue None (ram self.old) (image_in N.flash self.old) →
-            result ≢ Err EngineFault.Bus → StopsSafely N.flash N.recorded self.old self.new }
+            (λ _. IsWrittenBack t (ram self.old) (image_in N.view.flash self.old) (ram self.new) (image_in N.view.flash self.new))
+            (Refused (ram self.old) (image_in N.view.flash self.old) (ram self.new) (image_in N.view.flash self.new)) }
+        ensures stops { N.view.honest self.old.nand ≡ true → IsTrue None (ram self.old) (image_in N.view.flash self.old) →
+            result ≢ Err EngineFault.Bus → StopsSafely N.view self.old self.new }
     {
         let row = self.directory.row_of(t);
         self.fill_translation(t, row)?;
@@ -121,12 +121,12 @@ impl<N: Nand> Engine<N> {
     ///
     /// Source: the write-back of an evicted entry of the DFTL paper, with its batch update.
     pub fn write_back(&mut self, t: u32) -> Result<(), WriteFault>
-        requires safe { IsSafe N.flash self.old }
+        requires safe { IsSafe N.view.flash self.old }
         requires page { t < translation_pages self.old.geometry }
-        ensures stands { Stands N.flash N.recorded N.honest N.calm N.failed self.old self.new result }
+        ensures stands { Stands N.view self.old self.new result }
         ensures goes { Goes (ram self.old) (ram self.new) }
-        ensures reads { N.reads self.new.nand ≤ N.reads self.old.nand + 1 }
-        ensures erases { N.erases self.new.nand ≡ N.erases self.old.nand }
+        ensures reads { N.view.reads self.new.nand ≤ N.view.reads self.old.nand + 1 }
+        ensures erases { N.view.erases self.new.nand ≡ N.view.erases self.old.nand }
         ensures pin { (ram self.new).pin ≡ (ram self.old).pin }
         ensures cleaned { OnOk result (self.new.mapping ≡ cleaned self.old.mapping t) }
         ensures cleans { OnOk result (Cleans (per_page self.old.mapping) t self.old.mapping self.new.mapping) }
@@ -138,12 +138,12 @@ impl<N: Nand> Engine<N> {
             IsBroughtUp t row self.old.geometry self.old.mapping self.new.page.body.items) }
         ensures programmed { OnOk result (IsLastPage Kind.Translation t (ram self.new) (page_in self.new.page)) }
         ensures cost { self.old.fault ≡ None → WriteBackCosts (ram self.old) (ram self.new) result }
-        ensures truth { N.honest self.old.nand ≡ true → self.old.fault ≡ None → IsTrue None (ram self.old) (image_in N.flash self.old) →
+        ensures truth { N.view.honest self.old.nand ≡ true → self.old.fault ≡ None → IsTrue None (ram self.old) (image_in N.view.flash self.old) →
             MatchResult result
-            (λ _. IsWrittenBack t (ram self.old) (image_in N.flash self.old) (ram self.new) (image_in N.flash self.new))
-            (Refused (ram self.old) (image_in N.flash self.old) (ram self.new) (image_in N.flash self.new)) }
-        ensures stops { N.honest self.old.nand ≡ true → self.old.fault ≡ None → IsTrue None (ram self.old) (image_in N.flash self.old) →
-            result ≢ Err EngineFault.Bus → StopsSafely N.flash N.recorded self.old self.new }
+            (λ _. IsWrittenBack t (ram self.old) (image_in N.view.flash self.old) (ram self.new) (image_in N.view.flash self.new))
+            (Refused (ram self.old) (image_in N.view.flash self.old) (ram self.new) (image_in N.view.flash self.new)) }
+        ensures stops { N.view.honest self.old.nand ≡ true → self.old.fault ≡ None → IsTrue None (ram self.old) (image_in N.view.flash self.old) →
+            result ≢ Err EngineFault.Bus → StopsSafely N.view self.old self.new }
     {
         self.standing()?;
         let answer = self.write_page_back(t);

@@ -30,18 +30,18 @@ fn program<N: Nand>(
     body: u8,
     spare: u8,
 ) -> Result<Outcome, BusFault>
-    requires rows { row_count (N.flash nand.old).geometry ≡ 256 }
-    requires data_bytes { (N.flash nand.old).geometry.data_bytes ≡ 64 }
-    requires spare_bytes { (N.flash nand.old).geometry.spare_bytes ≡ 32 }
-    ensures { (N.flash nand.new).geometry ≡ (N.flash nand.old).geometry }
+    requires rows { row_count (N.view.flash nand.old).geometry ≡ 256 }
+    requires data_bytes { (N.view.flash nand.old).geometry.data_bytes ≡ 64 }
+    requires spare_bytes { (N.view.flash nand.old).geometry.spare_bytes ≡ 32 }
+    ensures { (N.view.flash nand.new).geometry ≡ (N.view.flash nand.old).geometry }
 {
     assert!(rt; row < 256);
     nand.program(row, &[body; 64], &[spare; 32])
 }
 
 fn erase<N: Nand>(rt: &impl Abort, nand: &mut N, block: u32) -> Result<Outcome, BusFault>
-    requires blocks { (N.flash nand.old).geometry.blocks ≡ 32 }
-    ensures { (N.flash nand.new).geometry ≡ (N.flash nand.old).geometry }
+    requires blocks { (N.view.flash nand.old).geometry.blocks ≡ 32 }
+    ensures { (N.view.flash nand.new).geometry ≡ (N.view.flash nand.old).geometry }
 {
     assert!(rt; block < 32);
     nand.erase(block)
@@ -53,10 +53,10 @@ fn read<N: Nand>(
     nand: &mut N,
     row: u32,
 ) -> Result<([u8; 64], [u8; 32]), SourceFault>
-    requires rows { row_count (N.flash nand.old).geometry ≡ 256 }
-    requires data_bytes { (N.flash nand.old).geometry.data_bytes ≡ 64 }
-    requires spare_bytes { (N.flash nand.old).geometry.spare_bytes ≡ 32 }
-    ensures { (N.flash nand.new).geometry ≡ (N.flash nand.old).geometry }
+    requires rows { row_count (N.view.flash nand.old).geometry ≡ 256 }
+    requires data_bytes { (N.view.flash nand.old).geometry.data_bytes ≡ 64 }
+    requires spare_bytes { (N.view.flash nand.old).geometry.spare_bytes ≡ 32 }
+    ensures { (N.view.flash nand.new).geometry ≡ (N.view.flash nand.old).geometry }
 {
     assert!(rt; row < 256);
     let mut body = [0; 64];
@@ -67,11 +67,11 @@ fn read<N: Nand>(
 
 // Whether an operation is answered so.
 fn is_answered<N: Nand>(rt: &impl Abort, nand: &mut N, operation: Operation) -> bool
-    requires rows { row_count (N.flash nand.old).geometry ≡ 256 }
-    requires blocks { (N.flash nand.old).geometry.blocks ≡ 32 }
-    requires data_bytes { (N.flash nand.old).geometry.data_bytes ≡ 64 }
-    requires spare_bytes { (N.flash nand.old).geometry.spare_bytes ≡ 32 }
-    ensures { (N.flash nand.new).geometry ≡ (N.flash nand.old).geometry }
+    requires rows { row_count (N.view.flash nand.old).geometry ≡ 256 }
+    requires blocks { (N.view.flash nand.old).geometry.blocks ≡ 32 }
+    requires data_bytes { (N.view.flash nand.old).geometry.data_bytes ≡ 64 }
+    requires spare_bytes { (N.view.flash nand.old).geometry.spare_bytes ≡ 32 }
+    ensures { (N.view.flash nand.new).geometry ≡ (N.view.flash nand.old).geometry }
 {
     match operation {
         Operation::Program(row, body, spare, want) => program(rt, nand, row, body, spare) == want,
@@ -84,11 +84,11 @@ fn is_answered<N: Nand>(rt: &impl Abort, nand: &mut N, operation: Operation) -> 
 
 // Operations one after another, through any die.
 fn ask_each<N: Nand>(rt: &impl Abort, nand: &mut N, name: &str, operations: &[Operation])
-    requires rows { row_count (N.flash nand.old).geometry ≡ 256 }
-    requires blocks { (N.flash nand.old).geometry.blocks ≡ 32 }
-    requires data_bytes { (N.flash nand.old).geometry.data_bytes ≡ 64 }
-    requires spare_bytes { (N.flash nand.old).geometry.spare_bytes ≡ 32 }
-    ensures { (N.flash nand.new).geometry ≡ (N.flash nand.old).geometry }
+    requires rows { row_count (N.view.flash nand.old).geometry ≡ 256 }
+    requires blocks { (N.view.flash nand.old).geometry.blocks ≡ 32 }
+    requires data_bytes { (N.view.flash nand.old).geometry.data_bytes ≡ 64 }
+    requires spare_bytes { (N.view.flash nand.old).geometry.spare_bytes ≡ 32 }
+    ensures { (N.view.flash nand.new).geometry ≡ (N.view.flash nand.old).geometry }
 {
     for (step, operation) in operations.iter().enumerate() {
         assert!(rt; is_answered(rt, nand, *operation), "{name}: step {step}");

@@ -138,8 +138,8 @@ fn nth_call(run: &Run, sectors: u32, i: u32) -> Call {
 
 // Makes the calls of a run before this one. All are done.
 fn hold_calls_before<N: Nand>(device: &mut Device<N>, run: &Run, end: u32) -> Result<(), Fail>
-    requires { IsDevice N.flash device.old }
-    ensures { IsDevice N.flash device.new }
+    requires { IsDevice N.view.flash device.old }
+    ensures { IsDevice N.view.flash device.new }
 {
     let sectors = device.engine.geometry.sectors();
     for i in 0..end {
@@ -163,8 +163,8 @@ fn last_byte(run: &Run, sectors: u32, sector: u32) -> u8 {
 
 // Each sector is as the run left it.
 fn hold_sectors<N: Nand>(device: &mut Device<N>, run: &Run) -> Result<(), Fail>
-    requires { IsDevice N.flash device.old }
-    ensures { IsDevice N.flash device.new }
+    requires { IsDevice N.view.flash device.old }
+    ensures { IsDevice N.view.flash device.new }
 {
     let sectors = device.engine.geometry.sectors();
     for sector in 0..sectors {
@@ -208,8 +208,8 @@ fn after_run<N: Nand + Drop>(
     run: &Run,
     end: u32,
 ) -> Result<(N, Geometry), Fail>
-    requires { (N.flash nand).geometry ≡ geometry.now }
-    ensures { IfOk result (λ pair. (N.flash pair.0).geometry ≡ pair.1) }
+    requires { (N.view.flash nand).geometry ≡ geometry.now }
+    ensures { IfOk result (λ pair. (N.view.flash pair.0).geometry ≡ pair.1) }
 {
     let mut device = started(alloc, nand, geometry, run.capacity)?;
     hold_calls_before(&mut device, run, end)?;

@@ -203,8 +203,8 @@ fn failures_are_told(rt: HostRuntime) -> Result<(), Fail> {
 
 // 212 writes of the one sector.
 fn write_212<N: Nand>(device: &mut Device<N>) -> Result<(), Fail>
-    requires { IsDevice N.flash device.old }
-    ensures { IsDevice N.flash device.new }
+    requires { IsDevice N.view.flash device.old }
+    ensures { IsDevice N.view.flash device.new }
 {
     for nth in 0..212u8 {
         hold_call(device, "212 writes", Write(0, nth), Ok(()))?;
@@ -233,8 +233,8 @@ fn shown_by<N: Nand>(device: &Device<N>) -> (u64, u32, u32, bool) {
 // written three times and open five blocks, one for the write-back before them. It is done, four
 // blocks are free, and the device only reads from then on.
 fn end_the_writing<N: Nand>(rt: &impl Abort, device: &mut Device<N>) -> Result<(), Fail>
-    requires { IsDevice N.flash device.old }
-    ensures { IsDevice N.flash device.new }
+    requires { IsDevice N.view.flash device.old }
+    ensures { IsDevice N.view.flash device.new }
 {
     write_212(device)?;
     hold_call(device, "two failures", Flush, Ok(()))?;

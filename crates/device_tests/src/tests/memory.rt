@@ -12,8 +12,8 @@ use std::test::Fail;
 
 // The sector of a call has 64 bytes of this one.
 fn hold_byte<N: Nand>(device: &mut Device<N>, sector: u32, byte: u8) -> Result<(), Fail>
-    requires { IsDevice N.flash device.old }
-    ensures { IsDevice N.flash device.new }
+    requires { IsDevice N.view.flash device.old }
+    ensures { IsDevice N.view.flash device.new }
 {
     hold_call(device, "refused", Read(sector, byte), Ok(()))
 }
@@ -21,8 +21,8 @@ fn hold_byte<N: Nand>(device: &mut Device<N>, sector: u32, byte: u8) -> Result<(
 // Makes a call on a sector that has 64 bytes of this one. Where a growth was refused, it still has
 // them, and the call is made again.
 fn make_again<N: Nand>(device: &mut Device<N>, call: Call, before: u8) -> Result<Answer, Fail>
-    requires { IsDevice N.flash device.old }
-    ensures { IsDevice N.flash device.new }
+    requires { IsDevice N.view.flash device.old }
+    ensures { IsDevice N.view.flash device.new }
 {
     let answer = make(device, "first", call)?;
     if answer != Err(DeviceFault::OutOfMemory) {
@@ -38,8 +38,8 @@ fn make_all<N: Nand>(
     device: &mut Device<N>,
     calls: &[(Call, u8)],
 ) -> Result<(), Fail>
-    requires { IsDevice N.flash device.old }
-    ensures { IsDevice N.flash device.new }
+    requires { IsDevice N.view.flash device.old }
+    ensures { IsDevice N.view.flash device.new }
 {
     for (call, before) in calls {
         assert_eq!(rt; make_again(device, *call, *before)?, Ok(()), "{call:?}");

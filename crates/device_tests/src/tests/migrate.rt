@@ -160,8 +160,8 @@ const CASES: [Case; 4] = [
 
 // How many calls migrate one.
 fn migrate_all<N: Nand>(device: &mut Device<N>) -> Result<u32, DeviceFault>
-    requires { IsDevice N.flash device.old }
-    ensures { IsDevice N.flash device.new }
+    requires { IsDevice N.view.flash device.old }
+    ensures { IsDevice N.view.flash device.new }
 {
     let mut migrated = 0u32;
     for _ in 0..256 {
@@ -175,8 +175,8 @@ fn migrate_all<N: Nand>(device: &mut Device<N>) -> Result<u32, DeviceFault>
 
 // The same, and then a flush.
 fn migrate_and_flush<N: Nand>(device: &mut Device<N>) -> Result<u32, DeviceFault>
-    requires { IsDevice N.flash device.old }
-    ensures { IsDevice N.flash device.new }
+    requires { IsDevice N.view.flash device.old }
+    ensures { IsDevice N.view.flash device.new }
 {
     let migrated = migrate_all(device)?;
     device.flush()?;

@@ -56,7 +56,7 @@ fn check_refusal<S: PageSource>(
     geometry: &Geometry,
     certificate: &Certificate,
 ) -> Option<Refusal>
-    requires { (S.flash source.old).geometry ≡ geometry.now }
+    requires { (S.view.flash source.old).geometry ≡ geometry.now }
 {
     check(alloc, source, geometry, 4, certificate).err()
 }
@@ -67,7 +67,7 @@ fn mount_refusal<S: PageSource>(
     source: &mut S,
     geometry: &Geometry,
 ) -> Option<Refusal>
-    requires { (S.flash source.old).geometry ≡ geometry.now }
+    requires { (S.view.flash source.old).geometry ≡ geometry.now }
 {
     mount(alloc, source, geometry, 2).err()
 }

@@ -227,8 +227,8 @@ fn moved_sectors_wait_for_turns(rt: HostRuntime) -> Result<(), Fail> {
 
 // Makes a write: whether it erased a block.
 fn has_collected<N: Nand>(device: &mut Device<N>, sector: u32, byte: u8) -> Result<bool, Fail>
-    requires { IsDevice N.flash device.old }
-    ensures { IsDevice N.flash device.new }
+    requires { IsDevice N.view.flash device.old }
+    ensures { IsDevice N.view.flash device.new }
 {
     let erases = erases_of(&device.engine.blocks)?;
     hold_call(device, "write", Write(sector, byte), Ok(()))?;
@@ -237,8 +237,8 @@ fn has_collected<N: Nand>(device: &mut Device<N>, sector: u32, byte: u8) -> Resu
 
 // Makes so many writes, with a turn after each where that is wanted: how many of them erased a block.
 fn collecting<N: Nand>(device: &mut Device<N>, count: u32, turns: bool) -> Result<u32, Fail>
-    requires { IsDevice N.flash device.old }
-    ensures { IsDevice N.flash device.new }
+    requires { IsDevice N.view.flash device.old }
+    ensures { IsDevice N.view.flash device.new }
 {
     let mut collecting = 0u32;
     for i in 0..count {

@@ -5,9 +5,9 @@ pub returns : goal.returns
 returns g c =
     let n = g.N.PageSource in
     record {
-      change = killed_change_law n.flash n.recorded n.honest n.calm n.failed;
-      flush = killed_flush_law n.flash n.recorded n.honest n.calm n.failed;
-      turn = killed_turn_law n.flash n.recorded n.honest n.calm n.erases n.failed;
-      as_it_was = found_as_it_was_law n.flash n.recorded n.honest;
-      torn = found_torn_law n.flash n.recorded;
+      change = killed_change_law n.view;
+      flush = killed_flush_law n.view;
+      turn = killed_turn_law n.view;
+      as_it_was = found_as_it_was_law n.view;
+      torn = found_torn_law n.view;
     }

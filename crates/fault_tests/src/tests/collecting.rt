@@ -35,9 +35,9 @@ fn is_stopped(answer: Result<(), EngineFault>) -> Result<bool, Fail> {
 
 // Collects block 1.
 fn collect<N: Nand>(engine: &mut Engine<N>) -> Result<bool, Fail>
-    requires safe { IsSafe N.flash engine.old }
+    requires safe { IsSafe N.view.flash engine.old }
     requires calm { engine.old.fault ≡ None → IsCalm (ram engine.old) }
-    ensures { IsSafe N.flash engine.new }
+    ensures { IsSafe N.view.flash engine.new }
 {
     if engine.geometry.blocks() < 2 || !engine.closed(1) || !engine.pinned.is_none() {
         return Err("a block that isn't to be collected")?;
@@ -54,8 +54,8 @@ pub fn collected<N: Nand + Drop>(
     device: Device<N>,
     stopped: &mut bool,
 ) -> Result<(N, Geometry), Fail>
-    requires { IsDevice N.flash device }
-    ensures { IfOk result (λ pair. (N.flash pair.0).geometry ≡ pair.1) }
+    requires { IsDevice N.view.flash device }
+    ensures { IfOk result (λ pair. (N.view.flash pair.0).geometry ≡ pair.1) }
 {
     let mut engine = device.into_engine();
     *stopped = collect(&mut engine)?;

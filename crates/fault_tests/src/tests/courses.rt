@@ -110,8 +110,8 @@ fn goes_on(script: &mut Script, call: Call, answer: Answer) -> Result<bool, Fail
 }
 
 fn give<N: Nand>(device: &mut Device<N>, script: &mut Script, call: Call) -> Result<bool, Fail>
-    requires { IsDevice N.flash device.old }
-    ensures { IsDevice N.flash device.new }
+    requires { IsDevice N.view.flash device.old }
+    ensures { IsDevice N.view.flash device.new }
 {
     let answer = make(device, "given", call)?;
     goes_on(script, call, answer)
@@ -124,8 +124,8 @@ fn give_until_stop<N: Nand>(
     count: u32,
     went: &mut Went,
 ) -> Result<(), Fail>
-    requires { IsDevice N.flash device.old }
-    ensures { IsDevice N.flash device.new }
+    requires { IsDevice N.view.flash device.old }
+    ensures { IsDevice N.view.flash device.new }
 {
     for i in 0..count {
         let call = calls.nth(i);
@@ -142,8 +142,8 @@ fn after_collection<N: Nand + Drop>(
     device: Device<N>,
     went: &mut Went,
 ) -> Result<(N, Geometry), Fail>
-    requires { IsDevice N.flash device }
-    ensures { IfOk result (λ pair. (N.flash pair.0).geometry ≡ pair.1) }
+    requires { IsDevice N.view.flash device }
+    ensures { IfOk result (λ pair. (N.view.flash pair.0).geometry ≡ pair.1) }
 {
     let mut stopped = false;
     let pair = collected(device, &mut stopped)?;
@@ -159,8 +159,8 @@ fn after<N: Nand + Drop>(
     course: &Course,
     went: &mut Went,
 ) -> Result<(N, Geometry), Fail>
-    requires { IsDevice N.flash device }
-    ensures { IfOk result (λ pair. (N.flash pair.0).geometry ≡ pair.1) }
+    requires { IsDevice N.view.flash device }
+    ensures { IfOk result (λ pair. (N.view.flash pair.0).geometry ≡ pair.1) }
 {
     give_until_stop(&mut device, course.calls, course.count, went)?;
     if course.calls == Calls::Collecting && went.stopped.is_none() {
@@ -186,8 +186,8 @@ fn run_on<N: Nand + Drop>(
     start: &Start,
     went: &mut Went,
 ) -> Result<(N, Geometry), Fail>
-    requires { (N.flash nand).geometry ≡ start.now.geometry }
-    ensures { IfOk result (λ pair. (N.flash pair.0).geometry ≡ pair.1) }
+    requires { (N.view.flash nand).geometry ≡ start.now.geometry }
+    ensures { IfOk result (λ pair. (N.view.flash pair.0).geometry ≡ pair.1) }
 {
     let device = started(alloc, nand, &start.geometry, 4)?;
     after(device, course, went)

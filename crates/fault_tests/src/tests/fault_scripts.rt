@@ -37,8 +37,8 @@ fn give_until<N: Nand>(
     script: &mut Script,
     good: u32,
 ) -> Result<(), Fail>
-    requires { IsDevice N.flash device.old }
-    ensures { IsDevice N.flash device.new }
+    requires { IsDevice N.view.flash device.old }
+    ensures { IsDevice N.view.flash device.new }
 {
     for i in 0..400 {
         if device.engine.blocks.good() > good {
@@ -58,7 +58,7 @@ fn give_on<N: Nand + Drop>(
     geometry: &Geometry,
     good: u32,
 ) -> Result<N, Fail>
-    requires { (N.flash nand).geometry ≡ geometry.now }
+    requires { (N.view.flash nand).geometry ≡ geometry.now }
 {
     let mut script = Script::new();
     let mut device = started(alloc, nand, geometry, 4)?;

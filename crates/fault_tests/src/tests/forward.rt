@@ -137,8 +137,8 @@ fn give<N: Nand>(
     script: &mut Script,
     call: Call,
 ) -> Result<(), Fail>
-    requires { IsDevice N.flash device.old }
-    ensures { IsDevice N.flash device.new }
+    requires { IsDevice N.view.flash device.old }
+    ensures { IsDevice N.view.flash device.new }
 {
     hold_call(device, row.course.name, call, Ok(()))?;
     script.note(call);
@@ -147,8 +147,8 @@ fn give<N: Nand>(
 
 // Makes the calls of a row. Where they are to pin a block, one is pinned then.
 fn give_first<N: Nand>(device: &mut Device<N>, row: &Row, script: &mut Script) -> Result<(), Fail>
-    requires { IsDevice N.flash device.old }
-    ensures { IsDevice N.flash device.new }
+    requires { IsDevice N.view.flash device.old }
+    ensures { IsDevice N.view.flash device.new }
 {
     for i in 0..row.course.count {
         if row.pins && device.engine.pinned.is_some() {
@@ -164,8 +164,8 @@ fn give_first<N: Nand>(device: &mut Device<N>, row: &Row, script: &mut Script) -
 
 // Brings so many pages forward, or all that there are. How many these are.
 fn bring<N: Nand>(device: &mut Device<N>, most: u32, script: &Script) -> Result<u32, Fail>
-    requires { IsDevice N.flash device.old }
-    ensures { IsDevice N.flash device.new }
+    requires { IsDevice N.view.flash device.old }
+    ensures { IsDevice N.view.flash device.new }
 {
     for count in 0..most {
         let found = device.migrate_one()?;
@@ -185,8 +185,8 @@ fn handed_on<N: Nand + Drop>(
     count: u32,
     came: &mut Came,
 ) -> Result<(N, Geometry), Fail>
-    requires { IsDevice N.flash device }
-    ensures { IfOk result (λ pair. (N.flash pair.0).geometry ≡ pair.1) }
+    requires { IsDevice N.view.flash device }
+    ensures { IfOk result (λ pair. (N.view.flash pair.0).geometry ≡ pair.1) }
 {
     let (mut nand, geometry) = given_up(device);
     let old = old_of(alloc, &mut nand, &geometry)?;
@@ -202,8 +202,8 @@ fn begun<N: Nand + Drop>(
     row: &Row,
     came: &mut Came,
 ) -> Result<(N, Geometry), Fail>
-    requires { (N.flash nand).geometry ≡ geometry.now }
-    ensures { IfOk result (λ pair. (N.flash pair.0).geometry ≡ pair.1) }
+    requires { (N.view.flash nand).geometry ≡ geometry.now }
+    ensures { IfOk result (λ pair. (N.view.flash pair.0).geometry ≡ pair.1) }
 {
     let mut device = started(alloc, nand, geometry, 4)?;
     give_first(&mut device, row, &mut came.script)?;
@@ -222,8 +222,8 @@ fn restarted<N: Nand + Drop>(
     row: &Row,
     came: &mut Came,
 ) -> Result<(N, Geometry, u32), Fail>
-    requires { (N.flash nand).geometry ≡ geometry.now }
-    ensures { IfOk result (λ given. (N.flash given.0).geometry ≡ given.1) }
+    requires { (N.view.flash nand).geometry ≡ geometry.now }
+    ensures { IfOk result (λ given. (N.view.flash given.0).geometry ≡ given.1) }
 {
     let mut device = started(alloc, nand, geometry, 4)?;
     compare(&mut device, &came.script)?;
@@ -240,8 +240,8 @@ fn bring_all<N: Nand + Drop>(
     row: &Row,
     came: &mut Came,
 ) -> Result<(N, Geometry), Fail>
-    requires { (N.flash nand).geometry ≡ geometry }
-    ensures { IfOk result (λ pair. (N.flash pair.0).geometry ≡ pair.1) }
+    requires { (N.view.flash nand).geometry ≡ geometry }
+    ensures { IfOk result (λ pair. (N.view.flash pair.0).geometry ≡ pair.1) }
 {
     for _ in 0..256 {
         let (given, now, count) = restarted(alloc, nand, &geometry, row, came)?;
@@ -262,8 +262,8 @@ fn flushed<N: Nand + Drop>(
     row: &Row,
     came: &mut Came,
 ) -> Result<(N, Geometry), Fail>
-    requires { (N.flash nand).geometry ≡ geometry.now }
-    ensures { IfOk result (λ pair. (N.flash pair.0).geometry ≡ pair.1) }
+    requires { (N.view.flash nand).geometry ≡ geometry.now }
+    ensures { IfOk result (λ pair. (N.view.flash pair.0).geometry ≡ pair.1) }
 {
     let mut device = started(alloc, nand, geometry, 4)?;
     let count = bring(&mut device, 1, &came.script)?;
@@ -281,7 +281,7 @@ fn compared<N: Nand + Drop>(
     geometry: &Geometry,
     script: &Script,
 ) -> Result<(N, u32), Fail>
-    requires { (N.flash nand).geometry ≡ geometry.now }
+    requires { (N.view.flash nand).geometry ≡ geometry.now }
 {
     let mut device = started(alloc, nand, geometry, 1)?;
     compare(&mut device, script)?;
@@ -307,7 +307,7 @@ fn brought_forward<N: Nand + Drop>(
     row: &Row,
     script: Script,
 ) -> Result<(N, u32), Fail>
-    requires { (N.flash nand).geometry ≡ geometry.now }
+    requires { (N.view.flash nand).geometry ≡ geometry.now }
 {
     let old = old_of(alloc, &mut nand, geometry)?;
     let mut came = Came {

@@ -19,8 +19,8 @@ pub fn noisy<N: Nand + Drop>(
     nand: N,
     geometry: &Geometry,
 ) -> Result<Corrected<NoisyChip<N>>, Fail>
-    requires { (N.flash nand).geometry ≡ geometry.now }
-    ensures { IfOk result (λ die. (N.flash die.nand.nand).geometry ≡ geometry.now) }
+    requires { (N.view.flash nand).geometry ≡ geometry.now }
+    ensures { IfOk result (λ die. (N.view.flash die.nand.nand).geometry ≡ geometry.now) }
 {
     if outer_bytes(geometry) > 256 {
         return Err("no room for codes")?;

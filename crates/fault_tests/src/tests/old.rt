@@ -52,8 +52,8 @@ fn page_at<S: PageSource>(
     geometry: &Geometry,
     row: u32,
 ) -> Result<Option<Page>, Fail>
-    requires { (S.flash source.old).geometry ≡ geometry.now }
-    ensures { (S.flash source.new).geometry ≡ geometry.now }
+    requires { (S.view.flash source.old).geometry ≡ geometry.now }
+    ensures { (S.view.flash source.new).geometry ≡ geometry.now }
 {
     let mut body = [0; 64];
     let mut spare = [0; 40];
@@ -73,8 +73,8 @@ fn pages_of<S: PageSource>(
     source: &mut S,
     geometry: &Geometry,
 ) -> Result<Vec<Page>, Fail>
-    requires { (S.flash source.old).geometry ≡ geometry.now }
-    ensures { (S.flash source.new).geometry ≡ geometry.now }
+    requires { (S.view.flash source.old).geometry ≡ geometry.now }
+    ensures { (S.view.flash source.new).geometry ≡ geometry.now }
 {
     let mut pages = Vec::new(alloc);
     for row in 0..geometry.rows() {
@@ -119,8 +119,8 @@ pub fn old_of<S: PageSource>(
     source: &mut S,
     geometry: &Geometry,
 ) -> Result<Old, Fail>
-    requires { (S.flash source.old).geometry ≡ geometry.now }
-    ensures { (S.flash source.new).geometry ≡ geometry.now }
+    requires { (S.view.flash source.old).geometry ≡ geometry.now }
+    ensures { (S.view.flash source.new).geometry ≡ geometry.now }
 {
     let pages = pages_of(alloc, source, geometry)?;
     Ok(old_in(&pages))

@@ -28,8 +28,8 @@ fn change_sixty<N: Nand>(
     device: &mut Device<N>,
     script: &mut Script,
 ) -> Result<(), Fail>
-    requires { IsDevice N.flash device.old }
-    ensures { IsDevice N.flash device.new }
+    requires { IsDevice N.view.flash device.old }
+    ensures { IsDevice N.view.flash device.new }
 {
     for i in 0..60 {
         change(rt, device, script, call_of_sixty(i))?;
@@ -47,7 +47,7 @@ fn give_sixty<N: Nand + Drop>(
     geometry: &Geometry,
     failing: &[u16],
 ) -> Result<N, Fail>
-    requires { (N.flash nand).geometry ≡ geometry.now }
+    requires { (N.view.flash nand).geometry ≡ geometry.now }
 {
     let mut script = Script::new();
     let mut device = started(alloc, nand, geometry, 1)?;

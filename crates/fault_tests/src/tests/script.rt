@@ -119,8 +119,8 @@ pub fn change<N: Nand>(
     script: &mut Script,
     call: Call,
 ) -> Result<(), Fail>
-    requires { IsDevice N.flash device.old }
-    ensures { IsDevice N.flash device.new }
+    requires { IsDevice N.view.flash device.old }
+    ensures { IsDevice N.view.flash device.new }
 {
     let old = shown_by(device);
     let answer = make(device, "given", call)?;
@@ -138,8 +138,8 @@ fn drawn(geometry: &Geometry, number: u64) -> u32 {
 
 // Gives a device the next command.
 fn give<N: Nand>(rt: &impl Abort, device: &mut Device<N>, script: &mut Script) -> Result<(), Fail>
-    requires { IsDevice N.flash device.old }
-    ensures { IsDevice N.flash device.new }
+    requires { IsDevice N.view.flash device.old }
+    ensures { IsDevice N.view.flash device.new }
 {
     let dice = script.step();
     let sector = drawn(&device.engine.geometry, dice >> 33);
@@ -159,8 +159,8 @@ pub fn hold_sector<N: Nand>(
     script: &Script,
     sector: u32,
 ) -> Result<(), Fail>
-    requires { IsDevice N.flash device.old }
-    ensures { IsDevice N.flash device.new }
+    requires { IsDevice N.view.flash device.old }
+    ensures { IsDevice N.view.flash device.new }
 {
     hold_call(
         device,
@@ -172,8 +172,8 @@ pub fn hold_sector<N: Nand>(
 
 // Every sector is as the list has it.
 pub fn compare<N: Nand>(device: &mut Device<N>, script: &Script) -> Result<(), Fail>
-    requires { IsDevice N.flash device.old }
-    ensures { IsDevice N.flash device.new }
+    requires { IsDevice N.view.flash device.old }
+    ensures { IsDevice N.view.flash device.new }
 {
     for sector in 0..device.engine.geometry.sectors() {
         hold_sector(device, script, sector)?;
@@ -187,8 +187,8 @@ fn give_each<N: Nand>(
     device: &mut Device<N>,
     script: &mut Script,
 ) -> Result<(), Fail>
-    requires { IsDevice N.flash device.old }
-    ensures { IsDevice N.flash device.new }
+    requires { IsDevice N.view.flash device.old }
+    ensures { IsDevice N.view.flash device.new }
 {
     for _ in 0..250 {
         give(rt, device, script)?;
@@ -215,8 +215,8 @@ fn give_started<N: Nand + Drop>(
     flushed: bool,
     script: &mut Script,
 ) -> Result<(N, Geometry), Fail>
-    requires { (N.flash nand).geometry ≡ geometry.now }
-    ensures { IfOk result (λ pair. (N.flash pair.0).geometry ≡ pair.1) }
+    requires { (N.view.flash nand).geometry ≡ geometry.now }
+    ensures { IfOk result (λ pair. (N.view.flash pair.0).geometry ≡ pair.1) }
 {
     let mut device = started(alloc, nand, geometry, its.capacity)?;
     compare(&mut device, script)?;

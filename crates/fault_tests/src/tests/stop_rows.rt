@@ -153,8 +153,8 @@ fn stopping(alloc: Global, geometry: Geometry, row: &Row) -> Result<Driver<Die>,
 
 // The die and its geometry, once its device has stopped in the collection of block 1.
 fn stopped_collecting<N: Nand + Drop>(device: Device<N>, row: &Row) -> Result<(N, Geometry), Fail>
-    requires { IsDevice N.flash device }
-    ensures { IfOk result (λ pair. (N.flash pair.0).geometry ≡ pair.1) }
+    requires { IsDevice N.view.flash device }
+    ensures { IfOk result (λ pair. (N.view.flash pair.0).geometry ≡ pair.1) }
 {
     let mut stopped = false;
     let pair = collected(device, &mut stopped)?;
@@ -169,8 +169,8 @@ const BROKEN: Answer = Err(DeviceFault::BusFault);
 
 // The die and its geometry, once its device has stopped in the last call.
 fn stopped<N: Nand + Drop>(mut device: Device<N>, row: &Row) -> Result<(N, Geometry), Fail>
-    requires { IsDevice N.flash device }
-    ensures { IfOk result (λ pair. (N.flash pair.0).geometry ≡ pair.1) }
+    requires { IsDevice N.view.flash device }
+    ensures { IfOk result (λ pair. (N.view.flash pair.0).geometry ≡ pair.1) }
 {
     hold_calls(&mut device, row.name, row.done, Ok(()))?;
     match row.last {

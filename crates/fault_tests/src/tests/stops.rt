@@ -55,8 +55,8 @@ fn give_fifty<N: Nand>(
     course: &Course,
     script: &mut Script,
 ) -> Result<(), Fail>
-    requires { IsDevice N.flash device.old }
-    ensures { IsDevice N.flash device.new }
+    requires { IsDevice N.view.flash device.old }
+    ensures { IsDevice N.view.flash device.new }
 {
     compare(device, script)?;
     for i in 400..450 {
@@ -76,7 +76,7 @@ fn go_on<N: Nand + Drop>(
     geometry: &Geometry,
     script: &mut Script,
 ) -> Result<N, Fail>
-    requires { (N.flash nand).geometry ≡ geometry.now }
+    requires { (N.view.flash nand).geometry ≡ geometry.now }
 {
     let mut device = started(alloc, nand, geometry, 12)?;
     give_fifty(&mut device, course, script)?;

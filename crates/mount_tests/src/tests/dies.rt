@@ -65,8 +65,8 @@ const CASES: [Case; 2] = [
 ];
 
 fn formatted<N: Nand>(alloc: Global, nand: &mut N, geometry: &Geometry) -> Result<u32, FormatFault>
-    requires { (N.flash nand.old).geometry ≡ geometry.now }
-    ensures { (N.flash nand.new).geometry ≡ geometry.now }
+    requires { (N.view.flash nand.old).geometry ≡ geometry.now }
+    ensures { (N.view.flash nand.new).geometry ≡ geometry.now }
 {
     format(alloc, nand, geometry)
 }
@@ -91,7 +91,7 @@ fn hold_die<N: Nand>(
     geometry: &Geometry,
     case: &Case,
 ) -> Result<(), Fail>
-    requires { (N.flash nand.old).geometry ≡ geometry.now }
+    requires { (N.view.flash nand.old).geometry ≡ geometry.now }
 {
     let unformatted = mounted(alloc, nand, geometry, 4).err();
     assert!(rt; unformatted == Some(Refusal::NotFormatted), "{}", case.name);

@@ -240,8 +240,8 @@ fn read_page<S: PageSource>(
     body: &mut [u8],
     spare: &mut [u8],
 ) -> Result<Option<Record>, Fail>
-    requires { (S.flash source.old).geometry ≡ geometry.now }
-    ensures { (S.flash source.new).geometry ≡ geometry.now }
+    requires { (S.view.flash source.old).geometry ≡ geometry.now }
+    ensures { (S.view.flash source.new).geometry ≡ geometry.now }
 {
     assert!(rt; geometry.data_bytes() == body.len());
     assert!(rt; geometry.spare_bytes() == spare.len());
@@ -259,8 +259,8 @@ fn page_of<S: PageSource>(
     geometry: &Geometry,
     row: u32,
 ) -> Result<(Option<Record>, [u8; 64]), Fail>
-    requires { (S.flash source.old).geometry ≡ geometry.now }
-    ensures { (S.flash source.new).geometry ≡ geometry.now }
+    requires { (S.view.flash source.old).geometry ≡ geometry.now }
+    ensures { (S.view.flash source.new).geometry ≡ geometry.now }
 {
     let mut body = [0; 64];
     let mut spare = vec![in alloc; 0u8; geometry.spare_bytes()]?;
@@ -297,8 +297,8 @@ fn hold_page<S: PageSource>(
     name: &str,
     page: Page,
 ) -> Result<(), Fail>
-    requires { (S.flash source.old).geometry ≡ geometry.now }
-    ensures { (S.flash source.new).geometry ≡ geometry.now }
+    requires { (S.view.flash source.old).geometry ≡ geometry.now }
+    ensures { (S.view.flash source.new).geometry ≡ geometry.now }
 {
     let (row, said, fill, differing) = page;
     let (found, body) = page_of(rt, alloc, source, geometry, row)?;
@@ -315,8 +315,8 @@ fn hold_pages<S: PageSource>(
     name: &str,
     pages: &[Page],
 ) -> Result<(), Fail>
-    requires { (S.flash source.old).geometry ≡ geometry.now }
-    ensures { (S.flash source.new).geometry ≡ geometry.now }
+    requires { (S.view.flash source.old).geometry ≡ geometry.now }
+    ensures { (S.view.flash source.new).geometry ≡ geometry.now }
 {
     for page in pages {
         hold_page(rt, alloc, source, geometry, name, *page)?;
@@ -332,8 +332,8 @@ fn hold_untouched<S: PageSource>(
     name: &str,
     from: u32,
 ) -> Result<(), Fail>
-    requires { (S.flash source.old).geometry ≡ geometry.now }
-    ensures { (S.flash source.new).geometry ≡ geometry.now }
+    requires { (S.view.flash source.old).geometry ≡ geometry.now }
+    ensures { (S.view.flash source.new).geometry ≡ geometry.now }
 {
     for row in from..geometry.rows() {
         hold_page(rt, alloc, source, geometry, name, (row, None, 0xFF, &[]))?;
@@ -349,8 +349,8 @@ fn hold_call<N: Nand>(
     name: &str,
     call: &Call,
 ) -> Result<(), Fail>
-    requires { (N.flash nand.old).geometry ≡ geometry.now }
-    ensures { (N.flash nand.new).geometry ≡ geometry.now }
+    requires { (N.view.flash nand.old).geometry ≡ geometry.now }
+    ensures { (N.view.flash nand.new).geometry ≡ geometry.now }
 {
     assert!(rt; format(alloc, nand, geometry) == call.answer, "{name}");
     hold_pages(rt, alloc, nand, geometry, name, call.pages)?;
@@ -364,7 +364,7 @@ fn hold_calls<N: Nand>(
     geometry: &Geometry,
     case: &Case,
 ) -> Result<(), Fail>
-    requires { (N.flash nand.old).geometry ≡ geometry.now }
+    requires { (N.view.flash nand.old).geometry ≡ geometry.now }
 {
     for call in case.calls {
         hold_call(rt, alloc, nand, geometry, case.name, call)?;

@@ -208,19 +208,18 @@ struct FailingAt<'a> {
 }
 
 impl<'a> PageSource for FailingAt<'a> {
-    ghost use Rattle.std.specs.Prelude.{false};
+    ghost use Rattle.std.specs.Prelude.{false, None};
 
-    ghost flash = { λ s. s.image.flash };
-
-    ghost honest = { λ _. false };
-
-    ghost reads = { λ s. s.reads };
-
-    ghost programs = { λ _. 0 };
-
-    ghost erases = { λ _. 0 };
-
-    ghost failed = { λ s. s.faults };
+    ghost view = { record {
+        flash = λ s. s.image.flash;
+        recorded = λ _. None;
+        honest = λ _. false;
+        calm = λ _. false;
+        reads = λ s. s.reads;
+        programs = λ _. 0;
+        erases = λ _. 0;
+        failed = λ s. s.faults;
+    } };
 
     fn read_page(
         &mut self,

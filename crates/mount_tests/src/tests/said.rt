@@ -28,8 +28,8 @@ pub fn mounted<S: PageSource>(
     geometry: &Geometry,
     capacity: u32,
 ) -> Result<Certificate, Refusal>
-    requires { (S.flash source.old).geometry ≡ geometry.now }
-    ensures { (S.flash source.new).geometry ≡ geometry.now }
+    requires { (S.view.flash source.old).geometry ≡ geometry.now }
+    ensures { (S.view.flash source.new).geometry ≡ geometry.now }
 {
     if !geometry.is_capacity(capacity) {
         return Err(Refusal::GeometryDiffers);
@@ -44,8 +44,8 @@ pub fn mounted_counted<S: PageSource>(
     geometry: &Geometry,
     capacity: u32,
 ) -> Result<Mounted, Refusal>
-    requires { (S.flash source.old).geometry ≡ geometry.now }
-    ensures { (S.flash source.new).geometry ≡ geometry.now }
+    requires { (S.view.flash source.old).geometry ≡ geometry.now }
+    ensures { (S.view.flash source.new).geometry ≡ geometry.now }
 {
     if !geometry.is_capacity(capacity) {
         return Err(Refusal::GeometryDiffers);
@@ -61,8 +61,8 @@ pub fn stale_count<S: PageSource>(
     capacity: u32,
     certificate: &Certificate,
 ) -> Result<usize, Refusal>
-    requires { (S.flash source.old).geometry ≡ geometry.now }
-    ensures { (S.flash source.new).geometry ≡ geometry.now }
+    requires { (S.view.flash source.old).geometry ≡ geometry.now }
+    ensures { (S.view.flash source.new).geometry ≡ geometry.now }
 {
     match check(alloc, source, geometry, capacity, certificate) {
         Ok(accepted) => Ok(accepted.stale().len()),

@@ -124,8 +124,8 @@ pub fn hold_state<N: Nand>(
 ///
 /// It brought none.
 pub fn kept<N: Nand + Drop>(device: Result<Device<N>, PowerFault<N>>) -> Result<Device<N>, Fail>
-    requires { IfOk device (IsDeviceKept N.flash N.honest) }
-    ensures { IfOk result (IsDeviceKept N.flash N.honest) }
+    requires { IfOk device (IsDeviceKept N.view) }
+    ensures { IfOk result (IsDeviceKept N.view) }
 {
     match device {
         Ok(device) => Ok(device),
@@ -139,7 +139,7 @@ pub fn kept<N: Nand + Drop>(device: Result<Device<N>, PowerFault<N>>) -> Result<
 ///
 /// There is no device.
 pub fn given_up<N: Nand>(slot: DeviceSlot<N>) -> Result<(N, Geometry), Fail>
-    ensures { IfOk result (λ pair. (N.flash pair.0).geometry ≡ pair.1) }
+    ensures { IfOk result (λ pair. (N.view.flash pair.0).geometry ≡ pair.1) }
 {
     match slot.into_device() {
         Some(device) => {

@@ -154,8 +154,8 @@ fn brought<N: Nand + Drop>(
     geometry: &Geometry,
     life: &Life,
 ) -> Result<Device<N>, Fail>
-    requires { (N.flash nand).geometry ≡ geometry.now }
-    ensures { IfOk result (IsDeviceKept N.flash N.honest) }
+    requires { (N.view.flash nand).geometry ≡ geometry.now }
+    ensures { IfOk result (IsDeviceKept N.view) }
 {
     if !geometry.is_capacity(life.cache) {
         return Err("no capacity")?;
@@ -177,8 +177,8 @@ fn live<N: Nand + Drop>(
     geometry: &Geometry,
     life: &Life,
 ) -> Result<(N, Geometry), Fail>
-    requires { (N.flash nand).geometry ≡ geometry.now }
-    ensures { IfOk result (λ pair. (N.flash pair.0).geometry ≡ pair.1) }
+    requires { (N.view.flash nand).geometry ≡ geometry.now }
+    ensures { IfOk result (λ pair. (N.view.flash pair.0).geometry ≡ pair.1) }
 {
     let mut slot = DeviceSlot::new();
     hold_calls(&mut slot, life.name, &NONE)?;
@@ -190,7 +190,7 @@ fn live<N: Nand + Drop>(
 
 // Three lives of a die that keeps what was answered.
 fn live_thrice<N: Nand + Drop>(alloc: Global, nand: N, geometry: Geometry) -> Result<(), Fail>
-    requires { (N.flash nand).geometry ≡ geometry }
+    requires { (N.view.flash nand).geometry ≡ geometry }
 {
     let (nand, geometry) = live(alloc, nand, &geometry, &FIRST)?;
     let (nand, geometry) = live(alloc, nand, &geometry, &SECOND)?;

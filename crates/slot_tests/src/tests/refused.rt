@@ -81,8 +81,8 @@ fn taken<N>(fault: PowerFault<N>) -> (Why, N)
 
 // Calls of a device in a slot. Its die comes back.
 fn called<N: Nand + Drop>(device: Device<N>, rows: &[(Call, Answer)]) -> Result<(N, Geometry), Fail>
-    requires { IsDeviceKept N.flash N.honest device }
-    ensures { IfOk result (λ pair. (N.flash pair.0).geometry ≡ pair.1) }
+    requires { IsDeviceKept N.view device }
+    ensures { IfOk result (λ pair. (N.view.flash pair.0).geometry ≡ pair.1) }
 {
     let mut slot = DeviceSlot::new();
     slot.put(device);
@@ -97,8 +97,8 @@ fn started<N: Nand + Drop>(
     geometry: &Geometry,
     rows: &[(Call, Answer)],
 ) -> Result<(N, Geometry), Fail>
-    requires { (N.flash nand).geometry ≡ geometry.now }
-    ensures { IfOk result (λ pair. (N.flash pair.0).geometry ≡ pair.1) }
+    requires { (N.view.flash nand).geometry ≡ geometry.now }
+    ensures { IfOk result (λ pair. (N.view.flash pair.0).geometry ≡ pair.1) }
 {
     called(kept(start(alloc, nand, geometry, 4))?, rows)
 }
@@ -110,8 +110,8 @@ fn power<N: Nand + Drop>(
     geometry: &Geometry,
     row: &Row,
 ) -> Result<Result<Device<N>, PowerFault<N>>, Fail>
-    requires { (N.flash nand).geometry ≡ geometry.now }
-    ensures { IfOk result (λ device. IfErr device (λ fault. (N.flash (nand_of fault)).geometry ≡ geometry.now)) }
+    requires { (N.view.flash nand).geometry ≡ geometry.now }
+    ensures { IfOk result (λ device. IfErr device (λ fault. (N.view.flash (nand_of fault)).geometry ≡ geometry.now)) }
 {
     match row.certified {
         None if geometry.is_capacity(row.cache) => {
@@ -132,8 +132,8 @@ fn hold_refused<N: Nand + Drop>(
     geometry: &Geometry,
     row: &Row,
 ) -> Result<N, Fail>
-    requires { (N.flash nand).geometry ≡ geometry.now }
-    ensures { IfOk result (λ nand. (N.flash nand).geometry ≡ geometry.now) }
+    requires { (N.view.flash nand).geometry ≡ geometry.now }
+    ensures { IfOk result (λ nand. (N.view.flash nand).geometry ≡ geometry.now) }
 {
     match power(alloc, nand, geometry, row)? {
         Ok(_) => Err(Fail::new(format_args!("{}: a device", row.name))),
@@ -147,7 +147,7 @@ fn hold_refused<N: Nand + Drop>(
 
 // Both are refused so, and afterwards the sectors read as ever.
 fn hold_both<N: Nand + Drop>(alloc: Global, nand: N, geometry: &Geometry) -> Result<(), Fail>
-    requires { (N.flash nand).geometry ≡ geometry.now }
+    requires { (N.view.flash nand).geometry ≡ geometry.now }
 {
     let nand = hold_refused(alloc, nand, geometry, &STALE)?;
     let nand = hold_refused(alloc, nand, geometry, &OTHER)?;
@@ -208,7 +208,7 @@ fn hold_flush_fault<N: Nand + Drop>(
     geometry: &Geometry,
     wanted: Why,
 ) -> Result<(), Fail>
-    requires { (N.flash nand).geometry ≡ geometry.now }
+    requires { (N.view.flash nand).geometry ≡ geometry.now }
 {
     match start(alloc, nand, geometry, 2) {
         Ok(_) => Err("a device")?,

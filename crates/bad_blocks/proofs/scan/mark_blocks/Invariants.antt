@@ -7,9 +7,9 @@ abbrev pub invariant-loop-block : goal.invariant-loop-block
 invariant-loop-block g l =
     let s = g.S.PageSource in
     record {
-      marks : s.honest l.initial.source ≡ true → (k : ℕ) → k < l.block → get_or l.marks k false ≡ is_marked l.geometry (s.flash l.initial.source).image k;
-      same : s.honest l.initial.source ≡ true → s.flash l.source ≡ s.flash l.initial.source;
-      only_reads : OnlyReads s.flash s.honest s.calm s.programs s.erases s.failed l.initial.source l.source;
-      reads : s.reads l.initial.source + 2 * l.block < 2 ^ 64 → s.reads l.source ≡ s.reads l.initial.source + 2 * l.block;
-      most_reads : s.reads l.source ≤ s.reads l.initial.source + 2 * l.block;
+      marks : s.view.honest l.initial.source ≡ true → (k : ℕ) → k < l.block → get_or l.marks k false ≡ is_marked l.geometry (s.view.flash l.initial.source).image k;
+      same : s.view.honest l.initial.source ≡ true → s.view.flash l.source ≡ s.view.flash l.initial.source;
+      only_reads : OnlyReads s.view l.initial.source l.source;
+      reads : s.view.reads l.initial.source + 2 * l.block < 2 ^ 64 → s.view.reads l.source ≡ s.view.reads l.initial.source + 2 * l.block;
+      most_reads : s.view.reads l.source ≤ s.view.reads l.initial.source + 2 * l.block;
     }

@@ -19,7 +19,7 @@ returns-clause-answers g c =
     let new = c.tell-done.new.device in
     let as_told : step.Command → Exchange = λ k. record { command = k; result = c.tell-done.result; bytes = c.tell-done.new.bytes } in
     let asked : step.Command = stream.command_of (request_at c.args.header c.args.body.now) in
-    let tells : Tells g.N.PageSource.flash g.N.PageSource.recorded g.N.PageSource.honest g.N.PageSource.failed g.N.PageSource.erases old (as_told (command_of c.command_for.result)) new = record {
+    let tells : Tells g.N.PageSource.view old (as_told (command_of c.command_for.result)) new = record {
       device = its.device;
       sized = its.geometry;
       limits = its.limits;
@@ -40,7 +40,7 @@ returns-clause-answers g c =
     record {
       exchange = as_told asked;
       command_is = refl;
-      tells = subst (λ k. Tells g.N.PageSource.flash g.N.PageSource.recorded g.N.PageSource.honest g.N.PageSource.failed g.N.PageSource.erases old (as_told k) new) c.command_for.ensures.command tells;
+      tells = subst (λ k. Tells g.N.PageSource.view old (as_told k) new) c.command_for.ensures.command tells;
       sends =
           subst (λ l. SendsBytes (g.W.Write.contents c.args.writer.now) (g.W.Write.contents c.send_reply.new.writer) (answer_bytes (op_code c.args.header.op) (status_of (answer_to asked c.tell-done.new.bytes c.tell-done.result)) c.args.header.tag l) c.send_reply.result) given
           (subst (λ n. SendsBytes (g.W.Write.contents c.args.writer.now) (g.W.Write.contents c.send_reply.new.writer) (answer_bytes (op_code c.args.header.op) n c.args.header.tag c.sector_for.result.now) c.send_reply.result) status c.send_reply.ensures);

@@ -20,7 +20,7 @@ pub returns-in-Ok-served-clause-served : goal.returns-in-Ok-served-clause-served
 returns-in-Ok-served-clause-served g c =
     let its = c.in-Ok.ensures in
     let begun = c.in-Ok-start.ensures in
-    is_served g.N.PageSource.flash g.N.PageSource.recorded g.N.PageSource.honest g.N.PageSource.calm g.N.PageSource.failed g.N.PageSource.erases
+    is_served g.N.PageSource.view
     c.args.nand c.check.new.source c.into_nand-nand.result c.args.geometry.now c.args.capacity c.args.certificate.now c.in-Ok.accepted
     c.in-Ok-start.device
     c.requires.same_geometry its.only_reads.geometry_is its.only_reads.honest_is its.only_reads.calm_is its.only_reads.failed_is
@@ -32,7 +32,7 @@ pub returns-in-Err-served-clause-fault : goal.returns-in-Err-served-clause-fault
 returns-in-Err-served-clause-fault g c =
     let its = c.in-Ok.ensures in
     let begun = c.in-Ok-start.ensures in
-    is_served g.N.PageSource.flash g.N.PageSource.recorded g.N.PageSource.honest g.N.PageSource.calm g.N.PageSource.failed g.N.PageSource.erases
+    is_served g.N.PageSource.view
     c.args.nand c.check.new.source c.into_nand-nand.result c.args.geometry.now c.args.capacity c.args.certificate.now c.in-Ok.accepted
     c.in-Ok-start.device
     c.requires.same_geometry its.only_reads.geometry_is its.only_reads.honest_is its.only_reads.calm_is its.only_reads.failed_is

@@ -2,10 +2,10 @@ use Rattle.block_server.proofs.Serving.{untold}
 use Rattle.block_server.proofs.server.serve.Goals as goal
 
 pub returns-in_default-clause-session : goal.returns-in_default-clause-session
-returns-in_default-clause-session g c = untold g.N.PageSource.flash g.N.PageSource.recorded g.N.PageSource.honest g.N.PageSource.failed g.N.PageSource.erases c.args.device.now _ _ c.requires.device
+returns-in_default-clause-session g c = untold g.N.PageSource.view c.args.device.now _ _ c.requires.device
 
 pub returns-in_default-vec-clause-session : goal.returns-in_default-vec-clause-session
-returns-in_default-vec-clause-session g c = untold g.N.PageSource.flash g.N.PageSource.recorded g.N.PageSource.honest g.N.PageSource.failed g.N.PageSource.erases c.args.device.now _ _ c.requires.device
+returns-in_default-vec-clause-session g c = untold g.N.PageSource.view c.args.device.now _ _ c.requires.device
 
 pub returns-clause-unread : goal.returns-clause-unread
 returns-clause-unread g c = λ is. absurd (c.serve_with.ensures.never is)

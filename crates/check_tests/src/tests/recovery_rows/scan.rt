@@ -17,7 +17,7 @@ fn copied<S: PageSource>(
     geometry: &Geometry,
     number: u32,
 ) -> Result<(Result<(), SectorFault>, Vec<u8>), AllocError>
-    requires { (S.flash source.old).geometry ≡ geometry.now }
+    requires { (S.view.flash source.old).geometry ≡ geometry.now }
 {
     let mut page = vec![in alloc; 0u8; geometry.data_bytes() + geometry.spare_bytes()]?;
     let mut out = vec![in alloc; 0xAAu8; geometry.data_bytes()]?;
@@ -107,20 +107,19 @@ struct Unreadable {
 }
 
 impl PageSource for Unreadable {
-    ghost use Rattle.std.specs.Prelude.{false, []};
+    ghost use Rattle.std.specs.Prelude.{false, [], None};
     ghost use Rattle.page_layout.specs.Raw.{still};
 
-    ghost flash = { λ s. still s.geometry [] };
-
-    ghost honest = { λ _. false };
-
-    ghost reads = { λ s. s.reads };
-
-    ghost programs = { λ _. 0 };
-
-    ghost erases = { λ _. 0 };
-
-    ghost failed = { λ s. s.reads };
+    ghost view = { record {
+        flash = λ s. still s.geometry [];
+        recorded = λ _. None;
+        honest = λ _. false;
+        calm = λ _. false;
+        reads = λ s. s.reads;
+        programs = λ _. 0;
+        erases = λ _. 0;
+        failed = λ s. s.reads;
+    } };
 
     fn read_page(
         &mut self,

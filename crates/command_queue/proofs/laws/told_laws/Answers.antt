@@ -2,4 +2,4 @@ use Rattle.command_queue.proofs.ProgramLemmas.{told_programs}
 use Rattle.command_queue.proofs.laws.told_laws.Goals as goal
 
 pub returns : goal.returns
-returns g c = record { programs = told_programs g.N.PageSource.flash g.N.PageSource.recorded g.N.PageSource.honest g.N.PageSource.failed g.N.PageSource.erases }
+returns g c = record { programs = told_programs g.N.PageSource.view }

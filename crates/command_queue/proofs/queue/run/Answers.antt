@@ -10,7 +10,7 @@ use Rattle.command_queue.proofs.queue.run.Goals as goal
 
 pub loop-call-init : goal.loop-call-init
 loop-call-init g c = record {
-  running = running_none g.N.PageSource.flash g.N.PageSource.recorded g.N.PageSource.honest g.N.PageSource.failed g.N.PageSource.erases c.args.device.now c.args.calls.now c.requires.device c.requires.whole;
+  running = running_none g.N.PageSource.view c.args.device.now c.args.calls.now c.requires.device c.requires.whole;
   as_calm = refl;
 }
 
@@ -21,7 +21,7 @@ loop-call-preserved g c =
     let long : length c.tell.new.bytes ≡ item.bytes.len = omega (arith, c.tell.auto.bytes, ap length c.deref_mut.ensures.value, item.bytes.ok.0) in
     let after : Call = record { command = item.command; reply = Some c.tell.result; bytes = with_items item.bytes c.tell.new.bytes } in
     let its = c.tell.ensures in
-    let tells : Tells g.N.PageSource.flash g.N.PageSource.recorded g.N.PageSource.honest g.N.PageSource.failed g.N.PageSource.erases c.loop-call.device (record { command = told after; result = c.tell.result; bytes = c.tell.new.bytes }) c.tell.new.device = record {
+    let tells : Tells g.N.PageSource.view c.loop-call.device (record { command = told after; result = c.tell.result; bytes = c.tell.new.bytes }) c.tell.new.device = record {
       device = its.device;
       sized = its.geometry;
       limits = its.limits;
@@ -38,7 +38,7 @@ loop-call-preserved g c =
       pins = its.pins;
     } in
     record {
-      running = running_more g.N.PageSource.flash g.N.PageSource.recorded g.N.PageSource.honest g.N.PageSource.failed g.N.PageSource.erases c.args.device.now c.loop-call.device c.tell.new.device c.args.calls.now c.loop-call.calls c.loop-call.call-index
+      running = running_more g.N.PageSource.view c.args.device.now c.loop-call.device c.tell.new.device c.args.calls.now c.loop-call.calls c.loop-call.call-index
           item after c.tell.result c.requires.device c.loop-call.invariant.running (slice_get-get_or c.loop-call.calls c.loop-call.call-index c.call-item.result below) below refl refl
           c.tell.new.bytes (with_items_is item.bytes c.tell.new.bytes long) c.tell.ensures.room tells
           (subst (λ bs. KeepsBytes (told after) c.tell.result bs c.tell.new.bytes) c.deref_mut.ensures.value c.tell.ensures.kept);
@@ -46,16 +46,15 @@ loop-call-preserved g c =
     }
 
 pub returns-clause-told : goal.returns-clause-told
-returns-clause-told g c = all_told g.N.PageSource.flash g.N.PageSource.recorded g.N.PageSource.honest g.N.PageSource.failed g.N.PageSource.erases
+returns-clause-told g c = all_told g.N.PageSource.view
     c.args.device.now c.loop-call.device c.args.calls.now c.loop-call.calls c.loop-call.call-index (omega (arith, c.loop-call-test.false))
     c.loop-call.invariant.running
 
 pub returns-clause-answered : goal.returns-clause-answered
-returns-clause-answered g c = all_answered g.N.PageSource.flash g.N.PageSource.recorded g.N.PageSource.honest g.N.PageSource.failed
-    g.N.PageSource.erases c.args.device.now c.loop-call.device c.args.calls.now c.loop-call.calls c.loop-call.call-index
+returns-clause-answered g c = all_answered g.N.PageSource.view c.args.device.now c.loop-call.device c.args.calls.now c.loop-call.calls c.loop-call.call-index
     (omega (arith, c.loop-call-test.false)) c.loop-call.invariant.running
 
 pub returns-clause-kept : goal.returns-clause-kept
-returns-clause-kept g c = all_kept g.N.PageSource.flash g.N.PageSource.recorded g.N.PageSource.honest g.N.PageSource.failed g.N.PageSource.erases
+returns-clause-kept g c = all_kept g.N.PageSource.view
     c.args.device.now c.loop-call.device c.args.calls.now c.loop-call.calls c.loop-call.call-index (omega (arith, c.loop-call-test.false))
     c.loop-call.invariant.running

@@ -10,17 +10,17 @@ pub returns-clause-until : goal.returns-clause-until
 returns-clause-until g c =
     let its = c.in_ok-device.ensures in
     let device = c.in_ok-device.device in
-    until_so (λ d. d) (RunsTo g.N.PageSource.flash g.N.PageSource.recorded g.N.PageSource.honest g.N.PageSource.failed g.N.PageSource.erases device)
-    (RunsFrom g.N.PageSource.flash g.N.PageSource.recorded g.N.PageSource.honest g.N.PageSource.failed g.N.PageSource.erases c.args.nand
-    c.args.accepted) (Tells g.N.PageSource.flash g.N.PageSource.recorded g.N.PageSource.honest g.N.PageSource.failed g.N.PageSource.erases)
-    (Tells g.N.PageSource.flash g.N.PageSource.recorded g.N.PageSource.honest g.N.PageSource.failed g.N.PageSource.erases)
+    until_so (λ d. d) (RunsTo g.N.PageSource.view device)
+    (RunsFrom g.N.PageSource.view c.args.nand
+    c.args.accepted) (Tells g.N.PageSource.view)
+    (Tells g.N.PageSource.view)
     (exchanges_of c.run.new.calls) c.run.new.device
     (λ before mid runs honest accepted.
-    let well = started_well g.N.PageSource.flash device (g.N.PageSource.flash c.args.nand).geometry c.args.accepted.claim c.args.accepted.stale its.begun (its.truth honest accepted) in
-    let both = runs.1 (ap g.N.PageSource.honest its.nand ∙ honest) well in (
+    let well = started_well g.N.PageSource.view.flash device (g.N.PageSource.view.flash c.args.nand).geometry c.args.accepted.claim c.args.accepted.stale its.begun (its.truth honest accepted) in
+    let both = runs.1 (ap g.N.PageSource.view.honest its.nand ∙ honest) well in (
       both.0,
-      ran_accepted g.N.PageSource.flash g.N.PageSource.recorded g.N.PageSource.honest g.N.PageSource.failed g.N.PageSource.erases
-          (g.N.PageSource.flash c.args.nand) c.args.accepted device mid before (ap g.N.PageSource.flash its.nand) its.begun accepted
+      ran_accepted g.N.PageSource.view
+          (g.N.PageSource.view.flash c.args.nand) c.args.accepted device mid before (ap g.N.PageSource.view.flash its.nand) its.begun accepted
           (its.free honest accepted) (its.accounts honest accepted) both.1,
     ))
     (λ before mid x known runs bus fails. fails) c.run.ensures.told.until

@@ -8,7 +8,7 @@ use Rattle.command_queue.proofs.queue.tell.Goals as goal
 pub returns-in-Read-clause-happened : goal.returns-in-Read-clause-happened
 returns-in-Read-clause-happened g c = λ honest w ne.
     rw c.in-Read.is
-    (read_happened g.N.PageSource.flash g.N.PageSource.recorded c.args.device.now c.read.new.self c.read.result ne c.in-Read.sector c.read.new.out
+    (read_happened g.N.PageSource.view c.args.device.now c.read.new.self c.read.result ne c.in-Read.sector c.read.new.out
     (page_in c.read.new.self.engine.scratch) (page_in c.read.new.self.engine.page) (c.read.ensures.step honest w ne)
     (c.read.ensures.same honest ne) (c.read.ensures.told honest ne) c.read.ensures.memory c.read.ensures.read_only c.read.ensures.faults
     (c.read.ensures.survives honest w ne))
@@ -18,7 +18,7 @@ returns-in-Write-clause-happened g c = λ honest w ne.
     let logs = c.write.ensures.changes.logs honest ne in
     let means = c.write.ensures.changes.means honest w ne in
     rw c.in-Write.is
-    (changed g.N.PageSource.flash g.N.PageSource.recorded c.args.device.now c.write.new.self c.write.result ne c.requires.device.engine.memory
+    (changed g.N.PageSource.view c.args.device.now c.write.new.self c.write.result ne c.requires.device.engine.memory
     c.write.ensures.device.engine.memory c.write.ensures.geometry w means.well logs.went c.write.ensures.changes.refuses.says (logs.shown w)
     (step.Write c.in-Write.sector c.in-Write.body.now) c.args.bytes.now refl (λ turn. (let no : ⊥ = cc in absurd no))
     (λ turn. (let no : ⊥ = cc in absurd no)) (logs.flushed w) (logs.left w)
@@ -31,7 +31,7 @@ returns-in-Trim-clause-happened g c = λ honest w ne.
     let logs = c.trim.ensures.changes.logs honest ne in
     let means = c.trim.ensures.changes.means honest w ne in
     rw c.in-Trim.is
-    (changed g.N.PageSource.flash g.N.PageSource.recorded c.args.device.now c.trim.new.self c.trim.result ne c.requires.device.engine.memory
+    (changed g.N.PageSource.view c.args.device.now c.trim.new.self c.trim.result ne c.requires.device.engine.memory
     c.trim.ensures.device.engine.memory c.trim.ensures.geometry w means.well logs.went c.trim.ensures.changes.refuses.says (logs.shown w)
     (step.Trim c.in-Trim.sector) c.args.bytes.now refl (λ turn. (let no : ⊥ = cc in absurd no)) (λ turn. (let no : ⊥ = cc in absurd no))
     (logs.flushed w) (logs.left w) (write_sound _ _ _ c.in-Trim.sector (zeros c.args.device.now.engine.geometry) c.trim.result means.step)
@@ -43,7 +43,7 @@ returns-in-Flush-clause-happened g c = λ honest w ne.
     let logs = c.flush.ensures.upkeeps.logs honest ne in
     let means = c.flush.ensures.upkeeps.means honest w ne in
     rw c.in-Flush.is
-    (changed g.N.PageSource.flash g.N.PageSource.recorded c.args.device.now c.flush.new.self c.flush.result ne c.requires.device.engine.memory
+    (changed g.N.PageSource.view c.args.device.now c.flush.new.self c.flush.result ne c.requires.device.engine.memory
     c.flush.ensures.device.engine.memory c.flush.ensures.geometry w means.well logs.went c.flush.ensures.upkeeps.refuses.says (logs.shown w)
     step.Flush c.args.bytes.now refl (λ turn. (let no : ⊥ = cc in absurd no)) (λ turn. (let no : ⊥ = cc in absurd no)) (logs.flushed w) (logs.left w)
     (quiet_sound _ _ c.flush.result means.step) (λ any. c.flush.ensures.upkeeps.refuses_upkeep.memory) means.step (logs.stopped w) means.versions)
@@ -53,7 +53,7 @@ returns-in-Turn-clause-happened g c = λ honest w ne.
     let logs = c.turn.ensures.upkeeps.logs honest ne in
     let means = c.turn.ensures.upkeeps.means honest w ne in
     rw c.in-Turn.is
-    (changed g.N.PageSource.flash g.N.PageSource.recorded c.args.device.now c.turn.new.self c.turn.result ne c.requires.device.engine.memory
+    (changed g.N.PageSource.view c.args.device.now c.turn.new.self c.turn.result ne c.requires.device.engine.memory
     c.turn.ensures.device.engine.memory c.turn.ensures.geometry w means.well logs.went c.turn.ensures.upkeeps.refuses.says (logs.shown w)
     step.Turn c.args.bytes.now refl (λ turn. c.turn.ensures.rescued honest w) (λ turn. c.turn.ensures.turned) (logs.flushed w) (logs.left w)
     (quiet_sound _ _ c.turn.result means.step) (λ any. c.turn.ensures.upkeeps.refuses_upkeep.memory) means.step (logs.stopped w) means.versions)

@@ -7,7 +7,7 @@ use Rattle.commands.proofs.migrate_all.renew_all.Goals as goal
 
 pub calls-init : goal.calls-init
 calls-init g c =
-    begins g.N.PageSource.flash g.N.PageSource.recorded g.N.PageSource.honest g.N.PageSource.calm g.N.PageSource.programs g.N.PageSource.erases g.N.PageSource.failed
+    begins g.N.PageSource.view
     c.args.geometry.now c.args.device.now c.requires.device c.requires.same_geometry c.requires.honest c.requires.well
 
 pub returns-in_err-migrate_one-clause-renews : goal.returns-in_err-migrate_one-clause-renews
@@ -17,11 +17,11 @@ returns-in_err-migrate_one-clause-renews g c =
     let new = c.migrate_one.new.self in
     let its = c.in_err-migrate_one.ensures in
     let is : c.from_residual.result ≡ Err fault = search rules in
-    let call = calls_as n.flash n.recorded n.honest n.calm n.programs n.erases n.failed c.args.geometry.now c.args.device.now c.calls.device new
+    let call = calls_as n.view c.args.geometry.now c.args.device.now c.calls.device new
     c.calls.count (Err fault) c.requires.roomy c.calls.invariant its.upkeeps its.migrates its.rests its.brought its.brings its.stays its.moves_on
     in
-    let P : Result ℕ DeviceFault → Type 0 = λ r. RenewsAll n.flash n.recorded n.honest n.calm n.programs n.erases n.failed c.args.device.now r new in
-    subst P (sym is) (ends_refused n.flash n.recorded n.honest n.calm n.programs n.erases n.failed c.args.geometry.now c.args.device.now c.calls.device new c.calls.count fault c.calls.invariant call).renews
+    let P : Result ℕ DeviceFault → Type 0 = λ r. RenewsAll n.view c.args.device.now r new in
+    subst P (sym is) (ends_refused n.view c.args.geometry.now c.args.device.now c.calls.device new c.calls.count fault c.calls.invariant call).renews
 
 pub returns-in_err-migrate_one-clause-keeps : goal.returns-in_err-migrate_one-clause-keeps
 returns-in_err-migrate_one-clause-keeps g c =
@@ -30,41 +30,41 @@ returns-in_err-migrate_one-clause-keeps g c =
     let new = c.migrate_one.new.self in
     let its = c.in_err-migrate_one.ensures in
     let is : c.from_residual.result ≡ Err fault = search rules in
-    let call = calls_as n.flash n.recorded n.honest n.calm n.programs n.erases n.failed c.args.geometry.now c.args.device.now c.calls.device new
+    let call = calls_as n.view c.args.geometry.now c.args.device.now c.calls.device new
     c.calls.count (Err fault) c.requires.roomy c.calls.invariant its.upkeeps its.migrates its.rests its.brought its.brings its.stays its.moves_on
     in
-    let P : Result ℕ DeviceFault → Type 0 = λ r. r ≢ Err BusFault → KeepsAll n.flash n.recorded c.args.device.now new in
-    subst P (sym is) (ends_refused n.flash n.recorded n.honest n.calm n.programs n.erases n.failed c.args.geometry.now c.args.device.now c.calls.device new c.calls.count fault c.calls.invariant call).keeps
+    let P : Result ℕ DeviceFault → Type 0 = λ r. r ≢ Err BusFault → KeepsAll n.view c.args.device.now new in
+    subst P (sym is) (ends_refused n.view c.args.geometry.now c.args.device.now c.calls.device new c.calls.count fault c.calls.invariant call).keeps
 
 pub returns-then-not-branch-clause-renews : goal.returns-then-not-branch-clause-renews
 returns-then-not-branch-clause-renews g c =
     let n = g.N.PageSource in
     let new = c.migrate_one.new.self in
     let its = c.in_ok-migrate_one.ensures in
-    let call = calls_as n.flash n.recorded n.honest n.calm n.programs n.erases n.failed c.args.geometry.now c.args.device.now c.calls.device new
+    let call = calls_as n.view c.args.geometry.now c.args.device.now c.calls.device new
     c.calls.count (Ok c.in_ok-migrate_one.field-0) c.requires.roomy c.calls.invariant its.upkeeps its.migrates its.rests its.brought its.brings
     its.stays its.moves_on in
-    let P : Bool → Type 0 = λ b. CallsMigrate n.flash n.recorded n.honest n.calm n.programs n.erases n.failed c.calls.device (Ok b) new in
-    (ends_done n.flash n.recorded n.honest n.calm n.programs n.erases n.failed c.args.geometry.now c.args.device.now c.calls.device new c.calls.count c.calls.invariant (subst P c.if-not-branch.true call)).renews
+    let P : Bool → Type 0 = λ b. CallsMigrate n.view c.calls.device (Ok b) new in
+    (ends_done n.view c.args.geometry.now c.args.device.now c.calls.device new c.calls.count c.calls.invariant (subst P c.if-not-branch.true call)).renews
 
 pub returns-then-not-branch-clause-keeps : goal.returns-then-not-branch-clause-keeps
 returns-then-not-branch-clause-keeps g c =
     let n = g.N.PageSource in
     let new = c.migrate_one.new.self in
     let its = c.in_ok-migrate_one.ensures in
-    let call = calls_as n.flash n.recorded n.honest n.calm n.programs n.erases n.failed c.args.geometry.now c.args.device.now c.calls.device new
+    let call = calls_as n.view c.args.geometry.now c.args.device.now c.calls.device new
     c.calls.count (Ok c.in_ok-migrate_one.field-0) c.requires.roomy c.calls.invariant its.upkeeps its.migrates its.rests its.brought its.brings
     its.stays its.moves_on in
-    let P : Bool → Type 0 = λ b. CallsMigrate n.flash n.recorded n.honest n.calm n.programs n.erases n.failed c.calls.device (Ok b) new in
-    (ends_done n.flash n.recorded n.honest n.calm n.programs n.erases n.failed c.args.geometry.now c.args.device.now c.calls.device new c.calls.count c.calls.invariant (subst P c.if-not-branch.true call)).keeps
+    let P : Bool → Type 0 = λ b. CallsMigrate n.view c.calls.device (Ok b) new in
+    (ends_done n.view c.args.geometry.now c.args.device.now c.calls.device new c.calls.count c.calls.invariant (subst P c.if-not-branch.true call)).keeps
 
 pub calls-preserved : goal.calls-preserved
 calls-preserved g c =
     let n = g.N.PageSource in
     let new = c.migrate_one.new.self in
     let its = c.in_ok-migrate_one.ensures in
-    let call = calls_as n.flash n.recorded n.honest n.calm n.programs n.erases n.failed c.args.geometry.now c.args.device.now c.calls.device new
+    let call = calls_as n.view c.args.geometry.now c.args.device.now c.calls.device new
     c.calls.count (Ok c.in_ok-migrate_one.field-0) c.requires.roomy c.calls.invariant its.upkeeps its.migrates its.rests its.brought its.brings
     its.stays its.moves_on in
-    let P : Bool → Type 0 = λ b. CallsMigrate n.flash n.recorded n.honest n.calm n.programs n.erases n.failed c.calls.device (Ok b) new in
-    goes_on n.flash n.recorded n.honest n.calm n.programs n.erases n.failed c.args.geometry.now c.args.device.now c.calls.device new c.calls.count c.requires.roomy c.calls.invariant (subst P c.if-not-branch.false call) its.device its.geometry
+    let P : Bool → Type 0 = λ b. CallsMigrate n.view c.calls.device (Ok b) new in
+    goes_on n.view c.args.geometry.now c.args.device.now c.calls.device new c.calls.count c.requires.roomy c.calls.invariant (subst P c.if-not-branch.false call) its.device its.geometry

@@ -2,4 +2,4 @@ use Rattle.commands.proofs.MigrateLemmas.{IsGoing}
 use Rattle.commands.proofs.migrate_all.renew_all.Given as goal
 
 abbrev pub invariant-calls : goal.invariant-calls
-invariant-calls g l = IsGoing g.N.PageSource.flash g.N.PageSource.recorded g.N.PageSource.honest g.N.PageSource.calm g.N.PageSource.programs g.N.PageSource.erases g.N.PageSource.failed l.geometry l.initial.device l.count l.device
+invariant-calls g l = IsGoing g.N.PageSource.view l.geometry l.initial.device l.count l.device

@@ -10,7 +10,7 @@ pub returns-in_err-count-clause-keeps : goal.returns-in_err-count-clause-keeps
 returns-in_err-count-clause-keeps g c =
     let fault = c.in_err-count.field-0.0 in
     let is : c.from_residual.result ≡ Err fault = search rules in
-    let P : Result ℕ DeviceFault → Type 0 = λ r. r ≢ Err BusFault → KeepsAll g.N.PageSource.flash g.N.PageSource.recorded c.args.device.now c.renew_all.new.device in
+    let P : Result ℕ DeviceFault → Type 0 = λ r. r ≢ Err BusFault → KeepsAll g.N.PageSource.view c.args.device.now c.renew_all.new.device in
     subst P (sym is) c.in_err-count.ensures.keeps
 
 pub returns-in_err-flush-clause-renews : goal.returns-in_err-flush-clause-renews
@@ -20,10 +20,10 @@ returns-in_err-flush-clause-renews g c =
     let all = c.in_ok-count.ensures in
     let p = err_from_is_err_and c.from_residual-in_err-flush.result c.from_residual-in_err-flush.ensures.1 in
     let is : c.from_residual-in_err-flush.result ≡ Err fault = p.1 ∙ ap Err p.2 in
-    let ended : HasEnded n.flash n.recorded n.honest n.calm n.programs n.erases n.failed c.args.geometry.now c.args.device.now (Ok c.in_ok-count.count) c.renew_all.new.device =
+    let ended : HasEnded n.view c.args.geometry.now c.args.device.now (Ok c.in_ok-count.count) c.renew_all.new.device =
     record { began = c.requires.same_geometry; still = all.honest; le = all.failed; renews = all.renews; keeps = all.keeps; rose = all.rose; none = all.none } in
-    let P : Result ℕ DeviceFault → Type 0 = λ r. RenewsThenFlushes n.flash n.recorded n.honest n.calm n.programs n.erases n.failed c.args.device.now r c.flush.new.self in
-    subst P (sym is) (flush_refused n.flash n.recorded n.honest n.calm n.programs n.erases n.failed c.args.geometry.now c.args.device.now c.renew_all.new.device c.flush.new.self c.in_ok-count.count fault ended all.geometry c.in_err-flush.ensures.upkeeps).renews
+    let P : Result ℕ DeviceFault → Type 0 = λ r. RenewsThenFlushes n.view c.args.device.now r c.flush.new.self in
+    subst P (sym is) (flush_refused n.view c.args.geometry.now c.args.device.now c.renew_all.new.device c.flush.new.self c.in_ok-count.count fault ended all.geometry c.in_err-flush.ensures.upkeeps).renews
 
 pub returns-in_err-flush-clause-keeps : goal.returns-in_err-flush-clause-keeps
 returns-in_err-flush-clause-keeps g c =
@@ -32,24 +32,24 @@ returns-in_err-flush-clause-keeps g c =
     let all = c.in_ok-count.ensures in
     let p = err_from_is_err_and c.from_residual-in_err-flush.result c.from_residual-in_err-flush.ensures.1 in
     let is : c.from_residual-in_err-flush.result ≡ Err fault = p.1 ∙ ap Err p.2 in
-    let ended : HasEnded n.flash n.recorded n.honest n.calm n.programs n.erases n.failed c.args.geometry.now c.args.device.now (Ok c.in_ok-count.count) c.renew_all.new.device =
+    let ended : HasEnded n.view c.args.geometry.now c.args.device.now (Ok c.in_ok-count.count) c.renew_all.new.device =
     record { began = c.requires.same_geometry; still = all.honest; le = all.failed; renews = all.renews; keeps = all.keeps; rose = all.rose; none = all.none } in
-    let P : Result ℕ DeviceFault → Type 0 = λ r. r ≢ Err BusFault → KeepsAll n.flash n.recorded c.args.device.now c.flush.new.self in
-    subst P (sym is) (flush_refused n.flash n.recorded n.honest n.calm n.programs n.erases n.failed c.args.geometry.now c.args.device.now c.renew_all.new.device c.flush.new.self c.in_ok-count.count fault ended all.geometry c.in_err-flush.ensures.upkeeps).keeps
+    let P : Result ℕ DeviceFault → Type 0 = λ r. r ≢ Err BusFault → KeepsAll n.view c.args.device.now c.flush.new.self in
+    subst P (sym is) (flush_refused n.view c.args.geometry.now c.args.device.now c.renew_all.new.device c.flush.new.self c.in_ok-count.count fault ended all.geometry c.in_err-flush.ensures.upkeeps).keeps
 
 pub returns-clause-keeps : goal.returns-clause-keeps
 returns-clause-keeps g c =
     let n = g.N.PageSource in
     let all = c.in_ok-count.ensures in
-    let ended : HasEnded n.flash n.recorded n.honest n.calm n.programs n.erases n.failed c.args.geometry.now c.args.device.now (Ok c.in_ok-count.count) c.renew_all.new.device =
+    let ended : HasEnded n.view c.args.geometry.now c.args.device.now (Ok c.in_ok-count.count) c.renew_all.new.device =
     record { began = c.requires.same_geometry; still = all.honest; le = all.failed; renews = all.renews; keeps = all.keeps; rose = all.rose; none = all.none } in
-    (flush_done n.flash n.recorded n.honest n.calm n.programs n.erases n.failed c.args.geometry.now c.args.device.now c.renew_all.new.device c.flush.new.self c.in_ok-count.count ended all.geometry c.requires.roomy c.in_ok-flush.ensures.upkeeps c.in_ok-flush.ensures.renewed).keeps
+    (flush_done n.view c.args.geometry.now c.args.device.now c.renew_all.new.device c.flush.new.self c.in_ok-count.count ended all.geometry c.requires.roomy c.in_ok-flush.ensures.upkeeps c.in_ok-flush.ensures.renewed).keeps
 
 pub returns-clause-settled : goal.returns-clause-settled
 returns-clause-settled g c =
     let n = g.N.PageSource in
     let all = c.in_ok-count.ensures in
-    let ended : HasEnded n.flash n.recorded n.honest n.calm n.programs n.erases n.failed c.args.geometry.now c.args.device.now (Ok c.in_ok-count.count) c.renew_all.new.device =
+    let ended : HasEnded n.view c.args.geometry.now c.args.device.now (Ok c.in_ok-count.count) c.renew_all.new.device =
     record { began = c.requires.same_geometry; still = all.honest; le = all.failed; renews = all.renews; keeps = all.keeps; rose = all.rose; none = all.none } in
-    (flush_done n.flash n.recorded n.honest n.calm n.programs n.erases n.failed c.args.geometry.now c.args.device.now c.renew_all.new.device c.flush.new.self
+    (flush_done n.view c.args.geometry.now c.args.device.now c.renew_all.new.device c.flush.new.self
     c.in_ok-count.count ended all.geometry c.requires.roomy c.in_ok-flush.ensures.upkeeps c.in_ok-flush.ensures.renewed).settled

@@ -6,7 +6,7 @@ use Rattle.crash_recovery.proofs.shown.shows_any.Given as goal
 
 abbrev pub invariant-loop-block : goal.invariant-loop-block
 invariant-loop-block g l = record {
-  only_reads : OnlyReads g.N.PageSource.flash g.N.PageSource.honest g.N.PageSource.calm g.N.PageSource.programs g.N.PageSource.erases g.N.PageSource.failed l.fn.source l.source;
-  same : g.N.PageSource.honest l.fn.source ≡ true → g.N.PageSource.flash l.source ≡ g.N.PageSource.flash l.fn.source;
-  none : g.N.PageSource.honest l.fn.source ≡ true → (capacity : ℕ) → Agrees l.geometry capacity (g.N.PageSource.flash l.fn.source).image l.certificate → NoneTorn l.geometry (g.N.PageSource.flash l.fn.source).image l.block;
+  only_reads : OnlyReads g.N.PageSource.view l.fn.source l.source;
+  same : g.N.PageSource.view.honest l.fn.source ≡ true → g.N.PageSource.view.flash l.source ≡ g.N.PageSource.view.flash l.fn.source;
+  none : g.N.PageSource.view.honest l.fn.source ≡ true → (capacity : ℕ) → Agrees l.geometry capacity (g.N.PageSource.view.flash l.fn.source).image l.certificate → NoneTorn l.geometry (g.N.PageSource.view.flash l.fn.source).image l.block;
 }

@@ -5,6 +5,6 @@ use Rattle.device_fixtures.proofs.cases.collect_all.Given as goal
 
 abbrev pub invariant-loop-its : goal.invariant-loop-its
 invariant-loop-its g l = record {
-  safe : IsSafe g.N.PageSource.flash l.engine;
+  safe : IsSafe g.N.PageSource.view.flash l.engine;
   calm : l.engine.fault ≡ None → IsCalm (ram l.engine);
 }

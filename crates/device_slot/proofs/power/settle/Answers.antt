@@ -5,26 +5,26 @@ use Rattle.device_slot.proofs.power.settle.Goals as goal
 pub returns-in_err-device-clause-fault : goal.returns-in_err-device-clause-fault
 returns-in_err-device-clause-fault g c =
     let p = err_from_is_err_and c.from_residual.result c.from_residual.ensures.1 in
-    rw (p.1, p.2) (unsettled_at g.N.PageSource.flash g.N.PageSource.honest g.N.PageSource.failed c.args.nand c.args.geometry.now c.args.stale c.in_err-device.field-0.0 c.in_err-device.ensures.fault)
+    rw (p.1, p.2) (unsettled_at g.N.PageSource.view c.args.nand c.args.geometry.now c.args.stale c.in_err-device.field-0.0 c.in_err-device.ensures.fault)
 
 pub returns-in-Err : goal.returns-in-Err
 returns-in-Err g c =
     let s = g.N.PageSource in
     let first = c.in_ok-device.ensures in
-    let its = brought s.flash s.honest s.failed c.args.nand c.args.geometry.now c.args.stale s.calm s.programs s.erases c.in_ok-device.device first.begun first.geometry first.capacity first.array first.reads in
+    let its = brought s.view c.args.nand c.args.geometry.now c.args.stale s.view c.in_ok-device.device first.begun first.geometry first.capacity first.array first.reads in
     let then = c.flush.ensures in
     record {
       back = tt;
       array = tt;
       fault = record {
         only = c.in-Err.ensures.stops;
-        bus = λ h. flushed_bus s.flash s.recorded s.honest s.calm s.failed c.args.nand c.args.geometry.now c.args.stale c.in_ok-device.device c.flush.new.self c.flush.result its then.geometry then.device then.upkeeps
+        bus = λ h. flushed_bus s.view c.args.nand c.args.geometry.now c.args.stale c.in_ok-device.device c.flush.new.self c.flush.result its then.geometry then.device then.upkeeps
             c.in-Err.fault c.in-Err.ensures.err c.in-Err.ensures.stops h;
-        rose = λ is. flushed_rose s.flash s.recorded s.honest s.calm s.failed c.args.nand c.args.geometry.now c.args.stale c.in_ok-device.device c.flush.new.self c.flush.result its then.geometry then.device then.upkeeps
+        rose = λ is. flushed_rose s.view c.args.nand c.args.geometry.now c.args.stale c.in_ok-device.device c.flush.new.self c.flush.result its then.geometry then.device then.upkeeps
             c.stop-in-Err.result c.stop-in-Err.ensures.nand (err_is c.flush.result c.in-Err.fault c.in-Err.ensures.err is);
-        started = mounted_begun s.flash s.honest s.failed c.args.nand c.args.geometry.now c.args.stale c.in_ok-device.device first.begun first.geometry first.capacity first.pages first.reads.honest_is;
+        started = mounted_begun s.view c.args.nand c.args.geometry.now c.args.stale c.in_ok-device.device first.begun first.geometry first.capacity first.pages first.reads.honest_is;
       };
-      given = flushed_back s.flash s.recorded s.honest s.calm s.failed c.args.nand c.args.geometry.now c.args.stale c.in_ok-device.device c.flush.new.self c.flush.result its then.geometry then.device then.upkeeps
+      given = flushed_back s.view c.args.nand c.args.geometry.now c.args.stale c.in_ok-device.device c.flush.new.self c.flush.result its then.geometry then.device then.upkeeps
           c.stop-in-Err.result c.stop-in-Err.ensures.nand c.stop-in-Err.ensures.geometry c.requires.same_geometry;
     }
 
@@ -32,7 +32,7 @@ pub returns-in-Ok-clause-array : goal.returns-in-Ok-clause-array
 returns-in-Ok-clause-array g c =
     let s = g.N.PageSource in
     let first = c.in_ok-device.ensures in
-    let its = brought s.flash s.honest s.failed c.args.nand c.args.geometry.now c.args.stale s.calm s.programs s.erases c.in_ok-device.device first.begun first.geometry first.capacity first.array first.reads in
+    let its = brought s.view c.args.nand c.args.geometry.now c.args.stale s.view c.in_ok-device.device first.begun first.geometry first.capacity first.array first.reads in
     let then = c.flush.ensures in
-    flushed_same s.flash s.recorded s.honest s.calm s.failed c.args.nand c.args.geometry.now c.args.stale c.in_ok-device.device c.flush.new.self c.flush.result its then.geometry then.device then.upkeeps
+    flushed_same s.view c.args.nand c.args.geometry.now c.args.stale c.in_ok-device.device c.flush.new.self c.flush.result its then.geometry then.device then.upkeeps
     c.stop.result c.stop.ensures.nand c.in-Ok.ensures.ok

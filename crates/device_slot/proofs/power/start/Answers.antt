@@ -6,9 +6,9 @@ returns-in-Some-clause-brings g c =
     let s = g.N.PageSource in
     let un = c.in-Err.ensures.fault in
     let wants = c.in-Some.ensures.wants in
-    if_brought s.flash s.honest s.failed c.args.nand c.into_nand.result c.args.geometry.now c.args.capacity
-    (mid_back s.flash s.honest s.failed c.args.nand c.into_nand.result c.args.geometry.now c.args.capacity c.in-Some.stale c.in-Err.fault c.into_nand.ensures un wants c.in-Err.ensures.given)
-    (mid_same s.flash s.honest s.failed c.args.nand c.into_nand.result c.args.geometry.now c.args.capacity c.in-Some.stale c.in-Err.fault c.into_nand.ensures un wants)
+    if_brought s.view c.args.nand c.into_nand.result c.args.geometry.now c.args.capacity
+    (mid_back s.view c.args.nand c.into_nand.result c.args.geometry.now c.args.capacity c.in-Some.stale c.in-Err.fault c.into_nand.ensures un wants c.in-Err.ensures.given)
+    (mid_same s.view c.args.nand c.into_nand.result c.args.geometry.now c.args.capacity c.in-Some.stale c.in-Err.fault c.into_nand.ensures un wants)
     c.start_settled.result c.start_settled.ensures.brings
 
 pub returns-in-Some-clause-fault : goal.returns-in-Some-clause-fault
@@ -16,25 +16,25 @@ returns-in-Some-clause-fault g c =
     let s = g.N.PageSource in
     let un = c.in-Err.ensures.fault in
     let wants = c.in-Some.ensures.wants in
-    if_unsettled_there s.flash s.honest s.failed c.args.nand c.into_nand.result c.args.geometry.now c.args.capacity
-    (mid_back s.flash s.honest s.failed c.args.nand c.into_nand.result c.args.geometry.now c.args.capacity c.in-Some.stale c.in-Err.fault c.into_nand.ensures un wants c.in-Err.ensures.given)
-    (mid_flash s.flash s.honest s.failed c.args.nand c.into_nand.result c.args.geometry.now c.args.capacity c.in-Some.stale c.in-Err.fault c.into_nand.ensures un wants)
+    if_unsettled_there s.view c.args.nand c.into_nand.result c.args.geometry.now c.args.capacity
+    (mid_back s.view c.args.nand c.into_nand.result c.args.geometry.now c.args.capacity c.in-Some.stale c.in-Err.fault c.into_nand.ensures un wants c.in-Err.ensures.given)
+    (mid_flash s.view c.args.nand c.into_nand.result c.args.geometry.now c.args.capacity c.in-Some.stale c.in-Err.fault c.into_nand.ensures un wants)
     c.start_settled.result c.start_settled.ensures.fault
 
 pub returns-in-Some-clause-given : goal.returns-in-Some-clause-given
 returns-in-Some-clause-given g c =
     let s = g.N.PageSource in
-    if_back_on s.flash s.honest s.failed c.args.nand c.into_nand.result
-    (mid_back s.flash s.honest s.failed c.args.nand c.into_nand.result c.args.geometry.now c.args.capacity c.in-Some.stale c.in-Err.fault c.into_nand.ensures c.in-Err.ensures.fault c.in-Some.ensures.wants c.in-Err.ensures.given)
+    if_back_on s.view c.args.nand c.into_nand.result
+    (mid_back s.view c.args.nand c.into_nand.result c.args.geometry.now c.args.capacity c.in-Some.stale c.in-Err.fault c.into_nand.ensures c.in-Err.ensures.fault c.in-Some.ensures.wants c.in-Err.ensures.given)
     c.start_settled.result c.start_settled.ensures.given
 
 pub returns-in-Some-clause-still : goal.returns-in-Some-clause-still
 returns-in-Some-clause-still g c =
     let s = g.N.PageSource in
-    mid_still s.flash s.honest s.failed c.args.nand c.into_nand.result c.args.geometry.now c.args.capacity c.in-Some.stale c.in-Err.fault c.into_nand.ensures c.in-Err.ensures.fault c.in-Some.ensures.wants c.start_settled.result
+    mid_still s.view c.args.nand c.into_nand.result c.args.geometry.now c.args.capacity c.in-Some.stale c.in-Err.fault c.into_nand.ensures c.in-Err.ensures.fault c.in-Some.ensures.wants c.start_settled.result
 
 pub returns-in-None-clause-fault : goal.returns-in-None-clause-fault
 returns-in-None-clause-fault g c =
     let s = g.N.PageSource in
-    unsettled_of s.flash s.honest s.failed c.args.nand c.args.geometry.now c.args.capacity c.in-Err.fault
-    (unbrought s.flash s.honest s.failed c.args.nand c.args.geometry.now c.args.capacity c.in-Err.fault c.in-Err.ensures.fault c.in-None.ensures.none)
+    unsettled_of s.view c.args.nand c.args.geometry.now c.args.capacity c.in-Err.fault
+    (unbrought s.view c.args.nand c.args.geometry.now c.args.capacity c.in-Err.fault c.in-Err.ensures.fault c.in-None.ensures.none)

@@ -4,5 +4,5 @@ use Rattle.device_slot.proofs.slot.told_only.Goals as goal
 
 pub returns-clause-told : goal.returns-clause-told
 returns-clause-told g c =
-    told_none_out g.N.PageSource.flash g.N.PageSource.recorded g.N.PageSource.honest g.N.PageSource.failed g.N.PageSource.erases c.args.device.now c.told.new.device (command_of c.args.command) c.told.result c.told.new.bytes c.told.new.shortage
+    told_none_out g.N.PageSource.view c.args.device.now c.told.new.device (command_of c.args.command) c.told.result c.told.new.bytes c.told.new.shortage
     c.requires.only c.told.ensures.told

@@ -140,8 +140,8 @@ const ROWS: [Row; 8] = [
 
 // Each call has its answer.
 fn hold_steps<N: Nand>(rt: &impl Abort, device: &mut Device<N>, row: &Row)
-    requires { IsDevice N.flash device.old }
-    ensures { IsDevice N.flash device.new }
+    requires { IsDevice N.view.flash device.old }
+    ensures { IsDevice N.view.flash device.new }
 {
     for (call, held, answer) in row.steps {
         let name = row.name;
@@ -154,8 +154,8 @@ fn hold_steps<N: Nand>(rt: &impl Abort, device: &mut Device<N>, row: &Row)
 
 // These calls are done.
 fn do_calls<N: Nand>(rt: &impl Abort, device: &mut Device<N>, calls: &[Call])
-    requires { IsDevice N.flash device.old }
-    ensures { IsDevice N.flash device.new }
+    requires { IsDevice N.view.flash device.old }
+    ensures { IsDevice N.view.flash device.new }
 {
     for call in calls {
         assert!(rt; make(rt, device, *call, 0).is_ok(), "{call:?}");

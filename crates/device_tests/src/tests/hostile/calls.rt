@@ -22,8 +22,8 @@ pub fn write<N: Nand>(
     sector: u32,
     body: &[u8; 64],
 ) -> Result<(), DeviceFault>
-    requires { IsDevice N.flash device.old }
-    ensures { IsDevice N.flash device.new }
+    requires { IsDevice N.view.flash device.old }
+    ensures { IsDevice N.view.flash device.new }
 {
     assert!(rt; device.engine.geometry.data_bytes() == 64);
     device.write(sector, body)
@@ -36,8 +36,8 @@ fn read_into<N: Nand>(
     sector: u32,
     out: &mut [u8; 64],
 ) -> Result<(), DeviceFault>
-    requires { IsDevice N.flash device.old }
-    ensures { IsDevice N.flash device.new }
+    requires { IsDevice N.view.flash device.old }
+    ensures { IsDevice N.view.flash device.new }
 {
     assert!(rt; device.engine.geometry.data_bytes() == 64);
     device.read(sector, out)
@@ -49,8 +49,8 @@ pub fn read<N: Nand>(
     device: &mut Device<N>,
     sector: u32,
 ) -> Result<[u8; 64], DeviceFault>
-    requires { IsDevice N.flash device.old }
-    ensures { IsDevice N.flash device.new }
+    requires { IsDevice N.view.flash device.old }
+    ensures { IsDevice N.view.flash device.new }
 {
     let mut out = [0xA5; 64];
     let answer = read_into(rt, device, sector, &mut out);
@@ -66,8 +66,8 @@ pub fn make<N: Nand>(
     call: Call,
     held: u8,
 ) -> Result<(), DeviceFault>
-    requires { IsDevice N.flash device.old }
-    ensures { IsDevice N.flash device.new }
+    requires { IsDevice N.view.flash device.old }
+    ensures { IsDevice N.view.flash device.new }
 {
     match call {
         Call::Write(sector, byte) => write(rt, device, sector, &[byte; 64]),

@@ -207,16 +207,16 @@ fn is_answer(answer: Result<(), DeviceFault>) -> bool {
 
 // Gives a device a flush or a turn.
 fn hold_idle<N: Nand>(rt: &impl Abort, device: &mut Device<N>, call: Call)
-    requires { IsDevice N.flash device.old }
-    ensures { IsDevice N.flash device.new }
+    requires { IsDevice N.view.flash device.old }
+    ensures { IsDevice N.view.flash device.new }
 {
     assert!(rt; is_answer(make(rt, device, call, 0)), "{call:?}");
 }
 
 // Writes a sector, and the list the same where that is done.
 fn hold_write<N: Nand>(rt: &impl Abort, device: &mut Device<N>, list: &mut List, number: u32)
-    requires { IsDevice N.flash device.old }
-    ensures { IsDevice N.flash device.new }
+    requires { IsDevice N.view.flash device.old }
+    ensures { IsDevice N.view.flash device.new }
 {
     let answer = write(rt, device, number, &[0x5A; 64]);
     assert!(rt; is_answer(answer), "sector {number}");
@@ -227,8 +227,8 @@ fn hold_write<N: Nand>(rt: &impl Abort, device: &mut Device<N>, list: &mut List,
 
 // A device's sectors are the list's, and stay so.
 fn hold_changes<N: Nand>(rt: &impl Abort, device: &mut Device<N>, list: &mut List)
-    requires { IsDevice N.flash device.old }
-    ensures { IsDevice N.flash device.new }
+    requires { IsDevice N.view.flash device.old }
+    ensures { IsDevice N.view.flash device.new }
 {
     hold_device(rt, device, list, "started");
     hold_idle(rt, device, Call::Turn);
@@ -285,8 +285,8 @@ fn hold_image(
 
 // Sectors written, trimmed, flushed, and written again.
 fn do_calls<N: Nand>(rt: &impl Abort, device: &mut Device<N>)
-    requires { IsDevice N.flash device.old }
-    ensures { IsDevice N.flash device.new }
+    requires { IsDevice N.view.flash device.old }
+    ensures { IsDevice N.view.flash device.new }
 {
     for i in 0..60u32 {
         let (number, byte) = (i.wrapping_mul(11) % SECTORS, i as u8);

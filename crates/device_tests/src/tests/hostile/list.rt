@@ -35,8 +35,8 @@ impl List {
 
 // Each read gives what the list has.
 pub fn hold_device<N: Nand>(rt: &impl Abort, device: &mut Device<N>, list: &List, name: &str)
-    requires { IsDevice N.flash device.old }
-    ensures { IsDevice N.flash device.new }
+    requires { IsDevice N.view.flash device.old }
+    ensures { IsDevice N.view.flash device.new }
 {
     for sector in 0..SECTORS {
         let found = read(rt, device, sector);

@@ -75,8 +75,8 @@ impl Went {
 
 // Makes a call, unless the device has stopped.
 fn give<N: Nand>(rt: &impl Abort, device: &mut Device<N>, went: &mut Went, call: Call)
-    requires { IsDevice N.flash device.old }
-    ensures { IsDevice N.flash device.new }
+    requires { IsDevice N.view.flash device.old }
+    ensures { IsDevice N.view.flash device.new }
 {
     if went.stopped.is_some() {
         return;
@@ -98,8 +98,8 @@ fn give<N: Nand>(rt: &impl Abort, device: &mut Device<N>, went: &mut Went, call:
 
 // Makes the calls up to the one at which the device stops.
 fn give_all<N: Nand>(rt: &impl Abort, device: &mut Device<N>) -> Went
-    requires { IsDevice N.flash device.old }
-    ensures { IsDevice N.flash device.new }
+    requires { IsDevice N.view.flash device.old }
+    ensures { IsDevice N.view.flash device.new }
 {
     let mut went = Went {
         bytes: [0; SECTORS as usize],
@@ -129,8 +129,8 @@ const AFTER: [Call; 6] = [
 
 // A device that has stopped stays so.
 fn hold_stopped<N: Nand>(rt: &impl Abort, device: &mut Device<N>)
-    requires { IsDevice N.flash device.old }
-    ensures { IsDevice N.flash device.new }
+    requires { IsDevice N.view.flash device.old }
+    ensures { IsDevice N.view.flash device.new }
 {
     for call in AFTER {
         let answer = make(rt, device, call, 0);
@@ -140,8 +140,8 @@ fn hold_stopped<N: Nand>(rt: &impl Abort, device: &mut Device<N>)
 
 // The calls of a device, with its answers after it has stopped.
 fn went_on<N: Nand>(rt: &impl Abort, device: &mut Device<N>) -> Went
-    requires { IsDevice N.flash device.old }
-    ensures { IsDevice N.flash device.new }
+    requires { IsDevice N.view.flash device.old }
+    ensures { IsDevice N.view.flash device.new }
 {
     let went = give_all(rt, device);
     if went.stopped.is_some() {
@@ -166,8 +166,8 @@ fn device_on<B: Bus + Drop>(
 
 // Each sector is that of the list, or that of the command at which a device stopped.
 fn hold_went<N: Nand>(rt: &impl Abort, device: &mut Device<N>, went: &Went)
-    requires { IsDevice N.flash device.old }
-    ensures { IsDevice N.flash device.new }
+    requires { IsDevice N.view.flash device.old }
+    ensures { IsDevice N.view.flash device.new }
 {
     for sector in 0..SECTORS {
         let found = read(rt, device, sector).unwrap_or([0xA5; 64]);

@@ -2,7 +2,7 @@ use Rattle.disk_server.proofs.LawLemmas.{below_law, written_law}
 use Rattle.disk_server.proofs.laws.sequence_laws.Goals as goal
 
 pub returns-clause-below : goal.returns-clause-below
-returns-clause-below g c = below_law g.N.PageSource.flash g.N.PageSource.honest
+returns-clause-below g c = below_law g.N.PageSource.view
 
 pub returns-clause-written : goal.returns-clause-written
-returns-clause-written g c = written_law g.N.PageSource.flash g.N.PageSource.recorded g.N.PageSource.honest g.N.PageSource.calm g.N.PageSource.failed
+returns-clause-written g c = written_law g.N.PageSource.view

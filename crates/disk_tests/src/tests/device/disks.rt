@@ -108,7 +108,7 @@ pub fn device_on<N: Nand + Drop>(
     geometry: &Geometry,
     capacity: u32,
 ) -> Result<DeviceDisk<N>, Fail>
-    requires { (N.flash nand).geometry ≡ geometry.now }
+    requires { (N.view.flash nand).geometry ≡ geometry.now }
 {
     let certificate = mounted(alloc, &mut nand, geometry, capacity)?;
     match open_checked(alloc, nand, geometry, capacity, &certificate) {

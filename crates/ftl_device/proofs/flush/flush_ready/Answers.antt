@@ -28,7 +28,7 @@ returns-clause-renewed g c = λ honest w.
     let first = c.in_ok-flush_translations.ensures.truth honest w in
     let still = c.flush_translations.ensures.leaves.honest_is ∙ honest in
     let spells = c.in_ok-write_tables.ensures.truth (c.make_room.ensures.leaves.honest_is ∙ still) (c.in_ok-make_room.ensures.pinned still first.truth) in
-    subst (λ h. HasNewTables (table_pages h) h (image_in g.N.PageSource.flash c.write_tables.new.engine)) (c.make_room.ensures.leaves.geometry ∙ c.flush_translations.ensures.leaves.geometry) spells.renewed
+    subst (λ h. HasNewTables (table_pages h) h (image_in g.N.PageSource.view.flash c.write_tables.new.engine)) (c.make_room.ensures.leaves.geometry ∙ c.flush_translations.ensures.leaves.geometry) spells.renewed
 
 pub returns-in_err-flush_translations-clause-count : goal.returns-in_err-flush_translations-clause-count
 returns-in_err-flush_translations-clause-count g c =
@@ -62,15 +62,15 @@ returns-clause-count g c = λ known. flush_done (ram c.args.engine.now) (ram c.f
 pub returns-in_err-flush_translations-clause-ends : goal.returns-in_err-flush_translations-clause-ends
 returns-in_err-flush_translations-clause-ends g c =
     let p = err_from_is_err_and c.from_residual.result c.from_residual.ensures.1 in
-    rw (p.1, p.2) (leaves_stuck g.N.PageSource.flash g.N.PageSource.recorded g.N.PageSource.honest g.N.PageSource.calm g.N.PageSource.failed c.args.engine.now c.flush_translations.new.engine _ c.in_err-flush_translations.ensures.leaves c.flush_translations.ensures.limits)
+    rw (p.1, p.2) (leaves_stuck g.N.PageSource.view c.args.engine.now c.flush_translations.new.engine _ c.in_err-flush_translations.ensures.leaves c.flush_translations.ensures.limits)
 
 pub returns-in_err-make_room-clause-ends : goal.returns-in_err-make_room-clause-ends
 returns-in_err-make_room-clause-ends g c =
     let p = err_from_is_err_and c.from_residual-in_err-make_room.result c.from_residual-in_err-make_room.ensures.1 in
     rw (p.1, p.2)
-    (leaves_stuck g.N.PageSource.flash g.N.PageSource.recorded g.N.PageSource.honest g.N.PageSource.calm g.N.PageSource.failed c.args.engine.now
+    (leaves_stuck g.N.PageSource.view c.args.engine.now
     c.make_room.new.engine _
-    (leaves_then g.N.PageSource.flash g.N.PageSource.recorded g.N.PageSource.honest g.N.PageSource.calm g.N.PageSource.failed
+    (leaves_then g.N.PageSource.view
     c.args.engine.now c.flush_translations.new.engine c.make_room.new.engine _ _
     (λ honest k. c.in_ok-flush_translations.ensures.truth honest k) c.flush_translations.ensures.limits
     c.in_ok-flush_translations.ensures.leaves c.in_err-make_room.ensures.leaves)
@@ -80,24 +80,24 @@ pub returns-in_err-write_tables-clause-ends : goal.returns-in_err-write_tables-c
 returns-in_err-write_tables-clause-ends g c =
     let p = err_from_is_err_and c.from_residual-in_err-write_tables.result c.from_residual-in_err-write_tables.ensures.1 in
     rw (p.1, p.2)
-    (leaves_stuck g.N.PageSource.flash g.N.PageSource.recorded g.N.PageSource.honest g.N.PageSource.calm g.N.PageSource.failed c.args.engine.now
+    (leaves_stuck g.N.PageSource.view c.args.engine.now
     c.write_tables.new.engine _
-    (leaves_then g.N.PageSource.flash g.N.PageSource.recorded g.N.PageSource.honest g.N.PageSource.calm g.N.PageSource.failed
+    (leaves_then g.N.PageSource.view
     c.args.engine.now c.flush_translations.new.engine c.write_tables.new.engine _ _
     (λ honest k. c.in_ok-flush_translations.ensures.truth honest k) c.flush_translations.ensures.limits
     c.in_ok-flush_translations.ensures.leaves
-    (leaves_then g.N.PageSource.flash g.N.PageSource.recorded g.N.PageSource.honest g.N.PageSource.calm g.N.PageSource.failed c.flush_translations.new.engine c.make_room.new.engine c.write_tables.new.engine _ _
+    (leaves_then g.N.PageSource.view c.flush_translations.new.engine c.make_room.new.engine c.write_tables.new.engine _ _
     (λ honest k. keeps_room (ram c.flush_translations.new.engine) (ram c.make_room.new.engine) _ _ (c.in_ok-make_room.ensures.truth honest k) (c.in_ok-make_room.ensures.pinned honest k)) c.make_room.ensures.keys.limits
     c.in_ok-make_room.ensures.leaves c.in_err-write_tables.ensures.leaves))
     (limits_then _ _ _ (limits_then _ _ _ c.flush_translations.ensures.limits c.make_room.ensures.keys.limits) (limits_same _ _ c.write_tables.ensures.mapping)))
 
 pub returns-clause-ends : goal.returns-clause-ends
-returns-clause-ends g c = leaves_ends g.N.PageSource.flash g.N.PageSource.recorded g.N.PageSource.honest g.N.PageSource.calm g.N.PageSource.failed
+returns-clause-ends g c = leaves_ends g.N.PageSource.view
     c.args.engine.now c.write_tables.new.engine (Ok tt)
-    (leaves_then g.N.PageSource.flash g.N.PageSource.recorded g.N.PageSource.honest g.N.PageSource.calm g.N.PageSource.failed c.args.engine.now
+    (leaves_then g.N.PageSource.view c.args.engine.now
     c.flush_translations.new.engine c.write_tables.new.engine _ _ (λ honest k. c.in_ok-flush_translations.ensures.truth honest k)
     c.flush_translations.ensures.limits c.in_ok-flush_translations.ensures.leaves
-    (leaves_then g.N.PageSource.flash g.N.PageSource.recorded g.N.PageSource.honest g.N.PageSource.calm g.N.PageSource.failed c.flush_translations.new.engine c.make_room.new.engine c.write_tables.new.engine _ _
+    (leaves_then g.N.PageSource.view c.flush_translations.new.engine c.make_room.new.engine c.write_tables.new.engine _ _
     (λ honest k. keeps_room (ram c.flush_translations.new.engine) (ram c.make_room.new.engine) _ _ (c.in_ok-make_room.ensures.truth honest k) (c.in_ok-make_room.ensures.pinned honest k)) c.make_room.ensures.keys.limits
     c.in_ok-make_room.ensures.leaves c.in_ok-write_tables.ensures.leaves))
     (limits_then _ _ _ (limits_then _ _ _ c.flush_translations.ensures.limits c.make_room.ensures.keys.limits)
@@ -142,14 +142,14 @@ returns-in_err-write_tables-clause-truth g c =
     (c.in_err-write_tables.ensures.truth (c.make_room.ensures.leaves.honest_is ∙ still) knows))
 
 pub returns-clause-pins : goal.returns-clause-pins
-returns-clause-pins g c = λ none. ap (λ p. p.block) c.write_tables.ensures.beside.pin ∙ room_pins g.N.PageSource.erases c.flush_translations.new.engine c.make_room.new.engine c.in_ok-make_room.ensures.erases (c.in_ok-flush_translations.ensures.pins none)
+returns-clause-pins g c = λ none. ap (λ p. p.block) c.write_tables.ensures.beside.pin ∙ room_pins g.N.PageSource.view.erases c.flush_translations.new.engine c.make_room.new.engine c.in_ok-make_room.ensures.erases (c.in_ok-flush_translations.ensures.pins none)
 
 pub returns-clause-programs : goal.returns-clause-programs
 returns-clause-programs g c = record {
   back = c.flush_translations.new.engine;
   ready = c.make_room.new.engine;
   pages = c.in_ok-flush_translations.ensures.pages;
-  cleared = cleared_by g.N.PageSource.flash g.N.PageSource.recorded g.N.PageSource.honest g.N.PageSource.calm g.N.PageSource.failed c.flush_translations.new.engine c.make_room.new.engine _ c.in_ok-make_room.ensures.leaves c.in_ok-make_room.ensures.made
+  cleared = cleared_by g.N.PageSource.view c.flush_translations.new.engine c.make_room.new.engine _ c.in_ok-make_room.ensures.leaves c.in_ok-make_room.ensures.made
       (λ honest k. keeps_room (ram c.flush_translations.new.engine) (ram c.make_room.new.engine) _ _ (c.in_ok-make_room.ensures.truth honest k) (c.in_ok-make_room.ensures.pinned honest k));
   tables = c.in_ok-write_tables.ensures.rounds;
 }

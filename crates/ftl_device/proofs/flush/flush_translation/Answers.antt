@@ -49,7 +49,7 @@ returns-clause-count g c = λ honest w failures funded. written_counts failures 
     (c.in_ok-make_room.ensures.count honest w failures funded) (c.write_back.ensures.cost c.in_ok-make_room.ensures.leaves.fault)
 
 pub returns-then-not-lacks-clause-leaves : goal.returns-then-not-lacks-clause-leaves
-returns-then-not-lacks-clause-leaves g c = leaves_same g.N.PageSource.flash g.N.PageSource.recorded g.N.PageSource.honest g.N.PageSource.calm g.N.PageSource.failed c.args.engine.now c.requires.safe c.requires.going
+returns-then-not-lacks-clause-leaves g c = leaves_same g.N.PageSource.view c.args.engine.now c.requires.safe c.requires.going
 
 pub returns-in_err-make_room-clause-leaves : goal.returns-in_err-make_room-clause-leaves
 returns-in_err-make_room-clause-leaves g c =
@@ -57,10 +57,10 @@ returns-in_err-make_room-clause-leaves g c =
     rw (p.1, p.2) (c.in_err-make_room.ensures.leaves)
 
 pub returns-clause-leaves : goal.returns-clause-leaves
-returns-clause-leaves g c = leaves_then g.N.PageSource.flash g.N.PageSource.recorded g.N.PageSource.honest g.N.PageSource.calm g.N.PageSource.failed c.args.engine.now c.make_room.new.engine c.write_back.new.self _ c.write_back.result
+returns-clause-leaves g c = leaves_then g.N.PageSource.view c.args.engine.now c.make_room.new.engine c.write_back.new.self _ c.write_back.result
     (λ honest k. keeps_room (ram c.args.engine.now) (ram c.make_room.new.engine) _ _ (c.in_ok-make_room.ensures.truth honest k) (c.in_ok-make_room.ensures.pinned honest k)) c.make_room.ensures.keys.limits
     c.in_ok-make_room.ensures.leaves
-    (leaves_by g.N.PageSource.flash g.N.PageSource.recorded g.N.PageSource.honest g.N.PageSource.calm g.N.PageSource.failed c.make_room.new.engine
+    (leaves_by g.N.PageSource.view c.make_room.new.engine
     c.write_back.new.self c.write_back.result c.in_ok-make_room.ensures.leaves.fault c.write_back.ensures.stands
     c.write_back.ensures.goes.geometry
     (back_told c.write_back.result (ram c.make_room.new.engine) (ram c.write_back.new.self)
@@ -68,24 +68,23 @@ returns-clause-leaves g c = leaves_then g.N.PageSource.flash g.N.PageSource.reco
     (λ honest k ne. c.write_back.ensures.stops honest c.in_ok-make_room.ensures.leaves.fault k.truth ne))
 
 pub returns-clause-pins : goal.returns-clause-pins
-returns-clause-pins g c = ok_any c.write_back.result (λ none. ap (λ p. p.block) c.write_back.ensures.pin ∙ room_pins g.N.PageSource.erases c.args.engine.now c.make_room.new.engine c.in_ok-make_room.ensures.erases none)
+returns-clause-pins g c = ok_any c.write_back.result (λ none. ap (λ p. p.block) c.write_back.ensures.pin ∙ room_pins g.N.PageSource.view.erases c.args.engine.now c.make_room.new.engine c.in_ok-make_room.ensures.erases none)
 
 pub returns-then-not-lacks-clause-page : goal.returns-then-not-lacks-clause-page
-returns-then-not-lacks-clause-page g c = page_clean g.N.PageSource.flash g.N.PageSource.recorded g.N.PageSource.honest g.N.PageSource.calm
-    g.N.PageSource.failed c.args.t c.args.engine.now
+returns-then-not-lacks-clause-page g c = page_clean g.N.PageSource.view c.args.t c.args.engine.now
     (clean_by c.args.engine.now.geometry c.args.t c.args.engine.now.mapping c.requires.safe.memory.mapping_of
     (c.lacks.ensures.none c.if-not-lacks.true))
 
 pub returns-clause-page : goal.returns-clause-page
 returns-clause-page g c =
-    let cleared = cleared_by g.N.PageSource.flash g.N.PageSource.recorded g.N.PageSource.honest g.N.PageSource.calm g.N.PageSource.failed c.args.engine.now c.make_room.new.engine _ c.in_ok-make_room.ensures.leaves c.in_ok-make_room.ensures.made
+    let cleared = cleared_by g.N.PageSource.view c.args.engine.now c.make_room.new.engine _ c.in_ok-make_room.ensures.leaves c.in_ok-make_room.ensures.made
     (λ honest k. keeps_room (ram c.args.engine.now) (ram c.make_room.new.engine) _ _ (c.in_ok-make_room.ensures.truth honest k) (c.in_ok-make_room.ensures.pinned honest k)) in
-    let back = written_back g.N.PageSource.flash g.N.PageSource.recorded g.N.PageSource.honest g.N.PageSource.calm g.N.PageSource.failed c.args.t
+    let back = written_back g.N.PageSource.view c.args.t
     c.make_room.new.engine c.write_back.new.self c.write_back.result c.make_room.ensures.leaves.safe.memory
     c.write_back.ensures.stands.safe.memory
     (beside_back c.write_back.result (ram c.make_room.new.engine) (ram c.write_back.new.self) _ c.write_back.ensures.pin c.write_back.ensures.goes
     c.write_back.ensures.cleaned c.write_back.ensures.mapping) c.write_back.ensures.goes c.write_back.ensures.stands
     c.write_back.ensures.cleaned c.write_back.ensures.programmed
     (c.write_back.ensures.cost c.in_ok-make_room.ensures.leaves.fault) (λ honest true_of. c.write_back.ensures.truth honest c.in_ok-make_room.ensures.leaves.fault true_of) in
-    page_flushed g.N.PageSource.flash g.N.PageSource.recorded g.N.PageSource.honest g.N.PageSource.calm g.N.PageSource.failed c.args.t c.args.engine.now c.make_room.new.engine c.write_back.new.self c.write_back.result
+    page_flushed g.N.PageSource.view c.args.t c.args.engine.now c.make_room.new.engine c.write_back.new.self c.write_back.result
     (lacks_by c.args.engine.now.geometry c.args.t c.args.engine.now.mapping c.requires.safe.memory.mapping_of (c.lacks.ensures.some c.if-not-lacks.false)) cleared back

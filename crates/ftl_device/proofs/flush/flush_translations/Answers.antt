@@ -11,7 +11,7 @@ use Rattle.ftl_device.proofs.flush.flush_translations.Goals as goal
 
 pub translations-init : goal.translations-init
 translations-init g c = record {
-  leaves = leaves_same g.N.PageSource.flash g.N.PageSource.recorded g.N.PageSource.honest g.N.PageSource.calm g.N.PageSource.failed c.args.engine.now c.requires.safe c.requires.going;
+  leaves = leaves_same g.N.PageSource.view c.args.engine.now c.requires.safe c.requires.going;
   pins = λ none. none;
   keys = refl;
   limits = record { geometry = refl; capacity = refl };
@@ -24,7 +24,7 @@ translations-init g c = record {
 
 pub translations-preserved : goal.translations-preserved
 translations-preserved g c = record {
-  leaves = leaves_then g.N.PageSource.flash g.N.PageSource.recorded g.N.PageSource.honest g.N.PageSource.calm g.N.PageSource.failed c.args.engine.now
+  leaves = leaves_then g.N.PageSource.view c.args.engine.now
       c.translations.engine c.flush_translation.new.engine _ _ (λ honest k. c.translations.invariant.truth honest k) c.translations.invariant.limits
       c.translations.invariant.leaves c.in_ok-flush_translation.ensures.leaves;
   pins = λ none. c.in_ok-flush_translation.ensures.pins (c.translations.invariant.pins none);
@@ -32,7 +32,7 @@ translations-preserved g c = record {
   limits = limits_then _ _ _ c.translations.invariant.limits c.flush_translation.ensures.limits;
   calm = c.flush_translation.ensures.calm c.in_ok-flush_translation.ensures.leaves.fault;
   clean = clean_more c.translations.t _ _ _ _ c.translations.invariant.leaves.geometry (omega arith) c.translations.invariant.clean c.in_ok-flush_translation.ensures.cleans c.in_ok-flush_translation.ensures.clean;
-  pages = pages_then g.N.PageSource.flash g.N.PageSource.recorded g.N.PageSource.honest g.N.PageSource.calm g.N.PageSource.failed c.translations.t
+  pages = pages_then g.N.PageSource.view c.translations.t
       c.args.engine.now c.translations.engine c.flush_translation.new.engine c.translations.invariant.pages c.in_ok-flush_translation.ensures.page;
   count = λ honest w failures funded.
       counts_then failures (Ok tt) (ram c.args.engine.now) (ram c.translations.engine) (ram c.flush_translation.new.engine) c.translations.invariant.leaves.geometry c.in_ok-flush_translation.ensures.leaves.tells (c.translations.invariant.count honest w failures funded)
@@ -45,7 +45,7 @@ translations-preserved g c = record {
 pub returns-clause-pages : goal.returns-clause-pages
 returns-clause-pages g c =
     let end : c.translations.t ≡ translation_pages c.args.engine.now.geometry = omega arith in
-    subst (λ n. FlushesPages g.N.PageSource.flash g.N.PageSource.recorded g.N.PageSource.honest n c.args.engine.now c.translations.engine) end c.translations.invariant.pages
+    subst (λ n. FlushesPages g.N.PageSource.view n c.args.engine.now c.translations.engine) end c.translations.invariant.pages
 
 pub returns-in_err-flush_translation-clause-count : goal.returns-in_err-flush_translation-clause-count
 returns-in_err-flush_translation-clause-count g c =
@@ -60,7 +60,7 @@ pub returns-in_err-flush_translation-clause-leaves : goal.returns-in_err-flush_t
 returns-in_err-flush_translation-clause-leaves g c =
     let p = err_from_is_err_and c.from_residual.result c.from_residual.ensures.1 in
     rw (p.1, p.2)
-    (leaves_then g.N.PageSource.flash g.N.PageSource.recorded g.N.PageSource.honest g.N.PageSource.calm g.N.PageSource.failed c.args.engine.now
+    (leaves_then g.N.PageSource.view c.args.engine.now
     c.translations.engine c.flush_translation.new.engine _ _ (λ honest k. c.translations.invariant.truth honest k)
     c.translations.invariant.limits c.translations.invariant.leaves c.in_err-flush_translation.ensures.leaves)
 

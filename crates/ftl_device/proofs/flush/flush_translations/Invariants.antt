@@ -14,16 +14,16 @@ use Rattle.ftl_device.proofs.flush.flush_translations.Given as goal
 
 abbrev pub invariant-translations : goal.invariant-translations
 invariant-translations g l = record {
-  leaves : EngineLeaves {A = Unit {0}} g.N.PageSource.flash g.N.PageSource.recorded g.N.PageSource.honest g.N.PageSource.calm g.N.PageSource.failed l.initial.engine (Ok tt) l.engine;
+  leaves : EngineLeaves {A = Unit {0}} g.N.PageSource.view l.initial.engine (Ok tt) l.engine;
   pins : l.initial.engine.pinned ≡ None → l.engine.pinned ≡ None;
   keys : keys_of l.engine.mapping.cached ≡ keys_of l.initial.engine.mapping.cached;
   limits : HasLimitsOf l.initial.engine.mapping l.engine.mapping;
   calm : IsCalm (ram l.engine);
   clean : (t : ℕ) → t < l.t → IsClean l.initial.engine.geometry t l.engine.mapping;
-  pages : FlushesPages g.N.PageSource.flash g.N.PageSource.recorded g.N.PageSource.honest l.t l.initial.engine l.engine;
-  count : g.N.PageSource.honest l.initial.engine.nand ≡ true → Knows (ram l.initial.engine) (image_in g.N.PageSource.flash l.initial.engine)
+  pages : FlushesPages g.N.PageSource.view l.t l.initial.engine l.engine;
+  count : g.N.PageSource.view.honest l.initial.engine.nand ≡ true → Knows (ram l.initial.engine) (image_in g.N.PageSource.view.flash l.initial.engine)
       → (failures : ℕ) → IsFunded l.initial.engine.geometry.pages failures (counts_of (ram l.initial.engine).blocks)
       → FlushFunded failures (ram l.initial.engine) (ram l.engine);
-  truth : g.N.PageSource.honest l.initial.engine.nand ≡ true → Knows (ram l.initial.engine) (image_in g.N.PageSource.flash l.initial.engine)
-      → KeepsArray l.initial.engine.geometry (image_in g.N.PageSource.flash l.initial.engine) (ram l.engine) (image_in g.N.PageSource.flash l.engine);
+  truth : g.N.PageSource.view.honest l.initial.engine.nand ≡ true → Knows (ram l.initial.engine) (image_in g.N.PageSource.view.flash l.initial.engine)
+      → KeepsArray l.initial.engine.geometry (image_in g.N.PageSource.view.flash l.initial.engine) (ram l.engine) (image_in g.N.PageSource.view.flash l.engine);
 }

@@ -15,13 +15,13 @@ rounds-init g c = record {
   most = omega (arith, c.good-good.ensures);
   fewer = omega (arith, c.good-good.ensures, c.write_tables_once.ensures.table.fewer);
   cost = first_round c.good-good.result (ram c.args.engine.now) (ram c.write_tables_once.new.engine) c.requires.safe.memory c.good-good.ensures c.in_ok-write_tables_once.ensures.cost;
-  rounds = rounds_first g.N.PageSource.flash g.N.PageSource.recorded g.N.PageSource.honest g.N.PageSource.calm g.N.PageSource.failed c.good-good.result c.args.engine.now c.write_tables_once.new.engine c.good-good.ensures c.in_ok-write_tables_once.ensures.round;
+  rounds = rounds_first g.N.PageSource.view c.good-good.result c.args.engine.now c.write_tables_once.new.engine c.good-good.ensures c.in_ok-write_tables_once.ensures.round;
   truth = λ honest w. spells_first c.good-good.result (ram c.args.engine.now) (ram c.write_tables_once.new.engine) _ _ c.good-good.ensures (c.in_ok-write_tables_once.ensures.truth honest w);
 }
 
 pub rounds-preserved : goal.rounds-preserved
 rounds-preserved g c = record {
-  leaves = leaves_then g.N.PageSource.flash g.N.PageSource.recorded g.N.PageSource.honest g.N.PageSource.calm g.N.PageSource.failed c.args.engine.now
+  leaves = leaves_then g.N.PageSource.view c.args.engine.now
       c.rounds.engine c.write_tables_once-in-rounds.new.engine _ _ (λ honest k. (c.rounds.invariant.truth honest k).keeps)
       (limits_same _ _ c.rounds.invariant.mapping) c.rounds.invariant.leaves c.in_ok-write_tables_once-2.ensures.leaves;
   mapping = c.write_tables_once-in-rounds.ensures.mapping ∙ c.rounds.invariant.mapping;
@@ -32,7 +32,7 @@ rounds-preserved g c = record {
       (ram c.write_tables_once-in-rounds.new.engine) c.rounds.invariant.leaves.geometry c.good-good-in-rounds.ensures
       (omega (arith, c.good.ensures, c.good-good-in-rounds.ensures, c.rounds-test.true)) c.rounds.invariant.cost
       c.in_ok-write_tables_once-2.ensures.cost;
-  rounds = rounds_next g.N.PageSource.flash g.N.PageSource.recorded g.N.PageSource.honest g.N.PageSource.calm g.N.PageSource.failed c.rounds.good
+  rounds = rounds_next g.N.PageSource.view c.rounds.good
       c.good-good-in-rounds.result c.args.engine.now c.rounds.engine c.write_tables_once-in-rounds.new.engine c.good-good-in-rounds.ensures
       (omega (arith, c.good.ensures, c.good-good-in-rounds.ensures, c.rounds-test.true)) c.rounds.invariant.rounds
       c.in_ok-write_tables_once-2.ensures.round;
@@ -44,7 +44,7 @@ rounds-preserved g c = record {
 }
 
 pub returns-clause-rounds : goal.returns-clause-rounds
-returns-clause-rounds g c = rounds_last g.N.PageSource.flash g.N.PageSource.recorded g.N.PageSource.honest g.N.PageSource.calm g.N.PageSource.failed
+returns-clause-rounds g c = rounds_last g.N.PageSource.view
     c.rounds.good c.args.engine.now c.rounds.engine c.rounds.invariant.rounds (omega (arith, c.good.ensures, c.rounds-test.false))
     c.rounds.invariant.fewer
 
@@ -69,7 +69,7 @@ pub returns-in_err-write_tables_once-2-clause-leaves : goal.returns-in_err-write
 returns-in_err-write_tables_once-2-clause-leaves g c =
     let p = err_from_is_err_and c.from_residual-in_err-write_tables_once-2.result c.from_residual-in_err-write_tables_once-2.ensures.1 in
     rw (p.1, p.2)
-    (leaves_then g.N.PageSource.flash g.N.PageSource.recorded g.N.PageSource.honest g.N.PageSource.calm g.N.PageSource.failed c.args.engine.now
+    (leaves_then g.N.PageSource.view c.args.engine.now
     c.rounds.engine c.write_tables_once-in-rounds.new.engine _ _ (λ honest k. (c.rounds.invariant.truth honest k).keeps)
     (limits_same _ _ c.rounds.invariant.mapping) c.rounds.invariant.leaves c.in_err-write_tables_once-2.ensures.leaves)
 

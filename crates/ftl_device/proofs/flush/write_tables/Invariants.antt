@@ -10,14 +10,14 @@ use Rattle.ftl_device.proofs.flush.write_tables.Given as goal
 
 abbrev pub invariant-rounds : goal.invariant-rounds
 invariant-rounds g l = record {
-  leaves : EngineLeaves {A = Unit {0}} g.N.PageSource.flash g.N.PageSource.recorded g.N.PageSource.honest g.N.PageSource.calm g.N.PageSource.failed l.fn.engine (Ok tt) l.engine;
+  leaves : EngineLeaves {A = Unit {0}} g.N.PageSource.view l.fn.engine (Ok tt) l.engine;
   mapping : l.engine.mapping ≡ l.fn.engine.mapping;
   beside : LeavesPin (ram l.fn.engine) (ram l.engine);
   most : l.good ≤ good_count (ram l.fn.engine).blocks.table;
   fewer : good_count (ram l.engine).blocks.table ≤ l.good;
   cost : HasRounds l.good (ram l.fn.engine) (ram l.engine);
-  rounds : IsInRounds g.N.PageSource.flash g.N.PageSource.recorded g.N.PageSource.honest g.N.PageSource.calm g.N.PageSource.failed l.good l.fn.engine l.engine;
-  truth : g.N.PageSource.honest l.fn.engine.nand ≡ true → Knows (ram l.fn.engine) (image_in g.N.PageSource.flash l.fn.engine) → SpellsWhere l.good l.fn.engine.geometry (image_in g.N.PageSource.flash l.fn.engine) (ram l.engine) (image_in g.N.PageSource.flash l.engine);
+  rounds : IsInRounds g.N.PageSource.view l.good l.fn.engine l.engine;
+  truth : g.N.PageSource.view.honest l.fn.engine.nand ≡ true → Knows (ram l.fn.engine) (image_in g.N.PageSource.view.flash l.fn.engine) → SpellsWhere l.good l.fn.engine.geometry (image_in g.N.PageSource.view.flash l.fn.engine) (ram l.engine) (image_in g.N.PageSource.view.flash l.engine);
 }
 
 abbrev pub decreases-rounds : goal.decreases-rounds

@@ -15,7 +15,7 @@ use Rattle.ftl_device.proofs.flush.write_tables_once.Goals as goal
 
 pub pages-init : goal.pages-init
 pages-init g c = record {
-  leaves = leaves_same g.N.PageSource.flash g.N.PageSource.recorded g.N.PageSource.honest g.N.PageSource.calm g.N.PageSource.failed c.args.engine.now c.requires.safe c.requires.going;
+  leaves = leaves_same g.N.PageSource.view c.args.engine.now c.requires.safe c.requires.going;
   mapping = refl;
   beside = beside_here (ram c.args.engine.now);
   table = record { fewer = omega arith; same = λ as_many. refl };
@@ -26,10 +26,10 @@ pages-init g c = record {
 
 pub pages-preserved : goal.pages-preserved
 pages-preserved g c = record {
-  leaves = leaves_then g.N.PageSource.flash g.N.PageSource.recorded g.N.PageSource.honest g.N.PageSource.calm g.N.PageSource.failed c.args.engine.now
+  leaves = leaves_then g.N.PageSource.view c.args.engine.now
       c.pages.engine c.write_table.new.self _ (Ok tt) (λ honest k. (c.pages.invariant.truth honest k).keeps)
       (limits_same _ _ c.pages.invariant.mapping) c.pages.invariant.leaves
-      (leaves_by g.N.PageSource.flash g.N.PageSource.recorded g.N.PageSource.honest g.N.PageSource.calm g.N.PageSource.failed c.pages.engine
+      (leaves_by g.N.PageSource.view c.pages.engine
       c.write_table.new.self (Ok tt) c.pages.invariant.leaves.fault c.in_ok-write_table.ensures.stands c.write_table.ensures.goes.geometry
       (page_told Meta (Ok tt) (ram c.pages.engine) (ram c.write_table.new.self) (c.in_ok-write_table.ensures.cost c.pages.invariant.leaves.fault))
       (λ honest k ne. c.in_ok-write_table.ensures.stops honest c.pages.invariant.leaves.fault k.truth ne));
@@ -37,8 +37,8 @@ pages-preserved g c = record {
   beside = beside_then _ _ _ c.pages.invariant.beside (beside_mapping (ram c.pages.engine) (ram c.write_table.new.self) c.write_table.ensures.pin c.write_table.ensures.goes c.write_table.ensures.mapping);
   table = table_then _ _ _ c.pages.invariant.table c.write_table.ensures.table;
   cost = pages_more c.pages.u (ram c.args.engine.now) _ (ram c.write_table.new.self) c.pages.invariant.leaves.geometry c.pages.invariant.cost (c.in_ok-write_table.ensures.cost c.pages.invariant.leaves.fault);
-  written = tables_then g.N.PageSource.flash g.N.PageSource.recorded g.N.PageSource.honest g.N.PageSource.calm g.N.PageSource.failed c.pages.u c.args.engine.now c.pages.engine c.write_table.new.self c.pages.invariant.written
-      (table_written g.N.PageSource.flash g.N.PageSource.recorded g.N.PageSource.honest g.N.PageSource.calm g.N.PageSource.failed c.pages.u
+  written = tables_then g.N.PageSource.view c.pages.u c.args.engine.now c.pages.engine c.write_table.new.self c.pages.invariant.written
+      (table_written g.N.PageSource.view c.pages.u
       c.pages.engine c.write_table.new.self tt c.pages.invariant.leaves.safe.memory c.write_table.ensures.stands.safe.memory
       (beside_mapping (ram c.pages.engine) (ram c.write_table.new.self) c.write_table.ensures.pin c.write_table.ensures.goes
       c.write_table.ensures.mapping)
@@ -57,7 +57,7 @@ pages-preserved g c = record {
 pub returns-clause-round : goal.returns-clause-round
 returns-clause-round g c =
     let end : c.pages.u ≡ table_pages c.args.engine.now.geometry = omega arith in
-    record { pages = subst (λ n. WritesFirst g.N.PageSource.flash g.N.PageSource.recorded g.N.PageSource.honest n c.args.engine.now c.pages.engine) end c.pages.invariant.written }
+    record { pages = subst (λ n. WritesFirst g.N.PageSource.view n c.args.engine.now c.pages.engine) end c.pages.invariant.written }
 
 pub returns-clause-cost : goal.returns-clause-cost
 returns-clause-cost g c =
@@ -76,10 +76,10 @@ pub returns-in_err-write_table-clause-leaves : goal.returns-in_err-write_table-c
 returns-in_err-write_table-clause-leaves g c =
     let p = err_from_is_err_and c.from_residual.result c.from_residual.ensures.1 in
     rw (p.1, p.2)
-    (leaves_then g.N.PageSource.flash g.N.PageSource.recorded g.N.PageSource.honest g.N.PageSource.calm g.N.PageSource.failed c.args.engine.now
+    (leaves_then g.N.PageSource.view c.args.engine.now
     c.pages.engine c.write_table.new.self _ (Err _) (λ honest k. (c.pages.invariant.truth honest k).keeps)
     (limits_same _ _ c.pages.invariant.mapping) c.pages.invariant.leaves
-    (leaves_by g.N.PageSource.flash g.N.PageSource.recorded g.N.PageSource.honest g.N.PageSource.calm g.N.PageSource.failed c.pages.engine
+    (leaves_by g.N.PageSource.view c.pages.engine
     c.write_table.new.self (Err _) c.pages.invariant.leaves.fault c.in_err-write_table.ensures.stands c.write_table.ensures.goes.geometry
     (page_told Meta (Err _) (ram c.pages.engine) (ram c.write_table.new.self) (c.in_err-write_table.ensures.cost c.pages.invariant.leaves.fault))
     (λ honest k ne. c.in_err-write_table.ensures.stops honest c.pages.invariant.leaves.fault k.truth ne)))

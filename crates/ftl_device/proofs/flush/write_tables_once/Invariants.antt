@@ -10,13 +10,13 @@ use Rattle.ftl_device.proofs.flush.write_tables_once.Given as goal
 
 abbrev pub invariant-pages : goal.invariant-pages
 invariant-pages g l = record {
-  leaves : EngineLeaves {A = Unit {0}} g.N.PageSource.flash g.N.PageSource.recorded g.N.PageSource.honest g.N.PageSource.calm g.N.PageSource.failed l.initial.engine (Ok tt) l.engine;
+  leaves : EngineLeaves {A = Unit {0}} g.N.PageSource.view l.initial.engine (Ok tt) l.engine;
   mapping : l.engine.mapping ≡ l.initial.engine.mapping;
   beside : LeavesPin (ram l.initial.engine) (ram l.engine);
   table : KeepsTable (ram l.initial.engine).blocks (ram l.engine).blocks;
   cost : AddsPages l.u (ram l.initial.engine) (ram l.engine);
-  written : WritesFirst g.N.PageSource.flash g.N.PageSource.recorded g.N.PageSource.honest l.u l.initial.engine l.engine;
-  truth : g.N.PageSource.honest l.initial.engine.nand ≡ true → Knows (ram l.initial.engine) (image_in g.N.PageSource.flash l.initial.engine)
-      → KeepsTables l.u (ram l.initial.engine) (image_in g.N.PageSource.flash l.initial.engine) (ram l.engine)
-      (image_in g.N.PageSource.flash l.engine);
+  written : WritesFirst g.N.PageSource.view l.u l.initial.engine l.engine;
+  truth : g.N.PageSource.view.honest l.initial.engine.nand ≡ true → Knows (ram l.initial.engine) (image_in g.N.PageSource.view.flash l.initial.engine)
+      → KeepsTables l.u (ram l.initial.engine) (image_in g.N.PageSource.view.flash l.initial.engine) (ram l.engine)
+      (image_in g.N.PageSource.view.flash l.engine);
 }

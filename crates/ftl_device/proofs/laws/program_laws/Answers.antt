@@ -8,10 +8,10 @@ pub returns-clause-apart : goal.returns-clause-apart
 returns-clause-apart g c = write_or_trim
 
 pub returns-clause-clean : goal.returns-clause-clean
-returns-clause-clean g c = clean_flush g.N.PageSource.flash g.N.PageSource.recorded g.N.PageSource.honest
+returns-clause-clean g c = clean_flush g.N.PageSource.view
 
 pub returns-clause-again : goal.returns-clause-again
-returns-clause-again g c = failed_flush g.N.PageSource.flash g.N.PageSource.recorded g.N.PageSource.honest
+returns-clause-again g c = failed_flush g.N.PageSource.view
 
 pub returns-clause-lacking : goal.returns-clause-lacking
-returns-clause-lacking g c = lacking_page g.N.PageSource.flash g.N.PageSource.recorded g.N.PageSource.honest
+returns-clause-lacking g c = lacking_page g.N.PageSource.view

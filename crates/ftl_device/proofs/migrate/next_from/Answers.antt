@@ -13,12 +13,12 @@ returns-clause-leaves g c =
     let stands = c.in_ok-ahead.ensures.stands in
     let same : ram mid ≡ ram old = still_ok (ram old) (ram mid) c.next_old.ensures.still stands.fault in
     let going : mid.fault ≡ None = stands.fault ∙ c.requires.going in
-    leaves_then g.N.PageSource.flash g.N.PageSource.recorded g.N.PageSource.honest g.N.PageSource.calm g.N.PageSource.failed old mid c.next_old-2.new.self _ c.next_old-2.result
-    (keeps_look g.N.PageSource.flash g.N.PageSource.recorded g.N.PageSource.honest g.N.PageSource.calm g.N.PageSource.failed old mid same c.in_ok-ahead.ensures.same)
+    leaves_then g.N.PageSource.view old mid c.next_old-2.new.self _ c.next_old-2.result
+    (keeps_look g.N.PageSource.view old mid same c.in_ok-ahead.ensures.same)
     (record { geometry = ap (λ (r : Ram). r.mapping.geometry) same; capacity = ap (λ (r : Ram). r.mapping.capacity) same })
-    (leaves_look g.N.PageSource.flash g.N.PageSource.recorded g.N.PageSource.honest g.N.PageSource.calm g.N.PageSource.failed old mid
+    (leaves_look g.N.PageSource.view old mid
     (Ok c.in_ok-ahead.ahead) c.requires.going stands c.next_old.ensures.still tt
     (λ honest k ne. c.in_ok-ahead.ensures.stops honest c.requires.going k.truth ne))
-    (leaves_look g.N.PageSource.flash g.N.PageSource.recorded g.N.PageSource.honest g.N.PageSource.calm g.N.PageSource.failed mid
+    (leaves_look g.N.PageSource.view mid
     c.next_old-2.new.self c.next_old-2.result going c.next_old-2.ensures.stands c.next_old-2.ensures.still (c.next_old-2.ensures.faults going)
     (λ honest k ne. c.next_old-2.ensures.stops honest going k.truth ne))

@@ -24,7 +24,7 @@ returns-in_err-make_room-clause-count g c =
 pub returns-in_err-make_room-clause-ends : goal.returns-in_err-make_room-clause-ends
 returns-in_err-make_room-clause-ends g c =
     let p = err_from_is_err_and c.from_residual.result c.from_residual.ensures.1 in
-    rw (p.1, p.2) (leaves_stuck g.N.PageSource.flash g.N.PageSource.recorded g.N.PageSource.honest g.N.PageSource.calm g.N.PageSource.failed c.args.engine.now c.make_room.new.engine _ c.in_err-make_room.ensures.leaves c.make_room.ensures.keys.limits)
+    rw (p.1, p.2) (leaves_stuck g.N.PageSource.view c.args.engine.now c.make_room.new.engine _ c.in_err-make_room.ensures.leaves c.make_room.ensures.keys.limits)
 
 pub returns-in_err-renew_at-clause-truth : goal.returns-in_err-renew_at-clause-truth
 returns-in_err-renew_at-clause-truth g c =
@@ -51,13 +51,13 @@ pub returns-in_err-renew_at-clause-ends : goal.returns-in_err-renew_at-clause-en
 returns-in_err-renew_at-clause-ends g c =
     let p = err_from_is_err_and c.from_residual-in_err-renew_at.result c.from_residual-in_err-renew_at.ensures.1 in
     rw (p.1, p.2)
-    (leaves_stuck g.N.PageSource.flash g.N.PageSource.recorded g.N.PageSource.honest g.N.PageSource.calm g.N.PageSource.failed c.args.engine.now
+    (leaves_stuck g.N.PageSource.view c.args.engine.now
     c.renew_at.new.self _
-    (leaves_then g.N.PageSource.flash g.N.PageSource.recorded g.N.PageSource.honest g.N.PageSource.calm g.N.PageSource.failed
+    (leaves_then g.N.PageSource.view
     c.args.engine.now c.make_room.new.engine c.renew_at.new.self _ _
     (λ honest k. keeps_room (ram c.args.engine.now) (ram c.make_room.new.engine) _ _ (c.in_ok-make_room.ensures.truth honest k) (c.in_ok-make_room.ensures.pinned honest k)) c.make_room.ensures.keys.limits
     c.in_ok-make_room.ensures.leaves
-    (leaves_by g.N.PageSource.flash g.N.PageSource.recorded g.N.PageSource.honest g.N.PageSource.calm g.N.PageSource.failed c.make_room.new.engine
+    (leaves_by g.N.PageSource.view c.make_room.new.engine
     c.renew_at.new.self (Err _) c.in_ok-make_room.ensures.leaves.fault c.in_err-renew_at.ensures.stands c.renew_at.ensures.goes.geometry
     (rescue_told (Err _) (ram c.make_room.new.engine) (ram c.renew_at.new.self) c.make_room.ensures.leaves.safe.memory c.renew_at.ensures.stands.safe.memory c.renew_at.ensures.goes (c.in_err-renew_at.ensures.cost c.in_ok-make_room.ensures.leaves.fault))
     (λ honest k ne. c.in_err-renew_at.ensures.stops honest c.in_ok-make_room.ensures.leaves.fault k.truth ne))) (limits_then _ _ _ c.make_room.ensures.keys.limits c.renew_at.ensures.keys.limits))
@@ -79,15 +79,15 @@ returns-clause-count g c = λ known five. rescue_short (ram c.args.engine.now) (
     (c.in_ok-renew_at.ensures.cost c.in_ok-make_room.ensures.leaves.fault)
 
 pub returns-clause-ends : goal.returns-clause-ends
-returns-clause-ends g c = leaves_ends g.N.PageSource.flash g.N.PageSource.recorded g.N.PageSource.honest g.N.PageSource.calm g.N.PageSource.failed
+returns-clause-ends g c = leaves_ends g.N.PageSource.view
     c.args.engine.now c.renew_at.new.self (Ok tt)
-    (leaves_done g.N.PageSource.flash g.N.PageSource.recorded g.N.PageSource.honest g.N.PageSource.calm g.N.PageSource.failed c.args.engine.now
+    (leaves_done g.N.PageSource.view c.args.engine.now
     c.renew_at.new.self _ tt
-    (leaves_then g.N.PageSource.flash g.N.PageSource.recorded g.N.PageSource.honest g.N.PageSource.calm g.N.PageSource.failed c.args.engine.now
+    (leaves_then g.N.PageSource.view c.args.engine.now
     c.make_room.new.engine c.renew_at.new.self _ _
     (λ honest k. keeps_room (ram c.args.engine.now) (ram c.make_room.new.engine) _ _ (c.in_ok-make_room.ensures.truth honest k) (c.in_ok-make_room.ensures.pinned honest k)) c.make_room.ensures.keys.limits
     c.in_ok-make_room.ensures.leaves
-    (leaves_by g.N.PageSource.flash g.N.PageSource.recorded g.N.PageSource.honest g.N.PageSource.calm g.N.PageSource.failed c.make_room.new.engine c.renew_at.new.self (Ok _) c.in_ok-make_room.ensures.leaves.fault c.in_ok-renew_at.ensures.stands c.renew_at.ensures.goes.geometry
+    (leaves_by g.N.PageSource.view c.make_room.new.engine c.renew_at.new.self (Ok _) c.in_ok-make_room.ensures.leaves.fault c.in_ok-renew_at.ensures.stands c.renew_at.ensures.goes.geometry
     (rescue_told (Ok _) (ram c.make_room.new.engine) (ram c.renew_at.new.self) c.make_room.ensures.leaves.safe.memory c.renew_at.ensures.stands.safe.memory c.renew_at.ensures.goes (c.in_ok-renew_at.ensures.cost c.in_ok-make_room.ensures.leaves.fault))
     (λ honest k ne. c.in_ok-renew_at.ensures.stops honest c.in_ok-make_room.ensures.leaves.fault k.truth ne))))
     (limits_then _ _ _ c.make_room.ensures.keys.limits c.renew_at.ensures.keys.limits) (λ none. calm_law (ram c.make_room.new.engine) (ram c.renew_at.new.self) c.in_ok-renew_at.ensures.beside c.in_ok-make_room.ensures.made.calm)
@@ -107,7 +107,7 @@ returns-clause-brings g c = λ honest w.
     let room = c.in_ok-make_room.ensures.truth honest w in
     let knows = c.in_ok-make_room.ensures.pinned honest w in
     let one = c.in_ok-renew_at.ensures.truth (c.make_room.ensures.leaves.honest_is ∙ honest) c.in_ok-make_room.ensures.leaves.fault room.truth (moved_less (ram c.make_room.new.engine) _ knows) in
-    let made = made_room g.N.PageSource.flash g.N.PageSource.recorded c.args.engine.now c.make_room.new.engine c.in_ok-make_room.ensures.made (λ nine. (c.make_room.ensures.rests nine).1) room (c.in_ok-make_room.ensures.leaves.went honest (λ bus. (let no : ⊥ = cc in no))) in
-    brings_by g.N.PageSource.flash g.N.PageSource.recorded c.args.row c.args.engine.now c.make_room.new.engine c.renew_at.new.self
+    let made = made_room g.N.PageSource.view c.args.engine.now c.make_room.new.engine c.in_ok-make_room.ensures.made (λ nine. (c.make_room.ensures.rests nine).1) room (c.in_ok-make_room.ensures.leaves.went honest (λ bus. (let no : ⊥ = cc in no))) in
+    brings_by g.N.PageSource.view c.args.row c.args.engine.now c.make_room.new.engine c.renew_at.new.self
     c.in_ok-renew_at.field-0 made c.renew_at.ensures.goes c.renew_at.ensures.keys
     (c.in_ok-renew_at.ensures.cost c.in_ok-make_room.ensures.leaves.fault) one

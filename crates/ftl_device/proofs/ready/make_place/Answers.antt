@@ -32,14 +32,13 @@ pub returns-in-None-clause-costs : goal.returns-in-None-clause-costs
 returns-in-None-clause-costs g c = place_free (ram c.args.engine.now)
 
 pub returns-then-can_load-clause-leaves : goal.returns-then-can_load-clause-leaves
-returns-then-can_load-clause-leaves g c = leaves_same g.N.PageSource.flash g.N.PageSource.recorded g.N.PageSource.honest g.N.PageSource.calm g.N.PageSource.failed c.args.engine.now c.requires.safe c.requires.going
+returns-then-can_load-clause-leaves g c = leaves_same g.N.PageSource.view c.args.engine.now c.requires.safe c.requires.going
 
 pub returns-in-None-clause-leaves : goal.returns-in-None-clause-leaves
-returns-in-None-clause-leaves g c = leaves_same g.N.PageSource.flash g.N.PageSource.recorded g.N.PageSource.honest g.N.PageSource.calm g.N.PageSource.failed c.args.engine.now c.requires.safe c.requires.going
+returns-in-None-clause-leaves g c = leaves_same g.N.PageSource.view c.args.engine.now c.requires.safe c.requires.going
 
 pub returns-in-Some-clause-leaves : goal.returns-in-Some-clause-leaves
-returns-in-Some-clause-leaves g c = leaves_by g.N.PageSource.flash g.N.PageSource.recorded g.N.PageSource.honest g.N.PageSource.calm
-    g.N.PageSource.failed c.args.engine.now c.write_back.new.self c.write_back.result c.requires.going c.write_back.ensures.stands
+returns-in-Some-clause-leaves g c = leaves_by g.N.PageSource.view c.args.engine.now c.write_back.new.self c.write_back.result c.requires.going c.write_back.ensures.stands
     c.write_back.ensures.goes.geometry
     (back_told c.write_back.result (ram c.args.engine.now) (ram c.write_back.new.self) (c.write_back.ensures.cost c.requires.going))
     (λ honest k ne. c.write_back.ensures.stops honest c.requires.going k.truth ne)

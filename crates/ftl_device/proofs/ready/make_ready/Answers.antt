@@ -20,7 +20,7 @@ pub returns-in_err-row-clause-ends : goal.returns-in_err-row-clause-ends
 returns-in_err-row-clause-ends g c =
     let p = err_from_is_err_and c.from_residual.result c.from_residual.ensures.1 in
     rw (p.1, p.2)
-    (ends_refused g.N.PageSource.flash g.N.PageSource.recorded g.N.PageSource.honest g.N.PageSource.calm g.N.PageSource.failed c.args.engine.now
+    (ends_refused g.N.PageSource.view c.args.engine.now
     c.prepare.new.engine _ c.prepare.ensures.leaves.safe c.in_err-row.ensures.leaves.fault c.prepare.ensures.leaves.geometry
     c.prepare.ensures.leaves.honest_is c.prepare.ensures.leaves.calm_is c.prepare.ensures.leaves.failed_is
     (λ is. c.in_err-row.ensures.leaves.rose (ap Err is)) c.prepare.ensures.limits c.in_err-row.ensures.leaves.tells (λ honest ne. c.in_err-row.ensures.leaves.went honest (λ e. ne (cc))) (λ honest k ne. c.in_err-row.ensures.leaves.stops honest k (λ e. ne (cc))))
@@ -34,7 +34,7 @@ returns-in_err-row-clause-readies g c =
       unwritten = λ e. (let no : ⊥ = cc in absurd no);
       same_keys = λ e. (let no : ⊥ = cc in absurd no);
       cached = λ some e. (let no : ⊥ = cc in absurd no);
-      costs = room_to_call (HasFunds (g.N.PageSource.honest c.args.engine.now.nand) (ram c.args.engine.now) (image_in g.N.PageSource.flash c.args.engine.now)) _ (ram c.args.engine.now) (ram c.prepare.new.engine) c.in_err-row.ensures.costs;
+      costs = room_to_call (HasFunds (g.N.PageSource.view.honest c.args.engine.now.nand) (ram c.args.engine.now) (image_in g.N.PageSource.view.flash c.args.engine.now)) _ (ram c.args.engine.now) (ram c.prepare.new.engine) c.in_err-row.ensures.costs;
       pins = tt;
     })
 
@@ -54,7 +54,7 @@ pub returns-in_err-cache_sector-clause-ends : goal.returns-in_err-cache_sector-c
 returns-in_err-cache_sector-clause-ends g c =
     let p = err_from_is_err_and c.from_residual-in_err-cache_sector.result c.from_residual-in_err-cache_sector.ensures.1 in
     rw (p.1, p.2)
-    (ends_memory g.N.PageSource.flash g.N.PageSource.recorded g.N.PageSource.honest g.N.PageSource.calm g.N.PageSource.failed c.args.engine.now
+    (ends_memory g.N.PageSource.view c.args.engine.now
     c.prepare.new.engine c.prepare.ensures.leaves.safe c.in_ok-row.ensures.leaves.fault c.prepare.ensures.leaves.geometry
     c.prepare.ensures.leaves.honest_is c.prepare.ensures.leaves.calm_is c.prepare.ensures.leaves.failed_is
     c.prepare.ensures.limits c.in_ok-row.ensures.calm c.in_ok-row.ensures.leaves.tells
@@ -74,7 +74,7 @@ returns-in_err-cache_sector-clause-readies g c =
       same_keys = λ _. ap (λ e. keys_of e.mapping.cached) c.in_err-cache_sector.ensures.refused ∙ c.prepare.ensures.keys;
       cached = λ some _. (let done = c.in_err-cache_sector.ensures.cached (same_slots c.args.sector c.args.engine.now.mapping c.prepare.new.engine.mapping c.prepare.ensures.keys some) in let no : ⊥ = cc in no);
       costs = room_kept
-          (HasFunds (g.N.PageSource.honest c.args.engine.now.nand) (ram c.args.engine.now) (image_in g.N.PageSource.flash c.args.engine.now)) 1
+          (HasFunds (g.N.PageSource.view.honest c.args.engine.now.nand) (ram c.args.engine.now) (image_in g.N.PageSource.view.flash c.args.engine.now)) 1
           (ram c.args.engine.now) (ram c.prepare.new.engine) (ram c.cache_sector.new.self)
           (ap (λ e. (ram e).blocks) c.in_err-cache_sector.ensures.refused) c.in_ok-row.ensures.costs;
       pins = λ none. ap (λ e. e.pinned) c.in_err-cache_sector.ensures.refused ∙ c.in_ok-row.ensures.pins none;
@@ -83,13 +83,13 @@ returns-in_err-cache_sector-clause-readies g c =
 pub returns-in_err-cache_sector-clause-truth : goal.returns-in_err-cache_sector-clause-truth
 returns-in_err-cache_sector-clause-truth g c =
     let p = err_from_is_err_and c.from_residual-in_err-cache_sector.result c.from_residual-in_err-cache_sector.ensures.1 in
-    rw (p.1, p.2) (λ honest w. subst (λ e. KeepsArray c.args.engine.now.geometry (image_in g.N.PageSource.flash c.args.engine.now) (ram e) (image_in g.N.PageSource.flash e)) (sym c.in_err-cache_sector.ensures.refused) (c.in_ok-row.ensures.truth honest w).keeps)
+    rw (p.1, p.2) (λ honest w. subst (λ e. KeepsArray c.args.engine.now.geometry (image_in g.N.PageSource.view.flash c.args.engine.now) (ram e) (image_in g.N.PageSource.view.flash e)) (sym c.in_err-cache_sector.ensures.refused) (c.in_ok-row.ensures.truth honest w).keeps)
 
 -- ---- it is cached
 
 pub returns-clause-ends : goal.returns-clause-ends
 returns-clause-ends g c =
-    ends_loaded g.N.PageSource.flash g.N.PageSource.recorded g.N.PageSource.honest g.N.PageSource.calm g.N.PageSource.failed c.args.engine.now
+    ends_loaded g.N.PageSource.view c.args.engine.now
     c.prepare.new.engine c.prepare.ensures.leaves.safe c.in_ok-row.ensures.leaves.fault c.prepare.ensures.leaves.geometry
     c.prepare.ensures.leaves.honest_is c.prepare.ensures.leaves.calm_is c.prepare.ensures.leaves.failed_is
     c.prepare.ensures.limits c.in_ok-row.ensures.calm c.in_ok-row.ensures.leaves.tells
@@ -105,7 +105,7 @@ returns-clause-readies g c = record {
   same_keys = λ e. (let no : ⊥ = cc in absurd no);
   cached = λ some e. (let no : ⊥ = cc in absurd no);
   costs = room_kept
-      (HasFunds (g.N.PageSource.honest c.args.engine.now.nand) (ram c.args.engine.now) (image_in g.N.PageSource.flash c.args.engine.now)) 1
+      (HasFunds (g.N.PageSource.view.honest c.args.engine.now.nand) (ram c.args.engine.now) (image_in g.N.PageSource.view.flash c.args.engine.now)) 1
       (ram c.args.engine.now) (ram c.prepare.new.engine) (ram c.cache_sector.new.self) (ap (λ e. (ram e).blocks) c.in_ok-cache_sector.ensures.loaded)
       c.in_ok-row.ensures.costs;
   pins = λ none. ap (λ e. e.pinned) c.in_ok-cache_sector.ensures.loaded ∙ c.in_ok-row.ensures.pins none;
@@ -122,6 +122,6 @@ returns-clause-checked g c = is_looked_up (ram c.args.engine.now) c.prepare.new.
 pub returns-clause-truth : goal.returns-clause-truth
 returns-clause-truth g c = λ honest w.
     let found = c.in_ok-row.ensures.truth honest w in
-    keeps_loaded c.prepare.new.engine c.cache_sector.new.self c.args.sector _ c.in_ok-cache_sector.ensures.loaded g.N.PageSource.flash _ _
+    keeps_loaded c.prepare.new.engine c.cache_sector.new.self c.args.sector _ c.in_ok-cache_sector.ensures.loaded g.N.PageSource.view.flash _ _
     c.prepare.ensures.leaves.safe.memory c.cache_sector.ensures.safe.memory found.keeps
     (c.cache_sector.ensures.truth _ found.keeps.truth.truth found.row_is)

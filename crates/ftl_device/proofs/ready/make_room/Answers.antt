@@ -15,7 +15,7 @@ returns-clause-cleans g c = room_cleans c.make_room.result c.args.flushing (ram 
     (c.make_room.ensures.makes c.requires.going).refreshes (c.make_room.ensures.makes c.requires.going).calm
 
 pub returns-clause-leaves : goal.returns-clause-leaves
-returns-clause-leaves g c = leaves_by g.N.PageSource.flash g.N.PageSource.recorded g.N.PageSource.honest g.N.PageSource.calm g.N.PageSource.failed
+returns-clause-leaves g c = leaves_by g.N.PageSource.view
     c.args.engine.now c.make_room.new.self c.make_room.result c.requires.going c.make_room.ensures.stands
     (c.make_room.ensures.makes c.requires.going).goes.geometry
     (room_tells c.make_room.result (ram c.args.engine.now) (ram c.make_room.new.self) c.requires.safe.memory c.make_room.ensures.stands.safe.memory (c.make_room.ensures.makes c.requires.going).goes ((c.make_room.ensures.makes c.requires.going).tells))
@@ -28,7 +28,7 @@ pub returns-clause-count : goal.returns-clause-count
 returns-clause-count g c = λ honest k. c.make_room.ensures.count honest c.requires.going k.truth k.passed k.few
 
 pub returns-clause-pinned : goal.returns-clause-pinned
-returns-clause-pinned g c = λ honest k. room_knows g.N.PageSource.flash g.N.PageSource.erases c.make_room.result c.args.engine.now
+returns-clause-pinned g c = λ honest k. room_knows g.N.PageSource.view c.make_room.result c.args.engine.now
     c.make_room.new.self (c.make_room.ensures.makes c.requires.going).calm (c.make_room.ensures.makes c.requires.going).works
     ((c.make_room.ensures.makes c.requires.going).truth honest k.truth k.passed)
     ((c.make_room.ensures.makes c.requires.going).few honest k.truth k.passed k.few) k

@@ -29,11 +29,11 @@ returns-clause-truth g c = λ honest w.
     let knows = c.in_ok-make_room.ensures.pinned honest w in
     let place = c.in_ok-make_place.ensures.truth (c.make_room.ensures.leaves.honest_is ∙ honest) room.truth in
     let keeps = engine_keeps c.args.engine.now.geometry (ram c.make_room.new.engine) (ram c.make_place.new.engine)
-    (image_in g.N.PageSource.flash c.args.engine.now) _ _ c.make_room.ensures.leaves.geometry c.make_room.ensures.leaves.safe.memory
+    (image_in g.N.PageSource.view.flash c.args.engine.now) _ _ c.make_room.ensures.leaves.geometry c.make_room.ensures.leaves.safe.memory
     c.make_place.ensures.leaves.safe.memory c.make_place.ensures.beside
     (keeps_room (ram c.args.engine.now) (ram c.make_room.new.engine) _ _ room knows) place in
     let still = c.make_place.ensures.leaves.honest_is ∙ (c.make_room.ensures.leaves.honest_is ∙ honest) in
-    found_after (ram c.make_place.new.engine) (ram c.find_row.new.engine) _ c.find_row.ensures.memory c.find_row.result c.args.sector c.args.engine.now.geometry _ (g.N.PageSource.flash c.make_place.new.engine.nand) (g.N.PageSource.flash c.find_row.new.engine.nand)
+    found_after (ram c.make_place.new.engine) (ram c.find_row.new.engine) _ c.find_row.ensures.memory c.find_row.result c.args.sector c.args.engine.now.geometry _ (g.N.PageSource.view.flash c.make_place.new.engine.nand) (g.N.PageSource.view.flash c.find_row.new.engine.nand)
     keeps (c.find_row.ensures.same still) (c.find_row.ensures.truth still place.truth)
 
 pub returns-in_err-make_place-clause-truth : goal.returns-in_err-make_place-clause-truth
@@ -43,7 +43,7 @@ returns-in_err-make_place-clause-truth g c =
     let room = c.in_ok-make_room.ensures.truth honest w in
     let knows = c.in_ok-make_room.ensures.pinned honest w in
     engine_refused c.args.engine.now.geometry (ram c.make_room.new.engine) (ram c.make_place.new.engine)
-    (image_in g.N.PageSource.flash c.args.engine.now) _ _ _ c.make_room.ensures.leaves.geometry c.make_room.ensures.leaves.safe.memory
+    (image_in g.N.PageSource.view.flash c.args.engine.now) _ _ _ c.make_room.ensures.leaves.geometry c.make_room.ensures.leaves.safe.memory
     c.make_place.ensures.leaves.safe.memory c.make_place.ensures.beside
     (keeps_room (ram c.args.engine.now) (ram c.make_room.new.engine) _ _ room knows)
     (c.in_err-make_place.ensures.truth (c.make_room.ensures.leaves.honest_is ∙ honest) room.truth))
@@ -58,17 +58,17 @@ returns-clause-checked g c = finds_noted c.find_row.result (ram c.make_place.new
 
 pub returns-clause-costs : goal.returns-clause-costs
 returns-clause-costs g c = found_costs
-    (HasFunds (g.N.PageSource.honest c.args.engine.now.nand) (ram c.args.engine.now) (image_in g.N.PageSource.flash c.args.engine.now))
+    (HasFunds (g.N.PageSource.view.honest c.args.engine.now.nand) (ram c.args.engine.now) (image_in g.N.PageSource.view.flash c.args.engine.now))
     c.find_row.result (ram c.args.engine.now) (ram c.make_room.new.engine) (ram c.make_place.new.engine) (ram c.find_row.new.engine) _
-    (after_room (HasFunds (g.N.PageSource.honest c.args.engine.now.nand) (ram c.args.engine.now) (image_in g.N.PageSource.flash c.args.engine.now))
+    (after_room (HasFunds (g.N.PageSource.view.honest c.args.engine.now.nand) (ram c.args.engine.now) (image_in g.N.PageSource.view.flash c.args.engine.now))
     (ram c.args.engine.now) (ram c.make_room.new.engine) c.make_room.ensures.leaves.safe.memory c.in_ok-make_room.ensures.made
     (λ k. c.in_ok-make_room.ensures.count k.0 k.1 0 k.2)) c.in_ok-make_place.ensures.costs c.find_row.ensures.memory c.find_row.ensures.faults
 
 pub returns-in_err-make_place-clause-costs : goal.returns-in_err-make_place-clause-costs
 returns-in_err-make_place-clause-costs g c =
     let p = err_from_is_err_and c.from_residual-in_err-make_place.result c.from_residual-in_err-make_place.ensures.1 in
-    rw (p.1, p.2) (place_refused (HasFunds (g.N.PageSource.honest c.args.engine.now.nand) (ram c.args.engine.now) (image_in g.N.PageSource.flash c.args.engine.now)) _ (ram c.args.engine.now) (ram c.make_room.new.engine) (ram c.make_place.new.engine)
-    (after_room (HasFunds (g.N.PageSource.honest c.args.engine.now.nand) (ram c.args.engine.now) (image_in g.N.PageSource.flash c.args.engine.now))
+    rw (p.1, p.2) (place_refused (HasFunds (g.N.PageSource.view.honest c.args.engine.now.nand) (ram c.args.engine.now) (image_in g.N.PageSource.view.flash c.args.engine.now)) _ (ram c.args.engine.now) (ram c.make_room.new.engine) (ram c.make_place.new.engine)
+    (after_room (HasFunds (g.N.PageSource.view.honest c.args.engine.now.nand) (ram c.args.engine.now) (image_in g.N.PageSource.view.flash c.args.engine.now))
     (ram c.args.engine.now) (ram c.make_room.new.engine) c.make_room.ensures.leaves.safe.memory c.in_ok-make_room.ensures.made
     (λ k. c.in_ok-make_room.ensures.count k.0 k.1 0 k.2)) c.in_err-make_place.ensures.costs)
 
@@ -77,29 +77,29 @@ returns-in_err-make_room-clause-costs g c =
     let p = err_from_is_err_and c.from_residual.result c.from_residual.ensures.1 in
     rw (p.1, p.2)
     (room_refused
-    (HasFunds (g.N.PageSource.honest c.args.engine.now.nand) (ram c.args.engine.now) (image_in g.N.PageSource.flash c.args.engine.now)) _
+    (HasFunds (g.N.PageSource.view.honest c.args.engine.now.nand) (ram c.args.engine.now) (image_in g.N.PageSource.view.flash c.args.engine.now)) _
     (ram c.args.engine.now) (ram c.make_room.new.engine) c.in_err-make_room.ensures.leaves.tells
     (λ k. c.in_err-make_room.ensures.count k.0 k.1 0 k.2))
 
 pub returns-in_err-make_room-clause-leaves : goal.returns-in_err-make_room-clause-leaves
 returns-in_err-make_room-clause-leaves g c =
     let p = err_from_is_err_and c.from_residual.result c.from_residual.ensures.1 in
-    rw (p.1, p.2) (leaves_refused g.N.PageSource.flash g.N.PageSource.recorded g.N.PageSource.honest g.N.PageSource.calm g.N.PageSource.failed _ _ c.args.engine.now c.make_room.new.engine _ c.in_err-make_room.ensures.leaves)
+    rw (p.1, p.2) (leaves_refused g.N.PageSource.view _ _ c.args.engine.now c.make_room.new.engine _ c.in_err-make_room.ensures.leaves)
 
 pub returns-in_err-make_place-clause-leaves : goal.returns-in_err-make_place-clause-leaves
 returns-in_err-make_place-clause-leaves g c =
     let p = err_from_is_err_and c.from_residual-in_err-make_place.result c.from_residual-in_err-make_place.ensures.1 in
     rw (p.1, p.2)
-    (leaves_refused g.N.PageSource.flash g.N.PageSource.recorded g.N.PageSource.honest g.N.PageSource.calm g.N.PageSource.failed _ _
+    (leaves_refused g.N.PageSource.view _ _
     c.args.engine.now c.make_place.new.engine _
-    (leaves_then g.N.PageSource.flash g.N.PageSource.recorded g.N.PageSource.honest g.N.PageSource.calm g.N.PageSource.failed
+    (leaves_then g.N.PageSource.view
     c.args.engine.now c.make_room.new.engine c.make_place.new.engine _ _
     (λ honest k. keeps_room (ram c.args.engine.now) (ram c.make_room.new.engine) _ _ (c.in_ok-make_room.ensures.truth honest k) (c.in_ok-make_room.ensures.pinned honest k)) c.make_room.ensures.keys.limits
     c.in_ok-make_room.ensures.leaves c.in_err-make_place.ensures.leaves))
 
 pub returns-clause-leaves : goal.returns-clause-leaves
 returns-clause-leaves g c = (
-    let placed = leaves_then g.N.PageSource.flash g.N.PageSource.recorded g.N.PageSource.honest g.N.PageSource.calm g.N.PageSource.failed c.args.engine.now c.make_room.new.engine c.make_place.new.engine _ _
+    let placed = leaves_then g.N.PageSource.view c.args.engine.now c.make_room.new.engine c.make_place.new.engine _ _
     (λ honest k. keeps_room (ram c.args.engine.now) (ram c.make_room.new.engine) _ _ (c.in_ok-make_room.ensures.truth honest k) (c.in_ok-make_room.ensures.pinned honest k)) c.make_room.ensures.keys.limits
     c.in_ok-make_room.ensures.leaves c.in_ok-make_place.ensures.leaves in
     record {
@@ -116,13 +116,13 @@ returns-clause-leaves g c = (
       went = λ honest ne. went_found (ram c.make_place.new.engine) (ram c.find_row.new.engine) _ c.find_row.ensures.memory (ram c.args.engine.now) _ _
           _ _ _ _ (placed.went honest (λ e. (let no : ⊥ = cc in no))) (c.find_row.ensures.same (placed.honest_is ∙ honest) ne)
           (c.find_row.ensures.told (placed.honest_is ∙ honest) ne);
-      stops = λ honest k ne. stops_still g.N.PageSource.flash g.N.PageSource.recorded c.args.engine.now c.make_place.new.engine c.find_row.new.engine
+      stops = λ honest k ne. stops_still g.N.PageSource.view c.args.engine.now c.make_place.new.engine c.find_row.new.engine
           (c.find_row.ensures.same (placed.honest_is ∙ honest) ne) (c.find_row.ensures.told (placed.honest_is ∙ honest) ne)
           (placed.stops honest k (λ e. (let no : ⊥ = cc in no)));
     })
 
 pub returns-clause-pins : goal.returns-clause-pins
-returns-clause-pins g c = ok_any c.find_row.result (λ none. ap (λ r. r.pin.block) c.find_row.ensures.memory ∙ (ap (λ p. p.block) c.make_place.ensures.beside.pin ∙ room_pins g.N.PageSource.erases c.args.engine.now c.make_room.new.engine c.in_ok-make_room.ensures.erases none))
+returns-clause-pins g c = ok_any c.find_row.result (λ none. ap (λ r. r.pin.block) c.find_row.ensures.memory ∙ (ap (λ p. p.block) c.make_place.ensures.beside.pin ∙ room_pins g.N.PageSource.view.erases c.args.engine.now c.make_room.new.engine c.in_ok-make_room.ensures.erases none))
 
 pub returns-clause-prepared : goal.returns-clause-prepared
 returns-clause-prepared g c = prepared_by c.find_row.result (ram c.args.engine.now) (ram c.make_room.new.engine) (ram c.make_place.new.engine) (ram c.find_row.new.engine) _ c.in_ok-make_room.ensures.made c.in_ok-make_place.ensures.mapping c.find_row.ensures.memory

@@ -22,7 +22,7 @@ returns-in_err-make_ready-clause-ends g c =
 pub returns-in_err-make_ready-clause-readies : goal.returns-in_err-make_ready-clause-readies
 returns-in_err-make_ready-clause-readies g c =
     let p = err_from_is_err_and c.from_residual.result c.from_residual.ensures.1 in
-    rw (p.1, p.2) (readies_kept g.N.PageSource.flash g.N.PageSource.honest c.args.sector c.args.engine.now c.make_ready.new.engine _ c.in_err-make_ready.ensures.readies)
+    rw (p.1, p.2) (readies_kept g.N.PageSource.view c.args.sector c.args.engine.now c.make_ready.new.engine _ c.in_err-make_ready.ensures.readies)
 
 -- ---- its page was refused
 
@@ -30,7 +30,7 @@ pub returns-in_err-trim_sector-clause-ends : goal.returns-in_err-trim_sector-cla
 returns-in_err-trim_sector-clause-ends g c =
     let p = err_from_is_err_and c.from_residual-in_err-trim_sector.result c.from_residual-in_err-trim_sector.ensures.1 in
     rw (p.1, p.2)
-    (ends_page g.N.PageSource.flash g.N.PageSource.recorded g.N.PageSource.honest g.N.PageSource.calm g.N.PageSource.failed c.args.engine.now
+    (ends_page g.N.PageSource.view c.args.engine.now
     c.make_ready.new.engine c.trim_sector.new.self _ c.in_ok-make_ready.ensures.ends c.trim_sector.ensures.stands.safe
     c.trim_sector.ensures.goes c.trim_sector.ensures.stands.honest_is c.trim_sector.ensures.stands.calm_is
     c.trim_sector.ensures.stands.failed_is
@@ -43,7 +43,7 @@ pub returns-in_err-trim_sector-clause-readies : goal.returns-in_err-trim_sector-
 returns-in_err-trim_sector-clause-readies g c =
     let p = err_from_is_err_and c.from_residual-in_err-trim_sector.result c.from_residual-in_err-trim_sector.ensures.1 in
     rw (p.1, p.2)
-    (readies_page g.N.PageSource.flash g.N.PageSource.honest c.args.sector c.args.engine.now c.make_ready.new.engine c.trim_sector.new.self
+    (readies_page g.N.PageSource.view c.args.sector c.args.engine.now c.make_ready.new.engine c.trim_sector.new.self
     c.in_ok-make_ready.ensures.ends.geometry _ c.in_ok-make_ready.ensures.readies (ap (λ p. p.block) c.trim_sector.ensures.pin)
     c.trim_sector.ensures.keys
     (Err _) (c.in_err-trim_sector.ensures.cost c.in_ok-make_ready.ensures.ends.fault))
@@ -64,7 +64,7 @@ returns-in_err-trim_sector-clause-truth g c =
 
 pub returns-clause-ends : goal.returns-clause-ends
 returns-clause-ends g c =
-    ends_page g.N.PageSource.flash g.N.PageSource.recorded g.N.PageSource.honest g.N.PageSource.calm g.N.PageSource.failed c.args.engine.now
+    ends_page g.N.PageSource.view c.args.engine.now
     c.make_ready.new.engine c.trim_sector.new.self _ c.in_ok-make_ready.ensures.ends c.trim_sector.ensures.stands.safe c.trim_sector.ensures.goes
     c.trim_sector.ensures.stands.honest_is c.trim_sector.ensures.stands.calm_is
     c.trim_sector.ensures.stands.failed_is
@@ -74,7 +74,7 @@ returns-clause-ends g c =
     c.in_ok-trim_sector.ensures.stands.went (λ honest k. c.in_ok-make_ready.ensures.truth honest k) c.in_ok-trim_sector.ensures.stops
 
 pub returns-clause-readies : goal.returns-clause-readies
-returns-clause-readies g c = readies_page g.N.PageSource.flash g.N.PageSource.honest c.args.sector c.args.engine.now c.make_ready.new.engine
+returns-clause-readies g c = readies_page g.N.PageSource.view c.args.sector c.args.engine.now c.make_ready.new.engine
     c.trim_sector.new.self c.in_ok-make_ready.ensures.ends.geometry _ c.in_ok-make_ready.ensures.readies (ap (λ p. p.block) c.trim_sector.ensures.pin)
     c.trim_sector.ensures.keys
     (Ok _) (c.in_ok-trim_sector.ensures.cost c.in_ok-make_ready.ensures.ends.fault)
@@ -97,7 +97,7 @@ returns-clause-newest g c = λ honest well.
     refl
     (c.in_ok-trim_sector.ensures.truth (c.in_ok-make_ready.ensures.ends.honest_is ∙ honest) c.in_ok-make_ready.ensures.ends.fault kept.truth.truth)
     in
-    subst (λ h. HasPage Trim c.args.sector (zeros h) (ram c.trim_sector.new.self) (image_in g.N.PageSource.flash c.trim_sector.new.self)) c.in_ok-make_ready.ensures.ends.geometry held
+    subst (λ h. HasPage Trim c.args.sector (zeros h) (ram c.trim_sector.new.self) (image_in g.N.PageSource.view.flash c.trim_sector.new.self)) c.in_ok-make_ready.ensures.ends.geometry held
 
 pub returns-clause-truth : goal.returns-clause-truth
 returns-clause-truth g c = λ honest well.

@@ -20,7 +20,7 @@ returns-in_err-make_ready-clause-ends g c =
 pub returns-in_err-make_ready-clause-readies : goal.returns-in_err-make_ready-clause-readies
 returns-in_err-make_ready-clause-readies g c =
     let p = err_from_is_err_and c.from_residual.result c.from_residual.ensures.1 in
-    rw (p.1, p.2) (readies_kept g.N.PageSource.flash g.N.PageSource.honest c.args.sector c.args.engine.now c.make_ready.new.engine _ c.in_err-make_ready.ensures.readies)
+    rw (p.1, p.2) (readies_kept g.N.PageSource.view c.args.sector c.args.engine.now c.make_ready.new.engine _ c.in_err-make_ready.ensures.readies)
 
 -- ---- its page was refused
 
@@ -28,7 +28,7 @@ pub returns-in_err-write_sector-clause-ends : goal.returns-in_err-write_sector-c
 returns-in_err-write_sector-clause-ends g c =
     let p = err_from_is_err_and c.from_residual-in_err-write_sector.result c.from_residual-in_err-write_sector.ensures.1 in
     rw (p.1, p.2)
-    (ends_page g.N.PageSource.flash g.N.PageSource.recorded g.N.PageSource.honest g.N.PageSource.calm g.N.PageSource.failed c.args.engine.now
+    (ends_page g.N.PageSource.view c.args.engine.now
     c.make_ready.new.engine c.write_sector.new.self _ c.in_ok-make_ready.ensures.ends c.write_sector.ensures.stands.safe
     c.write_sector.ensures.goes c.write_sector.ensures.stands.honest_is c.write_sector.ensures.stands.calm_is
     c.write_sector.ensures.stands.failed_is
@@ -41,7 +41,7 @@ pub returns-in_err-write_sector-clause-readies : goal.returns-in_err-write_secto
 returns-in_err-write_sector-clause-readies g c =
     let p = err_from_is_err_and c.from_residual-in_err-write_sector.result c.from_residual-in_err-write_sector.ensures.1 in
     rw (p.1, p.2)
-    (readies_page g.N.PageSource.flash g.N.PageSource.honest c.args.sector c.args.engine.now c.make_ready.new.engine c.write_sector.new.self
+    (readies_page g.N.PageSource.view c.args.sector c.args.engine.now c.make_ready.new.engine c.write_sector.new.self
     c.in_ok-make_ready.ensures.ends.geometry _ c.in_ok-make_ready.ensures.readies (ap (λ p. p.block) c.write_sector.ensures.pin)
     c.write_sector.ensures.keys
     (Err _) (c.in_err-write_sector.ensures.cost c.in_ok-make_ready.ensures.ends.fault))
@@ -62,7 +62,7 @@ returns-in_err-write_sector-clause-truth g c =
 
 pub returns-clause-ends : goal.returns-clause-ends
 returns-clause-ends g c =
-    ends_page g.N.PageSource.flash g.N.PageSource.recorded g.N.PageSource.honest g.N.PageSource.calm g.N.PageSource.failed c.args.engine.now
+    ends_page g.N.PageSource.view c.args.engine.now
     c.make_ready.new.engine c.write_sector.new.self _ c.in_ok-make_ready.ensures.ends c.write_sector.ensures.stands.safe
     c.write_sector.ensures.goes c.write_sector.ensures.stands.honest_is c.write_sector.ensures.stands.calm_is
     c.write_sector.ensures.stands.failed_is
@@ -72,7 +72,7 @@ returns-clause-ends g c =
     c.in_ok-write_sector.ensures.stands.went (λ honest k. c.in_ok-make_ready.ensures.truth honest k) c.in_ok-write_sector.ensures.stops
 
 pub returns-clause-readies : goal.returns-clause-readies
-returns-clause-readies g c = readies_page g.N.PageSource.flash g.N.PageSource.honest c.args.sector c.args.engine.now c.make_ready.new.engine
+returns-clause-readies g c = readies_page g.N.PageSource.view c.args.sector c.args.engine.now c.make_ready.new.engine
     c.write_sector.new.self c.in_ok-make_ready.ensures.ends.geometry _ c.in_ok-make_ready.ensures.readies
     (ap (λ p. p.block) c.write_sector.ensures.pin) c.write_sector.ensures.keys
     (Ok _) (c.in_ok-write_sector.ensures.cost c.in_ok-make_ready.ensures.ends.fault)

@@ -18,8 +18,8 @@ returns-in_err-step-clause-collects g c =
     let t = c.in_err-step.ensures.stands in
     let goes = step_goes_on q.0 old new (pinned_half old q.0 c.requires.calm q.1) a.goes in
     let told = step_told q.0 old new _ (good_fewer old new c.requires.safe.memory t.safe.memory goes) a.cost in
-    let leaves = leaves_refused g.N.PageSource.flash g.N.PageSource.recorded g.N.PageSource.honest g.N.PageSource.calm g.N.PageSource.failed _ _ c.args.engine.now c.step.new.self _
-    (leaves_by g.N.PageSource.flash g.N.PageSource.recorded g.N.PageSource.honest g.N.PageSource.calm g.N.PageSource.failed c.args.engine.now
+    let leaves = leaves_refused g.N.PageSource.view _ _ c.args.engine.now c.step.new.self _
+    (leaves_by g.N.PageSource.view c.args.engine.now
     c.step.new.self (Err _) c.requires.going t a.goes.geometry told
     (λ honest k ne. c.in_err-step.ensures.stops honest c.requires.going k.truth k.passed ne)) in
     rw (p.1, p.2) (record {
@@ -44,8 +44,8 @@ returns-clause-collects g c =
     let goes = step_goes_on q.0 old new (pinned_half old q.0 c.requires.calm q.1) a.goes in
     let calm = a.calm refl c.requires.calm in
     record {
-      leaves = leaves_done g.N.PageSource.flash g.N.PageSource.recorded g.N.PageSource.honest g.N.PageSource.calm g.N.PageSource.failed c.args.engine.now c.step.new.self _ tt
-          (leaves_by g.N.PageSource.flash g.N.PageSource.recorded g.N.PageSource.honest g.N.PageSource.calm g.N.PageSource.failed c.args.engine.now
+      leaves = leaves_done g.N.PageSource.view c.args.engine.now c.step.new.self _ tt
+          (leaves_by g.N.PageSource.view c.args.engine.now
           c.step.new.self (Ok _) c.requires.going t a.goes.geometry (good_fewer old new c.requires.safe.memory t.safe.memory goes)
           (λ honest k ne. c.in_ok-step.ensures.stops honest c.requires.going k.truth k.passed ne));
       limits = a.keys.limits;

@@ -26,7 +26,7 @@ returns-in_err-make_room-clause-count g c =
 pub returns-in_err-make_room-clause-ends : goal.returns-in_err-make_room-clause-ends
 returns-in_err-make_room-clause-ends g c =
     let p = err_from_is_err_and c.from_residual.result c.from_residual.ensures.1 in
-    rw (p.1, p.2) (leaves_stuck g.N.PageSource.flash g.N.PageSource.recorded g.N.PageSource.honest g.N.PageSource.calm g.N.PageSource.failed c.args.engine.now c.make_room.new.engine _ c.in_err-make_room.ensures.leaves c.make_room.ensures.keys.limits)
+    rw (p.1, p.2) (leaves_stuck g.N.PageSource.view c.args.engine.now c.make_room.new.engine _ c.in_err-make_room.ensures.leaves c.make_room.ensures.keys.limits)
 
 -- ---- the rescue was refused
 
@@ -55,13 +55,13 @@ pub returns-in_err-rescue_one-clause-ends : goal.returns-in_err-rescue_one-claus
 returns-in_err-rescue_one-clause-ends g c =
     let p = err_from_is_err_and c.from_residual-in_err-rescue_one.result c.from_residual-in_err-rescue_one.ensures.1 in
     rw (p.1, p.2)
-    (leaves_stuck g.N.PageSource.flash g.N.PageSource.recorded g.N.PageSource.honest g.N.PageSource.calm g.N.PageSource.failed c.args.engine.now
+    (leaves_stuck g.N.PageSource.view c.args.engine.now
     c.rescue_one.new.self _
-    (leaves_then g.N.PageSource.flash g.N.PageSource.recorded g.N.PageSource.honest g.N.PageSource.calm g.N.PageSource.failed
+    (leaves_then g.N.PageSource.view
     c.args.engine.now c.make_room.new.engine c.rescue_one.new.self _ _
     (λ honest k. keeps_room (ram c.args.engine.now) (ram c.make_room.new.engine) _ _ (c.in_ok-make_room.ensures.truth honest k) (c.in_ok-make_room.ensures.pinned honest k)) c.make_room.ensures.keys.limits
     c.in_ok-make_room.ensures.leaves
-    (leaves_by g.N.PageSource.flash g.N.PageSource.recorded g.N.PageSource.honest g.N.PageSource.calm g.N.PageSource.failed c.make_room.new.engine
+    (leaves_by g.N.PageSource.view c.make_room.new.engine
     c.rescue_one.new.self (Err _) c.in_ok-make_room.ensures.leaves.fault c.in_err-rescue_one.ensures.stands c.rescue_one.ensures.goes.geometry
     (rescue_told (Err _) (ram c.make_room.new.engine) (ram c.rescue_one.new.self) c.make_room.ensures.leaves.safe.memory c.rescue_one.ensures.stands.safe.memory c.rescue_one.ensures.goes (c.in_err-rescue_one.ensures.cost c.in_ok-make_room.ensures.leaves.fault))
     (λ honest k ne. c.in_err-rescue_one.ensures.stops honest c.in_ok-make_room.ensures.leaves.fault k.truth ne))) (limits_then _ _ _ c.make_room.ensures.keys.limits c.rescue_one.ensures.keys.limits))
@@ -87,7 +87,7 @@ pub returns-then-needs_rescue-clause-worked : goal.returns-then-needs_rescue-cla
 returns-then-needs_rescue-clause-worked g c = λ honest w some.
     let room = c.in_ok-make_room.ensures.truth honest w in
     let one = c.in_ok-rescue_one.ensures.truth (c.make_room.ensures.leaves.honest_is ∙ honest) c.in_ok-make_room.ensures.leaves.fault room.truth (moved_less (ram c.make_room.new.engine) _ (c.in_ok-make_room.ensures.pinned honest w)) in
-    rescue_worked g.N.PageSource.erases c.args.engine.now c.make_room.new.engine c.rescue_one.new.self _ _ _ c.make_room.ensures.leaves.safe.memory
+    rescue_worked g.N.PageSource.view.erases c.args.engine.now c.make_room.new.engine c.rescue_one.new.self _ _ _ c.make_room.ensures.leaves.safe.memory
     c.rescue_one.ensures.stands.safe.memory some c.in_ok-make_room.ensures.erases c.rescue_one.ensures.erases c.rescue_one.ensures.goes
     (c.in_ok-rescue_one.ensures.cost c.in_ok-make_room.ensures.leaves.fault) one
 
@@ -101,20 +101,20 @@ returns-then-needs_rescue-clause-turned g c = record {
 pub returns-then-needs_rescue-clause-lowest : goal.returns-then-needs_rescue-clause-lowest
 returns-then-needs_rescue-clause-lowest g c = λ honest w.
     let room = c.in_ok-make_room.ensures.truth honest w in
-    let made = made_room g.N.PageSource.flash g.N.PageSource.recorded c.args.engine.now c.make_room.new.engine c.in_ok-make_room.ensures.made (λ nine. (c.make_room.ensures.rests nine).1) room (c.in_ok-make_room.ensures.leaves.went honest (λ bus. (let no : ⊥ = cc in no))) in
+    let made = made_room g.N.PageSource.view c.args.engine.now c.make_room.new.engine c.in_ok-make_room.ensures.made (λ nine. (c.make_room.ensures.rests nine).1) room (c.in_ok-make_room.ensures.leaves.went honest (λ bus. (let no : ⊥ = cc in no))) in
     let one = c.in_ok-rescue_one.ensures.truth (c.make_room.ensures.leaves.honest_is ∙ honest) c.in_ok-make_room.ensures.leaves.fault room.truth (moved_less (ram c.make_room.new.engine) _ (c.in_ok-make_room.ensures.pinned honest w)) in
-    lowest_by g.N.PageSource.flash g.N.PageSource.recorded c.args.engine.now c.make_room.new.engine c.rescue_one.new.self c.in_ok-rescue_one.field-0 made (c.in_ok-rescue_one.ensures.cost c.in_ok-make_room.ensures.leaves.fault) one
+    lowest_by g.N.PageSource.view c.args.engine.now c.make_room.new.engine c.rescue_one.new.self c.in_ok-rescue_one.field-0 made (c.in_ok-rescue_one.ensures.cost c.in_ok-make_room.ensures.leaves.fault) one
 
 pub returns-then-needs_rescue-clause-quiet : goal.returns-then-needs_rescue-clause-quiet
 returns-then-needs_rescue-clause-quiet g c = λ honest w.
     let room = c.in_ok-make_room.ensures.truth honest w in
     let one = c.in_ok-rescue_one.ensures.truth (c.make_room.ensures.leaves.honest_is ∙ honest) c.in_ok-make_room.ensures.leaves.fault room.truth (moved_less (ram c.make_room.new.engine) _ (c.in_ok-make_room.ensures.pinned honest w)) in
-    rescue_works g.N.PageSource.erases c.args.engine.now c.make_room.new.engine c.rescue_one.new.self _ _ _ c.make_room.ensures.leaves.safe.memory
+    rescue_works g.N.PageSource.view.erases c.args.engine.now c.make_room.new.engine c.rescue_one.new.self _ _ _ c.make_room.ensures.leaves.safe.memory
     c.rescue_one.ensures.stands.safe.memory (c.if-needs_rescue.ensures.some) c.in_ok-make_room.ensures.erases c.rescue_one.ensures.erases
     c.rescue_one.ensures.goes (c.in_ok-rescue_one.ensures.cost c.in_ok-make_room.ensures.leaves.fault) one
 
 pub returns-then-needs_rescue-clause-falls : goal.returns-then-needs_rescue-clause-falls
-returns-then-needs_rescue-clause-falls g c = λ honest w none. rescue_falls g.N.PageSource.flash g.N.PageSource.erases c.args.engine.now c.make_room.new.engine c.rescue_one.new.self c.in_ok-make_room.ensures.erases c.rescue_one.ensures.erases c.if-needs_rescue.ensures.some none
+returns-then-needs_rescue-clause-falls g c = λ honest w none. rescue_falls g.N.PageSource.view c.args.engine.now c.make_room.new.engine c.rescue_one.new.self c.in_ok-make_room.ensures.erases c.rescue_one.ensures.erases c.if-needs_rescue.ensures.some none
 
 pub returns-then-needs_rescue-clause-count : goal.returns-then-needs_rescue-clause-count
 returns-then-needs_rescue-clause-count g c = λ known five. rescue_short (ram c.args.engine.now) (ram c.make_room.new.engine)
@@ -123,15 +123,14 @@ returns-then-needs_rescue-clause-count g c = λ known five. rescue_short (ram c.
     (c.in_ok-rescue_one.ensures.cost c.in_ok-make_room.ensures.leaves.fault)
 
 pub returns-then-needs_rescue-clause-ends : goal.returns-then-needs_rescue-clause-ends
-returns-then-needs_rescue-clause-ends g c = leaves_ends g.N.PageSource.flash g.N.PageSource.recorded g.N.PageSource.honest g.N.PageSource.calm
-    g.N.PageSource.failed c.args.engine.now c.rescue_one.new.self (Ok tt)
-    (leaves_done g.N.PageSource.flash g.N.PageSource.recorded g.N.PageSource.honest g.N.PageSource.calm g.N.PageSource.failed c.args.engine.now
+returns-then-needs_rescue-clause-ends g c = leaves_ends g.N.PageSource.view c.args.engine.now c.rescue_one.new.self (Ok tt)
+    (leaves_done g.N.PageSource.view c.args.engine.now
     c.rescue_one.new.self _ tt
-    (leaves_then g.N.PageSource.flash g.N.PageSource.recorded g.N.PageSource.honest g.N.PageSource.calm g.N.PageSource.failed c.args.engine.now
+    (leaves_then g.N.PageSource.view c.args.engine.now
     c.make_room.new.engine c.rescue_one.new.self _ _
     (λ honest k. keeps_room (ram c.args.engine.now) (ram c.make_room.new.engine) _ _ (c.in_ok-make_room.ensures.truth honest k) (c.in_ok-make_room.ensures.pinned honest k)) c.make_room.ensures.keys.limits
     c.in_ok-make_room.ensures.leaves
-    (leaves_by g.N.PageSource.flash g.N.PageSource.recorded g.N.PageSource.honest g.N.PageSource.calm g.N.PageSource.failed c.make_room.new.engine
+    (leaves_by g.N.PageSource.view c.make_room.new.engine
     c.rescue_one.new.self (Ok _) c.in_ok-make_room.ensures.leaves.fault c.in_ok-rescue_one.ensures.stands c.rescue_one.ensures.goes.geometry
     (rescue_told (Ok _) (ram c.make_room.new.engine) (ram c.rescue_one.new.self) c.make_room.ensures.leaves.safe.memory c.rescue_one.ensures.stands.safe.memory c.rescue_one.ensures.goes (c.in_ok-rescue_one.ensures.cost c.in_ok-make_room.ensures.leaves.fault))
     (λ honest k ne. c.in_ok-rescue_one.ensures.stops honest c.in_ok-make_room.ensures.leaves.fault k.truth ne))))
@@ -162,9 +161,9 @@ pub returns-in_err-collect_on-clause-ends : goal.returns-in_err-collect_on-claus
 returns-in_err-collect_on-clause-ends g c =
     let p = err_from_is_err_and c.from_residual-in_err-collect_on.result c.from_residual-in_err-collect_on.ensures.1 in
     rw (p.1, p.2)
-    (leaves_stuck g.N.PageSource.flash g.N.PageSource.recorded g.N.PageSource.honest g.N.PageSource.calm g.N.PageSource.failed c.args.engine.now
+    (leaves_stuck g.N.PageSource.view c.args.engine.now
     c.collect_on.new.engine _
-    (leaves_then g.N.PageSource.flash g.N.PageSource.recorded g.N.PageSource.honest g.N.PageSource.calm g.N.PageSource.failed
+    (leaves_then g.N.PageSource.view
     c.args.engine.now c.make_room.new.engine c.collect_on.new.engine _ _
     (λ honest k. keeps_room (ram c.args.engine.now) (ram c.make_room.new.engine) _ _ (c.in_ok-make_room.ensures.truth honest k) (c.in_ok-make_room.ensures.pinned honest k)) c.make_room.ensures.keys.limits
     c.in_ok-make_room.ensures.leaves c.in_err-collect_on.ensures.collects.leaves) (limits_then _ _ _ c.make_room.ensures.keys.limits c.collect_on.ensures.collects.limits))
@@ -185,7 +184,7 @@ returns-clause-rescued g c = λ honest w.
     (c.in_ok-collect_on.ensures.collects.bad (c.make_room.ensures.leaves.honest_is ∙ honest) (c.in_ok-make_room.ensures.pinned honest w))
 
 pub returns-clause-worked : goal.returns-clause-worked
-returns-clause-worked g c = λ honest w some. none_worked g.N.PageSource.erases c.args.engine.now c.make_room.new.engine c.collect_on.new.engine c.in_ok-make_room.ensures.erases c.in_ok-collect_on.ensures.collects.risen c.if-needs_rescue.ensures.none some
+returns-clause-worked g c = λ honest w some. none_worked g.N.PageSource.view.erases c.args.engine.now c.make_room.new.engine c.collect_on.new.engine c.in_ok-make_room.ensures.erases c.in_ok-collect_on.ensures.collects.risen c.if-needs_rescue.ensures.none some
 
 pub returns-clause-turned : goal.returns-clause-turned
 returns-clause-turned g c = record {
@@ -197,16 +196,16 @@ returns-clause-turned g c = record {
 pub returns-clause-lowest : goal.returns-clause-lowest
 returns-clause-lowest g c = λ honest w.
     let room = c.in_ok-make_room.ensures.truth honest w in
-    let made = made_room g.N.PageSource.flash g.N.PageSource.recorded c.args.engine.now c.make_room.new.engine c.in_ok-make_room.ensures.made (λ nine. (c.make_room.ensures.rests nine).1) room (c.in_ok-make_room.ensures.leaves.went honest (λ bus. (let no : ⊥ = cc in no))) in
-    lowest_none g.N.PageSource.flash g.N.PageSource.recorded c.args.engine.now c.make_room.new.engine c.collect_on.new.engine made c.if-needs_rescue.ensures.none
+    let made = made_room g.N.PageSource.view c.args.engine.now c.make_room.new.engine c.in_ok-make_room.ensures.made (λ nine. (c.make_room.ensures.rests nine).1) room (c.in_ok-make_room.ensures.leaves.went honest (λ bus. (let no : ⊥ = cc in no))) in
+    lowest_none g.N.PageSource.view c.args.engine.now c.make_room.new.engine c.collect_on.new.engine made c.if-needs_rescue.ensures.none
 
 pub returns-clause-quiet : goal.returns-clause-quiet
-returns-clause-quiet g c = λ honest w. quiet_then g.N.PageSource.erases c.args.engine.now c.make_room.new.engine c.collect_on.new.engine
+returns-clause-quiet g c = λ honest w. quiet_then g.N.PageSource.view.erases c.args.engine.now c.make_room.new.engine c.collect_on.new.engine
     c.in_ok-make_room.ensures.erases c.in_ok-collect_on.ensures.collects.risen
     (c.in_ok-collect_on.ensures.quiet (c.make_room.ensures.leaves.honest_is ∙ honest) (c.in_ok-make_room.ensures.pinned honest w))
 
 pub returns-clause-falls : goal.returns-clause-falls
-returns-clause-falls g c = λ honest w none. fallen_then g.N.PageSource.flash g.N.PageSource.erases c.args.engine.now c.make_room.new.engine
+returns-clause-falls g c = λ honest w none. fallen_then g.N.PageSource.view c.args.engine.now c.make_room.new.engine
     c.collect_on.new.engine c.in_ok-make_room.ensures.erases c.in_ok-collect_on.ensures.collects.risen
     (c.in_ok-collect_on.ensures.falls (c.make_room.ensures.leaves.honest_is ∙ honest) (c.in_ok-make_room.ensures.pinned honest w))
 
@@ -216,9 +215,9 @@ returns-clause-count g c = λ known five. step_short (ram c.args.engine.now) (ra
     c.collect_on.ensures.collects.goes (c.in_ok-make_room.ensures.count known.0 known.1 0 known.2) c.in_ok-collect_on.ensures.collects.counts
 
 pub returns-clause-ends : goal.returns-clause-ends
-returns-clause-ends g c = leaves_ends g.N.PageSource.flash g.N.PageSource.recorded g.N.PageSource.honest g.N.PageSource.calm g.N.PageSource.failed
+returns-clause-ends g c = leaves_ends g.N.PageSource.view
     c.args.engine.now c.collect_on.new.engine (Ok tt)
-    (leaves_then g.N.PageSource.flash g.N.PageSource.recorded g.N.PageSource.honest g.N.PageSource.calm g.N.PageSource.failed c.args.engine.now
+    (leaves_then g.N.PageSource.view c.args.engine.now
     c.make_room.new.engine c.collect_on.new.engine _ _
     (λ honest k. keeps_room (ram c.args.engine.now) (ram c.make_room.new.engine) _ _ (c.in_ok-make_room.ensures.truth honest k) (c.in_ok-make_room.ensures.pinned honest k)) c.make_room.ensures.keys.limits
     c.in_ok-make_room.ensures.leaves c.in_ok-collect_on.ensures.collects.leaves) (limits_then _ _ _ c.make_room.ensures.keys.limits c.collect_on.ensures.collects.limits) c.collect_on.ensures.collects.calm_memory

@@ -23,7 +23,7 @@ loop-row-preserved g c =
       spare_whole = omega arith;
       same = λ honest. read.same (inv.only_reads.honest_is ∙ honest) ∙ inv.same honest;
       told = λ honest. read.recorded (inv.only_reads.honest_is ∙ honest) ∙ inv.told honest;
-      whole = λ below honest. whole_of c.args.geometry.now (g.S.PageSource.flash c.read_page.new.self) (read.geometry ∙ inv.only_reads.geometry_is ∙ inv.geometry_was) (read.whole (inv.only_reads.honest_is ∙ honest));
+      whole = λ below honest. whole_of c.args.geometry.now (g.S.PageSource.view.flash c.read_page.new.self) (read.geometry ∙ inv.only_reads.geometry_is ∙ inv.geometry_was) (read.whole (inv.only_reads.honest_is ∙ honest));
       reads = omega arith;
-      seen = λ honest start. passed.shows (g.S.PageSource.flash c.args.source.now).image (inv.seen honest start) (ap (λ (f : Flash). slice_get f.image c.loop-row.row) (sym (inv.same honest)) ∙ read.page (inv.only_reads.honest_is ∙ honest));
+      seen = λ honest start. passed.shows (g.S.PageSource.view.flash c.args.source.now).image (inv.seen honest start) (ap (λ (f : Flash). slice_get f.image c.loop-row.row) (sym (inv.same honest)) ∙ read.page (inv.only_reads.honest_is ∙ honest));
     }

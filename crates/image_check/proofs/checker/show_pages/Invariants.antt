@@ -8,16 +8,16 @@ abbrev pub invariant-loop-row : goal.invariant-loop-row
 invariant-loop-row g l =
     let source = g.S.PageSource in
     record {
-      only_reads : OnlyReads source.flash source.honest source.calm source.programs source.erases source.failed l.fn.source l.source;
-      geometry_was : (source.flash l.fn.source).geometry ≡ l.geometry;
+      only_reads : OnlyReads source.view l.fn.source l.source;
+      geometry_was : (source.view.flash l.fn.source).geometry ≡ l.geometry;
       pass_is : IsPass l.row l.pass;
       pass_same : IsSamePass l.fn.pass l.pass;
       pass_geometry : l.pass.survey.geometry ≡ l.geometry;
       body_whole : length l.body ≡ l.geometry.data_bytes;
       spare_whole : length l.spare ≡ l.geometry.spare_bytes;
-      same : source.honest l.fn.source ≡ true → source.flash l.source ≡ source.flash l.fn.source;
-      told : source.honest l.fn.source ≡ true → source.recorded l.source ≡ source.recorded l.fn.source;
-      whole : 0 < l.row → source.honest l.fn.source ≡ true → IsImage l.geometry (source.flash l.source).image;
-      reads : source.reads l.source ≤ source.reads l.fn.source + l.row;
-      seen : source.honest l.fn.source ≡ true → Shows (source.flash l.fn.source).image 0 l.fn.pass → Shows (source.flash l.fn.source).image l.row l.pass;
+      same : source.view.honest l.fn.source ≡ true → source.view.flash l.source ≡ source.view.flash l.fn.source;
+      told : source.view.honest l.fn.source ≡ true → source.view.recorded l.source ≡ source.view.recorded l.fn.source;
+      whole : 0 < l.row → source.view.honest l.fn.source ≡ true → IsImage l.geometry (source.view.flash l.source).image;
+      reads : source.view.reads l.source ≤ source.view.reads l.fn.source + l.row;
+      seen : source.view.honest l.fn.source ≡ true → Shows (source.view.flash l.fn.source).image 0 l.fn.pass → Shows (source.view.flash l.fn.source).image l.row l.pass;
     }

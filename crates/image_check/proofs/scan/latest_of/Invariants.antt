@@ -10,14 +10,14 @@ abbrev pub invariant-loop-row : goal.invariant-loop-row
 invariant-loop-row g l =
     let source = g.S.PageSource in
     record {
-      only_reads : OnlyReads source.flash source.honest source.calm source.programs source.erases source.failed l.fn.source l.source;
-      geometry_was : (source.flash l.fn.source).geometry ≡ l.geometry;
+      only_reads : OnlyReads source.view l.fn.source l.source;
+      geometry_was : (source.view.flash l.fn.source).geometry ≡ l.geometry;
       body_whole : length l.body ≡ l.geometry.data_bytes;
       spare_whole : length l.spare ≡ l.geometry.spare_bytes;
-      same : source.honest l.fn.source ≡ true → source.flash l.source ≡ source.flash l.fn.source;
-      whole : 0 < l.row → source.honest l.fn.source ≡ true → IsImage l.geometry (source.flash l.source).image;
-      read_few : source.reads l.source ≤ source.reads l.fn.source + l.row;
-      read_on : source.reads l.fn.source < 2 ^ 64 → (source.reads l.fn.source ≤ source.reads l.source) × (source.reads l.source < 2 ^ 64);
-      found : source.honest l.fn.source ≡ true → l.newest ≡ latest_below (marks (source.flash l.fn.source).image) l.key l.row;
+      same : source.view.honest l.fn.source ≡ true → source.view.flash l.source ≡ source.view.flash l.fn.source;
+      whole : 0 < l.row → source.view.honest l.fn.source ≡ true → IsImage l.geometry (source.view.flash l.source).image;
+      read_few : source.view.reads l.source ≤ source.view.reads l.fn.source + l.row;
+      read_on : source.view.reads l.fn.source < 2 ^ 64 → (source.view.reads l.fn.source ≤ source.view.reads l.source) × (source.view.reads l.source < 2 ^ 64);
+      found : source.view.honest l.fn.source ≡ true → l.newest ≡ latest_below (marks (source.view.flash l.fn.source).image) l.key l.row;
       below : IsBelow l.row l.newest;
     }

@@ -14,7 +14,7 @@ loop-page-preserved g c =
     let first = t * each in
     let end = c.min-end.result in
     let below = c.loop-page-test.true in
-    let first_flash = g.S.PageSource.flash c.args.source.now in
+    let first_flash = g.S.PageSource.view.flash c.args.source.now in
     let start : min (t * entries geo) geo.sectors ≡ first = start_of geo t first c.sectors-sectors.result each (omega arith) c.sectors-sectors.ensures c.entries-entries.ensures refl in
     let finish : min ((t + 1) * entries geo) geo.sectors ≡ end = end_of geo t first end c.sectors-sectors.result each c.sectors-sectors.ensures c.entries-entries.ensures refl c.min-end.ensures in
     record {
@@ -25,7 +25,7 @@ loop-page-preserved g c =
       same = λ honest. read.same (inv.only_reads.honest_is ∙ honest) ∙ inv.same honest;
       noted = λ honest keys.
           let entry : AreEntries geo first_flash.image t c.read_translation.new.body = entries_read geo first_flash
-          (g.S.PageSource.flash c.loop-page.source) c.args.newest.now t (c.sectors-sectors.result + t) _ _ c.read_translation.new.body keys
+          (g.S.PageSource.view.flash c.loop-page.source) c.args.newest.now t (c.sectors-sectors.result + t) _ _ c.read_translation.new.body keys
           (omega arith) (omega arith) refl (inv.same honest) (read.entries (inv.only_reads.honest_is ∙ honest)) in
           subst (λ k. AreStaleBelow geo first_flash.image k c.note_stale.new.stale.items) (sym finish)
           (stale_more geo first_flash.image c.args.newest.now t first end c.read_translation.new.body c.loop-page.stale.items c.note_stale.new.stale.items keys entry (ap (λ k. t * k) c.entries-entries.ensures) (omega arith) (omega arith) (omega arith)
@@ -41,4 +41,4 @@ returns-clause-stale g c = λ honest keys.
     let whole : t ≡ translation_pages geo = omega arith in
     let reach = pages_reach geo in
     let last : t * entries geo ≡ translation_pages geo * entries geo = ap (λ k. k * entries geo) whole in
-    stale_all geo (g.S.PageSource.flash c.args.source.now).image (min (t * entries geo) geo.sectors) c.loop-page.stale.items (omega arith) (c.loop-page.invariant.noted honest keys)
+    stale_all geo (g.S.PageSource.view.flash c.args.source.now).image (min (t * entries geo) geo.sectors) c.loop-page.stale.items (omega arith) (c.loop-page.invariant.noted honest keys)

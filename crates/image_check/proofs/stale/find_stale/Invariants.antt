@@ -10,12 +10,12 @@ abbrev pub invariant-loop-page : goal.invariant-loop-page
 invariant-loop-page g l =
     let source = g.S.PageSource in
     record {
-      only_reads : OnlyReads source.flash source.honest source.calm source.programs source.erases source.failed l.fn.source l.source;
-      geometry_was : (source.flash l.fn.source).geometry ≡ l.geometry;
+      only_reads : OnlyReads source.view l.fn.source l.source;
+      geometry_was : (source.view.flash l.fn.source).geometry ≡ l.geometry;
       body_whole : length l.body ≡ l.geometry.data_bytes;
       spare_whole : length l.spare ≡ l.geometry.spare_bytes;
-      same : source.honest l.fn.source ≡ true → source.flash l.source ≡ source.flash l.fn.source;
-      noted : source.honest l.fn.source ≡ true → SurveysKeys l.geometry (source.flash l.fn.source).image l.newest → AreStaleBelow l.geometry (source.flash l.fn.source).image (min (l.page * entries l.geometry) l.geometry.sectors) l.stale.items;
+      same : source.view.honest l.fn.source ≡ true → source.view.flash l.source ≡ source.view.flash l.fn.source;
+      noted : source.view.honest l.fn.source ≡ true → SurveysKeys l.geometry (source.view.flash l.fn.source).image l.newest → AreStaleBelow l.geometry (source.view.flash l.fn.source).image (min (l.page * entries l.geometry) l.geometry.sectors) l.stale.items;
       rising : IsRisingBelow (min (l.page * entries l.geometry) l.geometry.sectors) l.stale.items;
-      reads : source.reads l.source ≤ source.reads l.fn.source + l.page;
+      reads : source.view.reads l.source ≤ source.view.reads l.fn.source + l.page;
     }

@@ -15,7 +15,7 @@ use Rattle.mount.proofs.format_die.format.Goals as goal
 pub returns-in_err-require_good-clause-formats : goal.returns-in_err-require_good-clause-formats
 returns-in_err-require_good-clause-formats g c = λ h.
     let geometry = c.args.geometry.now in
-    let old : Flash = g.N.PageSource.flash c.args.nand.now in
+    let old : Flash = g.N.PageSource.view.flash c.args.nand.now in
     let table : List TableRow = unworn c.deref.result.now in
     let made = c.in_ok-used.ensures in
     let left : c.deref.result.now ≡ c.survey.new.classes = c.deref.ensures.value ∙ with_items_is c.in_ok-classes.classes c.survey.new.classes (c.survey.auto.classes ∙ c.deref_mut.ensures.len) in
@@ -27,7 +27,7 @@ returns-in_err-require_good-clause-formats g c = λ h.
 pub returns-in-Some-clause-formats : goal.returns-in-Some-clause-formats
 returns-in-Some-clause-formats g c = λ h.
     let geometry = c.args.geometry.now in
-    let old : Flash = g.N.PageSource.flash c.args.nand.now in
+    let old : Flash = g.N.PageSource.view.flash c.args.nand.now in
     let made = c.in_ok-used.ensures in
     let row = c.in-Some.row in
     let left : c.deref.result.now ≡ c.survey.new.classes = c.deref.ensures.value ∙ with_items_is c.in_ok-classes.classes c.survey.new.classes (c.survey.auto.classes ∙ c.deref_mut.ensures.len) in
@@ -38,7 +38,7 @@ returns-in-Some-clause-formats g c = λ h.
 pub returns-clause-formats : goal.returns-clause-formats
 returns-clause-formats g c = λ h.
     let geometry = c.args.geometry.now in
-    let flash = g.N.PageSource.flash in
+    let flash = g.N.PageSource.view.flash in
     let old : Flash = flash c.args.nand.now in
     let mid : Flash = flash c.survey.new.source in
     let new : Flash = flash c.write_tables.new.nand in

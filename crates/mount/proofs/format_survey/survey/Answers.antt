@@ -10,7 +10,7 @@ use Rattle.mount.proofs.format_survey.survey.Goals as goal
 pub loop-block-preserved : goal.loop-block-preserved
 loop-block-preserved g c =
     let geometry = c.args.geometry.now in
-    let image = (g.S.PageSource.flash c.args.source.now).image in
+    let image = (g.S.PageSource.view.flash c.args.source.now).image in
     let i = c.loop-block.invariant in
     let block = c.loop-block.block in
     let from = block * geometry.pages in
@@ -30,5 +30,5 @@ loop-block-preserved g c =
 
 pub returns-clause-table : goal.returns-clause-table
 returns-clause-table g c = λ h.
-    classes_table c.args.geometry.now (g.S.PageSource.flash c.args.source.now).image c.loop-block.classes (c.loop-block.auto.classes ∙ c.requires.classes_whole)
+    classes_table c.args.geometry.now (g.S.PageSource.view.flash c.args.source.now).image c.loop-block.classes (c.loop-block.auto.classes ∙ c.requires.classes_whole)
     (λ k l. c.loop-block.invariant.classes h k (omega (arith, l, c.blocks-block-end.ensures)))

@@ -13,12 +13,12 @@ abbrev pub invariant-loop-block : goal.invariant-loop-block
 invariant-loop-block g l =
     let s = g.S.PageSource in
     record {
-      classes : s.honest l.initial.source ≡ true → (k : ℕ) → k < l.block → get_or l.classes k Good ≡ class_after (is_marked l.geometry (s.flash l.initial.source).image k) false;
-      first : s.honest l.initial.source ≡ true → IsFirst (is_used l.geometry (s.flash l.initial.source).image) 0 (l.block * l.geometry.pages) l.first;
+      classes : s.view.honest l.initial.source ≡ true → (k : ℕ) → k < l.block → get_or l.classes k Good ≡ class_after (is_marked l.geometry (s.view.flash l.initial.source).image k) false;
+      first : s.view.honest l.initial.source ≡ true → IsFirst (is_used l.geometry (s.view.flash l.initial.source).image) 0 (l.block * l.geometry.pages) l.first;
       row : IfSome l.first (λ row. row < row_count l.geometry);
-      same : s.honest l.initial.source ≡ true → s.flash l.source ≡ s.flash l.initial.source;
-      whole : s.honest l.initial.source ≡ true → 0 < l.block → IsImage l.geometry (s.flash l.initial.source).image;
-      only_reads : OnlyReads s.flash s.honest s.calm s.programs s.erases s.failed l.initial.source l.source;
-      reads : s.reads l.initial.source + l.block * l.geometry.pages < 2 ^ 64 → s.reads l.source ≡ s.reads l.initial.source + l.block * l.geometry.pages;
-      most_reads : s.reads l.source ≤ s.reads l.initial.source + l.block * l.geometry.pages;
+      same : s.view.honest l.initial.source ≡ true → s.view.flash l.source ≡ s.view.flash l.initial.source;
+      whole : s.view.honest l.initial.source ≡ true → 0 < l.block → IsImage l.geometry (s.view.flash l.initial.source).image;
+      only_reads : OnlyReads s.view l.initial.source l.source;
+      reads : s.view.reads l.initial.source + l.block * l.geometry.pages < 2 ^ 64 → s.view.reads l.source ≡ s.view.reads l.initial.source + l.block * l.geometry.pages;
+      most_reads : s.view.reads l.source ≤ s.view.reads l.initial.source + l.block * l.geometry.pages;
     }

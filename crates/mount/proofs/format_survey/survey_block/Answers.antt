@@ -13,7 +13,7 @@ returns-clause-marked g c = grind (arith, common_steps)
 pub returns-clause-first : goal.returns-clause-first
 returns-clause-first g c = λ h.
     let geometry = c.args.geometry.now in
-    let flash = g.S.PageSource.flash c.args.source.now in
+    let flash = g.S.PageSource.view.flash c.args.source.now in
     let block = c.args.block in
     let marked = c.if-first.marked in
     let is = returns-clause-marked g c h in

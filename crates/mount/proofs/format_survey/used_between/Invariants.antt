@@ -9,10 +9,10 @@ abbrev pub invariant-loop-row : goal.invariant-loop-row
 invariant-loop-row g l =
     let s = g.S.PageSource in
     record {
-      first : s.honest l.initial.source ≡ true → IsFirst (λ row. is_page_used l.marked (page_at (s.flash l.initial.source) row)) l.from l.row l.first;
+      first : s.view.honest l.initial.source ≡ true → IsFirst (λ row. is_page_used l.marked (page_at (s.view.flash l.initial.source) row)) l.from l.row l.first;
       row : IfSome l.first (λ row. row < l.row);
-      same : s.honest l.initial.source ≡ true → s.flash l.source ≡ s.flash l.initial.source;
-      only_reads : OnlyReads s.flash s.honest s.calm s.programs s.erases s.failed l.initial.source l.source;
-      reads : s.reads l.initial.source + (l.row - l.from) < 2 ^ 64 → s.reads l.source ≡ s.reads l.initial.source + (l.row - l.from);
-      most_reads : s.reads l.source ≤ s.reads l.initial.source + (l.row - l.from);
+      same : s.view.honest l.initial.source ≡ true → s.view.flash l.source ≡ s.view.flash l.initial.source;
+      only_reads : OnlyReads s.view l.initial.source l.source;
+      reads : s.view.reads l.initial.source + (l.row - l.from) < 2 ^ 64 → s.view.reads l.source ≡ s.view.reads l.initial.source + (l.row - l.from);
+      most_reads : s.view.reads l.source ≤ s.view.reads l.initial.source + (l.row - l.from);
     }

@@ -11,14 +11,14 @@ returns-in_err-blocks-clause-err g c =
     let p = err_from_is_err_and c.from_residual-in_err-blocks.result c.from_residual-in_err-blocks.ensures.1 in
     rw (p.1, p.2) (λ honest capacity.
     let s = c.in_ok-survey.survey in
-    survey_refused c.args.geometry.now s.geometry capacity (g.S.PageSource.flash c.args.source.now).image s _ c.in_ok-survey.ensures.sized.geometry_is (c.in_ok-survey.ensures.surveys honest) c.in_err-blocks.ensures.kind c.in_err-blocks.ensures.err)
+    survey_refused c.args.geometry.now s.geometry capacity (g.S.PageSource.view.flash c.args.source.now).image s _ c.in_ok-survey.ensures.sized.geometry_is (c.in_ok-survey.ensures.surveys honest) c.in_err-blocks.ensures.kind c.in_err-blocks.ensures.err)
 
 pub returns-in_err-next-clause-err : goal.returns-in_err-next-clause-err
 returns-in_err-next-clause-err g c =
     let p = err_from_is_err_and c.from_residual-in_err-next.result c.from_residual-in_err-next.ensures.1 in
     rw (p.1, p.2) (λ honest capacity.
     let geo = c.args.geometry.now in
-    let image = (g.S.PageSource.flash c.args.source.now).image in
+    let image = (g.S.PageSource.view.flash c.args.source.now).image in
     let pairs : SurveysPairs geo image c.deref.result.now = pairs_after geo image c.in_ok-survey.survey c.describe_blocks.new.survey c.deref.result.now (c.in_ok-survey.ensures.surveys honest) c.in_ok-blocks.ensures.permutation c.deref.ensures.value in
     let s = c.in_ok-survey.survey in
     let right = orderly_at geo s.geometry image s c.in_ok-survey.ensures.sized.geometry_is (c.in_ok-survey.ensures.surveys honest) c.in_ok-blocks.ensures.ok capacity (no_claim geo) in
@@ -27,7 +27,7 @@ returns-in_err-next-clause-err g c =
 pub returns-clause-shown : goal.returns-clause-shown
 returns-clause-shown g c = λ honest.
     let geo = c.args.geometry.now in
-    let image = (g.S.PageSource.flash c.args.source.now).image in
+    let image = (g.S.PageSource.view.flash c.args.source.now).image in
     let s = c.in_ok-survey.survey in
     let new = c.describe_blocks.new.survey in
     let is = c.in_ok-survey.ensures.sized.geometry_is in

@@ -107,14 +107,14 @@ returns-clause-truth g c = λ honest w none_below.
     let first = found_none c.args.block (ram c.args.self.now) (ram c.copy_lowest.new.self) _ _ c.in_ok-copied.copied (c.in_ok-copied.ensures.truth honest w none_below) is_none in
     let held = none_now c.args.block (ram c.args.self.now) (ram c.copy_lowest.new.self) _ _ same c.copy_lowest.ensures.goes c.requires.closed c.requires.block first in
     let kept = c.in_ok-erase_block.ensures.truth (c.write_back_lowest.ensures.acts.honest_is ∙ (c.copy_lowest.ensures.acts.honest_is ∙ honest))
-    (subst (λ e. IsTrue None (ram e) (image_in g.N.PageSource.flash e)) (sym none.1) first.0.truth)
-    (subst (λ e. HoldsNone (ram e).geometry.pages c.args.block (image_in g.N.PageSource.flash e)) (sym none.1) held) in
+    (subst (λ e. IsTrue None (ram e) (image_in g.N.PageSource.view.flash e)) (sym none.1) first.0.truth)
+    (subst (λ e. HoldsNone (ram e).geometry.pages c.args.block (image_in g.N.PageSource.view.flash e)) (sym none.1) held) in
     emptied_erased c.args.block (ram c.args.self.now) (ram c.copy_lowest.new.self) _ _ same c.copy_lowest.ensures.goes c.requires.closed
     c.requires.block first (ram c.erase_block.new.self) _ c.erase_block.ensures.acts.safe.memory
     (c.erase_block.ensures.goes.geometry ∙ ap (λ e. (ram e).geometry) none.1)
     (subst
-    (λ e. IsImageKept (ram e) (image_in g.N.PageSource.flash e) (ram c.erase_block.new.self)
-    (image_in g.N.PageSource.flash c.erase_block.new.self)) none.1 kept)
+    (λ e. IsImageKept (ram e) (image_in g.N.PageSource.view.flash e) (ram c.erase_block.new.self)
+    (image_in g.N.PageSource.view.flash c.erase_block.new.self)) none.1 kept)
 
 -- ---- what a stop leaves
 
@@ -159,11 +159,11 @@ returns-clause-stops g c = λ honest w none_in ne.
     let now = c.copy_lowest.ensures.acts.honest_is ∙ honest in
     let held = none_now c.args.block (ram c.args.self.now) (ram c.copy_lowest.new.self) _ _ same c.copy_lowest.ensures.goes c.requires.closed c.requires.block first in
     let erased = c.in_ok-erase_block.ensures.stops (c.write_back_lowest.ensures.acts.honest_is ∙ now)
-    (subst (λ e. IsTrue None (ram e) (image_in g.N.PageSource.flash e)) (sym none.1) first.0.truth)
-    (subst (λ e. HoldsNone (ram e).geometry.pages c.args.block (image_in g.N.PageSource.flash e)) (sym none.1) held) (ok_not_bus _) in
+    (subst (λ e. IsTrue None (ram e) (image_in g.N.PageSource.view.flash e)) (sym none.1) first.0.truth)
+    (subst (λ e. HoldsNone (ram e).geometry.pages c.args.block (image_in g.N.PageSource.view.flash e)) (sym none.1) held) (ok_not_bus _) in
     stops_then (ram c.args.self.now) (ram c.copy_lowest.new.self) _ _ _ _ _ _ sized first.0.array
     (c.in_ok-copied.ensures.stops honest w (ok_not_bus _))
     (subst
-    (λ e. Stops g.N.PageSource.flash g.N.PageSource.recorded
-    (IsLeftByStop (ram e) (image_in g.N.PageSource.flash e) (image_in g.N.PageSource.flash c.erase_block.new.self)) e
+    (λ e. Stops g.N.PageSource.view
+    (IsLeftByStop (ram e) (image_in g.N.PageSource.view.flash e) (image_in g.N.PageSource.view.flash c.erase_block.new.self)) e
     c.erase_block.new.self) none.1 erased)

@@ -52,8 +52,8 @@ pub returns-clause-truth : goal.returns-clause-truth
 returns-clause-truth g c = λ honest w shut live.
     let r = ram c.args.self.now in
     let b = ram c.replace.new.self in
-    let old = (g.N.PageSource.flash c.args.self.now.nand).image in
-    let new = (g.N.PageSource.flash c.replace.new.self.nand).image in
+    let old = (g.N.PageSource.view.flash c.args.self.now.nand).image in
+    let new = (g.N.PageSource.view.flash c.replace.new.self.nand).image in
     let replaced = c.in_ok-replace.ensures.truth honest (may_copy r _ c.args.row c.args.found.now _ w c.requires.key live) in
     let moved = moved_out r b old new c.args.row c.in_ok-replace.field-0 c.args.found.now c.args.self.now.page.body.items c.requires.safe.memory
     c.replace.ensures.acts.safe.memory c.replace.ensures.goes.geometry w live c.requires.key c.requires.row shut c.in_ok-replace.ensures.row
@@ -64,8 +64,8 @@ pub returns-clause-renews : goal.returns-clause-renews
 returns-clause-renews g c = λ honest w live.
     let r = ram c.args.self.now in
     let b = ram c.replace.new.self in
-    let old = (g.N.PageSource.flash c.args.self.now.nand).image in
-    let new = (g.N.PageSource.flash c.replace.new.self.nand).image in
+    let old = (g.N.PageSource.view.flash c.args.self.now.nand).image in
+    let new = (g.N.PageSource.view.flash c.replace.new.self.nand).image in
     let replaced = c.in_ok-replace.ensures.truth honest (may_copy r _ c.args.row c.args.found.now _ w c.requires.key live) in
     let renewed = renewed_by r b old new c.args.row c.in_ok-replace.field-0 c.args.found.now c.args.self.now.page.body.items live c.in_ok-replace.ensures.row replaced in
     rw c.mark.ensures.nand (renewed_marked c.args.flushing c.key.result c.in_ok-replace.field-0 r b _ c.mark.ensures.marked (key_of c.args.found.now) old new renewed)

@@ -42,12 +42,12 @@ returns-in-Ok-Passed-clause-acts g c = record {
   failed_is = c.erase.ensures.failed;
   rose = λ e. absurd (ok_not_bus _ e);
   went = λ honest _.
-      let before = g.N.PageSource.flash c.args.self.now.nand in
-      let after = g.N.PageSource.flash c.erase.new.self in
+      let before = g.N.PageSource.view.flash c.args.self.now.nand in
+      let after = g.N.PageSource.view.flash c.erase.new.self in
       let step = at_outcome (λ o. Steps before (Erase c.args.block (is_passed o) (block_at after c.args.block)) after) c.in-Ok-Passed.field-0 Passed (c.in-Ok-Passed.ensures.step honest) c.in-Ok-Passed.field-0-is in
       let records = at_outcome
-      (λ o. Records (g.N.PageSource.recorded c.args.self.now.nand) (Erase c.args.block (is_passed o) (block_at after c.args.block) ∷ [])
-      (g.N.PageSource.recorded c.erase.new.self)) c.in-Ok-Passed.field-0 Passed (c.in-Ok-Passed.ensures.recorded honest)
+      (λ o. Records (g.N.PageSource.view.recorded c.args.self.now.nand) (Erase c.args.block (is_passed o) (block_at after c.args.block) ∷ [])
+      (g.N.PageSource.view.recorded c.erase.new.self)) c.in-Ok-Passed.field-0 Passed (c.in-Ok-Passed.ensures.recorded honest)
       c.in-Ok-Passed.field-0-is in
       went_erase (ram c.args.self.now) _ before after _ _ c.args.block true (block_at after c.args.block) step records (ended_by true (ram c.args.self.now) c.args.block _ c.requires.safe.memory c.requires.block c.requires.closed c.freed.ensures.is) refl;
 }
@@ -71,8 +71,8 @@ returns-in-Ok-Passed-clause-released g c = released true c.args.block _ _ (ended
 
 pub returns-in-Ok-Passed-clause-truth : goal.returns-in-Ok-Passed-clause-truth
 returns-in-Ok-Passed-clause-truth g c = λ honest w none.
-    let before = g.N.PageSource.flash c.args.self.now.nand in
-    let after = g.N.PageSource.flash c.erase.new.self in
+    let before = g.N.PageSource.view.flash c.args.self.now.nand in
+    let after = g.N.PageSource.view.flash c.erase.new.self in
     let step = at_outcome (λ o. Steps before (Erase c.args.block (is_passed o) (block_at after c.args.block)) after) c.in-Ok-Passed.field-0 Passed (c.in-Ok-Passed.ensures.step honest) c.in-Ok-Passed.field-0-is in
     let whole : IsImage c.args.self.now.geometry after.image = subst (λ x. IsImage x after.image) (c.erase.ensures.geometry ∙ c.requires.safe.geometry) (c.in-Ok-Passed.ensures.whole honest).image_whole in
     (ended_kept (ram c.args.self.now) _ before after c.args.block true (block_at after c.args.block) c.requires.safe.memory w c.requires.safe.geometry
@@ -114,12 +114,12 @@ returns-in-Ok-Failed-clause-acts g c = record {
   failed_is = c.erase.ensures.failed;
   rose = λ e. absurd (ok_not_bus _ e);
   went = λ honest _.
-      let before = g.N.PageSource.flash c.args.self.now.nand in
-      let after = g.N.PageSource.flash c.erase.new.self in
+      let before = g.N.PageSource.view.flash c.args.self.now.nand in
+      let after = g.N.PageSource.view.flash c.erase.new.self in
       let step = at_outcome (λ o. Steps before (Erase c.args.block (is_passed o) (block_at after c.args.block)) after) c.in-Ok-Failed.field-0 Failed (c.in-Ok-Failed.ensures.step honest) c.in-Ok-Failed.field-0-is in
       let records = at_outcome
-      (λ o. Records (g.N.PageSource.recorded c.args.self.now.nand) (Erase c.args.block (is_passed o) (block_at after c.args.block) ∷ [])
-      (g.N.PageSource.recorded c.erase.new.self)) c.in-Ok-Failed.field-0 Failed (c.in-Ok-Failed.ensures.recorded honest)
+      (λ o. Records (g.N.PageSource.view.recorded c.args.self.now.nand) (Erase c.args.block (is_passed o) (block_at after c.args.block) ∷ [])
+      (g.N.PageSource.view.recorded c.erase.new.self)) c.in-Ok-Failed.field-0 Failed (c.in-Ok-Failed.ensures.recorded honest)
       c.in-Ok-Failed.field-0-is in
       went_erase (ram c.args.self.now) _ before after _ _ c.args.block false (block_at after c.args.block) step records (ended_by false (ram c.args.self.now) c.args.block _ c.requires.safe.memory c.requires.block c.requires.closed c.retire.ensures.is) refl;
 }
@@ -143,8 +143,8 @@ returns-in-Ok-Failed-clause-released g c = released false c.args.block _ _ (ende
 
 pub returns-in-Ok-Failed-clause-truth : goal.returns-in-Ok-Failed-clause-truth
 returns-in-Ok-Failed-clause-truth g c = λ honest w none.
-    let before = g.N.PageSource.flash c.args.self.now.nand in
-    let after = g.N.PageSource.flash c.erase.new.self in
+    let before = g.N.PageSource.view.flash c.args.self.now.nand in
+    let after = g.N.PageSource.view.flash c.erase.new.self in
     let step = at_outcome (λ o. Steps before (Erase c.args.block (is_passed o) (block_at after c.args.block)) after) c.in-Ok-Failed.field-0 Failed (c.in-Ok-Failed.ensures.step honest) c.in-Ok-Failed.field-0-is in
     let whole : IsImage c.args.self.now.geometry after.image = subst (λ x. IsImage x after.image) (c.erase.ensures.geometry ∙ c.requires.safe.geometry) (c.in-Ok-Failed.ensures.whole honest).image_whole in
     (ended_kept (ram c.args.self.now) _ before after c.args.block false (block_at after c.args.block) c.requires.safe.memory w

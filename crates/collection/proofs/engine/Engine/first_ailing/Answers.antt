@@ -35,7 +35,7 @@ numbers-preserved g c =
           let w_now = true_over old now _ _ w i.looks.memory (ap (λ f. f.image) (i.looks.same honest (ok_not_bus _))) in
           let blocks = ap (λ r. r.geometry.blocks) i.looks.memory in
           let zero = looked_through now _ c.numbers.block _ c.in_ok-live.live i.looks.safe.memory w_now (omega (arith, blocks, c.blocks-block-end.ensures, c.numbers-test.true)) (c.in_ok-live.ensures.truth (i.looks.only_reads.honest_is ∙ honest) w_now) c.in-None.is in
-          ailing_more old (g.N.PageSource.flash c.args.self.now.nand).image c.numbers.block (i.truth honest w) (λ bad. ap (λ r. live_at r.blocks c.numbers.block) (sym i.looks.memory) ∙ zero);
+          ailing_more old (g.N.PageSource.view.flash c.args.self.now.nand).image c.numbers.block (i.truth honest w) (λ bad. ap (λ r. live_at r.blocks c.numbers.block) (sym i.looks.memory) ∙ zero);
     }
 
 pub returns-in-Some-clause-truth : goal.returns-in-Some-clause-truth
@@ -54,4 +54,4 @@ returns-in-Some-clause-truth g c = λ honest w.
     subst (λ x. IsFirstAiling old.blocks c.row.result c.first_live.new.self.page.body.items c.in-Some.found x) still
     (subst
     (λ z. IsFirstAiling z.blocks c.row.result c.first_live.new.self.page.body.items c.in-Some.found
-    (g.N.PageSource.flash c.numbers.self.nand).image) i.looks.memory first)
+    (g.N.PageSource.view.flash c.numbers.self.nand).image) i.looks.memory first)

@@ -8,6 +8,6 @@ use Rattle.collection.proofs.engine.Engine.first_ailing.Given as goal
 
 abbrev pub invariant-numbers : goal.invariant-numbers
 invariant-numbers g l = record {
-  looks : EngineLooks {A = Unit {0}} g.N.PageSource.flash g.N.PageSource.recorded g.N.PageSource.honest g.N.PageSource.calm g.N.PageSource.programs g.N.PageSource.erases g.N.PageSource.failed l.fn.self l.self (Ok tt);
-  truth : g.N.PageSource.honest l.fn.self.nand ≡ true → IsTrue None (ram l.fn.self) (image_in g.N.PageSource.flash l.fn.self) → (b : ℕ) → b < l.block → is_good_at (ram l.fn.self).blocks.table b ≡ false → live_at (ram l.fn.self).blocks b ≡ 0;
+  looks : EngineLooks {A = Unit {0}} g.N.PageSource.view l.fn.self l.self (Ok tt);
+  truth : g.N.PageSource.view.honest l.fn.self.nand ≡ true → IsTrue None (ram l.fn.self) (image_in g.N.PageSource.view.flash l.fn.self) → (b : ℕ) → b < l.block → is_good_at (ram l.fn.self).blocks.table b ≡ false → live_at (ram l.fn.self).blocks b ≡ 0;
 }

@@ -7,7 +7,7 @@ use Rattle.collection.proofs.engine.Engine.first_live.Given as goal
 
 abbrev pub invariant-candidates : goal.invariant-candidates
 invariant-candidates g l = record {
-  looks : EngineLooks {A = Unit {0}} g.N.PageSource.flash g.N.PageSource.recorded g.N.PageSource.honest g.N.PageSource.calm g.N.PageSource.programs g.N.PageSource.erases g.N.PageSource.failed l.fn.self l.self (Ok tt);
-  reads : g.N.PageSource.reads l.self.nand ≤ g.N.PageSource.reads l.fn.self.nand + 2 * (min l.page l.fn.self.geometry.pages - l.first);
-  truth : g.N.PageSource.honest l.fn.self.nand ≡ true → IsTrue None (ram l.fn.self) (image_in g.N.PageSource.flash l.fn.self) → HoldsNoneIn l.fn.self.geometry.pages l.block l.first l.page (image_in g.N.PageSource.flash l.fn.self);
+  looks : EngineLooks {A = Unit {0}} g.N.PageSource.view l.fn.self l.self (Ok tt);
+  reads : g.N.PageSource.view.reads l.self.nand ≤ g.N.PageSource.view.reads l.fn.self.nand + 2 * (min l.page l.fn.self.geometry.pages - l.first);
+  truth : g.N.PageSource.view.honest l.fn.self.nand ≡ true → IsTrue None (ram l.fn.self) (image_in g.N.PageSource.view.flash l.fn.self) → HoldsNoneIn l.fn.self.geometry.pages l.block l.first l.page (image_in g.N.PageSource.view.flash l.fn.self);
 }

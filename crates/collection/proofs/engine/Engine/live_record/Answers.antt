@@ -13,4 +13,4 @@ returns-else-eq-clause-truth g c = λ honest w.
     let taken = c.in_ok-taken.ensures.truth honest in
     let still = ap (λ f. f.image) (c.in_ok-taken.ensures.looks.same honest (ok_not_bus _)) in
     let found = still_newest (ram c.args.self.now) (ram c.take_page.new.self) _ _ c.key-key.result c.in_ok-newest.newest w c.take_page.ensures.looks.memory still (c.in_ok-newest.ensures.truth (c.take_page.ensures.looks.only_reads.honest_is ∙ honest)) in
-    gone_other _ c.args.row c.in-Some.found (taken.mark ∙ c.in-Some.is) (λ e. not_same c.in_ok-newest.newest c.args.row c.eq.result c.eq.ensures c.if-eq.false (found ∙ (ap (newest_row (g.N.PageSource.flash c.args.self.now.nand).image) c.key-key.ensures ∙ e)))
+    gone_other _ c.args.row c.in-Some.found (taken.mark ∙ c.in-Some.is) (λ e. not_same c.in_ok-newest.newest c.args.row c.eq.result c.eq.ensures c.if-eq.false (found ∙ (ap (newest_row (g.N.PageSource.view.flash c.args.self.now.nand).image) c.key-key.ensures ∙ e)))

@@ -7,6 +7,6 @@ use Rattle.collection.proofs.engine.Engine.look_for_due.Given as goal
 
 abbrev pub invariant-rows : goal.invariant-rows
 invariant-rows g l = record {
-  looks : EngineLooks {A = Unit {0}} g.N.PageSource.flash g.N.PageSource.recorded g.N.PageSource.honest g.N.PageSource.calm g.N.PageSource.programs g.N.PageSource.erases g.N.PageSource.failed l.fn.self l.self (Ok tt);
-  truth : g.N.PageSource.honest l.fn.self.nand ≡ true → IsTrue None (ram l.fn.self) (image_in g.N.PageSource.flash l.fn.self) → (q : ℕ) → l.from ≤ q → q < l.row → HasNoneDue q (image_in g.N.PageSource.flash l.fn.self);
+  looks : EngineLooks {A = Unit {0}} g.N.PageSource.view l.fn.self l.self (Ok tt);
+  truth : g.N.PageSource.view.honest l.fn.self.nand ≡ true → IsTrue None (ram l.fn.self) (image_in g.N.PageSource.view.flash l.fn.self) → (q : ℕ) → l.from ≤ q → q < l.row → HasNoneDue q (image_in g.N.PageSource.view.flash l.fn.self);
 }

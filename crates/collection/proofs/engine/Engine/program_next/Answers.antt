@@ -59,10 +59,10 @@ returns-in-Ok-Passed-clause-acts g c =
       failed_is = c.program_record.ensures.failed;
       rose = λ e. absurd (ok_not_bus _ e);
       went = λ honest _.
-          let before = g.N.PageSource.flash c.args.self.now.nand in
-          let after = g.N.PageSource.flash c.program_record.new.nand in
-          let told = g.N.PageSource.recorded c.args.self.now.nand in
-          let told' = g.N.PageSource.recorded c.program_record.new.nand in
+          let before = g.N.PageSource.view.flash c.args.self.now.nand in
+          let after = g.N.PageSource.view.flash c.program_record.new.nand in
+          let told = g.N.PageSource.view.recorded c.args.self.now.nand in
+          let told' = g.N.PageSource.view.recorded c.program_record.new.nand in
           let step = at_outcome (λ o. IsStep c.in-Some.row r.next o before told after told') c.in-Ok-Passed.field-0 Passed (c.in-Ok-Passed.ensures.step honest) c.in-Ok-Passed.field-0-is in
           passed_went c.of.result c.split_row-block.result.0 c.in-Some.row r t c.requires.safe.memory is _ (record { geometry = refl; directory = refl; mapping = refl; pin = refl; next = refl }) before after told told' c.args.old_row c.count_move.ensures c.requires.old_row step;
     }
@@ -101,14 +101,14 @@ pub returns-in-Ok-Passed-clause-truth : goal.returns-in-Ok-Passed-clause-truth
 returns-in-Ok-Passed-clause-truth g c = λ honest may.
     let r = ram c.args.self.now in
     let t = state c.take_row.new.self in
-    let before = g.N.PageSource.flash c.args.self.now.nand in
-    let after = g.N.PageSource.flash c.program_record.new.nand in
+    let before = g.N.PageSource.view.flash c.args.self.now.nand in
+    let after = g.N.PageSource.view.flash c.program_record.new.nand in
     let b = c.split_row-block.result.0 in
     let row = c.in-Some.row in
     let written = next_record c.args.kind c.args.number c.args.self.now.next c.wear.result in
     let is = taken_by r c.of.result row b t c.requires.safe.memory c.in-Some.ensures.some c.split_row-block.ensures.block_is in
-    let told = g.N.PageSource.recorded c.args.self.now.nand in
-    let told' = g.N.PageSource.recorded c.program_record.new.nand in
+    let told = g.N.PageSource.view.recorded c.args.self.now.nand in
+    let told' = g.N.PageSource.view.recorded c.program_record.new.nand in
     let step = at_outcome (λ o. IsStep row r.next o before told after told') c.in-Ok-Passed.field-0 Passed (c.in-Ok-Passed.ensures.step honest) c.in-Ok-Passed.field-0-is in
     let can = may_program c.of.result b row r t c.requires.safe.memory is c.args.kind c.args.number c.args.old_row c.args.self.now.page.body.items before.image may c.requires.key c.wear.result in
     let means = at_outcome (λ o. ProgramMeans r.geometry written row c.deref.result.now (is_passed o) before.image after.image) c.in-Ok-Passed.field-0 Passed (c.in-Ok-Passed.ensures.means honest can) c.in-Ok-Passed.field-0-is in
@@ -139,10 +139,10 @@ returns-in-Ok-Failed-clause-acts g c =
       failed_is = c.program_record.ensures.failed;
       rose = λ e. absurd (ok_not_bus _ e);
       went = λ honest _.
-          let before = g.N.PageSource.flash c.args.self.now.nand in
-          let after = g.N.PageSource.flash c.program_record.new.nand in
-          let told = g.N.PageSource.recorded c.args.self.now.nand in
-          let told' = g.N.PageSource.recorded c.program_record.new.nand in
+          let before = g.N.PageSource.view.flash c.args.self.now.nand in
+          let after = g.N.PageSource.view.flash c.program_record.new.nand in
+          let told = g.N.PageSource.view.recorded c.args.self.now.nand in
+          let told' = g.N.PageSource.view.recorded c.program_record.new.nand in
           let step = at_outcome (λ o. IsStep c.in-Some.row r.next o before told after told') c.in-Ok-Failed.field-0 Failed (c.in-Ok-Failed.ensures.step honest) c.in-Ok-Failed.field-0-is in
           failed_went c.of.result c.split_row-block.result.0 c.in-Some.row r t c.requires.safe.memory is _ (record { geometry = refl; directory = refl; mapping = refl; pin = refl; next = refl }) before after told told' c.retire.ensures.is step;
     }
@@ -165,14 +165,14 @@ pub returns-in-Ok-Failed-clause-truth : goal.returns-in-Ok-Failed-clause-truth
 returns-in-Ok-Failed-clause-truth g c = λ honest may.
     let r = ram c.args.self.now in
     let t = state c.take_row.new.self in
-    let before = g.N.PageSource.flash c.args.self.now.nand in
-    let after = g.N.PageSource.flash c.program_record.new.nand in
+    let before = g.N.PageSource.view.flash c.args.self.now.nand in
+    let after = g.N.PageSource.view.flash c.program_record.new.nand in
     let b = c.split_row-block.result.0 in
     let row = c.in-Some.row in
     let written = next_record c.args.kind c.args.number c.args.self.now.next c.wear.result in
     let is = taken_by r c.of.result row b t c.requires.safe.memory c.in-Some.ensures.some c.split_row-block.ensures.block_is in
-    let told = g.N.PageSource.recorded c.args.self.now.nand in
-    let told' = g.N.PageSource.recorded c.program_record.new.nand in
+    let told = g.N.PageSource.view.recorded c.args.self.now.nand in
+    let told' = g.N.PageSource.view.recorded c.program_record.new.nand in
     let step = at_outcome (λ o. IsStep row r.next o before told after told') c.in-Ok-Failed.field-0 Failed (c.in-Ok-Failed.ensures.step honest) c.in-Ok-Failed.field-0-is in
     let can = may_program c.of.result b row r t c.requires.safe.memory is c.args.kind c.args.number c.args.old_row c.args.self.now.page.body.items before.image may c.requires.key c.wear.result in
     let keeps = at_outcome (λ o. ProgramMeans r.geometry written row c.deref.result.now (is_passed o) before.image after.image) c.in-Ok-Failed.field-0 Failed (c.in-Ok-Failed.ensures.means honest can) c.in-Ok-Failed.field-0-is in
@@ -219,7 +219,7 @@ pub returns-in-Ok-Passed-clause-stops : goal.returns-in-Ok-Passed-clause-stops
 returns-in-Ok-Passed-clause-stops g c = λ honest may ne.
     let r = ram c.args.self.now in
     let t = state c.take_row.new.self in
-    let before = g.N.PageSource.flash c.args.self.now.nand in
+    let before = g.N.PageSource.view.flash c.args.self.now.nand in
     let b = c.split_row-block.result.0 in
     let row = c.in-Some.row in
     let is = taken_by r c.of.result row b t c.requires.safe.memory c.in-Some.ensures.some c.split_row-block.ensures.block_is in
@@ -230,7 +230,7 @@ pub returns-in-Ok-Failed-clause-stops : goal.returns-in-Ok-Failed-clause-stops
 returns-in-Ok-Failed-clause-stops g c = λ honest may ne.
     let r = ram c.args.self.now in
     let t = state c.take_row.new.self in
-    let before = g.N.PageSource.flash c.args.self.now.nand in
+    let before = g.N.PageSource.view.flash c.args.self.now.nand in
     let b = c.split_row-block.result.0 in
     let row = c.in-Some.row in
     let is = taken_by r c.of.result row b t c.requires.safe.memory c.in-Some.ensures.some c.split_row-block.ensures.block_is in

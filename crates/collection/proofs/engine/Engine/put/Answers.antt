@@ -10,14 +10,14 @@ pub returns-clause-array : goal.returns-clause-array
 returns-clause-array g c = λ honest none w fits.
     rw (c.noted.ensures.same, c.noted.ensures.noted)
     (array_result c.args.written.now.kind c.args.written.now.number c.args.body.now (ram c.args.self.now) (ram c.put_page-answer.new.self)
-    (image_in g.N.PageSource.flash c.args.self.now) (image_in g.N.PageSource.flash c.put_page-answer.new.self) c.put_page-answer.result
+    (image_in g.N.PageSource.view.flash c.args.self.now) (image_in g.N.PageSource.view.flash c.put_page-answer.new.self) c.put_page-answer.result
     c.requires.key (search rules))
 
 pub returns-clause-truth : goal.returns-clause-truth
 returns-clause-truth g c = λ honest none w fits.
     rw (c.noted.ensures.same, c.noted.ensures.noted)
     (result_noted _ c.args.written.now.kind c.args.written.now.number c.args.body.now (ram c.args.self.now) (ram c.put_page-answer.new.self)
-    (image_in g.N.PageSource.flash c.args.self.now) (image_in g.N.PageSource.flash c.put_page-answer.new.self) c.put_page-answer.result
+    (image_in g.N.PageSource.view.flash c.args.self.now) (image_in g.N.PageSource.view.flash c.put_page-answer.new.self) c.put_page-answer.result
     (search rules))
 
 -- ---- what a stop leaves

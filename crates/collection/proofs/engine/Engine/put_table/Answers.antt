@@ -13,7 +13,7 @@ returns-in_err-replace-clause-truth g c = λ honest w.
     let p = err_from_is_err_and c.from_residual.result c.from_residual.ensures.1 in
     rw (p.1, p.2)
     (c.in_err-replace.ensures.truth honest
-    (may_table (ram c.args.self.now) (image_in g.N.PageSource.flash c.args.self.now) c.args.u c.row_of_key-old_row.result _
+    (may_table (ram c.args.self.now) (image_in g.N.PageSource.view.flash c.args.self.now) c.args.u c.row_of_key-old_row.result _
     c.requires.safe.memory w
     (with_items_is c.args.self.now.page.body c.write_table_page.new.page (c.write_table_page.auto.page ∙ c.deref_mut.ensures.len)
     ∙ (c.write_table_page.ensures
@@ -23,13 +23,13 @@ returns-in_err-replace-clause-truth g c = λ honest w.
 
 pub returns-clause-truth : goal.returns-clause-truth
 returns-clause-truth g c = λ honest w.
-    tabled (ram c.args.self.now) _ (image_in g.N.PageSource.flash c.args.self.now) _ c.args.u c.in_ok-replace.field-0 _
+    tabled (ram c.args.self.now) _ (image_in g.N.PageSource.view.flash c.args.self.now) _ c.args.u c.in_ok-replace.field-0 _
     (with_items_is c.args.self.now.page.body c.write_table_page.new.page (c.write_table_page.auto.page ∙ c.deref_mut.ensures.len)
     ∙ (c.write_table_page.ensures
     ∙ spelled_by c.deref_mut.result.now c.args.self.now.page.body.items c.args.self.now.geometry c.table.result.now
     (state c.args.self.now.blocks).table c.args.u c.deref_mut.ensures.value c.requires.safe.page.body c.table.ensures))
     (c.in_ok-replace.ensures.truth honest
-    (may_table (ram c.args.self.now) (image_in g.N.PageSource.flash c.args.self.now) c.args.u c.row_of_key-old_row.result _
+    (may_table (ram c.args.self.now) (image_in g.N.PageSource.view.flash c.args.self.now) c.args.u c.row_of_key-old_row.result _
     c.requires.safe.memory w
     (with_items_is c.args.self.now.page.body c.write_table_page.new.page (c.write_table_page.auto.page ∙ c.deref_mut.ensures.len)
     ∙ (c.write_table_page.ensures
@@ -44,7 +44,7 @@ returns-in_err-replace-clause-stops g c =
     let p = err_from_is_err_and c.from_residual.result c.from_residual.ensures.1 in
     rw (p.1, p.2)
     (λ honest w ne. c.in_err-replace.ensures.stops honest
-    (may_table (ram c.args.self.now) (image_in g.N.PageSource.flash c.args.self.now) c.args.u c.row_of_key-old_row.result _
+    (may_table (ram c.args.self.now) (image_in g.N.PageSource.view.flash c.args.self.now) c.args.u c.row_of_key-old_row.result _
     c.requires.safe.memory w
     (with_items_is c.args.self.now.page.body c.write_table_page.new.page (c.write_table_page.auto.page ∙ c.deref_mut.ensures.len)
     ∙ (c.write_table_page.ensures
@@ -54,7 +54,7 @@ returns-in_err-replace-clause-stops g c =
 
 pub returns-clause-stops : goal.returns-clause-stops
 returns-clause-stops g c = λ honest w ne. c.in_ok-replace.ensures.stops honest
-    (may_table (ram c.args.self.now) (image_in g.N.PageSource.flash c.args.self.now) c.args.u c.row_of_key-old_row.result _ c.requires.safe.memory w
+    (may_table (ram c.args.self.now) (image_in g.N.PageSource.view.flash c.args.self.now) c.args.u c.row_of_key-old_row.result _ c.requires.safe.memory w
     (with_items_is c.args.self.now.page.body c.write_table_page.new.page (c.write_table_page.auto.page ∙ c.deref_mut.ensures.len)
     ∙ (c.write_table_page.ensures
     ∙ spelled_by c.deref_mut.result.now c.args.self.now.page.body.items c.args.self.now.geometry c.table.result.now

@@ -13,14 +13,14 @@ use Rattle.collection.proofs.engine.Engine.regain.Given as goal
 
 abbrev pub invariant-rounds : goal.invariant-rounds
 invariant-rounds g l = record {
-  acts : EngineActs {A = Unit {0}} g.N.PageSource.flash g.N.PageSource.recorded g.N.PageSource.honest g.N.PageSource.calm g.N.PageSource.failed l.fn.self l.self (Ok tt);
-  makes : MakesRoom g.N.PageSource.flash g.N.PageSource.honest g.N.PageSource.erases l.flushing l.fn.self l.self (Ok tt);
+  acts : EngineActs {A = Unit {0}} g.N.PageSource.view l.fn.self l.self (Ok tt);
+  makes : MakesRoom g.N.PageSource.view l.flushing l.fn.self l.self (Ok tt);
   unpinned : (9 ≤ free_count (ram l.self).blocks) ⊎ (l.self.pinned ≡ None);
-  count : g.N.PageSource.honest l.fn.self.nand ≡ true → IsTrue None (ram l.fn.self) (image_in g.N.PageSource.flash l.fn.self)
-      → PinHasPassed (ram l.fn.self) (image_in g.N.PageSource.flash l.fn.self) → PinIsFew 0 (ram l.fn.self) → (failures : ℕ)
+  count : g.N.PageSource.view.honest l.fn.self.nand ≡ true → IsTrue None (ram l.fn.self) (image_in g.N.PageSource.view.flash l.fn.self)
+      → PinHasPassed (ram l.fn.self) (image_in g.N.PageSource.view.flash l.fn.self) → PinIsFew 0 (ram l.fn.self) → (failures : ℕ)
       → IsFunded l.fn.self.geometry.pages failures (counts_of (ram l.fn.self).blocks) → IsFundedOn failures (ram l.fn.self) (ram l.self);
-  stops : g.N.PageSource.honest l.fn.self.nand ≡ true → IsTrue None (ram l.fn.self) (image_in g.N.PageSource.flash l.fn.self) → PinHasPassed (ram l.fn.self) (image_in g.N.PageSource.flash l.fn.self)
-      → Stops g.N.PageSource.flash g.N.PageSource.recorded (IsLeftByStop (ram l.fn.self) (image_in g.N.PageSource.flash l.fn.self) (image_in g.N.PageSource.flash l.self)) l.fn.self l.self;
+  stops : g.N.PageSource.view.honest l.fn.self.nand ≡ true → IsTrue None (ram l.fn.self) (image_in g.N.PageSource.view.flash l.fn.self) → PinHasPassed (ram l.fn.self) (image_in g.N.PageSource.view.flash l.fn.self)
+      → Stops g.N.PageSource.view (IsLeftByStop (ram l.fn.self) (image_in g.N.PageSource.view.flash l.fn.self) (image_in g.N.PageSource.view.flash l.self)) l.fn.self l.self;
 }
 
 abbrev pub decreases-rounds : goal.decreases-rounds

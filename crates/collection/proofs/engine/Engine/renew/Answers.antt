@@ -97,7 +97,7 @@ returns-in_err-follow_moved-clause-truth g c =
     let a = ram c.args.self.now in
     let b = ram c.due_record.new.self in
     let n = ram c.copy_page.new.self in
-    let y = (g.N.PageSource.flash c.copy_page.new.self.nand).image in
+    let y = (g.N.PageSource.view.flash c.copy_page.new.self.nand).image in
     let still = ap (λ f. f.image) (c.in_ok-due.ensures.looks.same honest (ok_not_bus _)) in
     let now = c.due_record.ensures.looks.only_reads.honest_is ∙ honest in
     let m = renewed_as a b _ _ c.args.row c.in-Some.found _ c.in_ok-due.due c.due_record.ensures.looks.memory still w (c.in_ok-due.ensures.truth honest w) c.in-Some.is (λ r i. IsRenewed (key_of c.in-Some.found) r i n y) (c.in_ok-copy_page.ensures.renews now) in
@@ -121,7 +121,7 @@ returns-clause-truth g c = λ honest w room.
     let a = ram c.args.self.now in
     let b = ram c.due_record.new.self in
     let n = ram c.copy_page.new.self in
-    let y = (g.N.PageSource.flash c.copy_page.new.self.nand).image in
+    let y = (g.N.PageSource.view.flash c.copy_page.new.self.nand).image in
     let still = ap (λ f. f.image) (c.in_ok-due.ensures.looks.same honest (ok_not_bus _)) in
     let now = c.due_record.ensures.looks.only_reads.honest_is ∙ honest in
     let finds = c.in_ok-due.ensures.truth honest w in
@@ -129,7 +129,7 @@ returns-clause-truth g c = λ honest w room.
     renewed_at a b _ _ c.args.row c.in-Some.found _ c.in_ok-due.due c.due_record.ensures.looks.memory still w finds c.in-Some.is n
     (ram c.follow_moved.new.self) y _ (goes_from a b n c.due_record.ensures.looks.memory c.copy_page.ensures.goes)
     (c.copy_page.ensures.keys.keys ∙ ap (λ r. keys_of r.mapping.cached) c.due_record.ensures.looks.memory) c.follow_moved.ensures.goes.geometry m
-    (λ t. subst (λ k. IsFollowedBy k n y (ram c.follow_moved.new.self) (g.N.PageSource.flash c.follow_moved.new.self.nand).image) c.key.ensures
+    (λ t. subst (λ k. IsFollowedBy k n y (ram c.follow_moved.new.self) (g.N.PageSource.view.flash c.follow_moved.new.self.nand).image) c.key.ensures
     (c.in_ok-follow_moved.ensures.truth (c.copy_page.ensures.acts.honest_is ∙ now) t))
 
 pub returns-clause-beside : goal.returns-clause-beside
@@ -176,7 +176,7 @@ returns-in_err-follow_moved-clause-stops g c =
     let finds = c.in_ok-due.ensures.truth honest w in
     let known = due_known a b _ _ c.args.row c.in-Some.found _ c.in_ok-due.due looks.memory (ap (λ f. f.image) still) w finds c.in-Some.is in
     let n = ram c.copy_page.new.self in
-    let y = (g.N.PageSource.flash c.copy_page.new.self.nand).image in
+    let y = (g.N.PageSource.view.flash c.copy_page.new.self.nand).image in
     let copied = stops_looked a b _ _ _ _ _ _ looks.memory still (looks.told honest (ok_not_bus _)) (c.in_ok-copy_page.ensures.stops now known.0 known.1 (ok_not_bus _)) in
     let m = renewed_as a b _ _ c.args.row c.in-Some.found _ c.in_ok-due.due looks.memory (ap (λ f. f.image) still) w finds c.in-Some.is (λ r i. IsRenewed (key_of c.in-Some.found) r i n y) (c.in_ok-copy_page.ensures.renews now) in
     let sized : IsSized a n = record { geometry = c.copy_page.ensures.goes.geometry ∙ ap (λ r. r.geometry) looks.memory; capacity = c.copy_page.ensures.keys.limits.capacity ∙ ap (λ r. r.mapping.capacity) looks.memory } in
@@ -192,7 +192,7 @@ returns-clause-stops g c = λ honest w ne.
     let finds = c.in_ok-due.ensures.truth honest w in
     let known = due_known a b _ _ c.args.row c.in-Some.found _ c.in_ok-due.due looks.memory (ap (λ f. f.image) still) w finds c.in-Some.is in
     let n = ram c.copy_page.new.self in
-    let y = (g.N.PageSource.flash c.copy_page.new.self.nand).image in
+    let y = (g.N.PageSource.view.flash c.copy_page.new.self.nand).image in
     let copied = stops_looked a b _ _ _ _ _ _ looks.memory still (looks.told honest (ok_not_bus _)) (c.in_ok-copy_page.ensures.stops now known.0 known.1 (ok_not_bus _)) in
     let m = renewed_as a b _ _ c.args.row c.in-Some.found _ c.in_ok-due.due looks.memory (ap (λ f. f.image) still) w finds c.in-Some.is (λ r i. IsRenewed (key_of c.in-Some.found) r i n y) (c.in_ok-copy_page.ensures.renews now) in
     let sized : IsSized a n = record { geometry = c.copy_page.ensures.goes.geometry ∙ ap (λ r. r.geometry) looks.memory; capacity = c.copy_page.ensures.keys.limits.capacity ∙ ap (λ r. r.mapping.capacity) looks.memory } in

@@ -18,7 +18,7 @@ returns-clause-cost g c = settled_cost _ _ _ _ (key_from c.args.kind c.args.numb
 
 pub returns-clause-truth : goal.returns-clause-truth
 returns-clause-truth g c = λ honest may. replaced_by c.args.kind c.args.number c.in_ok-row.row _ _ _ _ _ _ _ (c.in_ok-row.ensures.truth honest may)
-    (ap (λ n. (g.N.PageSource.flash n).image) c.settle.ensures.nand) c.put_page.ensures.acts.safe.memory c.requires.key c.put_page.ensures.goes.goes
+    (ap (λ n. (g.N.PageSource.view.flash n).image) c.settle.ensures.nand) c.put_page.ensures.acts.safe.memory c.requires.key c.put_page.ensures.goes.goes
     c.settle.ensures.settles
 
 pub returns-clause-directory : goal.returns-clause-directory
@@ -46,8 +46,8 @@ returns-clause-stops g c = λ honest may ne.
     let now = returns-clause-truth g c honest may in
     let old = c.args.self.now in
     let stops = subst
-    (λ n. LeavesOnly (g.N.PageSource.flash old.nand) (g.N.PageSource.flash n) (g.N.PageSource.recorded old.nand) (g.N.PageSource.recorded n)
-    (IsKeptOr old.geometry (g.N.PageSource.flash old.nand).image (g.N.PageSource.flash n).image)) (sym c.settle.ensures.nand)
+    (λ n. LeavesOnly (g.N.PageSource.view.flash old.nand) (g.N.PageSource.view.flash n) (g.N.PageSource.view.recorded old.nand) (g.N.PageSource.view.recorded n)
+    (IsKeptOr old.geometry (g.N.PageSource.view.flash old.nand).image (g.N.PageSource.view.flash n).image)) (sym c.settle.ensures.nand)
     (c.in_ok-row.ensures.stops honest may (ok_not_bus _)) in
     put_left (ram old) (ram c.settle.new.self) _ _ _ _ (record {
       geometry = c.settle.ensures.settles.geometry ∙ c.put_page.ensures.goes.goes.geometry;

@@ -98,7 +98,7 @@ returns-in_err-follow_moved-clause-truth g c =
     let a = ram c.args.self.now in
     let b = ram c.first_ailing.new.self in
     let n = ram c.copy_page.new.self in
-    let y = (g.N.PageSource.flash c.copy_page.new.self.nand).image in
+    let y = (g.N.PageSource.view.flash c.copy_page.new.self.nand).image in
     let still = ap (λ f. f.image) (c.in_ok-ailing.ensures.looks.same honest (ok_not_bus _)) in
     let now = c.first_ailing.ensures.looks.only_reads.honest_is ∙ honest in
     let m = copied_as a b _ _ c.in-Some.row c.in-Some.found _ c.in_ok-ailing.ailing c.requires.safe.memory c.first_ailing.ensures.looks.memory still w
@@ -123,7 +123,7 @@ returns-clause-truth g c = λ honest w room.
     let a = ram c.args.self.now in
     let b = ram c.first_ailing.new.self in
     let n = ram c.copy_page.new.self in
-    let y = (g.N.PageSource.flash c.copy_page.new.self.nand).image in
+    let y = (g.N.PageSource.view.flash c.copy_page.new.self.nand).image in
     let still = ap (λ f. f.image) (c.in_ok-ailing.ensures.looks.same honest (ok_not_bus _)) in
     let now = c.first_ailing.ensures.looks.only_reads.honest_is ∙ honest in
     let finds = c.in_ok-ailing.ensures.truth honest w in
@@ -133,7 +133,7 @@ returns-clause-truth g c = λ honest w room.
     (goes_from a b n c.first_ailing.ensures.looks.memory c.copy_page.ensures.goes)
     (c.copy_page.ensures.keys.keys ∙ ap (λ r. keys_of r.mapping.cached) c.first_ailing.ensures.looks.memory) c.follow_moved.ensures.goes.geometry
     m
-    (λ t. subst (λ k. IsFollowedBy k n y (ram c.follow_moved.new.self) (g.N.PageSource.flash c.follow_moved.new.self.nand).image) c.key.ensures
+    (λ t. subst (λ k. IsFollowedBy k n y (ram c.follow_moved.new.self) (g.N.PageSource.view.flash c.follow_moved.new.self.nand).image) c.key.ensures
     (c.in_ok-follow_moved.ensures.truth (c.copy_page.ensures.acts.honest_is ∙ now) t))
 
 pub returns-clause-beside : goal.returns-clause-beside
@@ -180,7 +180,7 @@ returns-in_err-follow_moved-clause-stops g c =
     let finds = c.in_ok-ailing.ensures.truth honest w in
     let known = ailing_known a b _ _ c.in-Some.row c.in-Some.found _ c.in_ok-ailing.ailing c.requires.safe.memory looks.memory (ap (λ f. f.image) still) w finds c.in-Some.is in
     let n = ram c.copy_page.new.self in
-    let y = (g.N.PageSource.flash c.copy_page.new.self.nand).image in
+    let y = (g.N.PageSource.view.flash c.copy_page.new.self.nand).image in
     let copied = stops_looked a b _ _ _ _ _ _ looks.memory still (looks.told honest (ok_not_bus _)) (c.in_ok-copy_page.ensures.stops now known.0 known.1 (ok_not_bus _)) in
     let m = copied_as a b _ _ c.in-Some.row c.in-Some.found _ c.in_ok-ailing.ailing c.requires.safe.memory looks.memory (ap (λ f. f.image) still) w finds c.in-Some.is (λ r i. IsMovedOut c.in-Some.row r i n y) (c.in_ok-copy_page.ensures.truth now) in
     let sized : IsSized a n = record { geometry = c.copy_page.ensures.goes.geometry ∙ ap (λ r. r.geometry) looks.memory; capacity = c.copy_page.ensures.keys.limits.capacity ∙ ap (λ r. r.mapping.capacity) looks.memory } in
@@ -196,7 +196,7 @@ returns-clause-stops g c = λ honest w ne.
     let finds = c.in_ok-ailing.ensures.truth honest w in
     let known = ailing_known a b _ _ c.in-Some.row c.in-Some.found _ c.in_ok-ailing.ailing c.requires.safe.memory looks.memory (ap (λ f. f.image) still) w finds c.in-Some.is in
     let n = ram c.copy_page.new.self in
-    let y = (g.N.PageSource.flash c.copy_page.new.self.nand).image in
+    let y = (g.N.PageSource.view.flash c.copy_page.new.self.nand).image in
     let copied = stops_looked a b _ _ _ _ _ _ looks.memory still (looks.told honest (ok_not_bus _)) (c.in_ok-copy_page.ensures.stops now known.0 known.1 (ok_not_bus _)) in
     let m = copied_as a b _ _ c.in-Some.row c.in-Some.found _ c.in_ok-ailing.ailing c.requires.safe.memory looks.memory (ap (λ f. f.image) still) w finds c.in-Some.is (λ r i. IsMovedOut c.in-Some.row r i n y) (c.in_ok-copy_page.ensures.truth now) in
     let sized : IsSized a n = record { geometry = c.copy_page.ensures.goes.geometry ∙ ap (λ r. r.geometry) looks.memory; capacity = c.copy_page.ensures.keys.limits.capacity ∙ ap (λ r. r.mapping.capacity) looks.memory } in

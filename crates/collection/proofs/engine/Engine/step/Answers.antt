@@ -13,7 +13,7 @@ returns-clause-stands g c = rw (c.noted.ensures.same, c.noted.ensures.noted) (ac
 pub returns-clause-advances : goal.returns-clause-advances
 returns-clause-advances g c = λ none. rw (c.noted.ensures.same, c.noted.ensures.noted)
     (of_pinned
-    (λ q. Advances g.N.PageSource.flash g.N.PageSource.honest g.N.PageSource.reads g.N.PageSource.erases c.args.flushing q c.args.self.now _
+    (λ q. Advances g.N.PageSource.view c.args.flushing q c.args.self.now _
     c.advance-answer.result) c.args.self.now.pinned c.unwrap-pinned.result c.unwrap-pinned.ensures
     (advances_noted c.args.flushing c.unwrap-pinned.result c.args.self.now c.advance-answer.new.self c.advance-answer.result
     c.advance-answer.ensures.advances))

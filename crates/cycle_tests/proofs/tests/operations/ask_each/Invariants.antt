@@ -2,4 +2,4 @@ use Rattle.std.proofs.Common.{◌≡◌}
 use Rattle.cycle_tests.proofs.tests.operations.ask_each.Given as goal
 
 abbrev pub invariant-loop-step : goal.invariant-loop-step
-invariant-loop-step g l = (g.N.PageSource.flash l.nand).geometry ≡ (g.N.PageSource.flash l.fn.nand).geometry
+invariant-loop-step g l = (g.N.PageSource.view.flash l.nand).geometry ≡ (g.N.PageSource.view.flash l.fn.nand).geometry

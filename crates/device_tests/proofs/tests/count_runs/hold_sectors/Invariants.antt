@@ -2,4 +2,4 @@ use Rattle.ftl_device.specs.Device.{IsDevice}
 use Rattle.device_tests.proofs.tests.count_runs.hold_sectors.Given as goal
 
 abbrev pub invariant-loop-sector : goal.invariant-loop-sector
-invariant-loop-sector g l = IsDevice g.N.PageSource.flash l.device
+invariant-loop-sector g l = IsDevice g.N.PageSource.view.flash l.device

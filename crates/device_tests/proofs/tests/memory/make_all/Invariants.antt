@@ -2,4 +2,4 @@ use Rattle.ftl_device.specs.Device.{IsDevice}
 use Rattle.device_tests.proofs.tests.memory.make_all.Given as goal
 
 abbrev pub invariant-loop-call : goal.invariant-loop-call
-invariant-loop-call g l = IsDevice g.N.PageSource.flash l.device
+invariant-loop-call g l = IsDevice g.N.PageSource.view.flash l.device

@@ -7,7 +7,7 @@ use Rattle.disk_server.proofs.device_disk.DeviceDiskSectors.clear_sector.Goals a
 
 pub returns-then-are_zeros-clause-performs : goal.returns-then-are_zeros-clause-performs
 returns-then-are_zeros-clause-performs g c =
-    zeros_cleared (contents_of g.N.PageSource.flash g.N.PageSource.honest) (holds g.N.PageSource.honest) (λ d. false) c.args.sector _ c.args.self.now.engine.geometry.sectors c.args.self.now c.read_sector.new.self c.read_sector.new.buffer
+    zeros_cleared (contents_of g.N.PageSource.view) (holds g.N.PageSource.view.honest) (λ d. false) c.args.sector _ c.args.self.now.engine.geometry.sectors c.args.self.now c.read_sector.new.self c.read_sector.new.buffer
     c.requires.within c.sector_count-count.ensures.whole (all_zeros c.read_sector.new.buffer (sym c.are_zeros.ensures ∙ c.if-are_zeros.true)) c.in-Ok.ensures.performs
 
 pub returns-then-are_zeros-clause-spares : goal.returns-then-are_zeros-clause-spares
@@ -25,7 +25,7 @@ returns-then-are_zeros-clause-asked g c = record {
 
 pub returns-else-are_zeros-clause-performs : goal.returns-else-are_zeros-clause-performs
 returns-else-are_zeros-clause-performs g c =
-    trimmed g.N.PageSource.flash g.N.PageSource.recorded g.N.PageSource.honest g.N.PageSource.calm g.N.PageSource.failed c.args.sector c.args.self.now c.read_sector.new.self c.trim_sector.new.self
+    trimmed g.N.PageSource.view c.args.sector c.args.self.now c.read_sector.new.self c.trim_sector.new.self
     c.read_sector.result c.read_sector.new.buffer c.args.self.now.engine.geometry.data_bytes c.read_sector.new.self.engine.geometry.data_bytes c.read_sector.ensures.size c.trim_sector.result
     c.read_sector.ensures.reads.only_reads.honest_is c.read_sector.ensures.stopped c.trim_sector.ensures.asked c.read_sector.ensures.performs c.trim_sector.ensures.performs
 
@@ -33,7 +33,7 @@ pub returns-else-are_zeros-clause-spares : goal.returns-else-are_zeros-clause-sp
 returns-else-are_zeros-clause-spares g c = λ h zeros.
     let fits = sector_fits c.args.sector c.args.self.now.engine.geometry.sectors c.args.self.now.engine.geometry.data_bytes _ c.requires.within c.sector_count-count.ensures.whole in
     absurd (no_zeros c.args.self.now.engine.geometry.data_bytes c.read_sector.new.buffer (sym c.are_zeros.ensures ∙ c.if-are_zeros.false)
-    (zeros_read (contents_of g.N.PageSource.flash g.N.PageSource.honest) (holds g.N.PageSource.honest) (λ d. false) (c.args.sector * c.args.self.now.engine.geometry.data_bytes) c.args.self.now.engine.geometry.data_bytes
+    (zeros_read (contents_of g.N.PageSource.view) (holds g.N.PageSource.view.honest) (λ d. false) (c.args.sector * c.args.self.now.engine.geometry.data_bytes) c.args.self.now.engine.geometry.data_bytes
     c.args.self.now c.read_sector.new.self c.read_sector.new.buffer fits c.in-Ok.ensures.performs (c.trim_sector.ensures.performs.back h) zeros))
 
 pub returns-else-are_zeros-clause-asked : goal.returns-else-are_zeros-clause-asked
@@ -48,7 +48,7 @@ returns-else-are_zeros-clause-asked g c = record {
 
 pub returns-in-Err-clause-performs : goal.returns-in-Err-clause-performs
 returns-in-Err-clause-performs g c =
-    trimmed g.N.PageSource.flash g.N.PageSource.recorded g.N.PageSource.honest g.N.PageSource.calm g.N.PageSource.failed c.args.sector c.args.self.now c.read_sector.new.self c.trim_sector-in-Err.new.self
+    trimmed g.N.PageSource.view c.args.sector c.args.self.now c.read_sector.new.self c.trim_sector-in-Err.new.self
     c.read_sector.result c.read_sector.new.buffer c.args.self.now.engine.geometry.data_bytes c.read_sector.new.self.engine.geometry.data_bytes c.read_sector.ensures.size c.trim_sector-in-Err.result
     c.read_sector.ensures.reads.only_reads.honest_is c.read_sector.ensures.stopped c.trim_sector-in-Err.ensures.asked c.read_sector.ensures.performs c.trim_sector-in-Err.ensures.performs
 
@@ -68,14 +68,14 @@ returns-in-Err-clause-asked g c = record {
 pub returns-then-are_zeros-clause-changes : goal.returns-then-are_zeros-clause-changes
 returns-then-are_zeros-clause-changes g c =
     let n = g.N.PageSource in
-    clears_one n.flash n.recorded n.honest n.calm n.programs n.erases n.failed c.args.self.now c.read_sector.new.self c.args.sector (Ok tt) (returns-then-are_zeros-clause-asked g c)
+    clears_one n.view c.args.self.now c.read_sector.new.self c.args.sector (Ok tt) (returns-then-are_zeros-clause-asked g c)
 
 pub returns-else-are_zeros-clause-changes : goal.returns-else-are_zeros-clause-changes
 returns-else-are_zeros-clause-changes g c =
     let n = g.N.PageSource in
-    clears_one n.flash n.recorded n.honest n.calm n.programs n.erases n.failed c.args.self.now c.trim_sector.new.self c.args.sector c.trim_sector.result (returns-else-are_zeros-clause-asked g c)
+    clears_one n.view c.args.self.now c.trim_sector.new.self c.args.sector c.trim_sector.result (returns-else-are_zeros-clause-asked g c)
 
 pub returns-in-Err-clause-changes : goal.returns-in-Err-clause-changes
 returns-in-Err-clause-changes g c =
     let n = g.N.PageSource in
-    clears_one n.flash n.recorded n.honest n.calm n.programs n.erases n.failed c.args.self.now c.trim_sector-in-Err.new.self c.args.sector c.trim_sector-in-Err.result (returns-in-Err-clause-asked g c)
+    clears_one n.view c.args.self.now c.trim_sector-in-Err.new.self c.args.sector c.trim_sector-in-Err.result (returns-in-Err-clause-asked g c)

@@ -6,16 +6,16 @@ use Rattle.disk_server.proofs.Calls.{flush_disk, flush_performs}
 use Rattle.disk_server.proofs.device_disk.DeviceDiskSectors.flush.Goals as goal
 
 pub invariant_of-self : goal.invariant_of-self
-invariant_of-self g c = flush_disk g.N.PageSource.flash g.N.PageSource.recorded g.N.PageSource.honest g.N.PageSource.calm g.N.PageSource.failed
+invariant_of-self g c = flush_disk g.N.PageSource.view
     c.self.inside.device c.flush.new.self c.flush.result c.self.invariant c.flush.ensures.upkeeps c.flush.ensures.device
 
 pub returns-clause-performs : goal.returns-clause-performs
 returns-clause-performs g c =
-    subst (λ r. PerformsTask (contents_of g.N.PageSource.flash g.N.PageSource.honest) (holds g.N.PageSource.honest) (λ d. false) task.Flush [] c.args.self.now
+    subst (λ r. PerformsTask (contents_of g.N.PageSource.view) (holds g.N.PageSource.view.honest) (λ d. false) task.Flush [] c.args.self.now
     (answer_from r []) c.flush.new.self) (sym c.flush_answer.ensures)
-    (subst (λ d. PerformsTask (contents_of g.N.PageSource.flash g.N.PageSource.honest) (holds g.N.PageSource.honest) (λ d. false) task.Flush [] d
+    (subst (λ d. PerformsTask (contents_of g.N.PageSource.view) (holds g.N.PageSource.view.honest) (λ d. false) task.Flush [] d
     (answer_from (flush_answer c.flush.result) []) c.flush.new.self) c.self.view_is
-    (flush_performs g.N.PageSource.flash g.N.PageSource.recorded g.N.PageSource.honest g.N.PageSource.calm g.N.PageSource.failed
+    (flush_performs g.N.PageSource.view
     c.self.inside.device c.flush.new.self c.flush.result c.self.invariant c.flush.ensures.upkeeps c.flush.ensures.geometry c.flush.ensures.device))
 
 pub returns-clause-flushes : goal.returns-clause-flushes

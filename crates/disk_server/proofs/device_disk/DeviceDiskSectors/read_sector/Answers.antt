@@ -8,7 +8,7 @@ use Rattle.disk_server.proofs.ReadCalls.{read_asks, read_disk, read_given, read_
 use Rattle.disk_server.proofs.device_disk.DeviceDiskSectors.read_sector.Goals as goal
 
 pub invariant_of-self : goal.invariant_of-self
-invariant_of-self g c = read_disk g.N.PageSource.flash g.N.PageSource.honest c.args.sector c.self.inside.device c.read.new.self c.read.result
+invariant_of-self g c = read_disk g.N.PageSource.view c.args.sector c.self.inside.device c.read.new.self c.read.result
     (page_in c.read.new.self.engine.scratch) (page_in c.read.new.self.engine.page) c.read.new.out c.self.invariant c.read.ensures.only_reads.honest_is
     c.read.ensures.stopped c.read.ensures.memory c.read.ensures.well c.read.ensures.device
 
@@ -18,13 +18,13 @@ returns-clause-performs g c =
     let same : length c.read.new.out ≡ length c.args.buffer.now = search rules in
     let whole : length c.read.new.out ≡ c.self.inside.device.engine.geometry.data_bytes =
     same ∙ c.requires.whole ∙ ap (λ d. d.engine.geometry.data_bytes) (sym c.self.view_is) in
-    subst (λ r. PerformsTask (contents_of g.N.PageSource.flash g.N.PageSource.honest) (holds g.N.PageSource.honest) (λ d. false)
+    subst (λ r. PerformsTask (contents_of g.N.PageSource.view) (holds g.N.PageSource.view.honest) (λ d. false)
     (task.Read (c.args.sector * c.args.self.now.engine.geometry.data_bytes) c.args.self.now.engine.geometry.data_bytes) [] c.args.self.now
     (answer_from r c.read.new.out) c.read.new.self) (sym c.read_answer.ensures)
-    (subst (λ d. PerformsTask (contents_of g.N.PageSource.flash g.N.PageSource.honest) (holds g.N.PageSource.honest) (λ d. false)
+    (subst (λ d. PerformsTask (contents_of g.N.PageSource.view) (holds g.N.PageSource.view.honest) (λ d. false)
     (task.Read (c.args.sector * d.engine.geometry.data_bytes) d.engine.geometry.data_bytes) [] d
     (answer_from (read_answer c.read.result) c.read.new.out) c.read.new.self) c.self.view_is
-    (read_performs g.N.PageSource.flash g.N.PageSource.honest c.args.sector c.self.inside.device c.read.new.self c.read.result
+    (read_performs g.N.PageSource.view c.args.sector c.self.inside.device c.read.new.self c.read.result
     (page_in c.read.new.self.engine.scratch) (page_in c.read.new.self.engine.page) c.read.new.out c.self.invariant c.read.ensures.only_reads.honest_is
     c.read.ensures.stopped c.read.ensures.memory within whole (invariant_of-self g c) c.read.ensures.step))
 
@@ -32,14 +32,14 @@ pub returns-clause-given : goal.returns-clause-given
 returns-clause-given g c =
     let within : c.args.sector < c.self.inside.device.engine.geometry.sectors = subst (λ d. c.args.sector < d.engine.geometry.sectors) (sym c.self.view_is) c.requires.within in
     λ h. subst (λ r. IsOk r) (sym c.read_answer.ensures)
-    (read_given g.N.PageSource.flash g.N.PageSource.honest c.args.sector c.self.inside.device c.read.new.self c.read.result
+    (read_given g.N.PageSource.view c.args.sector c.self.inside.device c.read.new.self c.read.result
     (page_in c.read.new.self.engine.scratch) (page_in c.read.new.self.engine.page) c.read.new.out c.self.invariant c.read.ensures.only_reads.honest_is
     c.read.ensures.stopped c.read.ensures.memory within c.read.ensures.step h)
 
 pub returns-clause-reads : goal.returns-clause-reads
 returns-clause-reads g c =
     let n = g.N.PageSource in
-    rw (← c.self.view_is) (read_asks n.flash n.honest c.args.sector c.self.inside.device c.read.new.self c.read.result
+    rw (← c.self.view_is) (read_asks n.view c.args.sector c.self.inside.device c.read.new.self c.read.result
     (page_in c.read.new.self.engine.scratch) (page_in c.read.new.self.engine.page) c.read.new.out c.self.invariant c.read.ensures.only_reads.honest_is
-    c.read.ensures.stopped c.read.ensures.memory n.recorded n.calm n.programs n.erases n.failed c.read.ensures.only_reads c.read.ensures.limits (invariant_of-self g c)
+    c.read.ensures.stopped c.read.ensures.memory n.view c.read.ensures.only_reads c.read.ensures.limits (invariant_of-self g c)
     c.read.ensures.same c.read.ensures.told c.read.ensures.mountable)

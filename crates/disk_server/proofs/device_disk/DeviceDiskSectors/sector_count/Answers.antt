@@ -5,5 +5,5 @@ use Rattle.disk_server.proofs.device_disk.DeviceDiskSectors.sector_count.Goals a
 
 pub returns-clause-whole : goal.returns-clause-whole
 returns-clause-whole g c =
-    subst (λ d. length (contents_of g.N.PageSource.flash g.N.PageSource.honest d).bytes ≡ d.engine.geometry.sectors * d.engine.geometry.data_bytes) c.self.view_is
-    (long g.N.PageSource.flash g.N.PageSource.honest c.self.inside.device c.self.invariant)
+    subst (λ d. length (contents_of g.N.PageSource.view d).bytes ≡ d.engine.geometry.sectors * d.engine.geometry.data_bytes) c.self.view_is
+    (long g.N.PageSource.view c.self.inside.device c.self.invariant)

@@ -2,4 +2,4 @@ use Rattle.ftl_device.specs.Device.{IsDevice}
 use Rattle.fault_tests.proofs.tests.forward.bring.Given as goal
 
 abbrev pub invariant-loop-count : goal.invariant-loop-count
-invariant-loop-count g l = IsDevice g.N.PageSource.flash l.device
+invariant-loop-count g l = IsDevice g.N.PageSource.view.flash l.device

@@ -2,4 +2,4 @@ use Rattle.std.proofs.Common.{◌≡◌}
 use Rattle.fault_tests.proofs.tests.forward.bring_all.Given as goal
 
 abbrev pub invariant-loop : goal.invariant-loop
-invariant-loop g l = (g.N.PageSource.flash l.nand).geometry ≡ l.geometry
+invariant-loop g l = (g.N.PageSource.view.flash l.nand).geometry ≡ l.geometry

@@ -14,10 +14,10 @@ use Rattle.ftl_device.proofs.device.Device.flush.Goals as goal
 pub returns-in_err-may_flush-clause-upkeeps : goal.returns-in_err-may_flush-clause-upkeeps
 returns-in_err-may_flush-clause-upkeeps g c =
     let p = err_from_is_err_and c.from_residual.result c.from_residual.ensures.1 in
-    rw (p.1, p.2) (not_upkept g.N.PageSource.flash g.N.PageSource.recorded g.N.PageSource.honest g.N.PageSource.calm g.N.PageSource.failed step.Flush c.args.self.now c.requires.device (λ reply s h. h) _ c.in_err-may_flush.ensures.may_not)
+    rw (p.1, p.2) (not_upkept g.N.PageSource.view step.Flush c.args.self.now c.requires.device (λ reply s h. h) _ c.in_err-may_flush.ensures.may_not)
 
 pub returns-clause-upkeeps : goal.returns-clause-upkeeps
-returns-clause-upkeeps g c = upkept_by g.N.PageSource.flash g.N.PageSource.recorded g.N.PageSource.honest g.N.PageSource.calm g.N.PageSource.failed
+returns-clause-upkeeps g c = upkept_by g.N.PageSource.view
     step.Flush c.args.self.now c.finish.new.self c.requires.device c.finish.ensures.device c.in_ok-may_flush.ensures.may (λ reply s h. h)
     c.flush_ready-answer.new.engine c.good-good.result c.flush_ready-answer.result c.finish.result c.finish.ensures.engine c.good-good.ensures c.finish.ensures.answer (record {
       ends = c.flush_ready-answer.ensures.ends;
@@ -30,7 +30,7 @@ returns-clause-upkeeps g c = upkept_by g.N.PageSource.flash g.N.PageSource.recor
             funded_begun (ram c.args.self.now.engine) c.args.self.now.read_only c.requires.device.read_only
                 c.in_ok-may_flush.ensures.may.writable,
           ));
-      left = λ honest w log ro flag on. flush_left_after g.N.PageSource.flash g.N.PageSource.recorded step.Flush c.args.self.now.engine
+      left = λ honest w log ro flag on. flush_left_after g.N.PageSource.view step.Flush c.args.self.now.engine
           c.flush_ready-answer.new.engine c.flush_ready-answer.new.engine log c.args.self.now.read_only ro c.flush_ready-answer.result _ _ refl refl
           c.requires.device.engine.memory c.flush_ready-answer.ensures.ends.safe.memory c.flush_ready-answer.ensures.ends.geometry flag on refl
           (c.flush_ready-answer.ensures.count (
@@ -40,7 +40,7 @@ returns-clause-upkeeps g c = upkept_by g.N.PageSource.flash g.N.PageSource.recor
                 c.in_ok-may_flush.ensures.may.writable,
           ));
       worth = λ honest w log its. flushed_out c.flush_ready-answer.result (ram c.args.self.now.engine) (ram c.flush_ready-answer.new.engine)
-          (g.N.PageSource.flash c.args.self.now.engine.nand) (g.N.PageSource.flash c.flush_ready-answer.new.engine.nand)
+          (g.N.PageSource.view.flash c.args.self.now.engine.nand) (g.N.PageSource.view.flash c.flush_ready-answer.new.engine.nand)
           c.flush_ready-answer.ensures.ends.geometry c.requires.device.engine.memory c.flush_ready-answer.ensures.ends.safe.memory w.truth
           (c.flush_ready-answer.ensures.truth honest w) (c.flush_ready-answer.ensures.flushed honest w)
           (c.flush_ready-answer.ensures.renewed honest w) log;
@@ -55,9 +55,9 @@ returns-clause-pins g c = λ none some. flush_pins c.flush_ready-answer.result c
     c.flush_ready-answer.ensures.pins none some
 
 pub returns-clause-renewed : goal.returns-clause-renewed
-returns-clause-renewed g c = flush_finishes g.N.PageSource.flash g.N.PageSource.recorded g.N.PageSource.honest g.N.PageSource.calm g.N.PageSource.failed c.args.self.now c.finish.new.self c.finish.result (returns-clause-upkeeps g c)
+returns-clause-renewed g c = flush_finishes g.N.PageSource.view c.args.self.now c.finish.new.self c.finish.result (returns-clause-upkeeps g c)
 
 pub returns-clause-programs : goal.returns-clause-programs
-returns-clause-programs g c = flushed_answer g.N.PageSource.flash g.N.PageSource.recorded g.N.PageSource.honest c.args.self.now.engine
+returns-clause-programs g c = flushed_answer g.N.PageSource.view c.args.self.now.engine
     c.flush_ready-answer.new.engine c.finish.new.self.engine c.flush_ready-answer.result c.finish.result c.good-good.result c.finish.ensures.engine
     c.finish.ensures.answer c.flush_ready-answer.ensures.programs

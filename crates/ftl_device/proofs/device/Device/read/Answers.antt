@@ -10,12 +10,12 @@ use Rattle.ftl_device.proofs.ReadLemmas.{read_step, read_done, read_well}
 use Rattle.ftl_device.proofs.device.Device.read.Goals as goal
 
 pub returns-in-Ok-clause-memory : goal.returns-in-Ok-clause-memory
-returns-in-Ok-clause-memory g c = read_done g.N.PageSource.flash c.args.self.now c.read_sector.new.self c.remember.new.self c.args.sector c.in-Ok.row
+returns-in-Ok-clause-memory g c = read_done g.N.PageSource.view.flash c.args.self.now c.read_sector.new.self c.remember.new.self c.args.sector c.in-Ok.row
     c.read_sector.new.out c.in-Ok.ensures.looks.memory c.remember.ensures.same c.in-Ok.ensures.looked_up c.in-Ok.ensures.checked
     c.remember.ensures.looks_up
 
 pub returns-in-Ok-clause-step : goal.returns-in-Ok-clause-step
-returns-in-Ok-clause-step g c = λ honest well not_bus. read_step g.N.PageSource.flash c.args.self.now c.read_sector.new.self c.remember.new.self
+returns-in-Ok-clause-step g c = λ honest well not_bus. read_step g.N.PageSource.view.flash c.args.self.now c.read_sector.new.self c.remember.new.self
     c.args.sector c.in-Ok.row c.read_sector.new.out (omega (arith, c.sectors.ensures)) c.in-Ok.ensures.looks.memory
     (c.in-Ok.ensures.looks.same honest (ok_not_bus c.in-Ok.row)) c.remember.ensures.same (c.in-Ok.ensures.truth honest well.truth)
 
@@ -24,24 +24,24 @@ returns-then-sector-sectors-clause-mountable g c = λ honest well not_bus most. 
 
 pub returns-in-Ok-clause-mountable : goal.returns-in-Ok-clause-mountable
 returns-in-Ok-clause-mountable g c = λ honest well not_bus most.
-    let kept = ap (λ d. g.N.PageSource.flash d.engine.nand) c.remember.ensures.same ∙ c.in-Ok.ensures.looks.same honest (ok_not_bus c.in-Ok.row) in
-    mountable_kept g.N.PageSource.flash c.args.self.now.engine c.remember.new.self.engine kept c.requires.device.engine.memory well.truth most
+    let kept = ap (λ d. g.N.PageSource.view.flash d.engine.nand) c.remember.ensures.same ∙ c.in-Ok.ensures.looks.same honest (ok_not_bus c.in-Ok.row) in
+    mountable_kept g.N.PageSource.view.flash c.args.self.now.engine c.remember.new.self.engine kept c.requires.device.engine.memory well.truth most
 
 pub returns-in-Ok-clause-well : goal.returns-in-Ok-clause-well
-returns-in-Ok-clause-well g c = λ honest well not_bus. read_well g.N.PageSource.flash c.args.self.now c.remember.new.self c.read_sector.new.self
+returns-in-Ok-clause-well g c = λ honest well not_bus. read_well g.N.PageSource.view.flash c.args.self.now c.remember.new.self c.read_sector.new.self
     c.in-Ok.ensures.looks.memory (c.in-Ok.ensures.looks.same honest (ok_not_bus c.in-Ok.row)) c.remember.ensures.same c.remember.ensures.moved well
     (c.remember.ensures.truth _
-    (subst (λ r. IsTrue None r (image_in g.N.PageSource.flash c.args.self.now.engine)) (sym c.in-Ok.ensures.looks.memory) well.truth)
+    (subst (λ r. IsTrue None r (image_in g.N.PageSource.view.flash c.args.self.now.engine)) (sym c.in-Ok.ensures.looks.memory) well.truth)
     (c.in-Ok.ensures.truth honest well.truth).found)
 
 -- ---- a stop inside it
 
 pub returns-then-sector-sectors-clause-survives : goal.returns-then-sector-sectors-clause-survives
 returns-then-sector-sectors-clause-survives g c = λ honest well ne. stopped_none c.args.self.now.engine.geometry
-    c.args.self.now.engine.mapping.capacity (step.Read c.args.sector) _ (image_in g.N.PageSource.flash c.args.self.now.engine) _ _
+    c.args.self.now.engine.mapping.capacity (step.Read c.args.sector) _ (image_in g.N.PageSource.view.flash c.args.self.now.engine) _ _
     (restart_law (ram c.args.self.now.engine) _ c.requires.device.engine.memory well.truth)
 
 pub returns-in-Ok-clause-survives : goal.returns-in-Ok-clause-survives
 returns-in-Ok-clause-survives g c = λ honest well ne. stopped_none c.args.self.now.engine.geometry c.args.self.now.engine.mapping.capacity
-    (step.Read c.args.sector) _ (image_in g.N.PageSource.flash c.args.self.now.engine) _ _
+    (step.Read c.args.sector) _ (image_in g.N.PageSource.view.flash c.args.self.now.engine) _ _
     (restart_law (ram c.args.self.now.engine) _ c.requires.device.engine.memory well.truth)

@@ -20,7 +20,7 @@ returns-then-can_load-clause-moved g c = moved_by c.args.self.now.engine c.cache
     c.cache_sector.ensures.refused
 
 pub returns-then-can_load-clause-device : goal.returns-then-can_load-clause-device
-returns-then-can_load-clause-device g c = device_mapped g.N.PageSource.flash c.args.self.now c.cache_sector.new.self c.requires.device
+returns-then-can_load-clause-device g c = device_mapped g.N.PageSource.view.flash c.args.self.now c.cache_sector.new.self c.requires.device
     c.cache_sector.ensures.safe
     (others_by c.args.self.now.engine c.cache_sector.new.self c.args.sector c.args.row c.cache_sector.result c.cache_sector.ensures.loaded
     c.cache_sector.ensures.refused) (returns-then-can_load-clause-moved g c)

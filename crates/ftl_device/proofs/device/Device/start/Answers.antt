@@ -13,7 +13,7 @@ geometry_is : (g h : Geometry) (claim given : Claim) → sizes_of g ≡ claim.si
 geometry_is g h claim given first second same = same_geometry g h (first ∙ (ap (λ (c : Claim). c.sizes) (sym same) ∙ sym second))
 
 pub new-requires-2-clause-same_geometry : goal.new-requires-2-clause-same_geometry
-new-requires-2-clause-same_geometry g c = geometry_is (g.N.PageSource.flash c.args.nand).geometry c.geometry-geometry.result c.args.accepted.claim c.certificate-certificate.result.now c.requires.same_geometry c.geometry-geometry.ensures.is c.certificate-certificate.ensures
+new-requires-2-clause-same_geometry g c = geometry_is (g.N.PageSource.view.flash c.args.nand).geometry c.geometry-geometry.result c.args.accepted.claim c.certificate-certificate.result.now c.requires.same_geometry c.geometry-geometry.ensures.is c.certificate-certificate.ensures
 
 pub new-requires-2-clause-rows : goal.new-requires-2-clause-rows
 new-requires-2-clause-rows g c = λ k row at.
@@ -23,8 +23,8 @@ new-requires-2-clause-rows g c = λ k row at.
 pub returns-in-Ok-new-clause-begun : goal.returns-in-Ok-new-clause-begun
 returns-in-Ok-new-clause-begun g c =
     let claim = c.args.accepted.claim in
-    let same = geometry_is (g.N.PageSource.flash c.args.nand).geometry c.geometry-geometry.result claim c.certificate-certificate.result.now c.requires.same_geometry c.geometry-geometry.ensures.is c.certificate-certificate.ensures in
-    begun_from (g.N.PageSource.flash c.args.nand).geometry c.geometry-geometry.result _ _ _ _ claim c.args.accepted.stale _ (sym same)
+    let same = geometry_is (g.N.PageSource.view.flash c.args.nand).geometry c.geometry-geometry.result claim c.certificate-certificate.result.now c.requires.same_geometry c.geometry-geometry.ensures.is c.certificate-certificate.ensures in
+    begun_from (g.N.PageSource.view.flash c.args.nand).geometry c.geometry-geometry.result _ _ _ _ claim c.args.accepted.stale _ (sym same)
     c.in-Ok.ensures.directory c.in-Ok.ensures.mapping c.in-Ok.ensures.states
     (c.next_sequence-next.ensures ∙ ap (λ (x : Claim). x.next) c.certificate-certificate.ensures) c.in-Ok-new.ensures.memory
 
@@ -36,7 +36,7 @@ returns-in-Ok-new-clause-device g c =
       read_only = same_scarce c.free-read_only.result (ram c.in-Ok-new.engine) _ c.free-read_only.ensures c.in-Ok-new.ensures.memory;
       refuses = λ e. absurd (cc (none, e));
       spent = λ e. absurd (cc (none, e));
-      calm = λ going. started_calm (g.N.PageSource.flash c.args.nand).geometry c.args.accepted.claim c.args.accepted.stale (ram c.in-Ok-new.engine) (returns-in-Ok-new-clause-begun g c);
+      calm = λ going. started_calm (g.N.PageSource.view.flash c.args.nand).geometry c.args.accepted.claim c.args.accepted.stale (ram c.in-Ok-new.engine) (returns-in-Ok-new-clause-begun g c);
     }
 
 pub returns-in-Ok-new-clause-good : goal.returns-in-Ok-new-clause-good
@@ -45,14 +45,14 @@ returns-in-Ok-new-clause-good g c =
 
 pub returns-in-Ok-new-clause-truth : goal.returns-in-Ok-new-clause-truth
 returns-in-Ok-new-clause-truth g c = λ honest accepted.
-    subst (λ n. IsTrue None (ram c.in-Ok-new.engine) (g.N.PageSource.flash n).image) (sym c.in-Ok-new.ensures.die)
-    (started_truth (g.N.PageSource.flash c.args.nand) c.args.accepted (ram c.in-Ok-new.engine) (returns-in-Ok-new-clause-begun g c) accepted)
+    subst (λ n. IsTrue None (ram c.in-Ok-new.engine) (g.N.PageSource.view.flash n).image) (sym c.in-Ok-new.ensures.die)
+    (started_truth (g.N.PageSource.view.flash c.args.nand) c.args.accepted (ram c.in-Ok-new.engine) (returns-in-Ok-new-clause-begun g c) accepted)
 
 pub returns-in-Ok-new-clause-free : goal.returns-in-Ok-new-clause-free
 returns-in-Ok-new-clause-free g c = λ honest accepted.
     same_scarce c.free-read_only.result (ram c.in-Ok-new.engine) _ c.free-read_only.ensures c.in-Ok-new.ensures.memory
-    ∙ started_free (g.N.PageSource.flash c.args.nand) c.args.accepted (ram c.in-Ok-new.engine) (returns-in-Ok-new-clause-begun g c) accepted
+    ∙ started_free (g.N.PageSource.view.flash c.args.nand) c.args.accepted (ram c.in-Ok-new.engine) (returns-in-Ok-new-clause-begun g c) accepted
 
 pub returns-in-Ok-new-clause-accounts : goal.returns-in-Ok-new-clause-accounts
 returns-in-Ok-new-clause-accounts g c = λ honest accepted.
-    started_accounts (g.N.PageSource.flash c.args.nand) c.args.accepted (ram c.in-Ok-new.engine) (returns-in-Ok-new-clause-begun g c) accepted
+    started_accounts (g.N.PageSource.view.flash c.args.nand) c.args.accepted (ram c.in-Ok-new.engine) (returns-in-Ok-new-clause-begun g c) accepted

@@ -15,10 +15,10 @@ use Rattle.ftl_device.proofs.device.Device.turn.Goals as goal
 pub returns-in_err-may_flush-clause-upkeeps : goal.returns-in_err-may_flush-clause-upkeeps
 returns-in_err-may_flush-clause-upkeeps g c =
     let p = err_from_is_err_and c.from_residual.result c.from_residual.ensures.1 in
-    rw (p.1, p.2) (not_upkept g.N.PageSource.flash g.N.PageSource.recorded g.N.PageSource.honest g.N.PageSource.calm g.N.PageSource.failed step.Turn c.args.self.now c.requires.device (λ reply s h. h) _ c.in_err-may_flush.ensures.may_not)
+    rw (p.1, p.2) (not_upkept g.N.PageSource.view step.Turn c.args.self.now c.requires.device (λ reply s h. h) _ c.in_err-may_flush.ensures.may_not)
 
 pub returns-clause-upkeeps : goal.returns-clause-upkeeps
-returns-clause-upkeeps g c = upkept_by g.N.PageSource.flash g.N.PageSource.recorded g.N.PageSource.honest g.N.PageSource.calm g.N.PageSource.failed step.Turn c.args.self.now c.finish.new.self c.requires.device c.finish.ensures.device c.in_ok-may_flush.ensures.may (λ reply s h. h)
+returns-clause-upkeeps g c = upkept_by g.N.PageSource.view step.Turn c.args.self.now c.finish.new.self c.requires.device c.finish.ensures.device c.in_ok-may_flush.ensures.may (λ reply s h. h)
     c.turn_ready-answer.new.engine c.good-good.result c.turn_ready-answer.result c.finish.result c.finish.ensures.engine c.good-good.ensures c.finish.ensures.answer (record {
       ends = c.turn_ready-answer.ensures.ends;
       no_memory = c.turn_ready-answer.ensures.memory;
@@ -30,7 +30,7 @@ returns-clause-upkeeps g c = upkept_by g.N.PageSource.flash g.N.PageSource.recor
             c.in_ok-may_flush.ensures.may.writable,
       )
           (five_free (ram c.args.self.now.engine) c.args.self.now.read_only c.requires.device.read_only c.in_ok-may_flush.ensures.may.writable);
-      left = λ honest w log ro flag on. left_after g.N.PageSource.flash g.N.PageSource.recorded step.Turn c.args.self.now.engine
+      left = λ honest w log ro flag on. left_after g.N.PageSource.view step.Turn c.args.self.now.engine
           c.turn_ready-answer.new.engine c.turn_ready-answer.new.engine log c.args.self.now.read_only ro c.turn_ready-answer.result _ _ refl refl
           c.requires.device.engine.memory c.turn_ready-answer.ensures.ends.safe.memory c.turn_ready-answer.ensures.ends.geometry flag on
           (c.turn_ready-answer.ensures.count (
@@ -56,32 +56,32 @@ pub returns-clause-rescued : goal.returns-clause-rescued
 returns-clause-rescued g c = λ honest w. done_after (λ e. HasRescued (ram c.args.self.now.engine) (ram e)) c.turn_ready-answer.new.engine
     c.finish.new.self.engine c.turn_ready-answer.result c.finish.result c.good-good.result c.finish.ensures.engine c.finish.ensures.answer
     (c.turn_ready-answer.ensures.rescued honest
-    (knows_well g.N.PageSource.flash c.args.self.now c.requires.device w c.in_ok-may_flush.ensures.may.going))
+    (knows_well g.N.PageSource.view.flash c.args.self.now c.requires.device w c.in_ok-may_flush.ensures.may.going))
 
 pub returns-clause-lowest : goal.returns-clause-lowest
-returns-clause-lowest g c = λ honest w. done_after (λ e. RescuesLowest g.N.PageSource.flash g.N.PageSource.recorded c.args.self.now.engine e)
+returns-clause-lowest g c = λ honest w. done_after (λ e. RescuesLowest g.N.PageSource.view c.args.self.now.engine e)
     c.turn_ready-answer.new.engine c.finish.new.self.engine c.turn_ready-answer.result c.finish.result c.good-good.result c.finish.ensures.engine
     c.finish.ensures.answer
     (c.turn_ready-answer.ensures.lowest honest
-    (knows_well g.N.PageSource.flash c.args.self.now c.requires.device w c.in_ok-may_flush.ensures.may.going))
+    (knows_well g.N.PageSource.view.flash c.args.self.now c.requires.device w c.in_ok-may_flush.ensures.may.going))
 
 pub returns-clause-quiet : goal.returns-clause-quiet
-returns-clause-quiet g c = λ honest w. done_after (λ e. IsQuiet g.N.PageSource.erases c.args.self.now.engine e) c.turn_ready-answer.new.engine
+returns-clause-quiet g c = λ honest w. done_after (λ e. IsQuiet g.N.PageSource.view.erases c.args.self.now.engine e) c.turn_ready-answer.new.engine
     c.finish.new.self.engine c.turn_ready-answer.result c.finish.result c.good-good.result c.finish.ensures.engine c.finish.ensures.answer
     (c.turn_ready-answer.ensures.quiet honest
-    (knows_well g.N.PageSource.flash c.args.self.now c.requires.device w c.in_ok-may_flush.ensures.may.going))
+    (knows_well g.N.PageSource.view.flash c.args.self.now c.requires.device w c.in_ok-may_flush.ensures.may.going))
 
 pub returns-clause-falls : goal.returns-clause-falls
-returns-clause-falls g c = λ honest w none. done_after (λ e. HasFallen g.N.PageSource.flash g.N.PageSource.erases c.args.self.now.engine e)
+returns-clause-falls g c = λ honest w none. done_after (λ e. HasFallen g.N.PageSource.view c.args.self.now.engine e)
     c.turn_ready-answer.new.engine c.finish.new.self.engine c.turn_ready-answer.result c.finish.result c.good-good.result c.finish.ensures.engine
     c.finish.ensures.answer
     (c.turn_ready-answer.ensures.falls honest
-    (knows_well g.N.PageSource.flash c.args.self.now c.requires.device w c.in_ok-may_flush.ensures.may.going) none)
+    (knows_well g.N.PageSource.view.flash c.args.self.now c.requires.device w c.in_ok-may_flush.ensures.may.going) none)
 
 pub returns-clause-worked : goal.returns-clause-worked
 returns-clause-worked g c = λ honest w some. done_after
-    (λ e. HasWorked (ram c.args.self.now.engine) (ram e) (g.N.PageSource.erases c.args.self.now.engine.nand) (g.N.PageSource.erases e.nand))
+    (λ e. HasWorked (ram c.args.self.now.engine) (ram e) (g.N.PageSource.view.erases c.args.self.now.engine.nand) (g.N.PageSource.view.erases e.nand))
     c.turn_ready-answer.new.engine c.finish.new.self.engine c.turn_ready-answer.result c.finish.result c.good-good.result c.finish.ensures.engine
     c.finish.ensures.answer
     (c.turn_ready-answer.ensures.worked honest
-    (knows_well g.N.PageSource.flash c.args.self.now c.requires.device w c.in_ok-may_flush.ensures.may.going) some)
+    (knows_well g.N.PageSource.view.flash c.args.self.now c.requires.device w c.in_ok-may_flush.ensures.may.going) some)

@@ -8,12 +8,12 @@ pub returns-in_err-may_change-clause-changes : goal.returns-in_err-may_change-cl
 returns-in_err-may_change-clause-changes g c =
     let p = err_from_is_err_and c.from_residual.result c.from_residual.ensures.1 in
     rw (p.1, p.2)
-    (not_changed g.N.PageSource.flash g.N.PageSource.recorded g.N.PageSource.honest g.N.PageSource.calm g.N.PageSource.failed c.args.sector
+    (not_changed g.N.PageSource.view c.args.sector
     c.args.body.now (step.Write c.args.sector c.args.body.now) c.args.self.now c.requires.device (λ reply s h. h) refl _
     c.in_err-may_change.ensures.may_not)
 
 pub returns-clause-changes : goal.returns-clause-changes
-returns-clause-changes g c = changed_by g.N.PageSource.flash g.N.PageSource.recorded g.N.PageSource.honest g.N.PageSource.calm g.N.PageSource.failed
+returns-clause-changes g c = changed_by g.N.PageSource.view
     c.args.sector c.args.body.now (step.Write c.args.sector c.args.body.now) c.args.self.now c.finish.new.self c.requires.device
     c.finish.ensures.device c.in_ok-may_change.ensures.may (λ reply s h. h) refl refl
     c.write_ready-answer.new.engine c.good-good.result c.write_ready-answer.result c.finish.result c.finish.ensures.engine c.good-good.ensures
