@@ -20,14 +20,14 @@ impl<L: ChipLink> PageSource for EitherDie<L> {
     ghost use Rattle.std.specs.Prelude.{false};
 
     ghost view = { record {
-        flash = λ d. flash_of L.die L.chip d;
-        recorded = λ d. recorded_of d;
-        honest = λ d. honest_of L.honest L.keeps d;
-        calm = λ _. false;
-        reads = λ d. reads_of d;
-        programs = λ d. programs_of d;
-        erases = λ d. erases_of d;
-        failed = λ d. failed_of d;
+      flash = λ d. flash_of L.die L.chip d;
+      recorded = λ d. recorded_of d;
+      honest = λ d. honest_of L.honest L.keeps d;
+      calm = λ _. false;
+      reads = λ d. reads_of d;
+      programs = λ d. programs_of d;
+      erases = λ d. erases_of d;
+      failed = λ d. failed_of d;
     } };
 
     fn read_page(

@@ -118,14 +118,14 @@ impl<B: Bus> Driver<B> {
 
 impl<B: Bus> PageSource for Driver<B> {
     ghost view = { record {
-        flash = λ d. flash_by B.die d;
-        recorded = λ d. Some d.told;
-        honest = λ d. B.honest d.bus;
-        calm = λ d. B.calm d.bus;
-        reads = λ d. d.reads;
-        programs = λ d. d.programs;
-        erases = λ d. d.erases;
-        failed = λ d. d.failures;
+      flash = λ d. flash_by B.die d;
+      recorded = λ d. Some d.told;
+      honest = λ d. B.honest d.bus;
+      calm = λ d. B.calm d.bus;
+      reads = λ d. d.reads;
+      programs = λ d. d.programs;
+      erases = λ d. d.erases;
+      failed = λ d. d.failures;
     } };
 
     /// Reads a page: 00h, five address cycles with column 0, 30h, then `body` and `spare` out. A fault of the bus is answered by

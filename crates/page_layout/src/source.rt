@@ -151,14 +151,14 @@ impl PageSource for ImageSlice<'_> {
     ghost use Rattle.page_layout.specs.Counter.{counted};
 
     ghost view = { record {
-        flash = λ s. s.flash;
-        recorded = λ _. None;
-        honest = λ _. true;
-        calm = λ _. false;
-        reads = λ s. s.reads;
-        programs = λ _. 0;
-        erases = λ _. 0;
-        failed = λ _. 0;
+      flash = λ s. s.flash;
+      recorded = λ _. None;
+      honest = λ _. true;
+      calm = λ _. false;
+      reads = λ s. s.reads;
+      programs = λ _. 0;
+      erases = λ _. 0;
+      failed = λ _. 0;
     } };
 
     fn read_page(&mut self, row: u32, body: &mut [u8], spare: &mut [u8]) -> Result<(), SourceFault>

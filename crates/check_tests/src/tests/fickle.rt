@@ -19,14 +19,14 @@ impl PageSource for Fickle<'_> {
     ghost use Rattle.std.specs.Prelude.{false, None};
 
     ghost view = { record {
-        flash = λ s. s.first.flash;
-        recorded = λ _. None;
-        honest = λ _. false;
-        calm = λ _. false;
-        reads = λ s. s.first.reads;
-        programs = λ _. 0;
-        erases = λ _. 0;
-        failed = λ _. 0;
+      flash = λ s. s.first.flash;
+      recorded = λ _. None;
+      honest = λ _. false;
+      calm = λ _. false;
+      reads = λ s. s.first.reads;
+      programs = λ _. 0;
+      erases = λ _. 0;
+      failed = λ _. 0;
     } };
 
     fn read_page(

@@ -211,14 +211,14 @@ impl<'a> PageSource for FailingAt<'a> {
     ghost use Rattle.std.specs.Prelude.{false, None};
 
     ghost view = { record {
-        flash = λ s. s.image.flash;
-        recorded = λ _. None;
-        honest = λ _. false;
-        calm = λ _. false;
-        reads = λ s. s.reads;
-        programs = λ _. 0;
-        erases = λ _. 0;
-        failed = λ s. s.faults;
+      flash = λ s. s.image.flash;
+      recorded = λ _. None;
+      honest = λ _. false;
+      calm = λ _. false;
+      reads = λ s. s.reads;
+      programs = λ _. 0;
+      erases = λ _. 0;
+      failed = λ s. s.faults;
     } };
 
     fn read_page(

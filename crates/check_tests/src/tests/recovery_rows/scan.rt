@@ -111,14 +111,14 @@ impl PageSource for Unreadable {
     ghost use Rattle.page_layout.specs.Raw.{still};
 
     ghost view = { record {
-        flash = λ s. still s.geometry [];
-        recorded = λ _. None;
-        honest = λ _. false;
-        calm = λ _. false;
-        reads = λ s. s.reads;
-        programs = λ _. 0;
-        erases = λ _. 0;
-        failed = λ s. s.reads;
+      flash = λ s. still s.geometry [];
+      recorded = λ _. None;
+      honest = λ _. false;
+      calm = λ _. false;
+      reads = λ s. s.reads;
+      programs = λ _. 0;
+      erases = λ _. 0;
+      failed = λ s. s.reads;
     } };
 
     fn read_page(
