@@ -51,13 +51,13 @@ module _ {N : Type 0} (view : View N) where
   pub begun_counts : BegunCountsLaw view
   begun_counts nand g c first is = (is.honest_is, is.failed_is)
 
-  pub served_record : (erases : N → ℕ) → ServedRecordLaw view erases
-  served_record erases nand g capacity c first new xs is h holds =
+  pub served_record : ServedRecordLaw view
+  served_record nand g capacity c first new xs is h holds =
       subst (λ (r : Option Recording). Records r (log_of holds.headline.run.events) (view.recorded new.engine.nand)) (begun_record nand g c first is h)
-      (run_records view erases first new holds.headline.run.events xs holds.each)
+      (run_records view first new holds.headline.run.events xs holds.each)
 
-  pub failed_call : (erases : N → ℕ) → FailedCallLaw view erases
-  failed_call erases old new x its = its.rose
+  pub failed_call : FailedCallLaw view
+  failed_call old new x its = its.rose
 
 module _ {N : Type 0} (view : View N) where
   pub served_law : ServedLaw view

@@ -93,11 +93,10 @@ abbrev pub KeepsOnError : {N : Type 0} → (view : View N) → Device N → Resu
 KeepsOnError view old result new = OnErr result (holds view.honest new ≡ true → contents_of view new ≡ contents_of view old)
 
 -- IT IS ONE CALL OF THE DEVICE, whatever the die does: a change of a sector, with all that this says, and its answer as a disk's
-pub record AsksChange {N : Type 0} (view : View N) (failed : N
-    → ℕ) (n : ℕ) (command : Command) (old : Device N) (result : Result (Unit {0}) DiskFault) (new : Device N) : Type 0 where
+pub record AsksChange {N : Type 0} (view : View N) (n : ℕ) (command : Command) (old : Device N) (result : Result (Unit {0}) DiskFault) (new : Device N) : Type 0 where
   pub answer : Result (Unit {0}) DeviceFault
   pub told : result ≡ change_answer answer
-  pub changes : Changes view failed n command old answer new
+  pub changes : Changes view n command old answer new
   pub disk : IsDisk view new
 
 -- A DIE IS LEFT AS IT WAS: it tells what it told, and mounts
@@ -127,24 +126,22 @@ pub record AsksClear {N : Type 0} (view : View N) (n : ℕ) (old : Device N) (re
       ⊎ (((answer ≡ Ok tt → given ≢ replicate old.engine.geometry.data_bytes 0) × AsksChange view n (step.Trim n) mid result new))
 
 -- ONE CHANGE OF A SECTOR, of any sector and with any answer: it is set, or cleared
-unfoldable pub ChangesOne : {N : Type 0} → (view : View N) → (old new : Device N) → Type 0
-ChangesOne flash recorded honest calm programs erases failed old new = (n : ℕ) × (result : Result (Unit {0}) DiskFault)
-    × (((command : Command) × AsksChange flash recorded honest calm failed n command old result new) ⊎ AsksClear flash recorded honest calm programs erases failed n old result new)
+unfoldable pub ChangesOne : {N : Type 0} → View N → (old new : Device N) → Type 0
+ChangesOne view old new = (n : ℕ) × (result : Result (Unit {0}) DiskFault)
+    × (((command : Command) × AsksChange view n command old result new) ⊎ AsksClear view n old result new)
 
 -- or a flush
-pub record AsksFlush {N : Type 0} (view : View N) (failed : N
-    → ℕ) (old : Device N) (result : Result (Unit {0}) DiskFault) (new : Device N) : Type 0 where
+pub record AsksFlush {N : Type 0} (view : View N) (old : Device N) (result : Result (Unit {0}) DiskFault) (new : Device N) : Type 0 where
   pub answer : Result (Unit {0}) DeviceFault
   pub told : result ≡ flush_answer answer
-  pub upkeeps : Upkeeps view failed Flush old answer new
+  pub upkeeps : Upkeeps view Flush old answer new
   pub disk : IsDisk view new
 
 -- or a turn, and where the device held its array, what the turn did
-pub record AsksTurn {N : Type 0} (view : View N) (erases failed : N
-    → ℕ) (old : Device N) (result : Result (Unit {0}) DiskFault) (new : Device N) : Type 0 where
+pub record AsksTurn {N : Type 0} (view : View N) (old : Device N) (result : Result (Unit {0}) DiskFault) (new : Device N) : Type 0 where
   pub answer : Result (Unit {0}) DeviceFault
   pub told : result ≡ rest_answer answer
-  pub upkeeps : Upkeeps view failed Turn old answer new
+  pub upkeeps : Upkeeps view Turn old answer new
   pub disk : IsDisk view new
   pub turned : OnOk answer (HasTurned (ram old.engine) (ram new.engine))
   pub idle : HasNoneAiling (ram old.engine).blocks → old.engine.pinned ≡ None → 12 ≤ free_count (ram old.engine).blocks → OnOk answer (new.engine ≡ old.engine)

@@ -5,7 +5,6 @@ use Rattle.page_layout.specs.View.{View}
 use Rattle.page_layout.specs.Counter.{counted, HasRisen}
 use Rattle.page_layout.specs.declared.geometry.Geometry.{Geometry}
 use Rattle.page_layout.specs.Page.{Image}
-use Rattle.page_layout.specs.Flash.{Flash}
 use Rattle.page_layout.specs.Geometry.{vmax}
 use Rattle.page_layout.specs.Array.{marks, array_of}
 use Rattle.page_layout.specs.Version.{AddsNoOld}
@@ -173,11 +172,11 @@ ok_map (Err fault) f h = tt
 -- ---- a collection begins
 
 -- one is pinned, of a victim worth it
-module _ {N : Type 0} (flash : N → Flash) (e f : Engine N) (block : ℕ) (is : f ≡ record e { pinned = Some (record { block = block; first = 0 }) }) where
-  pub knows_pinned : IsRam (ram e) → IsCalm (ram f) → PinHasPassed (ram f) (image_in flash f) → IsWorth 3 (ram e) block → e.mapping.moved ≡ [] → Knows (ram e) (image_in flash e) → Knows (ram f) (image_in flash f)
+module _ {N : Type 0} (view : View N) (e f : Engine N) (block : ℕ) (is : f ≡ record e { pinned = Some (record { block = block; first = 0 }) }) where
+  pub knows_pinned : IsRam (ram e) → IsCalm (ram f) → PinHasPassed (ram f) (image_in view.flash f) → IsWorth 3 (ram e) block → e.mapping.moved ≡ [] → Knows (ram e) (image_in view.flash e) → Knows (ram f) (image_in view.flash f)
   knows_pinned s calm passed worth none k = record {
     truth =
-        (let P : Engine N → Type 0 = λ z. IsTrue None (ram z) (image_in flash z) in subst P (sym is)
+        (let P : Engine N → Type 0 = λ z. IsTrue None (ram z) (image_in view.flash z) in subst P (sym is)
         (record {
           whole = k.truth.whole;
           one = k.truth.one;
@@ -204,16 +203,16 @@ module _ {N : Type 0} (flash : N → Flash) (e f : Engine N) (block : ℕ) (is :
       some_same p q e = cc
 
   -- it has less to do than is said where none is pinned
-  pub less_pinned : (erases : N → ℕ) (new : Engine N) → e.pinned ≡ None → IsRam (ram f) → IsHalfDone (ram f) (record { block = block; first = 0 }) → Knows (ram f) (image_in flash f) → HasLess flash erases f new → HasLess flash erases e new
-  less_pinned erases new none safe half k (inl rose) = inl (subst (λ n. HasRisen n (erases new.nand)) (ap (λ (z : Engine N). erases z.nand) is) rose)
-  less_pinned erases new none safe half k (inr less) =
+  pub less_pinned : (new : Engine N) → e.pinned ≡ None → IsRam (ram f) → IsHalfDone (ram f) (record { block = block; first = 0 }) → Knows (ram f) (image_in view.flash f) → HasLess view f new → HasLess view e new
+  less_pinned new none safe half k (inl rose) = inl (subst (λ n. HasRisen n (view.erases new.nand)) (ap (λ (z : Engine N). view.erases z.nand) is) rose)
+  less_pinned new none safe half k (inr less) =
       let at : f.pinned ≡ Some (record { block = block; first = 0 }) = ap (λ (z : Engine N). z.pinned) is in
-      let l : left (ram f) (image_in flash f) ≡ left_in false (ram f) (image_in flash f) block = ap (λ o. left_of o (ram f) (image_in flash f)) at in
+      let l : left (ram f) (image_in view.flash f) ≡ left_in false (ram f) (image_in view.flash f) block = ap (λ o. left_of o (ram f) (image_in view.flash f)) at in
       let few = few_more (ram f) k.few (record { block = block; first = 0 }) at in
-      let below = left_law (ram f) (image_in flash f) (record { block = block; first = 0 }) safe k.truth few in
+      let below = left_law (ram f) (image_in view.flash f) (record { block = block; first = 0 }) safe k.truth few in
       let g : f.geometry ≡ e.geometry = ap (λ (z : Engine N). z.geometry) is in
       let pages : f.geometry.pages ≡ e.geometry.pages = ap (λ (h : Geometry). h.pages) g in
-      let was : left (ram e) (image_in flash e) ≡ e.geometry.pages - 1 = ap (λ o. left_of o (ram e) (image_in flash e)) none in
+      let was : left (ram e) (image_in view.flash e) ≡ e.geometry.pages - 1 = ap (λ o. left_of o (ram e) (image_in view.flash e)) none in
       inr (omega (arith, less, l, below, pages, was))
 
   pub goes_pinned : (new : Engine N) → GoesOn (ram f) (ram new) → GoesOn (ram e) (ram new)
@@ -234,57 +233,56 @@ module _ {N : Type 0} (flash : N → Flash) (e f : Engine N) (block : ℕ) (is :
   counts_pinned r result h = (let P : Engine N → Type 0 = λ z. StepCounts (ram z) r result → StepCounts (ram e) r result in subst P (sym is) (counts_rebuilt r result) h)
 
   pub truth_pinned : (result : Result (Unit {0}) EngineFault) (r : Ram) (y : Image)
-      → MatchResult result (λ done. KeepsArray f.geometry (image_in flash f) r y)
-      (λ fault. CallRefused f.geometry (image_in flash f) r y (OfEngine fault))
-      → MatchResult result (λ done. KeepsArray e.geometry (image_in flash e) r y)
-      (λ fault. CallRefused e.geometry (image_in flash e) r y (OfEngine fault))
-  truth_pinned result r y h = (let P : Engine N → Type 0 = λ z. MatchResult result (λ done. KeepsArray z.geometry (image_in flash z) r y) (λ fault. CallRefused z.geometry (image_in flash z) r y (OfEngine fault)) in subst P is h)
+      → MatchResult result (λ done. KeepsArray f.geometry (image_in view.flash f) r y)
+      (λ fault. CallRefused f.geometry (image_in view.flash f) r y (OfEngine fault))
+      → MatchResult result (λ done. KeepsArray e.geometry (image_in view.flash e) r y)
+      (λ fault. CallRefused e.geometry (image_in view.flash e) r y (OfEngine fault))
+  truth_pinned result r y h = (let P : Engine N → Type 0 = λ z. MatchResult result (λ done. KeepsArray z.geometry (image_in view.flash z) r y) (λ fault. CallRefused z.geometry (image_in view.flash z) r y (OfEngine fault)) in subst P is h)
 
-  pub worked_pinned : (erases : N → ℕ) (new : Engine N) → HasWorked (ram f) (ram new) (erases f.nand) (erases new.nand) → HasWorked (ram e) (ram new) (erases e.nand) (erases new.nand)
-  worked_pinned erases new h = (let P : Engine N → Type 0 = λ z. HasWorked (ram z) (ram new) (erases z.nand) (erases new.nand) in subst P is h)
+  pub worked_pinned : (new : Engine N) → HasWorked (ram f) (ram new) (view.erases f.nand) (view.erases new.nand) → HasWorked (ram e) (ram new) (view.erases e.nand) (view.erases new.nand)
+  worked_pinned new h = (let P : Engine N → Type 0 = λ z. HasWorked (ram z) (ram new) (view.erases z.nand) (view.erases new.nand) in subst P is h)
 
-  module _ (view : View N) where
-    leaves_pinned : IsSafe flash e → IsSafe flash f → e.fault ≡ None → EngineLeaves {A = Unit {0}} flash view e (Ok tt) f
-    leaves_pinned was safe none = (let P : Engine N → Type 0 = λ z. IsSafe flash z → EngineLeaves {A = Unit {0}} flash view e (Ok tt) z in subst P (sym is) (λ s. record {
-      safe = s;
-      fault = none;
-      geometry = refl;
-      honest_is = refl;
-      calm_is = refl;
-      failed_is = omega arith;
-      rose = λ bus. (let no : ⊥ = cc in absurd no);
-      tells = omega arith;
-      went = λ is_honest ne. (let w = went_same (ram e) (flash e.nand) (view.recorded e.nand) in record { log = w.log; leads = w.leads; records = w.records; follows = w.follows; next = w.next; wears = w.wears; numbers = w.numbers });
-      stops = λ is_honest k ne. stops_same flash view.recorded e was k.truth;
-    }) safe)
+  leaves_pinned : IsSafe view.flash e → IsSafe view.flash f → e.fault ≡ None → EngineLeaves {A = Unit {0}} view e (Ok tt) f
+  leaves_pinned was safe none = (let P : Engine N → Type 0 = λ z. IsSafe view.flash z → EngineLeaves {A = Unit {0}} view e (Ok tt) z in subst P (sym is) (λ s. record {
+    safe = s;
+    fault = none;
+    geometry = refl;
+    honest_is = refl;
+    calm_is = refl;
+    failed_is = omega arith;
+    rose = λ bus. (let no : ⊥ = cc in absurd no);
+    tells = omega arith;
+    went = λ is_honest ne. (let w = went_same (ram e) (view.flash e.nand) (view.recorded e.nand) in record { log = w.log; leads = w.leads; records = w.records; follows = w.follows; next = w.next; wears = w.wears; numbers = w.numbers });
+    stops = λ is_honest k ne. stops_same view e was k.truth;
+  }) safe)
 
-    -- the step after it is one of the engine before
-    pub collects_pinned : (new : Engine N) (result : Result (Unit {0}) EngineFault) → IsSafe flash e → IsSafe flash f → e.fault ≡ None
-        → (Knows (ram e) (image_in flash e) → Knows (ram f) (image_in flash f))
-        → CollectsOn flash view f result new → CollectsOn flash view e result new
-    collects_pinned new result was safe going begun k = record {
-      leaves = leaves_then flash view e f new tt result (λ known w. keeps_pinned (begun w)) limits_pinned (leaves_pinned was safe going) k.leaves;
-      limits = (let P : Engine N → Type 0 = λ z. HasLimitsOf z.mapping new.mapping in subst P is k.limits);
-      calm_memory = k.calm_memory;
-      goes = goes_pinned new k.goes;
-      counts = counts_pinned (ram new) result k.counts;
-      risen = (let P : Engine N → Type 0 = λ z. OnOk result ((before : ℕ) → HasRisen before (view.erases z.nand) → HasRisen before (view.erases new.nand)) in subst P is k.risen);
-      bad = λ known w. ok_map result (bad_pinned new) (k.bad (honest_pinned ∙ known) (begun w));
-      truth = λ known w. truth_pinned result (ram new) (image_in flash new) (k.truth (honest_pinned ∙ known) (begun w));
-    }
-      where
-        honest_pinned : view.honest f.nand ≡ view.honest e.nand
-        honest_pinned = ap (λ (z : Engine N). view.honest z.nand) is
+  -- the step after it is one of the engine before
+  pub collects_pinned : (new : Engine N) (result : Result (Unit {0}) EngineFault) → IsSafe view.flash e → IsSafe view.flash f → e.fault ≡ None
+      → (Knows (ram e) (image_in view.flash e) → Knows (ram f) (image_in view.flash f))
+      → CollectsOn view f result new → CollectsOn view e result new
+  collects_pinned new result was safe going begun k = record {
+    leaves = leaves_then view e f new tt result (λ known w. keeps_pinned (begun w)) limits_pinned (leaves_pinned was safe going) k.leaves;
+    limits = (let P : Engine N → Type 0 = λ z. HasLimitsOf z.mapping new.mapping in subst P is k.limits);
+    calm_memory = k.calm_memory;
+    goes = goes_pinned new k.goes;
+    counts = counts_pinned (ram new) result k.counts;
+    risen = (let P : Engine N → Type 0 = λ z. OnOk result ((before : ℕ) → HasRisen before (view.erases z.nand) → HasRisen before (view.erases new.nand)) in subst P is k.risen);
+    bad = λ known w. ok_map result (bad_pinned new) (k.bad (honest_pinned ∙ known) (begun w));
+    truth = λ known w. truth_pinned result (ram new) (image_in view.flash new) (k.truth (honest_pinned ∙ known) (begun w));
+  }
+    where
+      honest_pinned : view.honest f.nand ≡ view.honest e.nand
+      honest_pinned = ap (λ (z : Engine N). view.honest z.nand) is
 
-        keeps_pinned : Knows (ram f) (image_in flash f) → KeepsArray e.geometry (image_in flash e) (ram f) (image_in flash f)
-        keeps_pinned k = record {
-          truth = k;
-          array = ap (λ (z : Engine N). array_of e.geometry (image_in flash z)) is;
-          versions = subst (λ (z : Engine N). AddsNoOld e.geometry (image_in flash e) (image_in flash z)) (sym is) (λ two key row at. at);
-        }
+      keeps_pinned : Knows (ram f) (image_in view.flash f) → KeepsArray e.geometry (image_in view.flash e) (ram f) (image_in view.flash f)
+      keeps_pinned k = record {
+        truth = k;
+        array = ap (λ (z : Engine N). array_of e.geometry (image_in view.flash z)) is;
+        versions = subst (λ (z : Engine N). AddsNoOld e.geometry (image_in view.flash e) (image_in view.flash z)) (sym is) (λ two key row at. at);
+      }
 
-        limits_pinned : HasLimitsOf e.mapping f.mapping
-        limits_pinned = subst (λ (z : Engine N). HasLimitsOf e.mapping z.mapping) (sym is) (record { geometry = refl; capacity = refl })
+      limits_pinned : HasLimitsOf e.mapping f.mapping
+      limits_pinned = subst (λ (z : Engine N). HasLimitsOf e.mapping z.mapping) (sym is) (record { geometry = refl; capacity = refl })
 
 -- none begins
 pub collects_none : {N : Type 0} (view : View N) (e : Engine N) → IsSafe view.flash e → e.fault ≡ None → IsCalm (ram e) → CollectsOn view e (Ok tt) e

@@ -192,9 +192,8 @@ pub record Means {N : Type 0} (flash : N → Flash) (command : Command) (old : D
 -- ---- the whole
 
 -- A CALL THAT CHANGES A SECTOR
-pub record Changes {N : Type 0} (view : View N) (failed : N
-    → ℕ) (n : ℕ) (command : Command) (old : Device N) (result : Result (Unit {0}) DeviceFault) (new : Device N) : Type 0 where
-  pub stays : Stays view failed old new
+pub record Changes {N : Type 0} (view : View N) (n : ℕ) (command : Command) (old : Device N) (result : Result (Unit {0}) DeviceFault) (new : Device N) : Type 0 where
+  pub stays : Stays view old new
   pub refuses : Refuses failed old result new
   pub refuses_sector : RefusesSector n old result new
   pub programs : ProgramsSector view n command old result new
@@ -204,9 +203,8 @@ pub record Changes {N : Type 0} (view : View N) (failed : N
   pub stale : view.honest old.engine.nand ≡ true → IsWell view.flash old → old.engine.pinned ≡ None → is_stale old.engine.geometry (image_in view.flash old.engine) n ≡ true → result ≢ Err OutOfMemory
 
 -- A CALL THAT CHANGES NO SECTOR: a flush, or a turn
-pub record Upkeeps {N : Type 0} (view : View N) (failed : N
-    → ℕ) (command : Command) (old : Device N) (result : Result (Unit {0}) DeviceFault) (new : Device N) : Type 0 where
-  pub stays : Stays view failed old new
+pub record Upkeeps {N : Type 0} (view : View N) (command : Command) (old : Device N) (result : Result (Unit {0}) DeviceFault) (new : Device N) : Type 0 where
+  pub stays : Stays view old new
   pub refuses : Refuses failed old result new
   pub refuses_upkeep : RefusesUpkeep old result new
   pub logs : view.honest old.engine.nand ≡ true → result ≢ Err BusFault → Logs view command old result new

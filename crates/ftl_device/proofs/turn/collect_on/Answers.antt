@@ -41,26 +41,26 @@ pub returns-clause-collects : goal.returns-clause-collects
 returns-clause-collects g c =
     let none = none_pinned c.args.engine.now.pinned c.is_some.result c.is_some.ensures c.if-is_some.false in
     let idle = unpinned_idle (ram c.args.engine.now) c.requires.calm none in
-    collects_pinned g.N.PageSource.view.flash c.args.engine.now c.pin.new.self c.in-Some.block c.pin.ensures.pinned g.N.PageSource.view c.step_pinned-2.new.engine c.step_pinned-2.result
+    collects_pinned g.N.PageSource.view c.args.engine.now c.pin.new.self c.in-Some.block c.pin.ensures.pinned c.step_pinned-2.new.engine c.step_pinned-2.result
     c.requires.safe c.pin.ensures.safe c.requires.going
-    (knows_pinned g.N.PageSource.view.flash c.args.engine.now c.pin.new.self c.in-Some.block c.pin.ensures.pinned c.requires.safe.memory (c.pin.ensures.calm idle) (c.pin.ensures.passed _) c.in-Some.ensures idle.moved)
+    (knows_pinned g.N.PageSource.view c.args.engine.now c.pin.new.self c.in-Some.block c.pin.ensures.pinned c.requires.safe.memory (c.pin.ensures.calm idle) (c.pin.ensures.passed _) c.in-Some.ensures idle.moved)
     c.step_pinned-2.ensures.collects
 
 pub returns-clause-rests : goal.returns-clause-rests
 returns-clause-rests g c = λ none twelve. (let scarce = c.in-Some.ensures.scarce in absurd (omega (arith, twelve, scarce)))
 
 pub returns-clause-quiet : goal.returns-clause-quiet
-returns-clause-quiet g c = λ honest k. ok_map c.step_pinned-2.result (λ w. inl (worked_pinned g.N.PageSource.view.flash c.args.engine.now c.pin.new.self c.in-Some.block c.pin.ensures.pinned g.N.PageSource.view.erases c.step_pinned-2.new.engine w)) c.step_pinned-2.ensures.worked
+returns-clause-quiet g c = λ honest k. ok_map c.step_pinned-2.result (λ w. inl (worked_pinned g.N.PageSource.view c.args.engine.now c.pin.new.self c.in-Some.block c.pin.ensures.pinned c.step_pinned-2.new.engine w)) c.step_pinned-2.ensures.worked
 
 pub returns-clause-falls : goal.returns-clause-falls
 returns-clause-falls g c = λ honest k.
     let none = none_pinned c.args.engine.now.pinned c.is_some.result c.is_some.ensures c.if-is_some.false in
     let idle = unpinned_idle (ram c.args.engine.now) c.requires.calm none in
     let calm = c.pin.ensures.calm idle in
-    let known = knows_pinned g.N.PageSource.view.flash c.args.engine.now c.pin.new.self c.in-Some.block c.pin.ensures.pinned c.requires.safe.memory calm (c.pin.ensures.passed _) c.in-Some.ensures idle.moved k in
+    let known = knows_pinned g.N.PageSource.view c.args.engine.now c.pin.new.self c.in-Some.block c.pin.ensures.pinned c.requires.safe.memory calm (c.pin.ensures.passed _) c.in-Some.ensures idle.moved k in
     ok_map c.step_pinned-2.result
     (λ h. inr
-    (less_pinned g.N.PageSource.view.flash c.args.engine.now c.pin.new.self c.in-Some.block c.pin.ensures.pinned g.N.PageSource.view.erases
+    (less_pinned g.N.PageSource.view c.args.engine.now c.pin.new.self c.in-Some.block c.pin.ensures.pinned
     c.step_pinned-2.new.engine none c.pin.ensures.safe.memory
     (pinned_half (ram c.pin.new.self) _ calm (ap (λ z. z.pinned) c.pin.ensures.pinned)) known h))
     (c.step_pinned-2.ensures.less (ap (λ z. g.N.PageSource.view.honest z.nand) c.pin.ensures.pinned ∙ honest) known)
