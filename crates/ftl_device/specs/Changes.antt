@@ -194,7 +194,7 @@ pub record Means {N : Type 0} (flash : N → Flash) (command : Command) (old : D
 -- A CALL THAT CHANGES A SECTOR
 pub record Changes {N : Type 0} (view : View N) (n : ℕ) (command : Command) (old : Device N) (result : Result (Unit {0}) DeviceFault) (new : Device N) : Type 0 where
   pub stays : Stays view old new
-  pub refuses : Refuses failed old result new
+  pub refuses : Refuses view.failed old result new
   pub refuses_sector : RefusesSector n old result new
   pub programs : ProgramsSector view n command old result new
   pub pins : LeavesUnpinned old result new
@@ -205,7 +205,7 @@ pub record Changes {N : Type 0} (view : View N) (n : ℕ) (command : Command) (o
 -- A CALL THAT CHANGES NO SECTOR: a flush, or a turn
 pub record Upkeeps {N : Type 0} (view : View N) (command : Command) (old : Device N) (result : Result (Unit {0}) DeviceFault) (new : Device N) : Type 0 where
   pub stays : Stays view old new
-  pub refuses : Refuses failed old result new
+  pub refuses : Refuses view.failed old result new
   pub refuses_upkeep : RefusesUpkeep old result new
   pub logs : view.honest old.engine.nand ≡ true → result ≢ Err BusFault → Logs view command old result new
   pub means : view.honest old.engine.nand ≡ true → IsWell view.flash old → result ≢ Err BusFault → Means view.flash command old result new
