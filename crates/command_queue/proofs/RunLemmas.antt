@@ -154,8 +154,8 @@ quiet_sound s t (Err BusFault) is = tt
 module _ {N : Type 0} (view : View N) (old new : Device N) (result : Result (Unit {0}) DeviceFault) (ne : result ≢ Err BusFault) where
   read_view : view.flash new.engine.nand ≡ view.flash old.engine.nand → new.read_only ≡ old.read_only → is_some new.engine.pinned ≡ is_some old.engine.pinned → die_in view.flash new ≡ die_in view.flash old
   read_view kept flag pin =
-      let view : Flash → Bool → Bool → DeviceView = λ f ro pinned. record { flash = f; ro = ro; pinned = pinned } in
-      ap (λ f. view f new.read_only (is_some new.engine.pinned)) kept ∙ (ap (λ ro. view (view.flash old.engine.nand) ro (is_some new.engine.pinned)) flag ∙ ap (view (view.flash old.engine.nand) old.read_only) pin)
+      let seen : Flash → Bool → Bool → DeviceView = λ f ro pinned. record { flash = f; ro = ro; pinned = pinned } in
+      ap (λ f. seen f new.read_only (is_some new.engine.pinned)) kept ∙ (ap (λ ro. seen (view.flash old.engine.nand) ro (is_some new.engine.pinned)) flag ∙ ap (seen (view.flash old.engine.nand) old.read_only) pin)
 
   pub read_happened : (n : ℕ) (bytes : List ℕ) (p q : Page)
       → ReadStep old.engine.geometry (state_in view.flash old) n (read_reply_of bytes result) (state_in view.flash new)

@@ -145,8 +145,8 @@ pub record AsksTurn {N : Type 0} (view : View N) (old : Device N) (result : Resu
   pub disk : IsDisk view new
   pub turned : OnOk answer (HasTurned (ram old.engine) (ram new.engine))
   pub idle : HasNoneAiling (ram old.engine).blocks → old.engine.pinned ≡ None → 12 ≤ free_count (ram old.engine).blocks → OnOk answer (new.engine ≡ old.engine)
-  pub quiet : holds view.honest old ≡ true → OnOk answer (IsQuiet erases old.engine new.engine)
-  pub falls : holds view.honest old ≡ true → HasNoneAiling (ram old.engine).blocks → OnOk answer (HasFallen view.flash erases old.engine new.engine)
+  pub quiet : holds view.honest old ≡ true → OnOk answer (IsQuiet view.erases old.engine new.engine)
+  pub falls : holds view.honest old ≡ true → HasNoneAiling (ram old.engine).blocks → OnOk answer (HasFallen view old.engine new.engine)
   pub rescued : holds view.honest old ≡ true → OnOk answer (HasRescued (ram old.engine) (ram new.engine))
   pub worked : holds view.honest old ≡ true → HasAiling (ram old.engine).blocks
       → OnOk answer (HasWorked (ram old.engine) (ram new.engine) (erases old.engine.nand) (erases new.engine.nand))
