@@ -149,4 +149,4 @@ pub record AsksTurn {N : Type 0} (view : View N) (old : Device N) (result : Resu
   pub falls : holds view.honest old ≡ true → HasNoneAiling (ram old.engine).blocks → OnOk answer (HasFallen view old.engine new.engine)
   pub rescued : holds view.honest old ≡ true → OnOk answer (HasRescued (ram old.engine) (ram new.engine))
   pub worked : holds view.honest old ≡ true → HasAiling (ram old.engine).blocks
-      → OnOk answer (HasWorked (ram old.engine) (ram new.engine) (erases old.engine.nand) (erases new.engine.nand))
+      → OnOk answer (HasWorked (ram old.engine) (ram new.engine) (view.erases old.engine.nand) (view.erases new.engine.nand))
