@@ -4,7 +4,7 @@ use Rattle.std.specs.Io.KnownBytes.{Appends}
 use Rattle.request_stream.specs.Frames.{AppendsPart}
 use Rattle.commands.specs.declared.text.CommandFault.{CommandFault}
 use Rattle.commands.specs.declared.text.ServeStop.{ServeStop}
-use Rattle.commands.specs.Files.{Stored, written, unwritten, with_store}
+use Rattle.commands.specs.Files.{Stored, written_file, unwritten_file, with_store}
 use Rattle.commands.specs.Lines.{IsUnprinted}
 use Rattle.commands.specs.Text.{IsCommandFaultTold, told_line, status_of}
 use Rattle.commands.specs.Serve.{EndsServing}
@@ -26,7 +26,7 @@ UnprintedLaw = (line before : List ℕ) (after : Option (List ℕ)) (stop : Comm
 
 -- A STORE THAT FAILED is told as not done
 abbrev pub FailedStoreLaw : Type 0
-FailedStoreLaw = (path bytes : List ℕ) → (unwritten path bytes).done ≡ false
+FailedStoreLaw = (path bytes : List ℕ) → (unwritten_file path bytes).done ≡ false
 
 -- STORES STAND IN THEIR ORDER, the latest last
 abbrev pub StoresInOrderLaw : Type 0
@@ -35,4 +35,4 @@ StoresInOrderLaw = (earlier : List Stored) (last : Stored) → with_store (Some 
 -- A SERVER THAT IS TOLD AS DONE was not stopped
 abbrev pub UnstoredLaw : Type 0
 UnstoredLaw = (path image : List ℕ) (how : Option ServeStop) (before after : Option (List Stored)) → EndsServing path image how before after (Ok tt)
-    → (how ≡ None) × (after ≡ with_store before (written path image))
+    → (how ≡ None) × (after ≡ with_store before (written_file path image))

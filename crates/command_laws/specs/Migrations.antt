@@ -27,7 +27,7 @@ use Rattle.command_words.specs.declared.words.ServeWords.{ServeWords}
 use Rattle.commands.specs.declared.files.FileFault.{FileFault}
 use Rattle.commands.specs.declared.text.CommandFault.{CommandFault}
 use Rattle.commands.specs.Check.{AsksForCapacity}
-use Rattle.commands.specs.Files.{Left, Stored, with_store, written, unwritten}
+use Rattle.commands.specs.Files.{Left, Stored, with_store, written_file, unwritten_file}
 use Rattle.commands.specs.Migrate.{CallsMigrate, DoesMigrate, EndsShort, MigratesDie, migrated_line}
 use Rattle.commands.specs.Serve.{Driver, bad_in, checked_words, flash_behind, recorded_of}
 use Rattle.commands.specs.Text.{device_words, line_of}
@@ -54,14 +54,14 @@ TellsRefusal refused stop = (more : List ℕ) × (line_of stop ≡ codes "refuse
 
 -- one file was handed over to be written after the others, whether it was, or not, or none was
 abbrev pub HasTried : List ℕ → List ℕ → Option (List Stored) → Option (List Stored) → Type 0
-HasTried path image before after = (after ≡ with_store before (written path image)) ⊎ (after ≡ with_store before (unwritten path image)) ⊎ (after ≡ before)
+HasTried path image before after = (after ≡ with_store before (written_file path image)) ⊎ (after ≡ with_store before (unwritten_file path image)) ⊎ (after ≡ before)
 
 -- HOW IT ENDS SHORT: a call that was refused is told, and the image is stored all the same, or that is tried; where none was, it ends short since the
 -- image could not be stored
 abbrev pub ShortLaw : Type 0
 ShortLaw = (path image : List ℕ) (came : Result ℕ DeviceFault) (before after : Option (List Stored)) (stop : CommandFault) → EndsShort path image came before after stop
     → ((refused : DeviceFault) → came ≡ Err refused → TellsRefusal refused stop × HasTried path image before after)
-    × ((count : ℕ) → came ≡ Ok count → (after ≡ with_store before (unwritten path image)) ⊎ (after ≡ before))
+    × ((count : ℕ) → came ≡ Ok count → (after ≡ with_store before (unwritten_file path image)) ⊎ (after ≡ before))
 
 -- the words ask for this geometry and capacity, and a load of IMAGE may answer these bytes
 abbrev pub ReadsImage : {F : Type 0} → (F → List ℕ → Result (List ℕ) FileFault → Type 0) → F → ServeWords → Geometry → ℕ → List ℕ → Type 0
@@ -72,7 +72,7 @@ abbrev pub MigrateDoneLaw : {F : Type 0} → (F → List ℕ → Result (List �
 MigrateDoneLaw {F} gives = (store : F) (words : ServeWords) (before after : Left) → DoesMigrate (gives store) words before after (Ok tt)
     → (g : Geometry) × (capacity : ℕ) × (bytes image : List ℕ) × (count : ℕ) × ReadsImage gives store words g capacity bytes
     × (array_of g (raw_image g image) ≡ array_of g (raw_image g bytes)) × ((key : Key) → is_old (raw_image g image) key ≡ false)
-    × (after.stores ≡ with_store before.stores (written words.output.now image)) × Appends before.out after.out (migrated_line count)
+    × (after.stores ≡ with_store before.stores (written_file words.output.now image)) × Appends before.out after.out (migrated_line count)
 
 -- ONE THAT IS NOT DONE has left all as it was, or it has run: then an image with the array of IMAGE was stored under OUT, or that was tried
 abbrev pub MigrateStopsLaw : {F : Type 0} → (F → List ℕ → Result (List ℕ) FileFault → Type 0) → Type 0

@@ -9,7 +9,7 @@ use Rattle.ftl_device.specs.declared.device.Device.{Device}
 use Rattle.ftl_device.specs.declared.fault.DeviceFault.{DeviceFault}
 use Rattle.command_queue.specs.declared.command.Call.{Call}
 use Rattle.ftl_device.specs.Device.{IsDevice}
-use Rattle.command_queue.specs.Commands.{command_of, told, HasRoom, IsWhole, AreWhole, AreAnswered, KeepsBytes, HasKept}
+use Rattle.command_queue.specs.Commands.{command_of, told_command, HasRoom, IsWhole, AreWhole, AreAnswered, KeepsBytes, HasKept}
 use Rattle.command_queue.specs.Exchanges.{Exchange, exchange_of, exchanges_of}
 use Rattle.command_queue.specs.Commands.{HaveKept}
 use Rattle.command_queue.specs.Tells.{Tells}
@@ -61,7 +61,7 @@ kept_all (suc done) (o ∷ os) (n ∷ ns) all kept = (kept.0, kept_all done os n
 pub record IsRunning {N : Type 0} (view : View N) (old now : Device N) (before calls : List Call) (done : ℕ) : Type 0 where
   pub was_told : WasTold view old (exchanges_of (take done calls)) now
   pub whole : AreWhole old.engine.geometry calls
-  pub told_is : map told calls ≡ map told before
+  pub told_is : map told_command calls ≡ map told_command before
   pub answered : AreAnswered (take done calls)
   pub kept : HaveKeptSo done before calls
 
@@ -81,14 +81,14 @@ module _ {N : Type 0} (view : View N) (old now new : Device N) (before calls : L
     (safe : IsDevice view.flash old) (running : IsRunning view old now before calls done) (at : slice_get calls done ≡ Some call) (below : done < length calls)
     (command_is : after.command ≡ call.command) (replied : after.reply ≡ Some result)
     (bytes : List ℕ) (bytes_are : after.bytes.items ≡ bytes) (room : HasRoom now.engine.geometry after.command bytes)
-    (tells : Tells view now (record { command = told after; result = result; bytes = bytes }) new)
-    (kept : KeepsBytes (told after) result call.bytes.items bytes) where
+    (tells : Tells view now (record { command = told_command after; result = result; bytes = bytes }) new)
+    (kept : KeepsBytes (told_command after) result call.bytes.items bytes) where
   its_take : take (done + 1) (set calls done after) ≡ take done calls ++ after ∷ []
   its_take = take_more_set calls done after below
 
-  its_exchange : exchange_of after ≡ record { command = told after; result = result; bytes = bytes }
+  its_exchange : exchange_of after ≡ record { command = told_command after; result = result; bytes = bytes }
   its_exchange =
-      let make : Result (Unit {0}) DeviceFault → List ℕ → Exchange = λ r bs. record { command = told after; result = r; bytes = bs } in
+      let make : Result (Unit {0}) DeviceFault → List ℕ → Exchange = λ r bs. record { command = told_command after; result = r; bytes = bs } in
       ap (λ o. make (unwrap_or o (Ok tt)) after.bytes.items) replied ∙ ap (make result) bytes_are
 
   told_on : WasTold view old (exchanges_of (take done calls ++ after ∷ [])) new
@@ -99,13 +99,13 @@ module _ {N : Type 0} (view : View N) (old now new : Device N) (before calls : L
   its_bytes : HasKept call after
   its_bytes r is =
       let same : r ≡ result = (let both : Some r ≡ Some result = sym is ∙ replied in cc) in
-      subst (λ bs. KeepsBytes (told after) r call.bytes.items bs) (sym bytes_are) (subst (λ x. KeepsBytes (told after) x call.bytes.items bytes) (sym same) kept)
+      subst (λ bs. KeepsBytes (told_command after) r call.bytes.items bs) (sym bytes_are) (subst (λ x. KeepsBytes (told_command after) x call.bytes.items bytes) (sym same) kept)
 
   pub running_more : IsRunning view old new before (set calls done after) (done + 1)
   running_more = record {
     was_told = subst (λ (cs : List Call). WasTold view old (exchanges_of cs) new) (sym its_take) told_on;
     whole = all_set (IsWhole old.engine.geometry) calls done after (subst (λ bs. HasRoom old.engine.geometry after.command bs) (sym bytes_are) (subst (λ (g : Geometry). HasRoom g after.command bytes) running.was_told.calls.sized room)) running.whole;
-    told_is = map_set told calls done call after at (ap command_of command_is) ∙ running.told_is;
+    told_is = map_set told_command calls done call after at (ap command_of command_is) ∙ running.told_is;
     answered = subst AreAnswered (sym its_take) (all_more (λ (c : Call). IsSome c.reply) (take done calls) after running.answered (subst IsSome (sym replied) refl));
     kept = subst (λ n. HaveKeptSo n before (set calls done after)) (let on : suc done ≡ done + 1 = omega arith in on) (kept_more done before calls call after at its_bytes running.kept);
   }

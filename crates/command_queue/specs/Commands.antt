@@ -47,8 +47,8 @@ is_turn step.Turn = true
 -- ---- calls
 
 -- a call of a list, once it was answered
-abbrev pub told : Call → step.Command
-told call = command_of call.command
+abbrev pub told_command : Call → step.Command
+told_command call = command_of call.command
 
 -- the room that a call begins with, for the bytes of a read
 abbrev pub room_for : Geometry → Command → List ℕ
@@ -86,7 +86,7 @@ KeepsBytes step.Turn result old new = new ≡ old
 
 -- a call before and after it was told
 abbrev pub HasKept : Call → Call → Type 0
-HasKept old new = ForSome new.reply (λ result. KeepsBytes (told new) result old.bytes.items new.bytes.items)
+HasKept old new = ForSome new.reply (λ result. KeepsBytes (told_command new) result old.bytes.items new.bytes.items)
 
 abbrev pub HaveKept : List Call → List Call → Type 0
 HaveKept old new = AllZip HasKept old new

@@ -8,7 +8,7 @@ use Rattle.ftl_device.specs.declared.fault.DeviceFault.{DeviceFault}
 use Rattle.ftl_device.specs.declared.fault.DeviceFault.TheVariants.{OutOfRange, ReadOnly, SequenceSpent, OutOfMemory, Damaged, BusFault}
 use Rattle.command_queue.specs.declared.command.Call.{Call}
 use Rattle.ftl_device.specs.Calls.{reply_of, read_reply_of}
-use Rattle.command_queue.specs.Commands.{told}
+use Rattle.command_queue.specs.Commands.{told_command}
 
 -- what was answered to it: a read that is done gives these bytes
 abbrev pub answer_to : step.Command → List ℕ → Result (Unit {0}) DeviceFault → Reply
@@ -34,7 +34,7 @@ abbrev pub replies_in : List Exchange → List Reply
 replies_in xs = map reply_in xs
 
 abbrev pub exchange_of : Call → Exchange
-exchange_of call = record { command = told call; result = unwrap_or call.reply (Ok tt); bytes = call.bytes.items }
+exchange_of call = record { command = told_command call; result = unwrap_or call.reply (Ok tt); bytes = call.bytes.items }
 
 abbrev pub exchanges_of : List Call → List Exchange
 exchanges_of calls = map exchange_of calls

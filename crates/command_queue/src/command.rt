@@ -1,6 +1,6 @@
 //! Commands, and calls that are answered.
 ghost use Rattle.std.specs.Prelude.{◌≡◌, None, IfOk};
-ghost use Rattle.command_queue.specs.Commands.{room_for, told};
+ghost use Rattle.command_queue.specs.Commands.{room_for, told_command};
 
 use ftl_device::DeviceFault;
 use page_layout::geometry::Geometry;

@@ -7,7 +7,7 @@ ghost use Rattle.certificate.specs.Claim.{sizes_of};
 ghost use Rattle.ftl_device.specs.Device.{IsDevice};
 ghost use Rattle.ftl_device.specs.Calls.{stop_of, IsWell};
 ghost use Rattle.ftl_device.specs.Changes.{LeavesUnpinned};
-ghost use Rattle.command_queue.specs.Commands.{command_of, is_turn, told, HasRoom, AreWhole, AreAnswered};
+ghost use Rattle.command_queue.specs.Commands.{command_of, is_turn, told_command, HasRoom, AreWhole, AreAnswered};
 ghost use Rattle.command_queue.specs.Exchanges.{exchanges_of, AreKnown};
 ghost use Rattle.command_queue.specs.Commands.{KeepsBytes, HaveKept};
 ghost use Rattle.command_queue.specs.Exchanges.{StopsDevice, StaysStopped};
@@ -102,7 +102,7 @@ pub fn run<N: Nand>(device: &mut Device<N>, calls: &mut [Call<'_>])
     ensures calm { N.view.calm device.new.engine.nand ≡ N.view.calm device.old.engine.nand }
     ensures told { WasTold N.view device.old (exchanges_of calls.new) device.new }
     ensures whole { AreWhole device.old.engine.geometry calls.new }
-    ensures commands { map told calls.new ≡ map told calls.old }
+    ensures commands { map told_command calls.new ≡ map told_command calls.old }
     ensures answered { AreAnswered calls.new }
     ensures kept { HaveKept calls.old calls.new }
 {
@@ -135,7 +135,7 @@ pub fn run_accepted<'a, N: Nand>(
     requires same_geometry { sizes_of (N.view.flash nand).geometry ≡ accepted.claim.sizes }
     requires whole { AreWhole (N.view.flash nand).geometry calls.old }
     ensures device { IfOk result (IsDevice N.view.flash) }
-    ensures commands { map told calls.new ≡ map told calls.old }
+    ensures commands { map told_command calls.new ≡ map told_command calls.old }
     ensures answered { OnOk result (AreAnswered calls.new) }
     ensures kept { OnOk result (HaveKept calls.old calls.new) }
     ensures calm { IfOk result (λ d. N.view.calm d.engine.nand ≡ N.view.calm nand) }

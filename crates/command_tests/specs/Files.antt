@@ -2,11 +2,11 @@
 use Rattle.std.specs.Prelude.{◌≡◌, ◌≢◌, ◌⊎◌, ℕ, List, Some, slice_get, Result, Ok, Err}
 use Rattle.commands.specs.declared.files.FileFault.{FileFault}
 use Rattle.commands.specs.declared.files.FileFault.TheVariants.{Failed, OutOfMemory}
-use Rattle.commands.specs.Files.{Stored, written}
+use Rattle.commands.specs.Files.{Stored, written_file}
 
 -- one of the files has this path and these bytes, and was written
 abbrev pub HasFile : List Stored → List ℕ → List ℕ → Type 0
-HasFile files path bytes = (at : ℕ) × (slice_get files at ≡ Some (written path bytes))
+HasFile files path bytes = (at : ℕ) × (slice_get files at ≡ Some (written_file path bytes))
 
 -- none of them has this path
 abbrev pub LacksFile : List Stored → List ℕ → Type 0

@@ -28,7 +28,7 @@ use Rattle.page_layout.specs.Counter.{HasRisen}
 use Rattle.command_words.specs.declared.words.ServeWords.{ServeWords}
 use Rattle.commands.specs.declared.text.CommandFault.{CommandFault}
 use Rattle.commands.specs.Check.{AsksForCapacity, IsSpelled}
-use Rattle.commands.specs.Files.{Gives, Left, LeavesUntouched, with_store, written}
+use Rattle.commands.specs.Files.{Gives, Left, LeavesUntouched, with_store, written_file}
 use Rattle.commands.specs.Lines.{IsUnprinted}
 use Rattle.commands.specs.Steady.{has_spared}
 use Rattle.commands.specs.Serve.{Driver, HasClaim, bad_in, checked_words, erases_of, failures_of, flash_behind, is_calm_as, is_honest, programs_of, recorded_of}
@@ -55,7 +55,7 @@ falls_short gives words before after result stop image came is has short keeps =
 
 -- the printing, after all that came before it
 pub prints : (gives : Gives) (words : ServeWords) (before after : Left) (result : Result (Unit {0}) CommandFault) (image : List ℕ) (count : ℕ) (came : Result ℕ DeviceFault) → came ≡ Ok count
-    → HasMigrated gives words image came → after.stores ≡ with_store before.stores (written words.output.now image)
+    → HasMigrated gives words image came → after.stores ≡ with_store before.stores (written_file words.output.now image)
     → OnOk result (Appends before.out after.out (migrated_line count)) → IfErr result (IsUnprinted (migrated_line count) before.out after.out) → DoesMigrate gives words before after result
 prints gives words before after result image count came is has stored ok failed = go result ok failed
   where

@@ -6,7 +6,7 @@ use Rattle.commands.specs.declared.mount_image.Mounted.{Mounted}
 use Rattle.commands.specs.declared.text.CommandFault.{CommandFault}
 use Rattle.command_words.specs.declared.words.CertificateWords.{CertificateWords}
 use Rattle.commands.specs.Check.{AsksForCapacity}
-use Rattle.commands.specs.Files.{Gives, IsUnstored, Left, LeavesUntouched, with_store, written}
+use Rattle.commands.specs.Files.{Gives, IsUnstored, Left, LeavesUntouched, with_store, written_file}
 use Rattle.commands.specs.Lines.{IsUnprinted}
 use Rattle.commands.specs.Mount.{DoesMount, HasMounted, IsMountedAs, IsUncertified, Stores, line_of, mounted_line}
 
@@ -34,7 +34,7 @@ unstored gives words g capacity bytes spelled m before after result stop asked g
 -- the printing, after all that came before it
 pub prints : (gives : Gives) (words : CertificateWords) (g : Geometry) (capacity : ℕ) (bytes spelled : List ℕ) (m : Mounted) (before after : Left) (result : Result (Unit {0}) CommandFault)
     → AsksForCapacity words g capacity → gives words.image.now (Ok bytes) → IsMountedAs g capacity bytes m → spelled ≡ m.written.items
-    → after.stores ≡ with_store before.stores (written words.certificate.now spelled)
+    → after.stores ≡ with_store before.stores (written_file words.certificate.now spelled)
     → OnOk result (Appends before.out after.out (mounted_line m.next m.good m.stale)) → IfErr result (IsUnprinted (mounted_line m.next m.good m.stale) before.out after.out)
     → DoesMount gives words before after result
 prints gives words g capacity bytes spelled m before after result asked given mounted same stored ok failed = go result ok failed
@@ -43,7 +43,7 @@ prints gives words g capacity bytes spelled m before after result asked given mo
     has = mounted_as gives words g capacity bytes m asked given mounted
 
     stores : Stores has before after
-    stores = stored ∙ ap (λ b. with_store before.stores (written words.certificate.now b)) (same ∙ mounted.written_is)
+    stores = stored ∙ ap (λ b. with_store before.stores (written_file words.certificate.now b)) (same ∙ mounted.written_is)
 
     line : mounted_line m.next m.good m.stale ≡ line_of has
     line = λ i. mounted_line (mounted.next_is i) (mounted.good_is i) (mounted.stale_is i)

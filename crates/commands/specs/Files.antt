@@ -22,11 +22,11 @@ pub record Stored : Type 0 where
   pub bytes : List ℕ
   pub done : Bool
 
-abbrev pub written : List ℕ → List ℕ → Stored
-written path bytes = record { path = path; bytes = bytes; done = true }
+abbrev pub written_file : List ℕ → List ℕ → Stored
+written_file path bytes = record { path = path; bytes = bytes; done = true }
 
-abbrev pub unwritten : List ℕ → List ℕ → Stored
-unwritten path bytes = record { path = path; bytes = bytes; done = false }
+abbrev pub unwritten_file : List ℕ → List ℕ → Stored
+unwritten_file path bytes = record { path = path; bytes = bytes; done = false }
 
 -- the stores so far, where they are known, and then one more
 abbrev pub with_store : Option (List Stored) → Stored → Option (List Stored)
@@ -34,13 +34,13 @@ with_store stores last = option_map (λ known. known ++ (last ∷ [])) stores
 
 -- The stores after one, by its answer. For want of memory none was begun.
 abbrev pub stores_after : Option (List Stored) → List ℕ → List ℕ → Result (Unit {0}) FileFault → Option (List Stored)
-stores_after stores path bytes (Ok done) = with_store stores (written path bytes)
-stores_after stores path bytes (Err file.Failed) = with_store stores (unwritten path bytes)
+stores_after stores path bytes (Ok done) = with_store stores (written_file path bytes)
+stores_after stores path bytes (Err file.Failed) = with_store stores (unwritten_file path bytes)
 stores_after stores path bytes (Err file.OutOfMemory) = stores
 
 -- the fault says that the path's file was not written, for itself or for want of memory
 abbrev pub IsUnstored : List ℕ → List ℕ → Option (List Stored) → Option (List Stored) → CommandFault → Type 0
-IsUnstored text bytes before after (fault.Write path) = (path.now ≡ text) × (after ≡ with_store before (unwritten text bytes))
+IsUnstored text bytes before after (fault.Write path) = (path.now ≡ text) × (after ≡ with_store before (unwritten_file text bytes))
 IsUnstored text bytes before after fault.OutOfMemory = after ≡ before
 IsUnstored text bytes before after _ = ⊥
 
@@ -49,8 +49,8 @@ pub record Left : Type 0 where
   pub stores : Option (List Stored)
   pub out : Option (List ℕ)
 
-abbrev pub left : Option (List Stored) → Option (List ℕ) → Left
-left stores out = record { stores = stores; out = out }
+abbrev pub left_behind : Option (List Stored) → Option (List ℕ) → Left
+left_behind stores out = record { stores = stores; out = out }
 
 -- nothing was stored and nothing written
 abbrev pub LeavesUntouched : Left → Left → Type 0

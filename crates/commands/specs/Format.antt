@@ -22,7 +22,7 @@ use Rattle.commands.specs.declared.text.CommandFault.{CommandFault}
 use Rattle.commands.specs.declared.text.CommandFault.TheVariants as fault
 use Rattle.command_words.specs.declared.words.FileWords.{FileWords}
 use Rattle.program_words.specs.Numbers.{SpellsGeometry}
-use Rattle.commands.specs.Files.{Gives, Left, LeavesUntouched, with_store, written, unwritten}
+use Rattle.commands.specs.Files.{Gives, Left, LeavesUntouched, with_store, written_file, unwritten_file}
 
 -- ---- an image in place
 
@@ -78,14 +78,14 @@ pub record HasFormatted (gives : Gives) (words : FileWords) (after : List ℕ) (
 -- it could not be stored under OUT, and nothing was printed; or it was stored, and of the line a part was printed, and not all of it
 abbrev pub IsUnwritten : FileWords → List ℕ → ℕ → Left → Left → List ℕ → Type 0
 IsUnwritten words bytes good before after path =
-    ((path ≡ words.output.now) × (after.stores ≡ with_store before.stores (unwritten words.output.now bytes)) × Keeps before.out after.out)
-    ⊎ ((path ≡ codes "-") × (after.stores ≡ with_store before.stores (written words.output.now bytes)) × AppendsPart before.out after.out (good_line good))
+    ((path ≡ words.output.now) × (after.stores ≡ with_store before.stores (unwritten_file words.output.now bytes)) × Keeps before.out after.out)
+    ⊎ ((path ≡ codes "-") × (after.stores ≡ with_store before.stores (written_file words.output.now bytes)) × AppendsPart before.out after.out (good_line good))
 
 -- What the command came to, with the stores and the bytes of standard output before and after. Each fault says that nothing
 -- before it in the order failed: the geometry, the file, its length, the die, its format, the store under OUT, and then the line.
 abbrev pub DoesFormat : Gives → FileWords → Left → Left → Result (Unit {0}) CommandFault → Type 0
 DoesFormat gives words before after (Ok done) = (bytes : List ℕ) × (good : ℕ) × HasFormatted gives words bytes good
-    × (after.stores ≡ with_store before.stores (written words.output.now bytes)) × Appends before.out after.out (good_line good)
+    × (after.stores ≡ with_store before.stores (written_file words.output.now bytes)) × Appends before.out after.out (good_line good)
 DoesFormat gives words before after (Err (fault.BadNumber word)) = LeavesUntouched before after
     × (word.now ≡ words.geometry.now) × ((numbers : GeometryNumbers) → ¬ SpellsGeometry words.geometry.now numbers)
 DoesFormat gives words before after (Err (fault.Geometry broken)) = LeavesUntouched before after × ((numbers : GeometryNumbers) × SpellsGeometry words.geometry.now numbers

@@ -35,7 +35,7 @@ use Rattle.command_words.specs.declared.words.ServeWords.{ServeWords}
 use Rattle.commands.specs.declared.text.CommandFault.{CommandFault}
 use Rattle.commands.specs.declared.text.CommandFault.TheVariants as fault
 use Rattle.commands.specs.Check.{HasNoCertificate, IsImageUnopened, IsUnasked, IsWhole, LacksCertificate}
-use Rattle.commands.specs.Files.{Gives, Left, LeavesUntouched, Stored, with_store, written, unwritten}
+use Rattle.commands.specs.Files.{Gives, Left, LeavesUntouched, Stored, with_store, written_file, unwritten_file}
 use Rattle.commands.specs.Lines.{IsUnprinted}
 use Rattle.commands.specs.Serve.{Driver, HasClaim, IsDieUnmade, bad_in, checked_words}
 use Rattle.commands.specs.Serve.{erases_of, failures_of, flash_behind, is_calm_as, is_honest, programs_of, recorded_of}
@@ -175,10 +175,10 @@ IsDone came = (count : ℕ) × (came ≡ Ok count)
 -- How it ended after the run: the device's refusal is told, and the image was stored all the same; or it could not be stored, and that is told, after
 -- the refusal where there is one.
 abbrev pub EndsShort : List ℕ → List ℕ → Result ℕ DeviceFault → Option (List Stored) → Option (List Stored) → CommandFault → Type 0
-EndsShort path image came before after (fault.Migrate refused) = (came ≡ Err refused) × (after ≡ with_store before (written path image))
+EndsShort path image came before after (fault.Migrate refused) = (came ≡ Err refused) × (after ≡ with_store before (written_file path image))
 EndsShort path image came before after (fault.MigrateUnstored refused text) = (came ≡ Err refused) × (text.now ≡ path)
-    × ((after ≡ with_store before (unwritten path image)) ⊎ (after ≡ before))
-EndsShort path image came before after (fault.Write text) = IsDone came × (text.now ≡ path) × (after ≡ with_store before (unwritten path image))
+    × ((after ≡ with_store before (unwritten_file path image)) ⊎ (after ≡ before))
+EndsShort path image came before after (fault.Write text) = IsDone came × (text.now ≡ path) × (after ≡ with_store before (unwritten_file path image))
 EndsShort path image came before after fault.OutOfMemory = IsDone came × (after ≡ before)
 EndsShort path image came before after _ = ⊥
 
@@ -190,10 +190,10 @@ migrated_line count = codes "migrated " ++ (decimal count ++ (10 ∷ []))
 -- stored and nothing printed. The line is printed once the image is stored.
 abbrev pub DoesMigrate : Gives → ServeWords → Left → Left → Result (Unit {0}) CommandFault → Type 0
 DoesMigrate gives words before after (Ok done) = (image : List ℕ) × (count : ℕ) × HasMigrated gives words image (Ok count)
-    × (after.stores ≡ with_store before.stores (written words.output.now image)) × Appends before.out after.out (migrated_line count)
+    × (after.stores ≡ with_store before.stores (written_file words.output.now image)) × Appends before.out after.out (migrated_line count)
 DoesMigrate gives words before after (Err stop) =
     (LeavesUntouched before after × IsUnbegun gives words stop)
     ⊎ ((image : List ℕ) × (came : Result ℕ DeviceFault) × HasMigrated gives words image came × EndsShort words.output.now image came before.stores after.stores stop
     × Keeps before.out after.out)
-    ⊎ ((image : List ℕ) × (count : ℕ) × HasMigrated gives words image (Ok count) × (after.stores ≡ with_store before.stores (written words.output.now image))
+    ⊎ ((image : List ℕ) × (count : ℕ) × HasMigrated gives words image (Ok count) × (after.stores ≡ with_store before.stores (written_file words.output.now image))
     × IsUnprinted (migrated_line count) before.out after.out stop)

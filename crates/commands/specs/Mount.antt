@@ -15,7 +15,7 @@ use Rattle.commands.specs.declared.text.CommandFault.{CommandFault}
 use Rattle.commands.specs.declared.text.CommandFault.TheVariants as fault
 use Rattle.command_words.specs.declared.words.CertificateWords.{CertificateWords}
 use Rattle.commands.specs.Check.{AsksForCapacity, IsImageUnopened, IsUnasked, IsWhole}
-use Rattle.commands.specs.Files.{Gives, IsUnstored, Left, LeavesUntouched, with_store, written}
+use Rattle.commands.specs.Files.{Gives, IsUnstored, Left, LeavesUntouched, with_store, written_file}
 use Rattle.commands.specs.Lines.{IsUnprinted}
 
 -- the bytes are an image, and this is its certificate
@@ -75,7 +75,7 @@ line_of has = mounted_line has.claim.next (good_blocks has.claim) (stale_count h
 
 -- the certificate was handed over to be written, and it was
 abbrev pub Stores : {gives : Gives} {words : CertificateWords} → HasMounted gives words → Left → Left → Type 0
-Stores {words = words} has before after = after.stores ≡ with_store before.stores (written words.certificate.now (certificate_bytes has.claim))
+Stores {words = words} has before after = after.stores ≡ with_store before.stores (written_file words.certificate.now (certificate_bytes has.claim))
 
 -- or it was not
 abbrev pub StoresNot : {gives : Gives} {words : CertificateWords} → HasMounted gives words → Left → Left → CommandFault → Type 0

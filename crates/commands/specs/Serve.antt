@@ -35,7 +35,7 @@ use Rattle.commands.specs.declared.text.ServeStop.{ServeStop}
 use Rattle.commands.specs.declared.text.ServeStop.TheVariants as stop
 use Rattle.commands.specs.Check.{HasFiles, HasNoCertificate, IsImageUnopened, IsSpelled, IsUnasked, IsWhole, LacksCertificate}
 use Rattle.commands.specs.Steady.{is_flawless}
-use Rattle.commands.specs.Files.{Gives, Left, LeavesUntouched, Stored, with_store, written, unwritten}
+use Rattle.commands.specs.Files.{Gives, Left, LeavesUntouched, Stored, with_store, written_file, unwritten_file}
 
 -- ---- an image in place
 
@@ -162,12 +162,12 @@ IsServeUnstarted gives words stopped =
 -- How it ended after the run: the image was stored, and what stopped the server is told; or it could not be stored, and that is told, after
 -- what stopped the server.
 abbrev pub EndsServing : List ℕ → List ℕ → Option ServeStop → Option (List Stored) → Option (List Stored) → Result (Unit {0}) CommandFault → Type 0
-EndsServing path image how before after (Ok done) = (how ≡ None) × (after ≡ with_store before (written path image))
-EndsServing path image how before after (Err (fault.Serve stopped)) = (how ≡ Some stopped) × (after ≡ with_store before (written path image))
-EndsServing path image how before after (Err (fault.Write text)) = (how ≡ None) × (text.now ≡ path) × (after ≡ with_store before (unwritten path image))
+EndsServing path image how before after (Ok done) = (how ≡ None) × (after ≡ with_store before (written_file path image))
+EndsServing path image how before after (Err (fault.Serve stopped)) = (how ≡ Some stopped) × (after ≡ with_store before (written_file path image))
+EndsServing path image how before after (Err (fault.Write text)) = (how ≡ None) × (text.now ≡ path) × (after ≡ with_store before (unwritten_file path image))
 EndsServing path image how before after (Err fault.OutOfMemory) = (how ≡ None) × (after ≡ before)
 EndsServing path image how before after (Err (fault.ServeUnstored stopped text)) = (how ≡ Some stopped) × (text.now ≡ path)
-    × ((after ≡ with_store before (unwritten path image)) ⊎ (after ≡ before))
+    × ((after ≡ with_store before (unwritten_file path image)) ⊎ (after ≡ before))
 EndsServing path image how before after (Err _) = ⊥
 
 -- it ran: requests were served over the image, and it ended so

@@ -3,7 +3,7 @@ ghost use Rattle.std.specs.Prelude.{◌≡◌, true, OnOk, IfOk, IfErr};
 ghost use Rattle.std.specs.Io.KnownBytes.{Appends};
 ghost use Rattle.onfi_cycles.specs.Driver.{seen};
 ghost use Rattle.commands.specs.Format.{DoesFormat, IsFormattedImage, IsUnformatted, good_line};
-ghost use Rattle.commands.specs.Files.{left};
+ghost use Rattle.commands.specs.Files.{left_behind};
 ghost use Rattle.commands.specs.Lines.{IsUnprinted};
 ghost use Rattle.commands.specs.Steady.{is_flawless, is_steady};
 
@@ -96,7 +96,7 @@ pub fn format_command<'a, F: FileStore, W: Write>(
     files: &mut F,
     out: &mut W,
 ) -> Result<(), CommandFault<'a>>
-    ensures { DoesFormat (F.gives files.old) words.entry (left (F.stores files.old) (W.contents out.old)) (left (F.stores files.new) (W.contents out.new)) result }
+    ensures { DoesFormat (F.gives files.old) words.entry (left_behind (F.stores files.old) (W.contents out.old)) (left_behind (F.stores files.new) (W.contents out.new)) result }
 {
     let numbers = numbers_at(words.geometry)?;
     let geometry = geometry_of(&numbers)?;

@@ -3,7 +3,7 @@ ghost use Rattle.std.specs.Prelude.{◌≡◌, Ok, OnOk, IfOk, IfErr};
 ghost use Rattle.std.specs.Io.KnownBytes.{Appends};
 ghost use Rattle.onfi_cycles.specs.Driver.{flash_by};
 ghost use Rattle.commands.specs.Check.{IsWhole};
-ghost use Rattle.commands.specs.Files.{left, with_store, written};
+ghost use Rattle.commands.specs.Files.{left_behind, with_store, written_file};
 ghost use Rattle.commands.specs.Lines.{IsUnprinted};
 ghost use Rattle.commands.specs.Migrate.{DoesMigrate, EndsShort, IsUnmigratedDie, MigratesDie, StartsOver, migrated_line};
 
@@ -88,7 +88,7 @@ fn finish<'a, F: FileStore>(
     image: &[u8],
     came: Result<u32, DeviceFault>,
 ) -> Result<u32, CommandFault<'a>>
-    ensures done { IfOk result (λ count. (came ≡ Ok count) × (F.stores files.new ≡ with_store (F.stores files.old) (written path.now image.now))) }
+    ensures done { IfOk result (λ count. (came ≡ Ok count) × (F.stores files.new ≡ with_store (F.stores files.old) (written_file path.now image.now))) }
     ensures short { IfErr result (EndsShort path.now image.now came (F.stores files.old) (F.stores files.new)) }
 {
     match (came, files.store(path, image)) {
@@ -132,7 +132,7 @@ pub fn migrate_command<'a, F: FileStore, W: Write>(
     files: &mut F,
     out: &mut W,
 ) -> Result<(), CommandFault<'a>>
-    ensures { DoesMigrate (F.gives files.old) words.entry (left (F.stores files.old) (W.contents out.old)) (left (F.stores files.new) (W.contents out.new)) result }
+    ensures { DoesMigrate (F.gives files.old) words.entry (left_behind (F.stores files.old) (W.contents out.old)) (left_behind (F.stores files.new) (W.contents out.new)) result }
 {
     let asked = cache_asked(&CertificateWords {
         geometry: words.geometry,

@@ -2,7 +2,7 @@
 ghost use Rattle.std.specs.Prelude.{◌≡◌, ◌≤◌, OnOk, IfOk, IfErr};
 ghost use Rattle.std.specs.Io.KnownBytes.{Appends};
 ghost use Rattle.certificate.specs.Spelling.{certificate_bytes};
-ghost use Rattle.commands.specs.Files.{left};
+ghost use Rattle.commands.specs.Files.{left_behind};
 ghost use Rattle.commands.specs.Lines.{IsUnprinted};
 ghost use Rattle.commands.specs.Mount.{DoesMount, IsImageUnmounted, IsMountedAs, IsUnspelled, mounted_line};
 
@@ -107,7 +107,7 @@ pub fn mount_command<'a, F: FileStore, W: Write>(
     files: &mut F,
     out: &mut W,
 ) -> Result<(), CommandFault<'a>>
-    ensures { DoesMount (F.gives files.old) words.entry (left (F.stores files.old) (W.contents out.old)) (left (F.stores files.new) (W.contents out.new)) result }
+    ensures { DoesMount (F.gives files.old) words.entry (left_behind (F.stores files.old) (W.contents out.old)) (left_behind (F.stores files.new) (W.contents out.new)) result }
 {
     let asked = cache_asked(&words)?;
     let bytes = load(files, words.image)?;

@@ -1,6 +1,6 @@
 //! What the commands leave in files.
 ghost use Rattle.std.specs.Prelude.{◌≡◌, OnOk, IfErr};
-ghost use Rattle.commands.specs.Files.{IsUnstored, with_store, written};
+ghost use Rattle.commands.specs.Files.{IsUnstored, with_store, written_file};
 
 use crate::files::{FileFault, FileStore};
 use crate::text::CommandFault;
@@ -16,7 +16,7 @@ pub fn store<'a, F: FileStore>(
     path: &'a str,
     bytes: &[u8],
 ) -> Result<(), CommandFault<'a>>
-    ensures ok { OnOk result (F.stores files.new ≡ with_store (F.stores files.old) (written path.now bytes.now)) }
+    ensures ok { OnOk result (F.stores files.new ≡ with_store (F.stores files.old) (written_file path.now bytes.now)) }
     ensures fault { IfErr result (IsUnstored path.now bytes.now (F.stores files.old) (F.stores files.new)) }
 {
     match files.store(path, bytes) {

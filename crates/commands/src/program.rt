@@ -1,6 +1,6 @@
 //! The program's commands.
 ghost use Rattle.commands.specs.Commands.{CommandRuns, Obeys, OrderComesTo};
-ghost use Rattle.commands.specs.Files.{left};
+ghost use Rattle.commands.specs.Files.{left_behind};
 ghost use Rattle.command_words.specs.Words.{texts};
 
 use crate::check::check_command;
@@ -25,7 +25,7 @@ fn carry_out<'a, F: FileStore, R: Read, W: Write>(
     out: &mut W,
 ) -> Result<(), CommandFault<'a>>
     ensures { OrderComesTo (F.gives files.old) (F.tells files.old) order.entry (R.remaining input.old) (R.remaining input.new)
-        (left (F.stores files.old) (W.contents out.old)) (left (F.stores files.new) (W.contents out.new)) result }
+        (left_behind (F.stores files.old) (W.contents out.old)) (left_behind (F.stores files.new) (W.contents out.new)) result }
 {
     match order {
         Order::Sector(words) => sector_command(alloc, words, files, out),
@@ -47,7 +47,7 @@ fn obey<'a, F: FileStore, R: Read, W: Write>(
     out: &mut W,
 ) -> Result<(), CommandFault<'a>>
     ensures { Obeys (F.gives files.old) (F.tells files.old) (texts words.now) (R.remaining input.old) (R.remaining input.new)
-        (left (F.stores files.old) (W.contents out.old)) (left (F.stores files.new) (W.contents out.new)) result }
+        (left_behind (F.stores files.old) (W.contents out.old)) (left_behind (F.stores files.new) (W.contents out.new)) result }
 {
     match parse(alloc, words) {
         Ok(order) => carry_out(alloc, order, files, input, out),
@@ -77,7 +77,7 @@ pub fn run<F: FileStore, R: Read, W: Write, E: Write>(
     err: &mut E,
 ) -> u8
     ensures { CommandRuns (F.gives files.old) (F.tells files.old) (texts words.now) (R.remaining input.old) (R.remaining input.new)
-        (left (F.stores files.old) (W.contents out.old)) (left (F.stores files.new) (W.contents out.new)) (E.contents err.old) (E.contents err.new) result }
+        (left_behind (F.stores files.old) (W.contents out.old)) (left_behind (F.stores files.new) (W.contents out.new)) (E.contents err.old) (E.contents err.new) result }
 {
     match obey(alloc, words, files, input, out) {
         Ok(()) => DONE,

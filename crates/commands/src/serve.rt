@@ -7,7 +7,7 @@ ghost use Rattle.nand_die.specs.DieValue.{before_reset};
 ghost use Rattle.nand_die.specs.Made.{loaded_flash};
 ghost use Rattle.ftl_device.specs.Begin.{is_bad_in};
 ghost use Rattle.commands.specs.Check.{IsWhole};
-ghost use Rattle.commands.specs.Files.{left};
+ghost use Rattle.commands.specs.Files.{left_behind};
 ghost use Rattle.commands.specs.Steady.{is_steady};
 ghost use Rattle.commands.specs.Serve.{bad_in, stop_in, EndsServing, HasServed, IsDieUnmade, IsUnservedDie, DoesServe};
 
@@ -166,7 +166,7 @@ pub fn serve_command<'a, F: FileStore, R: Read, W: Write>(
     out: &mut W,
 ) -> Result<(), CommandFault<'a>>
     ensures { DoesServe (F.gives files.old) words.entry (R.remaining input.old) (R.remaining input.new)
-        (left (F.stores files.old) (W.contents out.old)) (left (F.stores files.new) (W.contents out.new)) result }
+        (left_behind (F.stores files.old) (W.contents out.old)) (left_behind (F.stores files.new) (W.contents out.new)) result }
 {
     let asked = cache_asked(&CertificateWords {
         geometry: words.geometry,

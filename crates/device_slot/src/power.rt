@@ -269,10 +269,7 @@ fn start_settled<N: Nand>(
     ensures fault { IfErr result (IsUnsettled N.view nand geometry.now capacity) }
     ensures given { IfErr result (λ fault. IsDieHandedBack N.view nand (nand_of fault)) }
 {
-    let nand = match settle(alloc, nand, geometry, stale) {
-        Ok(nand) => nand,
-        Err(fault) => return Err(fault),
-    };
+    let nand = settle(alloc, nand, geometry, stale)?;
     start_either(alloc, nand, geometry, capacity)
 }
 

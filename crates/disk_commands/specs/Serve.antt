@@ -35,7 +35,7 @@ use Rattle.disk_commands.specs.Damage.{NamesAll}
 use Rattle.disk_commands.specs.Ready.{IsReadyAt, IsUnreadyAt}
 use Rattle.disk_commands.specs.Told.{HasPrintingFailed}
 use Rattle.disk_server.specs.declared.guarded.GuardedSectors.{GuardedSectors}
-use Rattle.disk_server.specs.Guarded.{ChangesGuarded, PassesOn, ReadsGuarded, shown}
+use Rattle.disk_server.specs.Guarded.{ChangesGuarded, PassesOn, ReadsGuarded, guarded_contents}
 
 -- ---- what the client is told
 
@@ -140,7 +140,7 @@ flushes_in held honest full failed = AsksDevice held honest full failed (flushes
 
 -- what it shows, once its lost sectors are guarded, and what a task asks of it
 abbrev pub shown_in : {S K : Type 0} → (S → Held) → (honest : S → Bool) → GuardedSectors (Reopened S) K → Contents
-shown_in held honest = shown (contents_in held honest) (λ d. d.size)
+shown_in held honest = guarded_contents (contents_in held honest) (λ d. d.size)
 
 abbrev pub does_in : {S K : Type 0} → (S → Held) → (honest full : S → Bool) → (failed : S → ℕ) → GuardedSectors (Reopened S) K → Task → Result (Unit {0}) NbdFault → GuardedSectors (Reopened S) K → Type 0
 does_in held honest full failed = AsksSectors (shown_in held honest) (λ d. holds_in honest d.sectors) (ReadsGuarded (reads_in held honest)) (ChangesGuarded (changes_in held honest full failed)) (PassesOn (flushes_in held honest full failed))

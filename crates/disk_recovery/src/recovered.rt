@@ -67,10 +67,7 @@ pub(crate) fn recover_mounted<S: Store + Drop>(
     ensures fault { IfErr result (IsUnrecovered S.held S.honest S.failed store capacity mark) }
 {
     let mut store = store;
-    let changed = match recover_once(alloc, &mut store, certificate, mark) {
-        Ok(changed) => changed,
-        Err(fault) => return Err(fault),
-    };
+    let changed = recover_once(alloc, &mut store, certificate, mark)?;
     if !changed {
         return open_stopped(alloc, store, capacity, sync_when, true);
     }

@@ -15,7 +15,7 @@ use Rattle.nbd_stream.specs.Disk.{Contents, Idles, IsEither, MayAnswer, Performs
 use Rattle.nbd_stream.proofs.DiskLemmas.{before_it, inside_it, length-with_bytes, past_it}
 use Rattle.disk_server.specs.declared.guarded.GuardedSectors.{GuardedSectors}
 use Rattle.disk_server.specs.Asked.{HasZeros}
-use Rattle.disk_server.specs.Guarded.{GuardedByteLaw, GuardedReadLaw, HealedLaw, HealsIfListed, UnkeptLaw, guarded_byte, guarded_from, is_listed, no_byte, shown}
+use Rattle.disk_server.specs.Guarded.{GuardedByteLaw, GuardedReadLaw, HealedLaw, HealsIfListed, UnkeptLaw, guarded_byte, guarded_from, is_listed, no_byte, guarded_contents}
 use Rattle.disk_server.proofs.Tasks.{Answer, lasting}
 
 -- ---- a byte
@@ -268,13 +268,13 @@ module _ (size n : ℕ) (task : Task) (body set : List ℕ) (leaves : (l : List 
 
 module _ {S K : Type 0} (contents : S → Contents) (size : S → ℕ) (honest : S → Bool) where
   -- with so many bytes a sector
-  same_size : (d : GuardedSectors S K) (n : ℕ) → size d.sectors ≡ n → shown contents size d ≡ lasting (guarded_from n d.lost.items 0 (contents d.sectors).bytes)
+  same_size : (d : GuardedSectors S K) (n : ℕ) → size d.sectors ≡ n → guarded_contents contents size d ≡ lasting (guarded_from n d.lost.items 0 (contents d.sectors).bytes)
   same_size d n is = ap (λ k. lasting (guarded_from k d.lost.items 0 (contents d.sectors).bytes)) is
 
   pub call_shown : (task : Task) (body : List ℕ) (old : GuardedSectors S K) (answer : Answer) (new : GuardedSectors S K) → size new.sectors ≡ size old.sectors → length (contents new.sectors).bytes ≡ length (contents old.sectors).bytes
       → OnOk answer (honest new.sectors ≡ honest old.sectors) → (honest new.sectors ≡ true → honest old.sectors ≡ true) → IfErr answer (MayAnswer task) → IfOk answer (λ given. length given ≡ count_given task)
       → (honest new.sectors ≡ true → TaskSteps task body (lasting (guarded_from (size old.sectors) old.lost.items 0 (contents old.sectors).bytes)) answer (lasting (guarded_from (size old.sectors) new.lost.items 0 (contents new.sectors).bytes)))
-      → PerformsTask (shown contents size) (λ d. honest d.sectors) (λ d. false) task body old answer new
+      → PerformsTask (guarded_contents contents size) (λ d. honest d.sectors) (λ d. false) task body old answer new
   call_shown task body old answer new same long kept back may given steps = record {
     sized = length-guarded (size new.sectors) new.lost.items 0 (contents new.sectors).bytes ∙ long ∙ sym (length-guarded (size old.sectors) old.lost.items 0 (contents old.sectors).bytes);
     kept = kept;
@@ -283,13 +283,13 @@ module _ {S K : Type 0} (contents : S → Contents) (size : S → ℕ) (honest :
     fault = may;
     given = given;
     calmly = λ never. (let no : ⊥ = cc in absurd no);
-    steps = λ h. subst (λ c. TaskSteps task body (shown contents size old) answer c) (sym (same_size new (size old.sectors) same)) (steps h);
+    steps = λ h. subst (λ c. TaskSteps task body (guarded_contents contents size old) answer c) (sym (same_size new (size old.sectors) same)) (steps h);
   }
 
   pub rest_shown : (calm : S → Bool) (old : GuardedSectors S K) (result : Result (Unit {0}) DiskFault) (new : GuardedSectors S K) → size new.sectors ≡ size old.sectors → new.lost.items ≡ old.lost.items
-      → Idles contents honest calm old.sectors result new.sectors → Idles (shown contents size) (λ d. honest d.sectors) (λ d. false) old result new
+      → Idles contents honest calm old.sectors result new.sectors → Idles (guarded_contents contents size) (λ d. honest d.sectors) (λ d. false) old result new
   rest_shown calm old result new same lost idles =
-      let bytes_same : honest new.sectors ≡ true → (shown contents size new).bytes ≡ (shown contents size old).bytes = λ h.
+      let bytes_same : honest new.sectors ≡ true → (guarded_contents contents size new).bytes ≡ (guarded_contents contents size old).bytes = λ h.
       (ap (λ (c : Contents). c.bytes) (same_size new (size old.sectors) same) ∙ ap (λ l. guarded_from (size old.sectors) l 0 (contents new.sectors).bytes) lost
       ∙ ap (guarded_from (size old.sectors) old.lost.items 0) (idles.bytes h)) in
       record {
@@ -321,7 +321,7 @@ module _ {S K : Type 0} (contents : S → Contents) (size : S → ℕ) (honest :
 
     pub change_shown : (result : Result (Unit {0}) DiskFault) → OnOk result (HealsIfListed kept n (record old { sectors = mid }) new)
         → (is_listed old n ≡ false → (result ≡ Ok tt) × (new ≡ record old { sectors = mid })) → (is_listed old n ≡ true → new.lost.items ≡ slice_set old.lost.items n false) → IfErr result (λ e. e ≡ fault.Failed)
-        → PerformsTask (shown contents size) (λ d. honest d.sectors) (λ d. false) task body old (answer_from result []) new
+        → PerformsTask (guarded_contents contents size) (λ d. honest d.sectors) (λ d. false) task body old (answer_from result []) new
     change_shown (Ok done) heals unlisted_so off failed =
         call_shown task body old (Ok []) new (ap size sectors ∙ same) (ap (λ s. length (contents s).bytes) sectors ∙ p.sized) (ap honest sectors ∙ p.kept) (λ h. p.back (sym (ap honest sectors) ∙ h)) tt p.given
         (λ h. healed_steps (size old.sectors) n task body set leaves gives some long old.lost.items (contents old.sectors) (contents new.sectors) fits new.lost.items
@@ -336,7 +336,7 @@ module _ {S K : Type 0} (contents : S → Contents) (size : S → ℕ) (honest :
   pub failed_shown : (calm : S → Bool) (n : ℕ) (task : Task) (body set : List ℕ) (old : GuardedSectors S K) (leaves : (l : List ℕ) → bytes_after task body l ≡ with_bytes (n * size old.sectors) set l)
       (gives : (l : List ℕ) → [] ≡ bytes_given task l) (some : 0 < size old.sectors) (long : length set ≡ size old.sectors) (fits : n * size old.sectors + size old.sectors ≤ length (contents old.sectors).bytes)
       (new : GuardedSectors S K) (e : RequestError) → size new.sectors ≡ size old.sectors → new.lost.items ≡ old.lost.items → PerformsTask contents honest calm task body old.sectors (Err e) new.sectors
-      → PerformsTask (shown contents size) (λ d. honest d.sectors) (λ d. false) task body old (Err e) new
+      → PerformsTask (guarded_contents contents size) (λ d. honest d.sectors) (λ d. false) task body old (Err e) new
   failed_shown calm n task body set old leaves gives some long fits new e same lost p =
       call_shown task body old (Err e) new same p.sized tt p.back p.fault tt
       (λ h. subst (λ l. TaskSteps task body (lasting (guarded_from (size old.sectors) old.lost.items 0 (contents old.sectors).bytes)) (Err e) (lasting (guarded_from (size old.sectors) l 0 (contents new.sectors).bytes))) (sym lost)

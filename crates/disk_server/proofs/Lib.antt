@@ -1,3 +1,4 @@
+pub mod FaultLemmas
 pub mod Bytes
 pub mod Joining
 pub mod Fronts

@@ -27,8 +27,8 @@ guarded_from size lost place [] = []
 guarded_from size lost place (byte ∷ bytes) = guarded_byte size lost place byte ∷ guarded_from size lost (place + 1) bytes
 
 -- ITS CONTENTS are those of the device, of which no byte of a lost sector is given. What is there after a stop is what is there
-abbrev pub shown : {S K : Type 0} → (contents : S → Contents) → (size : S → ℕ) → GuardedSectors S K → Contents
-shown contents size d = record {
+abbrev pub guarded_contents : {S K : Type 0} → (contents : S → Contents) → (size : S → ℕ) → GuardedSectors S K → Contents
+guarded_contents contents size d = record {
   bytes = guarded_from (size d.sectors) d.lost.items 0 (contents d.sectors).bytes;
   durable = guarded_from (size d.sectors) d.lost.items 0 (contents d.sectors).bytes;
 }

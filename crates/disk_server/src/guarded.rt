@@ -31,7 +31,7 @@ pub trait KeepsLost {
 /// A device of whole sectors of which some are lost, and a list of them beside it. (This project's.)
 ///
 /// A lost sector has older bytes than it was left with, or zeros. So a read of it answers `Failed`, and nothing is asked of the device, until it is written or trimmed: then
-/// what was written lasts, and the list without it, before the change is answered. Its contents are the device's, but that no byte of a lost sector is given (`shown`): so of all
+/// what was written lasts, and the list without it, before the change is answered. Its contents are the device's, but that no byte of a lost sector is given (`guarded_contents`): so of all
 /// that is built on it no read of a lost sector is answered without an error. It is as honest as the device.
 ///
 /// **After a list that was not kept nothing is asked of the device any more, and each call answers `Failed`.**
@@ -124,9 +124,9 @@ impl<S: Lasting, K: KeepsLost> Sectors for GuardedSectors<S, K> {
     ghost use Rattle.page_layout.specs.Counter.{HasRisen};
     ghost use Rattle.nbd_stream.specs.Disk.{Idles, PerformsTask, answer_from};
     ghost use Rattle.disk_server.specs.Asked.{SparesZeros};
-    ghost use Rattle.disk_server.specs.Guarded.{ChangesGuarded, HealsIfListed, IsRefusedUnasked, KeepsList, KeepsOrFails, PassesOn, ReadsGuarded, is_listed, shown};
+    ghost use Rattle.disk_server.specs.Guarded.{ChangesGuarded, HealsIfListed, IsRefusedUnasked, KeepsList, KeepsOrFails, PassesOn, ReadsGuarded, is_listed, guarded_contents};
 
-    ghost contents = { shown S.contents S.size };
+    ghost contents = { guarded_contents S.contents S.size };
 
     ghost honest = { λ d. S.honest d.sectors };
 
@@ -162,7 +162,7 @@ impl<S: Lasting, K: KeepsLost> Sectors for GuardedSectors<S, K> {
         requires whole { length buffer.old ≡ S.size self.old.sectors }
         ensures size { S.size self.new.sectors ≡ S.size self.old.sectors }
         ensures count { S.count self.new.sectors ≡ S.count self.old.sectors }
-        ensures performs { PerformsTask (shown S.contents S.size) (λ d. S.honest d.sectors) (λ _. false)
+        ensures performs { PerformsTask (guarded_contents S.contents S.size) (λ d. S.honest d.sectors) (λ _. false)
             (Task.Read (sector * S.size self.old.sectors) (S.size self.old.sectors)) [] self.old (answer_from result buffer.new) self.new }
         ensures reads { ReadsGuarded S.reads self.old self.new }
         ensures refused { is_listed self.old sector ≡ true → IsRefusedUnasked self.old result self.new }
@@ -187,7 +187,7 @@ impl<S: Lasting, K: KeepsLost> Sectors for GuardedSectors<S, K> {
         requires whole { length bytes.now ≡ S.size self.old.sectors }
         ensures size { S.size self.new.sectors ≡ S.size self.old.sectors }
         ensures count { S.count self.new.sectors ≡ S.count self.old.sectors }
-        ensures performs { PerformsTask (shown S.contents S.size) (λ d. S.honest d.sectors) (λ _. false)
+        ensures performs { PerformsTask (guarded_contents S.contents S.size) (λ d. S.honest d.sectors) (λ _. false)
             (Task.Write (sector * S.size self.old.sectors) (S.size self.old.sectors) false) bytes.now self.old (answer_from result []) self.new }
         ensures changes { ChangesGuarded S.changes self.old self.new }
         ensures heals { OnOk result (HealsIfListed K.kept sector self.old self.new) }
@@ -218,7 +218,7 @@ impl<S: Lasting, K: KeepsLost> Sectors for GuardedSectors<S, K> {
         requires within { sector < S.count self.old.sectors }
         ensures size { S.size self.new.sectors ≡ S.size self.old.sectors }
         ensures count { S.count self.new.sectors ≡ S.count self.old.sectors }
-        ensures performs { PerformsTask (shown S.contents S.size) (λ d. S.honest d.sectors) (λ _. false)
+        ensures performs { PerformsTask (guarded_contents S.contents S.size) (λ d. S.honest d.sectors) (λ _. false)
             (Task.Trim (sector * S.size self.old.sectors) (S.size self.old.sectors) false) [] self.old (answer_from result []) self.new }
         ensures changes { ChangesGuarded S.changes self.old self.new }
         ensures heals { OnOk result (HealsIfListed K.kept sector self.old self.new) }
@@ -250,9 +250,9 @@ impl<S: Lasting, K: KeepsLost> Sectors for GuardedSectors<S, K> {
         requires whole { length buffer.old ≡ S.size self.old.sectors }
         ensures size { S.size self.new.sectors ≡ S.size self.old.sectors }
         ensures count { S.count self.new.sectors ≡ S.count self.old.sectors }
-        ensures performs { PerformsTask (shown S.contents S.size) (λ d. S.honest d.sectors) (λ _. false)
+        ensures performs { PerformsTask (guarded_contents S.contents S.size) (λ d. S.honest d.sectors) (λ _. false)
             (Task.Trim (sector * S.size self.old.sectors) (S.size self.old.sectors) false) [] self.old (answer_from result []) self.new }
-        ensures spares { SparesZeros (shown S.contents S.size) (λ d. S.honest d.sectors) (ReadsGuarded S.reads) (sector * S.size self.old.sectors) (S.size self.old.sectors) self.old self.new }
+        ensures spares { SparesZeros (guarded_contents S.contents S.size) (λ d. S.honest d.sectors) (ReadsGuarded S.reads) (sector * S.size self.old.sectors) (S.size self.old.sectors) self.old self.new }
         ensures changes { ChangesGuarded S.changes self.old self.new }
         ensures heals { OnOk result (HealsIfListed K.kept sector self.old self.new) }
         ensures kept { OnErr result (KeepsOrFails K.failed self.old self.new) }
@@ -279,7 +279,7 @@ impl<S: Lasting, K: KeepsLost> Sectors for GuardedSectors<S, K> {
     fn flush(&mut self) -> Result<(), DiskFault>
         ensures size { S.size self.new.sectors ≡ S.size self.old.sectors }
         ensures count { S.count self.new.sectors ≡ S.count self.old.sectors }
-        ensures performs { PerformsTask (shown S.contents S.size) (λ d. S.honest d.sectors) (λ _. false) Task.Flush [] self.old (answer_from result []) self.new }
+        ensures performs { PerformsTask (guarded_contents S.contents S.size) (λ d. S.honest d.sectors) (λ _. false) Task.Flush [] self.old (answer_from result []) self.new }
         ensures flushes { PassesOn S.flushes self.old result self.new }
         ensures asked { self.old.failed ≡ false → PerformsTask S.contents S.honest S.calm Task.Flush [] self.old.sectors (answer_from result []) self.new.sectors }
     {

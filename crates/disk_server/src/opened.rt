@@ -126,10 +126,7 @@ pub fn mount_store<S: Store + Drop>(
     ensures given { IfErr result (λ e. ComesBack S.held S.honest store e.1 e.0) }
 {
     let geometry = store.geometry();
-    let mut driver = match driver_over(alloc, store, SyncWhen::Erases) {
-        Ok(driver) => driver,
-        Err(fault) => return Err(fault),
-    };
+    let mut driver = driver_over(alloc, store, SyncWhen::Erases)?;
     match mount(alloc, &mut driver, &geometry, capacity) {
         Ok(certificate) => Ok((store_behind(driver), certificate)),
         Err(refusal) => Err((store_behind(driver), OpenStoreFault::Mount(refusal))),
@@ -162,10 +159,7 @@ pub fn open_store<S: Store + Drop>(
     ensures given { IfErr result (λ e. ComesBack S.held S.honest store e.1 e.0) }
 {
     let geometry = store.geometry();
-    let driver = match driver_over(alloc, store, sync_when) {
-        Ok(driver) => driver,
-        Err(fault) => return Err(fault),
-    };
+    let driver = driver_over(alloc, store, sync_when)?;
     match open_mounted(alloc, driver, &geometry, capacity) {
         Ok(disk) => Ok(disk),
         Err(fault) => Err(unopened(fault)),

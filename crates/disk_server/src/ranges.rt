@@ -27,10 +27,8 @@ pub(crate) fn read_range<S: Sectors>(
     while done < out.len() {
         let place = offset + done as u64;
         let taken = piece_length(size, place, out.len() - done);
-        match read_piece(sectors, buffer, place, &mut out[done..done + taken]) {
-            Ok(()) => done += taken,
-            Err(fault) => return Err(fault),
-        }
+        read_piece(sectors, buffer, place, &mut out[done..done + taken])?;
+        done += taken;
     }
     Ok(())
 }
@@ -54,10 +52,8 @@ fn write_pieces<S: Sectors>(
     while done < bytes.len() {
         let place = offset + done as u64;
         let taken = piece_length(size, place, bytes.len() - done);
-        match write_piece(sectors, buffer, place, &bytes[done..done + taken]) {
-            Ok(()) => done += taken,
-            Err(fault) => return Err(fault),
-        }
+        write_piece(sectors, buffer, place, &bytes[done..done + taken])?;
+        done += taken;
     }
     Ok(())
 }
@@ -82,10 +78,8 @@ fn clear_pieces<S: Sectors>(
     while done < count {
         let place = offset + done as u64;
         let taken = piece_length(size, place, count - done);
-        match clear_piece(sectors, buffer, place, taken) {
-            Ok(()) => done += taken,
-            Err(fault) => return Err(fault),
-        }
+        clear_piece(sectors, buffer, place, taken)?;
+        done += taken;
     }
     Ok(())
 }

@@ -213,10 +213,8 @@ impl<D: LastingDisk + Sequenced, Y: Syncs> SyncedDisk<D, Y> {
         let mut done = 0;
         while done < count {
             let taken = PART.min(count - done);
-            match self.clear_part(offset + u64::from(done), taken) {
-                Ok(()) => done += taken,
-                Err(fault) => return Err(fault),
-            }
+            self.clear_part(offset + u64::from(done), taken)?;
+            done += taken;
         }
         Ok(())
     }

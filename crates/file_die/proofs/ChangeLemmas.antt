@@ -9,7 +9,7 @@ use Rattle.page_layout.specs.Flash.{Flash, TurnState, Program, Erase, Steps, IsW
 use Rattle.onfi_cycles.specs.Cycles.{Due, Programs, Erases}
 use Rattle.onfi_cycles.specs.declared.nand.BusFault.{BusFault}
 use Rattle.file_die.specs.Store.{Held, AreImages}
-use Rattle.file_die.specs.Die.{FileState, IsFit, ActsOverStore, Leaves, IfDue, Asks, ProgramsIn, ErasesInStore, shown, idle, ended}
+use Rattle.file_die.specs.Die.{FileState, IsFit, ActsOverStore, Leaves, IfDue, Asks, ProgramsIn, ErasesInStore, shown, idle, change_ended}
 use Rattle.file_die.proofs.DieLemmas.{program_steps, erase_steps}
 
 pub whole_fit : {S : Type 0} → (held : S → Held) (honest : S → Bool) (d : FileState S) → IsFit held honest d → honest d.store ≡ true → IsWhole (shown held d).flash
@@ -70,7 +70,7 @@ long_set turns block n turn e = length-set turns block turn ∙ e
 
 pub program_done : {S : Type 0} → (held : S → Held) (honest : S → Bool) (failed : S → ℕ) (d mid e : FileState S) (row block : ℕ) (page : Page) (was turn : TurnState) (legal passed : Bool)
     → IsFit held honest d → row < row_count (held d.store).geometry → block ≡ row / (held d.store).geometry.pages → legal ≡ may_program (shown held d).flash row → legal ≡ true → passed ≡ (legal && not false)
-    → was ≡ get_or d.turns block no_turn → turn ≡ after_program was legal passed → mid ≡ idle mid.store d → e ≡ ended block turn legal passed mid
+    → was ≡ get_or d.turns block no_turn → turn ≡ after_program was legal passed → mid ≡ idle mid.store d → e ≡ change_ended block turn legal passed mid
     → Asks held honest failed d.store mid.store (Ok tt) → (honest d.store ≡ true → ProgramsIn (held d.store) row page d.sync_when true (held mid.store))
     → ActsOverStore held honest failed (Programs row page) d e (Ok tt)
 program_done held honest failed d mid e row block page was turn legal passed fit lt is_block due is_legal passes is_was turns_to is to asks programs =
@@ -79,7 +79,7 @@ program_done held honest failed d mid e row block page was turn legal passed fit
     let is_turn : turn ≡ after_program (get_or d.turns block no_turn) true true = turns_to ∙ (ap (λ b. after_program was b passed) is_legal ∙ (ap (λ b. after_program was true b) is_passed ∙ ap (λ t. after_program t true true) is_was)) in
     let m = mid.store in
     let g : Geometry = (held d.store).geometry in
-    let end : e ≡ ended block turn true true (idle m d) = to ∙ (ap (λ b. ended block turn b passed mid) is_legal ∙ (ap (λ b. ended block turn true b mid) is_passed ∙ ap (ended block turn true true) is)) in
+    let end : e ≡ change_ended block turn true true (idle m d) = to ∙ (ap (λ b. change_ended block turn b passed mid) is_legal ∙ (ap (λ b. change_ended block turn true b mid) is_passed ∙ ap (change_ended block turn true true) is)) in
     let turns : slice_set d.turns block turn ≡ slice_set d.turns (row / g.pages) (after_program (turn_at (shown held d).flash (row / g.pages)) true true)
     = ap (slice_set d.turns block) (is_turn ∙ ap (λ b. after_program (get_or d.turns b no_turn) true true) is_block) ∙ ap (λ b. slice_set d.turns b (after_program (turn_at (shown held d).flash (row / g.pages)) true true)) is_block in
     subst (λ v. ActsOverStore held honest failed (Programs row page) d v (Ok tt)) (sym end)
@@ -107,7 +107,7 @@ program_done held honest failed d mid e row block page was turn legal passed fit
 
 pub program_refused : {S : Type 0} → (held : S → Held) (honest : S → Bool) (failed : S → ℕ) (d e : FileState S) (row block : ℕ) (page : Page) (was turn : TurnState) (legal passed : Bool)
     → IsFit held honest d → row < row_count (held d.store).geometry → block ≡ row / (held d.store).geometry.pages → legal ≡ may_program (shown held d).flash row → legal ≡ false → passed ≡ (legal && not false)
-    → was ≡ get_or d.turns block no_turn → turn ≡ after_program was legal passed → e ≡ ended block turn legal passed d → ActsOverStore held honest failed (Programs row page) d e (Ok tt)
+    → was ≡ get_or d.turns block no_turn → turn ≡ after_program was legal passed → e ≡ change_ended block turn legal passed d → ActsOverStore held honest failed (Programs row page) d e (Ok tt)
 program_refused held honest failed d e row block page was turn legal passed fit lt is_block due is_legal passes is_was turns_to to =
     let may : false ≡ may_program (shown held d).flash row = sym is_legal ∙ due in
     let is_passed : passed ≡ false = passes ∙ ap (λ b. b && not false) is_legal in
@@ -115,7 +115,7 @@ program_refused held honest failed d e row block page was turn legal passed fit 
     let g : Geometry = (held d.store).geometry in
     let turns : slice_set d.turns block turn ≡ slice_set d.turns (row / g.pages) (after_program (turn_at (shown held d).flash (row / g.pages)) false false)
     = ap (slice_set d.turns block) (is_turn ∙ ap (λ b. after_program (get_or d.turns b no_turn) false false) is_block) ∙ ap (λ b. slice_set d.turns b (after_program (turn_at (shown held d).flash (row / g.pages)) false false)) is_block in
-    subst (λ v. ActsOverStore held honest failed (Programs row page) d v (Ok tt)) (sym (to ∙ (ap (λ b. ended block turn b passed d) is_legal ∙ ap (λ b. ended block turn false b d) is_passed)))
+    subst (λ v. ActsOverStore held honest failed (Programs row page) d v (Ok tt)) (sym (to ∙ (ap (λ b. change_ended block turn b passed d) is_legal ∙ ap (λ b. change_ended block turn false b d) is_passed)))
     (record {
       follows = λ h. record {
         passed = false;
@@ -137,7 +137,7 @@ program_refused held honest failed d e row block page was turn legal passed fit 
 
 pub erase_done : {S : Type 0} → (held : S → Held) (honest : S → Bool) (failed : S → ℕ) (d mid e : FileState S) (block : ℕ) (was turn : TurnState) (legal passed : Bool)
     → IsFit held honest d → block < (held d.store).geometry.blocks → legal ≡ may_erase (shown held d).flash block → legal ≡ true → passed ≡ (legal && not false)
-    → was ≡ get_or d.turns block no_turn → turn ≡ after_erase was legal passed → mid ≡ idle mid.store d → e ≡ ended block turn legal passed mid
+    → was ≡ get_or d.turns block no_turn → turn ≡ after_erase was legal passed → mid ≡ idle mid.store d → e ≡ change_ended block turn legal passed mid
     → Asks held honest failed d.store mid.store (Ok tt) → (honest d.store ≡ true → ErasesInStore (held d.store) block true (held mid.store))
     → ActsOverStore held honest failed (Erases block) d e (Ok tt)
 erase_done held honest failed d mid e block was turn legal passed fit lt due is_legal passes is_was turns_to is to asks erases =
@@ -146,7 +146,7 @@ erase_done held honest failed d mid e block was turn legal passed fit lt due is_
     let is_turn : turn ≡ after_erase (get_or d.turns block no_turn) true true = turns_to ∙ (ap (λ b. after_erase was b passed) is_legal ∙ (ap (λ b. after_erase was true b) is_passed ∙ ap (λ t. after_erase t true true) is_was)) in
     let m = mid.store in
     let g : Geometry = (held d.store).geometry in
-    let end : e ≡ ended block turn true true (idle m d) = to ∙ (ap (λ b. ended block turn b passed mid) is_legal ∙ (ap (λ b. ended block turn true b mid) is_passed ∙ ap (ended block turn true true) is)) in
+    let end : e ≡ change_ended block turn true true (idle m d) = to ∙ (ap (λ b. change_ended block turn b passed mid) is_legal ∙ (ap (λ b. change_ended block turn true b mid) is_passed ∙ ap (change_ended block turn true true) is)) in
     subst (λ v. ActsOverStore held honest failed (Erases block) d v (Ok tt)) (sym end)
     (record {
       follows = λ h.
@@ -172,13 +172,13 @@ erase_done held honest failed d mid e block was turn legal passed fit lt due is_
 
 pub erase_refused : {S : Type 0} → (held : S → Held) (honest : S → Bool) (failed : S → ℕ) (d e : FileState S) (block : ℕ) (was turn : TurnState) (legal passed : Bool)
     → IsFit held honest d → block < (held d.store).geometry.blocks → legal ≡ may_erase (shown held d).flash block → legal ≡ false → passed ≡ (legal && not false)
-    → was ≡ get_or d.turns block no_turn → turn ≡ after_erase was legal passed → e ≡ ended block turn legal passed d → ActsOverStore held honest failed (Erases block) d e (Ok tt)
+    → was ≡ get_or d.turns block no_turn → turn ≡ after_erase was legal passed → e ≡ change_ended block turn legal passed d → ActsOverStore held honest failed (Erases block) d e (Ok tt)
 erase_refused held honest failed d e block was turn legal passed fit lt due is_legal passes is_was turns_to to =
     let may : false ≡ may_erase (shown held d).flash block = sym is_legal ∙ due in
     let is_passed : passed ≡ false = passes ∙ ap (λ b. b && not false) is_legal in
     let is_turn : turn ≡ after_erase (get_or d.turns block no_turn) false false = turns_to ∙ (ap (λ b. after_erase was b passed) is_legal ∙ (ap (λ b. after_erase was false b) is_passed ∙ ap (λ t. after_erase t false false) is_was)) in
     let g : Geometry = (held d.store).geometry in
-    subst (λ v. ActsOverStore held honest failed (Erases block) d v (Ok tt)) (sym (to ∙ (ap (λ b. ended block turn b passed d) is_legal ∙ ap (λ b. ended block turn false b d) is_passed)))
+    subst (λ v. ActsOverStore held honest failed (Erases block) d v (Ok tt)) (sym (to ∙ (ap (λ b. change_ended block turn b passed d) is_legal ∙ ap (λ b. change_ended block turn false b d) is_passed)))
     (record {
       follows = λ h. record {
         passed = false;

@@ -16,7 +16,7 @@ use Rattle.file_die.specs.declared.die.SyncWhen.{SyncWhen}
 use Rattle.file_die.specs.Store.{Held, AreImages}
 use Rattle.nand_die.specs.declared.change.BlockTurn.{BlockTurn}
 use Rattle.nand_die.specs.Turns.{turn_of}
-use Rattle.file_die.specs.Die.{FileState, IsFit, ActsOverStore, ended}
+use Rattle.file_die.specs.Die.{FileState, IsFit, ActsOverStore, change_ended}
 
 -- a die of these parts
 abbrev of_parts : {S : Type 0} → S → List TurnState → ℕ → Phase → List ℕ → ℕ → SyncWhen → FileState S
@@ -25,11 +25,11 @@ of_parts store turns abuse phase register status sync_when = record { store = st
 -- a block's turn was set, and the count of abuse
 pub ended_so : {S : Type 0} → (store : S) (turns : List BlockTurn) (abuse : ℕ) (phase : Phase) (register : List ℕ) (status : ℕ) (sync_when : SyncWhen) (d : FileState S) (block : ℕ) (turn : BlockTurn) (legal passed : Bool) (count : ℕ)
     → of_parts store (map turn_of turns) abuse phase register status sync_when ≡ d → count ≡ (if legal then abuse else counted abuse)
-    → of_parts store (map turn_of (slice_set turns block turn)) count (Ready NoOutput) register (status_of passed) sync_when ≡ ended block (turn_of turn) legal passed d
+    → of_parts store (map turn_of (slice_set turns block turn)) count (Ready NoOutput) register (status_of passed) sync_when ≡ change_ended block (turn_of turn) legal passed d
 ended_so store turns abuse phase register status sync_when d block turn legal passed count is counts =
     ap (λ ts. of_parts store ts count (Ready NoOutput) register (status_of passed) sync_when) (map-set turn_of turns block turn)
     ∙ (ap (λ n. of_parts store (slice_set (map turn_of turns) block (turn_of turn)) n (Ready NoOutput) register (status_of passed) sync_when) counts
-    ∙ ap (ended block (turn_of turn) legal passed) is)
+    ∙ ap (change_ended block (turn_of turn) legal passed) is)
 
 -- a die of these parts is fit
 pub fit_of : {S : Type 0} → (held : S → Held) (honest : S → Bool) (store : S) (turns : List BlockTurn) (abuse : ℕ) (phase : Phase) (register : List ℕ) (status : ℕ) (sync_when : SyncWhen) (d : FileState S) (g : Geometry)

@@ -71,8 +71,8 @@ abbrev pub idle : {S : Type 0} → S → FileState S → FileState S
 idle store d = record { store = store; turns = d.turns; abuse = d.abuse; phase = given_up d.phase; register = d.register; status = d.status; sync_when = d.sync_when }
 
 -- the die after a program or an erase of a block, which then has this turn; one that was not due is abuse
-abbrev pub ended : {S : Type 0} → ℕ → TurnState → Bool → Bool → FileState S → FileState S
-ended block turn legal passed d = record {
+abbrev pub change_ended : {S : Type 0} → ℕ → TurnState → Bool → Bool → FileState S → FileState S
+change_ended block turn legal passed d = record {
   store = d.store;
   turns = slice_set d.turns block turn;
   abuse = if legal then d.abuse else counted d.abuse;

@@ -13,8 +13,8 @@ use Rattle.file_die.specs.Store.{Held}
 use Rattle.file_die.specs.Die.{FileState}
 
 -- a die that was not yet reset, and of which nothing was asked
-abbrev pub fresh : {S : Type 0} → S → Geometry → List TurnState → SyncWhen → FileState S
-fresh store g turns sync_when = record {
+abbrev pub newly_opened : {S : Type 0} → S → Geometry → List TurnState → SyncWhen → FileState S
+newly_opened store g turns sync_when = record {
   store = store;
   turns = turns;
   abuse = 0;

@@ -6,7 +6,7 @@ ghost use Rattle.onfi_cycles.specs.Cycles.{Ready, NoOutput, status_of, Moves, Pr
 ghost use Rattle.nand_die.specs.BusState.{IsProtocolFault, IsWithin, phase_of};
 ghost use Rattle.nand_die.specs.Turns.{turn_of};
 ghost use Rattle.nand_die.specs.Made.{AreNames, first_turns, next_in};
-ghost use Rattle.file_die.specs.Open.{fresh, OnlyLooks, IsCause, CountsAs};
+ghost use Rattle.file_die.specs.Open.{newly_opened, OnlyLooks, IsCause, CountsAs};
 
 use crate::asks;
 use crate::open::{OpenDieFault, Parts, parts_of};
@@ -71,7 +71,7 @@ impl<S: Store> Model for FileDie<S> {
 
 impl<S: Store> FileDie<S> {
     ghost use Rattle.file_die.specs.Store.{Syncs};
-    ghost use Rattle.file_die.specs.Die.{ActsOverStore, IsFit, Asks, ProgramsIn, ErasesInStore, ended, idle, shown, with_store};
+    ghost use Rattle.file_die.specs.Die.{ActsOverStore, IsFit, Asks, ProgramsIn, ErasesInStore, change_ended, idle, shown, with_store};
 
     /// A die of the pages that a store holds, not yet reset. Of each block the next page is one past the last that is not erased: the store is
     /// read once, each block from its last page down to that one. The blocks named are bad, and nothing was asked of any of them.
@@ -89,7 +89,7 @@ impl<S: Store> FileDie<S> {
         bad: &[u32],
         sync_when: SyncWhen,
     ) -> Result<FileDie<S>, (S, OpenDieFault)>
-        ensures fresh { IfOk result (λ die. die ≡ fresh die.store (S.held store).geometry die.turns sync_when) }
+        ensures fresh { IfOk result (λ die. die ≡ newly_opened die.store (S.held store).geometry die.turns sync_when) }
         ensures turns { IfOk result (λ die. S.honest store ≡ true → die.turns ≡ first_turns (S.held store).geometry (next_in (S.held store).geometry (S.held store).pages) bad.now) }
         ensures named { OnOk result (AreNames (S.held store).geometry bad.now) }
         ensures looks { MatchResult result (λ die. OnlyLooks S.held S.honest store die.store) (λ e. OnlyLooks S.held S.honest store e.0) }
@@ -169,7 +169,7 @@ impl<S: Store> FileDie<S> {
     // Ends a program or an erase.
     fn end(&mut self, block: u32, turn: BlockTurn, change: Change)
         requires { block < (S.held self.old.store).geometry.blocks }
-        ensures { self.new ≡ ended block (turn_of turn) change.legal change.passed self.old }
+        ensures { self.new ≡ change_ended block (turn_of turn) change.legal change.passed self.old }
     {
         self.turns[block as usize] = turn;
         self.passed = change.passed;

@@ -5,7 +5,7 @@ use Rattle.std.specs.Char.{digit_char, digit_value}
 use Rattle.std.specs.Int.{is_in_range}
 use Rattle.std.proofs.lemmas.Bool.{cases_lt, lt-ltb, le-ltb, lt-leb, ne_eqb, true≢false}
 use Rattle.std.proofs.lemmas.Str.{digit_value-digit_char}
-use Rattle.lab_commands.specs.Names.{is_control, is_control_pair, is_hidden, hidden, shown, shown_at, shown_below, IsQuiet, QuietLaw, ApartLaw}
+use Rattle.lab_commands.specs.Names.{is_control, is_control_pair, is_hidden, hidden, shown_name, shown_at, shown_below, IsQuiet, QuietLaw, ApartLaw}
 
 -- ---- from the first byte on
 
@@ -40,7 +40,7 @@ from_place name n (x ∷ xs) h =
     ∙ (sym (append_assoc (shown_below name n) (shown_at name n) (shown_after x xs))
     ∙ (ap (λ b. (shown_below name n ++ shown_at name n) ++ shown_after b xs) (sym here) ∙ from_place name (suc n) xs rest))
 
-shown_is : (name : List ℕ) → shown_after 0 name ≡ shown name
+shown_is : (name : List ℕ) → shown_after 0 name ≡ shown_name name
 unfolding shown_below
 shown_is name = from_place name 0 name (record {
   size = omega arith;

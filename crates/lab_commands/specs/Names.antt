@@ -29,8 +29,8 @@ shown_below name zero = []
 shown_below name (suc place) = shown_below name place ++ shown_at name place
 
 -- a name as it is printed
-abbrev pub shown : List ℕ → List ℕ
-shown name = shown_below name (length name)
+abbrev pub shown_name : List ℕ → List ℕ
+shown_name name = shown_below name (length name)
 
 -- ---- laws
 
@@ -45,8 +45,8 @@ pub record IsQuiet (text : List ℕ) : Type 0 where
 
 -- What is printed of a name holds no control character, and so no line feed.
 abbrev pub QuietLaw : Type 0
-QuietLaw = (name : List ℕ) → All (λ byte. byte < 256) name → IsQuiet (shown name)
+QuietLaw = (name : List ℕ) → All (λ byte. byte < 256) name → IsQuiet (shown_name name)
 
 -- Names that are printed alike are the same.
 abbrev pub ApartLaw : Type 0
-ApartLaw = (first second : List ℕ) → All (λ byte. byte < 256) first → All (λ byte. byte < 256) second → shown first ≡ shown second → first ≡ second
+ApartLaw = (first second : List ℕ) → All (λ byte. byte < 256) first → All (λ byte. byte < 256) second → shown_name first ≡ shown_name second → first ≡ second

@@ -18,7 +18,7 @@ use Rattle.lab_commands.specs.declared.text.Rest.{Rest}
 use Rattle.lab_commands.specs.declared.text.Rest.TheVariants.{Words, Name, Lengths}
 use Rattle.lab_commands.specs.declared.text.Rest.TheVariants as rest
 use Rattle.lab_commands.specs.Lines.{record_words}
-use Rattle.lab_commands.specs.Names.{shown}
+use Rattle.lab_commands.specs.Names.{shown_name}
 
 -- the number and the name of a limit that is broken
 abbrev pub limit_words : GeometryFault → List ℕ
@@ -54,14 +54,14 @@ nearest_words x = codes "byte " ++ (decimal x.at ++ record_words x.says [])
 -- what a line ends with
 abbrev pub rest_words : Rest → List ℕ
 rest_words (Words words) = words.now
-rest_words (Name name) = shown name.now
+rest_words (Name name) = shown_name name.now
 rest_words (Lengths wanted found) = lengths_words wanted found
 rest_words (rest.Legible found) = nearest_words found
 
 -- the line, without its line feed; a name in it is as it is printed
 abbrev pub line_of : LabFault → List ℕ
 line_of NoSuchCommand = codes "usage: no such command, see nandlab --help"
-line_of (BadNumber word) = codes "usage: bad number " ++ shown word.now
+line_of (BadNumber word) = codes "usage: bad number " ++ shown_name word.now
 line_of (Geometry fault) = codes "refused geometry " ++ limit_words fault
 line_of (NoneFits None) = codes "refused geometry 6 NoneFits"
 line_of (NoneFits (Some nearest)) = codes "refused geometry 6 NoneFits " ++ nearest_words nearest
@@ -77,16 +77,16 @@ line_of MapIsDump = codes "refused map 2 IsDump"
 line_of MapExists = codes "refused map 3 Exists"
 line_of MapNoFile = codes "refused map 4 NoFile"
 line_of WrongLength = codes "refused image 1 WrongLength"
-line_of (DumpLength path) = codes "refused merge 1 DumpLength " ++ shown path.now
-line_of (ReadingLength path) = codes "refused origin 1 ReadingLength " ++ shown path.now
+line_of (DumpLength path) = codes "refused merge 1 DumpLength " ++ shown_name path.now
+line_of (ReadingLength path) = codes "refused origin 1 ReadingLength " ++ shown_name path.now
 line_of OutOfMemory = codes "refused image 3 OutOfMemory"
 line_of (Certificate broken) = codes "refused certificate " ++ certificate_words broken
 line_of GeometryDiffers = codes "refused compare 1 GeometryDiffers"
-line_of (BadArrangement word) = codes "usage: bad arrangement " ++ shown word.now
+line_of (BadArrangement word) = codes "usage: bad arrangement " ++ shown_name word.now
 line_of (Unfit broken) = codes "refused arrange " ++ unfit_words broken
 line_of (ArrangedLength wanted found) = codes "refused arrange 1 WrongLength " ++ lengths_words wanted found
-line_of (Read path) = codes "fault read " ++ shown path.now
-line_of (Write path) = codes "fault write " ++ shown path.now
+line_of (Read path) = codes "fault read " ++ shown_name path.now
+line_of (Write path) = codes "fault write " ++ shown_name path.now
 
 -- the exit status: 1 refused, 2 usage, 3 input or output
 abbrev pub status_of : LabFault → ℕ

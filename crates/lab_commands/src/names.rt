@@ -88,7 +88,7 @@ fn byte_behind(name: &[u8], place: usize) -> u8
 
 /// Writes a name as it is printed.
 pub fn put_name<W: Output>(out: &mut W, name: &str) -> Result<(), OutputFault>
-    ensures bytes { Puts (W.contents out.old) (W.contents out.new) (told.shown name.now) result }
+    ensures bytes { Puts (W.contents out.old) (W.contents out.new) (told.shown_name name.now) result }
     ensures failed { OnErr result (W.failed out.new ≡ true) }
 {
     let bytes = name.as_bytes();

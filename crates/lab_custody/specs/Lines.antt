@@ -5,7 +5,7 @@ use Rattle.serde_json.specs.Written.{compact_text}
 use Rattle.json.specs.Print.{escape}
 use Rattle.lab_commands.specs.declared.document.ReportForm.{ReportForm}
 use Rattle.lab_commands.specs.declared.document.ReportForm.TheVariants.{Text, Json}
-use Rattle.lab_commands.specs.Names.{shown}
+use Rattle.lab_commands.specs.Names.{shown_name}
 use Rattle.lab_commands.specs.Values.{head_data}
 use Rattle.lab_custody.specs.declared.checks.Checked.{Checked}
 use Rattle.lab_custody.specs.declared.checks.Verdict.{Verdict}
@@ -33,7 +33,7 @@ verified_words files changed = codes "verified " ++ (decimal files ++ (codes " c
 -- ---- in a form
 
 abbrev pub check_text : ReportForm → Verdict → List ℕ → List ℕ
-check_text Text v name = (verdict_words v ++ codes " ") ++ (shown name ++ (10 ∷ []))
+check_text Text v name = (verdict_words v ++ codes " ") ++ (shown_name name ++ (10 ∷ []))
 check_text Json v name = codes ",\n" ++ compact_text (verdict_data v name)
 
 -- what stands before a name and behind it, which a JSON string has with its escapes
@@ -42,7 +42,7 @@ front_text Text v = verdict_words v ++ codes " "
 front_text Json v = codes ",\n{\"line\":\"" ++ (verdict_words v ++ codes "\",\"name\":\"")
 
 abbrev pub name_text : ReportForm → List ℕ → List ℕ
-name_text Text name = shown name
+name_text Text name = shown_name name
 name_text Json name = escape name
 
 abbrev pub end_text : ReportForm → List ℕ

@@ -4,7 +4,7 @@ ghost use Rattle.std.specs.Prelude.{◌<◌};
 ghost use Rattle.std.specs.Char.{digit_char};
 ghost use Rattle.json.specs.Print.{escape, escape_byte};
 ghost use Rattle.lab_commands.specs.Document.{Prints};
-ghost use Rattle.lab_commands.specs.Names.{shown};
+ghost use Rattle.lab_commands.specs.Names.{shown_name};
 ghost use Rattle.lab_custody.specs.Lines as told;
 ghost use Rattle.lab_custody.specs.Verify.{changed_count};
 
@@ -84,7 +84,7 @@ fn put_bytes<W: Output>(out: &mut W, bytes: &[u8]) -> Result<(), OutputFault>
 
 // Prints a name as it is shown.
 fn put_shown<W: Output>(out: &mut W, name: &str) -> Result<(), OutputFault>
-    ensures { Prints (W.failed out.new) (W.contents out.old) (W.contents out.new) (shown name.now) result }
+    ensures { Prints (W.failed out.new) (W.contents out.old) (W.contents out.new) (shown_name name.now) result }
 {
     put_name(out, name)
 }

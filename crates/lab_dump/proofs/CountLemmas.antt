@@ -17,7 +17,7 @@ use Rattle.page_layout.specs.Sound.{record_of, is_erased_page, code_of}
 use Rattle.page_layout.proofs.RecordLemmas.{erased_no_record}
 use Rattle.page_layout.specs.Block.{is_broken}
 use Rattle.lab_dump.specs.declared.counts.PageCounts.{PageCounts}
-use Rattle.lab_dump.specs.Count.{AreFew, HasUnsound, SortsLaw, no_counts, one, page_counts_of, counted, is_of_kind, is_outside, is_last, is_broken_page, is_unsound_in, unsound_below}
+use Rattle.lab_dump.specs.Count.{AreFew, HasUnsound, SortsLaw, no_counts, one, page_counts_of, with_page_counted, is_of_kind, is_outside, is_last, is_broken_page, is_unsound_in, unsound_below}
 
 -- ---- counts
 
@@ -34,7 +34,7 @@ count_more test image row p is = by_test (test p) refl
 pub counted_more : (test : Page → Bool) (image : Image) (row : ℕ) (p : Page) (old more : ℕ) → slice_get image row ≡ Some p → old ≡ count_by test (take row image) → more ≡ one (test p) → old + more ≡ count_by test (take (row + 1) image)
 counted_more test image row p old more is before now = ap (λ k. k + more) before ∙ (ap (λ k. count_by test (take row image) + k) now ∙ sym (count_more test image row p is))
 
-pub counts_more : (g : Geometry) (image : Image) (row : ℕ) (p : Page) (c new : PageCounts) → slice_get image row ≡ Some p → c ≡ page_counts_of g (take row image) → new ≡ counted g c (record_of p) (is_erased_page p) → new ≡ page_counts_of g (take (row + 1) image)
+pub counts_more : (g : Geometry) (image : Image) (row : ℕ) (p : Page) (c new : PageCounts) → slice_get image row ≡ Some p → c ≡ page_counts_of g (take row image) → new ≡ with_page_counted g c (record_of p) (is_erased_page p) → new ≡ page_counts_of g (take (row + 1) image)
 unfolding page_counts_of
 counts_more g image row p c new is old e =
     let a1 = count_more (λ q. is_of_kind kind.Sector (record_of q)) image row p is in
@@ -45,7 +45,7 @@ counts_more g image row p c new is old e =
     let a6 = count_more is_broken image row p is in
     let a7 = count_more (λ q. is_outside g (record_of q)) image row p is in
     let a8 = count_more (λ q. is_last (record_of q)) image row p is in
-    e ∙ (ap (λ k. counted g k (record_of p) (is_erased_page p)) old ∙ rw (a1, a2, a3, a4, a5, a6, a7, a8) refl)
+    e ∙ (ap (λ k. with_page_counted g k (record_of p) (is_erased_page p)) old ∙ rw (a1, a2, a3, a4, a5, a6, a7, a8) refl)
 
 pub counts_none : (g : Geometry) (image : Image) (c : PageCounts) → c ≡ no_counts → c ≡ page_counts_of g (take 0 image)
 unfolding page_counts_of
@@ -58,7 +58,7 @@ one_le : (b : Bool) → one b ≤ 1
 one_le true = omega arith
 one_le false = omega arith
 
-pub few_more : (g : Geometry) (rows : ℕ) (c new : PageCounts) (found : Option Record) (erased : Bool) → AreFew rows c → new ≡ counted g c found erased → AreFew (rows + 1) new
+pub few_more : (g : Geometry) (rows : ℕ) (c new : PageCounts) (found : Option Record) (erased : Bool) → AreFew rows c → new ≡ with_page_counted g c found erased → AreFew (rows + 1) new
 few_more g rows c new found erased h e = subst (AreFew (rows + 1)) (sym e) (record {
   sectors = (let a = one_le (is_of_kind kind.Sector found) in let b = h.sectors in omega arith);
   trims = (let a = one_le (is_of_kind kind.Trim found) in let b = h.trims in omega arith);

@@ -19,10 +19,10 @@ use Rattle.page_layout.proofs.ArrayLemmas.{latest-newest, length-marks}
 use Rattle.page_layout.proofs.GreatestLemmas.{Says, best_says}
 use Rattle.page_layout.proofs.NewestLemmas.{sequence_at-is, sequence_at-key}
 use Rattle.lab_dump.specs.declared.held.SectorShown.TheVariants as shown
-use Rattle.lab_dump.specs.Damaged.{DamagedLaw, IsSaidNewer, IsShown, OtherwiseLaw, Broken, content_in, damaged_sector, over, placed, said_content, said_marks, said_reads, shown_place}
+use Rattle.lab_dump.specs.Damaged.{DamagedLaw, IsSaidNewer, IsShown, OtherwiseLaw, Broken, content_in, damaged_sector, row_said_newer, placed, said_content, said_marks, said_reads, shown_place}
 use Rattle.lab_dump.specs.Held.{shown_by, shown_with}
 use Rattle.lab_dump.specs.Said.{is_after, says}
-use Rattle.lab_dump.specs.Until.{counted, until}
+use Rattle.lab_dump.specs.Until.{record_until, until}
 use Rattle.lab_dump.specs.Written.{MarkedLaw, damaged_state, state_of}
 use Rattle.lab_dump.proofs.SaidLemmas.{after_all, before_all, none_is, past, same_of, says_is, says_whole}
 use Rattle.lab_dump.proofs.UntilLemmas.{until_size}
@@ -30,17 +30,17 @@ use Rattle.lab_dump.proofs.WritingLemmas.{sound_whole}
 
 -- ---- one page
 
-pub said_mark : (g : Geometry) (last : Option ℕ) (image : Image) (row : ℕ) (p : Page) → slice_get image row ≡ Some p → get_or (said_marks g last image) row None ≡ counted last (says g p)
+pub said_mark : (g : Geometry) (last : Option ℕ) (image : Image) (row : ℕ) (p : Page) → slice_get image row ≡ Some p → get_or (said_marks g last image) row None ≡ record_until last (says g p)
 unfolding said_marks
 said_mark g last image row p at =
     let inside = slice_get_within image row p at in
     let here : get_or image row p ≡ p = same_page _ _ (sym (slice_get-get_or image row p inside) ∙ at) in
-    get_or-map (λ q. counted last (says g q)) image row p None inside ∙ ap (λ q. counted last (says g q)) here
+    get_or-map (λ q. record_until last (says g q)) image row p None inside ∙ ap (λ q. record_until last (says g q)) here
   where
     same_page : (a b : Page) → Some a ≡ Some b → a ≡ b
     same_page a b e = cc
 
-pub counted_none : (last : Option ℕ) → counted last None ≡ None
+pub counted_none : (last : Option ℕ) → record_until last None ≡ None
 counted_none None = refl
 counted_none (Some last) = refl
 
@@ -55,13 +55,13 @@ said_here g image row p r at is = ap (said_content g) at ∙ ap (λ o. content_o
 
 marks_size : (g : Geometry) (last : Option ℕ) (image : Image) → length (said_marks g last image) ≡ length image
 unfolding said_marks
-marks_size g last image = length-map image (λ p. counted last (says g p))
+marks_size g last image = length-map image (λ p. record_until last (says g p))
 
 none_some : {o : Option Record} {r : Record} → o ≡ None → o ≡ Some r → ⊥
 none_some a b = cc
 
 -- the page that a mark is of
-page_said : (g : Geometry) (last : Option ℕ) (image : Image) (row : ℕ) (r : Record) → get_or (said_marks g last image) row None ≡ Some r → (p : Page) × (slice_get image row ≡ Some p) × (counted last (says g p) ≡ Some r)
+page_said : (g : Geometry) (last : Option ℕ) (image : Image) (row : ℕ) (r : Record) → get_or (said_marks g last image) row None ≡ Some r → (p : Page) × (slice_get image row ≡ Some p) × (record_until last (says g p) ≡ Some r)
 page_said g last image row r mark = elim (slice_get_cases image row).1 [
   | inl h ↦ (h.0, h.2, sym (said_mark g last image row h.0 h.2) ∙ mark)
   | inr h ↦ absurd (none_some (get_or_past (said_marks g last image) row None (omega (arith, h.0, marks_size g last image))) mark)
@@ -166,7 +166,7 @@ if_after true a row e = (refl, cc)
 if_after false a row e = absurd (cc)
 
 over_is : (ms ds : List (Option Record)) (key : Key) (l d : Latest) (row : ℕ) → Says (sequence_at ms key) (length ms) l → Says (sequence_at ds key) (length ds) d → IsFirstIn (sequence_at ds key) (length ds) d
-    → over l d ≡ Some row → IsOver ms ds key row
+    → row_said_newer l d ≡ Some row → IsOver ms ds key row
 over_is ms ds key l Never row ml dl first e = absurd (cc)
 over_is ms ds key l (Once a s) row ml dl first e =
     let its = if_after (is_after s l) a row e in
@@ -182,13 +182,13 @@ over_top ms ds key l a s t ml le newer =
 
 -- where a page is newer, one is shown
 over_some : (ms ds : List (Option Record)) (key : Key) (l d : Latest) (row s : ℕ) → Says (sequence_at ms key) (length ms) l → Says (sequence_at ds key) (length ds) d → IsFirstIn (sequence_at ds key) (length ds) d
-    → sequence_at ds key row ≡ Some s → ((q v : ℕ) → sequence_at ms key q ≡ Some v → v < s) → (a : ℕ) × (over l d ≡ Some a)
+    → sequence_at ds key row ≡ Some s → ((q v : ℕ) → sequence_at ms key q ≡ Some v → v < s) → (a : ℕ) × (row_said_newer l d ≡ Some a)
 over_some ms ds key l Never row s ml dl first here newer = absurd (none_is (dl.all row (past ds key row s here)) here)
 over_some ms ds key l (Once a t) row s ml dl first here newer = (a, over_top ms ds key l a s t ml ((once_top ds key a t dl first).greatest row s here) newer)
 over_some ms ds key l (Tied a b t) row s ml dl first here newer = (a, over_top ms ds key l a s t ml ((tied_top ds key a b t dl first).greatest row s here) newer)
 
 over_from : (ms ds : List (Option Record)) (key : Key) (l d : Latest) (row : ℕ) → Says (sequence_at ms key) (length ms) l → Says (sequence_at ds key) (length ds) d → IsFirstIn (sequence_at ds key) (length ds) d
-    → IsOver ms ds key row → over l d ≡ Some row
+    → IsOver ms ds key row → row_said_newer l d ≡ Some row
 over_from ms ds key l d row ml dl first h =
     let some = over_some ms ds key l d row h.sequence ml dl first h.top.here h.newer in
     let its = over_is ms ds key l d some.0 ml dl first some.1 in
@@ -250,7 +250,7 @@ from_shown g last image n row h = record {
   newer = h.is.newer;
 }
 
-over_shown : (g : Geometry) (last : Option ℕ) (image : Image) (n row : ℕ) → (over (sound_of g last image n) (others_of g last image n) ≡ Some row) ↔ IsShown g last image n row
+over_shown : (g : Geometry) (last : Option ℕ) (image : Image) (n row : ℕ) → (row_said_newer (sound_of g last image n) (others_of g last image n) ≡ Some row) ↔ IsShown g last image n row
 over_shown g last image n row =
     let ms = marks (until g last image) in
     let ds = said_marks g last image in (
@@ -266,15 +266,15 @@ broken_place None None row = (λ e. absurd (cc), λ e. absurd (cc))
 pub damaged_law : DamagedLaw
 unfolding shown_place
 damaged_law g last image n row =
-    let place = broken_place (over (sound_of g last image n) (others_of g last image n)) (place_of (sound_of g last image n)) row in
+    let place = broken_place (row_said_newer (sound_of g last image n) (others_of g last image n)) (place_of (sound_of g last image n)) row in
     let shown = over_shown g last image n row in
     (λ e. shown.0 (place.0 e), λ h. place.1 (shown.1 h))
 
 -- none is newer
-none_over : (g : Geometry) (last : Option ℕ) (image : Image) (n : ℕ) → ((row : ℕ) → ¬ IsSaidNewer g last image n row) → over (sound_of g last image n) (others_of g last image n) ≡ None
-none_over g last image n none = by (over (sound_of g last image n) (others_of g last image n)) refl
+none_over : (g : Geometry) (last : Option ℕ) (image : Image) (n : ℕ) → ((row : ℕ) → ¬ IsSaidNewer g last image n row) → row_said_newer (sound_of g last image n) (others_of g last image n) ≡ None
+none_over g last image n none = by (row_said_newer (sound_of g last image n) (others_of g last image n)) refl
   where
-    by : (o : Option ℕ) → over (sound_of g last image n) (others_of g last image n) ≡ o → o ≡ None
+    by : (o : Option ℕ) → row_said_newer (sound_of g last image n) (others_of g last image n) ≡ o → o ≡ None
     by None e = refl
     by (Some row) e = absurd (none row ((over_shown g last image n row).0 e).is)
 
@@ -307,7 +307,7 @@ marked_law g last image n =
     let l = sound_of g last image n in
     let d = others_of g last image n in (
       (
-        λ e. let some = marked_some (over l d) l e in (some.0, ((over_shown g last image n some.0).0 some.1).is),
+        λ e. let some = marked_some (row_said_newer l d) l e in (some.0, ((over_shown g last image n some.0).0 some.1).is),
         λ h.
             let some = over_some ms ds (key.Sector n) l d h.0 h.1.its.sequence (sound_says g last image n) (others_says g last image n) (others_first g last image n) (newer_here g last image n h.0 h.1) h.1.newer in
             ap (λ o. shown_with o l) some.1,

@@ -17,7 +17,7 @@ use Rattle.page_layout.proofs.ArrayLemmas.{mark-page, length-marks, page_of_mark
 use Rattle.page_layout.proofs.NewestLemmas.{newest-record, newest_same, sequence_at-same}
 use Rattle.page_layout.proofs.GreatestLemmas.{IsGreatest-same}
 use Rattle.page_layout.proofs.StepLemmas.{erased_unsound}
-use Rattle.lab_dump.specs.Until.{is_later, counted, page_until, until, CountsLaw, AllCountLaw, IsUncollected, ThenLaw}
+use Rattle.lab_dump.specs.Until.{is_later, record_until, page_until, until, CountsLaw, AllCountLaw, IsUncollected, ThenLaw}
 
 -- ---- its pages
 
@@ -33,7 +33,7 @@ pub until_page : (g : Geometry) (last : Option ℕ) (image : Image) (row : ℕ) 
 until_page g last image row p at = until_at g last image row ∙ ap (option_map (page_until g last)) at
 
 -- a page that does not count has no record
-pub counted_record : (g : Geometry) (last : Option ℕ) (p : Page) → record_of (page_until g last p) ≡ counted last (record_of p)
+pub counted_record : (g : Geometry) (last : Option ℕ) (p : Page) → record_of (page_until g last p) ≡ record_until last (record_of p)
 counted_record g None p = refl
 counted_record g (Some l) p = by (is_later l (record_of p))
   where
@@ -42,7 +42,7 @@ counted_record g (Some l) p = by (is_later l (record_of p))
     by false = refl
 
 -- one that counts stands as it is
-pub counted_page : (g : Geometry) (last : Option ℕ) (p : Page) (r : Record) → counted last (record_of p) ≡ Some r → page_until g last p ≡ p
+pub counted_page : (g : Geometry) (last : Option ℕ) (p : Page) (r : Record) → record_until last (record_of p) ≡ Some r → page_until g last p ≡ p
 counted_page g None p r is = refl
 counted_page g (Some l) p r is = by (is_later l (record_of p)) is
   where
@@ -50,7 +50,7 @@ counted_page g (Some l) p r is = by (is_later l (record_of p)) is
     by true e = absurd (cc)
     by false e = refl
 
-pub counted_was : (last : Option ℕ) (found : Option Record) (r : Record) → counted last found ≡ Some r → found ≡ Some r
+pub counted_was : (last : Option ℕ) (found : Option Record) (r : Record) → record_until last found ≡ Some r → found ≡ Some r
 counted_was None found r is = is
 counted_was (Some l) found r is = by (is_later l found) is
   where
@@ -60,21 +60,21 @@ counted_was (Some l) found r is = by (is_later l found) is
 
 -- ---- its records
 
-mark_until : (g : Geometry) (last : Option ℕ) (image : Image) (row : ℕ) → get_or (marks (until g last image)) row None ≡ counted last (get_or (marks image) row None)
+mark_until : (g : Geometry) (last : Option ℕ) (image : Image) (row : ℕ) → get_or (marks (until g last image)) row None ≡ record_until last (get_or (marks image) row None)
 mark_until g last image row = elim ((slice_get_cases image row).1) [
-  | inl (p, inside, at, here) ↦ mark-page (until g last image) row (page_until g last p) (until_page g last image row p at) ∙ (counted_record g last p ∙ ap (counted last) (sym (mark-page image row p at)))
+  | inl (p, inside, at, here) ↦ mark-page (until g last image) row (page_until g last p) (until_page g last image row p at) ∙ (counted_record g last p ∙ ap (record_until last) (sym (mark-page image row p at)))
   | inr (past, none) ↦
       get_or_past (marks (until g last image)) row None (omega (arith, length-marks (until g last image), until_size g last image))
-      ∙ (sym (nothing last) ∙ ap (counted last) (sym (get_or_past (marks image) row None (omega (arith, length-marks image)))))
+      ∙ (sym (nothing last) ∙ ap (record_until last) (sym (get_or_past (marks image) row None (omega (arith, length-marks image)))))
 ]
   where
-    nothing : (last : Option ℕ) → counted last None ≡ None
+    nothing : (last : Option ℕ) → record_until last None ≡ None
     nothing None = refl
     nothing (Some l) = refl
 
 -- ---- laws
 
-counted_some : (last : ℕ) (found : Option Record) (r : Record) → (counted (Some last) found ≡ Some r) ↔ ((found ≡ Some r) × (r.sequence ≤ last))
+counted_some : (last : ℕ) (found : Option Record) (r : Record) → (record_until (Some last) found ≡ Some r) ↔ ((found ≡ Some r) × (r.sequence ≤ last))
 counted_some last None r = (λ e. absurd (cc), λ h. h.0)
 counted_some last (Some x) r = (
   λ e. elim (cases_Bool (nat_lt last x.sequence)) [
@@ -120,14 +120,14 @@ all_count_law g image = (
 then_mark : (g : Geometry) (last : ℕ) (old new : Image) (row : ℕ) → IsUncollected last old new → get_or (marks (until g (Some last) new)) row None ≡ get_or (marks old) row None
 then_mark g last old new row h = mark_until g (Some last) new row ∙ by (get_or (marks old) row None) refl
   where
-    late : (o : Option Record) → get_or (marks new) row None ≡ o → get_or (marks old) row None ≡ None → counted (Some last) o ≡ None
+    late : (o : Option Record) → get_or (marks new) row None ≡ o → get_or (marks old) row None ≡ None → record_until (Some last) o ≡ None
     late None is none = refl
     late (Some r) is none =
         let lt = h.late row r none is in
         let later : nat_lt last r.sequence ≡ true = grind (arith, nat_tests) in
         ap (λ b. cond b None (Some r)) later
 
-    by : (o : Option Record) → get_or (marks old) row None ≡ o → counted (Some last) (get_or (marks new) row None) ≡ o
+    by : (o : Option Record) → get_or (marks old) row None ≡ o → record_until (Some last) (get_or (marks new) row None) ≡ o
     by None is = late (get_or (marks new) row None) refl is
     by (Some r) is =
         let p = page_of_mark old row r is in
@@ -138,7 +138,7 @@ then_page : (g : Geometry) (last : ℕ) (old new : Image) (row : ℕ) (r : Recor
 then_page g last old new row r h is =
     let p = page_of_mark old row r is in
     let at : slice_get new row ≡ Some p.0 = h.kept row r is ∙ p.1 in
-    let counts : counted (Some last) (record_of p.0) ≡ Some r = (counted_some last (record_of p.0) r).1 (p.2, h.early row r is) in
+    let counts : record_until (Some last) (record_of p.0) ≡ Some r = (counted_some last (record_of p.0) r).1 (p.2, h.early row r is) in
     until_page g (Some last) new row p.0 at ∙ (ap Some (counted_page g (Some last) p.0 r counts) ∙ sym p.1)
 
 then_newest : (g : Geometry) (last : ℕ) (old new : Image) (n : ℕ) → IsUncollected last old new → newest (marks (until g (Some last) new)) (key.Sector n) ≡ newest (marks old) (key.Sector n)

@@ -31,7 +31,7 @@ use Rattle.lab_dump.specs.declared.doubts.Unsettled.{Unsettled}
 use Rattle.lab_dump.specs.Doubting.{IsDoubting}
 use Rattle.lab_dump.specs.Until.{until}
 use Rattle.lab_dump.specs.Writing.{content_below, AreSized, ReadBelow, WritingStands, ShowsDamaged, ShowsSound}
-use Rattle.lab_dump.specs.Damaged.{content_in, damaged_array, damaged_sector, over, place_by, placed, said_marks, said_reads, shown_place}
+use Rattle.lab_dump.specs.Damaged.{content_in, damaged_array, damaged_sector, row_said_newer, place_by, placed, said_marks, said_reads, shown_place}
 use Rattle.lab_dump.specs.Written.{IsLeftUnsettled, IsWritten, TiedLaw, UnmarkedLaw, damaged_state, damaged_states, state_of, states_of}
 use Rattle.lab_dump.proofs.ScanLemmas.{if_both}
 use Rattle.lab_dump.proofs.UntilLemmas.{until_size}
@@ -112,8 +112,8 @@ unfolding damaged_states damaged_state
 states_damaged g last image hs size few told = all_told g (damaged_state g last image) hs few (λ n within.
     let sound = λ (k : ℕ). latest_below (marks (until g last image)) (key.Sector n) k in
     let others = λ (k : ℕ). latest_below (said_marks g last image) (key.Sector n) k in
-    told_by (get_or hs n held.Never) (sound (row_count g)) (others (row_count g)) (over (sound (row_count g)) (others (row_count g))) (told n within)
-    ∙ ap (λ k. shown_with (over (sound k) (others k)) (sound k)) (sym size))
+    told_by (get_or hs n held.Never) (sound (row_count g)) (others (row_count g)) (row_said_newer (sound (row_count g)) (others (row_count g))) (told n within)
+    ∙ ap (λ k. shown_with (row_said_newer (sound k) (others k)) (sound k)) (sym size))
 
 -- ---- all of it
 

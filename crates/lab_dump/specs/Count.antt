@@ -60,8 +60,8 @@ abbrev pub one : Bool → ℕ
 one b = if b then 1 else 0
 
 -- the counts with one page more, by its record and whether it is erased
-abbrev pub counted : Geometry → PageCounts → Option Record → Bool → PageCounts
-counted g c found erased = record {
+abbrev pub with_page_counted : Geometry → PageCounts → Option Record → Bool → PageCounts
+with_page_counted g c found erased = record {
   sectors = c.sectors + one (is_of_kind kind.Sector found);
   trims = c.trims + one (is_of_kind kind.Trim found);
   translations = c.translations + one (is_of_kind kind.Translation found);

@@ -15,16 +15,16 @@ use Rattle.page_layout.specs.Newest.{latest_below, sequence_at}
 use Rattle.page_layout.specs.Array.{marks, zeros, content_of_record, content_at, sector_of, array_of}
 use Rattle.page_layout.specs.Block.{is_broken}
 use Rattle.lab_dump.specs.Said.{is_after, says}
-use Rattle.lab_dump.specs.Until.{counted, until}
+use Rattle.lab_dump.specs.Until.{record_until, until}
 
 -- ---- where a sector is shown from
 
 -- The row of a page that is not sound and says something newer than each sound page, by what is known of the sound ones and of what the others say: the
 -- one of the greatest sequence, and of several the first.
-abbrev pub over : (sound said : Latest) → Option ℕ
-over sound Never = None
-over sound (Once row s) = if is_after s sound then Some row else None
-over sound (Tied a b s) = if is_after s sound then Some a else None
+abbrev pub row_said_newer : (sound said : Latest) → Option ℕ
+row_said_newer sound Never = None
+row_said_newer sound (Once row s) = if is_after s sound then Some row else None
+row_said_newer sound (Tied a b s) = if is_after s sound then Some a else None
 
 -- no page, the sound page of a row, or one that is not sound
 pub data Place : Type 0 where
@@ -38,7 +38,7 @@ placed None (Some row) = Whole row
 placed None None = Nowhere
 
 abbrev pub place_by : (sound said : Latest) → Place
-place_by sound said = placed (over sound said) (place_of sound)
+place_by sound said = placed (row_said_newer sound said) (place_of sound)
 
 -- what a sector reads as from there, where a page that is not sound reads as this
 abbrev pub content_in : Geometry → Image → (ℕ → List ℕ) → Place → List ℕ
@@ -50,7 +50,7 @@ content_in g image reads (Broken row) = reads row
 
 -- what each page says that is neither erased nor sound, as of a sequence where one is said: later ones do not count
 unfoldable pub said_marks : Geometry → Option ℕ → Image → List (Option Record)
-said_marks g last image = map (λ p. counted last (says g p)) image
+said_marks g last image = map (λ p. record_until last (says g p)) image
 
 -- what such a page reads as: its data area where it says a sector, zeros where it says a trim
 abbrev pub said_content : Geometry → Option Page → List ℕ
@@ -95,7 +95,7 @@ pub record IsSaidNewer (g : Geometry) (last : Option ℕ) (image : Image) (n row
   pub page : Page
   pub its : Record
   pub at : slice_get image row ≡ Some page
-  pub says_is : counted last (says g page) ≡ Some its
+  pub says_is : record_until last (says g page) ≡ Some its
   pub key_is : key_of its ≡ Sector n
   pub newer : (other s : ℕ) → sequence_at (marks (until g last image)) (Sector n) other ≡ Some s → s < its.sequence
 

@@ -13,7 +13,7 @@ use Rattle.lab_dump.specs.declared.held.SectorShown.{SectorShown}
 use Rattle.lab_dump.specs.declared.held.SectorShown.TheVariants as shown
 use Rattle.lab_dump.specs.declared.held.Change.{Change}
 use Rattle.lab_dump.specs.declared.held.Change.TheVariants.{Stays, Newest, Tie}
-use Rattle.lab_dump.specs.Damaged.{Place, Nowhere, over}
+use Rattle.lab_dump.specs.Damaged.{Place, Nowhere, row_said_newer}
 
 -- it says as much of the sound pages, but for the rows
 abbrev pub TellsSound : Held → Latest → Type 0
@@ -34,7 +34,7 @@ TellsBy h sound said None = TellsSound h sound
 TellsBy h sound said (Some row) = TellsSaid h said
 
 abbrev pub Tells : Held → (sound said : Latest) → Type 0
-Tells h sound said = TellsBy h sound said (over sound said)
+Tells h sound said = TellsBy h sound said (row_said_newer sound said)
 
 -- the sequence that is held
 abbrev pub greatest_in : Held → Option ℕ

@@ -13,9 +13,9 @@ is_later last None = false
 is_later last (Some r) = nat_lt last r.sequence
 
 -- the record where it has no later sequence, or where none is said
-abbrev pub counted : Option ℕ → Option Record → Option Record
-counted None found = found
-counted (Some last) found = if is_later last found then None else found
+abbrev pub record_until : Option ℕ → Option Record → Option Record
+record_until None found = found
+record_until (Some last) found = if is_later last found then None else found
 
 -- the page where it was not programmed later, else one as an erase leaves it
 abbrev pub page_until : Geometry → Option ℕ → Page → Page

@@ -17,7 +17,7 @@ use Rattle.lab_dump.specs.declared.doubts.Unsettled.{Unsettled}
 use Rattle.lab_dump.specs.Doubts.{doubts_of, legible_of}
 use Rattle.lab_dump.specs.Said.{said_of}
 use Rattle.lab_dump.specs.Until.{until}
-use Rattle.lab_dump.specs.Damaged.{IsSaidNewer, array_with, over, said_marks}
+use Rattle.lab_dump.specs.Damaged.{IsSaidNewer, array_with, row_said_newer, said_marks}
 
 -- how sector n stands: with no sound page, with a newest one, or with two that share its greatest sequence
 unfoldable pub state_of : Image → ℕ → SectorShown
@@ -31,7 +31,7 @@ states_of g image = map (state_of image) (range_with_len 0 g.sectors)
 -- Law: a sector is shown so just where such a page is newer than each sound one (`MarkedLaw`).
 unfoldable pub damaged_state : Geometry → Option ℕ → Image → ℕ → SectorShown
 damaged_state g last image n =
-    shown_with (over (latest_below (marks (until g last image)) (Sector n) (length image)) (latest_below (said_marks g last image) (Sector n) (length image))) (latest_below (marks (until g last image)) (Sector n) (length image))
+    shown_with (row_said_newer (latest_below (marks (until g last image)) (Sector n) (length image)) (latest_below (said_marks g last image) (Sector n) (length image))) (latest_below (marks (until g last image)) (Sector n) (length image))
 
 unfoldable pub damaged_states : Geometry → Option ℕ → Image → List SectorShown
 damaged_states g last image = map (damaged_state g last image) (range_with_len 0 g.sectors)

@@ -3,7 +3,7 @@ ghost use Rattle.std.specs.Prelude.{◌≡◌, ◌+◌, ◌-◌, ◌/◌, ◌<�
 ghost use Rattle.page_layout.specs.Geometry.{row_count};
 ghost use Rattle.page_layout.specs.Page.{Page, Image};
 ghost use Rattle.page_layout.specs.Sound.{record_of, is_erased_page};
-ghost use Rattle.lab_dump.specs.Count.{AreFew, HasUnsound, SortsLaw, counted, is_last, is_of_kind, is_outside, no_counts};
+ghost use Rattle.lab_dump.specs.Count.{AreFew, HasUnsound, SortsLaw, with_page_counted, is_last, is_of_kind, is_outside, no_counts};
 
 use page_layout::geometry::Geometry;
 use page_layout::record::{Key, Kind, Record};
@@ -103,7 +103,7 @@ impl PageCounts {
     // The counts with one page more.
     pub(crate) fn step(self, geometry: &Geometry, found: Option<Record>, erased: bool) -> PageCounts
         requires { AreFew (2 ^ 32 - 2) self }
-        ensures { result ≡ counted geometry.now self found erased }
+        ensures { result ≡ with_page_counted geometry.now self found erased }
     {
         PageCounts {
             sectors: self.sectors + one(is_of_kind(found, Kind::Sector)),

@@ -17,7 +17,7 @@ use crate::held::Change;
 use crate::pass::{Stopped, Taker};
 use crate::said::spelled_of_die;
 use crate::target::{DamagedTarget, TargetFault};
-use crate::until::counted;
+use crate::until::record_until;
 use crate::writing::{Writing, sector_in};
 use page_layout::geometry::Geometry;
 use page_layout::record::{Kind, Record, is_erased, read_record};
@@ -143,12 +143,12 @@ impl<T: DamagedTarget> Taker for DamagedWriting<T> {
         self.writing
             .doubting
             .step(geometry, row, found, body, spare);
-        let sound = counted(self.writing.until, found);
+        let sound = record_until(self.writing.until, found);
         if let Some(found) = sound {
             return self.writing.take_sound(geometry, row, &found, body, spare);
         }
         let said = says(geometry, found, body, spare);
-        match counted(self.writing.until, said) {
+        match record_until(self.writing.until, said) {
             Some(says) => self.writing.take_said(geometry, row, &says, body, spare),
             None => Ok(()),
         }

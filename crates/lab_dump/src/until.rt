@@ -1,6 +1,6 @@
 //! The pages that count as of a sequence.
 ghost use Rattle.std.specs.Prelude.{◌≡◌};
-ghost use Rattle.lab_dump.specs.Until.{AllCountLaw, CountsLaw, ThenLaw, counted};
+ghost use Rattle.lab_dump.specs.Until.{AllCountLaw, CountsLaw, ThenLaw, record_until};
 
 use page_layout::record::Record;
 
@@ -13,8 +13,8 @@ pub fn until_laws()
 {}
 
 // The record where it has no later sequence than the last that counts, or where none is said.
-pub(crate) fn counted(until: Option<u64>, found: Option<Record>) -> Option<Record>
-    ensures { result ≡ counted until found }
+pub(crate) fn record_until(until: Option<u64>, found: Option<Record>) -> Option<Record>
+    ensures { result ≡ record_until until found }
 {
     match (until, found) {
         (Some(last), Some(found)) if last < found.sequence => None,

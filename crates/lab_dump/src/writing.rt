@@ -13,7 +13,7 @@ use crate::doubting::Doubting;
 use crate::held::{Change, Held};
 use crate::pass::{Stopped, Taker};
 use crate::target::{Target, TargetFault};
-use crate::until::counted;
+use crate::until::record_until;
 use page_layout::geometry::Geometry;
 use page_layout::record::{Key, Kind, Record, read_record};
 
@@ -128,7 +128,7 @@ impl<T: Target> Taker for Writing<T> {
     ) -> Result<(), Stopped> {
         let found = read_record(geometry, body, spare);
         self.doubting.step(geometry, row, found, body, spare);
-        match counted(self.until, found) {
+        match record_until(self.until, found) {
             Some(found) => self.take_sound(geometry, row, &found, body, spare),
             None => Ok(()),
         }

@@ -26,7 +26,7 @@ use Rattle.lab_mend.specs.Found.{WritesChoice}
 use
     Rattle.lab_mend.specs.Merging.{
       named,
-      counted,
+      with_origin_counted,
       origin_place,
       is_from,
       is_turned,
@@ -164,7 +164,7 @@ tally_same s a k b c w x v y z d e i f h =
     ap (λ n. the_tally n a k b c) d ∙ (ap (λ n. the_tally w n k b c) e ∙ (ap (λ n. the_tally w x n b c) i ∙ (ap (λ n. the_tally w x v n c) f ∙ ap (the_tally w x v y) h)))
 
 counted_is : (t : RowTally) (o : Origin) → the_tally (t.sound + cond (eqb (origin_place o) 0) 1 0) (t.majority + cond (eqb (origin_place o) 2) 1 0) (t.turned + cond (eqb (origin_place o) 5) 1 0) (t.erased + cond (eqb (origin_place o) 3) 1 0)
-    (t.unsound + cond (eqb (origin_place o) 4) 1 0) ≡ counted t o
+    (t.unsound + cond (eqb (origin_place o) 4) 1 0) ≡ with_origin_counted t o
 counted_is t Sound = tally_same (t.sound + 1) (t.majority + 0) (t.turned + 0) (t.erased + 0) (t.unsound + 0) (t.sound + 1) t.majority t.turned t.erased t.unsound refl (add-zero t.majority) (add-zero t.turned) (add-zero t.erased) (add-zero t.unsound)
 counted_is t Conflict = tally_same (t.sound + 0) (t.majority + 0) (t.turned + 0) (t.erased + 0) (t.unsound + 0) t.sound t.majority t.turned t.erased t.unsound (add-zero t.sound) (add-zero t.majority) (add-zero t.turned) (add-zero t.erased) (add-zero t.unsound)
 counted_is t Majority = tally_same (t.sound + 0) (t.majority + 1) (t.turned + 0) (t.erased + 0) (t.unsound + 0) t.sound (t.majority + 1) t.turned t.erased t.unsound (add-zero t.sound) refl (add-zero t.turned) (add-zero t.erased) (add-zero t.unsound)
@@ -177,7 +177,7 @@ counted_is t Unsound = tally_same (t.sound + 0) (t.majority + 0) (t.turned + 0) 
 count_more : (p : ℕ → Bool) (n : ℕ) → count_by p (range_with_len 0 (n + 1)) ≡ count_by p (range_with_len 0 n) + cond (p n) 1 0
 count_more p n = ap (count_by p) (range_more n) ∙ sum_by_push (λ x. cond (p x) 1 0) (range_with_len 0 n) n
 
-pub tally_more : (g : Geometry) (rows : ℕ → List Page) (n : ℕ) → tally_below g rows (n + 1) ≡ counted (tally_below g rows n) (choice g (rows n)).origin
+pub tally_more : (g : Geometry) (rows : ℕ → List Page) (n : ℕ) → tally_below g rows (n + 1) ≡ with_origin_counted (tally_below g rows n) (choice g (rows n)).origin
 unfolding tally_below
 tally_more g rows n =
     let o : Origin = (choice g (rows n)).origin in
@@ -190,7 +190,7 @@ tally_more g rows n =
     (count_more (is_from g rows Sound) n) (count_more (is_from g rows Majority) n) (count_more (is_turned g rows) n) (count_more (is_from g rows Erased) n) (count_more (is_from g rows Unsound) n)
     ∙ counted_is (the_tally s m k e u) o
 
-few_more : (n : ℕ) (t : RowTally) (o : Origin) → AreFew n t → AreFew (n + 1) (counted t o)
+few_more : (n : ℕ) (t : RowTally) (o : Origin) → AreFew n t → AreFew (n + 1) (with_origin_counted t o)
 few_more n t Sound h = let d = h.sound in let a = h.majority in let i = h.turned in let b = h.erased in let c = h.unsound in record { sound = omega arith; majority = omega arith; turned = omega arith; erased = omega arith; unsound = omega arith }
 few_more n t Conflict h = let d = h.sound in let a = h.majority in let i = h.turned in let b = h.erased in let c = h.unsound in record { sound = omega arith; majority = omega arith; turned = omega arith; erased = omega arith; unsound = omega arith }
 few_more n t Majority h = let d = h.sound in let a = h.majority in let i = h.turned in let b = h.erased in let c = h.unsound in record { sound = omega arith; majority = omega arith; turned = omega arith; erased = omega arith; unsound = omega arith }
@@ -312,7 +312,7 @@ both_set None P Q R n piece p q more = tt
 both_set (Some ps) P Q R n piece p q more = more ps p q
 
 pub stands_more : (g : Geometry) (n : ℕ) (rows : List ℕ) (t : RowTally) (o : Origin) (old scratch : List ℕ) (pieces : Option (List (List ℕ))) → n < row_count g → MergingStands g n rows t old pieces → length scratch ≡ page_bytes g
-    → (o ≡ Conflict → scratch ≡ replicate (page_bytes g) 0) → MergingStands g (n + 1) (named rows n o) (counted t o) scratch (option_map (λ ps. set ps n scratch) pieces)
+    → (o ≡ Conflict → scratch ≡ replicate (page_bytes g) 0) → MergingStands g (n + 1) (named rows n o) (with_origin_counted t o) scratch (option_map (λ ps. set ps n scratch) pieces)
 stands_more g n rows t o old scratch pieces within h size zero = record {
   scratch_size = size;
   few = few_more n t o h.few;
@@ -328,13 +328,13 @@ written_more g of n piece ps inside is h row l = elim (cases_eq row n) [
 ]
 
 pub shows_more : (g : Geometry) (of : ℕ → List Page) (n : ℕ) (rows : List ℕ) (t : RowTally) (pages : List Page) (o : Origin) (old scratch : List ℕ) (pieces : Option (List (List ℕ))) → n < row_count g → MergingStands g n rows t old pieces
-    → Shows g of n rows t pieces → of n ≡ pages → WritesChoice (choice g pages) o scratch → Shows g of (n + 1) (named rows n o) (counted t o) (option_map (λ ps. set ps n scratch) pieces)
+    → Shows g of n rows t pieces → of n ≡ pages → WritesChoice (choice g pages) o scratch → Shows g of (n + 1) (named rows n o) (with_origin_counted t o) (option_map (λ ps. set ps n scratch) pieces)
 shows_more g of n rows t pages o old scratch pieces within stands h are written =
     let origin : o ≡ (choice g (of n)).origin = written.origin_is ∙ ap (λ ps. (choice g ps).origin) (sym are) in
     let piece : scratch ≡ piece_of g (of n) = written.bytes_are ∙ ap (piece_of g) (sym are) in
     record {
       conflicts_are = ap (λ xs. named xs n o) h.conflicts_are ∙ (ap (named (conflicts_below g of n) n) origin ∙ sym (conflicts_more g of n));
-      tally_is = ap (λ x. counted x o) h.tally_is ∙ (ap (counted (tally_below g of n)) origin ∙ sym (tally_more g of n));
+      tally_is = ap (λ x. with_origin_counted x o) h.tally_is ∙ (ap (with_origin_counted (tally_below g of n)) origin ∙ sym (tally_more g of n));
       pieces_are = both_set pieces (AreOwn g n rows) (λ ps. (row : ℕ) → row < n → get_or ps row [] ≡ piece_of g (of row)) (λ ps. (row : ℕ) → row < n + 1 → get_or ps row [] ≡ piece_of g (of row)) n scratch stands.own h.pieces_are
           (λ ps own each. written_more g of n scratch ps (let size = own.size in omega arith) piece each);
     }
@@ -391,26 +391,26 @@ conflict_zero g pages o scratch h e = h.bytes_are ∙ (ap bytes_of_page (conflic
 
 -- the same, of what the code holds after it
 pub stands_next : (g : Geometry) (n : ℕ) (rows : List ℕ) (t : RowTally) (pages : List Page) (o : Origin) (old out : List ℕ) (pieces : Option (List (List ℕ))) → n < row_count g → MergingStands g n rows t old pieces → length out ≡ page_bytes g
-    → WritesChoice (choice g pages) o out → (rows' : List ℕ) (t' : RowTally) (scratch : List ℕ) (pieces' : Option (List (List ℕ))) → rows' ≡ named rows n o → t' ≡ counted t o → scratch ≡ out
+    → WritesChoice (choice g pages) o out → (rows' : List ℕ) (t' : RowTally) (scratch : List ℕ) (pieces' : Option (List (List ℕ))) → rows' ≡ named rows n o → t' ≡ with_origin_counted t o → scratch ≡ out
     → pieces' ≡ option_map (λ ps. set ps n scratch) pieces → MergingStands g (n + 1) rows' t' scratch pieces'
 stands_next g n rows t pages o old out pieces within h size written rows' t' scratch pieces' a b c d =
     let whole : length scratch ≡ page_bytes g = ap length c ∙ size in
     let zero : o ≡ Conflict → scratch ≡ replicate (page_bytes g) 0 = λ e. c ∙ conflict_zero g pages o out written e in
-    let next : MergingStands g (n + 1) (named rows n o) (counted t o) scratch (option_map (λ ps. set ps n scratch) pieces) = stands_more g n rows t o old scratch pieces within h whole zero in
-    let first : MergingStands g (n + 1) rows' (counted t o) scratch (option_map (λ ps. set ps n scratch) pieces) =
-    subst (λ (x : List ℕ). MergingStands g (n + 1) x (counted t o) scratch (option_map (λ ps. set ps n scratch) pieces)) (sym a) next in
+    let next : MergingStands g (n + 1) (named rows n o) (with_origin_counted t o) scratch (option_map (λ ps. set ps n scratch) pieces) = stands_more g n rows t o old scratch pieces within h whole zero in
+    let first : MergingStands g (n + 1) rows' (with_origin_counted t o) scratch (option_map (λ ps. set ps n scratch) pieces) =
+    subst (λ (x : List ℕ). MergingStands g (n + 1) x (with_origin_counted t o) scratch (option_map (λ ps. set ps n scratch) pieces)) (sym a) next in
     let second : MergingStands g (n + 1) rows' t' scratch (option_map (λ ps. set ps n scratch) pieces) =
     subst (λ (x : RowTally). MergingStands g (n + 1) rows' x scratch (option_map (λ ps. set ps n scratch) pieces)) (sym b) first in
     subst (λ (x : Option (List (List ℕ))). MergingStands g (n + 1) rows' t' scratch x) (sym d) second
 
 pub shows_next : (g : Geometry) (of : ℕ → List Page) (n : ℕ) (rows : List ℕ) (t : RowTally) (pages : List Page) (o : Origin) (old out : List ℕ) (pieces : Option (List (List ℕ))) → n < row_count g → MergingStands g n rows t old pieces
-    → Shows g of n rows t pieces → of n ≡ pages → WritesChoice (choice g pages) o out → (rows' : List ℕ) (t' : RowTally) (scratch : List ℕ) (pieces' : Option (List (List ℕ))) → rows' ≡ named rows n o → t' ≡ counted t o → scratch ≡ out
+    → Shows g of n rows t pieces → of n ≡ pages → WritesChoice (choice g pages) o out → (rows' : List ℕ) (t' : RowTally) (scratch : List ℕ) (pieces' : Option (List (List ℕ))) → rows' ≡ named rows n o → t' ≡ with_origin_counted t o → scratch ≡ out
     → pieces' ≡ option_map (λ ps. set ps n scratch) pieces → Shows g of (n + 1) rows' t' pieces'
 shows_next g of n rows t pages o old out pieces within stands h are written rows' t' scratch pieces' a b c d =
     let its : WritesChoice (choice g pages) o scratch = subst (λ (x : List ℕ). WritesChoice (choice g pages) o x) (sym c) written in
-    let next : Shows g of (n + 1) (named rows n o) (counted t o) (option_map (λ ps. set ps n scratch) pieces) = shows_more g of n rows t pages o old scratch pieces within stands h are its in
-    let first : Shows g of (n + 1) rows' (counted t o) (option_map (λ ps. set ps n scratch) pieces) =
-    subst (λ (x : List ℕ). Shows g of (n + 1) x (counted t o) (option_map (λ ps. set ps n scratch) pieces)) (sym a) next in
+    let next : Shows g of (n + 1) (named rows n o) (with_origin_counted t o) (option_map (λ ps. set ps n scratch) pieces) = shows_more g of n rows t pages o old scratch pieces within stands h are its in
+    let first : Shows g of (n + 1) rows' (with_origin_counted t o) (option_map (λ ps. set ps n scratch) pieces) =
+    subst (λ (x : List ℕ). Shows g of (n + 1) x (with_origin_counted t o) (option_map (λ ps. set ps n scratch) pieces)) (sym a) next in
     let second : Shows g of (n + 1) rows' t' (option_map (λ ps. set ps n scratch) pieces) =
     subst (λ (x : RowTally). Shows g of (n + 1) rows' x (option_map (λ ps. set ps n scratch) pieces)) (sym b) first in
     subst (λ (x : Option (List (List ℕ))). Shows g of (n + 1) rows' t' x) (sym d) second

@@ -53,15 +53,15 @@ abbrev pub with_tried : List TriedRow → Option TriedRow → List TriedRow
 with_tried rows None = rows
 with_tried rows (Some r) = rows ++ (r ∷ [])
 
-abbrev pub counted : RowTally → Origin → RowTally
-counted t Sound = record { sound = t.sound + 1; majority = t.majority; turned = t.turned; erased = t.erased; unsound = t.unsound }
-counted t Conflict = t
-counted t Majority = record { sound = t.sound; majority = t.majority + 1; turned = t.turned; erased = t.erased; unsound = t.unsound }
-counted t (Tried (Taken n d)) = record { sound = t.sound; majority = t.majority; turned = t.turned + 1; erased = t.erased; unsound = t.unsound }
-counted t (Tried (Tied n d)) = record { sound = t.sound; majority = t.majority; turned = t.turned; erased = t.erased; unsound = t.unsound + 1 }
-counted t (Tried (Nothing d)) = record { sound = t.sound; majority = t.majority; turned = t.turned; erased = t.erased; unsound = t.unsound + 1 }
-counted t Erased = record { sound = t.sound; majority = t.majority; turned = t.turned; erased = t.erased + 1; unsound = t.unsound }
-counted t Unsound = record { sound = t.sound; majority = t.majority; turned = t.turned; erased = t.erased; unsound = t.unsound + 1 }
+abbrev pub with_origin_counted : RowTally → Origin → RowTally
+with_origin_counted t Sound = record { sound = t.sound + 1; majority = t.majority; turned = t.turned; erased = t.erased; unsound = t.unsound }
+with_origin_counted t Conflict = t
+with_origin_counted t Majority = record { sound = t.sound; majority = t.majority + 1; turned = t.turned; erased = t.erased; unsound = t.unsound }
+with_origin_counted t (Tried (Taken n d)) = record { sound = t.sound; majority = t.majority; turned = t.turned + 1; erased = t.erased; unsound = t.unsound }
+with_origin_counted t (Tried (Tied n d)) = record { sound = t.sound; majority = t.majority; turned = t.turned; erased = t.erased; unsound = t.unsound + 1 }
+with_origin_counted t (Tried (Nothing d)) = record { sound = t.sound; majority = t.majority; turned = t.turned; erased = t.erased; unsound = t.unsound + 1 }
+with_origin_counted t Erased = record { sound = t.sound; majority = t.majority; turned = t.turned; erased = t.erased + 1; unsound = t.unsound }
+with_origin_counted t Unsound = record { sound = t.sound; majority = t.majority; turned = t.turned; erased = t.erased; unsound = t.unsound + 1 }
 
 -- ---- of rows whose pages are known
 

@@ -3,7 +3,7 @@ ghost use Rattle.std.specs.Prelude.{◌≡◌, ◌<◌, ◌+◌, ◌*◌, ◌^�
 ghost use Rattle.page_layout.specs.Geometry.{page_bytes, row_count};
 ghost use Rattle.page_layout.specs.Page.{Page};
 ghost use Rattle.lab_mend.specs.Pages.{pages_in};
-ghost use Rattle.lab_mend.specs.Merging.{AreListed, AreTried, HasRoom, HasTriedRoom, MergingStands, Shows, counted, named, tried_below, tried_row, unsound_below, with_tried, with_unsound};
+ghost use Rattle.lab_mend.specs.Merging.{AreListed, AreTried, HasRoom, HasTriedRoom, MergingStands, Shows, with_origin_counted, named, tried_below, tried_row, unsound_below, with_tried, with_unsound};
 ghost use Rattle.lab_mend.specs.Tried.{IsTrialRoom};
 
 use crate::choice::{Origin, choose};
@@ -59,7 +59,7 @@ impl RowTally {
         requires turned { self.turned + 1 < 2 ^ 32 }
         requires erased { self.erased + 1 < 2 ^ 32 }
         requires unsound { self.unsound + 1 < 2 ^ 32 }
-        ensures { result ≡ counted self origin }
+        ensures { result ≡ with_origin_counted self origin }
     {
         let mut tally = self;
         match origin {

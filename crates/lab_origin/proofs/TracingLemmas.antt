@@ -26,7 +26,7 @@ use Rattle.page_layout.proofs.RawLemmas.{raw_image-at, length-raw_image}
 use Rattle.page_layout.proofs.StepLemmas.{erased_unsound}
 use Rattle.image_check.proofs.SurveyLemmas.{latest_more, latest_other, latest_start}
 use Rattle.lab_dump.specs.PageBytes.{page_of}
-use Rattle.lab_dump.specs.Until.{counted, is_later, page_until, until}
+use Rattle.lab_dump.specs.Until.{record_until, is_later, page_until, until}
 use Rattle.lab_dump.specs.Writing.{sector_in}
 use Rattle.lab_dump.proofs.WritingLemmas.{within_is, IsOfNone}
 use Rattle.lab_dump.specs.declared.mark.MapMark.{MapMark}
@@ -133,7 +133,7 @@ unfolding until
 until_page g last image row p at = slice_get-map (page_until g last) image row ∙ ap (option_map (page_until g last)) at
 
 -- a page that does not count has no record
-counted_record : (g : Geometry) (last : Option ℕ) (p : Page) → record_of (page_until g last p) ≡ counted last (record_of p)
+counted_record : (g : Geometry) (last : Option ℕ) (p : Page) → record_of (page_until g last p) ≡ record_until last (record_of p)
 counted_record g None p = refl
 counted_record g (Some l) p = by (is_later l (record_of p))
   where
@@ -182,9 +182,9 @@ page_sliced g file at =
     ap (λ b. page b (drop d (slice_range file at (at + page_bytes g)))) body ∙ ap (page (slice_range file at (at + d))) spare
 
 -- what counts of it
-pub record_at : (g : Geometry) (last : Option ℕ) (all piece : List ℕ) (row : ℕ) → row < row_count g → piece ≡ row_bytes g all row → get_or (marks (image_of g last all)) row None ≡ counted last (record_of (page_of g.data_bytes piece))
+pub record_at : (g : Geometry) (last : Option ℕ) (all piece : List ℕ) (row : ℕ) → row < row_count g → piece ≡ row_bytes g all row → get_or (marks (image_of g last all)) row None ≡ record_until last (record_of (page_of g.data_bytes piece))
 record_at g last all piece row l is =
     let p : Page = page_from g all (row * page_bytes g) in
     let image : Image = raw_image g all in
     let same : page_of g.data_bytes piece ≡ p = ap (page_of g.data_bytes) is ∙ page_sliced g all (row * page_bytes g) in
-    mark-page (until g last image) row (page_until g last p) (until_page g last image row p (raw_image-at g all row l)) ∙ (counted_record g last p ∙ ap (λ q. counted last (record_of q)) (sym same))
+    mark-page (until g last image) row (page_until g last p) (until_page g last image row p (raw_image-at g all row l)) ∙ (counted_record g last p ∙ ap (λ q. record_until last (record_of q)) (sym same))

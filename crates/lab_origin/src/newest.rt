@@ -1,7 +1,7 @@
 //! What a sound page does to what is known of the newest page of its sector.
 ghost use Rattle.std.specs.Prelude.{◌≡◌, Some};
 ghost use Rattle.page_layout.specs.Greatest.{step};
-ghost use Rattle.lab_dump.specs.Until.{counted};
+ghost use Rattle.lab_dump.specs.Until.{record_until};
 ghost use Rattle.lab_dump.specs.Writing.{sector_in};
 ghost use Rattle.lab_origin.specs.Tracing.{PageChanges};
 
@@ -45,8 +45,8 @@ pub(crate) fn sector_in(geometry: &Geometry, found: &Record) -> Option<u32>
 }
 
 // The record of a page where it counts: it has no later sequence than the last that does, or none is said.
-pub(crate) fn counted(until: Option<u64>, found: Option<Record>) -> Option<Record>
-    ensures { result ≡ counted until found }
+pub(crate) fn record_until(until: Option<u64>, found: Option<Record>) -> Option<Record>
+    ensures { result ≡ record_until until found }
 {
     match (until, found) {
         (Some(last), Some(found)) if last < found.sequence => None,

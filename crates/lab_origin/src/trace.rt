@@ -5,14 +5,14 @@ ghost use Rattle.page_layout.specs.Geometry.{page_bytes, row_count};
 ghost use Rattle.page_layout.specs.Sound.{record_of};
 ghost use Rattle.lab_dump.specs.PageBytes.{page_of};
 ghost use Rattle.lab_dump.specs.Scan.{image_bytes};
-ghost use Rattle.lab_dump.specs.Until.{counted};
+ghost use Rattle.lab_dump.specs.Until.{record_until};
 ghost use Rattle.page_layout.specs.Array.{marks};
 ghost use Rattle.lab_origin.specs.Origin.{image_of, is_read, read_mark};
 ghost use Rattle.lab_origin.specs.Tracing.{AreSized, IsOriginRoom, Shows, Tell, have_at};
 ghost use Rattle.lab_origin.specs.Traced.{AreWhole, ArePinned, IsOfSome, IsTraced, IsUntraced};
 
 use crate::mark::read_mark;
-use crate::newest::{Change, counted, sector_in, step};
+use crate::newest::{Change, record_until, sector_in, step};
 use crate::readings::{ReadingFault, Unread, expect_whole, have_piece, is_whole};
 use crate::room::OriginRoom;
 use lab_dump::{Dump, DumpFault, MapMark};
@@ -151,7 +151,7 @@ impl Tracing {
         ensures sized { OnOk result (AreSized geometry.now self.new.latest.items self.new.marks.items) }
         ensures shows { OnOk result ((records : List (Option Record)) (read : ℕ → Bool) (files : List (List ℕ)) → Tell (map D.bytes readings.old) files
             → Shows geometry.now records read row self.old.latest.items self.old.marks.items
-            → get_or records row None ≡ counted self.old.until (record_of (page_of geometry.now.data_bytes page.now)) → read row ≡ have_at (row * page_bytes geometry.now) page.now files
+            → get_or records row None ≡ record_until self.old.until (record_of (page_of geometry.now.data_bytes page.now)) → read row ≡ have_at (row * page_bytes geometry.now) page.now files
             → Shows geometry.now records read (row + 1) self.new.latest.items self.new.marks.items) }
         ensures until { self.new.until ≡ self.old.until }
         ensures same { map D.bytes readings.new ≡ map D.bytes readings.old }
@@ -160,7 +160,7 @@ impl Tracing {
         ensures reading { IfErr result (λ unread. unread.reading < length readings.old) }
     {
         let (body, spare) = page.split_at(geometry.data_bytes());
-        match counted(self.until, read_record(geometry, body, spare)) {
+        match record_until(self.until, read_record(geometry, body, spare)) {
             Some(found) => self.take_found(readings, geometry, row, &found, page, other),
             None => Ok(()),
         }

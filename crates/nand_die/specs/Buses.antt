@@ -35,12 +35,12 @@ pub record GarbleState (B : Type 0) : Type 0 where
   pub mask : ℕ
 
 -- a piece with these bits of that byte turned, where it is that long
-abbrev pub turned : ℕ → ℕ → List ℕ → List ℕ
-turned byte mask piece = slice_set piece byte (bit_xor (get_or piece byte 0) mask)
+abbrev pub with_bits_turned : ℕ → ℕ → List ℕ → List ℕ
+with_bits_turned byte mask piece = slice_set piece byte (bit_xor (get_or piece byte 0) mask)
 
 -- what comes of a piece that the bus puts out
 abbrev pub garbled : {B : Type 0} → GarbleState B → List ℕ → List ℕ
-garbled g piece = if g.outs == 1 then turned g.byte g.mask piece else piece
+garbled g piece = if g.outs == 1 then with_bits_turned g.byte g.mask piece else piece
 
 -- the same garble round a bus, after so many pieces
 abbrev pub with_outs : {B : Type 0} → GarbleState B → ℕ → B → GarbleState B

@@ -180,10 +180,7 @@ fn open_mark<R: Files<File = File> + AllocGlobal>(
 ) -> Result<Option<File>, DiskFileFault> {
     match system.names().is_there(names.mark.as_str()) {
         Ok(true) => {}
-        Ok(false) => match make_mark(system, names) {
-            Ok(()) => {}
-            Err(fault) => return Err(fault),
-        },
+        Ok(false) => make_mark(system, names)?,
         Err(fault) => return Err(unseen(fault)),
     }
     let file = match OpenOptions::new()
@@ -319,13 +316,12 @@ impl<'a, R: Files<File = File> + AllocGlobal + Clock> DiskFiles for SystemFiles<
         found: FoundMark,
     ) -> Result<FileSyncs<NotedFile<'a>>, DiskFileFault> {
         let names = path_names(alloc, path)?;
-        let kept = match open_mark(&self.system, &names) {
-            Ok(Some(file)) => Some(MarkFile::new(
+        let kept = match open_mark(&self.system, &names)? {
+            Some(file) => Some(MarkFile::new(
                 NotedFile::new(file, self.system.first),
                 found.in_second,
             )),
-            Ok(None) => None,
-            Err(fault) => return Err(fault),
+            None => None,
         };
         Ok(syncs.with_mark(kept, found.mark))
     }

@@ -16,14 +16,14 @@ use Rattle.nbd_stream.specs.declared.option.NextOption.TheVariants as next
 use Rattle.nbd_stream.specs.declared.request.StreamEnd.{StreamEnd}
 use Rattle.nbd_stream.specs.declared.negotiation.Negotiated.{Negotiated}
 use Rattle.nbd_stream.specs.declared.negotiation.Negotiated.TheVariants.{Ended}
-use Rattle.nbd_stream.specs.Options.{Asked, IsData, IsOption, ReadsOption, answer_bytes, answer_of, asked, option_bytes, reply_to, step_after, step_of}
+use Rattle.nbd_stream.specs.Options.{AskedOption, IsData, IsOption, ReadsOption, answer_bytes, answer_of, asked_option, option_bytes, reply_to, step_after, step_of}
 use Rattle.nbd_stream.specs.Negotiation.{AnswersNext, AnswersOptions, HasAnswered, HaveAnswered}
 
 -- ---- one option
 
 -- the answer that is found is the option's, whatever its data
 abbrev pub Answering : ℕ → List ℕ → OptionHeader → Answer → Type 0
-Answering limit buffer h answer = (body : List ℕ) → IsData h buffer body → answer ≡ answer_of limit (asked h.code body)
+Answering limit buffer h answer = (body : List ℕ) → IsData h buffer body → answer ≡ answer_of limit (asked_option h.code body)
 
 module _ (e : Export) (no_zeroes : Bool) (limit : ℕ) (u v b : Option (List ℕ)) (buffer : List ℕ) where
   pub next_unread : (f : ServeFault) → ReadsOption u v buffer (Err f) → AnswersNext e no_zeroes limit u v b b (Err f)
@@ -38,7 +38,7 @@ module _ (e : Export) (no_zeroes : Bool) (limit : ℕ) (u v b : Option (List ℕ
     next_unsent f (is, front) =
         let due = answers whole.0 whole.1 in
         subst (λ k. AnswersNext e no_zeroes limit u v b a (Err k)) (sym is) (record {
-          option = asked h.code whole.0;
+          option = asked_option h.code whole.0;
           is = whole.2;
           read = whole.3;
           written = subst (λ (x : Answer). AppendsFront b a (answer_bytes e no_zeroes h.code x)) due front;
@@ -48,7 +48,7 @@ module _ (e : Export) (no_zeroes : Bool) (limit : ℕ) (u v b : Option (List ℕ
     next_sent step wrote follows =
         let due = answers whole.0 whole.1 in
         record {
-          option = asked h.code whole.0;
+          option = asked_option h.code whole.0;
           is = whole.2;
           read = whole.3;
           step_is = sym (follows ∙ ap (step_after h.code) due);
@@ -67,7 +67,7 @@ map_more f (y ∷ xs) x = ap (λ (l : List ℕ). f y ++ l) (map_more f xs x) ∙
 
 -- some options were answered, and after each another one follows
 abbrev pub IsNegotiating : Export → Bool → ℕ → (unread left before after : Option (List ℕ)) → Type 0
-IsNegotiating e no_zeroes limit u v b a = (options : List Asked) × HaveAnswered e no_zeroes limit u v b a options
+IsNegotiating e no_zeroes limit u v b a = (options : List AskedOption) × HaveAnswered e no_zeroes limit u v b a options
 
 module _ (e : Export) (no_zeroes : Bool) (limit : ℕ) (u b : Option (List ℕ)) where
   pub negotiating_none : IsNegotiating e no_zeroes limit u u b b

@@ -7,7 +7,7 @@ use Rattle.std.specs.Io.KnownBytes.{Consumes}
 use Rattle.std.proofs.KnownBytes.{Consumes-trans}
 use Rattle.byteorder.specs.Endian.{big_number}
 use Rattle.request_stream.specs.declared.reply.ServeFault.{ServeFault}
-use Rattle.nbd_stream.specs.Options.{IsOption, IsCutOption, IsData, SpellsOption, OptionRests, ReadsOptionRest, ReadsOption, asked, option_header_bytes, option_bytes}
+use Rattle.nbd_stream.specs.Options.{IsOption, IsCutOption, IsData, SpellsOption, OptionRests, ReadsOptionRest, ReadsOption, asked_option, option_header_bytes, option_bytes}
 use Rattle.nbd_stream.specs.declared.option.OptionHeader.{OptionHeader}
 use Rattle.nbd_stream.specs.declared.option.NextOption.{NextOption}
 use Rattle.nbd_stream.specs.declared.option.NextOption.TheVariants as next
@@ -53,8 +53,8 @@ pub after_option : (h : OptionHeader) (u m v : Option (List ℕ)) (buffer bytes 
     → length bytes ≡ 16 → SpellsOption bytes h → Consumes u m bytes → ReadsOptionRest h m v buffer r → ReadsOption u v buffer r
 after_option h u m v buffer bytes (Ok (next.Whole k)) long spells first (same, (body, size, more, kept)) =
     let head : bytes ≡ option_header_bytes h.code (length body) = spells.whole ∙ ap (option_header_bytes h.code) (sym size) in
-    let whole : Consumes u v (option_bytes (asked h.code body)) = subst (λ (l : List ℕ). Consumes u v (l ++ body)) head (Consumes-trans u m v bytes body first more) in
-    let is : IsOption (asked h.code body) = record { code = spells.code; count = subst (λ n. n < 2 ^ 32) (sym size) spells.count } in
+    let whole : Consumes u v (option_bytes (asked_option h.code body)) = subst (λ (l : List ℕ). Consumes u v (l ++ body)) head (Consumes-trans u m v bytes body first more) in
+    let is : IsOption (asked_option h.code body) = record { code = spells.code; count = subst (λ n. n < 2 ^ 32) (sym size) spells.count } in
     let stands : IsData h buffer body = record { long = size; stands = kept } in
     subst (λ (x : OptionHeader). ReadsOption u v buffer (Ok (next.Whole x))) (sym same) (body, stands, is, whole)
 after_option h u m v buffer bytes (Ok (next.Ended e)) long spells first (is, (part, short, more, ended)) =

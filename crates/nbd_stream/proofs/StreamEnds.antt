@@ -6,7 +6,7 @@ use Rattle.request_stream.specs.declared.reply.ServeFault.{ServeFault}
 use Rattle.nbd_stream.specs.declared.export.Export.{Export}
 use Rattle.nbd_stream.specs.declared.negotiation.Negotiated.TheVariants.{Transmission}
 use Rattle.nbd_stream.specs.Negotiation.{Negotiates}
-use Rattle.nbd_stream.specs.Options.{Asked, option_bytes}
+use Rattle.nbd_stream.specs.Options.{AskedOption, option_bytes}
 use Rattle.nbd_stream.specs.Streams.{HasStopped}
 use Rattle.nbd_stream.specs.Frames.{Request, header_bytes, request_bytes}
 use Rattle.std.proofs.KnownBytes.{Consumes-nil, Consumes-trans}
@@ -34,7 +34,7 @@ more_read count unread middle left bytes (before, many, first) long second =
 pub long_request : (r : Request) → 16 ≤ length (request_bytes r)
 long_request r = omega (arith, length-append (header_bytes r) r.body)
 
-pub long_option : (o : Asked) → 16 ≤ length (option_bytes o)
+pub long_option : (o : AskedOption) → 16 ≤ length (option_bytes o)
 long_option o = omega arith
 
 -- what stopped after some bytes were read, stopped after all of them were

@@ -5,7 +5,7 @@ use Rattle.std.specs.Io.KnownBytes.{Appends, Consumes, IsAtEnd}
 use Rattle.request_stream.specs.Frames.{AppendsFront}
 use Rattle.request_stream.specs.declared.reply.ServeFault.{ServeFault}
 use Rattle.request_stream.specs.declared.reply.ServeFault.TheVariants as fault
-use Rattle.nbd_stream.specs.Options.{Asked, IsOption, IsOptionBeginning, OptionRests, option_bytes, reply_to, step_of}
+use Rattle.nbd_stream.specs.Options.{AskedOption, IsOption, IsOptionBeginning, OptionRests, option_bytes, reply_to, step_of}
 use Rattle.nbd_stream.specs.declared.export.Export.{Export}
 use Rattle.nbd_stream.specs.declared.answer.AnswerStep.{AnswerStep}
 use Rattle.nbd_stream.specs.declared.answer.AnswerStep.TheVariants.{More, Transmit, Close}
@@ -18,7 +18,7 @@ use Rattle.nbd_stream.specs.declared.negotiation.ClientFlags.TheVariants as clie
 
 -- an option was read, which this step follows, and its answer was written as this says
 pub record HasAnswered (e : Export) (no_zeroes : Bool) (limit : ℕ) (unread left : Option (List ℕ)) (writes : List ℕ → Type 0) (step : AnswerStep) : Type 0 where
-  pub option : Asked
+  pub option : AskedOption
   pub is : IsOption option
   pub read : Consumes unread left (option_bytes option)
   pub step_is : step_of limit option ≡ step
@@ -26,7 +26,7 @@ pub record HasAnswered (e : Export) (no_zeroes : Bool) (limit : ℕ) (unread lef
 
 -- an option was read, and of its answer a beginning was written
 pub record HasBegun (e : Export) (no_zeroes : Bool) (limit : ℕ) (unread left before after : Option (List ℕ)) : Type 0 where
-  pub option : Asked
+  pub option : AskedOption
   pub is : IsOption option
   pub read : Consumes unread left (option_bytes option)
   pub written : AppendsFront before after (reply_to e no_zeroes limit option)
@@ -49,7 +49,7 @@ AnswersNext e no_zeroes limit unread left before after (Err fault.Write) = HasBe
 AnswersNext e no_zeroes limit unread left before after (Err fault.OutOfMemory) = ⊥
 
 -- these options were read, and after each another one follows; and what was written is their answers
-pub record HaveAnswered (e : Export) (no_zeroes : Bool) (limit : ℕ) (unread left before after : Option (List ℕ)) (options : List Asked) : Type 0 where
+pub record HaveAnswered (e : Export) (no_zeroes : Bool) (limit : ℕ) (unread left before after : Option (List ℕ)) (options : List AskedOption) : Type 0 where
   pub each : AllByRecursion IsOption options
   pub more : AllByRecursion (λ o. step_of limit o ≡ More) options
   pub read : Consumes unread left (flat_map option_bytes options)
@@ -58,9 +58,9 @@ pub record HaveAnswered (e : Export) (no_zeroes : Bool) (limit : ℕ) (unread le
 -- THE OPTIONS were answered one after another, and then the last one, or there was none
 abbrev pub AnswersOptions : Export → (no_zeroes : Bool) → (limit : ℕ) → (unread left before after : Option (List ℕ)) → Result Negotiated ServeFault → Type 0
 AnswersOptions e no_zeroes limit unread left before after (Ok negotiated) =
-    (options : List Asked) × (unread' before' : Option (List ℕ)) × HaveAnswered e no_zeroes limit unread unread' before before' options × AnswersNext e no_zeroes limit unread' left before' after (Ok (Some negotiated))
+    (options : List AskedOption) × (unread' before' : Option (List ℕ)) × HaveAnswered e no_zeroes limit unread unread' before before' options × AnswersNext e no_zeroes limit unread' left before' after (Ok (Some negotiated))
 AnswersOptions e no_zeroes limit unread left before after (Err e') =
-    (options : List Asked) × (unread' before' : Option (List ℕ)) × HaveAnswered e no_zeroes limit unread unread' before before' options × AnswersNext e no_zeroes limit unread' left before' after (Err e')
+    (options : List AskedOption) × (unread' before' : Option (List ℕ)) × HaveAnswered e no_zeroes limit unread unread' before before' options × AnswersNext e no_zeroes limit unread' left before' after (Err e')
 
 -- ---- before the options
 

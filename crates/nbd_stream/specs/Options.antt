@@ -25,7 +25,7 @@ use Rattle.nbd_stream.specs.declared.answer.AnswerStep.TheVariants.{More, Transm
 -- ---- options
 
 -- what a client asks in a negotiation: an option's number, and its data
-pub record Asked : Type 0 where
+pub record AskedOption : Type 0 where
   pub code : ℕ
   pub body : List ℕ
 
@@ -33,14 +33,14 @@ pub record Asked : Type 0 where
 abbrev pub option_header_bytes : (code count : ℕ) → List ℕ
 option_header_bytes code count = 73 ∷ 72 ∷ 65 ∷ 86 ∷ 69 ∷ 79 ∷ 80 ∷ 84 ∷ (to_be_bytes w32 code ++ to_be_bytes w32 count)
 
-abbrev pub asked : ℕ → List ℕ → Asked
-asked code body = record { code = code; body = body }
+abbrev pub asked_option : ℕ → List ℕ → AskedOption
+asked_option code body = record { code = code; body = body }
 
-abbrev pub option_bytes : Asked → List ℕ
+abbrev pub option_bytes : AskedOption → List ℕ
 option_bytes o = option_header_bytes o.code (length o.body) ++ o.body
 
 -- both numbers have four bytes
-pub record IsOption (o : Asked) : Type 0 where
+pub record IsOption (o : AskedOption) : Type 0 where
   pub code : o.code < 2 ^ 32
   pub count : length o.body < 2 ^ 32
 
@@ -83,7 +83,7 @@ pub record IsData (h : OptionHeader) (buffer body : List ℕ) : Type 0 where
 -- THE NEXT OPTION, or the end, was read and nothing after it; where a read failed, a beginning of it
 abbrev pub ReadsOption : (unread left : Option (List ℕ)) → List ℕ → Result NextOption ServeFault → Type 0
 ReadsOption unread left buffer (Ok (next.Whole h)) =
-    (body : List ℕ) × IsData h buffer body × IsOption (asked h.code body) × Consumes unread left (option_bytes (asked h.code body))
+    (body : List ℕ) × IsData h buffer body × IsOption (asked_option h.code body) × Consumes unread left (option_bytes (asked_option h.code body))
 ReadsOption unread left buffer (Ok (next.Ended end)) = (tail : List ℕ) × OptionRests end tail left × Consumes unread left tail
 ReadsOption unread left buffer (Err e) = (e ≡ fault.Read) × (tail : List ℕ) × IsOptionBeginning tail × Consumes unread left tail
 
@@ -142,7 +142,7 @@ answer_by (Some Info) limit body = question_answer limit body
 answer_by (Some Go) limit body = question_answer limit body
 
 -- THE ANSWER to an option
-abbrev pub answer_of : ℕ → Asked → Answer
+abbrev pub answer_of : ℕ → AskedOption → Answer
 answer_of limit o = answer_by (option_from o.code) limit o.body
 
 -- what follows: requests after NBD_OPT_EXPORT_NAME and after NBD_OPT_GO where these were granted, nothing after NBD_OPT_ABORT or a refusal of
@@ -186,8 +186,8 @@ answer_bytes e no_zeroes code Chosen = export_bytes e ++ (if no_zeroes then [] e
 answer_bytes e no_zeroes code Silent = []
 
 -- of an option
-abbrev pub reply_to : Export → Bool → ℕ → Asked → List ℕ
+abbrev pub reply_to : Export → Bool → ℕ → AskedOption → List ℕ
 reply_to e no_zeroes limit o = answer_bytes e no_zeroes o.code (answer_of limit o)
 
-abbrev pub step_of : ℕ → Asked → AnswerStep
+abbrev pub step_of : ℕ → AskedOption → AnswerStep
 step_of limit o = step_after o.code (answer_of limit o)

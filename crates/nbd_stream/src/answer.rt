@@ -2,7 +2,7 @@
 ghost use Rattle.nbd_stream.specs.Streams.{EndsBy};
 ghost use Rattle.std.specs.Prelude.{◌≡◌, ◌≢◌, OnErr, OnOk, ◌≤◌, ℕ, Bool, List, length, take, false, true, IfSome, IsNone};
 ghost use Rattle.request_stream.specs.Frames.{SendsBytes};
-ghost use Rattle.nbd_stream.specs.Options.{IsData, option_from, answer_of, question_answer, is_question, name_length, step_after, answer_bytes, asked, option_reply_header, transmission_flags, export_bytes, export_info, block_info};
+ghost use Rattle.nbd_stream.specs.Options.{IsData, option_from, answer_of, question_answer, is_question, name_length, step_after, answer_bytes, asked_option, option_reply_header, transmission_flags, export_bytes, export_info, block_info};
 
 use crate::export::Export;
 use crate::option::OptionHeader;
@@ -126,7 +126,7 @@ fn answer_question(count: u32, body: &[u8]) -> Answer
 
 // The answer to an option, with its data at the front of the buffer where it has room there.
 pub(crate) fn answer_to(header: &OptionHeader, body: &[u8]) -> Answer
-    ensures { (given : List ℕ) → IsData header.now body.now given → result ≡ answer_of (length body.now) (asked header.now.code given) }
+    ensures { (given : List ℕ) → IsData header.now body.now given → result ≡ answer_of (length body.now) (asked_option header.now.code given) }
 {
     match option_from(header.code) {
         None => Answer::Short(UNSUPPORTED),

@@ -27,10 +27,8 @@ pub struct Pair<'a> {
 pub fn is_begun<N: Names>(names: &mut N, pair: &Pair<'_>) -> Result<bool, PartFault>
     ensures { N.asked names.new ≡ N.asked names.old }
 {
-    match names.is_there(pair.path) {
-        Ok(false) => {}
-        Ok(true) => return Ok(false),
-        Err(fault) => return Err(fault),
+    if names.is_there(pair.path)? {
+        return Ok(false);
     }
     match names.is_one_file(pair.beside, pair.beside_part) {
         Ok(true) => names.has_one_name(pair.part),
@@ -42,11 +40,10 @@ pub fn is_begun<N: Names>(names: &mut N, pair: &Pair<'_>) -> Result<bool, PartFa
 fn clear_beside<N: Names>(names: &mut N, pair: &Pair<'_>) -> Result<(), PartFault>
     ensures { Clears pair.now.beside.now (N.asked names.old) (N.asked names.new) }
 {
-    match is_begun(names, pair) {
-        Ok(true) => names.remove(pair.beside),
-        Ok(false) => Ok(()),
-        Err(fault) => Err(fault),
+    if is_begun(names, pair)? {
+        names.remove(pair.beside)?;
     }
+    Ok(())
 }
 
 /// Takes back what a run that was killed has begun (`is_begun`): the name beside the path. It is looked at once more while no other run can be at the part.
@@ -57,10 +54,8 @@ fn clear_beside<N: Names>(names: &mut N, pair: &Pair<'_>) -> Result<(), PartFaul
 pub fn clear_begun<N: Names>(names: &mut N, pair: &Pair<'_>) -> Result<(), PartFault>
     ensures { TakesBack pair.now.part.now pair.now.beside.now (N.asked names.old) (N.asked names.new) }
 {
-    match is_begun(names, pair) {
-        Ok(true) => {}
-        Ok(false) => return Ok(()),
-        Err(fault) => return Err(fault),
+    if !is_begun(names, pair)? {
+        return Ok(());
     }
     let held = names.claim(pair.part)?;
     let done = clear_beside(names, pair);

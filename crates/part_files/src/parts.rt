@@ -19,29 +19,28 @@ pub fn part_name(alloc: Global, path: &str, program: &str) -> Result<String, All
     }
 }
 
+// What is told of a part that was found, where another run is at it meanwhile.
+fn as_taken(fault: PartFault) -> PartFault
+    ensures { result ≢ PartFault.Exists }
+{
+    match fault {
+        PartFault::Exists => PartFault::InUse,
+        other => other,
+    }
+}
+
 // Makes a part anew, where one was found.
 fn make_anew<N: Names>(names: &mut N, part: &str) -> Result<N::File, PartFault>
     ensures made { OnOk result (Remakes part.now (N.asked names.old) (N.asked names.new)) }
     ensures none { OnErr result (RemakesNot part.now (N.asked names.old) (N.asked names.new)) }
     ensures fault { IfErr result (λ fault. fault ≢ PartFault.Exists) }
 {
-    let found = match names.claim(part) {
-        Ok(found) => found,
-        Err(PartFault::Exists) => return Err(PartFault::InUse),
-        Err(fault) => return Err(fault),
-    };
-    match names.remove(part) {
-        Ok(()) => {}
-        Err(PartFault::Exists) => return Err(PartFault::InUse),
-        Err(fault) => return Err(fault),
-    }
-    let made = names.make(part);
+    let found = names.claim(part).map_err(as_taken)?;
+    names.remove(part).map_err(as_taken)?;
+    let made = names.make(part).map_err(as_taken);
     // until now nobody else could claim what was found
     drop(found);
-    match made {
-        Err(PartFault::Exists) => Err(PartFault::InUse),
-        made => made,
-    }
+    made
 }
 
 /// The part of a name, empty, open for reading and writing, and locked as long as it is. One that an earlier run has left is locked, loses its name, and is made anew: it is
@@ -129,13 +128,9 @@ pub fn publish_over<N: Names>(names: &mut N, part: &str, path: &str) -> Result<(
     ensures named { OnOk result (Replaces part.now path.now (N.asked names.old) (N.asked names.new)) }
     ensures refused { OnErr result (N.asked names.new ≡ and_one (N.asked names.old) (Rename part.now path.now) false) }
 {
-    match names.rename(part, path) {
-        Ok(()) => {
-            let _ = names.sync_folder(path);
-            Ok(())
-        }
-        Err(fault) => Err(fault),
-    }
+    names.rename(part, path)?;
+    let _ = names.sync_folder(path);
+    Ok(())
 }
 
 /// Removes a part that is not wanted. That the system refuses it is no fault: the next run makes it anew. (This project's.)

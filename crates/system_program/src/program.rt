@@ -3,7 +3,7 @@ ghost use Rattle.std.specs.Prelude.{◌≡◌, IfErr, IfOk, OnErr, map, string_b
 ghost use Rattle.std.specs.Io.KnownBytes.{Keeps};
 ghost use Rattle.std.specs.Process.{exit_status};
 ghost use Rattle.commands.specs.Commands.{CommandRuns};
-ghost use Rattle.commands.specs.Files.{left, LeavesUntouched};
+ghost use Rattle.commands.specs.Files.{left_behind, LeavesUntouched};
 ghost use Rattle.commands.specs.Text.{IsCommandFaultTold};
 
 use crate::system::SystemFiles;
@@ -26,8 +26,8 @@ fn run_words<F: FileStore, R: Read, W: Write, E: Write>(
     out: &mut W,
     err: &mut E,
 ) -> u8
-    ensures { CommandRuns (F.gives files.old) (F.tells files.old) (map string_bytes kept.now) (R.remaining input.old) (R.remaining input.new) (left (F.stores files.old) (W.contents out.old))
-        (left (F.stores files.new) (W.contents out.new)) (E.contents err.old) (E.contents err.new) result }
+    ensures { CommandRuns (F.gives files.old) (F.tells files.old) (map string_bytes kept.now) (R.remaining input.old) (R.remaining input.new) (left_behind (F.stores files.old) (W.contents out.old))
+        (left_behind (F.stores files.new) (W.contents out.new)) (E.contents err.old) (E.contents err.new) result }
 {
     match word_slices(alloc, kept) {
         Ok(words) => run(alloc, words.as_slice(), files, input, out, err),
@@ -45,10 +45,10 @@ fn end<F: FileStore, R: Read, W: Write, E: Write>(
     err: &mut E,
 ) -> ExitCode
     ensures words { IfOk words.entry (λ kept. CommandRuns (F.gives files.old) (F.tells files.old) (map string_bytes kept.items)
-        (R.remaining input.old) (R.remaining input.new) (left (F.stores files.old) (W.contents out.old)) (left (F.stores files.new) (W.contents out.new))
+        (R.remaining input.old) (R.remaining input.new) (left_behind (F.stores files.old) (W.contents out.old)) (left_behind (F.stores files.new) (W.contents out.new))
         (E.contents err.old) (E.contents err.new) (exit_status result)) }
     ensures none { IfErr words.entry (λ fault. IsCommandFaultTold fault (E.contents err.old) (E.contents err.new) (exit_status result)) }
-    ensures left { OnErr words.entry (LeavesUntouched (left (F.stores files.old) (W.contents out.old)) (left (F.stores files.new) (W.contents out.new))) }
+    ensures left { OnErr words.entry (LeavesUntouched (left_behind (F.stores files.old) (W.contents out.old)) (left_behind (F.stores files.new) (W.contents out.new))) }
     ensures unread { OnErr words.entry (Keeps (R.remaining input.old) (R.remaining input.new)) }
 {
     let status = match words {

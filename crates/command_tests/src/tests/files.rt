@@ -1,6 +1,6 @@
 //! Files in memory, a writer that is closed, and what stands on standard input.
 ghost use Rattle.std.specs.Prelude.{◌≡◌, ◌⊎◌, IfOk, IfNone, IfSome, map, string_bytes};
-ghost use Rattle.commands.specs.Files.{written};
+ghost use Rattle.commands.specs.Files.{written_file};
 ghost use Rattle.command_tests.specs.Files.{HasFile, LacksFile};
 
 use commands::{FileFault, FileStore};
@@ -42,8 +42,8 @@ fn stored_file(
 
 // The bytes of the first file of this path.
 fn given_bytes<'a>(files: &'a [MemoryFile], path: &str) -> Option<&'a [u8]>
-    ensures some { IfSome result (λ found. HasFile (map (λ f. written f.path.now f.bytes.items) files.now) path.now found.now) }
-    ensures none { IfNone result (LacksFile (map (λ f. written f.path.now f.bytes.items) files.now) path.now) }
+    ensures some { IfSome result (λ found. HasFile (map (λ f. written_file f.path.now f.bytes.items) files.now) path.now found.now) }
+    ensures none { IfNone result (LacksFile (map (λ f. written_file f.path.now f.bytes.items) files.now) path.now) }
 {
     for file in files {
         if file.path == path {
@@ -79,7 +79,7 @@ pub struct MemoryFiles {
 
 impl MemoryFiles {
     ghost use Rattle.std.specs.Prelude.{◌≡◌, ◌⊎◌, IfNone, IfSome, map, string_bytes};
-    ghost use Rattle.commands.specs.Files.{written};
+    ghost use Rattle.commands.specs.Files.{written_file};
     ghost use Rattle.command_tests.specs.Files.{HasFile, LacksFile};
 
     /// No files.
@@ -102,8 +102,8 @@ impl MemoryFiles {
     /// What a file holds now, where there is such a file.
     pub fn contents(&self, path: &str) -> Option<&[u8]>
         ensures some { IfSome result (λ found. HasFile (map (λ s. record { path = string_bytes s.path; bytes = s.bytes.items; done = s.done }) self.now.stored.items) path.now found.now
-            ⊎ HasFile (map (λ f. written f.path.now f.bytes.items) self.now.files.items) path.now found.now) }
-        ensures none { IfNone result (LacksFile (map (λ f. written f.path.now f.bytes.items) self.now.files.items) path.now) }
+            ⊎ HasFile (map (λ f. written_file f.path.now f.bytes.items) self.now.files.items) path.now found.now) }
+        ensures none { IfNone result (LacksFile (map (λ f. written_file f.path.now f.bytes.items) self.now.files.items) path.now) }
     {
         match stored_bytes(&self.stored, path) {
             Some(bytes) => Some(bytes),
@@ -114,13 +114,13 @@ impl MemoryFiles {
 
 impl FileStore for MemoryFiles {
     ghost use Rattle.std.specs.Prelude.{Some, map, string_bytes, true};
-    ghost use Rattle.commands.specs.Files.{written};
+    ghost use Rattle.commands.specs.Files.{written_file};
     ghost use Rattle.command_tests.specs.Files.{MayAnswer};
 
     type Reader = Cursor<Vec<u8>>;
 
     // A load answers the bytes of the file, as it was stored or as it was before; it fails only where there is none.
-    ghost gives = { λ m. MayAnswer (map (λ f. written f.path.now f.bytes.items) m.files.items)
+    ghost gives = { λ m. MayAnswer (map (λ f. written_file f.path.now f.bytes.items) m.files.items)
         (map (λ s. record { path = string_bytes s.path; bytes = s.bytes.items; done = s.done }) m.stored.items) };
 
     ghost tells = { λ _. true };

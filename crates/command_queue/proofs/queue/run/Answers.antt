@@ -3,7 +3,7 @@ use Rattle.std.proofs.lemmas.List.{with_items_is}
 use Rattle.std.proofs.lemmas.Option.{slice_get-get_or}
 use Rattle.std.specs.Vec.{with_items}
 use Rattle.command_queue.specs.declared.command.Call.{Call}
-use Rattle.command_queue.specs.Commands.{told, KeepsBytes}
+use Rattle.command_queue.specs.Commands.{told_command, KeepsBytes}
 use Rattle.command_queue.specs.Tells.{Tells}
 use Rattle.command_queue.proofs.LoopLemmas.{running_none, running_more, all_told, all_answered, all_kept}
 use Rattle.command_queue.proofs.queue.run.Goals as goal
@@ -21,7 +21,7 @@ loop-call-preserved g c =
     let long : length c.tell.new.bytes ≡ item.bytes.len = omega (arith, c.tell.auto.bytes, ap length c.deref_mut.ensures.value, item.bytes.ok.0) in
     let after : Call = record { command = item.command; reply = Some c.tell.result; bytes = with_items item.bytes c.tell.new.bytes } in
     let its = c.tell.ensures in
-    let tells : Tells g.N.PageSource.view c.loop-call.device (record { command = told after; result = c.tell.result; bytes = c.tell.new.bytes }) c.tell.new.device = record {
+    let tells : Tells g.N.PageSource.view c.loop-call.device (record { command = told_command after; result = c.tell.result; bytes = c.tell.new.bytes }) c.tell.new.device = record {
       device = its.device;
       sized = its.geometry;
       limits = its.limits;
@@ -41,7 +41,7 @@ loop-call-preserved g c =
       running = running_more g.N.PageSource.view c.args.device.now c.loop-call.device c.tell.new.device c.args.calls.now c.loop-call.calls c.loop-call.call-index
           item after c.tell.result c.requires.device c.loop-call.invariant.running (slice_get-get_or c.loop-call.calls c.loop-call.call-index c.call-item.result below) below refl refl
           c.tell.new.bytes (with_items_is item.bytes c.tell.new.bytes long) c.tell.ensures.room tells
-          (subst (λ bs. KeepsBytes (told after) c.tell.result bs c.tell.new.bytes) c.deref_mut.ensures.value c.tell.ensures.kept);
+          (subst (λ bs. KeepsBytes (told_command after) c.tell.result bs c.tell.new.bytes) c.deref_mut.ensures.value c.tell.ensures.kept);
       as_calm = its.calm ∙ c.loop-call.invariant.as_calm;
     }
 

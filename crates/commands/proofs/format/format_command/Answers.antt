@@ -1,6 +1,6 @@
 use Rattle.std.proofs.Common.{◌≡◌, ◌∙◌, ℕ, List, Option, Err, Result, ap, rules, subst, sym}
 use Rattle.commands.specs.declared.text.CommandFault.{CommandFault}
-use Rattle.commands.specs.Files.{IsUnstored, Stored, left, with_store, written}
+use Rattle.commands.specs.Files.{IsUnstored, Stored, left_behind, with_store, written_file}
 use Rattle.commands.specs.Format.{DoesFormat, HasFormatted, HasInput, IsGeometry, IsUnformatted}
 use Rattle.commands.proofs.FormatLemmas.{has_formatted, printed_formats, refused_formats, unread_formats, unstored_formats}
 use Rattle.commands.proofs.format.format_command.Goals as goal
@@ -9,8 +9,8 @@ pub returns-in_err-bytes : goal.returns-in_err-bytes
 returns-in_err-bytes g c =
     let words = c.args.words in
     let asked : IsGeometry words c.in_ok-geometry.geometry = record { numbers = c.in_ok-numbers.numbers; spelled = c.in_ok-numbers.ensures.ok; valid = c.in_ok-geometry.ensures.ok } in
-    let before = left (g.F.FileStore.stores c.args.files.now) (g.W.Write.contents c.args.out.now) in
-    let after = left (g.F.FileStore.stores c.load.new.files) (g.W.Write.contents c.args.out.now) in
+    let before = left_behind (g.F.FileStore.stores c.args.files.now) (g.W.Write.contents c.args.out.now) in
+    let after = left_behind (g.F.FileStore.stores c.load.new.files) (g.W.Write.contents c.args.out.now) in
     let is : c.from_residual-in_err-bytes.result ≡ Err c.in_err-bytes.field-0.0 = search rules in
     let P : Result (Unit {0}) CommandFault → Type 0 = λ r. DoesFormat (g.F.FileStore.gives c.args.files.now) words before after r in
     subst P (sym is) (unread_formats _ words c.in_ok-geometry.geometry before after c.in_err-bytes.field-0.0 asked (c.in_err-bytes.ensures.stores, search rules) c.in_err-bytes.ensures.fault)
@@ -22,8 +22,8 @@ returns-in_err-good g c =
     let bytes = c.in_ok-bytes.bytes.items in
     let asked : IsGeometry words geometry = record { numbers = c.in_ok-numbers.numbers; spelled = c.in_ok-numbers.ensures.ok; valid = c.in_ok-geometry.ensures.ok } in
     let input : HasInput (g.F.FileStore.gives c.args.files.now) words geometry bytes = record { asked = asked; given = c.in_ok-bytes.ensures.ok } in
-    let before = left (g.F.FileStore.stores c.args.files.now) (g.W.Write.contents c.args.out.now) in
-    let after = left (g.F.FileStore.stores c.load.new.files) (g.W.Write.contents c.args.out.now) in
+    let before = left_behind (g.F.FileStore.stores c.args.files.now) (g.W.Write.contents c.args.out.now) in
+    let after = left_behind (g.F.FileStore.stores c.load.new.files) (g.W.Write.contents c.args.out.now) in
     let is : c.from_residual-in_err-good.result ≡ Err c.in_err-good.field-0.0 = search rules in
     let P : Result (Unit {0}) CommandFault → Type 0 = λ r. DoesFormat (g.F.FileStore.gives c.args.files.now) words before after r in
     subst P (sym is) (refused_formats _ words geometry bytes before after c.in_err-good.field-0.0 input (c.in_ok-bytes.ensures.stores, search rules)
@@ -39,8 +39,8 @@ returns-in_err-store g c =
     let has : HasFormatted gives words c.deref.result.now c.in_ok-good.good =
     has_formatted gives words geometry _ c.deref_mut.result.now c.format_image.new.image c.deref.result.now c.in_ok-good.good c.in_ok-bytes.bytes.len input c.deref_mut.ensures.value c.deref.ensures.value
     (c.format_image.auto.image ∙ c.deref_mut.ensures.len) c.in_ok-good.ensures.ok in
-    let before = left (g.F.FileStore.stores c.args.files.now) (g.W.Write.contents c.args.out.now) in
-    let after = left (g.F.FileStore.stores c.store.new.files) (g.W.Write.contents c.args.out.now) in
+    let before = left_behind (g.F.FileStore.stores c.args.files.now) (g.W.Write.contents c.args.out.now) in
+    let after = left_behind (g.F.FileStore.stores c.store.new.files) (g.W.Write.contents c.args.out.now) in
     let is : c.from_residual-in_err-store.result ≡ Err c.in_err-store.field-0.0 = search rules in
     let P : Result (Unit {0}) CommandFault → Type 0 = λ r. DoesFormat gives words before after r in
     subst P (sym is) (unstored_formats gives words c.deref.result.now c.in_ok-good.good before after c.in_err-store.field-0.0 has (search rules)
@@ -56,5 +56,5 @@ returns g c =
     let has : HasFormatted gives words c.deref.result.now c.in_ok-good.good =
     has_formatted gives words geometry _ c.deref_mut.result.now c.format_image.new.image c.deref.result.now c.in_ok-good.good c.in_ok-bytes.bytes.len input c.deref_mut.ensures.value c.deref.ensures.value
     (c.format_image.auto.image ∙ c.deref_mut.ensures.len) c.in_ok-good.ensures.ok in
-    let stored = c.in_ok-store.ensures.ok ∙ ap (λ (s : Option (List Stored)). with_store s (written words.output.now c.deref.result.now)) c.in_ok-bytes.ensures.stores in
+    let stored = c.in_ok-store.ensures.ok ∙ ap (λ (s : Option (List Stored)). with_store s (written_file words.output.now c.deref.result.now)) c.in_ok-bytes.ensures.stores in
     printed_formats gives words c.deref.result.now c.in_ok-good.good _ _ c.print_good.result has stored c.print_good.ensures.ok c.print_good.ensures.fault

@@ -7,7 +7,7 @@ use Rattle.nand_die.specs.DieValue.{DieValue}
 use Rattle.nand_die.specs.Made.{loaded_flash}
 use Rattle.commands.specs.declared.steady.SteadyDie.{SteadyDie}
 use Rattle.commands.specs.Check.{IsNoCertificate, IsWhole}
-use Rattle.commands.specs.Files.{Stored, with_store, written}
+use Rattle.commands.specs.Files.{Stored, with_store, written_file}
 use Rattle.commands.specs.Migrate.{EndsShort, IsUnmigratedDie, MigratesDie}
 use Rattle.commands.specs.Serve.{IsDieUnmade, bad_in}
 use Rattle.commands.proofs.CheckLemmas.{unread_before}
@@ -146,7 +146,7 @@ returns g c =
     let loaded : s ≡ loaded_flash asked.geometry bytes (bad_in asked.geometry claim) = subst (λ (b : List ℕ). s ≡ loaded_flash asked.geometry b (bad_in asked.geometry claim)) c.deref-2.ensures.value made in
     let kept : image ≡ c.migrate_die.new.image = c.deref-3.ensures.value ∙ kept_whole c.in_ok-bytes.bytes.len c.migrate_die.new.image bytes (c.migrate_die.auto.image ∙ c.deref_mut.ensures.len) in
     let H : List ℕ → Flash → Type 0 = λ i f. MigratesDie asked.geometry asked.capacity claim f i came in
-    let stored = c.in_ok-count.ensures.done.1 ∙ ap (λ (s : Option (List Stored)). with_store s (written words.output.now image)) (c.in_ok-written.ensures.stores ∙ c.in_ok-bytes.ensures.stores) in
+    let stored = c.in_ok-count.ensures.done.1 ∙ ap (λ (s : Option (List Stored)). with_store s (written_file words.output.now image)) (c.in_ok-written.ensures.stores ∙ c.in_ok-bytes.ensures.stores) in
     prints gives words _ _ c.print_migrated.result image count came c.in_ok-count.ensures.done.0
     (record { geometry = asked.geometry; capacity = asked.capacity; bytes = bytes; claim = claim; has = has; migrates = subst (λ f. H image f) loaded (subst (λ i. H i s) (sym kept) c.in_ok-came.ensures.ok) })
     stored c.print_migrated.ensures.ok c.print_migrated.ensures.fault

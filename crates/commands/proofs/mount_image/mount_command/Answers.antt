@@ -1,5 +1,5 @@
 use Rattle.std.proofs.Common.{◌∙◌, List, Option, ℕ, inl, inr, refl, rules, subst, ap}
-use Rattle.commands.specs.Files.{IsUnstored, Stored, with_store, written}
+use Rattle.commands.specs.Files.{IsUnstored, Stored, with_store, written_file}
 use Rattle.commands.specs.Mount.{IsImageUnmounted, IsMountedAs}
 use Rattle.commands.proofs.MountLemmas.{prints, stops, unstored}
 use Rattle.commands.proofs.mount_image.mount_command.Goals as goal
@@ -50,7 +50,7 @@ returns g c =
     let m = c.in_ok-mounted.mounted in
     let spelled = c.deref-2.result.now in
     let P : List ℕ → Type 0 = λ b. IsMountedAs asked.geometry asked.capacity b m in
-    let stored = c.in_ok-store.ensures.ok ∙ ap (λ (s : Option (List Stored)). with_store s (written c.args.words.certificate.now spelled)) c.in_ok-bytes.ensures.stores in
+    let stored = c.in_ok-store.ensures.ok ∙ ap (λ (s : Option (List Stored)). with_store s (written_file c.args.words.certificate.now spelled)) c.in_ok-bytes.ensures.stores in
     prints (g.F.FileStore.gives c.args.files.now) c.args.words asked.geometry asked.capacity bytes spelled m _ _ c.print_mounted.result
     c.in_ok-asked.ensures.ok c.in_ok-bytes.ensures.ok (subst P c.deref.ensures.value c.in_ok-mounted.ensures.ok) c.deref-2.ensures.value
     stored c.print_mounted.ensures.ok c.print_mounted.ensures.fault

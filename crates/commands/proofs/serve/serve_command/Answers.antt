@@ -5,7 +5,7 @@ use Rattle.nand_die.specs.DieValue.{DieValue}
 use Rattle.nand_die.specs.Made.{loaded_flash}
 use Rattle.commands.specs.declared.steady.SteadyDie.{SteadyDie}
 use Rattle.commands.specs.Check.{IsNoCertificate, IsSpelled, IsWhole}
-use Rattle.commands.specs.Files.{Stored, left}
+use Rattle.commands.specs.Files.{Stored, left_behind}
 use Rattle.commands.specs.Serve.{EndsServing, HasClaim, HasServed, IsDieUnmade, bad_in}
 use Rattle.commands.proofs.CheckLemmas.{unread_before}
 use Rattle.commands.proofs.FormatLemmas.{kept_whole}
@@ -127,8 +127,8 @@ returns g c =
     let s : Flash = flash_by {B = SteadyDie} (λ bus. bus.die.state) driver in
     let made : s ≡ loaded_flash asked.geometry c.deref-2.result.now (bad_in asked.geometry claim) = c.driver_of-driver.ensures.flash ∙ ap (λ (d : DieValue). d.state.flash) c.in_ok-die.ensures.made in
     let loaded : s ≡ loaded_flash asked.geometry bytes (bad_in asked.geometry claim) = subst (λ (b : List ℕ). s ≡ loaded_flash asked.geometry b (bad_in asked.geometry claim)) c.deref-2.ensures.value made in
-    let before = left (g.F.FileStore.stores c.args.files.now) (g.W.Write.contents c.args.out.now) in
-    let after = left (g.F.FileStore.stores c.finish.new.files) (g.W.Write.contents c.serve_die.new.out) in
+    let before = left_behind (g.F.FileStore.stores c.args.files.now) (g.W.Write.contents c.args.out.now) in
+    let after = left_behind (g.F.FileStore.stores c.finish.new.files) (g.W.Write.contents c.serve_die.new.out) in
     let image = c.deref-3.result.now in
     let kept : image ≡ c.serve_die.new.image = c.deref-3.ensures.value ∙ kept_whole c.in_ok-bytes.bytes.len c.serve_die.new.image bytes (c.serve_die.auto.image ∙ c.deref_mut.ensures.len) in
     let E : Option (List Stored) → Type 0 = λ stores. EndsServing words.output.now image c.in_ok-stop.stop stores after.stores c.finish.result in

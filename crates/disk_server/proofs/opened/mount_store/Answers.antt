@@ -1,31 +1,41 @@
 use Rattle.std.proofs.Common.{Err, refl}
-use Rattle.disk_server.proofs.OpenedLemmas.{another, come, comes, IsBehind, IsOver}
+use Rattle.disk_server.specs.Opened.{ComesBack, IsUnopened}
+use Rattle.disk_server.proofs.FaultLemmas.{handed_on}
+use Rattle.disk_server.proofs.OpenedLemmas.{another, before, come, comes, IsBehind, IsOver}
 use Rattle.disk_server.specs.declared.opened.OpenStoreFault.TheVariants as why
 use Rattle.disk_server.proofs.opened.mount_store.Goals as goal
 
-pub returns-in-Ok-mount-clause-back : goal.returns-in-Ok-mount-clause-back
-returns-in-Ok-mount-clause-back g c =
-    let over : IsOver g.S.Store.held g.S.Store.honest c.args.store c.in-Ok.driver = record { as_honest = c.in-Ok.ensures.honest; geometry = c.in-Ok.ensures.geometry; pages = c.in-Ok.ensures.pages } in
-    let behind : IsBehind g.S.Store.held g.S.Store.honest c.in-Ok.driver c.mount.new.source c.store_behind.result =
+pub returns-in-Ok-clause-back : goal.returns-in-Ok-clause-back
+returns-in-Ok-clause-back g c =
+    let over : IsOver g.S.Store.held g.S.Store.honest c.args.store c.in_ok-driver.driver = record { as_honest = c.in_ok-driver.ensures.honest; geometry = c.in_ok-driver.ensures.geometry; pages = c.in_ok-driver.ensures.pages } in
+    let behind : IsBehind g.S.Store.held g.S.Store.honest c.in_ok-driver.driver c.mount.new.source c.store_behind.result =
     record {
-      as_honest = c.in-Ok-mount.ensures.only_reads.honest_is;
-      geometry = c.in-Ok-mount.ensures.only_reads.geometry_is;
+      as_honest = c.in-Ok.ensures.only_reads.honest_is;
+      geometry = c.in-Ok.ensures.only_reads.geometry_is;
       store =
           c.store_behind.ensures.store;
       its = c.store_behind.ensures.geometry;
     } in
-    come g.S.Store.held g.S.Store.honest c.args.store c.in-Ok.driver c.mount.new.source c.store_behind.result over behind (λ is. c.in-Ok-mount.ensures.same (λ e. absurd (cc)) is)
+    come g.S.Store.held g.S.Store.honest c.args.store c.in_ok-driver.driver c.mount.new.source c.store_behind.result over behind (λ is. c.in-Ok.ensures.same (λ e. absurd (cc)) is)
 
-pub returns-in-Err-mount-clause-given : goal.returns-in-Err-mount-clause-given
-returns-in-Err-mount-clause-given g c =
-    let over : IsOver g.S.Store.held g.S.Store.honest c.args.store c.in-Ok.driver = record { as_honest = c.in-Ok.ensures.honest; geometry = c.in-Ok.ensures.geometry; pages = c.in-Ok.ensures.pages } in
-    let behind : IsBehind g.S.Store.held g.S.Store.honest c.in-Ok.driver c.mount.new.source c.store_behind-in-Err-mount.result =
+pub returns-in-Err-clause-given : goal.returns-in-Err-clause-given
+returns-in-Err-clause-given g c =
+    let over : IsOver g.S.Store.held g.S.Store.honest c.args.store c.in_ok-driver.driver = record { as_honest = c.in_ok-driver.ensures.honest; geometry = c.in_ok-driver.ensures.geometry; pages = c.in_ok-driver.ensures.pages } in
+    let behind : IsBehind g.S.Store.held g.S.Store.honest c.in_ok-driver.driver c.mount.new.source c.store_behind-in-Err.result =
     record {
-      as_honest = c.in-Err-mount.ensures.only_reads.honest_is;
-      geometry = c.in-Err-mount.ensures.only_reads.geometry_is;
+      as_honest = c.in-Err.ensures.only_reads.honest_is;
+      geometry = c.in-Err.ensures.only_reads.geometry_is;
       store =
-          c.store_behind-in-Err-mount.ensures.store;
-      its = c.store_behind-in-Err-mount.ensures.geometry;
+          c.store_behind-in-Err.ensures.store;
+      its = c.store_behind-in-Err.ensures.geometry;
     } in
-    comes g.S.Store.held g.S.Store.honest c.args.store c.in-Ok.driver c.mount.new.source c.store_behind-in-Err-mount.result (why.Mount c.in-Err-mount.refusal) over behind
-    (λ other is. c.in-Err-mount.ensures.same (another (Err c.in-Err-mount.refusal) c.in-Err-mount.refusal refl other) is)
+    comes g.S.Store.held g.S.Store.honest c.args.store c.in_ok-driver.driver c.mount.new.source c.store_behind-in-Err.result (why.Mount c.in-Err.refusal) over behind
+    (λ other is. c.in-Err.ensures.same (another (Err c.in-Err.refusal) c.in-Err.refusal refl other) is)
+
+pub returns-in_err-driver-clause-fault : goal.returns-in_err-driver-clause-fault
+returns-in_err-driver-clause-fault g c =
+    handed_on (λ e. IsUnopened g.S.Store.held g.S.Store.honest g.S.Store.failed c.args.store c.args.capacity e.0 e.1) _ _ c.from_residual.ensures.1
+    (before g.S.Store.held g.S.Store.honest g.S.Store.failed c.args.store c.args.capacity c.in_err-driver.field-0.0.0 c.in_err-driver.field-0.0.1 c.in_err-driver.ensures.fault)
+
+pub returns-in_err-driver-clause-given : goal.returns-in_err-driver-clause-given
+returns-in_err-driver-clause-given g c = handed_on (λ e. ComesBack g.S.Store.held g.S.Store.honest c.args.store e.1 e.0) _ _ c.from_residual.ensures.1 c.in_err-driver.ensures.given

@@ -1,9 +1,11 @@
-use Rattle.std.proofs.Common.{◌≡◌, ◌≤◌, ◌+◌, ◌∙◌, ℕ, Err, false, length, refl, rules, arith}
-use Rattle.nbd_stream.specs.Disk.{error_for}
+use Rattle.std.proofs.Common.{◌≡◌, ◌≤◌, ◌+◌, ◌∙◌, ℕ, Err, [], false, length, refl, subst, sym, rules, arith}
+use Rattle.nbd_stream.specs.declared.task.Task.TheVariants.{Trim}
+use Rattle.nbd_stream.specs.Disk.{PerformsTask, answer_from, error_for}
 use Rattle.nbd_stream.proofs.ThroughLemmas.{joined, none, once}
 use Rattle.disk_server.specs.Asked.{AsksCall}
 use Rattle.disk_server.proofs.ChangeLemmas.{calls_on}
 use Rattle.disk_server.proofs.ClearLemmas.{zeros_left}
+use Rattle.disk_server.proofs.FaultLemmas.{is_handed_on}
 use Rattle.disk_server.proofs.Joining.{writes_trim}
 use Rattle.disk_server.proofs.Fronts.{nothing_set, zeros_stopped, zeros_written}
 use Rattle.disk_server.proofs.ranges.clear_pieces.Goals as goal
@@ -27,40 +29,41 @@ loop-done-preserved g c =
     let room : length c.clear_piece.new.buffer ≡ length c.args.buffer.now = search rules in (
       within,
       room,
-      c.in-Ok.ensures.size ∙ inv.2,
+      c.in_ok-clear_piece.ensures.size ∙ inv.2,
       zeros_written g.S.Sectors.contents g.S.Sectors.honest g.S.Sectors.calm c.args.count c.args.offset k m
-          c.args.sectors.now c.loop-done.sectors c.clear_piece.new.sectors within c.requires.within inv.3 c.in-Ok.ensures.performs,
-      λ h zeros. (let before = c.in-Ok.ensures.performs.back h in
+          c.args.sectors.now c.loop-done.sectors c.clear_piece.new.sectors within c.requires.within inv.3 c.in_ok-clear_piece.ensures.performs,
+      λ h zeros. (let before = c.in_ok-clear_piece.ensures.performs.back h in
           joined g.S.Sectors.reads c.args.sectors.now c.loop-done.sectors c.clear_piece.new.sectors (inv.4 before zeros)
-          (once g.S.Sectors.reads c.loop-done.sectors c.clear_piece.new.sectors (c.in-Ok.ensures.spares h
+          (once g.S.Sectors.reads c.loop-done.sectors c.clear_piece.new.sectors (c.in_ok-clear_piece.ensures.spares h
           (zeros_left g.S.Sectors.contents g.S.Sectors.honest g.S.Sectors.calm c.args.offset c.args.count k m c.args.sectors.now c.loop-done.sectors within c.requires.within inv.3 before zeros)))),
-      calls_on g.S.Sectors.reads g.S.Sectors.changes g.S.Sectors.flushes c.args.sectors.now c.loop-done.sectors c.clear_piece.new.sectors inv.5 c.in-Ok.ensures.asks,
+      calls_on g.S.Sectors.reads g.S.Sectors.changes g.S.Sectors.flushes c.args.sectors.now c.loop-done.sectors c.clear_piece.new.sectors inv.5 c.in_ok-clear_piece.ensures.asks,
     )
 
-pub returns-in-Err-clause-performs : goal.returns-in-Err-clause-performs
-returns-in-Err-clause-performs g c =
+pub returns-in_err-clear_piece-clause-performs : goal.returns-in_err-clear_piece-clause-performs
+returns-in_err-clear_piece-clause-performs g c =
     let inv = c.loop-done.invariant in
     let k : ℕ = c.loop-done.done in
     let m : ℕ = c.piece_length-taken.result in
     let within : k + m ≤ c.args.count = omega (arith, inv.0, c.piece_length-taken.ensures.few) in
-    writes_trim g.S.Sectors.contents g.S.Sectors.honest g.S.Sectors.calm c.args.offset c.args.count false c.args.sectors.now c.clear_piece.new.sectors (Err (error_for c.in-Err.fault)) (
+    subst (λ r. PerformsTask g.S.Sectors.contents g.S.Sectors.honest g.S.Sectors.calm (Trim c.args.offset c.args.count false) [] c.args.sectors.now (answer_from r []) c.clear_piece.new.sectors)
+    (sym (is_handed_on c.from_residual.result c.in_err-clear_piece.field-0.0 c.from_residual.ensures.1))
+    (writes_trim g.S.Sectors.contents g.S.Sectors.honest g.S.Sectors.calm c.args.offset c.args.count false c.args.sectors.now c.clear_piece.new.sectors (Err (error_for c.in_err-clear_piece.field-0.0)) (
     zeros_stopped g.S.Sectors.contents g.S.Sectors.honest g.S.Sectors.calm c.args.count c.args.offset k m
-    c.args.sectors.now c.loop-done.sectors c.clear_piece.new.sectors within c.requires.within inv.3 (error_for c.in-Err.fault) c.in-Err.ensures.performs
-    )
+    c.args.sectors.now c.loop-done.sectors c.clear_piece.new.sectors within c.requires.within inv.3 (error_for c.in_err-clear_piece.field-0.0) c.in_err-clear_piece.ensures.performs))
 
-pub returns-in-Err-clause-spares : goal.returns-in-Err-clause-spares
-returns-in-Err-clause-spares g c = λ h zeros.
+pub returns-in_err-clear_piece-clause-spares : goal.returns-in_err-clear_piece-clause-spares
+returns-in_err-clear_piece-clause-spares g c = λ h zeros.
     let inv = c.loop-done.invariant in
     let k : ℕ = c.loop-done.done in
     let m : ℕ = c.piece_length-taken.result in
     let within : k + m ≤ c.args.count = omega (arith, inv.0, c.piece_length-taken.ensures.few) in
-    let before = c.in-Err.ensures.performs.back h in
+    let before = c.in_err-clear_piece.ensures.performs.back h in
     joined g.S.Sectors.reads c.args.sectors.now c.loop-done.sectors c.clear_piece.new.sectors (inv.4 before zeros)
-    (once g.S.Sectors.reads c.loop-done.sectors c.clear_piece.new.sectors (c.in-Err.ensures.spares h
+    (once g.S.Sectors.reads c.loop-done.sectors c.clear_piece.new.sectors (c.in_err-clear_piece.ensures.spares h
     (zeros_left g.S.Sectors.contents g.S.Sectors.honest g.S.Sectors.calm c.args.offset c.args.count k m c.args.sectors.now c.loop-done.sectors within c.requires.within inv.3 before zeros)))
 
-pub returns-in-Err-clause-asks : goal.returns-in-Err-clause-asks
-returns-in-Err-clause-asks g c = calls_on g.S.Sectors.reads g.S.Sectors.changes g.S.Sectors.flushes c.args.sectors.now c.loop-done.sectors c.clear_piece.new.sectors c.loop-done.invariant.5 c.in-Err.ensures.asks
+pub returns-in_err-clear_piece-clause-asks : goal.returns-in_err-clear_piece-clause-asks
+returns-in_err-clear_piece-clause-asks g c = calls_on g.S.Sectors.reads g.S.Sectors.changes g.S.Sectors.flushes c.args.sectors.now c.loop-done.sectors c.clear_piece.new.sectors c.loop-done.invariant.5 c.in_err-clear_piece.ensures.asks
 
 pub returns-clause-asks : goal.returns-clause-asks
 returns-clause-asks g c = c.loop-done.invariant.5

@@ -18,10 +18,10 @@ loop-done-preserved g c =
       within,
       same,
       room,
-      c.in-Ok.ensures.size ∙ inv.3,
+      c.in_ok-read_piece.ensures.size ∙ inv.3,
       front_given g.S.Sectors.contents g.S.Sectors.honest g.S.Sectors.calm c.loop-done.out c.read_piece.new.out c.args.offset k m
-          c.args.sectors.now c.loop-done.sectors c.read_piece.new.sectors within' inv.4 c.in-Ok.ensures.performs,
-      joined g.S.Sectors.reads c.args.sectors.now c.loop-done.sectors c.read_piece.new.sectors inv.5 (once g.S.Sectors.reads c.loop-done.sectors c.read_piece.new.sectors c.in-Ok.ensures.reads),
+          c.args.sectors.now c.loop-done.sectors c.read_piece.new.sectors within' inv.4 c.in_ok-read_piece.ensures.performs,
+      joined g.S.Sectors.reads c.args.sectors.now c.loop-done.sectors c.read_piece.new.sectors inv.5 (once g.S.Sectors.reads c.loop-done.sectors c.read_piece.new.sectors c.in_ok-read_piece.ensures.reads),
     )
 
 pub loop-done-init : goal.loop-done-init
@@ -29,6 +29,6 @@ loop-done-init g c =
     let nothing : PerformsTask g.S.Sectors.contents g.S.Sectors.honest g.S.Sectors.calm (Read c.args.offset 0) [] c.args.sectors.now (Ok []) c.args.sectors.now = search rules in
     (omega arith, refl, refl, refl, nothing, none g.S.Sectors.reads c.args.sectors.now c.args.sectors.now refl)
 
-pub returns-in-Err-clause-reads : goal.returns-in-Err-clause-reads
-returns-in-Err-clause-reads g c =
-    joined g.S.Sectors.reads c.args.sectors.now c.loop-done.sectors c.read_piece.new.sectors c.loop-done.invariant.5 (once g.S.Sectors.reads c.loop-done.sectors c.read_piece.new.sectors c.in-Err.ensures.reads)
+pub returns-in_err-read_piece-clause-reads : goal.returns-in_err-read_piece-clause-reads
+returns-in_err-read_piece-clause-reads g c =
+    joined g.S.Sectors.reads c.args.sectors.now c.loop-done.sectors c.read_piece.new.sectors c.loop-done.invariant.5 (once g.S.Sectors.reads c.loop-done.sectors c.read_piece.new.sectors c.in_err-read_piece.ensures.reads)

@@ -3,7 +3,7 @@ use Rattle.page_layout.specs.Geometry.{page_bytes, row_count}
 use Rattle.page_layout.specs.Sound.{record_of}
 use Rattle.page_layout.specs.Array.{marks}
 use Rattle.lab_dump.specs.PageBytes.{page_of}
-use Rattle.lab_dump.specs.Until.{counted}
+use Rattle.lab_dump.specs.Until.{record_until}
 use Rattle.lab_origin.specs.Origin.{image_of, is_read, row_bytes}
 use Rattle.lab_origin.specs.Tracing.{Shows}
 use Rattle.lab_origin.proofs.OriginLemmas.{read_is}
@@ -28,7 +28,7 @@ loop-row-preserved g c =
       shows = λ all files dumped told.
           let is : piece ≡ row_bytes geo all row = c.in_ok-read_row.ensures.read all (inv.dump_same ∙ dumped) ∙ ap (λ (k : ℕ). slice_range all (row * k) (row * k + k)) size in
           c.in_ok-take_row.ensures.shows (marks (image_of geo last all)) (is_read geo all files) files (inv.same ∙ told) (inv.shows all files dumped told)
-          (record_at geo last all piece row (omega arith) is ∙ ap (λ u. counted u (record_of (page_of geo.data_bytes piece))) (sym inv.until)) (read_is geo all piece files row is size);
+          (record_at geo last all piece row (omega arith) is ∙ ap (λ u. record_until u (record_of (page_of geo.data_bytes piece))) (sym inv.until)) (read_is geo all piece files row is size);
     }
 
 pub returns-clause-shows : goal.returns-clause-shows

@@ -1,11 +1,11 @@
 use Rattle.std.proofs.Common.{refl, arith}
-use Rattle.commands.specs.Files.{Stored, written}
+use Rattle.commands.specs.Files.{Stored, written_file}
 use Rattle.command_tests.specs.declared.tests.files.MemoryFile.{MemoryFile}
 use Rattle.command_tests.proofs.FileLemmas.{found_at, lacks_all, lacks_more}
 use Rattle.command_tests.proofs.tests.files.given_bytes.Goals as goal
 
 abbrev given : MemoryFile → Stored
-given f = written f.path.now f.bytes.items
+given f = written_file f.path.now f.bytes.items
 
 pub loop-file-init : goal.loop-file-init
 loop-file-init c = λ at file below is same. absurd (omega (arith, below))

@@ -2,7 +2,7 @@ use Rattle.std.proofs.Common.{◌*◌, ◌+◌, ◌∙◌, ◌≤◌, ℕ, [], f
 use Rattle.std.proofs.lemmas.List.{length-replicate}
 use Rattle.nbd_stream.specs.declared.task.Task.TheVariants as task
 use Rattle.disk_server.specs.Asked.{SparesZeros}
-use Rattle.disk_server.specs.Guarded.{ReadsGuarded, shown}
+use Rattle.disk_server.specs.Guarded.{ReadsGuarded, guarded_contents}
 use Rattle.disk_server.proofs.Bytes.{sector_fits}
 use Rattle.disk_server.proofs.GuardedLemmas.{change_shown, failed_shown, listed_zeros, shown_zeros}
 use Rattle.disk_server.proofs.guarded.GuardedSectorsSectors.clear_sector.Goals as goal
@@ -37,7 +37,7 @@ returns-in-Ok-clause-spares g c =
     let size = g.S.Sectors.size c.args.self.now.sectors in
     let fits : n * size + size ≤ length (g.S.Sectors.contents c.args.self.now.sectors).bytes = sector_fits n (g.S.Sectors.count c.args.self.now.sectors) size _ c.requires.within c.know.ensures.whole in
     let unlisted = sym c.is_listed.ensures ∙ c.if-is_listed.false in
-    subst (λ d. SparesZeros (shown g.S.Sectors.contents g.S.Sectors.size) (λ x. g.S.Sectors.honest x.sectors) (ReadsGuarded g.S.Sectors.reads) (n * size) size c.args.self.now d) (sym (c.heal.ensures.unlisted unlisted).1)
+    subst (λ d. SparesZeros (guarded_contents g.S.Sectors.contents g.S.Sectors.size) (λ x. g.S.Sectors.honest x.sectors) (ReadsGuarded g.S.Sectors.reads) (n * size) size c.args.self.now d) (sym (c.heal.ensures.unlisted unlisted).1)
     (λ h zeros. inr (c.in-Ok.ensures.spares h (shown_zeros size n c.args.self.now.lost.items _ fits unlisted zeros), record { keeper_same = refl; lost_same = refl; failed_same = refl }))
 
 pub returns-in-Err-clause-spares : goal.returns-in-Err-clause-spares

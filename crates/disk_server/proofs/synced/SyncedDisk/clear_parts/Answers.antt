@@ -1,10 +1,11 @@
-use Rattle.std.proofs.Common.{rules, ◌≡◌, ◌∙◌, ◌≤◌, ◌+◌, inl, inr, ℕ, Ok, Err, [], false, ap, add-zero, refl, subst, zero-add, arith}
+use Rattle.std.proofs.Common.{rules, ◌≡◌, ◌∙◌, ◌≤◌, ◌+◌, inl, inr, ℕ, Ok, Err, [], false, ap, add-zero, refl, subst, sym, zero-add, arith}
 use Rattle.nbd_stream.specs.declared.task.Task.TheVariants.{Trim}
-use Rattle.nbd_stream.specs.Disk.{PerformsTask, error_for}
+use Rattle.nbd_stream.specs.Disk.{PerformsTask, answer_from, error_for}
+use Rattle.disk_server.proofs.FaultLemmas.{is_handed_on}
 use Rattle.disk_server.proofs.Joining.{writes_trim}
 use Rattle.disk_server.proofs.Fronts.{nothing_set, zeros_stopped, zeros_written}
 use Rattle.nbd_stream.proofs.ThroughLemmas.{joined, none, once}
-use Rattle.disk_server.specs.Synced.{ClearsPart, HasSynced, after_change, touched}
+use Rattle.disk_server.specs.Synced.{ClearsPart, HasSynced, NotesFailedSync, after_change, touched}
 use Rattle.disk_server.proofs.SyncLemmas.{none_then, one_part, part_counted, part_failed, then_failed, unflushed}
 use Rattle.disk_server.proofs.synced.SyncedDisk.clear_parts.Goals as goal
 
@@ -16,38 +17,42 @@ loop-done-preserved g c =
     let within : k + m ≤ c.args.count = omega (arith, inv.0, c.min-taken.ensures) in
     let place : c.from-in-loop-done.result ≡ k = search rules in
     let part = subst (λ n. PerformsTask (λ s. g.D.Disk.contents s.disk) (λ s. g.D.Disk.honest s.disk) (λ _. false) (Trim (c.args.offset + n) m false) [] c.loop-done.self (Ok []) c.clear_part-in-loop-done.new.self) place
-    c.in-Ok.ensures.performs in
-    let settled = subst (λ n. HasSynced g.Y.Syncs.synced false (after_change (c.args.offset + n) m c.loop-done.self) c.clear_part-in-loop-done.new.self) place c.in-Ok.ensures.synced in (
+    c.in_ok-clear_part.ensures.performs in
+    let settled = subst (λ n. HasSynced g.Y.Syncs.synced false (after_change (c.args.offset + n) m c.loop-done.self) c.clear_part-in-loop-done.new.self) place c.in_ok-clear_part.ensures.synced in (
       within,
-      one_part g.Y.Syncs.synced _ _ c.args.self.now c.loop-done.self c.clear_part-in-loop-done.new.self inv.1 c.in-Ok.ensures.synced,
+      one_part g.Y.Syncs.synced _ _ c.args.self.now c.loop-done.self c.clear_part-in-loop-done.new.self inv.1 c.in_ok-clear_part.ensures.synced,
       part_counted g.Y.Syncs.synced c.args.offset k m c.args.self.now c.loop-done.self c.clear_part-in-loop-done.new.self inv.1 inv.2 settled,
       zeros_written (λ s. g.D.Disk.contents s.disk) (λ s. g.D.Disk.honest s.disk) (λ _. false) c.args.count c.args.offset k m
           c.args.self.now c.loop-done.self c.clear_part-in-loop-done.new.self within c.requires inv.3 part,
-      none_then g.Y.Syncs.failed c.args.self.now c.loop-done.self c.clear_part-in-loop-done.new.self inv.4 c.in-Ok.ensures.notes,
+      none_then g.Y.Syncs.failed c.args.self.now c.loop-done.self c.clear_part-in-loop-done.new.self inv.4 c.in_ok-clear_part.ensures.notes,
       joined (ClearsPart g.D.Disk.does c.args.offset c.args.count) c.args.self.now.disk c.loop-done.self.disk c.clear_part-in-loop-done.new.self.disk inv.5
           (once (ClearsPart g.D.Disk.does c.args.offset c.args.count) c.loop-done.self.disk c.clear_part-in-loop-done.new.self.disk
-          (c.args.offset + c.from-in-loop-done.result, m, omega arith, omega (arith, within, place), c.in-Ok.ensures.asked)),
-      unflushed g.Y.Syncs.marked g.D.Sequenced.next false (after_change (c.args.offset + c.from-in-loop-done.result) m c.loop-done.self) c.clear_part-in-loop-done.new.self (Ok tt) c.in-Ok.ensures.marks ∙ inv.6,
+          (c.args.offset + c.from-in-loop-done.result, m, omega arith, omega (arith, within, place), c.in_ok-clear_part.ensures.asked)),
+      unflushed g.Y.Syncs.marked g.D.Sequenced.next false (after_change (c.args.offset + c.from-in-loop-done.result) m c.loop-done.self) c.clear_part-in-loop-done.new.self (Ok tt) c.in_ok-clear_part.ensures.marks ∙ inv.6,
     )
 
-pub returns-in-Err-clause-performs : goal.returns-in-Err-clause-performs
-returns-in-Err-clause-performs g c =
+pub returns-in_err-clear_part-clause-performs : goal.returns-in_err-clear_part-clause-performs
+returns-in_err-clear_part-clause-performs g c =
     let inv = c.loop-done.invariant in
     let k : ℕ = c.loop-done.done in
     let m : ℕ = c.min-taken.result in
     let within : k + m ≤ c.args.count = omega (arith, inv.0, c.min-taken.ensures) in
     let place : c.from-in-loop-done.result ≡ k = search rules in
-    let part = subst (λ n. PerformsTask (λ s. g.D.Disk.contents s.disk) (λ s. g.D.Disk.honest s.disk) (λ _. false) (Trim (c.args.offset + n) m false) [] c.loop-done.self (Err (error_for c.in-Err.fault))
-    c.clear_part-in-loop-done.new.self) place c.in-Err.ensures.performs in
-    writes_trim (λ s. g.D.Disk.contents s.disk) (λ s. g.D.Disk.honest s.disk) (λ _. false) c.args.offset c.args.count false c.args.self.now c.clear_part-in-loop-done.new.self (Err (error_for c.in-Err.fault))
+    let part = subst (λ n. PerformsTask (λ s. g.D.Disk.contents s.disk) (λ s. g.D.Disk.honest s.disk) (λ _. false) (Trim (c.args.offset + n) m false) [] c.loop-done.self (Err (error_for c.in_err-clear_part.field-0.0))
+    c.clear_part-in-loop-done.new.self) place c.in_err-clear_part.ensures.performs in
+    subst (λ r. PerformsTask (λ s. g.D.Disk.contents s.disk) (λ s. g.D.Disk.honest s.disk) (λ _. false) (Trim c.args.offset c.args.count false) [] c.args.self.now (answer_from r []) c.clear_part-in-loop-done.new.self)
+    (sym (is_handed_on c.from_residual.result c.in_err-clear_part.field-0.0 c.from_residual.ensures.1))
+    (writes_trim (λ s. g.D.Disk.contents s.disk) (λ s. g.D.Disk.honest s.disk) (λ _. false) c.args.offset c.args.count false c.args.self.now c.clear_part-in-loop-done.new.self (Err (error_for c.in_err-clear_part.field-0.0))
     (zeros_stopped (λ s. g.D.Disk.contents s.disk) (λ s. g.D.Disk.honest s.disk) (λ _. false) c.args.count c.args.offset k m
-    c.args.self.now c.loop-done.self c.clear_part-in-loop-done.new.self within c.requires inv.3 (error_for c.in-Err.fault) part)
+    c.args.self.now c.loop-done.self c.clear_part-in-loop-done.new.self within c.requires inv.3 (error_for c.in_err-clear_part.field-0.0) part))
 
-pub returns-in-Err-clause-syncs : goal.returns-in-Err-clause-syncs
-returns-in-Err-clause-syncs g c = part_failed g.Y.Syncs.synced _ _ c.args.self.now c.loop-done.self c.clear_part-in-loop-done.new.self c.loop-done.invariant.1 c.in-Err.ensures.unsynced
+pub returns-in_err-clear_part-clause-syncs : goal.returns-in_err-clear_part-clause-syncs
+returns-in_err-clear_part-clause-syncs g c = part_failed g.Y.Syncs.synced _ _ c.args.self.now c.loop-done.self c.clear_part-in-loop-done.new.self c.loop-done.invariant.1 c.in_err-clear_part.ensures.unsynced
 
-pub returns-in-Err-clause-notes : goal.returns-in-Err-clause-notes
-returns-in-Err-clause-notes g c = then_failed g.Y.Syncs.failed c.args.self.now c.loop-done.self c.clear_part-in-loop-done.new.self c.loop-done.invariant.4 c.in-Err.ensures.notes
+pub returns-in_err-clear_part-clause-notes : goal.returns-in_err-clear_part-clause-notes
+returns-in_err-clear_part-clause-notes g c =
+    subst (λ r. NotesFailedSync g.Y.Syncs.failed c.args.self.now r c.clear_part-in-loop-done.new.self) (sym (is_handed_on c.from_residual.result c.in_err-clear_part.field-0.0 c.from_residual.ensures.1))
+    (then_failed g.Y.Syncs.failed c.args.self.now c.loop-done.self c.clear_part-in-loop-done.new.self c.loop-done.invariant.4 c.in_err-clear_part.ensures.notes)
 
 pub returns-clause-notes : goal.returns-clause-notes
 returns-clause-notes g c = c.loop-done.invariant.4
@@ -55,8 +60,8 @@ returns-clause-notes g c = c.loop-done.invariant.4
 pub returns-clause-parts : goal.returns-clause-parts
 returns-clause-parts g c = c.loop-done.invariant.5
 
-pub returns-in-Err-clause-parts : goal.returns-in-Err-clause-parts
-returns-in-Err-clause-parts g c =
+pub returns-in_err-clear_part-clause-parts : goal.returns-in_err-clear_part-clause-parts
+returns-in_err-clear_part-clause-parts g c =
     let inv = c.loop-done.invariant in
     let k : ℕ = c.loop-done.done in
     let m : ℕ = c.min-taken.result in
@@ -64,7 +69,7 @@ returns-in-Err-clause-parts g c =
     let place : c.from-in-loop-done.result ≡ k = search rules in
     joined (ClearsPart g.D.Disk.does c.args.offset c.args.count) c.args.self.now.disk c.loop-done.self.disk c.clear_part-in-loop-done.new.self.disk inv.5
     (once (ClearsPart g.D.Disk.does c.args.offset c.args.count) c.loop-done.self.disk c.clear_part-in-loop-done.new.self.disk
-    (c.args.offset + c.from-in-loop-done.result, m, omega arith, omega (arith, within, place), c.in-Err.ensures.asked))
+    (c.args.offset + c.from-in-loop-done.result, m, omega arith, omega (arith, within, place), c.in_err-clear_part.ensures.asked))
 
 pub returns-then-is_none-clause-parts : goal.returns-then-is_none-clause-parts
 returns-then-is_none-clause-parts g c =
@@ -73,10 +78,10 @@ returns-then-is_none-clause-parts g c =
 pub returns-clause-unflushed : goal.returns-clause-unflushed
 returns-clause-unflushed g c = c.loop-done.invariant.6
 
-pub returns-in-Err-clause-unflushed : goal.returns-in-Err-clause-unflushed
-returns-in-Err-clause-unflushed g c =
+pub returns-in_err-clear_part-clause-unflushed : goal.returns-in_err-clear_part-clause-unflushed
+returns-in_err-clear_part-clause-unflushed g c =
     let m : ℕ = c.min-taken.result in
-    unflushed g.Y.Syncs.marked g.D.Sequenced.next false (after_change (c.args.offset + c.from-in-loop-done.result) m c.loop-done.self) c.clear_part-in-loop-done.new.self (Err c.in-Err.fault) c.in-Err.ensures.marks ∙ c.loop-done.invariant.6
+    unflushed g.Y.Syncs.marked g.D.Sequenced.next false (after_change (c.args.offset + c.from-in-loop-done.result) m c.loop-done.self) c.clear_part-in-loop-done.new.self (Err c.in_err-clear_part.field-0.0) c.in_err-clear_part.ensures.marks ∙ c.loop-done.invariant.6
 
 pub returns-then-is_none-clause-unflushed : goal.returns-then-is_none-clause-unflushed
 returns-then-is_none-clause-unflushed g c = unflushed g.Y.Syncs.marked g.D.Sequenced.next false (after_change c.args.offset c.args.count c.args.self.now) c.clear_part.new.self c.clear_part.result c.clear_part.ensures.marks

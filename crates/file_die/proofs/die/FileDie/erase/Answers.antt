@@ -2,7 +2,7 @@ use Rattle.std.proofs.Common.{◌∙◌, ap, sym, ◌&&◌, not, false}
 use Rattle.std.proofs.lemmas.Result.{err_from_is_err_and}
 use Rattle.page_layout.specs.Flash.{TurnState}
 use Rattle.nand_die.specs.Turns.{turn_of}
-use Rattle.file_die.specs.Die.{IsFit, ended}
+use Rattle.file_die.specs.Die.{IsFit, change_ended}
 use Rattle.file_die.proofs.ChangeLemmas.{erase_failed, erase_done, erase_refused}
 use Rattle.file_die.proofs.die.FileDie.erase.Goals.{then-change+in_ok-clear, else-change}
 use Rattle.file_die.proofs.die.FileDie.erase.Goals as goal
@@ -29,8 +29,8 @@ returns g c =
     let passes = change.ensures.passed ∙ ap (λ b. b && not false) (sym change.ensures.legal) in
     elim c.if-change.branch [
       | then-change+in_ok-clear w ↦ erase_done held honest g.S.Store.failed d w.clear.new.self c.end.new.self block (turn_of c.turn-turn.result) (turn_of c.erased.result) change.result.legal change.result.passed
-          fit c.requires.in_range due w.if-change.true passes c.turn-turn.ensures.turn c.erased.ensures w.in_ok-clear.ensures.others (c.end.ensures ∙ ap (ended block (turn_of c.erased.result) change.result.legal change.result.passed) w.self-is)
+          fit c.requires.in_range due w.if-change.true passes c.turn-turn.ensures.turn c.erased.ensures w.in_ok-clear.ensures.others (c.end.ensures ∙ ap (change_ended block (turn_of c.erased.result) change.result.legal change.result.passed) w.self-is)
           w.in_ok-clear.ensures.asks w.in_ok-clear.ensures.erases
       | else-change w ↦ erase_refused held honest g.S.Store.failed d c.end.new.self block (turn_of c.turn-turn.result) (turn_of c.erased.result) change.result.legal change.result.passed
-          fit c.requires.in_range due w.if-change.false passes c.turn-turn.ensures.turn c.erased.ensures (c.end.ensures ∙ ap (ended block (turn_of c.erased.result) change.result.legal change.result.passed) w.self-is)
+          fit c.requires.in_range due w.if-change.false passes c.turn-turn.ensures.turn c.erased.ensures (c.end.ensures ∙ ap (change_ended block (turn_of c.erased.result) change.result.legal change.result.passed) w.self-is)
     ]

@@ -2,7 +2,7 @@ use Rattle.std.proofs.Common.{◌≡◌, ◌∙◌, ap, sym, ◌/◌, ◌%◌, �
 use Rattle.std.proofs.lemmas.Result.{err_from_is_err_and}
 use Rattle.page_layout.specs.declared.geometry.Geometry.{Geometry}
 use Rattle.nand_die.specs.Turns.{turn_of}
-use Rattle.file_die.specs.Die.{IsFit, shown, ended}
+use Rattle.file_die.specs.Die.{IsFit, shown, change_ended}
 use Rattle.file_die.proofs.ChangeLemmas.{may_of, program_failed, program_done, program_refused}
 use Rattle.file_die.proofs.die.FileDie.program.Goals.{then-change+in_ok-put, else-change}
 use Rattle.file_die.proofs.die.FileDie.program.Goals as goal
@@ -40,8 +40,8 @@ returns g c =
     elim c.if-change.branch [
       | then-change+in_ok-put w ↦ program_done held honest g.S.Store.failed d w.put.new.self c.end.new.self row block _ (turn_of c.turn-turn.result) (turn_of c.programmed.result) change.result.legal change.result.passed
           fit c.requires.in_range is_block due w.if-change.true passes c.turn-turn.ensures.turn c.programmed.ensures w.in_ok-put.ensures.others
-          (c.end.ensures ∙ ap (ended block (turn_of c.programmed.result) change.result.legal change.result.passed) w.self-is)
+          (c.end.ensures ∙ ap (change_ended block (turn_of c.programmed.result) change.result.legal change.result.passed) w.self-is)
           w.in_ok-put.ensures.asks w.in_ok-put.ensures.programs
       | else-change w ↦ program_refused held honest g.S.Store.failed d c.end.new.self row block _ (turn_of c.turn-turn.result) (turn_of c.programmed.result) change.result.legal change.result.passed
-          fit c.requires.in_range is_block due w.if-change.false passes c.turn-turn.ensures.turn c.programmed.ensures (c.end.ensures ∙ ap (ended block (turn_of c.programmed.result) change.result.legal change.result.passed) w.self-is)
+          fit c.requires.in_range is_block due w.if-change.false passes c.turn-turn.ensures.turn c.programmed.ensures (c.end.ensures ∙ ap (change_ended block (turn_of c.programmed.result) change.result.legal change.result.passed) w.self-is)
     ]

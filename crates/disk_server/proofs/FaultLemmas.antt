@@ -1,14 +1,13 @@
 -- A fault that a `?` hands on.
 use Rattle.std.proofs.Common.{◌≡◌, ap, subst, sym}
 use Rattle.std.specs.Prelude.{Result, Ok, Err, IfErr, IsErrAnd}
-use Rattle.disk_commands.specs.declared.text.DiskCommandFault.{DiskCommandFault}
 
 -- what holds of the fault of a call holds of the fault that is handed on
-pub handed_on : {T : Type 0} (P : DiskCommandFault → Type 0) (r : Result T DiskCommandFault) (told : DiskCommandFault) → IsErrAnd r (λ e. e ≡ told) → P told → IfErr r P
+pub handed_on : {T E : Type 0} (P : E → Type 0) (r : Result T E) (told : E) → IsErrAnd r (λ e. e ≡ told) → P told → IfErr r P
 handed_on P (Ok done) told is h = tt
 handed_on P (Err e) told is h = subst P (sym is) h
 
 -- and what is told is that fault
-pub is_handed_on : {T : Type 0} (r : Result T DiskCommandFault) (told : DiskCommandFault) → IsErrAnd r (λ e. e ≡ told) → r ≡ Err told
+pub is_handed_on : {T E : Type 0} (r : Result T E) (told : E) → IsErrAnd r (λ e. e ≡ told) → r ≡ Err told
 is_handed_on (Ok done) told is = absurd is
 is_handed_on (Err e) told is = ap Err is
