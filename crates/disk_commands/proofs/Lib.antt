@@ -1,4 +1,3 @@
-pub mod FaultLemmas
 pub mod GrammarLemmas
 pub mod MakeLemmas
 pub mod ShapeLemmas

@@ -1,7 +1,7 @@
 use Rattle.std.proofs.Common.{inl}
 use Rattle.std.proofs.KnownBytes.{Keeps-refl}
 use Rattle.disk_commands.specs.Check.{IsUnclean}
-use Rattle.disk_commands.proofs.FaultLemmas.{handed_on}
+use Rattle.disk_server.proofs.FaultLemmas.{handed_on}
 use Rattle.disk_commands.proofs.check.check_command.Goals as goal
 
 pub returns-in_err-damage-clause-fault : goal.returns-in_err-damage-clause-fault

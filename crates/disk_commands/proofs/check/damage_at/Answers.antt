@@ -2,7 +2,7 @@ use Rattle.std.proofs.Common.{◌∙◌, ap, inl, sym, subst, Err}
 use Rattle.disk_damage.specs.Numbers.{listed_sectors}
 use Rattle.disk_commands.specs.Check.{IsUncheckedAt}
 use Rattle.disk_commands.proofs.DamageLemmas.{unseen_at}
-use Rattle.disk_commands.proofs.FaultLemmas.{handed_on}
+use Rattle.disk_server.proofs.FaultLemmas.{handed_on}
 use Rattle.disk_commands.proofs.check.damage_at.Goals as goal
 
 pub returns-in-Ok-unsound_rows-clause-ok : goal.returns-in-Ok-unsound_rows-clause-ok

@@ -3,7 +3,7 @@ use Rattle.nand_die.specs.Made.{AreNames}
 use Rattle.disk_commands.specs.Created.{IsDieAskedFor, IsUncreated, IsUnmadeFor}
 use Rattle.disk_commands.specs.Files.{FailsNoMore}
 use Rattle.disk_commands.proofs.CreateLemmas.{created, not_kept}
-use Rattle.disk_commands.proofs.FaultLemmas.{handed_on}
+use Rattle.disk_server.proofs.FaultLemmas.{handed_on}
 use Rattle.disk_commands.proofs.create.create_command.Goals as goal
 
 pub returns-in_err-shape-clause-fault : goal.returns-in_err-shape-clause-fault

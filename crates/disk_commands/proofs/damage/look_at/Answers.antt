@@ -1,7 +1,7 @@
 use Rattle.std.proofs.Common.{◌∙◌, Bool, List, ap, inl, inr, refl, subst, sym}
 use Rattle.disk_commands.specs.Damage.{IsListAt, IsLookedAt, IsNoListAt, IsUnlookedAt}
 use Rattle.disk_commands.proofs.DamageLemmas.{kept_flags, looked_at, mark_fault, no_list_back}
-use Rattle.disk_commands.proofs.FaultLemmas.{handed_on}
+use Rattle.disk_server.proofs.FaultLemmas.{handed_on}
 use Rattle.disk_commands.proofs.damage.look_at.Goals as goal
 
 pub returns-in_err-store-clause-fault : goal.returns-in_err-store-clause-fault

@@ -2,7 +2,7 @@ use Rattle.std.proofs.Common.{◌≡◌, ◌∙◌, ap, inl}
 use Rattle.std.proofs.KnownBytes.{Keeps-refl}
 use Rattle.disk_commands.specs.Info.{info_text}
 use Rattle.disk_commands.specs.Told.{IsDiskUntold, form_of}
-use Rattle.disk_commands.proofs.FaultLemmas.{handed_on}
+use Rattle.disk_server.proofs.FaultLemmas.{handed_on}
 use Rattle.disk_commands.proofs.TellLemmas.{has_not_told, has_told}
 use Rattle.disk_commands.proofs.info.info_command.Goals as goal
 

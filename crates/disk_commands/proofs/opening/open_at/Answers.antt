@@ -1,7 +1,7 @@
 use Rattle.std.proofs.Common.{ap, inl}
 use Rattle.disk_commands.specs.Opening.{IsNotAt}
 use Rattle.disk_commands.proofs.DamageLemmas.{no_more_then, not_opened, shape_back, was_opened}
-use Rattle.disk_commands.proofs.FaultLemmas.{handed_on}
+use Rattle.disk_server.proofs.FaultLemmas.{handed_on}
 use Rattle.disk_commands.proofs.OpeningLemmas.{not_locked}
 use Rattle.disk_commands.proofs.opening.open_at.Goals as goal
 

@@ -1,7 +1,7 @@
 use Rattle.std.proofs.Common.{◌∙◌, ap, false, inl, inr, subst, sym}
 use Rattle.disk_server.specs.Synced.{after_sync}
 use Rattle.disk_commands.specs.Ready.{IsNoneOf, IsUnkeptBy, IsUnreadyAt, KeepsBy}
-use Rattle.disk_commands.proofs.FaultLemmas.{handed_on}
+use Rattle.disk_server.proofs.FaultLemmas.{handed_on}
 use Rattle.disk_commands.proofs.ReadyLemmas.{looked_same, marks_then, unkept_by, unlisted_back}
 use Rattle.disk_commands.proofs.ready.ready.Goals as goal
 

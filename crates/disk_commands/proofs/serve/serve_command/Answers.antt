@@ -1,7 +1,7 @@
 use Rattle.std.proofs.Common.{inr, subst, sym}
 use Rattle.std.proofs.KnownBytes.{Keeps-refl}
 use Rattle.disk_commands.specs.Serve.{StreamStops}
-use Rattle.disk_commands.proofs.FaultLemmas.{is_handed_on}
+use Rattle.disk_server.proofs.FaultLemmas.{is_handed_on}
 use Rattle.disk_commands.proofs.ServeLemmas.{served_at, unready_stops}
 use Rattle.disk_commands.proofs.serve.serve_command.Goals as goal
 
