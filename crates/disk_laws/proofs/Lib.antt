@@ -8,3 +8,5 @@ mod KilledLemmas
 mod StoreLemmas
 mod ServedLemmas
 mod StoreLostLemmas
+mod SentLemmas
+mod DrivenLemmas

@@ -1,3 +1,4 @@
+pub mod Driven
 pub mod Killed
 pub mod Lost
 pub mod Runs

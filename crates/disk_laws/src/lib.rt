@@ -3,6 +3,7 @@
 #![tactic(auto)]
 
 ghost use Rattle.disk_laws.specs.Lost.{AfterEraseLaw, AllGoneLaw, AllThereLaw};
+ghost use Rattle.disk_laws.specs.Driven.{DriverLosesLaw, DriverTellsLaw};
 ghost use Rattle.disk_laws.specs.StoreLost.{StoreLosesLaw};
 ghost use Rattle.disk_laws.specs.Runs.{CutLeavesLaw, KilledRunLaw, LostRunLaw, OneCallLaw, SessionLaw};
 ghost use Rattle.disk_laws.specs.Sessions.{ClosedSessionLaw, ReopenedSessionLaw, ServedSessionLaw, StoreSessionLaw};
@@ -60,4 +61,11 @@ pub fn session_laws<S: Store + TellsFull, K: KeepsLost>()
 pub fn served_laws<S: Sectors, Y: Syncs>()
     ensures served { ServedSessionLaw S.contents S.honest S.reads S.changes S.flushes S.rests Y.synced Y.failed Y.marked S.next }
     ensures closed { ClosedSessionLaw S.contents S.honest S.reads S.changes S.flushes S.rests Y.synced Y.failed Y.marked S.next S.takes }
+{}
+
+/// What the record of a driver tells of the store of its die, where its calls, one after another, are answered `Ok`, by what its contract says of them: it gains just the operations of these calls; and what lasts of an honest
+/// store, since all of its pages did, is what a loss of power may leave by these operations, as long as each page is programmed where none has a record, and no erase fails. (This project.)
+pub fn driver_laws<S: Store>()
+    ensures tells { DriverTellsLaw S.held S.honest S.failed }
+    ensures loses { DriverLosesLaw S.held S.honest S.failed }
 {}
