@@ -79,10 +79,10 @@ module _ {S : Type 0} (held : S → Held) (honest : S → Bool) (failed : S → 
           program_leads program_due tt sent.2 in
           (took.geometry, inr (true, took.leaves))
       | inr refused ↦ (
-          until_sized held honest failed old.bus new.bus (program_cycles row body spare) refused.0 refused.2,
-          until_operated held honest failed old.bus new.bus (load_cycles row body spare) (Loading row (0 + length body + length spare) (body ++ spare)) 0x10 (Programs row (page body spare)) refused.0 h
-          program_leads program_due tt refused.2,
-        )
+        until_sized held honest failed old.bus new.bus (program_cycles row body spare) refused.0 refused.2,
+        until_operated held honest failed old.bus new.bus (load_cycles row body spare) (Loading row (0 + length body + length spare) (body ++ spare)) 0x10 (Programs row (page body spare)) refused.0 h
+            program_leads program_due tt refused.2,
+      )
     ]
 
   module _ (block : ℕ) (result : Result Outcome BusFault) (old new : DriverState (FileState S)) (asks : AsksErase held honest failed block old result new) where
@@ -116,9 +116,9 @@ module _ {S : Type 0} (held : S → Held) (honest : S → Bool) (failed : S → 
           let took = operated held honest failed old.bus new.bus (Command 0x60 ∷ row_address row) (Confirming ForErase row 0) 0xD0 (Erases block) (sent.0 ∷ []) h erase_lead erase_is_due tt sent.2 in
           (took.geometry, inr (true, took.leaves))
       | inr refused ↦ (
-          until_sized held honest failed old.bus new.bus (erase_cycles old.geometry block) refused.0 refused.2,
-          until_operated held honest failed old.bus new.bus (Command 0x60 ∷ row_address row) (Confirming ForErase row 0) 0xD0 (Erases block) refused.0 h erase_lead erase_is_due tt refused.2,
-        )
+        until_sized held honest failed old.bus new.bus (erase_cycles old.geometry block) refused.0 refused.2,
+        until_operated held honest failed old.bus new.bus (Command 0x60 ∷ row_address row) (Confirming ForErase row 0) 0xD0 (Erases block) refused.0 h erase_lead erase_is_due tt refused.2,
+      )
     ]
 
   -- where a read of a page leads

@@ -129,11 +129,10 @@ module _ {S : Type 0} (held : S → Held) (honest : S → Bool) (failed : S → 
       let at : (shown held m).phase ≡ Ready NoOutput = confirm_ready due (shown held a) (shown held m) con does in
       let lead : LeadTo (shown held m).flash.geometry (shown held m).phase (Command 0x70 ∷ DataOut 1 ∷ []) (Ready StatusOut) =
       subst (λ p. LeadTo (shown held m).flash.geometry p (Command 0x70 ∷ DataOut 1 ∷ []) (Ready StatusOut)) (sym at) (status_leads (shown held m).flash.geometry NoOutput) in
-      let same : held b.store ≡ held m.store = quiet_until m b (Command 0x70 ∷ DataOut 1 ∷ []) (Ready StatusOut) fault (act.as_honest ∙ h) lead s.3 in
-      (
+      let same : held b.store ≡ held m.store = quiet_until m b (Command 0x70 ∷ DataOut 1 ∷ []) (Ready StatusOut) fault (act.as_honest ∙ h) lead s.3 in (
         true,
         subst (λ d. Leaves d (shown held a).flash a.sync_when (held a.store) true (held b.store)) is
-        (subst (λ t. Leaves (command_due (held a.store).geometry a.phase code) (shown held a).flash a.sync_when (held a.store) true t) (sym same) (act.leaves h)),
+            (subst (λ t. Leaves (command_due (held a.store).geometry a.phase code) (shown held a).flash a.sync_when (held a.store) true t) (sym same) (act.leaves h)),
       )
 
   pub until_operated : (a b : FileState S) (front : List Cycle) (p : Phase) (code : ℕ) (due : Due) (fault : BusFault) → honest a.store ≡ true → LeadTo (shown held a).flash.geometry (shown held a).phase front p
