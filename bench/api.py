@@ -31,7 +31,7 @@ CRATES = [
 IN_FORMATS = ("read_certificate", "GeometryFault", "BusFault", "FormatFault", "CertFault", "Refusal", "DeviceFault")
 # calls of these types that crates make, and no maker
 LEFT_OUT = {
-    "Geometry": ("entries", "translation_pages", "table_pages", "vmax", "row", "split_row", "has_row", "has_block"),
+    "Geometry": ("entries", "translation_pages", "table_pages", "vmax", "is_share", "waiting_at", "vmax_at", "flush_blocks_at", "need_at", "row", "split_row", "has_row", "has_block"),
     "Certificate": ("new", "block", "directory_row", "sector_row"),
     "Outcome": ("of_status",),
     "Device": ("into_engine",),

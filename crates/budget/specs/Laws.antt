@@ -1,9 +1,10 @@
 -- The laws of the count, as one statement each.
 use Rattle.std.specs.Prelude.{◌≡◌, ℕ, ◌+◌, ◌*◌, ◌/◌, ◌<◌, ◌≤◌, ◌==◌, min, Bool, true, List, length, count_by, Option}
-use Rattle.std.specs.List.{range_with_len}
+use Rattle.std.specs.Int.{div_ceil}
+use Rattle.std.specs.List.{AllByRecursion, range_with_len}
 use Rattle.page_layout.specs.declared.record.Record.{Record}
 use Rattle.page_layout.specs.declared.geometry.Geometry.{Geometry}
-use Rattle.page_layout.specs.Geometry.{need, vmax, translation_pages}
+use Rattle.page_layout.specs.Geometry.{need, vmax, translation_pages, waiting_at, vmax_at, flush_blocks_at, need_at}
 use Rattle.page_layout.specs.Live.{live}
 use Rattle.page_layout.specs.Count.{blocks_that}
 use Rattle.budget.specs.declared.stream.Stream.{Stream}
@@ -80,7 +81,14 @@ FreeLeftLaw = (pages failures : ℕ) (s : Counts) → Fits pages s → IsFunded 
 abbrev pub NeverStuckLaw : Type 0
 NeverStuckLaw = (pages failures : ℕ) (old new : Counts) → Fits pages old → IsFunded pages failures old → Stuck old new → 3 + new.good ≤ failures + old.good
 
--- With `need` good blocks collections go on until nine blocks are free, and with some more good ones until as many more are
+-- With `need_at` good blocks collections go on until nine blocks and those of a flush are free, and with some more good ones until as many
+-- more are: fewer free ones leave a closed block with at most `vmax_at` newest pages.
+abbrev pub NineAtLaw : Type 0
+NineAtLaw = (g : Geometry) (share : ℕ) (marks : List (Option Record)) (closed : ℕ → Bool) (more free open_blocks : ℕ)
+    → need_at g share + more ≤ free + open_blocks + blocks_that g closed → open_blocks ≤ 2
+    → ((block : ℕ) → block < g.blocks → closed block ≡ true → vmax_at g share < live g marks block) → 9 + flush_blocks_at g share + more ≤ free
+
+-- With share 0: with `need` good blocks collections go on until nine blocks are free, and with some more good ones until as many more are
 -- free: fewer free ones leave a closed block with at most `vmax` newest pages.
 abbrev pub NineLaw : Type 0
 NineLaw = (g : Geometry) (marks : List (Option Record)) (closed : ℕ → Bool) (more free open_blocks : ℕ)
@@ -91,9 +99,20 @@ NineLaw = (g : Geometry) (marks : List (Option Record)) (closed : ℕ → Bool) 
 abbrev pub FallsLaw : Type 0
 FallsLaw = (pages : ℕ) (old new : Counts) → Fits pages old → Collected pages old new → used pages new < used pages old
 
+-- a flush above share 0 that begins with them, and has at most two failures, leaves nine after any of its translation pages
+abbrev pub FlushLeavesLaw : Type 0
+FlushLeavesLaw = (g : Geometry) (share written : ℕ) (first now : Counts) → 0 < share
+    → 9 + flush_blocks_at g share ≤ first.free → written ≤ translation_pages g → Spending g.pages first now 0 written
+    → first.good ≤ now.good + 2 → 9 ≤ now.free
+
 -- ---- the pages of a collection
 
--- a block with at most `vmax` newest pages has room for their copies and for as many translation pages
+-- a block with at most `vmax_at` newest pages has room for their copies and for as many translation pages as are written back for them
+abbrev pub CopiesFitAtLaw : Type 0
+CopiesFitAtLaw = (g : Geometry) (share live_pages : ℕ) → live_pages ≤ vmax_at g share
+    → live_pages + min (div_ceil live_pages (share + 1)) (translation_pages g) + 1 ≤ g.pages
+
+-- with share 0: a block with at most `vmax` newest pages has room for their copies and for as many translation pages
 abbrev pub CopiesFitLaw : Type 0
 CopiesFitLaw = (g : Geometry) (live_pages : ℕ) → live_pages ≤ vmax g → live_pages + min live_pages (translation_pages g) + 1 ≤ g.pages
 
@@ -102,3 +121,43 @@ abbrev pub TouchedLaw : Type 0
 TouchedLaw = (per_page count : ℕ) (sectors : List ℕ) (touched : ℕ → Bool)
     → ((t : ℕ) → t < count → touched t ≡ true → 0 < count_by (λ n. n / per_page == t) sectors)
     → count_by touched (range_with_len 0 count) ≤ min (length sectors) count
+
+-- ---- the account of a collection whose moved sectors wait
+
+-- so many sectors waited first; so many pages were copied, each of which lets at most one more wait; so many translation pages were written
+-- back, for each of which more than `share` waited; so many wait now
+abbrev pub Accounts : ℕ → ℕ → ℕ → ℕ → ℕ → Type 0
+Accounts share first copies written waiting = (share + 1) * written + waiting ≤ first + copies
+
+abbrev pub AccountBeginsLaw : Type 0
+AccountBeginsLaw = (share first : ℕ) → Accounts share first 0 0 first
+
+abbrev pub CopyAccountLaw : Type 0
+CopyAccountLaw = (share first copies written waiting now : ℕ) → Accounts share first copies written waiting → now ≤ waiting + 1
+    → Accounts share first (copies + 1) written now
+
+abbrev pub WriteBackAccountLaw : Type 0
+WriteBackAccountLaw = (share first copies written waiting now : ℕ) → Accounts share first copies written waiting → now + share < waiting
+    → Accounts share first copies (written + 1) now
+
+-- while too many wait, one more translation page is written back for at most share + 1 copies each
+abbrev pub WriteBacksLaw : Type 0
+WriteBacksLaw = (g : Geometry) (share first copies written waiting : ℕ) → first ≤ waiting_at g share
+    → Accounts share first copies written waiting → waiting_at g share < waiting → written + 1 ≤ div_ceil copies (share + 1)
+
+-- and where the block was worth collecting, and no translation page is written twice, the pages of a block are enough
+abbrev pub BatchFitsLaw : Type 0
+BatchFitsLaw = (g : Geometry) (share first copies written waiting : ℕ) → copies ≤ vmax_at g share → first ≤ waiting_at g share
+    → Accounts share first copies written waiting → waiting_at g share < waiting → written < translation_pages g
+    → copies + (written + 1) + 1 ≤ g.pages
+
+-- the lowest of so many translation pages that more than `share` of the sectors are of
+pub record IsLowestOver (per_page count share : ℕ) (sectors : List ℕ) (page : ℕ) : Type 0 where
+  pub within : page < count
+  pub over : share < count_by (λ n. n / per_page == page) sectors
+  pub others : (t : ℕ) → t < page → count_by (λ n. n / per_page == t) sectors ≤ share
+
+-- where more than `share` sectors wait for each translation page in the mean, there is one
+abbrev pub SomeOverLaw : Type 0
+SomeOverLaw = (per_page count share : ℕ) (sectors : List ℕ) → AllByRecursion (λ n. n / per_page < count) sectors
+    → share * count < length sectors → (page : ℕ) × IsLowestOver per_page count share sectors page

@@ -1,11 +1,11 @@
 -- Counts and sums over lists.
 use Rattle.std.proofs.Common.{◌≡◌, ◌⊎◌, inl, inr, ℕ, zero, suc, ◌+◌, ◌*◌, ◌/◌, ◌<◌, ◌≤◌, Bool, true, false, cond, eqb, List, [], ◌∷◌, ◌++◌, length}
-use Rattle.std.proofs.Common.{map, refl, ap, sym, ◌∙◌, arith}
+use Rattle.std.proofs.Common.{map, refl, ap, subst, sym, ◌∙◌, arith}
 use Rattle.std.specs.Prelude.{count_by, sum_by}
-use Rattle.std.specs.List.{range_with_len}
+use Rattle.std.specs.List.{AllByRecursion, range_with_len}
 use Rattle.std.proofs.lemmas.Bool.{cases_Bool, cases_eq, eq-eqb, ne_eqb, leb-true, leb-false}
 use Rattle.std.proofs.lemmas.List.Sums.{sum_by-cons, sum_by-append}
-use Rattle.std.proofs.Math.Nat.{lt-mul-div-succ, mul-le-mul_left}
+use Rattle.std.proofs.Math.Nat.{lt-mul-div-succ, mul-le-mul_left, mul-suc}
 use lib.Dec.{leb}
 
 -- one where the test passes
@@ -141,3 +141,47 @@ pigeonhole closed size most n total within many = elim (found_or_more closed siz
       let grows : (most + 1) * (total / (most + 1) + 1) ≤ (most + 1) * count_by closed (range_with_len 0 n) = mul-le-mul_left (most + 1) (omega arith) in
       absurd (omega (arith, up, grows, more))
 ]
+
+-- each key passes the test of a block: all blocks together count at least the keys
+pub sum_of_counts_all : {B K : Type 0} (test : B → K → Bool) (bs : List B) (ks : List K) → AllByRecursion (λ k. 1 ≤ count_by (λ b. test b k) bs) ks → length ks ≤ sum_by (λ b. count_by (test b) ks) bs
+sum_of_counts_all test bs [] all = omega arith
+sum_of_counts_all test bs (k ∷ ks) all =
+    let split : sum_by (λ b. count_by (test b) (k ∷ ks)) bs ≡ sum_by (λ b. bit (test b k) + count_by (test b) ks) bs =
+    sum_by-same (λ b. count_by (test b) (k ∷ ks)) (λ b. bit (test b k) + count_by (test b) ks) bs (λ b. count_by-cons (test b) k ks) in
+    let added : sum_by (λ b. bit (test b k) + count_by (test b) ks) bs ≡ sum_by (λ b. bit (test b k)) bs + sum_by (λ b. count_by (test b) ks) bs =
+    sum_by-add (λ b. bit (test b k)) (λ b. count_by (test b) ks) bs in
+    let first : 1 ≤ sum_by (λ b. bit (test b k)) bs = all.0 in
+    omega (arith, sum_of_counts_all test bs ks all.1, split, added, first)
+
+-- the first place of more than so many
+pub record Exceeds (size : ℕ → ℕ) (most a n : ℕ) : Type 0 where
+  pub place : ℕ
+  pub from : a ≤ place
+  pub below : place < a + n
+  pub is_large : most < size place
+  pub before : (p : ℕ) → a ≤ p → p < place → size p ≤ most
+
+exceeds_or_within : (size : ℕ → ℕ) (most a n : ℕ) → Exceeds size most a n ⊎ (sum_by size (range_with_len a n) ≤ most * n)
+exceeds_or_within size most a zero = inr (omega arith)
+exceeds_or_within size most a (suc n) = elim (cases_Bool (leb (size a) most)) [
+  | inr large ↦ inl (record { place = a; from = omega arith; below = omega arith; is_large = leb-false (size a) most large; before = λ p low high. absurd (omega (arith, low, high)) })
+  | inl small ↦
+      let here : size a ≤ most = leb-true (size a) most small in
+      elim (exceeds_or_within size most (a + 1) n) [
+        | inl found ↦ inl (record {
+          place = found.place;
+          from = omega (arith, found.from);
+          below = omega (arith, found.below);
+          is_large = found.is_large;
+          before = λ p low high. elim (cases_eq p a) [
+            | inl same ↦ subst (λ x. size x ≤ most) (sym same) here
+            | inr other ↦ found.before p (omega (arith, low, other)) high
+          ];
+        })
+        | inr within ↦ inr (omega (arith, sum_by-cons size a (range_with_len (a + 1) n), mul-suc most n, here, within))
+      ]
+]
+
+-- together they are more than so many each: one is
+pub some_exceeds : (size : ℕ → ℕ) (most n : ℕ) → most * n < sum_by size (range_with_len 0 n) → Exceeds size most 0 n
+some_exceeds size most n many = elim (exceeds_or_within size most 0 n) [ inl found ↦ found | inr within ↦ absurd (omega (arith, many, within)) ]

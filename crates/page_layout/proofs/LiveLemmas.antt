@@ -189,9 +189,12 @@ live_sum g marks =
     sum_of_counts (λ b k. is_in_block g.pages b (newest marks k)) (range_with_len 0 g.blocks) (keys g) (λ k. one_block g.pages g.blocks (newest marks k)) in
     omega (arith, all, length-keys g)
 
--- of more than that many closed blocks one has at most vmax newest pages
+-- of more than that many closed blocks one has at most so many newest pages
+pub some_block_within : (g : Geometry) (marks : List (Option Record)) (closed : ℕ → Bool) (most : ℕ) → key_count g / (most + 1) < count_by closed (range_with_len 0 g.blocks) → Finds closed (live g marks) most 0 g.blocks
+some_block_within g marks closed most many = pigeonhole closed (live g marks) most g.blocks (key_count g) (live_sum g marks) many
+
 pub some_small_block : (g : Geometry) (marks : List (Option Record)) (closed : ℕ → Bool) → key_count g / (vmax g + 1) < count_by closed (range_with_len 0 g.blocks) → Finds closed (live g marks) (vmax g) 0 g.blocks
-some_small_block g marks closed many = pigeonhole closed (live g marks) (vmax g) g.blocks (key_count g) (live_sum g marks) many
+some_small_block g marks closed many = some_block_within g marks closed (vmax g) many
 
 -- ---- a block with no newest page
 

@@ -1,5 +1,5 @@
 -- The numbers that follow from a geometry.
-use Rattle.std.specs.Prelude.{ℕ, ◌+◌, ◌-◌, ◌*◌, ◌/◌, max}
+use Rattle.std.specs.Prelude.{ℕ, ◌+◌, ◌-◌, ◌*◌, ◌/◌, ◌≤◌, ◌==◌, max, if◌then◌else◌}
 use Rattle.std.specs.Int.{div_ceil}
 use Rattle.page_layout.specs.declared.geometry.Geometry.{Geometry}
 
@@ -28,6 +28,33 @@ key_count g = g.sectors + (translation_pages g + table_pages g)
 -- neither full nor worth collecting, eight free and two open.
 abbrev pub need : Geometry → ℕ
 need g = key_count g / (vmax g + 1) + 11
+
+-- ---- where moved sectors wait for their translation pages: in the mean up to `share` for each
+
+-- how many wait at most once a collection has ended
+abbrev pub waiting_at : Geometry → ℕ → ℕ
+waiting_at g share = share * translation_pages g
+
+-- with one more for each page of a block there are fewer of them than a cache may have entries
+abbrev pub IsShare : Geometry → ℕ → Type 0
+IsShare g share = waiting_at g share + g.pages ≤ 65535
+
+-- As vmax, where a translation page is written back for share + 1 copies: with so many live pages, and no more, their copies and the
+-- translation pages that are written back are fewer than a block's pages.
+abbrev pub vmax_at : Geometry → ℕ → ℕ
+vmax_at g share = max (g.pages - 1 - translation_pages g) ((g.pages - 1) * (share + 1) / (share + 2))
+
+-- The free blocks that a flush wants beside nine where it collects nothing: as many as all translation pages fill, and two that may fail.
+-- With share 0 it collects.
+abbrev pub flush_blocks_at : Geometry → ℕ → ℕ
+flush_blocks_at g share = if share == 0 then 0 else div_ceil (translation_pages g) g.pages + 2
+
+-- As need: more good blocks than all keys fill with vmax_at + 1 live pages each, the ten that may be neither full nor worth collecting,
+-- and those of a flush.
+abbrev pub need_at : Geometry → ℕ → ℕ
+need_at g share = key_count g / (vmax_at g share + 1) + 11 + flush_blocks_at g share
+
+-- ---- rows and bytes
 
 -- how many rows, that is pages, the die has
 abbrev pub row_count : Geometry → ℕ

@@ -4,7 +4,8 @@ use Rattle.std.specs.List.{range_with_len}
 use Rattle.page_layout.specs.declared.record.Record.{Record}
 use Rattle.page_layout.specs.declared.record.Key.{Key}
 use Rattle.page_layout.specs.declared.geometry.Geometry.{Geometry}
-use Rattle.page_layout.specs.Geometry.{entries, translation_pages, table_pages, vmax, key_count}
+use Rattle.std.specs.Int.{div_ceil}
+use Rattle.page_layout.specs.Geometry.{entries, translation_pages, table_pages, vmax, need, key_count, waiting_at, IsShare, vmax_at, flush_blocks_at, need_at}
 use Rattle.page_layout.specs.Page.{Page, Image, IsImage}
 use Rattle.page_layout.specs.Sound.{AreFill, IsSound, record_of, is_erased_page}
 use Rattle.page_layout.specs.Key.{key_of, key_eq}
@@ -17,10 +18,28 @@ use Rattle.page_layout.specs.Raw.{IsRaw, raw_bytes, raw_image}
 
 -- ---- the numbers of a geometry
 
--- v live pages are at most vmax just where v copies, with one translation page for each of them or all that there are, leave a page of the
--- block over
+-- v live pages are at most vmax_at just where v copies, with one translation page for each share + 1 of them, the last for fewer, or all
+-- that there are, leave a page of the block over
 abbrev pub WorthLaw : Type 0
-WorthLaw = (g : Geometry) (v : ℕ) → (v ≤ vmax g) ↔ (v + min v (translation_pages g) < g.pages)
+WorthLaw = (g : Geometry) (share v : ℕ) → (v ≤ vmax_at g share) ↔ (v + min (div_ceil v (share + 1)) (translation_pages g) < g.pages)
+
+-- with share 0 no sector waits, which each die allows, and the numbers are those of a die whose sectors don't wait
+pub record HasNoShare (g : Geometry) : Type 0 where
+  pub waiting : waiting_at g 0 ≡ 0
+  pub allowed : IsShare g 0
+  pub vmax : vmax_at g 0 ≡ vmax g
+  pub flush_blocks : flush_blocks_at g 0 ≡ 0
+  pub need : need_at g 0 ≡ need g
+
+abbrev pub NoShareLaw : Type 0
+NoShareLaw = (g : Geometry) → HasNoShare g
+
+-- with a greater share no fewer live pages are worth it, and above 0 no more good blocks are needed
+abbrev pub GreaterShareLaw : Type 0
+GreaterShareLaw = (g : Geometry) (share greater : ℕ) → share ≤ greater → vmax_at g share ≤ vmax_at g greater
+
+abbrev pub FewerNeededLaw : Type 0
+FewerNeededLaw = (g : Geometry) (share greater : ℕ) → 0 < share → share ≤ greater → need_at g greater ≤ need_at g share
 
 -- the entry of a sector is on one of the translation pages, that of a block on one of the table pages
 abbrev pub SectorEntryLaw : Type 0

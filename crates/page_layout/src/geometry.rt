@@ -50,6 +50,7 @@ impl Geometry {
     ghost use Rattle.std.specs.Prelude.{◌≡◌, ℕ, ◌+◌, ◌-◌, ◌*◌, ◌/◌, ◌%◌, ◌<◌, ◌≤◌, ◌↔◌, IfOk, IfErr, IsOk, IsTrue};
     ghost use Rattle.page_layout.specs.Faults.{HasNumbers, IsFirstFault};
     ghost use Rattle.page_layout.specs.Geometry.{entries, translation_pages, table_pages, vmax, need, row_count};
+    ghost use Rattle.page_layout.specs.Geometry.{IsShare, waiting_at, vmax_at, flush_blocks_at, need_at};
 
     /// The geometry of these numbers: the bytes of a data area, the bytes of a spare area, the pages
     /// of a block, the blocks, the sectors.
@@ -165,6 +166,58 @@ impl Geometry {
         ensures { result ≡ need self.now }
     {
         (self.sectors + self.translation_pages() + self.table_pages()) / (self.vmax() + 1) + 11
+    }
+
+    /// Whether so many moved sectors, in the mean, may wait for each translation page: whether
+    /// `share * translation_pages + pages` is at most 65535. Every die may have share 0.
+    ///
+    /// Source: the batch updates of the DFTL paper; the number is this project's.
+    pub fn is_share(&self, share: u32) -> bool
+        ensures { IsTrue result ↔ IsShare self.now share }
+    {
+        u64::from(share) * u64::from(self.translation_pages()) + u64::from(self.pages) <= 65_535
+    }
+
+    /// The most moved sectors that wait for their translation pages once a collection has ended:
+    /// `share * translation_pages`.
+    pub fn waiting_at(&self, share: u32) -> u32
+        requires { IsShare self.now share }
+        ensures { result ≡ waiting_at self.now share }
+    {
+        share * self.translation_pages()
+    }
+
+    /// [`Geometry::vmax`] at a share: the greater of `pages - 1 - translation_pages`, which counts as
+    /// 0 where it would be negative, and `(pages - 1) * (share + 1) / (share + 2)`.
+    pub fn vmax_at(&self, share: u32) -> u32
+        ensures { result ≡ vmax_at self.now share }
+    {
+        let most = u64::from(self.pages - 1);
+        let share = u64::from(share);
+        let by_share = most * (share + 1) / (share + 2);
+        (self.pages - 1)
+            .saturating_sub(self.translation_pages())
+            .max(by_share as u32)
+    }
+
+    /// The free blocks, beside nine, that a flush begins with at a share: none at share 0, else
+    /// as many as all translation pages fill, and two more.
+    pub fn flush_blocks_at(&self, share: u32) -> u32
+        ensures { result ≡ flush_blocks_at self.now share }
+    {
+        if share == 0 {
+            return 0;
+        }
+        self.translation_pages().div_ceil(self.pages) + 2
+    }
+
+    /// [`Geometry::need`] at a share: `(sectors + translation_pages + table_pages) / (vmax_at + 1) +
+    /// 11`, and [`Geometry::flush_blocks_at`].
+    pub fn need_at(&self, share: u32) -> u32
+        ensures { result ≡ need_at self.now share }
+    {
+        let keys = self.sectors + self.translation_pages() + self.table_pages();
+        keys / (self.vmax_at(share) + 1) + 11 + self.flush_blocks_at(share)
     }
 
     /// The rows of the die, which are its pages.

@@ -2,7 +2,7 @@
 //! law is proved with the crate, and a caller of the function has it at hand.
 
 ghost use Rattle.page_layout.specs.Count.{SmallBlockLaw};
-ghost use Rattle.page_layout.specs.Laws.{WorthLaw, SectorEntryLaw, BlockEntryLaw, TableFitsLaw, SoundLaw, ErasedLaw, ErasedUnsoundLaw, NewestLaw};
+ghost use Rattle.page_layout.specs.Laws.{WorthLaw, NoShareLaw, GreaterShareLaw, FewerNeededLaw, SectorEntryLaw, BlockEntryLaw, TableFitsLaw, SoundLaw, ErasedLaw, ErasedUnsoundLaw, NewestLaw};
 ghost use Rattle.page_layout.specs.VersionLaws.{OneVersionLaw, ShortSpareLaw, VersionLaw, NoVersionLaw, RowVersionLaw, OldLaw};
 ghost use Rattle.page_layout.specs.VersionLaws.{KeptVersionsLaw, WrittenVersionsLaw, WrittenNewLaw, NoMoreOldLaw, FewerOldLaw};
 ghost use Rattle.page_layout.specs.Laws.{ScanLaw, HasNewestLaw, SectorLaw, ArrayLaw, KeysLaw, NoOtherKeyLaw, LiveSumLaw, RawBytesLaw, RawImageLaw};
@@ -20,6 +20,9 @@ ghost use Rattle.page_layout.specs.Recording.{RecordStaysLaw, RecordsJoinLaw, En
 /// What the derived numbers of a geometry are for.
 pub fn geometry_laws()
     ensures worth { WorthLaw }
+    ensures no_share { NoShareLaw }
+    ensures greater_share { GreaterShareLaw }
+    ensures fewer_needed { FewerNeededLaw }
     ensures sector_entry { SectorEntryLaw }
     ensures block_entry { BlockEntryLaw }
     ensures table_fits { TableFitsLaw }
