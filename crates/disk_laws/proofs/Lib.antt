@@ -8,3 +8,7 @@ mod KilledLemmas
 mod StoreLemmas
 mod ServedLemmas
 mod StoreLostLemmas
+mod SentLemmas
+mod RefusedLemmas
+mod DrivenLemmas
+mod StoreRunLemmas

@@ -40,11 +40,11 @@ lost_apart pages stored image found (Erase block passed left ∷ xs) ys (inr (in
 
 -- ---- one operation
 
-after_program : (pages : ℕ) (s t : Flash) (row : ℕ) (page left : Page) (passed : Bool) → Steps s (Program row page passed left) t → t.image ≡ image_after pages s.image (Program row page passed left)
+pub after_program : (pages : ℕ) (s t : Flash) (row : ℕ) (page left : Page) (passed : Bool) → Steps s (Program row page passed left) t → t.image ≡ image_after pages s.image (Program row page passed left)
 unfolding image_after
 after_program pages s t row page left passed step = image-program s t row page passed left step
 
-after_erase : (g : Geometry) (s t : Flash) (block : ℕ) (passed : Bool) (left : List Page) → s.geometry ≡ g → Steps s (Erase block passed left) t
+pub after_erase : (g : Geometry) (s t : Flash) (block : ℕ) (passed : Bool) (left : List Page) → s.geometry ≡ g → Steps s (Erase block passed left) t
     → t.image ≡ image_after g.pages s.image (Erase block passed left)
 unfolding image_after
 after_erase g s t block passed left same step = image-erase s t block passed left step ∙ ap (λ (h : Geometry). with_block h.pages block left s.image) same

@@ -1,8 +1,7 @@
 -- What is found of a disk where calls of its device are cut short.
-use Rattle.std.proofs.Common.{◌≡◌, ◌≢◌, ◌⊎◌, inl, inr, ℕ, ◌+◌, ◌*◌, ◌<◌, ◌≤◌, Bool, true, false, not, List, [], ◌∷◌, ◌++◌, length, None, Result, Err, refl, sym, ap, subst, ◌∙◌, arith, append-nil}
+use Rattle.std.proofs.Common.{◌≡◌, ◌≢◌, ◌⊎◌, inl, inr, ℕ, ◌+◌, ◌*◌, ◌<◌, ◌≤◌, Bool, true, false, not, List, [], ◌∷◌, ◌++◌, length, None, Result, Err, refl, sym, ap, subst, ◌∙◌, arith}
 use Rattle.std.specs.List.{range_with_len}
 use Rattle.std.specs.Prelude.{get_or, map}
-use Rattle.std.proofs.lemmas.List.{append_assoc}
 use Rattle.std.proofs.lemmas.List.FromFn.{get_or-map-range_with_len, length-map-range_with_len}
 use Rattle.page_layout.specs.View.{View}
 use Rattle.page_layout.specs.declared.geometry.Geometry.{Geometry}
@@ -16,27 +15,28 @@ use Rattle.page_layout.proofs.FlashLemmas.{geometry-Leads}
 use Rattle.page_layout.proofs.RecordingLemmas.{records_none}
 use Rattle.bad_blocks.specs.Table.{is_good_at}
 use Rattle.allocation.specs.State.{State, pointer_at}
-use Rattle.promises.specs.Step.{Command}
+use Rattle.promises.specs.Step.{Command, Trim}
 use Rattle.promises.specs.Stop.{LeftBy, MayLeave}
 use Rattle.promises.specs.Legal.{Account, account_at, no_account, LegalFrom}
 use Rattle.promises.proofs.LegalLemmas.{in_range}
 use Rattle.promises.proofs.StopLemmas.{between, image_law, no_operation, stops_join}
 use Rattle.image_check.specs.Mountable.{IsMountable}
-use Rattle.image_laws.specs.Power.{LosesSince}
 use Rattle.collection.specs.Log.{IsAccounted, NumbersFrom}
 use Rattle.collection.specs.Safe.{ram}
 use Rattle.collection.specs.Truth.{IsTrue}
 use Rattle.collection.proofs.Stops.{one_gain}
+use Rattle.nbd_stream.specs.declared.fault.DiskFault.{DiskFault}
 use Rattle.ftl_device.specs.declared.device.Device.{Device}
 use Rattle.ftl_device.specs.declared.fault.DeviceFault.{DeviceFault}
 use Rattle.ftl_device.specs.declared.fault.DeviceFault.TheVariants.{BusFault}
 use Rattle.ftl_device.specs.Changes.{Logs, Refuses}
 use Rattle.disk_server.specs.Flat.{flat}
-use Rattle.disk_server.specs.Disk.{AsksRead}
+use Rattle.disk_server.specs.Asked.{AsksCall}
+use Rattle.disk_server.specs.Disk.{AsksChange, AsksClear, AsksRead, ChangesOne, LeavesDie, holds}
 use Rattle.disk_server.proofs.Calls.{no_bus}
-use Rattle.disk_server.proofs.Holding.{parts}
+use Rattle.disk_server.proofs.Holding.{back, parts}
 use Rattle.disk_laws.specs.Lost.{LostBy, MayLose}
-use Rattle.disk_laws.specs.Runs.{CutIn, CutLeavesLaw, View, Does, HasOnTheWay, IsFoundAfterLoss, IsOneCall, KilledRunLaw, LostRunLaw, NoCall, OneCallLaw, OneMore, DeviceCalls, image_on}
+use Rattle.disk_laws.specs.Runs.{CutInCall, CutLeavesLaw, DeviceCalls, View, Does, HasOnTheWay, IsCutIn, IsDiskCall, IsFoundAfterLoss, KilledRunLaw, LostRunLaw, NoCall, OneCallLaw, OneMore, image_on}
 use Rattle.disk_laws.proofs.FitLemmas.{Fits}
 use Rattle.disk_laws.proofs.GrowLemmas.{GrewSince, Stands, since_begin}
 use Rattle.disk_laws.proofs.LogLemmas.{Goes, grew, lasts_after, lost, lost_apart}
@@ -105,18 +105,20 @@ module _ {N : Type 0} (flash : N → Flash) (d : Device N) where
 
 -- ---- one call
 
--- WHAT ONE CALL COMES TO, of a device with this geometry and so many entries
-pub record Called {N : Type 0} (g : Geometry) (capacity : ℕ) (die : View N) (old : Device N) (log : List Operation) (new : Device N) : Type 0 where
+-- WHAT ONE CALL COMES TO, by the state of its die before it, of a device with this geometry and so many entries
+pub record Called {N : Type 0} (g : Geometry) (capacity : ℕ) (die : View N) (before : Flash) (log : List Operation) (new : Device N) : Type 0 where
   pub sized : new.engine.geometry ≡ g
   pub room : new.engine.mapping.capacity ≡ capacity
-  pub die_sized : (die.flash old.engine.nand).geometry ≡ g
-  pub whole : IsImage g (image_on die old)
-  pub begins : Begun g.pages (ram old.engine).next (image_on die old) (ram old.engine).blocks
-  pub leads : Leads (die.flash old.engine.nand) log (die.flash new.engine.nand)
-  pub legal : (accounts : List Account) → IsAccounted accounts (ram old.engine).blocks → LegalFrom g.pages accounts log
-  pub numbers : NumbersFrom (ram old.engine).next log
-  pub survives : (left : Image) → MayLeave g (image_on die old) log left → (capacity + g.pages ≤ 65536 → IsMountable g (capacity + g.pages) left)
-      × ((array_of g left ≡ array_of g (image_on die old)) ⊎ (array_of g left ≡ array_of g (image_on die new)))
+  pub die_sized : before.geometry ≡ g
+  pub whole : IsImage g before.image
+  pub accounts : List Account
+  pub next : ℕ
+  pub fits : Fits g.pages before.image accounts next
+  pub leads : Leads before log (die.flash new.engine.nand)
+  pub legal : LegalFrom g.pages accounts log
+  pub numbers : NumbersFrom next log
+  pub survives : (left : Image) → MayLeave g before.image log left → (capacity + g.pages ≤ 65536 → IsMountable g (capacity + g.pages) left)
+      × ((array_of g left ≡ array_of g before.image) ⊎ (array_of g left ≡ array_of g (image_on die new)))
 
 module _ {N : Type 0} (die : View N) (old : Device N) (log : List Operation) (new : Device N) (does : Does die old log new) where
   its_die : die.honest old.engine.nand ≡ true
@@ -132,23 +134,31 @@ module _ {N : Type 0} (die : View N) (old : Device N) (log : List Operation) (ne
   starts = begun die.flash old truth does.through.was.device.engine.memory.blocks_of
 
   logged : (command : Command) (answer : Result (Unit {0}) DeviceFault) → new.engine.mapping.capacity ≡ old.engine.mapping.capacity → Logs die command old answer new
-      → Called old.engine.geometry old.engine.mapping.capacity die old log new
+      → Called old.engine.geometry old.engine.mapping.capacity die (die.flash old.engine.nand) log new
   logged command answer room logs =
       let one : logs.went.log ≡ log = sym (one_gain (die.recorded old.engine.nand) (die.recorded new.engine.nand) log logs.went.log does.told does.records logs.went.records) in
       let was = does.through.was.well does.through.held in
-      subst (λ l. Called old.engine.geometry old.engine.mapping.capacity die old l new) one (record {
+      let begins = starts in
+      subst (λ l. Called old.engine.geometry old.engine.mapping.capacity die (die.flash old.engine.nand) l new) one (record {
         sized = sym does.through.is.device.engine.geometry ∙ (geometry-Leads (die.flash old.engine.nand) (die.flash new.engine.nand) logs.went.log logs.went.leads ∙ does.through.was.device.engine.geometry);
         room = room;
         die_sized = does.through.was.device.engine.geometry;
         whole = truth.whole;
-        begins = starts;
+        accounts = begins.accounts;
+        next = (ram old.engine).next;
+        fits = begins.fits;
         leads = logs.went.leads;
-        legal = logs.went.follows.legal;
+        legal = logs.went.follows.legal begins.accounts begins.accounted;
         numbers = logs.went.numbers;
         survives = λ left m. (let s = logs.stopped was does.told left m in (s.mountable, elim s.array [ inl before ↦ inl before | inr after ↦ inr after.2 ]));
       })
 
-  read : AsksRead die old new → Called old.engine.geometry old.engine.mapping.capacity die old log new
+  changed : (n : ℕ) (command : Command) (result : Result (Unit {0}) DiskFault) → AsksChange die n command old result new
+      → Called old.engine.geometry old.engine.mapping.capacity die (die.flash old.engine.nand) log new
+  changed n command result asks = logged command asks.answer asks.changes.stays.limits.capacity (asks.changes.logs its_die (went_on asks.answer asks.changes.refuses))
+
+  read : AsksRead die old new
+      → Called old.engine.geometry old.engine.mapping.capacity die (die.flash old.engine.nand) log new
   read asks =
       let leaves = asks.leaves does.through.held does.through.holds_on in
       let same : die.flash new.engine.nand ≡ die.flash old.engine.nand = leaves.die_same in
@@ -156,14 +166,17 @@ module _ {N : Type 0} (die : View N) (old : Device N) (log : List Operation) (ne
       let nothing : log ≡ [] =
       one_gain (die.recorded old.engine.nand) (die.recorded new.engine.nand) log [] does.told does.records
       (subst (λ x. Records (die.recorded old.engine.nand) [] x) (sym leaves.told_same) (records_none (die.recorded old.engine.nand))) in
-      subst (λ l. Called old.engine.geometry old.engine.mapping.capacity die old l new) (sym nothing) (record {
+      let begins = starts in
+      subst (λ l. Called old.engine.geometry old.engine.mapping.capacity die (die.flash old.engine.nand) l new) (sym nothing) (record {
         sized = sym does.through.is.device.engine.geometry ∙ (ap (λ (s : Flash). s.geometry) same ∙ does.through.was.device.engine.geometry);
         room = asks.limits.capacity;
         die_sized = does.through.was.device.engine.geometry;
         whole = truth.whole;
-        begins = starts;
+        accounts = begins.accounts;
+        next = (ram old.engine).next;
+        fits = begins.fits;
         leads = same;
-        legal = λ accounts a. tt;
+        legal = tt;
         numbers = tt;
         survives = λ left m.
             let here : left ≡ image_on die old = no_operation old.engine.geometry (image_on die old) left m in (
@@ -172,19 +185,52 @@ module _ {N : Type 0} (die : View N) (old : Device N) (log : List Operation) (ne
             );
       })
 
-  called_by : IsOneCall die old new → Called old.engine.geometry old.engine.mapping.capacity die old log new
-  called_by (inl (n, command, result, asks)) = logged command asks.answer asks.changes.stays.limits.capacity (asks.changes.logs its_die (went_on asks.answer asks.changes.refuses))
-  called_by (inr (inl (result, asks))) = logged _ asks.answer asks.upkeeps.stays.limits.capacity (asks.upkeeps.logs its_die (went_on asks.answer asks.upkeeps.refuses))
-  called_by (inr (inr (inl (result, asks)))) = logged _ asks.answer asks.upkeeps.stays.limits.capacity (asks.upkeeps.logs its_die (went_on asks.answer asks.upkeeps.refuses))
-  called_by (inr (inr (inr asks))) = read asks
+-- a sector that is cleared: a read, which leaves the die as it was, and then a trim, where that did not give zeros
+module _ {N : Type 0} (die : View N) (old : Device N) (log : List Operation) (new : Device N) (does : Does die old log new) where
+  trimmed : (mid : Device N) (n : ℕ) (result : Result (Unit {0}) DiskFault) → AsksRead die old mid
+      → AsksChange die n (Trim n) mid result new → Called old.engine.geometry old.engine.mapping.capacity die (die.flash old.engine.nand) log new
+  unfolding AsksCall ChangesOne
+  trimmed mid n result reads trims =
+      let held : holds die.honest mid ≡ true =
+      back die.honest mid new trims.answer trims.changes.stays.honest_is trims.changes.refuses.stopped does.through.holds_on in
+      let leaves : LeavesDie die old mid = reads.leaves does.through.held held in
+      let sized : mid.engine.geometry ≡ old.engine.geometry =
+      sym reads.disk.device.engine.geometry ∙ (ap (λ (s : Flash). s.geometry) leaves.die_same ∙ does.through.was.device.engine.geometry) in
+      let second : Does die mid log new = record {
+        through = record { was = reads.disk; is = does.through.is; held = held; holds_on = does.through.holds_on };
+        asks = inl (inr (inl (n, result, inl (Trim n, trims))));
+        told = does.told;
+        records = subst (λ r. Records r log (die.recorded new.engine.nand)) (sym leaves.told_same) does.records;
+      } in
+      subst (λ (s : Flash). Called old.engine.geometry old.engine.mapping.capacity die s log new) leaves.die_same
+      (subst (λ g. Called g old.engine.mapping.capacity die (die.flash mid.engine.nand) log new) sized
+      (subst (λ c. Called mid.engine.geometry c die (die.flash mid.engine.nand) log new) reads.limits.capacity (changed die mid log new second n (Trim n) result trims)))
 
-  called : (g : Geometry) (capacity : ℕ) → old.engine.geometry ≡ g → old.engine.mapping.capacity ≡ capacity → Called g capacity die old log new
-  called g capacity sized room = subst (λ h. Called h capacity die old log new) sized (subst (λ c. Called old.engine.geometry c die old log new) room (called_by does.asks))
+  cleared : (n : ℕ) (result : Result (Unit {0}) DiskFault) → AsksClear die n old result new
+      → Called old.engine.geometry old.engine.mapping.capacity die (die.flash old.engine.nand) log new
+  cleared n result asks = elim asks.trims [
+    | inl zeros ↦ read die old log new does (subst (λ d. AsksRead die old d) (sym zeros.3) asks.asks)
+    | inr trims ↦ trimmed asks.mid n result asks.asks trims.1
+  ]
+
+  called_by : IsDiskCall die old new → Called old.engine.geometry old.engine.mapping.capacity die (die.flash old.engine.nand) log new
+  unfolding AsksCall ChangesOne
+  called_by (inl (inl asks)) = read die old log new does asks
+  called_by (inl (inr (inl (n, result, inl (command, asks))))) = changed die old log new does n command result asks
+  called_by (inl (inr (inl (n, result, inr asks)))) = cleared n result asks
+  called_by (inl (inr (inr (result, asks)))) =
+      logged die old log new does _ asks.answer asks.upkeeps.stays.limits.capacity (asks.upkeeps.logs (its_die die old log new does) (went_on die old log new does asks.answer asks.upkeeps.refuses))
+  called_by (inr (result, asks)) =
+      logged die old log new does _ asks.answer asks.upkeeps.stays.limits.capacity (asks.upkeeps.logs (its_die die old log new does) (went_on die old log new does asks.answer asks.upkeeps.refuses))
+
+  called : (g : Geometry) (capacity : ℕ) → old.engine.geometry ≡ g → old.engine.mapping.capacity ≡ capacity → Called g capacity die (die.flash old.engine.nand) log new
+  called g capacity sized room =
+      subst (λ h. Called h capacity die (die.flash old.engine.nand) log new) sized (subst (λ c. Called old.engine.geometry c die (die.flash old.engine.nand) log new) room (called_by does.asks))
 
 -- ---- calls one after another
 
 module _ {N : Type 0} (die : View N) (old : Device N) where
-  run_sized : (log : List Operation) (new : Device N) → DeviceCalls die old log new → (new.engine.geometry ≡ old.engine.geometry) × (new.engine.mapping.capacity ≡ old.engine.mapping.capacity)
+  pub run_sized : (log : List Operation) (new : Device N) → DeviceCalls die old log new → (new.engine.geometry ≡ old.engine.geometry) × (new.engine.mapping.capacity ≡ old.engine.mapping.capacity)
   run_sized log new NoCall = (refl, refl)
   run_sized log new (OneMore before mid more last run does) =
       let at = run_sized before mid run in
@@ -192,10 +238,10 @@ module _ {N : Type 0} (die : View N) (old : Device N) where
       (its.sized, its.room)
 
   pub called_on : (before : List Operation) (mid : Device N) (log : List Operation) (new : Device N) → DeviceCalls die old before mid → Does die mid log new
-      → Called old.engine.geometry old.engine.mapping.capacity die mid log new
+      → Called old.engine.geometry old.engine.mapping.capacity die (die.flash mid.engine.nand) log new
   called_on before mid log new run does = (let at = run_sized before mid run in called die mid log new does old.engine.geometry old.engine.mapping.capacity at.0 at.1)
 
-  run_image : (log : List Operation) (new : Device N) → DeviceCalls die old log new → image_after_all old.engine.geometry.pages (image_on die old) log ≡ image_on die new
+  pub run_image : (log : List Operation) (new : Device N) → DeviceCalls die old log new → image_after_all old.engine.geometry.pages (image_on die old) log ≡ image_on die new
   run_image log new NoCall = refl
   run_image log new (OneMore before mid more last run does) =
       let its = called_on before mid more last run does in
@@ -205,177 +251,145 @@ module _ {N : Type 0} (die : View N) (old : Device N) where
 
   -- ---- killed
 
-  cut_on : (before : List Operation) (mid : Device N) (log : List Operation) (new : Device N) (found : Image) → Does die mid log new → CutIn die old before mid found → CutIn die old (before ++ log) new found
-  cut_on before mid log new found does c = record {
-    before = c.before;
-    first = c.first;
-    at = c.at;
-    next = c.next;
-    after = c.after ++ log;
-    was = c.was;
-    call = c.call;
-    rest = OneMore c.after mid log new c.rest does;
-    joined = ap (λ l. l ++ log) c.joined ∙ (append_assoc c.before (c.at ++ c.after) log ∙ ap (λ l. c.before ++ l) (append_assoc c.at c.after log));
-    cut = c.cut;
-    whole = c.whole;
-    mounts = c.mounts;
-  }
+  in_call : (before : List Operation) (mid : Device N) (log : List Operation) (new : Device N) (found : Image) → DeviceCalls die old before mid → Does die mid log new
+      → MayLeave old.engine.geometry (image_on die mid) log found → CutInCall die old mid log new found
+  in_call before mid log new found run does left =
+      let s = (called_on before mid log new run does).survives found left in
+      record { cut = left; whole = elim s.1 [ inl was ↦ inl (ap flat was) | inr now ↦ inr (ap flat now) ]; mounts = s.0 }
 
-  pub killed : (log : List Operation) (new : Device N) (found : Image) → DeviceCalls die old log new → MayLeave old.engine.geometry (image_on die old) log found
-      → (found ≡ image_on die old) ⊎ CutIn die old log new found
-  killed log new found NoCall m = inl (no_operation old.engine.geometry (image_on die old) found m)
-  killed log new found (OneMore before mid more last run does) m = elim ((stops_join old.engine.geometry.pages (image_on die old) found before more).0 m.by) [
-    | inl first ↦ elim (killed before mid found run (record { whole = m.whole; by = first })) [
-      | inl same ↦ inl same
-      | inr cut ↦ inr (cut_on before mid more last found does cut)
-    ]
-    | inr second ↦
-        let its = called_on before mid more last run does in
-        let left : MayLeave old.engine.geometry (image_on die mid) more found = record {
+  killed : (before : List Operation) (mid : Device N) (log : List Operation) (new : Device N) (found : Image) (run : DeviceCalls die old before mid) (does : Does die mid log new)
+      → MayLeave old.engine.geometry (image_on die old) (before ++ log) found → IsCutIn die old (before ++ log) new (OneMore before mid log new run does) found
+  killed before mid log new found NoCall does m = inr (in_call [] old log new found NoCall does m)
+  killed before mid log new found (OneMore earlier first more last run one) does m = elim ((stops_join old.engine.geometry.pages (image_on die old) found (earlier ++ more) log).0 m.by) [
+    | inl here ↦ inl (killed earlier first more last found run one (record { whole = m.whole; by = here }))
+    | inr behind ↦
+        let so_far : DeviceCalls die old (earlier ++ more) last = OneMore earlier first more last run one in
+        inr (in_call (earlier ++ more) last log new found so_far does (record {
           whole = m.whole;
-          by = subst (λ i. LeftBy old.engine.geometry.pages i more found) (run_image before mid run) second;
-        } in
-        let s = its.survives found left in
-        inr (record {
-          before = before;
-          first = mid;
-          at = more;
-          next = last;
-          after = [];
-          was = run;
-          call = does;
-          rest = NoCall;
-          joined = ap (λ l. before ++ l) (sym (append-nil more));
-          cut = left;
-          whole = elim s.1 [ inl was ↦ inl (ap flat was) | inr now ↦ inr (ap flat now) ];
-          mounts = s.0;
-        })
+          by = subst (λ i. LeftBy old.engine.geometry.pages i log found) (run_image (earlier ++ more) last so_far) behind;
+        }))
   ]
 
-  pub cut_leaves : (log : List Operation) (new : Device N) (found : Image) → CutIn die old log new found → MayLeave old.engine.geometry (image_on die old) log found
-  cut_leaves log new found c =
-      let pages : ℕ = old.engine.geometry.pages in
-      let here : LeftBy pages (image_on die c.first) (c.at ++ c.after) found = (stops_join pages (image_on die c.first) found c.at c.after).1 (inl c.cut.by) in
-      let there : LeftBy pages (image_after_all pages (image_on die old) c.before) (c.at ++ c.after) found =
-      subst (λ i. LeftBy pages i (c.at ++ c.after) found) (sym (run_image c.before c.first c.was)) here in
-      record {
-        whole = c.cut.whole;
-        by = subst (λ l. LeftBy pages (image_on die old) l found) (sym c.joined) ((stops_join pages (image_on die old) found c.before (c.at ++ c.after)).1 (inr there));
-      }
+  cut_leaves : (log : List Operation) (new : Device N) (found : Image) (run : DeviceCalls die old log new) → IsCutIn die old log new run found → MayLeave old.engine.geometry (image_on die old) log found
+  cut_leaves log new found NoCall c = absurd c
+  cut_leaves log new found (OneMore before mid more last run does) (inl c) =
+      let m = cut_leaves before mid found run c in
+      record { whole = m.whole; by = (stops_join old.engine.geometry.pages (image_on die old) found before more).1 (inl m.by) }
+  cut_leaves log new found (OneMore before mid more last run does) (inr c) = record {
+    whole = c.cut.whole;
+    by = (stops_join old.engine.geometry.pages (image_on die old) found before more).1 (inr (subst (λ i. LeftBy old.engine.geometry.pages i more found) (sym (run_image before mid run)) c.cut.by));
+  }
 
   -- ---- a loss of power
 
   -- a sector of the disk that is there after the calls
-  way_end : (log : List Operation) (new : Device N) (n : ℕ) → DeviceCalls die old log new → HasOnTheWay die old log new n (sector_of old.engine.geometry (image_on die new) n)
-  way_end log new n run = record { before = log; at = new; after = []; was = run; rest = NoCall; joined = sym (append-nil log); has = refl }
+  way_end : (log : List Operation) (new : Device N) (n : ℕ) (run : DeviceCalls die old log new) → HasOnTheWay die old log new run n (sector_of old.engine.geometry (image_on die new) n)
+  way_end log new n NoCall = refl
+  way_end log new n (OneMore before mid more last run does) = inr refl
 
-  way_on : (before : List Operation) (mid : Device N) (log : List Operation) (new : Device N) (n : ℕ) (bytes : List ℕ) → Does die mid log new
-      → HasOnTheWay die old before mid n bytes → HasOnTheWay die old (before ++ log) new n bytes
-  way_on before mid log new n bytes does w = record {
-    before = w.before;
-    at = w.at;
-    after = w.after ++ log;
-    was = w.was;
-    rest = OneMore w.after mid log new w.rest does;
-    joined = ap (λ l. l ++ log) w.joined ∙ append_assoc w.before w.after log;
-    has = w.has;
-  }
+  module _ (before : List Operation) (mid : Device N) (log : List Operation) (new : Device N) (run : DeviceCalls die old before mid) (does : Does die mid log new) where
+    abbrev pub its : Called old.engine.geometry old.engine.mapping.capacity die (die.flash mid.engine.nand) log new
+    its = called_on before mid log new run does
 
-  grew_on : (before : List Operation) (mid : Device N) (log : List Operation) (new : Device N) (stored image : Image) → Does die mid log new
-      → GrewSince old.engine.geometry (HasOnTheWay die old before mid) stored image → GrewSince old.engine.geometry (HasOnTheWay die old (before ++ log) new) stored image
-  grew_on before mid log new stored image does w = record {
-    grows = w.grows;
-    mounted = w.mounted;
-    was = λ n within. way_on before mid log new n _ does (w.was n within);
-    pages = λ n row within page. way_on before mid log new n _ does (w.pages n row within page);
-  }
+    abbrev pub OnTheWay : ℕ → List ℕ → Type 0
+    OnTheWay n bytes = HasOnTheWay die old (before ++ log) new (OneMore before mid log new run does) n bytes
 
-  module _ (few : old.engine.mapping.capacity + old.engine.geometry.pages ≤ 65536) where
-    -- each image that a stop inside a call may leave stands
-    module _ (before : List Operation) (mid : Device N) (log : List Operation) (new : Device N) (run : DeviceCalls die old before mid) (does : Does die mid log new) where
-      abbrev pub its : Called old.engine.geometry old.engine.mapping.capacity die mid log new
-      its = called_on before mid log new run does
+    abbrev pub Before : ℕ → List ℕ → Type 0
+    Before n bytes = HasOnTheWay die old before mid run n bytes
 
-      stands_in : (left : Image) → MayLeave old.engine.geometry (image_on die mid) log left
-          → Stands old.engine.geometry (old.engine.mapping.capacity + old.engine.geometry.pages) (HasOnTheWay die old (before ++ log) new) left
+    grew_on : (stored image : Image) → GrewSince old.engine.geometry Before stored image → GrewSince old.engine.geometry OnTheWay stored image
+    grew_on stored image w = record {
+      grows = w.grows;
+      mounted = w.mounted;
+      was = λ n within. inl (w.was n within);
+      pages = λ n row within page. inl (w.pages n row within page);
+    }
+
+    module _ (few : old.engine.mapping.capacity + old.engine.geometry.pages ≤ 65536) where
+      -- each image that a stop inside the call may leave stands
+      stands_in : (left : Image) → MayLeave old.engine.geometry (image_on die mid) log left → Stands old.engine.geometry (old.engine.mapping.capacity + old.engine.geometry.pages) OnTheWay left
       stands_in left m =
           let s = its.survives left m in
           record {
             mounts = s.0 few;
             sectors = λ n within. elim s.1 [
-              | inl was ↦
-                  subst (HasOnTheWay die old (before ++ log) new n) (sym (same_sector old.engine.geometry left (image_on die mid) n within was))
-                  (way_on before mid log new n _ does (way_end before mid n run))
-              | inr now ↦
-                  subst (HasOnTheWay die old (before ++ log) new n) (sym (same_sector old.engine.geometry left (image_on die new) n within now))
-                  (way_end (before ++ log) new n (OneMore before mid log new run does))
+              | inl was ↦ subst (OnTheWay n) (sym (same_sector old.engine.geometry left (image_on die mid) n within was)) (inl (way_end before mid n run))
+              | inr now ↦ subst (OnTheWay n) (sym (same_sector old.engine.geometry left (image_on die new) n within now)) (inr refl)
             ];
           }
 
-      pub stands_before : Stands old.engine.geometry (old.engine.mapping.capacity + old.engine.geometry.pages) (HasOnTheWay die old before mid) (image_on die mid)
+      pub stands_before : Stands old.engine.geometry (old.engine.mapping.capacity + old.engine.geometry.pages) Before (image_on die mid)
       stands_before = record {
         mounts = (its.survives (image_on die mid) (record { whole = its.whole; by = between old.engine.geometry.pages (image_on die mid) [] log })).0 few;
         sectors = λ n within. way_end before mid n run;
       }
 
-      pub goes : (stored : Image) → GrewSince old.engine.geometry (HasOnTheWay die old before mid) stored (image_on die mid)
-          → Goes old.engine.geometry (old.engine.mapping.capacity + old.engine.geometry.pages) (HasOnTheWay die old (before ++ log) new) (die.flash mid.engine.nand) its.begins.accounts (ram mid.engine).next log stored
+      pub goes : (stored : Image) → GrewSince old.engine.geometry Before stored (image_on die mid)
+          → Goes old.engine.geometry (old.engine.mapping.capacity + old.engine.geometry.pages) OnTheWay (die.flash mid.engine.nand) its.accounts its.next log stored
       goes stored since = record {
         sized = its.die_sized;
-        fits = its.begins.fits;
+        fits = its.fits;
         whole = its.whole;
         moments = stands_in;
-        since = grew_on before mid log new stored (image_on die mid) does since;
+        since = grew_on stored (image_on die mid) since;
       }
 
-    lasts_join : (pages : ℕ) (stored image : Image) (xs ys : List Operation) → lasts_after pages stored image (xs ++ ys) ≡ lasts_after pages (lasts_after pages stored image xs) (image_after_all pages image xs) ys
-    lasts_join pages stored image [] ys = refl
-    lasts_join pages stored image (Program row page passed left ∷ xs) ys = lasts_join pages stored (image_after pages image (Program row page passed left)) xs ys
-    lasts_join pages stored image (Erase block passed left ∷ xs) ys = lasts_join pages (image_after pages image (Erase block passed left)) (image_after pages image (Erase block passed left)) xs ys
+  lasts_join : (pages : ℕ) (stored image : Image) (xs ys : List Operation) → lasts_after pages stored image (xs ++ ys) ≡ lasts_after pages (lasts_after pages stored image xs) (image_after_all pages image xs) ys
+  lasts_join pages stored image [] ys = refl
+  lasts_join pages stored image (Program row page passed left ∷ xs) ys = lasts_join pages stored (image_after pages image (Program row page passed left)) xs ys
+  lasts_join pages stored image (Erase block passed left ∷ xs) ys = lasts_join pages (image_after pages image (Erase block passed left)) (image_after pages image (Erase block passed left)) xs ys
 
-    grew_run : (log : List Operation) (new : Device N) → DeviceCalls die old log new → Stands old.engine.geometry (old.engine.mapping.capacity + old.engine.geometry.pages) (HasOnTheWay die old log new) (image_on die new)
-        → GrewSince old.engine.geometry (HasOnTheWay die old log new) (lasts_after old.engine.geometry.pages (image_on die old) (image_on die old) log) (image_on die new)
-    grew_run log new NoCall stands = since_begin old.engine.geometry (old.engine.mapping.capacity + old.engine.geometry.pages) (HasOnTheWay die old [] old) (image_on die old) stands
+  -- the pages that last after these calls
+  abbrev lasting : List Operation → Image
+  lasting before = lasts_after old.engine.geometry.pages (image_on die old) (image_on die old) before
+
+  module _ (few : old.engine.mapping.capacity + old.engine.geometry.pages ≤ 65536) where
+    grew_run : (log : List Operation) (new : Device N) (run : DeviceCalls die old log new) → Stands old.engine.geometry (old.engine.mapping.capacity + old.engine.geometry.pages) (HasOnTheWay die old log new run) (image_on die new)
+        → GrewSince old.engine.geometry (HasOnTheWay die old log new run) (lasting log) (image_on die new)
+    grew_run log new NoCall stands = since_begin old.engine.geometry (old.engine.mapping.capacity + old.engine.geometry.pages) (HasOnTheWay die old [] old NoCall) (image_on die old) stands
     grew_run log new (OneMore before mid more last run does) stands =
         let pages : ℕ = old.engine.geometry.pages in
-        let first : Image = image_on die old in
-        let then : Image = lasts_after pages first first before in
         let c = called_on before mid more last run does in
-        let so_far = grew_run before mid run (stands_before before mid more last run does) in
-        let now = grew old.engine.geometry (old.engine.mapping.capacity + pages) (HasOnTheWay die old (before ++ more) last) more (die.flash mid.engine.nand) (die.flash last.engine.nand) c.begins.accounts
-        (ram mid.engine).next then (goes before mid more last run does then so_far) c.leads (c.legal c.begins.accounts c.begins.accounted) c.numbers in
-        subst (λ i. GrewSince old.engine.geometry (HasOnTheWay die old (before ++ more) last) i (image_on die last))
-        (ap (λ i. lasts_after pages then i more) (sym (run_image before mid run)) ∙ sym (lasts_join pages first first before more)) now
+        let so_far = grew_run before mid run (stands_before before mid more last run does few) in
+        let now = grew old.engine.geometry (old.engine.mapping.capacity + pages) (OnTheWay before mid more last run does) more (die.flash mid.engine.nand) (die.flash last.engine.nand) c.accounts
+        c.next (lasting before) (goes before mid more last run does few (lasting before) so_far) c.leads c.legal c.numbers in
+        subst (λ i. GrewSince old.engine.geometry (OnTheWay before mid more last run does) i (image_on die last))
+        (ap (λ i. lasts_after pages (lasting before) i more) (sym (run_image before mid run)) ∙ sym (lasts_join pages (image_on die old) (image_on die old) before more)) now
 
-    pub lost_run : (log : List Operation) (new : Device N) (found : Image) → DeviceCalls die old log new → MayLose old.engine.geometry (image_on die old) log found
-        → LosesSince (image_on die old) (image_on die old) found ⊎ IsFoundAfterLoss die old log new found
-    lost_run log new found NoCall m = inl m.by
-    lost_run log new found (OneMore before mid more last run does) m =
-        let pages : ℕ = old.engine.geometry.pages in
-        let first : Image = image_on die old in
-        elim (lost_apart pages first first found before more m.by) [
-          | inl earlier ↦ elim (lost_run before mid found run (record { whole = m.whole; by = earlier })) [
-            | inl none ↦ inl none
-            | inr f ↦ inr (record { one = f.one; mounts = f.mounts; sectors = λ n within. way_on before mid more last n _ does (f.sectors n within) })
-          ]
-          | inr later ↦
-              let then : Image = lasts_after pages first first before in
-              let c = called_on before mid more last run does in
-              let so_far = grew_run before mid run (stands_before before mid more last run does) in
-              let f = lost old.engine.geometry (old.engine.mapping.capacity + pages) (HasOnTheWay die old (before ++ more) last) more (die.flash mid.engine.nand) (die.flash last.engine.nand) c.begins.accounts
-              (ram mid.engine).next then found (goes before mid more last run does then so_far) c.leads (c.legal c.begins.accounts c.begins.accounted) c.numbers m.whole
-              (subst (λ i. LostBy pages then i more found) (run_image before mid run) later) in
-              inr (record { one = f.one; mounts = f.mounts; sectors = f.sectors })
+    -- the power goes in the last of the calls
+    lost_in : (before : List Operation) (mid : Device N) (log : List Operation) (new : Device N) (found : Image) (run : DeviceCalls die old before mid) (does : Does die mid log new) → IsImage old.engine.geometry found
+        → LostBy old.engine.geometry.pages (lasting before) (image_on die mid) log found → IsFoundAfterLoss die old (before ++ log) new (OneMore before mid log new run does) found
+    lost_in before mid log new found run does whole by =
+        let c = called_on before mid log new run does in
+        let so_far = grew_run before mid run (stands_before before mid log new run does few) in
+        let f = lost old.engine.geometry (old.engine.mapping.capacity + old.engine.geometry.pages) (OnTheWay before mid log new run does) log (die.flash mid.engine.nand) (die.flash new.engine.nand) c.accounts
+        c.next (lasting before) found (goes before mid log new run does few (lasting before) so_far) c.leads c.legal c.numbers whole by in
+        record { one = f.one; mounts = f.mounts; sectors = f.sectors }
+
+    lost_run : (before : List Operation) (mid : Device N) (log : List Operation) (new : Device N) (found : Image) (run : DeviceCalls die old before mid) (does : Does die mid log new)
+        → MayLose old.engine.geometry (image_on die old) (before ++ log) found → IsFoundAfterLoss die old (before ++ log) new (OneMore before mid log new run does) found
+    lost_run before mid log new found NoCall does m = lost_in [] old log new found NoCall does m.whole m.by
+    lost_run before mid log new found (OneMore earlier first more last run one) does m =
+        let so_far : DeviceCalls die old (earlier ++ more) last = OneMore earlier first more last run one in
+        elim (lost_apart old.engine.geometry.pages (image_on die old) (image_on die old) found (earlier ++ more) log m.by) [
+          | inl here ↦
+              let f = lost_run earlier first more last found run one (record { whole = m.whole; by = here }) in
+              record { one = f.one; mounts = f.mounts; sectors = λ n within. inl (f.sectors n within) }
+          | inr behind ↦
+              lost_in (earlier ++ more) last log new found so_far does m.whole
+              (subst (λ i. LostBy old.engine.geometry.pages (lasting (earlier ++ more)) i log found) (run_image (earlier ++ more) last so_far) behind)
         ]
 
 pub killed_run : {N : Type 0} (die : View N) → KilledRunLaw die
-killed_run die old new log found run m = killed die old log new found run m
+killed_run die old new log found NoCall m = inl (tt, no_operation old.engine.geometry (image_on die old) found m)
+killed_run die old new log found (OneMore before mid more last run does) m = inr (killed die old before mid more last found run does m)
 
 pub lost_run_law : {N : Type 0} (die : View N) → LostRunLaw die
-lost_run_law die old new log found run few m = lost_run die old few log new found run m
+lost_run_law die old new log found NoCall few m = inl (tt, m.by)
+lost_run_law die old new log found (OneMore before mid more last run does) few m = inr (lost_run die old few before mid more last found run does m)
 
 pub one_call : {N : Type 0} (die : View N) → OneCallLaw die
 one_call die old new log does = OneMore [] old log new NoCall does
 
 pub cut_leaves_law : {N : Type 0} (die : View N) → CutLeavesLaw die
-cut_leaves_law die old new log found c = cut_leaves die old log new found c
+cut_leaves_law die old new log found run c = cut_leaves die old log new found run c

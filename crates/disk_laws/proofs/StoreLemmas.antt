@@ -124,4 +124,4 @@ module _ {S : Type 0} (held : S → Held) (honest full : S → Bool) (failed : S
       let below = guarded_session (ReadsDevice (reads_of held honest)) (changes_in held honest full failed) (AsksDevice held honest full failed (flushes_of held honest) fault.Failed)
       (AsksDevice held honest full failed (rests_of held honest) fault.Failed) old new through in
       let device = reopened_session old.sectors new.sectors below plain last there in
-      (device.0, device.1, λ was. session (words_of held honest) device.0 last was device.2 on refl)
+      (device.0, device.1, λ was. (let s = session (words_of held honest) device.0 last device.2 was on refl in (s.0, s.1)))

@@ -1,53 +1,25 @@
 -- What a loss of power leaves of a store.
-use Rattle.std.proofs.Common.{◌≡◌, inl, inr, ℕ, Bool, true, false, List, [], ◌∷◌, ◌++◌, length, replicate, Some, None, refl, sym, ap, subst, ◌∙◌, arith}
-use Rattle.std.specs.Prelude.{slice_get, if◌then◌else◌}
-use Rattle.std.proofs.lemmas.Bool.{cases_lt}
-use Rattle.std.proofs.lemmas.List.{get_or_past}
-use Rattle.std.proofs.lemmas.Option.{slice_get-get_or, slice_get_past}
+use Rattle.std.proofs.Common.{◌≡◌, inr, ℕ, Bool, true, false, List, [], ◌∷◌, ◌++◌, length, replicate, refl, sym, ap, subst, ◌∙◌}
+use Rattle.std.specs.Prelude.{if◌then◌else◌}
 use Rattle.page_layout.specs.declared.geometry.Geometry.{Geometry}
 use Rattle.page_layout.specs.Page.{Page, Image, IsImage}
-use Rattle.page_layout.specs.Sound.{record_of}
-use Rattle.page_layout.specs.Array.{marks}
-use Rattle.page_layout.specs.Change.{IsUnsoundAt, erased_page}
-use Rattle.page_layout.specs.Flash.{Operation, Program, Erase, may_erase, may_program, no_page, with_block}
+use Rattle.page_layout.specs.Change.{erased_page}
+use Rattle.page_layout.specs.Flash.{Operation, Program, Erase, may_erase, may_program, with_block}
 use Rattle.page_layout.specs.Recording.{image_after}
-use Rattle.page_layout.proofs.ArrayLemmas.{length-marks, unsound_at}
 use Rattle.onfi_cycles.specs.Cycles.{Due, Moves, Resets, Programs, Erases, Refuses}
 use Rattle.image_laws.specs.Power.{LosesSince}
 use Rattle.file_die.specs.declared.die.SyncWhen.{SyncWhen}
-use Rattle.file_die.specs.Store.{Held, AreImages, page_in}
+use Rattle.file_die.specs.Store.{Held, AreImages}
 use Rattle.file_die.specs.Die.{ErasesInStore, IfDue, Leaves, ProgramsIn}
-use Rattle.file_die.specs.DieLaws.{AddsAlone, GoesAdding, LastsSince, Takes, Turn}
+use Rattle.file_die.specs.DieLaws.{AddsAlone, GoesAdding, Takes, Turn}
 use Rattle.file_die.proofs.DieLawLemmas.{adding_goes, images, since_sync}
+use Rattle.disk_server.proofs.PowerLemmas.{loses_since}
 use Rattle.disk_laws.specs.Lost.{LostBy}
 use Rattle.disk_laws.specs.StoreLost.{GoesDone, ProgramsUnsound, StoreLosesLaw, operation_in, operations_in}
 
--- ---- a store's rows as those of its images
-
-same_at : (a b : Image) (row : ℕ) → length a ≡ length b → page_in a row ≡ page_in b row → slice_get a row ≡ slice_get b row
-same_at a b row long same = elim (cases_lt row (length a)) [
-  | inl within ↦ slice_get-get_or a row no_page within ∙ (ap Some same ∙ sym (slice_get-get_or b row no_page (omega (arith, long, within))))
-  | inr past ↦ slice_get_past a row past ∙ sym (slice_get_past b row (omega (arith, long, past)))
-]
-
-unsound_in : (image : Image) (row : ℕ) → record_of (page_in image row) ≡ None → IsUnsoundAt image row
-unsound_in image row none = elim (cases_lt row (length image)) [
-  | inl within ↦ unsound_at image row (page_in image row) (slice_get-get_or image row no_page within) none
-  | inr past ↦ get_or_past (marks image) row None (omega (arith, length-marks image, past))
-]
-
-loses_since : (stored : Image) (t : Held) → length t.durable ≡ length t.pages → LastsSince stored t → LosesSince stored t.pages t.durable
-loses_since stored t long since = record {
-  size = long;
-  rows = λ row. elim (since.found row) [
-    | inl same ↦ inl (same_at t.durable t.pages row long same)
-    | inr gone ↦ inr (unsound_in stored row gone.0, unsound_in t.durable row gone.1)
-  ];
-}
-
 -- ---- cycles that add pages
 
-adding_more : (sync_when : SyncWhen) (s mid t : Held) (turns : List Turn) (turn : Turn) → GoesAdding sync_when s turns mid → AddsAlone mid turn.flash turn.due → Takes sync_when mid turn t
+pub adding_more : (sync_when : SyncWhen) (s mid t : Held) (turns : List Turn) (turn : Turn) → GoesAdding sync_when s turns mid → AddsAlone mid turn.flash turn.due → Takes sync_when mid turn t
     → GoesAdding sync_when s (turns ++ turn ∷ []) t
 adding_more sync_when s mid t [] turn same adds takes =
     (t, subst (λ x. AddsAlone x turn.flash turn.due) same adds, subst (λ x. Takes sync_when x turn t) same takes, refl)
@@ -58,17 +30,17 @@ adding_more sync_when s mid t (first ∷ turns) turn (next, adds_first, takes_fi
 
 module _ (sync_when : SyncWhen) (found : Image) where
   -- the store as all lasted, and the cycles since, which only added pages
-  record Since (g : Geometry) (start s : Held) : Type 0 where
+  pub record Since (g : Geometry) (start s : Held) : Type 0 where
     pub images : AreImages start
     pub sized : start.geometry ≡ g
     pub lasted : start.durable ≡ start.pages
     pub added : List Turn
     pub goes : GoesAdding sync_when start added s
 
-  stays : (g : Geometry) (start s : Held) → Since g start s → (s.geometry ≡ g) × AreImages s
+  pub stays : (g : Geometry) (start s : Held) → Since g start s → (s.geometry ≡ g) × AreImages s
   stays g start s since = (let w = images sync_when start s since.added (adding_goes sync_when start s since.added since.goes) in (w.0 ∙ since.sized, w.1 since.images))
 
-  begin : (g : Geometry) (s : Held) → AreImages s → s.geometry ≡ g → s.durable ≡ s.pages → Since g s s
+  pub begin : (g : Geometry) (s : Held) → AreImages s → s.geometry ≡ g → s.durable ≡ s.pages → Since g s s
   begin g s whole sized lasted = record { images = whole; sized = sized; lasted = lasted; added = []; goes = refl }
 
   -- what the cycles behind one come to, from each store as which all may have lasted

@@ -27,14 +27,14 @@ use Rattle.disk_server.proofs.Sizes.{array_long, array_sectors, zeros_long}
 -- ---- the page of a row, and its mark
 
 -- a row of two images of one length has the same page in both
-same_at : (a b : Image) (row : ℕ) → length a ≡ length b → page_in a row ≡ page_in b row → slice_get a row ≡ slice_get b row
+pub same_at : (a b : Image) (row : ℕ) → length a ≡ length b → page_in a row ≡ page_in b row → slice_get a row ≡ slice_get b row
 same_at a b row long same = elim (cases_lt row (length a)) [
   | inl within ↦ slice_get-get_or a row no_page within ∙ (ap Some same ∙ sym (slice_get-get_or b row no_page (omega (arith, long, within))))
   | inr past ↦ slice_get_past a row past ∙ sym (slice_get_past b row (omega (arith, long, past)))
 ]
 
 -- a row of a page without a record has no mark
-unsound_in : (image : Image) (row : ℕ) → record_of (page_in image row) ≡ None → IsUnsoundAt image row
+pub unsound_in : (image : Image) (row : ℕ) → record_of (page_in image row) ≡ None → IsUnsoundAt image row
 unsound_in image row none = elim (cases_lt row (length image)) [
   | inl within ↦ unsound_at image row (page_in image row) (slice_get-get_or image row no_page within) none
   | inr past ↦ get_or_past (marks image) row None (omega (arith, length-marks image, past))
@@ -51,7 +51,7 @@ grows_since stored t long since = record {
       same_at t.pages stored row long (since.kept row r (ap record_of here ∙ its.2));
 }
 
-loses_since : (stored : Image) (t : Held) → length t.durable ≡ length t.pages → LastsSince stored t → LosesSince stored t.pages t.durable
+pub loses_since : (stored : Image) (t : Held) → length t.durable ≡ length t.pages → LastsSince stored t → LosesSince stored t.pages t.durable
 loses_since stored t long since = record {
   size = long;
   rows = λ row. elim (since.found row) [

@@ -1,0 +1,303 @@
+-- What a driver's record tells of what is lost of a store, and of what a call that failed leaves there.
+use Rattle.std.proofs.Common.{◌≡◌, ◌⊎◌, inl, inr, ℕ, ◌+◌, ◌*◌, ◌<◌, Bool, true, false, List, [], ◌∷◌, ◌++◌, length, replicate, Some, Ok, Err, Result, refl, sym, ap, subst, ◌∙◌}
+use Rattle.page_layout.specs.declared.geometry.Geometry.{Geometry}
+use Rattle.page_layout.specs.declared.source.SourceFault.{SourceFault}
+use Rattle.page_layout.specs.Geometry.{row_count}
+use Rattle.page_layout.specs.Page.{Image, IsImage, page}
+use Rattle.page_layout.specs.Change.{erased_page}
+use Rattle.page_layout.specs.Flash.{Erase, Operation, Program, block_at, may_erase, page_at}
+use Rattle.page_layout.specs.Recording.{Records, image_after, image_after_all}
+use Rattle.page_layout.proofs.RecordingLemmas.{records_join, records_none}
+use Rattle.onfi_cycles.specs.declared.nand.BusFault.{BusFault}
+use Rattle.onfi_cycles.specs.declared.nand.Outcome.{Outcome}
+use Rattle.onfi_cycles.specs.Cycles.{Command, Confirming, Due, Erases, ForErase, Loading, PageOut, Phase, Programs, Ready, command_due}
+use Rattle.onfi_cycles.specs.Driver.{DriverState, flash_by}
+use Rattle.onfi_cycles.specs.Outcomes.{is_passed}
+use Rattle.onfi_cycles.specs.Spelling.{erase_cycles, load_cycles, program_cycles, read_cycles, row_address}
+use Rattle.onfi_cycles.proofs.Leads.{LeadTo}
+use Rattle.onfi_cycles.proofs.Operations.{confirms_program, erase_due, erase_leads, first_row, lead_at, load_leads, whole_read}
+use Rattle.promises.specs.Stop.{LeftBy}
+use Rattle.promises.proofs.StopLemmas.{stops_join}
+use Rattle.image_laws.specs.Power.{LosesSince}
+use Rattle.file_die.specs.declared.die.SyncWhen.{SyncWhen}
+use Rattle.file_die.specs.Die.{ErasesInStore, FileState, IfDue, Leaves, shown}
+use Rattle.file_die.specs.DieLaws.{AddsAlone, Takes, Turn}
+use Rattle.file_die.specs.Store.{AreImages, Held}
+use Rattle.file_die.proofs.DieLawLemmas.{images, since_sync}
+use Rattle.disk_server.proofs.PowerLemmas.{loses_since}
+use Rattle.disk_laws.specs.Driven.{AddsOrErases, AsksErase, AsksPage, AsksProgram, BlockErased, DriverCalls, DriverFails, DriverLosesLaw, DriverStopsLaw, DriverTellsLaw, EraseFails, NothingAsked, PageProgrammed, PageRead, ProgramFails, ReadFails, StandsReady, behind}
+use Rattle.disk_laws.specs.Lost.{LostBy}
+use Rattle.disk_laws.proofs.LogLemmas.{after_erase, after_program}
+use Rattle.disk_laws.proofs.RefusedLemmas.{erase_left, erase_spared, program_left, program_spared}
+use Rattle.disk_laws.proofs.SentLemmas.{Quiet, Took, operated, quiet, quiet_until, until_operated, until_sized}
+use Rattle.disk_laws.proofs.StoreLostLemmas.{Since, adding_more, begin, stays}
+
+no_ok : {A E : Type 0} (x : A) (e : E) → Ok x ≡ Err e → ⊥
+no_ok x e is = cc
+
+no_err : {A E : Type 0} (x : A) (e : E) → Err e ≡ Ok x → ⊥
+no_err x e is = cc
+
+module _ {S : Type 0} (held : S → Held) (honest : S → Bool) (failed : S → ℕ) where
+  -- ---- one call that was done
+
+  module _ (row : ℕ) (body spare : List ℕ) (result : Result Outcome BusFault) (old new : DriverState (FileState S)) (asks : AsksProgram held honest failed row body spare old result new) where
+    program_leads : LeadTo (shown held old.bus).flash.geometry (shown held old.bus).phase (load_cycles row body spare) (Loading row (0 + length body + length spare) (body ++ spare))
+    program_leads =
+        let same : old.geometry ≡ (behind held old).geometry = sym asks.stands.geometry in
+        let ready = asks.stands.ready in
+        lead_at (shown held old.bus) ready.0 (load_cycles row body spare) (Loading row (0 + length body + length spare) (body ++ spare)) ready.1
+        (load_leads (behind held old).geometry ready.0 row body spare (subst (λ (g : Geometry). row < row_count g) same asks.in_range)
+        (subst (λ (g : Geometry). length body ≡ g.data_bytes) same asks.body_whole) (subst (λ (g : Geometry). length spare ≡ g.spare_bytes) same asks.spare_whole))
+
+    program_due : command_due (shown held old.bus).flash.geometry (Loading row (0 + length body + length spare) (body ++ spare)) 0x10 ≡ Programs row (page body spare)
+    program_due =
+        confirms_program (behind held old).geometry row (0 + length body + length spare) body spare
+        (subst (λ (g : Geometry). length body ≡ g.data_bytes) (sym asks.stands.geometry) asks.body_whole)
+
+    took_program : (outcome : Outcome) → honest old.bus.store ≡ true → result ≡ Ok outcome → Took held honest failed (Programs row (page body spare)) old.bus new.bus
+    unfolding program_cycles
+    took_program outcome h is = elim asks.sends [
+      | inl sent ↦
+          operated held honest failed old.bus new.bus (load_cycles row body spare) (Loading row (0 + length body + length spare) (body ++ spare)) 0x10 (Programs row (page body spare)) (sent.0 ∷ []) h
+          program_leads program_due tt sent.2
+      | inr refused ↦ absurd (no_ok outcome refused.0 (sym is ∙ refused.1))
+    ]
+
+    stopped_program : honest old.bus.store ≡ true
+        → ((behind held new).geometry ≡ (behind held old).geometry)
+        × ((behind held new ≡ behind held old) ⊎ ((done : Bool) × Leaves (Programs row (page body spare)) (shown held old.bus).flash old.bus.sync_when (behind held old) done (behind held new)))
+    unfolding program_cycles
+    stopped_program h = elim asks.sends [
+      | inl sent ↦
+          let took = operated held honest failed old.bus new.bus (load_cycles row body spare) (Loading row (0 + length body + length spare) (body ++ spare)) 0x10 (Programs row (page body spare)) (sent.0 ∷ []) h
+          program_leads program_due tt sent.2 in
+          (took.geometry, inr (true, took.leaves))
+      | inr refused ↦ (
+        until_sized held honest failed old.bus new.bus (program_cycles row body spare) refused.0 refused.2,
+        until_operated held honest failed old.bus new.bus (load_cycles row body spare) (Loading row (0 + length body + length spare) (body ++ spare)) 0x10 (Programs row (page body spare)) refused.0 h
+            program_leads program_due tt refused.2,
+      )
+    ]
+
+  module _ (block : ℕ) (result : Result Outcome BusFault) (old new : DriverState (FileState S)) (asks : AsksErase held honest failed block old result new) where
+    abbrev its_row : ℕ
+    its_row = block * old.geometry.pages
+
+    erase_lead : LeadTo (shown held old.bus).flash.geometry (shown held old.bus).phase (Command 0x60 ∷ row_address its_row) (Confirming ForErase its_row 0)
+    erase_lead =
+        let ready = asks.stands.ready in
+        lead_at (shown held old.bus) ready.0 (Command 0x60 ∷ row_address its_row) (Confirming ForErase its_row 0) ready.1
+        (subst (λ g. LeadTo g (Ready ready.0) (Command 0x60 ∷ row_address its_row) (Confirming ForErase its_row 0)) (sym asks.stands.geometry)
+        (erase_leads old.geometry ready.0 its_row (first_row old.geometry block asks.in_range)))
+
+    erase_is_due : command_due (shown held old.bus).flash.geometry (Confirming ForErase its_row 0) 0xD0 ≡ Erases block
+    erase_is_due = ap (λ g. command_due g (Confirming ForErase its_row 0) 0xD0) asks.stands.geometry ∙ erase_due old.geometry block
+
+    took_erase : (outcome : Outcome) → honest old.bus.store ≡ true → result ≡ Ok outcome → Took held honest failed (Erases block) old.bus new.bus
+    unfolding erase_cycles
+    took_erase outcome h is = elim asks.sends [
+      | inl sent ↦
+          operated held honest failed old.bus new.bus (Command 0x60 ∷ row_address its_row) (Confirming ForErase its_row 0) 0xD0 (Erases block) (sent.0 ∷ []) h erase_lead erase_is_due tt sent.2
+      | inr refused ↦ absurd (no_ok outcome refused.0 (sym is ∙ refused.1))
+    ]
+
+    stopped_erase : honest old.bus.store ≡ true
+        → ((behind held new).geometry ≡ (behind held old).geometry)
+        × ((behind held new ≡ behind held old) ⊎ ((done : Bool) × Leaves (Erases block) (shown held old.bus).flash old.bus.sync_when (behind held old) done (behind held new)))
+    unfolding erase_cycles
+    stopped_erase h = elim asks.sends [
+      | inl sent ↦
+          let took = operated held honest failed old.bus new.bus (Command 0x60 ∷ row_address its_row) (Confirming ForErase its_row 0) 0xD0 (Erases block) (sent.0 ∷ []) h erase_lead erase_is_due tt sent.2 in
+          (took.geometry, inr (true, took.leaves))
+      | inr refused ↦ (
+        until_sized held honest failed old.bus new.bus (erase_cycles old.geometry block) refused.0 refused.2,
+        until_operated held honest failed old.bus new.bus (Command 0x60 ∷ row_address its_row) (Confirming ForErase its_row 0) 0xD0 (Erases block) refused.0 h erase_lead erase_is_due tt refused.2,
+      )
+    ]
+
+  -- where a read of a page leads
+  abbrev read_to : ℕ → DriverState (FileState S) → Phase
+  read_to row old = Ready (PageOut row (0 + old.geometry.data_bytes + old.geometry.spare_bytes))
+
+  read_leads : (row : ℕ) (old : DriverState (FileState S)) → StandsReady held old → row < row_count old.geometry
+      → LeadTo (shown held old.bus).flash.geometry (shown held old.bus).phase (read_cycles row old.geometry.data_bytes old.geometry.spare_bytes) (read_to row old)
+  read_leads row old stands lt =
+      let same : old.geometry ≡ (behind held old).geometry = sym stands.geometry in
+      lead_at (shown held old.bus) stands.ready.0 (read_cycles row old.geometry.data_bytes old.geometry.spare_bytes) (read_to row old) stands.ready.1
+      (whole_read (behind held old).geometry stands.ready.0 row old.geometry.data_bytes old.geometry.spare_bytes (subst (λ (g : Geometry). row < row_count g) same lt)
+      (ap (λ (g : Geometry). g.data_bytes) same) (ap (λ (g : Geometry). g.spare_bytes) same))
+
+  took_page : (row : ℕ) (out : List ℕ) (old new : DriverState (FileState S)) → honest old.bus.store ≡ true → AsksPage held honest failed row out old (Ok tt) new → Quiet held honest failed old.bus new.bus (read_to row old)
+  took_page row out old new h asks =
+      quiet held honest failed old.bus new.bus (read_cycles row old.geometry.data_bytes old.geometry.spare_bytes) out (read_to row old) h (read_leads row old asks.stands asks.in_range) asks.sends
+
+  -- ---- calls one after another
+
+  pub tells : DriverTellsLaw held honest failed
+  tells old new log (NothingAsked d) = records_none (Some d.told)
+  tells old new log (PageRead row out first mid last more asks calls) = subst (λ t. Records (Some t) more (Some last.told)) asks.told (tells mid last more calls)
+  tells old new log (PageProgrammed row body spare outcome first mid last more asks calls) =
+      records_join (Some first.told) (Some mid.told) (Some last.told) (Program row (page body spare) (is_passed outcome) (page_at (flash_by (shown held) mid) row) ∷ []) more (ap Some asks.told) (tells mid last more calls)
+  tells old new log (BlockErased block outcome first mid last more asks calls) =
+      records_join (Some first.told) (Some mid.told) (Some last.told) (Erase block (is_passed outcome) (block_at (flash_by (shown held) mid) block) ∷ []) more (ap Some asks.told) (tells mid last more calls)
+
+  -- the turn of the die that a call was
+  abbrev turn_of : DriverState (FileState S) → Due → Turn
+  turn_of old due = record { due = due; flash = (shown held old.bus).flash; done = true }
+
+  takes : (sync_when : SyncWhen) (old new : DriverState (FileState S)) (due : Due) → old.bus.sync_when ≡ sync_when → Took held honest failed due old.bus new.bus
+      → Takes sync_when (behind held old) (turn_of old due) (behind held new)
+  takes sync_when old new due same took = record {
+    leaves = subst (λ w. Leaves due (shown held old.bus).flash w (behind held old) true (behind held new)) same took.leaves;
+    geometry = took.geometry;
+  }
+
+  may_so : (b : Bool) (P Q : Type 0) → b ≡ true → IfDue b P Q → P
+  may_so true P Q e h = h
+  may_so false P Q e h = (let no : ⊥ = cc in absurd no)
+
+  module _ (found : Image) where
+    lose : (sync_when : SyncWhen) (g : Geometry) (start : Held) (old new : DriverState (FileState S)) (log : List Operation) → DriverCalls held honest failed old log new → honest old.bus.store ≡ true
+        → old.bus.sync_when ≡ sync_when → (behind held new).durable ≡ found → Since sync_when found g start (behind held old) → AddsOrErases g.pages (behind held old).pages log
+        → LostBy g.pages start.pages (behind held old).pages log found
+    lose sync_when g start old new log (NothingAsked d) h same is since adds =
+        let s : Held = behind held d in
+        let here = stays sync_when found g start s since in
+        let long : length s.durable ≡ length s.pages = here.1.durable_whole.rows ∙ sym here.1.pages_whole.rows in
+        subst (LosesSince start.pages s.pages) is (loses_since start.pages s long (since_sync sync_when start s since.added since.goes since.lasted))
+    lose sync_when g start old new log (PageRead row out first mid last more asks calls) h same is since adds =
+        let calm = took_page row out first mid h asks in
+        subst (λ (s : Held). LostBy g.pages start.pages s.pages more found) calm.store
+        (lose sync_when g start mid last more calls calm.still (calm.syncs ∙ same) is (subst (Since sync_when found g start) (sym calm.store) since)
+        (subst (λ (s : Held). AddsOrErases g.pages s.pages more) (sym calm.store) adds))
+    lose sync_when g start old new log (PageProgrammed row body spare outcome first mid last more asks calls) h same is since adds =
+        let took = took_program row body spare (Ok outcome) first mid asks outcome h refl in
+        let turn : Turn = turn_of first (Programs row (page body spare)) in
+        let alone : AddsAlone (behind held first) turn.flash turn.due = λ may. adds.0 in
+        let now : Since sync_when found g start (behind held mid) = record {
+          images = since.images;
+          sized = since.sized;
+          lasted = since.lasted;
+          added = since.added ++ turn ∷ [];
+          goes = adding_more sync_when start (behind held first) (behind held mid) since.added turn since.goes alone (takes sync_when first mid (Programs row (page body spare)) same took);
+        } in
+        let image : (behind held mid).pages ≡ image_after g.pages (behind held first).pages (Program row (page body spare) (is_passed outcome) (page_at (flash_by (shown held) mid) row)) =
+        after_program g.pages (flash_by (shown held) first) (flash_by (shown held) mid) row (page body spare) (page_at (flash_by (shown held) mid) row) (is_passed outcome) asks.step in
+        inr (subst (λ i. LostBy g.pages start.pages i more found) image
+        (lose sync_when g start mid last more calls took.still (took.syncs ∙ same) is now (subst (λ i. AddsOrErases g.pages i more) (sym image) adds.1)))
+    lose sync_when g start old new log (BlockErased block outcome first mid last more asks calls) h same is since adds =
+        let took = took_erase block (Ok outcome) first mid asks outcome h refl in
+        let here = stays sync_when found g start (behind held first) since in
+        let image : (behind held mid).pages ≡ image_after g.pages (behind held first).pages (Erase block (is_passed outcome) (block_at (flash_by (shown held) mid) block)) =
+        after_erase g (flash_by (shown held) first) (flash_by (shown held) mid) block (is_passed outcome) (block_at (flash_by (shown held) mid) block) (sym asks.stands.geometry ∙ here.0) asks.step in
+        let may : may_erase (shown held first.bus).flash block ≡ true = asks.step.lawful.due adds.0 in
+        let erases : ErasesInStore (behind held first) block true (behind held mid) =
+        may_so (may_erase (shown held first.bus).flash block) (ErasesInStore (behind held first) block true (behind held mid)) (behind held mid ≡ behind held first) may took.leaves in
+        let again : Since sync_when found g (behind held mid) (behind held mid) =
+        begin sync_when found g (behind held mid) (erases.clears.whole here.1) (took.geometry ∙ here.0) (erases.after refl) in
+        inr (inr (subst (λ i. LostBy g.pages i i more found) image
+        (lose sync_when g (behind held mid) mid last more calls took.still (took.syncs ∙ same) is again (subst (λ i. AddsOrErases g.pages i more) (sym image) adds.1))))
+
+  -- the store after them
+  record Came (old new : DriverState (FileState S)) (log : List Operation) : Type 0 where
+    pub image : (behind held new).pages ≡ image_after_all (behind held old).geometry.pages (behind held old).pages log
+    pub sized : (behind held new).geometry ≡ (behind held old).geometry
+    pub whole : AreImages (behind held new)
+    pub still : honest new.bus.store ≡ true
+
+  came : (old new : DriverState (FileState S)) (log : List Operation) → DriverCalls held honest failed old log new → honest old.bus.store ≡ true → AreImages (behind held old) → Came old new log
+  came old new log (NothingAsked d) h w = record { image = refl; sized = refl; whole = w; still = h }
+  came old new log (PageRead row out first mid last more asks calls) h w =
+      let calm = took_page row out first mid h asks in
+      let rest = came mid last more calls calm.still (subst AreImages (sym calm.store) w) in
+      record {
+        image = rest.image ∙ ap (λ (s : Held). image_after_all s.geometry.pages s.pages more) calm.store;
+        sized = rest.sized ∙ ap (λ (s : Held). s.geometry) calm.store;
+        whole = rest.whole;
+        still = rest.still;
+      }
+  came old new log (PageProgrammed row body spare outcome first mid last more asks calls) h w =
+      let took = took_program row body spare (Ok outcome) first mid asks outcome h refl in
+      let turn : Turn = turn_of first (Programs row (page body spare)) in
+      let stay = images first.bus.sync_when (behind held first) (behind held mid) (turn ∷ []) (behind held mid, takes first.bus.sync_when first mid (Programs row (page body spare)) refl took, refl) in
+      let rest = came mid last more calls took.still (stay.1 w) in
+      let g : Geometry = (behind held first).geometry in
+      let image = after_program g.pages (flash_by (shown held) first) (flash_by (shown held) mid) row (page body spare) (page_at (flash_by (shown held) mid) row) (is_passed outcome) asks.step in
+      record {
+        image = rest.image ∙ (ap (λ (x : Geometry). image_after_all x.pages (behind held mid).pages more) took.geometry ∙ ap (λ i. image_after_all g.pages i more) image);
+        sized = rest.sized ∙ took.geometry;
+        whole = rest.whole;
+        still = rest.still;
+      }
+  came old new log (BlockErased block outcome first mid last more asks calls) h w =
+      let took = took_erase block (Ok outcome) first mid asks outcome h refl in
+      let turn : Turn = turn_of first (Erases block) in
+      let stay = images first.bus.sync_when (behind held first) (behind held mid) (turn ∷ []) (behind held mid, takes first.bus.sync_when first mid (Erases block) refl took, refl) in
+      let rest = came mid last more calls took.still (stay.1 w) in
+      let g : Geometry = (behind held first).geometry in
+      let image = after_erase g (flash_by (shown held) first) (flash_by (shown held) mid) block (is_passed outcome) (block_at (flash_by (shown held) mid) block) (sym asks.stands.geometry) asks.step in
+      record {
+        image = rest.image ∙ (ap (λ (x : Geometry). image_after_all x.pages (behind held mid).pages more) took.geometry ∙ ap (λ i. image_after_all g.pages i more) image);
+        sized = rest.sized ∙ took.geometry;
+        whole = rest.whole;
+        still = rest.still;
+      }
+
+  pub loses : DriverLosesLaw held honest failed
+  loses old new log h w lasted calls adds =
+      let g : Geometry = (behind held old).geometry in
+      let end = came old new log calls h w in
+      let found : Image = (behind held new).durable in
+      record {
+        whole = subst (λ x. IsImage x found) end.sized end.whole.durable_whole;
+        by = lose found old.bus.sync_when g (behind held old) old new log calls h refl refl (begin old.bus.sync_when found g (behind held old) w refl lasted) adds;
+      }
+
+  -- ---- a call that the file refused
+
+  -- what it leaves of the pages, by the operation at hand
+  record Refused (old new : DriverState (FileState S)) (hand : List Operation) : Type 0 where
+    pub left : LeftBy (behind held old).geometry.pages (behind held old).pages hand (behind held new).pages
+    pub sized : (behind held new).geometry ≡ (behind held old).geometry
+    pub whole : AreImages (behind held new)
+
+  read_refused : (row : ℕ) (out : List ℕ) (fault : SourceFault) (old new : DriverState (FileState S)) → honest old.bus.store ≡ true → AreImages (behind held old)
+      → AsksPage held honest failed row out old (Err fault) new → Refused old new []
+  read_refused row out fault old new h w asks =
+      let same : behind held new ≡ behind held old =
+      quiet_until held honest failed old.bus new.bus (read_cycles row old.geometry.data_bytes old.geometry.spare_bytes) (read_to row old) asks.sends.0 h (read_leads row old asks.stands asks.in_range) asks.sends.2 in
+      record { left = ap (λ (s : Held). s.pages) same; sized = ap (λ (s : Held). s.geometry) same; whole = subst AreImages (sym same) w }
+
+  refused : (old new : DriverState (FileState S)) (hand : List Operation) → DriverFails held honest failed old hand new → honest old.bus.store ≡ true → AreImages (behind held old) → Refused old new hand
+  refused old new hand (ReadFails row out fault last asks) h w = read_refused row out fault old last h w asks
+  refused old new hand (ProgramFails row body spare fault last asks) h w =
+      let stopped = stopped_program row body spare (Err fault) old last asks h in
+      let left : LeftBy (behind held old).geometry.pages (behind held old).pages (Program row (page body spare) true (page body spare) ∷ []) (behind held last).pages × AreImages (behind held last) = elim stopped.1 [
+        | inl same ↦ program_spared (behind held old) (behind held last) stopped.0 w row (page body spare) same
+        | inr took ↦ program_left (behind held old) (behind held last) stopped.0 w (shown held old.bus).flash old.bus.sync_when row (page body spare) took.0 took.1
+      ] in
+      record { left = left.0; sized = stopped.0; whole = left.1 }
+  refused old new hand (EraseFails block fault last asks) h w =
+      let stopped = stopped_erase block (Err fault) old last asks h in
+      let g : Geometry = (behind held old).geometry in
+      let left : LeftBy g.pages (behind held old).pages (Erase block true (replicate g.pages (erased_page g)) ∷ []) (behind held last).pages × AreImages (behind held last) = elim stopped.1 [
+        | inl same ↦ erase_spared (behind held old) (behind held last) stopped.0 w block same
+        | inr took ↦ erase_left (behind held old) (behind held last) stopped.0 w (shown held old.bus).flash old.bus.sync_when block took.0 took.1
+      ] in
+      record {
+        left = subst (λ (x : Geometry). LeftBy g.pages (behind held old).pages (Erase block true (replicate x.pages (erased_page x)) ∷ []) (behind held last).pages) asks.stands.geometry left.0;
+        sized = stopped.0;
+        whole = left.1;
+      }
+
+  pub stops : DriverStopsLaw held honest failed
+  stops old mid new log hand h w calls fails =
+      let g : Geometry = (behind held old).geometry in
+      let so_far = came old mid log calls h w in
+      let last = refused mid new hand fails so_far.still so_far.whole in
+      record {
+        whole = subst (λ x. IsImage x (behind held new).pages) (last.sized ∙ so_far.sized) last.whole.pages_whole;
+        by = (stops_join g.pages (behind held old).pages (behind held new).pages log hand).1 (inr (subst (λ i. LeftBy g.pages i hand (behind held new).pages) so_far.image
+            (subst (λ (x : Geometry). LeftBy x.pages (behind held mid).pages hand (behind held new).pages) so_far.sized last.left)));
+      }
