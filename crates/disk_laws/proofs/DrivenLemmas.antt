@@ -1,39 +1,34 @@
 -- What a driver's record tells of what is lost of a store, and of what a call that failed leaves there.
-use Rattle.std.proofs.Common.{◌≡◌, ◌≢◌, ◌⊎◌, inl, inr, ℕ, ◌+◌, ◌*◌, ◌<◌, Bool, true, false, List, [], ◌∷◌, ◌++◌, length, replicate, Some, None, Ok, Err, Result, refl, sym, ap, subst, ◌∙◌, arith}
-use Rattle.std.specs.List.{Contains}
-use Rattle.std.specs.Prelude.{get_or, slice_set}
-use Rattle.std.proofs.lemmas.Bool.{cases_Bool, cases_eq}
-use Rattle.std.proofs.lemmas.List.{ext_get_or, get_or-set_other, get_or-set_same, length-set, set-get_or}
+use Rattle.std.proofs.Common.{◌≡◌, ◌⊎◌, inl, inr, ℕ, ◌+◌, ◌*◌, ◌<◌, Bool, true, false, List, [], ◌∷◌, ◌++◌, length, replicate, Some, Ok, Err, Result, refl, sym, ap, subst, ◌∙◌}
 use Rattle.page_layout.specs.declared.geometry.Geometry.{Geometry}
+use Rattle.page_layout.specs.declared.source.SourceFault.{SourceFault}
 use Rattle.page_layout.specs.Geometry.{row_count}
-use Rattle.page_layout.specs.Page.{Image, IsImage, Page, page}
-use Rattle.page_layout.specs.Sound.{record_of}
-use Rattle.page_layout.specs.Change.{LosesIn, erased_page}
-use Rattle.page_layout.specs.Flash.{Erase, Flash, Operation, Program, block_at, may_erase, may_program, no_page, page_at}
+use Rattle.page_layout.specs.Page.{Image, IsImage, page}
+use Rattle.page_layout.specs.Change.{erased_page}
+use Rattle.page_layout.specs.Flash.{Erase, Operation, Program, block_at, may_erase, page_at}
 use Rattle.page_layout.specs.Recording.{Records, image_after, image_after_all}
 use Rattle.page_layout.proofs.RecordingLemmas.{records_join, records_none}
-use Rattle.page_layout.proofs.StepLemmas.{erased_unsound}
 use Rattle.onfi_cycles.specs.declared.nand.BusFault.{BusFault}
 use Rattle.onfi_cycles.specs.declared.nand.Outcome.{Outcome}
 use Rattle.onfi_cycles.specs.Cycles.{Command, Confirming, Due, Erases, ForErase, Loading, PageOut, Phase, Programs, Ready, command_due}
 use Rattle.onfi_cycles.specs.Driver.{DriverState, flash_by}
 use Rattle.onfi_cycles.specs.Outcomes.{is_passed}
-use Rattle.onfi_cycles.specs.Sent.{SentUntil}
 use Rattle.onfi_cycles.specs.Spelling.{erase_cycles, load_cycles, program_cycles, read_cycles, row_address}
 use Rattle.onfi_cycles.proofs.Leads.{LeadTo}
 use Rattle.onfi_cycles.proofs.Operations.{confirms_program, erase_due, erase_leads, first_row, lead_at, load_leads, whole_read}
-use Rattle.promises.specs.Stop.{LeftBy, MayLeave}
+use Rattle.promises.specs.Stop.{LeftBy}
 use Rattle.promises.proofs.StopLemmas.{stops_join}
 use Rattle.image_laws.specs.Power.{LosesSince}
 use Rattle.file_die.specs.declared.die.SyncWhen.{SyncWhen}
-use Rattle.file_die.specs.Die.{ErasesInStore, FileState, IfDue, Leaves, ProgramsIn, shown}
+use Rattle.file_die.specs.Die.{ErasesInStore, FileState, IfDue, Leaves, shown}
 use Rattle.file_die.specs.DieLaws.{AddsAlone, Takes, Turn}
-use Rattle.file_die.specs.Store.{AreImages, Clears, Held, MayBeLeft, Puts, page_in}
+use Rattle.file_die.specs.Store.{AreImages, Held}
 use Rattle.file_die.proofs.DieLawLemmas.{images, since_sync}
-use Rattle.disk_server.proofs.PowerLemmas.{loses_since, same_at, unsound_in}
-use Rattle.disk_laws.specs.Driven.{Acts, AddsOrErases, AsksErase, AsksPage, AsksProgram, BlockErased, DriverCalls, DriverFails, DriverLosesLaw, DriverStopsLaw, DriverTellsLaw, EraseFails, NothingAsked, PageProgrammed, PageRead, ProgramFails, ReadFails, StandsReady, behind}
+use Rattle.disk_server.proofs.PowerLemmas.{loses_since}
+use Rattle.disk_laws.specs.Driven.{AddsOrErases, AsksErase, AsksPage, AsksProgram, BlockErased, DriverCalls, DriverFails, DriverLosesLaw, DriverStopsLaw, DriverTellsLaw, EraseFails, NothingAsked, PageProgrammed, PageRead, ProgramFails, ReadFails, StandsReady, behind}
 use Rattle.disk_laws.specs.Lost.{LostBy}
 use Rattle.disk_laws.proofs.LogLemmas.{after_erase, after_program}
+use Rattle.disk_laws.proofs.RefusedLemmas.{erase_left, erase_spared, program_left, program_spared}
 use Rattle.disk_laws.proofs.SentLemmas.{Quiet, Took, operated, quiet, quiet_until, until_operated, until_sized}
 use Rattle.disk_laws.proofs.StoreLostLemmas.{Since, adding_more, begin, stays}
 
@@ -86,24 +81,24 @@ module _ {S : Type 0} (held : S → Held) (honest : S → Bool) (failed : S → 
     ]
 
   module _ (block : ℕ) (result : Result Outcome BusFault) (old new : DriverState (FileState S)) (asks : AsksErase held honest failed block old result new) where
-    abbrev row : ℕ
-    row = block * old.geometry.pages
+    abbrev its_row : ℕ
+    its_row = block * old.geometry.pages
 
-    erase_lead : LeadTo (shown held old.bus).flash.geometry (shown held old.bus).phase (Command 0x60 ∷ row_address row) (Confirming ForErase row 0)
+    erase_lead : LeadTo (shown held old.bus).flash.geometry (shown held old.bus).phase (Command 0x60 ∷ row_address its_row) (Confirming ForErase its_row 0)
     erase_lead =
         let ready = asks.stands.ready in
-        lead_at (shown held old.bus) ready.0 (Command 0x60 ∷ row_address row) (Confirming ForErase row 0) ready.1
-        (subst (λ g. LeadTo g (Ready ready.0) (Command 0x60 ∷ row_address row) (Confirming ForErase row 0)) (sym asks.stands.geometry)
-        (erase_leads old.geometry ready.0 row (first_row old.geometry block asks.in_range)))
+        lead_at (shown held old.bus) ready.0 (Command 0x60 ∷ row_address its_row) (Confirming ForErase its_row 0) ready.1
+        (subst (λ g. LeadTo g (Ready ready.0) (Command 0x60 ∷ row_address its_row) (Confirming ForErase its_row 0)) (sym asks.stands.geometry)
+        (erase_leads old.geometry ready.0 its_row (first_row old.geometry block asks.in_range)))
 
-    erase_is_due : command_due (shown held old.bus).flash.geometry (Confirming ForErase row 0) 0xD0 ≡ Erases block
-    erase_is_due = ap (λ g. command_due g (Confirming ForErase row 0) 0xD0) asks.stands.geometry ∙ erase_due old.geometry block
+    erase_is_due : command_due (shown held old.bus).flash.geometry (Confirming ForErase its_row 0) 0xD0 ≡ Erases block
+    erase_is_due = ap (λ g. command_due g (Confirming ForErase its_row 0) 0xD0) asks.stands.geometry ∙ erase_due old.geometry block
 
     took_erase : (outcome : Outcome) → honest old.bus.store ≡ true → result ≡ Ok outcome → Took held honest failed (Erases block) old.bus new.bus
     unfolding erase_cycles
     took_erase outcome h is = elim asks.sends [
       | inl sent ↦
-          operated held honest failed old.bus new.bus (Command 0x60 ∷ row_address row) (Confirming ForErase row 0) 0xD0 (Erases block) (sent.0 ∷ []) h erase_lead erase_is_due tt sent.2
+          operated held honest failed old.bus new.bus (Command 0x60 ∷ row_address its_row) (Confirming ForErase its_row 0) 0xD0 (Erases block) (sent.0 ∷ []) h erase_lead erase_is_due tt sent.2
       | inr refused ↦ absurd (no_ok outcome refused.0 (sym is ∙ refused.1))
     ]
 
@@ -113,11 +108,11 @@ module _ {S : Type 0} (held : S → Held) (honest : S → Bool) (failed : S → 
     unfolding erase_cycles
     stopped_erase h = elim asks.sends [
       | inl sent ↦
-          let took = operated held honest failed old.bus new.bus (Command 0x60 ∷ row_address row) (Confirming ForErase row 0) 0xD0 (Erases block) (sent.0 ∷ []) h erase_lead erase_is_due tt sent.2 in
+          let took = operated held honest failed old.bus new.bus (Command 0x60 ∷ row_address its_row) (Confirming ForErase its_row 0) 0xD0 (Erases block) (sent.0 ∷ []) h erase_lead erase_is_due tt sent.2 in
           (took.geometry, inr (true, took.leaves))
       | inr refused ↦ (
         until_sized held honest failed old.bus new.bus (erase_cycles old.geometry block) refused.0 refused.2,
-        until_operated held honest failed old.bus new.bus (Command 0x60 ∷ row_address row) (Confirming ForErase row 0) 0xD0 (Erases block) refused.0 h erase_lead erase_is_due tt refused.2,
+        until_operated held honest failed old.bus new.bus (Command 0x60 ∷ row_address its_row) (Confirming ForErase its_row 0) 0xD0 (Erases block) refused.0 h erase_lead erase_is_due tt refused.2,
       )
     ]
 
@@ -257,4 +252,52 @@ module _ {S : Type 0} (held : S → Held) (honest : S → Bool) (failed : S → 
       record {
         whole = subst (λ x. IsImage x found) end.sized end.whole.durable_whole;
         by = lose found old.bus.sync_when g (behind held old) old new log calls h refl refl (begin old.bus.sync_when found g (behind held old) w refl lasted) adds;
+      }
+
+  -- ---- a call that the file refused
+
+  -- what it leaves of the pages, by the operation at hand
+  record Refused (old new : DriverState (FileState S)) (hand : List Operation) : Type 0 where
+    pub left : LeftBy (behind held old).geometry.pages (behind held old).pages hand (behind held new).pages
+    pub sized : (behind held new).geometry ≡ (behind held old).geometry
+    pub whole : AreImages (behind held new)
+
+  read_refused : (row : ℕ) (out : List ℕ) (fault : SourceFault) (old new : DriverState (FileState S)) → honest old.bus.store ≡ true → AreImages (behind held old)
+      → AsksPage held honest failed row out old (Err fault) new → Refused old new []
+  read_refused row out fault old new h w asks =
+      let same : behind held new ≡ behind held old =
+      quiet_until held honest failed old.bus new.bus (read_cycles row old.geometry.data_bytes old.geometry.spare_bytes) (read_to row old) asks.sends.0 h (read_leads row old asks.stands asks.in_range) asks.sends.2 in
+      record { left = ap (λ (s : Held). s.pages) same; sized = ap (λ (s : Held). s.geometry) same; whole = subst AreImages (sym same) w }
+
+  refused : (old new : DriverState (FileState S)) (hand : List Operation) → DriverFails held honest failed old hand new → honest old.bus.store ≡ true → AreImages (behind held old) → Refused old new hand
+  refused old new hand (ReadFails row out fault last asks) h w = read_refused row out fault old last h w asks
+  refused old new hand (ProgramFails row body spare fault last asks) h w =
+      let stopped = stopped_program row body spare (Err fault) old last asks h in
+      let left : LeftBy (behind held old).geometry.pages (behind held old).pages (Program row (page body spare) true (page body spare) ∷ []) (behind held last).pages × AreImages (behind held last) = elim stopped.1 [
+        | inl same ↦ program_spared (behind held old) (behind held last) stopped.0 w row (page body spare) same
+        | inr took ↦ program_left (behind held old) (behind held last) stopped.0 w (shown held old.bus).flash old.bus.sync_when row (page body spare) took.0 took.1
+      ] in
+      record { left = left.0; sized = stopped.0; whole = left.1 }
+  refused old new hand (EraseFails block fault last asks) h w =
+      let stopped = stopped_erase block (Err fault) old last asks h in
+      let g : Geometry = (behind held old).geometry in
+      let left : LeftBy g.pages (behind held old).pages (Erase block true (replicate g.pages (erased_page g)) ∷ []) (behind held last).pages × AreImages (behind held last) = elim stopped.1 [
+        | inl same ↦ erase_spared (behind held old) (behind held last) stopped.0 w block same
+        | inr took ↦ erase_left (behind held old) (behind held last) stopped.0 w (shown held old.bus).flash old.bus.sync_when block took.0 took.1
+      ] in
+      record {
+        left = subst (λ (x : Geometry). LeftBy g.pages (behind held old).pages (Erase block true (replicate x.pages (erased_page x)) ∷ []) (behind held last).pages) asks.stands.geometry left.0;
+        sized = stopped.0;
+        whole = left.1;
+      }
+
+  pub stops : DriverStopsLaw held honest failed
+  stops old mid new log hand h w calls fails =
+      let g : Geometry = (behind held old).geometry in
+      let so_far = came old mid log calls h w in
+      let last = refused mid new hand fails so_far.still so_far.whole in
+      record {
+        whole = subst (λ x. IsImage x (behind held new).pages) (last.sized ∙ so_far.sized) last.whole.pages_whole;
+        by = (stops_join g.pages (behind held old).pages (behind held new).pages log hand).1 (inr (subst (λ i. LeftBy g.pages i hand (behind held new).pages) so_far.image
+            (subst (λ (x : Geometry). LeftBy x.pages (behind held mid).pages hand (behind held new).pages) so_far.sized last.left)));
       }

@@ -9,4 +9,6 @@ mod StoreLemmas
 mod ServedLemmas
 mod StoreLostLemmas
 mod SentLemmas
+mod RefusedLemmas
 mod DrivenLemmas
+mod StoreRunLemmas

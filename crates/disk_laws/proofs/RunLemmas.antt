@@ -230,7 +230,7 @@ module _ {N : Type 0} (die : View N) (old : Device N) (log : List Operation) (ne
 -- ---- calls one after another
 
 module _ {N : Type 0} (die : View N) (old : Device N) where
-  run_sized : (log : List Operation) (new : Device N) → DeviceCalls die old log new → (new.engine.geometry ≡ old.engine.geometry) × (new.engine.mapping.capacity ≡ old.engine.mapping.capacity)
+  pub run_sized : (log : List Operation) (new : Device N) → DeviceCalls die old log new → (new.engine.geometry ≡ old.engine.geometry) × (new.engine.mapping.capacity ≡ old.engine.mapping.capacity)
   run_sized log new NoCall = (refl, refl)
   run_sized log new (OneMore before mid more last run does) =
       let at = run_sized before mid run in
@@ -241,7 +241,7 @@ module _ {N : Type 0} (die : View N) (old : Device N) where
       → Called old.engine.geometry old.engine.mapping.capacity die (die.flash mid.engine.nand) log new
   called_on before mid log new run does = (let at = run_sized before mid run in called die mid log new does old.engine.geometry old.engine.mapping.capacity at.0 at.1)
 
-  run_image : (log : List Operation) (new : Device N) → DeviceCalls die old log new → image_after_all old.engine.geometry.pages (image_on die old) log ≡ image_on die new
+  pub run_image : (log : List Operation) (new : Device N) → DeviceCalls die old log new → image_after_all old.engine.geometry.pages (image_on die old) log ≡ image_on die new
   run_image log new NoCall = refl
   run_image log new (OneMore before mid more last run does) =
       let its = called_on before mid more last run does in

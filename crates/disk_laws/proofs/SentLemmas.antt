@@ -7,7 +7,6 @@ use Rattle.onfi_cycles.specs.Spelling.{confirm_cycles}
 use Rattle.onfi_cycles.proofs.Leads.{LeadTo, moved}
 use Rattle.onfi_cycles.proofs.Noting.{sent_split}
 use Rattle.onfi_cycles.proofs.Operations.{IsConfirm, confirm_ready, status_leads}
-use Rattle.file_die.specs.declared.die.SyncWhen.{SyncWhen}
 use Rattle.file_die.specs.Die.{ActsOverStore, FileState, Leaves, shown}
 use Rattle.file_die.specs.Store.{Held}
 use Rattle.disk_laws.specs.Driven.{Acts}

@@ -4,3 +4,4 @@ pub mod Lost
 pub mod Runs
 pub mod Sessions
 pub mod StoreLost
+pub mod StoreRuns

@@ -1,4 +1,5 @@
-use Rattle.disk_laws.proofs.DrivenLemmas.{loses, tells}
+use Rattle.disk_laws.proofs.DrivenLemmas.{loses, stops, tells}
+use Rattle.disk_laws.proofs.StoreRunLemmas.{store_run}
 use Rattle.disk_laws.proofs.driver_laws.Goals as goal
 
 pub returns-clause-tells : goal.returns-clause-tells
@@ -6,3 +7,9 @@ returns-clause-tells g c = tells g.S.Store.held g.S.Store.honest g.S.Store.faile
 
 pub returns-clause-loses : goal.returns-clause-loses
 returns-clause-loses g c = loses g.S.Store.held g.S.Store.honest g.S.Store.failed
+
+pub returns-clause-stops : goal.returns-clause-stops
+returns-clause-stops g c = stops g.S.Store.held g.S.Store.honest g.S.Store.failed
+
+pub returns-clause-run : goal.returns-clause-run
+returns-clause-run g c = store_run g.S.Store.held g.S.Store.honest g.S.Store.failed

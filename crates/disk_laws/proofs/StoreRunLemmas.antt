@@ -1,0 +1,122 @@
+-- What lasts of the store of a device in its calls.
+use Rattle.std.proofs.Common.{◌≡◌, inl, inr, ℕ, ◌+◌, Bool, List, [], ◌∷◌, ◌++◌, Some, refl, sym, subst, ◌∙◌}
+use Rattle.std.proofs.lemmas.Option.{slice_get-get_or}
+use Rattle.page_layout.specs.View.{View}
+use Rattle.page_layout.specs.declared.geometry.Geometry.{Geometry}
+use Rattle.page_layout.specs.Page.{Image}
+use Rattle.page_layout.specs.Flash.{Erase, Flash, Leads, Operation, Program, no_page, page_at}
+use Rattle.page_layout.specs.Recording.{Records, image_after, image_after_all}
+use Rattle.page_layout.proofs.ArrayLemmas.{mark-page}
+use Rattle.page_layout.proofs.FlashLemmas.{geometry-Steps}
+use Rattle.page_layout.proofs.RecordingLemmas.{records_join, records_none}
+use Rattle.promises.specs.Legal.{Account, accounted, IsDueProgram, LegalFrom}
+use Rattle.collection.specs.Log.{NumbersFrom}
+use Rattle.collection.proofs.Stops.{one_gain}
+use Rattle.file_die.specs.Store.{Held}
+use Rattle.image_laws.specs.Power.{LosesSince}
+use Rattle.ftl_device.specs.declared.device.Device.{Device}
+use Rattle.disk_laws.specs.Driven.{AddsOrErases, behind}
+use Rattle.disk_laws.specs.Lost.{LostBy, MayLose}
+use Rattle.disk_laws.specs.Runs.{DeviceCalls, View, NoCall, OneMore, image_on}
+use Rattle.disk_laws.specs.Sessions.{words_of}
+use Rattle.disk_laws.specs.StoreRuns.{ErasesPass, StoreRunLaw}
+use Rattle.disk_laws.proofs.DrivenLemmas.{loses, tells}
+use Rattle.disk_laws.proofs.FitLemmas.{Fits, erase_fits, program_fits, unsound}
+use Rattle.disk_laws.proofs.LogLemmas.{after_erase, after_program}
+use Rattle.disk_laws.proofs.RunLemmas.{called_on, lost_run_law, run_image}
+
+-- ---- a log is cut
+
+erases_apart : (xs ys : List Operation) → ErasesPass (xs ++ ys) → ErasesPass xs × ErasesPass ys
+erases_apart [] ys e = (tt, e)
+erases_apart (Program row page passed left ∷ xs) ys e = erases_apart xs ys e
+erases_apart (Erase block passed left ∷ xs) ys e = (let rest = erases_apart xs ys e.1 in ((e.0, rest.0), rest.1))
+
+adds_join : (pages : ℕ) (image : Image) (xs ys : List Operation) → AddsOrErases pages image xs → AddsOrErases pages (image_after_all pages image xs) ys → AddsOrErases pages image (xs ++ ys)
+adds_join pages image [] ys first second = second
+adds_join pages image (Program row page passed left ∷ xs) ys first second = (first.0, adds_join pages (image_after pages image (Program row page passed left)) xs ys first.1 second)
+adds_join pages image (Erase block passed left ∷ xs) ys first second = (first.0, adds_join pages (image_after pages image (Erase block passed left)) xs ys first.1 second)
+
+adds_first : (pages : ℕ) (image : Image) (xs ys : List Operation) → AddsOrErases pages image (xs ++ ys) → AddsOrErases pages image xs
+adds_first pages image [] ys adds = tt
+adds_first pages image (Program row page passed left ∷ xs) ys adds = (adds.0, adds_first pages (image_after pages image (Program row page passed left)) xs ys adds.1)
+adds_first pages image (Erase block passed left ∷ xs) ys adds = (adds.0, adds_first pages (image_after pages image (Erase block passed left)) xs ys adds.1)
+
+-- what was lost before operations is what may be lost with them
+lost_then : (pages : ℕ) (stored image found : Image) (ys : List Operation) → LosesSince stored image found → LostBy pages stored image ys found
+lost_then pages stored image found [] loses = loses
+lost_then pages stored image found (Program row page passed left ∷ ys) loses = inl (image, inl refl, loses)
+lost_then pages stored image found (Erase block passed left ∷ ys) loses = inl loses
+
+lost_first : (pages : ℕ) (stored image found : Image) (xs ys : List Operation) → LostBy pages stored image xs found → LostBy pages stored image (xs ++ ys) found
+lost_first pages stored image found [] ys loses = lost_then pages stored image found ys loses
+lost_first pages stored image found (Program row page passed left ∷ xs) ys (inl here) = inl here
+lost_first pages stored image found (Program row page passed left ∷ xs) ys (inr later) = inr (lost_first pages stored (image_after pages image (Program row page passed left)) found xs ys later)
+lost_first pages stored image found (Erase block passed left ∷ xs) ys (inl here) = inl here
+lost_first pages stored image found (Erase block passed left ∷ xs) ys (inr (inl torn)) = inr (inl torn)
+lost_first pages stored image found (Erase block passed left ∷ xs) ys (inr (inr later)) =
+    (let now : Image = image_after pages image (Erase block passed left) in inr (inr (lost_first pages now now found xs ys later)))
+
+-- ---- what a legal log adds
+
+legal_adds : (g : Geometry) (log : List Operation) (s t : Flash) (accounts : List Account) (next : ℕ) → s.geometry ≡ g → Fits g.pages s.image accounts next → Leads s log t → LegalFrom g.pages accounts log → NumbersFrom next log
+    → ErasesPass log → AddsOrErases g.pages s.image log
+legal_adds g [] s t accounts next sized fits leads legal numbers erases = tt
+legal_adds g (Program row page passed left ∷ log) s t accounts next sized fits (mid, step, leads) legal numbers erases =
+    let here = subst (λ (h : Geometry). Fits h.pages s.image accounts next) (sym sized) fits in
+    let due = subst (λ (h : Geometry). IsDueProgram h.pages accounts row) (sym sized) legal.0 in
+    let none = unsound s mid row page left passed accounts next step due numbers.0 here in
+    let now = subst (λ (h : Geometry). Fits h.pages mid.image (accounted h.pages accounts (Program row page passed left)) (next + 1)) sized
+    (program_fits s mid row page left passed accounts next step due numbers.0 here) in (
+      sym (mark-page s.image row (page_at s row) (slice_get-get_or s.image row no_page step.lawful.in_range)) ∙ none,
+      subst (λ i. AddsOrErases g.pages i log) (after_program g.pages s mid row page left passed step)
+          (legal_adds g log mid t (accounted g.pages accounts (Program row page passed left)) (next + 1) (geometry-Steps s mid (Program row page passed left) step ∙ sized) now leads legal.1 numbers.1 erases),
+    )
+legal_adds g (Erase block passed left ∷ log) s t accounts next sized fits (mid, step, leads) legal numbers erases =
+    let here = subst (λ (h : Geometry). Fits h.pages s.image accounts next) (sym sized) fits in
+    let now = subst (λ (h : Geometry). Fits h.pages mid.image (accounted h.pages accounts (Erase block passed left)) next) sized
+    (erase_fits s mid block passed left accounts next step legal.0 here) in (
+      erases.0,
+      subst (λ i. AddsOrErases g.pages i log) (after_erase g s mid block passed left sized step)
+          (legal_adds g log mid t (accounted g.pages accounts (Erase block passed left)) next (geometry-Steps s mid (Erase block passed left) step ∙ sized) now leads legal.1 numbers erases.1),
+    )
+
+module _ {N : Type 0} (die : View N) (old : Device N) where
+  run_adds : (log : List Operation) (new : Device N) → DeviceCalls die old log new → ErasesPass log → AddsOrErases old.engine.geometry.pages (image_on die old) log
+  run_adds log new NoCall erases = tt
+  run_adds log new (OneMore before mid more last run does) erases =
+      let pages : ℕ = old.engine.geometry.pages in
+      let c = called_on die old before mid more last run does in
+      let apart = erases_apart before more erases in
+      adds_join pages (image_on die old) before more (run_adds before mid run apart.0)
+      (subst (λ i. AddsOrErases pages i more) (sym (run_image die old before mid run))
+      (legal_adds old.engine.geometry more (die.flash mid.engine.nand) (die.flash last.engine.nand) c.accounts c.next c.die_sized c.fits c.leads c.legal c.numbers apart.1))
+
+  run_records : (log : List Operation) (new : Device N) → DeviceCalls die old log new → Records (die.recorded old.engine.nand) log (die.recorded new.engine.nand)
+  run_records log new NoCall = records_none (die.recorded old.engine.nand)
+  run_records log new (OneMore before mid more last run does) =
+      records_join (die.recorded old.engine.nand) (die.recorded mid.engine.nand) (die.recorded last.engine.nand) before more (run_records before mid run) does.records
+
+-- ---- down to the store
+
+pub store_run : {S : Type 0} (held : S → Held) (honest : S → Bool) (failed : S → ℕ) → StoreRunLaw held honest failed
+store_run held honest failed old new log run mid first later few stands calls more erases =
+    let die = words_of held honest in
+    let nand = old.engine.nand in
+    let gains : Records (Some nand.told) (first ++ later) (Some new.engine.nand.told) =
+    records_join (Some nand.told) (Some mid.told) (Some new.engine.nand.told) first later (tells held honest failed nand mid first calls) (tells held honest failed mid new.engine.nand later more) in
+    let one : log ≡ first ++ later = one_gain (die.recorded nand) (die.recorded new.engine.nand) log (first ++ later) refl (run_records die old log new run) gains in
+    let sized : (behind held nand).geometry ≡ old.engine.geometry = stands.ready.geometry ∙ stands.disk.device.engine.geometry in
+    let adds : AddsOrErases old.engine.geometry.pages (image_on die old) (first ++ later) =
+    subst (AddsOrErases old.engine.geometry.pages (image_on die old)) one (run_adds die old log new run (subst ErasesPass (sym one) erases)) in
+    let before : AddsOrErases (behind held nand).geometry.pages (behind held nand).pages first =
+    subst (λ (g : Geometry). AddsOrErases g.pages (behind held nand).pages first) (sym sized) (adds_first old.engine.geometry.pages (image_on die old) first later adds) in
+    let lost = loses held honest failed nand mid first stands.is_honest stands.images stands.lasted calls before in
+    let whole : MayLose old.engine.geometry (image_on die old) first (behind held mid).durable =
+    subst (λ g. MayLose g (behind held nand).pages first (behind held mid).durable) sized lost in
+    let all : MayLose old.engine.geometry (image_on die old) log (behind held mid).durable = record {
+      whole = whole.whole;
+      by = subst (λ l. LostBy old.engine.geometry.pages (image_on die old) (image_on die old) l (behind held mid).durable) (sym one)
+          (lost_first old.engine.geometry.pages (image_on die old) (image_on die old) (behind held mid).durable first later whole.by);
+    } in
+    lost_run_law die old new log (behind held mid).durable run few all
