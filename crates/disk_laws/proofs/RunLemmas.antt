@@ -36,7 +36,7 @@ use Rattle.disk_server.specs.Disk.{AsksChange, AsksClear, AsksRead, ChangesOne, 
 use Rattle.disk_server.proofs.Calls.{no_bus}
 use Rattle.disk_server.proofs.Holding.{back, parts}
 use Rattle.disk_laws.specs.Lost.{LostBy, MayLose}
-use Rattle.disk_laws.specs.Runs.{CutInCall, CutLeavesLaw, DeviceCalls, View, Does, HasOnTheWay, IsCutIn, IsDiskCall, IsFoundAfterLoss, KilledRunLaw, LostRunLaw, NoCall, OneCallLaw, OneMore, image_on}
+use Rattle.disk_laws.specs.Runs.{CutInCall, CutLeavesLaw, DeviceCalls, Does, HasOnTheWay, IsCutIn, IsDiskCall, IsFoundAfterLoss, KilledRunLaw, LostRunLaw, NoCall, OneCallLaw, OneMore, image_on}
 use Rattle.disk_laws.proofs.FitLemmas.{Fits}
 use Rattle.disk_laws.proofs.GrowLemmas.{GrewSince, Stands, since_begin}
 use Rattle.disk_laws.proofs.LogLemmas.{Goes, grew, lasts_after, lost, lost_apart}

@@ -17,7 +17,7 @@ use Rattle.disk_server.specs.Asked.{AsksCall}
 use Rattle.disk_server.specs.Disk.{AsksChange, AsksClear, AsksFlush, AsksRead, AsksTurn, ChangesOne, IsDisk, holds}
 use Rattle.disk_server.proofs.Calls.{no_bus}
 use Rattle.disk_server.proofs.Holding.{back, parts}
-use Rattle.disk_laws.specs.Runs.{DeviceCalls, View, Does, IsDiskCall, NoCall, OneMore, SessionLaw, calls_of}
+use Rattle.disk_laws.specs.Runs.{DeviceCalls, Does, IsDiskCall, NoCall, OneMore, SessionLaw, calls_of}
 
 module _ {N : Type 0} (die : View N) where
   -- a call that a session asked, and what it leaves to the call before it

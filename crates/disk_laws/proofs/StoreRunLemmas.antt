@@ -17,7 +17,7 @@ use Rattle.image_laws.specs.Power.{LosesSince}
 use Rattle.ftl_device.specs.declared.device.Device.{Device}
 use Rattle.disk_laws.specs.Driven.{AddsOrErases, behind}
 use Rattle.disk_laws.specs.Lost.{LostBy, MayLose}
-use Rattle.disk_laws.specs.Runs.{DeviceCalls, View, NoCall, OneMore, image_on}
+use Rattle.disk_laws.specs.Runs.{DeviceCalls, NoCall, OneMore, image_on}
 use Rattle.disk_laws.specs.Sessions.{words_of}
 use Rattle.disk_laws.specs.StoreRuns.{ErasesPass, StoreRunLaw}
 use Rattle.disk_laws.proofs.DrivenLemmas.{loses, tells}

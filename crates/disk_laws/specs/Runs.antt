@@ -1,10 +1,10 @@
 -- CALLS OF A DEVICE ONE AFTER ANOTHER, and what is found of its disk where they are cut short.
-use Rattle.std.specs.Prelude.{◌≡◌, ◌⊎◌, ◌+◌, ◌<◌, ◌≤◌, ℕ, suc, Bool, true, List, [], ◌++◌, Option, IsSome, Result, refl}
+use Rattle.std.specs.Prelude.{◌≡◌, ◌⊎◌, ◌+◌, ◌<◌, ◌≤◌, ℕ, suc, true, List, [], ◌++◌, IsSome, Result, refl}
 use Rattle.page_layout.specs.View.{View}
 use Rattle.page_layout.specs.Page.{Image}
 use Rattle.page_layout.specs.Array.{sector_of, HasOneArray}
-use Rattle.page_layout.specs.Flash.{Flash, Operation}
-use Rattle.page_layout.specs.Recording.{Recording, Records}
+use Rattle.page_layout.specs.Flash.{Operation}
+use Rattle.page_layout.specs.Recording.{Records}
 use Rattle.promises.specs.Stop.{MayLeave}
 use Rattle.image_check.specs.Mountable.{IsMountable}
 use Rattle.image_check.specs.Stale.{stale_count}
@@ -16,16 +16,6 @@ use Rattle.disk_server.specs.Asked.{AsksCall}
 use Rattle.disk_server.specs.Disk.{AsksFlush, AsksRead, AsksTurn, ChangesOne, IsDisk, holds}
 use Rattle.disk_laws.specs.Killed.{HoldsThrough, MountsFor, bytes_found}
 use Rattle.disk_laws.specs.Lost.{MayLose}
-
--- the words of a kind of die
-pub record View (N : Type 0) : Type 0 where
-  pub flash : N → Flash
-  pub recorded : N → Option Recording
-  pub honest : N → Bool
-  pub calm : N → Bool
-  pub programs : N → ℕ
-  pub erases : N → ℕ
-  pub failed : N → ℕ
 
 -- the image on the die of a device
 abbrev pub image_on : {N : Type 0} → View N → Device N → Image

@@ -23,7 +23,7 @@ use Rattle.disk_server.specs.Synced.{Closes, RestsSynced, SyncsTask}
 use Rattle.disk_server.specs.Guarded.{ChangesGuarded, PassesOn, ReadsGuarded}
 use Rattle.disk_server.specs.Opened.{always_in, flash_in, is_honest_in, told_in}
 use Rattle.disk_server.specs.Reopened.{AsksDevice, ReadsDevice, Reopened, changes_in, flushes_of, reads_of, rests_of}
-use Rattle.disk_laws.specs.Runs.{AsksOneOf, DeviceCalls, View, IsDiskCall}
+use Rattle.disk_laws.specs.Runs.{AsksOneOf, DeviceCalls, IsDiskCall}
 
 -- the words of the die over a store
 abbrev pub words_of : {S : Type 0} → (S → Held) → (honest : S → Bool) → View (DriverState (FileState S))
@@ -32,6 +32,7 @@ words_of held honest = record {
   recorded = told_in;
   honest = is_honest_in honest;
   calm = always_in;
+  reads = λ d. d.reads;
   programs = λ d. d.programs;
   erases = λ d. d.erases;
   failed = λ d. d.failures;

@@ -43,11 +43,11 @@ pub fn loss_laws()
 /// loss of power, since all pages lasted: it is one array, each sector has the bytes that it had then or after one of the calls since, and it mounts with each cache that has room for what is stale. It is said of a device
 /// that holds its array through each call, by what the record of its die gained. (This project.)
 pub fn run_laws<N: Nand>()
-    ensures one { OneCallLaw (record { flash = N.view.flash; recorded = N.view.recorded; honest = N.view.honest; calm = N.view.calm; programs = N.view.programs; erases = N.view.erases; failed = N.view.failed }) }
-    ensures session { SessionLaw (record { flash = N.view.flash; recorded = N.view.recorded; honest = N.view.honest; calm = N.view.calm; programs = N.view.programs; erases = N.view.erases; failed = N.view.failed }) }
-    ensures killed { KilledRunLaw (record { flash = N.view.flash; recorded = N.view.recorded; honest = N.view.honest; calm = N.view.calm; programs = N.view.programs; erases = N.view.erases; failed = N.view.failed }) }
-    ensures cut { CutLeavesLaw (record { flash = N.view.flash; recorded = N.view.recorded; honest = N.view.honest; calm = N.view.calm; programs = N.view.programs; erases = N.view.erases; failed = N.view.failed }) }
-    ensures lost { LostRunLaw (record { flash = N.view.flash; recorded = N.view.recorded; honest = N.view.honest; calm = N.view.calm; programs = N.view.programs; erases = N.view.erases; failed = N.view.failed }) }
+    ensures one { OneCallLaw N.view }
+    ensures session { SessionLaw N.view }
+    ensures killed { KilledRunLaw N.view }
+    ensures cut { CutLeavesLaw N.view }
+    ensures lost { LostRunLaw N.view }
 {}
 
 /// What a session asks of the disk in a store, whose lost sectors are guarded, and which is opened anew where its store was full: as long as it was not opened anew and its device is there, that was there from the first, and

@@ -3,16 +3,16 @@ use Rattle.disk_laws.proofs.SessionLemmas.{session}
 use Rattle.disk_laws.proofs.run_laws.Goals as goal
 
 pub returns-clause-one : goal.returns-clause-one
-returns-clause-one g c = (let n = g.N.PageSource in one_call (record { flash = n.view.flash; recorded = n.view.recorded; honest = n.view.honest; calm = n.view.calm; programs = n.view.programs; erases = n.view.erases; failed = n.view.failed }))
+returns-clause-one g c = one_call g.N.PageSource.view
 
 pub returns-clause-session : goal.returns-clause-session
-returns-clause-session g c = (let n = g.N.PageSource in session (record { flash = n.view.flash; recorded = n.view.recorded; honest = n.view.honest; calm = n.view.calm; programs = n.view.programs; erases = n.view.erases; failed = n.view.failed }))
+returns-clause-session g c = session g.N.PageSource.view
 
 pub returns-clause-killed : goal.returns-clause-killed
-returns-clause-killed g c = (let n = g.N.PageSource in killed_run (record { flash = n.view.flash; recorded = n.view.recorded; honest = n.view.honest; calm = n.view.calm; programs = n.view.programs; erases = n.view.erases; failed = n.view.failed }))
+returns-clause-killed g c = killed_run g.N.PageSource.view
 
 pub returns-clause-lost : goal.returns-clause-lost
-returns-clause-lost g c = (let n = g.N.PageSource in lost_run_law (record { flash = n.view.flash; recorded = n.view.recorded; honest = n.view.honest; calm = n.view.calm; programs = n.view.programs; erases = n.view.erases; failed = n.view.failed }))
+returns-clause-lost g c = lost_run_law g.N.PageSource.view
 
 pub returns-clause-cut : goal.returns-clause-cut
-returns-clause-cut g c = (let n = g.N.PageSource in cut_leaves_law (record { flash = n.view.flash; recorded = n.view.recorded; honest = n.view.honest; calm = n.view.calm; programs = n.view.programs; erases = n.view.erases; failed = n.view.failed }))
+returns-clause-cut g c = cut_leaves_law g.N.PageSource.view
