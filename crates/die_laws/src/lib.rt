@@ -25,11 +25,11 @@ pub fn stop_laws()
 /// A driver tells a record at each moment, over any bus; as it is made that tells of the die. What a fuse or a garble tells is what its bus tells, and what a die in memory tells is
 /// the record that it keeps. Where both are told and were the same once, the driver's record and its bus's stay the same. (This project.)
 pub fn record_laws<B: Bus>()
-    ensures driver { AlwaysTellsLaw ⟦<Driver<B> as PageSource>⟧.recorded (λ d. d.told) }
+    ensures driver { AlwaysTellsLaw ⟦<Driver<B> as PageSource>⟧.view.recorded (λ d. d.told) }
     ensures untouched { UntouchedLaw }
     ensures agreeing { AgreeingLaw }
     ensures fuse { TellsLaw (λ f. f.bus) ⟦<CycleFuse<B> as Bus>⟧.recorded B.recorded }
     ensures garble { TellsLaw (λ g. g.bus) ⟦<Garble<B> as Bus>⟧.recorded B.recorded }
     ensures die { TellsLaw (λ (d : DieValue). d) ⟦<Die as Bus>⟧.recorded (λ d. d.recorded) }
-    ensures whole { AlwaysTellsLaw ⟦<Driver<Die> as PageSource>⟧.recorded (λ d. d.told) }
+    ensures whole { AlwaysTellsLaw ⟦<Driver<Die> as PageSource>⟧.view.recorded (λ d. d.told) }
 {}

@@ -27,7 +27,7 @@ pub fn kill_laws<N: Nand>()
 
 /// The die over any store tells a record at each moment, and its pages are the store's: so what `kill_laws` says of a die is said of the pages of a store. (This project's.)
 pub fn store_laws<S: Store>()
-    ensures { StoreTellsLaw S.held ⟦<Driver<FileDie<S>> as PageSource>⟧.recorded }
+    ensures { StoreTellsLaw S.held ⟦<Driver<FileDie<S>> as PageSource>⟧.view.recorded }
 {}
 
 /// What a loss of power may leave of a die whose erases stand between two syncs, against what a kill may: all that a kill may leave, and more before the first erase; behind an erase nothing that was there as it ended is
