@@ -1,12 +1,12 @@
 -- A task in parts, one call after another.
 use Rattle.std.proofs.Common.{◌≡◌, ◌<◌, ◌≤◌, ◌+◌, ◌-◌, ◌*◌, ◌/◌, ◌%◌, ◌⊎◌, inl, inr, ℕ, Bool, false, List, [], ◌++◌, length, take, drop, replicate}
 use Rattle.std.proofs.Common.{Result, Ok, Err, refl, sym, ap, ◌∙◌, subst, arith, append_assoc, append-nil, length-append, length-drop}
-use Rattle.std.specs.Prelude.{slice_index, slice_range, OnOk, OnErr}
+use Rattle.std.specs.Prelude.{slice_index, slice_range, IfErr, IfOk, OnOk, OnErr}
 use Rattle.std.proofs.lemmas.List.{ext_get_or, length-take-le}
 use Rattle.nbd_stream.specs.declared.reply.RequestError.{RequestError}
 use Rattle.nbd_stream.specs.declared.task.Task.{Task}
 use Rattle.nbd_stream.specs.declared.task.Task.TheVariants.{Read, Write, Trim}
-use Rattle.nbd_stream.specs.Disk.{Contents, IsEither, PerformsTask, TaskSteps, with_bytes}
+use Rattle.nbd_stream.specs.Disk.{Contents, IsEither, MayAnswer, PerformsTask, TaskSteps, count_given, with_bytes}
 use Rattle.disk_server.proofs.Bytes.{front_either, lent_back, part_read, part_set, place_is, range_more, sector_fits, set_same, with_more}
 use Rattle.disk_server.proofs.ReadingLemmas.{by_answer}
 
@@ -228,30 +228,29 @@ module _ {D : Type 0} (contents : D → Contents) (honest calm : D → Bool) whe
 
   -- ---- zeros
 
-  -- a trim is a write of zeros
-  pub trim_writes : (o n : ℕ) (durable : Bool) (old new : D) (answer : Answer) → Does (Trim o n durable) [] old answer new → Does (Write o n durable) (replicate n 0) old answer new
-  trim_writes o n durable old new answer is = record {
+  -- a call of one task is one of another that does the same, and may answer it
+  pub as_task : (task other : Task) (body bytes : List ℕ) (old new : D) (answer : Answer) → (IfErr answer (MayAnswer task) → IfErr answer (MayAnswer other))
+      → (IfOk answer (λ given. length given ≡ count_given task) → IfOk answer (λ given. length given ≡ count_given other))
+      → (TaskSteps task body (contents old) answer (contents new) → TaskSteps other bytes (contents old) answer (contents new)) → Does task body old answer new → Does other bytes old answer new
+  as_task task other body bytes old new answer may counts does is = record {
     sized = is.sized;
     kept = is.kept;
     back = is.back;
     calm_is = is.calm_is;
-    fault = is.fault;
-    given = is.given;
+    fault = may is.fault;
+    given = counts is.given;
     calmly = is.calmly;
-    steps = λ h. let its = is.steps h in record { done = its.done; gave = its.gave; torn = its.torn; stays = its.stays; lasts = its.lasts };
+    steps = λ h. does (is.steps h);
   }
 
+  -- a trim is a write of zeros
+  pub trim_writes : (o n : ℕ) (durable : Bool) (old new : D) (answer : Answer) → Does (Trim o n durable) [] old answer new → Does (Write o n durable) (replicate n 0) old answer new
+  trim_writes o n durable old new answer =
+      as_task (Trim o n durable) (Write o n durable) [] (replicate n 0) old new answer (λ may. may) (λ long. long) (λ its. record { done = its.done; gave = its.gave; torn = its.torn; stays = its.stays; lasts = its.lasts })
+
   pub writes_trim : (o n : ℕ) (durable : Bool) (old new : D) (answer : Answer) → Does (Write o n durable) (replicate n 0) old answer new → Does (Trim o n durable) [] old answer new
-  writes_trim o n durable old new answer is = record {
-    sized = is.sized;
-    kept = is.kept;
-    back = is.back;
-    calm_is = is.calm_is;
-    fault = is.fault;
-    given = is.given;
-    calmly = is.calmly;
-    steps = λ h. let its = is.steps h in record { done = its.done; gave = its.gave; torn = its.torn; stays = its.stays; lasts = its.lasts };
-  }
+  writes_trim o n durable old new answer =
+      as_task (Write o n durable) (Trim o n durable) (replicate n 0) [] old new answer (λ may. may) (λ long. long) (λ its. record { done = its.done; gave = its.gave; torn = its.torn; stays = its.stays; lasts = its.lasts })
 
   -- a sector was read, and is trimmed then
   pub read_then : (o n o' n' : ℕ) (old mid new : D) (answer answer' : Answer) → OnOk answer' (honest mid ≡ honest old)
