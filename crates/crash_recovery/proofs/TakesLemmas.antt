@@ -1,7 +1,7 @@
 -- Pages that are taken one call after another.
-use Rattle.std.proofs.Common.{◌≡◌, ◌≢◌, ◌⊎◌, inl, inr, ◌<◌, ◌≤◌, ◌+◌, ◌-◌, ◌*◌, ◌/◌, ◌%◌, ℕ, zero, suc, Bool, true, false, List, [], ◌∷◌, length, get_or, Some, None, refl, sym, ap, ◌∙◌, subst, arith}
+use Rattle.std.proofs.Common.{◌≡◌, ◌⊎◌, inl, inr, ◌<◌, ◌≤◌, ◌-◌, ◌/◌, ◌%◌, ℕ, zero, suc, Bool, true, false, List, [], ◌∷◌, None, refl, sym, ap, ◌∙◌, subst, arith}
 use Rattle.std.specs.List.{Contains}
-use Rattle.std.proofs.lemmas.Bool.{cases_eq, cases_lt}
+use Rattle.std.proofs.lemmas.Bool.{cases_eq}
 use Rattle.std.proofs.lemmas.List.{get_or-set_same}
 use Rattle.std.proofs.lemmas.Nat.{div-mul-add, mod-mul-add}
 use Rattle.page_layout.specs.declared.geometry.Geometry.{Geometry}
@@ -12,11 +12,11 @@ use Rattle.page_layout.specs.Sound.{record_of}
 use Rattle.page_layout.specs.Change.{erased_page}
 use Rattle.page_layout.proofs.StepLemmas.{erased_unsound}
 use Rattle.onfi_cycles.specs.Cycles.{page_of}
-use Rattle.file_die.specs.Store.{Held, AreImages, page_in, Puts, Clears, Syncs}
+use Rattle.file_die.specs.Store.{Held, AreImages, LastsOf, page_in, Puts, Clears, Syncs}
 use Rattle.file_die.proofs.AskLemmas.{of_three}
 use Rattle.file_die.proofs.StoreLemmas.{erased_in}
 use Rattle.crash_recovery.specs.Torn.{row_in}
-use Rattle.crash_recovery.specs.Taken.{HasTaken, IsInTail, LeavesErased, Takes}
+use Rattle.crash_recovery.specs.Taken.{HasTaken, IsInTail, LeavesErased, MayLast, Takes}
 use Rattle.crash_recovery.proofs.Rows.{page_below, row_split}
 
 pub takes_none : (taken : ℕ → Type 0) (s : Held) → Takes taken s s
@@ -64,18 +64,26 @@ takes_then taken s m t one two = record {
   whole = λ w. two.whole (one.whole w);
 }
 
+-- what may last of a row after a call that left it as it was, or took it
+may_last : (taken : ℕ → Type 0) (s t : Held) (row : ℕ) → LastsOf (page_in s.durable row) (page_in s.pages row) (page_in t.pages row) (page_in t.durable row)
+    → (page_in t.pages row ≡ page_in s.pages row) ⊎ (taken row × (record_of (page_in t.pages row) ≡ None)) → MayLast (page_in s.durable row) (page_in s.pages row) (page_in t.durable row)
+may_last taken s t row lasts is = elim lasts.left [
+  | inl c ↦ elim (of_three (page_in s.durable row) (page_in s.pages row) (page_in t.pages row) (page_in t.durable row) c) [
+    | inl e ↦ inl (sym e)
+    | inr other ↦ elim other [
+      | inl e ↦ inr (inl (sym e))
+      | inr e ↦ elim is [ inl same ↦ inr (inl (sym e ∙ same)) | inr gone ↦ inr (inr (ap record_of (sym e) ∙ gone.1)) ]
+    ]
+  ]
+  | inr none ↦ inr (inr none)
+]
+
 -- a sync, done or failed
 pub takes_sync : (taken : ℕ → Type 0) (s t : Held) (done : Bool) → Syncs s done t → t.geometry ≡ s.geometry → Takes taken s t
 takes_sync taken s t done syncs geometry = record {
   geometry = geometry;
   pages = λ row. inl (here row);
-  durable = λ row. elim ((syncs.lasts row).left) [
-    | inl c ↦ elim (of_three (page_in s.durable row) (page_in s.pages row) (page_in t.pages row) (page_in t.durable row) c) [
-      | inl e ↦ inl (sym e)
-      | inr other ↦ elim other [ inl e ↦ inr (inl (sym e)) | inr e ↦ inr (inl (sym e ∙ here row)) ]
-    ]
-    | inr none ↦ inr (inr none)
-  ];
+  durable = λ row. may_last taken s t row (syncs.lasts row) (inl (here row));
   kept = λ row spared lasted. (syncs.lasts row).kept lasted (here row);
   whole = syncs.whole;
 }
@@ -105,16 +113,7 @@ pub takes_put : (taken : ℕ → Type 0) (s t : Held) (row : ℕ) (done : Bool) 
 takes_put taken s t row done w within is puts geometry = record {
   geometry = geometry;
   pages = each;
-  durable = λ r. elim ((puts.lasts r).left) [
-    | inl c ↦ elim (of_three (page_in s.durable r) (page_in s.pages r) (page_in t.pages r) (page_in t.durable r) c) [
-      | inl e ↦ inl (sym e)
-      | inr other ↦ elim other [
-        | inl e ↦ inr (inl (sym e))
-        | inr e ↦ elim (each r) [ inl same ↦ inr (inl (sym e ∙ same)) | inr gone ↦ inr (inr (ap record_of (sym e) ∙ gone.1)) ]
-      ]
-    ]
-    | inr none ↦ inr (inr none)
-  ];
+  durable = λ r. may_last taken s t r (puts.lasts r) (each r);
   kept = λ r spared lasted. (puts.lasts r).kept lasted (puts.others r (λ same. spared (subst taken (sym same) is)));
   whole = puts.whole;
 }
@@ -154,16 +153,7 @@ pub takes_clear : (s t : Held) (block : ℕ) (done : Bool) → AreImages s → b
 takes_clear s t block done w lt clears geometry = record {
   geometry = geometry;
   pages = each;
-  durable = λ r. elim ((clears.lasts r).left) [
-    | inl c ↦ elim (of_three (page_in s.durable r) (page_in s.pages r) (page_in t.pages r) (page_in t.durable r) c) [
-      | inl e ↦ inl (sym e)
-      | inr other ↦ elim other [
-        | inl e ↦ inr (inl (sym e))
-        | inr e ↦ elim (each r) [ inl same ↦ inr (inl (sym e ∙ same)) | inr gone ↦ inr (inr (ap record_of (sym e) ∙ gone.1)) ]
-      ]
-    ]
-    | inr none ↦ inr (inr none)
-  ];
+  durable = λ r. may_last (λ row. row / s.geometry.pages ≡ block) s t r (clears.lasts r) (each r);
   kept = λ r spared lasted. (clears.lasts r).kept lasted (clears.others r spared);
   whole = clears.whole;
 }

@@ -1,12 +1,16 @@
 -- WHAT A CRASH LEAVES OF A BLOCK, and from which page on the block is cut back.
-use Rattle.std.specs.Prelude.{◌≡◌, ◌≢◌, ◌<◌, ◌≤◌, ◌+◌, ◌*◌, ◌/◌, ◌%◌, ℕ, Bool, true, false, List, length, get_or, IsSome, Some, None}
+use Rattle.std.specs.Prelude.{◌≡◌, ◌≢◌, ◌<◌, ◌≤◌, ◌+◌, ◌*◌, ◌/◌, ◌%◌, ℕ, Bool, true, false, List, length, get_or, IsSome, Option, Some, None}
 use Rattle.page_layout.specs.declared.geometry.Geometry.{Geometry}
+use Rattle.page_layout.specs.declared.record.Key.TheVariants.{Table}
 use Rattle.page_layout.specs.declared.record.Record.{Record}
-use Rattle.page_layout.specs.Geometry.{row_count}
+use Rattle.page_layout.specs.Geometry.{entries, row_count}
 use Rattle.page_layout.specs.Page.{Image}
 use Rattle.page_layout.specs.Array.{marks}
 use Rattle.page_layout.specs.Live.{live}
+use Rattle.page_layout.specs.Newest.{newest}
 use Rattle.page_layout.specs.Change.{IsUnsoundAt}
+use Rattle.certificate.specs.Claim.{Claim}
+use Rattle.image_check.specs.Agrees.{Agrees}
 use Rattle.image_check.specs.Blocks.{class, table_class}
 
 -- the row of a page of a block
@@ -50,6 +54,11 @@ pub record IsDead (g : Geometry) (image : Image) (block : ℕ) : Type 0 where
   pub none : live g (marks image) block ≡ 0
 
 -- ---- what is found by a look
+
+-- the row of the newest table page that tells the class of a block: there is one wherever a certificate agrees with the pages
+pub record IsTableRow (g : Geometry) (c : Claim) (block : ℕ) (row : Option ℕ) : Type 0 where
+  pub newest_is : (capacity : ℕ) (image : Image) → Agrees g capacity image c → newest (marks image) (Table (block / entries g)) ≡ row
+  pub there : (capacity : ℕ) (image : Image) → Agrees g capacity image c → row ≢ None
 
 -- how many of a block's pages are sound at its start
 pub record HasSoundRun (g : Geometry) (image : Image) (block count : ℕ) : Type 0 where

@@ -1,14 +1,15 @@
 //! What the pages of a store show of the blocks that a crash left torn.
-ghost use Rattle.std.specs.Prelude.{◌≡◌, ◌<◌, ◌≤◌, ◌==◌, ℕ, true, false, length, IfOk, OnOk, OnErr};
+ghost use Rattle.std.specs.Prelude.{◌≡◌, ◌<◌, ◌≤◌, ◌*◌, ◌%◌, ◌==◌, ℕ, true, false, length, IfOk, IfSome, OnOk, OnErr};
 ghost use Rattle.page_layout.specs.Counter.{HasRisen};
-ghost use Rattle.page_layout.specs.Geometry.{row_count, page_bytes};
+ghost use Rattle.page_layout.specs.Geometry.{entries, row_count, page_bytes};
+ghost use Rattle.page_layout.specs.Word.{word_at};
 ghost use Rattle.page_layout.specs.Sound.{record_of};
 ghost use Rattle.certificate.specs.Claim.{sizes_of};
 ghost use Rattle.file_die.specs.Store.{page_in};
 ghost use Rattle.file_die.specs.Open.{OnlyLooks};
 ghost use Rattle.image_check.specs.Agrees.{Agrees, IsCertificateOf};
 ghost use Rattle.image_check.specs.Blocks.{table_class};
-ghost use Rattle.crash_recovery.specs.Torn.{FindsCut, FindsCuts, HasSoundRun, IsTorn, NoneIsMarked};
+ghost use Rattle.crash_recovery.specs.Torn.{FindsCut, FindsCuts, HasSoundRun, IsTableRow, IsTorn, NoneIsMarked};
 
 use certificate::Certificate;
 use file_die::{Store, StoreFault};
@@ -20,7 +21,7 @@ use page_layout::word::read_word;
 pub(crate) const SHOWN_BAD: u8 = 5;
 
 // The same in a table page.
-pub(crate) const NAMED_GROWN: u32 = 2;
+const NAMED_GROWN: u32 = 2;
 
 // The record of a row's page.
 fn record_at<S: Store>(
@@ -40,6 +41,26 @@ fn record_at<S: Store>(
     store.load(row, page)?;
     let (body, spare) = page.split_at(geometry.data_bytes());
     Ok(read_record(geometry, body, spare))
+}
+
+// The row of the newest table page that tells the class of a block, where the certificate knows one.
+pub(crate) fn table_row(geometry: &Geometry, certificate: &Certificate, block: u32) -> Option<u32>
+    requires sizes { certificate.now.sizes ≡ sizes_of geometry.now }
+    requires whole { IsCertificateOf geometry.now certificate.now }
+    requires in_range { block < geometry.now.blocks }
+    ensures row { IfSome result (λ row. row < row_count geometry.now) }
+    ensures is { IsTableRow geometry.now certificate.now block result }
+{
+    let entries = geometry.entries();
+    certificate.directory_row(geometry.translation_pages() + block / entries)
+}
+
+// Whether the data area of such a page names the block as one that has grown bad.
+pub(crate) fn names_grown(geometry: &Geometry, body: &[u8], block: u32) -> bool
+    requires body { length body.now ≡ geometry.now.data_bytes }
+    ensures { result ≡ (word_at body.now (4 * (block % entries geometry.now)) % 256 == 2) }
+{
+    read_word(body, block % geometry.entries()) % 256 == NAMED_GROWN
 }
 
 // Whether the newest table of blocks names a block as one that has grown bad. It does where the certificate knows no such table page.
@@ -62,13 +83,12 @@ fn is_named<S: Store>(
     ensures settled { OnOk result (S.failed store.new ≡ S.failed store.old) }
     ensures rose { OnErr result (HasRisen (S.failed store.old) (S.failed store.new)) }
 {
-    let entries = geometry.entries();
-    let Some(row) = certificate.directory_row(geometry.translation_pages() + block / entries) else {
+    let Some(row) = table_row(geometry, certificate, block) else {
         return Ok(true);
     };
     store.load(row, page)?;
     let (body, _) = page.split_at(geometry.data_bytes());
-    Ok(read_word(body, block % entries) % 256 == NAMED_GROWN)
+    Ok(names_grown(geometry, body, block))
 }
 
 /// Whether a block is torn.

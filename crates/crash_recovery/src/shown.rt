@@ -7,12 +7,11 @@ ghost use Rattle.image_check.specs.Blocks.{table_class};
 ghost use Rattle.crash_recovery.specs.Torn.{IsTorn, NoneTorn};
 
 use crate::fault::RecoveryFault;
-use crate::look::{NAMED_GROWN, SHOWN_BAD};
+use crate::look::{SHOWN_BAD, names_grown, table_row};
 use crate::recovery::is_of;
 use certificate::Certificate;
 use page_layout::geometry::Geometry;
 use page_layout::source::{PageSource, SourceFault};
-use page_layout::word::read_word;
 use std::alloc::Global;
 
 // Whether the newest table of blocks names a block as one that has grown bad. It does where the certificate knows no such table page.
@@ -35,12 +34,11 @@ fn is_told_bad<N: PageSource>(
     ensures same { OnOk result (N.view.honest source.old ≡ true → N.view.flash source.new ≡ N.view.flash source.old) }
     ensures only_reads { OnlyReads N.view source.old source.new }
 {
-    let entries = geometry.entries();
-    let Some(row) = certificate.directory_row(geometry.translation_pages() + block / entries) else {
+    let Some(row) = table_row(geometry, certificate, block) else {
         return Ok(true);
     };
     source.read_page(row, body, spare)?;
-    Ok(read_word(body, block % entries) % 256 == NAMED_GROWN)
+    Ok(names_grown(geometry, body, block))
 }
 
 // Whether a block is torn.

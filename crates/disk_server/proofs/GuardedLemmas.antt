@@ -16,6 +16,7 @@ use Rattle.nbd_stream.proofs.DiskLemmas.{before_it, inside_it, length-with_bytes
 use Rattle.disk_server.specs.declared.guarded.GuardedSectors.{GuardedSectors}
 use Rattle.disk_server.specs.Asked.{HasZeros}
 use Rattle.disk_server.specs.Guarded.{GuardedByteLaw, GuardedReadLaw, HealedLaw, HealsIfListed, UnkeptLaw, guarded_byte, guarded_from, is_listed, no_byte, guarded_contents}
+use Rattle.disk_server.proofs.Bytes.{sector_fits}
 use Rattle.disk_server.proofs.Tasks.{Answer, lasting}
 
 -- ---- a byte
@@ -314,8 +315,11 @@ module _ {S K : Type 0} (contents : S → Contents) (size : S → ℕ) (honest :
 
   -- a change that the device has done: the sector was taken off the list, or it was to be
   module _ (kept : K → List Bool) (calm : S → Bool) (n : ℕ) (task : Task) (body set : List ℕ) (old : GuardedSectors S K) (leaves : (l : List ℕ) → bytes_after task body l ≡ with_bytes (n * size old.sectors) set l)
-      (gives : (l : List ℕ) → [] ≡ bytes_given task l) (may : MayAnswer task InputOutput) (some : 0 < size old.sectors) (long : length set ≡ size old.sectors) (fits : n * size old.sectors + size old.sectors ≤ length (contents old.sectors).bytes)
+      (gives : (l : List ℕ) → [] ≡ bytes_given task l) (may : MayAnswer task InputOutput) (some : 0 < size old.sectors) (long : length set ≡ size old.sectors) (count : ℕ) (within : n < count) (whole : length (contents old.sectors).bytes ≡ count * size old.sectors)
       (mid : S) (new : GuardedSectors S K) (same : size mid ≡ size old.sectors) (sectors : new.sectors ≡ mid) (p : PerformsTask contents honest calm task body old.sectors (Ok []) mid) where
+    fits : n * size old.sectors + size old.sectors ≤ length (contents old.sectors).bytes
+    fits = sector_fits n count (size old.sectors) (length (contents old.sectors).bytes) within whole
+
     device_steps : honest new.sectors ≡ true → TaskSteps task body (contents old.sectors) (Ok []) (contents new.sectors)
     device_steps h = subst (λ s. TaskSteps task body (contents old.sectors) (Ok []) (contents s)) (sym sectors) (p.steps (sym (ap honest sectors) ∙ h))
 
@@ -334,13 +338,13 @@ module _ {S K : Type 0} (contents : S → Contents) (size : S → ℕ) (honest :
 
   -- or it has failed
   pub failed_shown : (calm : S → Bool) (n : ℕ) (task : Task) (body set : List ℕ) (old : GuardedSectors S K) (leaves : (l : List ℕ) → bytes_after task body l ≡ with_bytes (n * size old.sectors) set l)
-      (gives : (l : List ℕ) → [] ≡ bytes_given task l) (some : 0 < size old.sectors) (long : length set ≡ size old.sectors) (fits : n * size old.sectors + size old.sectors ≤ length (contents old.sectors).bytes)
+      (gives : (l : List ℕ) → [] ≡ bytes_given task l) (some : 0 < size old.sectors) (long : length set ≡ size old.sectors) (count : ℕ) (within : n < count) (whole : length (contents old.sectors).bytes ≡ count * size old.sectors)
       (new : GuardedSectors S K) (e : RequestError) → size new.sectors ≡ size old.sectors → new.lost.items ≡ old.lost.items → PerformsTask contents honest calm task body old.sectors (Err e) new.sectors
       → PerformsTask (guarded_contents contents size) (λ d. honest d.sectors) (λ d. false) task body old (Err e) new
-  failed_shown calm n task body set old leaves gives some long fits new e same lost p =
+  failed_shown calm n task body set old leaves gives some long count within whole new e same lost p =
       call_shown task body old (Err e) new same p.sized tt p.back p.fault tt
       (λ h. subst (λ l. TaskSteps task body (lasting (guarded_from (size old.sectors) old.lost.items 0 (contents old.sectors).bytes)) (Err e) (lasting (guarded_from (size old.sectors) l 0 (contents new.sectors).bytes))) (sym lost)
-      (failed_steps (size old.sectors) n task body set leaves gives some long old.lost.items (contents old.sectors) (contents new.sectors) fits e p.sized (p.steps h)))
+      (failed_steps (size old.sectors) n task body set leaves gives some long old.lost.items (contents old.sectors) (contents new.sectors) (sector_fits n count (size old.sectors) (length (contents old.sectors).bytes) within whole) e p.sized (p.steps h)))
 
 -- ---- laws of its list
 

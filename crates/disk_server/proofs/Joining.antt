@@ -1,12 +1,12 @@
 -- A task in parts, one call after another.
-use Rattle.std.proofs.Common.{◌≡◌, ◌<◌, ◌≤◌, ◌+◌, ◌-◌, ◌*◌, ◌/◌, ◌%◌, ◌⊎◌, inl, inr, ℕ, Bool, false, List, [], ◌++◌, length, take, drop, replicate}
+use Rattle.std.proofs.Common.{◌≡◌, ◌<◌, ◌≤◌, ◌+◌, ◌-◌, ◌*◌, ◌/◌, ◌%◌, ◌⊎◌, inl, inr, ℕ, Bool, true, false, List, [], ◌++◌, length, take, drop, replicate}
 use Rattle.std.proofs.Common.{Result, Ok, Err, refl, sym, ap, ◌∙◌, subst, arith, append_assoc, append-nil, length-append, length-drop}
-use Rattle.std.specs.Prelude.{slice_index, slice_range, OnOk, OnErr}
+use Rattle.std.specs.Prelude.{slice_index, slice_range, IfErr, IfOk, OnOk, OnErr}
 use Rattle.std.proofs.lemmas.List.{ext_get_or, length-take-le}
 use Rattle.nbd_stream.specs.declared.reply.RequestError.{RequestError}
 use Rattle.nbd_stream.specs.declared.task.Task.{Task}
 use Rattle.nbd_stream.specs.declared.task.Task.TheVariants.{Read, Write, Trim}
-use Rattle.nbd_stream.specs.Disk.{Contents, IsEither, PerformsTask, TaskSteps, with_bytes}
+use Rattle.nbd_stream.specs.Disk.{Contents, IsEither, MayAnswer, PerformsTask, TaskSteps, count_given, with_bytes}
 use Rattle.disk_server.proofs.Bytes.{front_either, lent_back, part_read, part_set, place_is, range_more, sector_fits, set_same, with_more}
 use Rattle.disk_server.proofs.ReadingLemmas.{by_answer}
 
@@ -195,63 +195,63 @@ module _ {D : Type 0} (contents : D → Contents) (honest calm : D → Bool) whe
   abbrev Does : Task → List ℕ → D → Answer → D → Type 0
   Does task body old answer new = PerformsTask contents honest calm task body old answer new
 
+  -- a call that was done, and another behind it, are one of a task that does what both do, and may be answered as the second
+  done_then : (first second task : Task) (front back body given : List ℕ) (old mid new : D) (answer : Answer) → Does first front old (Ok given) mid → Does second back mid answer new
+      → (IfErr answer (MayAnswer second) → IfErr answer (MayAnswer task)) → (IfOk answer (λ bytes. length bytes ≡ count_given second) → IfOk answer (λ bytes. length bytes ≡ count_given task))
+      → (honest new ≡ true → TaskSteps task body (contents old) answer (contents new)) → Does task body old answer new
+  done_then first second task front back body given old mid new answer one two may counts does = record {
+    sized = two.sized ∙ one.sized;
+    kept = ok_then answer two.kept (λ is. is ∙ one.kept);
+    back = λ h. one.back (two.back h);
+    calm_is = two.calm_is ∙ one.calm_is;
+    fault = may two.fault;
+    given = counts two.given;
+    calmly = λ h. two.calmly (one.calm_is ∙ h);
+    steps = does;
+  }
+
   module _ (front piece rest : List ℕ) (o k n j place : ℕ) (old mid new : D) (answer : Answer) (at : place ≡ o + length front)
       (fits : o + length ((front ++ piece) ++ rest) ≤ length (contents old).bytes)
       (one : Does (Write o k false) front old (Ok []) mid) (two : Does (Write place j false) piece mid answer new) where
     pub write_then : OnOk answer (rest ≡ []) → Does (Write o n false) ((front ++ piece) ++ rest) old answer new
-    write_then last = record {
-      sized = two.sized ∙ one.sized;
-      kept = ok_then answer two.kept (λ is. is ∙ one.kept);
-      back = λ h. one.back (two.back h);
-      calm_is = two.calm_is ∙ one.calm_is;
-      fault = two.fault;
-      given = two.given;
-      calmly = λ h. two.calmly (one.calm_is ∙ h);
-      steps = λ h. steps_more front piece rest o k n j place (contents old) (contents mid) (contents new) answer at fits (one.steps (two.back h)) (two.steps h) last;
-    }
+    write_then last =
+        done_then (Write o k false) (Write place j false) (Write o n false) front piece ((front ++ piece) ++ rest) [] old mid new answer one two (λ may. may) (λ long. long)
+        (λ h. steps_more front piece rest o k n j place (contents old) (contents mid) (contents new) answer at fits (one.steps (two.back h)) (two.steps h) last)
 
   -- a sector was read, and is written with a part of it changed
   pub part_written : (part sector : List ℕ) (base start size n offset : ℕ) (old mid new : D) (answer : Answer)
       → start + length part ≤ size → base + size ≤ length (contents old).bytes → offset ≡ base + start
       → Does (Read base size) [] old (Ok sector) mid → Does (Write base size false) (with_bytes start part sector) mid answer new
       → Does (Write offset n false) part old answer new
-  part_written part sector base start size n offset old mid new answer within fits at one two = record {
-    sized = two.sized ∙ one.sized;
-    kept = ok_then answer two.kept (λ is. is ∙ one.kept);
-    back = λ h. one.back (two.back h);
-    calm_is = two.calm_is ∙ one.calm_is;
-    fault = two.fault;
-    given = two.given;
-    calmly = λ h. two.calmly (one.calm_is ∙ h);
-    steps = λ h. steps_part part sector base start size n offset (contents old) (contents mid) (contents new) answer within fits at (one.steps (two.back h)) (two.steps h);
-  }
+  part_written part sector base start size n offset old mid new answer within fits at one two =
+      done_then (Read base size) (Write base size false) (Write offset n false) [] (with_bytes start part sector) part sector old mid new answer one two (λ may. may) (λ long. long)
+      (λ h. steps_part part sector base start size n offset (contents old) (contents mid) (contents new) answer within fits at (one.steps (two.back h)) (two.steps h))
 
   -- ---- zeros
 
-  -- a trim is a write of zeros
-  pub trim_writes : (o n : ℕ) (durable : Bool) (old new : D) (answer : Answer) → Does (Trim o n durable) [] old answer new → Does (Write o n durable) (replicate n 0) old answer new
-  trim_writes o n durable old new answer is = record {
+  -- a call of one task is one of another that does the same, and may answer it
+  pub as_task : (task other : Task) (body bytes : List ℕ) (old new : D) (answer : Answer) → (IfErr answer (MayAnswer task) → IfErr answer (MayAnswer other))
+      → (IfOk answer (λ given. length given ≡ count_given task) → IfOk answer (λ given. length given ≡ count_given other))
+      → (TaskSteps task body (contents old) answer (contents new) → TaskSteps other bytes (contents old) answer (contents new)) → Does task body old answer new → Does other bytes old answer new
+  as_task task other body bytes old new answer may counts does is = record {
     sized = is.sized;
     kept = is.kept;
     back = is.back;
     calm_is = is.calm_is;
-    fault = is.fault;
-    given = is.given;
+    fault = may is.fault;
+    given = counts is.given;
     calmly = is.calmly;
-    steps = λ h. let its = is.steps h in record { done = its.done; gave = its.gave; torn = its.torn; stays = its.stays; lasts = its.lasts };
+    steps = λ h. does (is.steps h);
   }
 
+  -- a trim is a write of zeros
+  pub trim_writes : (o n : ℕ) (durable : Bool) (old new : D) (answer : Answer) → Does (Trim o n durable) [] old answer new → Does (Write o n durable) (replicate n 0) old answer new
+  trim_writes o n durable old new answer =
+      as_task (Trim o n durable) (Write o n durable) [] (replicate n 0) old new answer (λ may. may) (λ long. long) (λ its. record { done = its.done; gave = its.gave; torn = its.torn; stays = its.stays; lasts = its.lasts })
+
   pub writes_trim : (o n : ℕ) (durable : Bool) (old new : D) (answer : Answer) → Does (Write o n durable) (replicate n 0) old answer new → Does (Trim o n durable) [] old answer new
-  writes_trim o n durable old new answer is = record {
-    sized = is.sized;
-    kept = is.kept;
-    back = is.back;
-    calm_is = is.calm_is;
-    fault = is.fault;
-    given = is.given;
-    calmly = is.calmly;
-    steps = λ h. let its = is.steps h in record { done = its.done; gave = its.gave; torn = its.torn; stays = its.stays; lasts = its.lasts };
-  }
+  writes_trim o n durable old new answer =
+      as_task (Write o n durable) (Trim o n durable) (replicate n 0) [] old new answer (λ may. may) (λ long. long) (λ its. record { done = its.done; gave = its.gave; torn = its.torn; stays = its.stays; lasts = its.lasts })
 
   -- a sector was read, and is trimmed then
   pub read_then : (o n o' n' : ℕ) (old mid new : D) (answer answer' : Answer) → OnOk answer' (honest mid ≡ honest old)

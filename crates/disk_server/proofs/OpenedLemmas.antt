@@ -1,4 +1,5 @@
 -- The store behind a driver, once the driver was asked for reads alone.
+use Rattle.std.specs.Prelude.{IfErr, IsErrAnd}
 use Rattle.std.proofs.Common.{◌≡◌, ◌≢◌, ℕ, Bool, true, Result, Err, sym, ap, ◌∙◌, subst, replicate, if◌then◌else◌}
 use Rattle.page_layout.specs.declared.geometry.Geometry.{Geometry}
 use Rattle.page_layout.specs.Array.{array_of, zeros}
@@ -19,6 +20,7 @@ use Rattle.disk_server.specs.declared.open.OpenFault.{OpenFault}
 use Rattle.disk_server.specs.declared.open.OpenFault.TheVariants.{Refused, Start}
 use Rattle.disk_server.specs.Open.{nand_of}
 use Rattle.mount.specs.Mounted.{Refuses}
+use Rattle.disk_server.proofs.FaultLemmas.{handed_on}
 use Rattle.disk_server.specs.Opened.{ComesBack, HasCome, IsUnmounted, IsUnopened, IsUnopenedAt, bytes_of, flash_in, is_honest_in, why_of}
 
 -- a driver that was made over a store
@@ -100,6 +102,11 @@ before held honest failed store capacity given why.Device is = is
 before held honest failed store capacity given why.Reset is = is
 before held honest failed store capacity given why.Flush is = absurd is
 before held honest failed store capacity given (why.Mount refusal) is = absurd is
+
+-- and so where it is handed on
+pub unbegun : {S T : Type 0} (held : S → Held) (honest : S → Bool) (failed : S → ℕ) (store : S) (capacity : ℕ) (r : Result T (S × OpenStoreFault)) (told : S × OpenStoreFault) → IsErrAnd r (λ e. e ≡ told)
+    → IsUnopenedAt held honest failed store told.0 told.1 → IfErr r (λ e. IsUnopened held honest failed store capacity e.0 e.1)
+unbegun held honest failed store capacity r told is unopened = handed_on (λ e. IsUnopened held honest failed store capacity e.0 e.1) r told is (before held honest failed store capacity told.0 told.1 unopened)
 
 -- another refusal than that a page could not be read
 pub another : {A : Type 0} (answer : Result A Refusal) (refusal : Refusal) → answer ≡ Err refusal → why.Mount refusal ≢ why.Mount Source → answer ≢ Err Source

@@ -36,6 +36,7 @@ use
       after_change,
       after_sync,
     }
+use Rattle.disk_server.proofs.Joining.{as_task}
 use Rattle.disk_server.proofs.SyncLemmas.{no_less, none_then, then_failed, unflushed}
 use Rattle.disk_server.specs.declared.synced.SyncedDisk.{SyncedDisk}
 
@@ -59,16 +60,8 @@ joined_call contents honest calm task body old new answer p = record {
 module _ {D : Type 0} (contents : D → Contents) (honest calm : D → Bool) (lasts : Lasts contents) (o n : ℕ) (durable : Bool) (old : D) where
   -- a trim that is done lasts, and one that failed is one that was to last
   pub lasting_trim : (mid : D) (answer : Result (List ℕ) RequestError) → PerformsTask contents honest calm (Trim o n false) [] old answer mid → PerformsTask contents honest calm (Trim o n durable) [] old answer mid
-  lasting_trim mid answer p = record {
-    sized = p.sized;
-    kept = p.kept;
-    back = p.back;
-    calm_is = p.calm_is;
-    fault = p.fault;
-    given = p.given;
-    calmly = p.calmly;
-    steps = λ h. let its = p.steps h in record { done = its.done; gave = its.gave; torn = its.torn; stays = its.stays; lasts = all answer mid };
-  }
+  lasting_trim mid answer =
+      as_task contents honest calm (Trim o n false) (Trim o n durable) [] [] old mid answer (λ may. may) (λ long. long) (λ its. record { done = its.done; gave = its.gave; torn = its.torn; stays = its.stays; lasts = all answer mid })
     where
       all : (answer : Result (List ℕ) RequestError) (mid : D) → OnOk answer ((place : ℕ) → (durable && is_in o n place) ≡ true → slice_index (contents mid).durable place ≡ slice_index (contents mid).bytes place)
       all (Ok bytes) mid = λ place makes. ap (λ l. slice_index l place) (lasts mid)

@@ -1,7 +1,7 @@
 use Rattle.std.proofs.Common.{Err, refl}
-use Rattle.disk_server.specs.Opened.{ComesBack, IsUnopened}
+use Rattle.disk_server.specs.Opened.{ComesBack}
 use Rattle.disk_server.proofs.FaultLemmas.{handed_on}
-use Rattle.disk_server.proofs.OpenedLemmas.{another, before, come, comes, IsBehind, IsOver}
+use Rattle.disk_server.proofs.OpenedLemmas.{another, come, comes, unbegun, IsBehind, IsOver}
 use Rattle.disk_server.specs.declared.opened.OpenStoreFault.TheVariants as why
 use Rattle.disk_server.proofs.opened.mount_store.Goals as goal
 
@@ -33,9 +33,7 @@ returns-in-Err-clause-given g c =
     (λ other is. c.in-Err.ensures.same (another (Err c.in-Err.refusal) c.in-Err.refusal refl other) is)
 
 pub returns-in_err-driver-clause-fault : goal.returns-in_err-driver-clause-fault
-returns-in_err-driver-clause-fault g c =
-    handed_on (λ e. IsUnopened g.S.Store.held g.S.Store.honest g.S.Store.failed c.args.store c.args.capacity e.0 e.1) _ _ c.from_residual.ensures.1
-    (before g.S.Store.held g.S.Store.honest g.S.Store.failed c.args.store c.args.capacity c.in_err-driver.field-0.0.0 c.in_err-driver.field-0.0.1 c.in_err-driver.ensures.fault)
+returns-in_err-driver-clause-fault g c = unbegun g.S.Store.held g.S.Store.honest g.S.Store.failed c.args.store c.args.capacity _ _ c.from_residual.ensures.1 c.in_err-driver.ensures.fault
 
 pub returns-in_err-driver-clause-given : goal.returns-in_err-driver-clause-given
 returns-in_err-driver-clause-given g c = handed_on (λ e. ComesBack g.S.Store.held g.S.Store.honest c.args.store e.1 e.0) _ _ c.from_residual.ensures.1 c.in_err-driver.ensures.given

@@ -1,14 +1,12 @@
 use Rattle.std.proofs.Common.{sym, subst, ◌∙◌}
 use Rattle.disk_server.specs.Open.{nand_of}
 use Rattle.disk_server.proofs.FaultLemmas.{handed_on}
-use Rattle.disk_server.proofs.OpenedLemmas.{before, opened_bytes, unopened_come, unopened_so, IsBehind, IsOver}
+use Rattle.disk_server.proofs.OpenedLemmas.{opened_bytes, unbegun, unopened_come, unopened_so, IsBehind, IsOver}
 use Rattle.disk_server.specs.Opened.{ComesBack, IsUnmounted, IsUnopened, flash_in, is_honest_in}
 use Rattle.disk_server.proofs.opened.open_store.Goals as goal
 
 pub returns-in_err-driver-clause-fault : goal.returns-in_err-driver-clause-fault
-returns-in_err-driver-clause-fault g c =
-    handed_on (λ e. IsUnopened g.S.Store.held g.S.Store.honest g.S.Store.failed c.args.store c.args.capacity e.0 e.1) _ _ c.from_residual.ensures.1
-    (before g.S.Store.held g.S.Store.honest g.S.Store.failed c.args.store c.args.capacity c.in_err-driver.field-0.0.0 c.in_err-driver.field-0.0.1 c.in_err-driver.ensures.fault)
+returns-in_err-driver-clause-fault g c = unbegun g.S.Store.held g.S.Store.honest g.S.Store.failed c.args.store c.args.capacity _ _ c.from_residual.ensures.1 c.in_err-driver.ensures.fault
 
 pub returns-in_err-driver-clause-given : goal.returns-in_err-driver-clause-given
 returns-in_err-driver-clause-given g c = handed_on (λ e. ComesBack g.S.Store.held g.S.Store.honest c.args.store e.1 e.0) _ _ c.from_residual.ensures.1 c.in_err-driver.ensures.given

@@ -53,6 +53,16 @@ const ALL: &[Step] = &[
     Step::Read(256, &[0; 64], Ok(())),
 ];
 
+// The life after two bits of one page turned, and one of each other: that page alone cannot be read.
+const TWO_TURNED: Life = Life {
+    synced: 9,
+    flushed: 9,
+    turned: 510,
+    unread: 1,
+    bad: 1,
+    ..QUIET
+};
+
 const ROWS: &[Row] = &[
     Row {
         name: "a bit of each chunk, twice",
@@ -85,11 +95,6 @@ const ROWS: &[Row] = &[
             (
                 Turn::TwoIn(2),
                 Life {
-                    synced: 9,
-                    flushed: 9,
-                    turned: 510,
-                    unread: 1,
-                    bad: 1,
                     lost: &[1],
                     steps: &[
                         Step::Read(0, &[1; 64], Ok(())),
@@ -98,7 +103,7 @@ const ROWS: &[Row] = &[
                         Step::Read(192, &[4; 64], Ok(())),
                         Step::Write(64, &[6; 64], false, Ok(())),
                     ],
-                    ..QUIET
+                    ..TWO_TURNED
                 },
             ),
             (
@@ -124,13 +129,8 @@ const ROWS: &[Row] = &[
         lives: &[(
             Turn::TwoIn(9),
             Life {
-                synced: 9,
-                flushed: 9,
-                turned: 510,
-                unread: 1,
-                bad: 1,
                 steps: ALL,
-                ..QUIET
+                ..TWO_TURNED
             },
         )],
     },
