@@ -110,8 +110,18 @@ fn expect_both(
 ) -> Result<(), AllocError> {
     let before = files.kept;
     let ran = ran_line(files, line)?;
-    hold(rt, &(files.case, line), &ran.out.as_slice(), &said.0.as_bytes());
-    hold(rt, &(files.case, line), &ran.err.as_slice(), &said.1.as_bytes());
+    hold(
+        rt,
+        &(files.case, line),
+        &ran.out.as_slice(),
+        &said.0.as_bytes(),
+    );
+    hold(
+        rt,
+        &(files.case, line),
+        &ran.err.as_slice(),
+        &said.1.as_bytes(),
+    );
     hold(rt, &(files.case, line), &ran.status, &status);
     hold(rt, &(files.case, line), &files.kept, &before);
     Ok(())

@@ -75,7 +75,7 @@ returns-clause-fault g c =
     let held = c.in_ok-written.written.held.items in
     let left = c.in_ok-written.written.left in
     let put = array_put c.args.words geometry last held _ left _ (array_made c.args.words _ _ _ _ _ c.in_ok-geometry.ensures.ok c.in_ok-last.ensures.ok c.in_ok-allow_both.ensures.ok (ap g.F.LabFiles.answers same) c.in_ok-written.ensures.made)
-        (placed _ _ _ (ap g.F.LabFiles.kept same) c.in_ok-written.ensures.beside c.in_ok-keep.ensures.ok) c.deref.ensures.value c.in_ok-put_map.ensures.ok in
+    (placed _ _ _ (ap g.F.LabFiles.kept same) c.in_ok-written.ensures.beside c.in_ok-keep.ensures.ok) c.deref.ensures.value c.in_ok-put_map.ensures.ok in
     inr (inr (
       geometry,
       last,

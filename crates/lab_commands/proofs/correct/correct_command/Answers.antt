@@ -71,7 +71,7 @@ returns-clause-fault g c =
     let told = c.in_ok-told.told in
     let counts : Counts = record { turned = told.turned; touched = told.touched; losses = told.losses.items } in
     let put = corrected_put c.args.words _ counts _ _ (corrected_made c.args.words _ _ _ counts c.in_ok-geometry.ensures.ok c.in_ok-chip.ensures.ok c.in_ok-allow_both.ensures.ok (ap g.F.LabFiles.answers same) c.in_ok-told.ensures.made)
-        (placed _ _ _ (ap g.F.LabFiles.kept same) c.in_ok-told.ensures.beside c.in_ok-keep.ensures.ok) c.deref.ensures.value c.in_ok-put_map.ensures.ok in
+    (placed _ _ _ (ap g.F.LabFiles.kept same) c.in_ok-told.ensures.beside c.in_ok-keep.ensures.ok) c.deref.ensures.value c.in_ok-put_map.ensures.ok in
     let o = g.W.Output.contents c.args.out.now in
     let p = g.W.Output.contents c.print_corrected.new.out in
     let broke = g.W.Output.failed c.print_corrected.new.out in

@@ -62,7 +62,7 @@ returns-clause-fault g c =
     let last = c.in_ok-last.last in
     let marks = c.in_ok-marks.marks.items in
     let put = origin_put c.args.words geometry last marks _ _ c.in_ok-geometry.ensures.ok c.in_ok-last.ensures.ok c.in_ok-allow_origin.ensures.ok
-        (ap g.F.LabFiles.answers same) (ap g.F.LabFiles.kept same) c.in_ok-marks.ensures.followed c.follow.ensures.kept c.deref.ensures.value c.in_ok-put_origin.ensures.ok in
+    (ap g.F.LabFiles.answers same) (ap g.F.LabFiles.kept same) c.in_ok-marks.ensures.followed c.follow.ensures.kept c.deref.ensures.value c.in_ok-put_origin.ensures.ok in
     inr (
       geometry,
       last,

@@ -67,7 +67,7 @@ returns-clause-fault g c =
     let mends = c.in_ok-repaired.repaired.mends.items in
     let tries : c.tries_told-tries.result ≡ told_tries bits geometry mends = c.tries_told-tries.ensures ∙ ap (told_tries bits geometry) c.deref.ensures.value in
     let put = mended_put c.args.words geometry c.in_ok-rows.rows bits _ mends c.in_ok-geometry.ensures.ok c.in_ok-rows.ensures.ok c.in_ok-bits.ensures.ok c.in_ok-allow.ensures.ok
-        (ap g.F.LabFiles.answers same) (ap g.F.LabFiles.kept same) c.in_ok-repaired.ensures.made c.in_ok-repaired.ensures.beside c.in_ok-keep.ensures.ok in
+    (ap g.F.LabFiles.answers same) (ap g.F.LabFiles.kept same) c.in_ok-repaired.ensures.made c.in_ok-repaired.ensures.beside c.in_ok-keep.ensures.ok in
     let a = g.W.Output.contents c.args.out.now in
     let b = g.W.Output.contents c.print_repaired.new.out in
     let broke = g.W.Output.failed c.print_repaired.new.out in
