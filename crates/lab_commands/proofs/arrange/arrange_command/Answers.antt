@@ -1,4 +1,4 @@
-use Rattle.std.proofs.Common.{refl, inl, inr, ℕ, List, ap, subst, ◌∙◌}
+use Rattle.std.proofs.Common.{refl, inl, inr, ℕ, ap, subst, ◌∙◌}
 use Rattle.std.specs.Io.KnownBytes.{Appends}
 use Rattle.page_layout.specs.Geometry.{row_count}
 use Rattle.lab_commands.specs.Document.{StopsPrinting}

@@ -1,5 +1,4 @@
 use Rattle.std.proofs.Common.{inl, inr}
-use Rattle.lab_commands.specs.Arrange.{IsUnordered}
 use Rattle.lab_commands.proofs.UndoneLemmas.{handed_on, unwritten_before}
 use Rattle.lab_commands.proofs.arrange.put_in_order.Goals as goal
 

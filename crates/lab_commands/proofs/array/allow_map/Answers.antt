@@ -1,4 +1,3 @@
-use Rattle.lab_commands.specs.Array.{IsMapNotAllowed}
 use Rattle.lab_commands.proofs.ArrayLemmas.{map_unasked_out}
 use Rattle.lab_commands.proofs.UndoneLemmas.{handed_on}
 use Rattle.lab_commands.proofs.array.allow_map.Goals as goal

@@ -3,7 +3,7 @@ use Rattle.std.specs.Io.KnownBytes.{Appends}
 use Rattle.lab_commands.specs.Document.{StopsPrinting}
 use Rattle.lab_commands.proofs.PrintLemmas.{half_printed}
 use Rattle.lab_commands.specs.Reports.{compare_text}
-use Rattle.lab_commands.specs.Compare.{HasCompared, IsCompareFault}
+use Rattle.lab_commands.specs.Compare.{HasCompared}
 use Rattle.lab_commands.proofs.CompareLemmas.{compared_before, no_certificate, no_geometry, not_held, unheld_before}
 use Rattle.lab_commands.specs.declared.text.LabFault.TheVariants as fault
 use Rattle.lab_commands.proofs.UndoneLemmas.{handed_on}

@@ -1,6 +1,5 @@
 use Rattle.std.proofs.Common.{inl, inr, refl, rules}
 use Rattle.certificate.specs.Claim.{sizes_of}
-use Rattle.lab_commands.specs.Compare.{IsDumpUnheld}
 use Rattle.lab_commands.proofs.CompareLemmas.{same_sizes}
 use Rattle.lab_commands.proofs.UndoneLemmas.{handed_on}
 use Rattle.lab_commands.proofs.compare.compare_with.Goals as goal

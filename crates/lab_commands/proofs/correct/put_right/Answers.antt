@@ -1,5 +1,4 @@
 use Rattle.std.proofs.Common.{inl, inr}
-use Rattle.lab_commands.specs.Undone.{IsFileUnmade}
 use Rattle.lab_commands.proofs.UndoneLemmas.{handed_on, unwritten_before}
 use Rattle.lab_commands.proofs.correct.put_right.Goals as goal
 

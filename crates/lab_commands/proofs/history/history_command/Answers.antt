@@ -4,7 +4,7 @@ use Rattle.std.specs.Io.KnownBytes.{Appends}
 use Rattle.lab_commands.specs.Document.{StopsPrinting}
 use Rattle.lab_commands.proofs.PrintLemmas.{half_printed}
 use Rattle.lab_commands.specs.Reports.{history_text}
-use Rattle.lab_commands.specs.History.{HasHistory, IsHistoryFault}
+use Rattle.lab_commands.specs.History.{HasHistory}
 use Rattle.lab_commands.proofs.HistoryLemmas.{no_geometry, no_sector, not_told}
 use Rattle.lab_commands.specs.declared.text.LabFault.TheVariants as fault
 use Rattle.lab_commands.proofs.UndoneLemmas.{handed_on}

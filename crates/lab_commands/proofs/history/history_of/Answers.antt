@@ -1,5 +1,4 @@
 use Rattle.std.proofs.Common.{inl}
-use Rattle.lab_commands.specs.Survey.{IsUnsurveyed}
 use Rattle.lab_commands.proofs.UndoneLemmas.{handed_on}
 use Rattle.lab_commands.proofs.history.history_of.Goals as goal
 

@@ -1,6 +1,4 @@
 use Rattle.std.proofs.Common.{◌∙◌, arith}
-use Rattle.program_words.specs.Met.{texts}
-use Rattle.lab_commands.specs.Merge.{IsSomeUnread}
 use Rattle.lab_commands.proofs.MergeLemmas.{opened_more, unopened_at}
 use Rattle.lab_commands.proofs.UndoneLemmas.{handed_on, no_more_then}
 use Rattle.lab_commands.proofs.merge.open_all.Goals as goal

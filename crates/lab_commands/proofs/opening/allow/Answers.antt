@@ -1,4 +1,3 @@
-use Rattle.lab_commands.specs.Undone.{MayNotWrite}
 use Rattle.lab_commands.proofs.UndoneLemmas.{handed_on, unasked_file}
 use Rattle.lab_commands.proofs.opening.allow.Goals as goal
 

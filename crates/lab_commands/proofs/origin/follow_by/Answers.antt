@@ -7,7 +7,7 @@ use Rattle.lab_origin.specs.Traced.{ArePinned, IsOfSome, IsUntraced}
 use Rattle.lab_origin.specs.Tracing.{Tell}
 use Rattle.program_words.specs.Met.{texts}
 use Rattle.lab_commands.specs.Merge.{AreOpened, IsSomeUnread}
-use Rattle.lab_commands.specs.Origin.{IsUnfollowed, readings_of}
+use Rattle.lab_commands.specs.Origin.{readings_of}
 use Rattle.lab_commands.proofs.MergeLemmas.{failed_one}
 use Rattle.lab_commands.proofs.OriginLemmas.{each_opened_before, some_unread_before, untraced_as}
 use Rattle.lab_commands.proofs.UndoneLemmas.{handed_on}

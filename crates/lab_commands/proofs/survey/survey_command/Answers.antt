@@ -3,7 +3,7 @@ use Rattle.std.specs.Io.KnownBytes.{Appends}
 use Rattle.lab_commands.specs.Document.{StopsPrinting}
 use Rattle.lab_commands.proofs.PrintLemmas.{half_printed}
 use Rattle.lab_commands.specs.Reports.{survey_text}
-use Rattle.lab_commands.specs.Survey.{HasSurvey, IsSurveyFault}
+use Rattle.lab_commands.specs.Survey.{HasSurvey}
 use Rattle.lab_commands.proofs.SurveyLemmas.{no_geometry, no_rows, not_seen}
 use Rattle.lab_commands.specs.declared.text.LabFault.TheVariants as fault
 use Rattle.lab_commands.proofs.UndoneLemmas.{handed_on}
