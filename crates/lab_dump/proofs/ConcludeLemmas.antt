@@ -268,11 +268,11 @@ summed_more g image n unsound holes d new x h few is us hs e = subst (AreSummed 
         let b4 = upto_few (λ row. (is_hole g image row && is_factory g image (row / g.pages)) && nat_lt (row / g.pages) (n + 1)) (length image) in
         let b5 = upto_few (λ row. (is_unsound_at image row && is_rewritten g image (row / g.pages)) && nat_lt (row / g.pages) (n + 1)) (length image) in
         let b6 = upto_few (λ row. (is_hole g image row && is_rewritten g image (row / g.pages)) && nat_lt (row / g.pages) (n + 1)) (length image) in
-        let open : not (is_excused g image n) ≡ not (f || r) = ap (λ y. not (y || is_rewritten g image n)) is_f ∙ ap (λ y. not (f || y)) is_r in
+        let neither : not (is_excused g image n) ≡ not (f || r) = ap (λ y. not (y || is_rewritten g image n)) is_f ∙ ap (λ y. not (f || y)) is_r in
         subst (λ y. AreSummed g image (n + 1) (added d (cond y Factory (cond (is_rewritten g image n) Rewritten Open)) unsound holes)) (sym is_f)
         (subst (λ y. AreSummed g image (n + 1) (added d (cond f Factory (cond y Rewritten Open)) unsound holes)) (sym is_r)
         (cases f r (λ t. sym is_r ∙ factory_alone g image n (is_f ∙ t))
-        (below_next g image (is_unsound_at image) (λ b. not (is_excused g image b)) n _ open) (below_next g image (is_hole g image) (λ b. not (is_excused g image b)) n _ open)
+        (below_next g image (is_unsound_at image) (λ b. not (is_excused g image b)) n _ neither) (below_next g image (is_hole g image) (λ b. not (is_excused g image b)) n _ neither)
         (below_next g image (is_unsound_at image) (is_factory g image) n f is_f) (below_next g image (is_hole g image) (is_factory g image) n f is_f)
         (below_next g image (is_unsound_at image) (is_rewritten g image) n r is_r) (below_next g image (is_hole g image) (is_rewritten g image) n r is_r)
         b1 b2 b3 b4 b5 b6))
