@@ -10,7 +10,8 @@ use Rattle.lab_dump.specs.declared.told.PagesTold.{PagesTold}
 use Rattle.lab_dump.specs.Sample.{sample_of}
 use Rattle.lab_dump.specs.Told.{pages_told_of}
 use Rattle.lab_dump.specs.Fits.{area_fits}
-use Rattle.lab_dump.proofs.FitLemmas.{IsAsOf}
+use Rattle.lab_dump.specs.Shape.{has_shape}
+use Rattle.lab_dump.proofs.FitLemmas.{IsAsOf, area_unsound}
 use Rattle.lab_correct.specs.Decoded.{decoded_bytes, raw_size}
 use Rattle.lab_correct.specs.Coded.{are_coded_pages, coded_area_fits}
 use Rattle.lab_correct.proofs.DecodedLemmas.{length-decoded_bytes}
@@ -50,3 +51,11 @@ pub told_of_areas : (g : Geometry) (d s : ℕ) (all : List ℕ) (x : PagesTold) 
 told_of_areas g d s all x e f rows h =
     h (rows ∙ sym (ap (λ k. length all / raw_size k g.spare_bytes) e ∙ ap (λ k. length all / raw_size d k) f))
     ∙ ap (pages_told_of g.data_bytes g.spare_bytes (row_count g)) (ap (λ k. decoded_bytes k g.spare_bytes all) e ∙ ap (λ k. decoded_bytes d k all) f)
+
+-- where no page that is looked at is sound
+pub coded_unsound : (g : Geometry) (d s size plain : ℕ) (all : List ℕ) (x : Sample) (items : List Fit) → size ≡ length all → are_coded_pages size d s ≡ true → plain ≡ size / raw_size d s * (d + s) → 0 < d → IsAsOf g plain d s → has_shape plain d s ≡ true
+    → (row_count g ≡ length all / raw_size g.data_bytes g.spare_bytes → x ≡ sample_of g.data_bytes g.spare_bytes (row_count g) (decoded_bytes g.data_bytes g.spare_bytes all)) → x.sound ≡ 0 → items ≡ items ++ coded_area_fits all d s
+coded_unsound g d s size plain all x items e coded is some like shaped sampled none =
+    let rows = like_of g d s size plain all e is some like in
+    let sample = sample_of_areas g d s all x like.data_is like.spare_is rows sampled in
+    coded_some d s all items items (ap (λ n. are_coded_pages n d s) (sym e) ∙ coded) (area_unsound g plain d s (decoded_bytes d s all) x items like (plain_size d s size plain all e is) shaped sample none)

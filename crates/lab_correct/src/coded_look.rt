@@ -6,7 +6,7 @@ ghost use Rattle.lab_dump.specs.Told.{pages_told_of};
 ghost use Rattle.lab_correct.specs.Decoded.{decoded_bytes, raw_size};
 
 use crate::coded_page::read_decoded;
-use lab_dump::{Dump, DumpFault, PagesTold, Sample, look_in, looked_count, looked_row};
+use lab_dump::{Dump, DumpFault, PagesTold, Sample, look_in, looked_row};
 use page_layout::geometry::Geometry;
 
 /// What the pages are of the rows that are looked at, each put right.
@@ -24,15 +24,9 @@ pub(crate) fn sample_decoded<D: Dump>(
     ensures failed { OnErr result (D.failed dump.new ≡ true) }
     ensures same { D.bytes dump.new ≡ D.bytes dump.old }
 {
-    let rows = geometry.rows();
-    let looked = looked_count(rows);
-    let mut sample = Sample {
-        looked,
-        sound: 0,
-        unsound: 0,
-    };
-    for place in 0..looked {
-        let row = looked_row(rows, place);
+    let mut sample = Sample::none(geometry);
+    for place in 0..sample.looked {
+        let row = looked_row(geometry.rows(), place);
         read_decoded(dump, geometry, row, raw, page)?;
         sample = sample.noted(look_in(geometry, page));
     }

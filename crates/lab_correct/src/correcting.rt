@@ -5,7 +5,7 @@ ghost use Rattle.page_layout.specs.Page.{Page, Image};
 ghost use Rattle.page_code.specs.Near.{HasChipSizes};
 ghost use Rattle.lab_correct.specs.Correcting.{CorrectingStands, IsPieceMade, Shows, noted, touches};
 
-use lab_dump::{PageTarget, Stopped, Taker};
+use lab_dump::{Areas, PageTarget, Stopped, Taker};
 use page_code::{Tally, correct_page};
 use page_layout::geometry::Geometry;
 
@@ -96,14 +96,8 @@ impl<T: PageTarget> Taker for Correcting<T> {
 
     ghost stopped = { λ s. T.failed s.target ≡ true };
 
-    fn take(
-        &mut self,
-        geometry: &Geometry,
-        row: u32,
-        body: &[u8],
-        spare: &[u8],
-    ) -> Result<(), Stopped> {
-        let tally = correct_page(&self.geometry, body, spare, &mut self.scratch);
+    fn take(&mut self, geometry: &Geometry, row: u32, areas: Areas<'_>) -> Result<(), Stopped> {
+        let tally = correct_page(&self.geometry, areas.body, areas.spare, &mut self.scratch);
         self.put(geometry, row, tally)
     }
 }

@@ -26,35 +26,10 @@ use Rattle.image_check.specs.Survey.{index_of}
 use Rattle.image_check.proofs.SurveyLemmas.{index_within}
 use Rattle.lab_dump.specs.Count.{is_in_range, is_outside, one}
 use Rattle.lab_dump.specs.Bad.{HasNewer, IsRewritten, IsPlain, is_tied, is_plain, is_rewritten, keeps_below, key_at, latest_at, strange_of, ties_below, RewrittenLaw, RewrittenToldLaw}
-use Rattle.lab_dump.proofs.CountLemmas.{range_last}
+use Rattle.lab_dump.proofs.AnyLemmas.{any_at, any_more, any_same}
 use Rattle.lab_dump.proofs.TraceLemmas.{key_found, place_is}
 
 -- ---- some of the first numbers
-
-pub any_more : (f : ℕ → Bool) (n : ℕ) → list_any f (range_with_len 0 (suc n)) ≡ (list_any f (range_with_len 0 n) || f n)
-any_more f n = ap (list_any f) (range_last 0 n n (omega arith)) ∙ (list_any-append f (range_with_len 0 n) (n ∷ []) ∙ ap (λ b. list_any f (range_with_len 0 n) || b) (alone (f n)))
-  where
-    alone : (b : Bool) → (b || false) ≡ b
-    alone true = refl
-    alone false = refl
-
-pub any_same : (f h : ℕ → Bool) (n : ℕ) → ((i : ℕ) → i < n → f i ≡ h i) → list_any f (range_with_len 0 n) ≡ list_any h (range_with_len 0 n)
-any_same f h zero e = refl
-any_same f h (suc n) e = any_more f n ∙ (ap (λ b. b || f n) (any_same f h n (λ i l. e i (omega arith))) ∙ (ap (λ b. list_any h (range_with_len 0 n) || b) (e n (omega arith)) ∙ sym (any_more h n)))
-
-pub any_at : (f : ℕ → Bool) (n i : ℕ) → i < n → f i ≡ true → list_any f (range_with_len 0 n) ≡ true
-any_at f zero i l e = absurd (omega arith)
-any_at f (suc n) i l e = elim (cases_eq i n) [
-  | inl same ↦ any_more f n ∙ (ap (λ b. list_any f (range_with_len 0 n) || b) (ap f (sym same) ∙ e) ∙ last (list_any f (range_with_len 0 n)))
-  | inr ne ↦ any_more f n ∙ ap (λ b. b || f n) (any_at f n i (below i n l ne) e)
-]
-  where
-    last : (b : Bool) → (b || true) ≡ true
-    last true = refl
-    last false = refl
-
-    below : (i n : ℕ) → i < suc n → i ≢ n → i < n
-    below i n l ne = elim (cases_order i n) [ inl same ↦ absurd (ne same) | inr (inl less) ↦ less | inr (inr more) ↦ absurd (omega arith) ]
 
 -- one that passes
 pub record Passes (f : ℕ → Bool) (n : ℕ) : Type 0 where

@@ -39,7 +39,7 @@ use Rattle.lab_dump.specs.Said.{said_below}
 use Rattle.lab_dump.specs.Concluding.{IsSeen, added, capped, excuse_by, excuse_of, keeps_in, one_open, ties_in}
 use Rattle.lab_dump.proofs.DoubtLemmas.{upto, upto_more, upto_none, upto_same, upto_sum, upto_pages, some_pages}
 use Rattle.lab_dump.proofs.TraceLemmas.{held_at, tells_place, tells_tied}
-use Rattle.lab_dump.proofs.BadLemmas.{any_at, any_more, any_same}
+use Rattle.lab_dump.proofs.AnyLemmas.{any_at, any_more, any_same}
 
 -- ---- ties, and the blocks that keep a newest page
 
@@ -249,144 +249,68 @@ pub excuse_is : (g : Geometry) (image : Image) (block class : ℕ) (plain kept :
 unfolding is_rewritten
 excuse_is g image block class plain kept x is c p k = is ∙ (ap (λ n. excuse_by n plain kept) c ∙ (ap (λ b. excuse_by (table_class g image block) b kept) p ∙ ap (excuse_by (table_class g image block) (is_plain g image)) k))
 
+-- one block more adds its own where it counts
+abbrev IsNext : Geometry → Image → (ℕ → Bool) → (ℕ → Bool) → ℕ → Bool → Type 0
+IsNext g image test counts n b = below g image test counts (n + 1) ≡ below g image test counts n + cond b (of_block g image test n) 0
+
+below_next : (g : Geometry) (image : Image) (test counts : ℕ → Bool) (n : ℕ) (b : Bool) → counts n ≡ b → IsNext g image test counts n b
+below_next g image test counts n b is = below_more g image test counts n ∙ ap (λ y. below g image test counts n + cond y (of_block g image test n) 0) is
+
 pub summed_more : (g : Geometry) (image : Image) (n unsound holes : ℕ) (d new : Doubts) (x : Excuse) → AreSummed g image n d → length image < 2 ^ 31 → x ≡ excuse_of g image n → unsound ≡ of_block g image (is_unsound_at image) n → holes ≡ of_block g image (is_hole g image) n
     → new ≡ added d x unsound holes → AreSummed g image (n + 1) new
 summed_more g image n unsound holes d new x h few is us hs e = subst (AreSummed g image (n + 1)) (sym (e ∙ ap (λ y. added d y unsound holes) is)) (by (is_factory g image n) (is_rewritten g image n) refl refl)
   where
     by : (f r : Bool) → is_factory g image n ≡ f → is_rewritten g image n ≡ r → AreSummed g image (n + 1) (added d (cond (is_factory g image n) Factory (cond (is_rewritten g image n) Rewritten Open)) unsound holes)
     by f r is_f is_r =
-        let uo = below_more g image (is_unsound_at image) (λ b. not (is_excused g image b)) n in
-        let ho = below_more g image (is_hole g image) (λ b. not (is_excused g image b)) n in
-        let uf = below_more g image (is_unsound_at image) (is_factory g image) n in
-        let hf = below_more g image (is_hole g image) (is_factory g image) n in
-        let ur = below_more g image (is_unsound_at image) (is_rewritten g image) n in
-        let hr = below_more g image (is_hole g image) (is_rewritten g image) n in
         let b1 = upto_few (λ row. (is_unsound_at image row && not (is_excused g image (row / g.pages))) && nat_lt (row / g.pages) (n + 1)) (length image) in
         let b2 = upto_few (λ row. (is_hole g image row && not (is_excused g image (row / g.pages))) && nat_lt (row / g.pages) (n + 1)) (length image) in
         let b3 = upto_few (λ row. (is_unsound_at image row && is_factory g image (row / g.pages)) && nat_lt (row / g.pages) (n + 1)) (length image) in
         let b4 = upto_few (λ row. (is_hole g image row && is_factory g image (row / g.pages)) && nat_lt (row / g.pages) (n + 1)) (length image) in
         let b5 = upto_few (λ row. (is_unsound_at image row && is_rewritten g image (row / g.pages)) && nat_lt (row / g.pages) (n + 1)) (length image) in
         let b6 = upto_few (λ row. (is_hole g image row && is_rewritten g image (row / g.pages)) && nat_lt (row / g.pages) (n + 1)) (length image) in
-        let u0 = h.unsound_is in
-        let h0 = h.holes_is in
-        let f0 = h.factory_is in
-        let r0 = h.rewritten_is in
-        cases f r is_f is_r uo ho uf hf ur hr b1 b2 b3 b4 b5 b6
+        let neither : not (is_excused g image n) ≡ not (f || r) = ap (λ y. not (y || is_rewritten g image n)) is_f ∙ ap (λ y. not (f || y)) is_r in
+        subst (λ y. AreSummed g image (n + 1) (added d (cond y Factory (cond (is_rewritten g image n) Rewritten Open)) unsound holes)) (sym is_f)
+        (subst (λ y. AreSummed g image (n + 1) (added d (cond f Factory (cond y Rewritten Open)) unsound holes)) (sym is_r)
+        (cases f r (λ t. sym is_r ∙ factory_alone g image n (is_f ∙ t))
+        (below_next g image (is_unsound_at image) (λ b. not (is_excused g image b)) n _ neither) (below_next g image (is_hole g image) (λ b. not (is_excused g image b)) n _ neither)
+        (below_next g image (is_unsound_at image) (is_factory g image) n f is_f) (below_next g image (is_hole g image) (is_factory g image) n f is_f)
+        (below_next g image (is_unsound_at image) (is_rewritten g image) n r is_r) (below_next g image (is_hole g image) (is_rewritten g image) n r is_r)
+        b1 b2 b3 b4 b5 b6))
       where
-        open_at : (f r : Bool) → is_factory g image n ≡ f → is_rewritten g image n ≡ r → not (is_excused g image n) ≡ not (f || r)
-        open_at f r a b = ap (λ y. not (y || is_rewritten g image n)) a ∙ ap (λ y. not (f || y)) b
-
-        cases : (f r : Bool) → is_factory g image n ≡ f → is_rewritten g image n ≡ r
-            → below g image (is_unsound_at image) (λ b. not (is_excused g image b)) (n + 1) ≡ below g image (is_unsound_at image)
-            (λ b. not (is_excused g image b)) n + cond (not (is_excused g image n)) (of_block g image (is_unsound_at image) n) 0
-            → below g image (is_hole g image) (λ b. not (is_excused g image b)) (n + 1) ≡ below g image (is_hole g image)
-            (λ b. not (is_excused g image b)) n + cond (not (is_excused g image n)) (of_block g image (is_hole g image) n) 0
-            → below g image (is_unsound_at image) (is_factory g image) (n + 1) ≡ below g image (is_unsound_at image) (is_factory g image) n + cond
-            (is_factory g image n) (of_block g image (is_unsound_at image) n) 0
-            → below g image (is_hole g image) (is_factory g image) (n + 1) ≡ below g image (is_hole g image) (is_factory g image) n + cond
-            (is_factory g image n) (of_block g image (is_hole g image) n) 0
-            → below g image (is_unsound_at image) (is_rewritten g image) (n + 1) ≡ below g image (is_unsound_at image) (is_rewritten g image) n + cond
-            (is_rewritten g image n) (of_block g image (is_unsound_at image) n) 0
-            → below g image (is_hole g image) (is_rewritten g image) (n + 1) ≡ below g image (is_hole g image) (is_rewritten g image) n + cond
-            (is_rewritten g image n) (of_block g image (is_hole g image) n) 0
+        -- by the excuse, of which the block has one at most
+        cases : (f r : Bool) → (f ≡ true → r ≡ false)
+            → IsNext g image (is_unsound_at image) (λ b. not (is_excused g image b)) n (not (f || r)) → IsNext g image (is_hole g image) (λ b. not (is_excused g image b)) n (not (f || r))
+            → IsNext g image (is_unsound_at image) (is_factory g image) n f → IsNext g image (is_hole g image) (is_factory g image) n f
+            → IsNext g image (is_unsound_at image) (is_rewritten g image) n r → IsNext g image (is_hole g image) (is_rewritten g image) n r
             → below g image (is_unsound_at image) (λ b. not (is_excused g image b)) (n + 1) ≤ length image
             → below g image (is_hole g image) (λ b. not (is_excused g image b)) (n + 1) ≤ length image
             → below g image (is_unsound_at image) (is_factory g image) (n + 1) ≤ length image
             → below g image (is_hole g image) (is_factory g image) (n + 1) ≤ length image
             → below g image (is_unsound_at image) (is_rewritten g image) (n + 1) ≤ length image
             → below g image (is_hole g image) (is_rewritten g image) (n + 1) ≤ length image
-            → AreSummed g image (n + 1) (added d (cond (is_factory g image n) Factory (cond (is_rewritten g image n) Rewritten Open)) unsound holes)
-        cases true r is_f is_r uo ho uf hf ur hr b1 b2 b3 b4 b5 b6 =
-            let none : is_rewritten g image n ≡ false = factory_alone g image n is_f in
-            let o : not (is_excused g image n) ≡ false = open_at true (is_rewritten g image n) is_f refl in
-            let uo' : below g image (is_unsound_at image) (λ b. not (is_excused g image b)) (n + 1) ≡ below g image (is_unsound_at image)
-            (λ b. not (is_excused g image b)) n + 0 = uo ∙ ap
-            (λ y. below g image (is_unsound_at image) (λ b. not (is_excused g image b)) n + cond y (of_block g image (is_unsound_at image) n) 0) o
-            in
-            let ho' : below g image (is_hole g image) (λ b. not (is_excused g image b)) (n + 1) ≡ below g image (is_hole g image)
-            (λ b. not (is_excused g image b)) n + 0 = ho ∙ ap
-            (λ y. below g image (is_hole g image) (λ b. not (is_excused g image b)) n + cond y (of_block g image (is_hole g image) n) 0) o in
-            let uf' : below g image (is_unsound_at image) (is_factory g image) (n + 1) ≡ below g image (is_unsound_at image) (is_factory g image) n +
-            of_block g image (is_unsound_at image) n = uf ∙ ap
-            (λ y. below g image (is_unsound_at image) (is_factory g image) n + cond y (of_block g image (is_unsound_at image) n) 0) is_f in
-            let hf' : below g image (is_hole g image) (is_factory g image) (n + 1) ≡ below g image (is_hole g image) (is_factory g image) n + of_block
-            g image (is_hole g image) n = hf ∙ ap
-            (λ y. below g image (is_hole g image) (is_factory g image) n + cond y (of_block g image (is_hole g image) n) 0) is_f in
-            let ur' : below g image (is_unsound_at image) (is_rewritten g image) (n + 1) ≡ below g image (is_unsound_at image) (is_rewritten g image)
-            n + 0 = ur ∙ ap
-            (λ y. below g image (is_unsound_at image) (is_rewritten g image) n + cond y (of_block g image (is_unsound_at image) n) 0) none in
-            let hr' : below g image (is_hole g image) (is_rewritten g image) (n + 1) ≡ below g image (is_hole g image) (is_rewritten g image) n + 0 = hr ∙ ap (λ y. below g image (is_hole g image) (is_rewritten g image) n + cond y (of_block g image (is_hole g image) n) 0) none in
-            let u0 = h.unsound_is in
-            let h0 = h.holes_is in
-            let f0 = h.factory_is in
-            let r0 = h.rewritten_is in
-            subst (λ y. AreSummed g image (n + 1) (added d (cond y Factory (cond (is_rewritten g image n) Rewritten Open)) unsound holes)) (sym is_f) (record {
-              unsound_is = omega arith;
-              holes_is = omega arith;
-              factory_is = omega arith;
-              rewritten_is = omega arith;
-              outside_is = h.outside_is;
-            })
-        cases false true is_f is_r uo ho uf hf ur hr b1 b2 b3 b4 b5 b6 =
-            let o : not (is_excused g image n) ≡ false = open_at false true is_f is_r in
-            let uo' : below g image (is_unsound_at image) (λ b. not (is_excused g image b)) (n + 1) ≡ below g image (is_unsound_at image)
-            (λ b. not (is_excused g image b)) n + 0 = uo ∙ ap
-            (λ y. below g image (is_unsound_at image) (λ b. not (is_excused g image b)) n + cond y (of_block g image (is_unsound_at image) n) 0) o
-            in
-            let ho' : below g image (is_hole g image) (λ b. not (is_excused g image b)) (n + 1) ≡ below g image (is_hole g image)
-            (λ b. not (is_excused g image b)) n + 0 = ho ∙ ap
-            (λ y. below g image (is_hole g image) (λ b. not (is_excused g image b)) n + cond y (of_block g image (is_hole g image) n) 0) o in
-            let uf' : below g image (is_unsound_at image) (is_factory g image) (n + 1) ≡ below g image (is_unsound_at image) (is_factory g image) n +
-            0 = uf ∙ ap (λ y. below g image (is_unsound_at image) (is_factory g image) n + cond y (of_block g image (is_unsound_at image) n) 0)
-            is_f in
-            let hf' : below g image (is_hole g image) (is_factory g image) (n + 1) ≡ below g image (is_hole g image) (is_factory g image) n + 0 = hf ∙ ap (λ y. below g image (is_hole g image) (is_factory g image) n + cond y (of_block g image (is_hole g image) n) 0) is_f in
-            let ur' : below g image (is_unsound_at image) (is_rewritten g image) (n + 1) ≡ below g image (is_unsound_at image) (is_rewritten g image)
-            n + of_block g image (is_unsound_at image) n = ur ∙ ap
-            (λ y. below g image (is_unsound_at image) (is_rewritten g image) n + cond y (of_block g image (is_unsound_at image) n) 0) is_r in
-            let hr' : below g image (is_hole g image) (is_rewritten g image) (n + 1) ≡ below g image (is_hole g image) (is_rewritten g image) n +
-            of_block g image (is_hole g image) n = hr ∙ ap
-            (λ y. below g image (is_hole g image) (is_rewritten g image) n + cond y (of_block g image (is_hole g image) n) 0) is_r in
-            let u0 = h.unsound_is in
-            let h0 = h.holes_is in
-            let f0 = h.factory_is in
-            let r0 = h.rewritten_is in
-            subst (λ y. AreSummed g image (n + 1) (added d (cond y Factory (cond (is_rewritten g image n) Rewritten Open)) unsound holes)) (sym is_f) (
-            subst (λ y. AreSummed g image (n + 1) (added d (cond y Rewritten Open) unsound holes)) (sym is_r) (record {
-              unsound_is = omega arith;
-              holes_is = omega arith;
-              factory_is = omega arith;
-              rewritten_is = omega arith;
-              outside_is = h.outside_is;
-            }))
-        cases false false is_f is_r uo ho uf hf ur hr b1 b2 b3 b4 b5 b6 =
-            let o : not (is_excused g image n) ≡ true = open_at false false is_f is_r in
-            let uo' : below g image (is_unsound_at image) (λ b. not (is_excused g image b)) (n + 1) ≡ below g image (is_unsound_at image)
-            (λ b. not (is_excused g image b)) n + of_block g image (is_unsound_at image) n = uo ∙ ap
-            (λ y. below g image (is_unsound_at image) (λ b. not (is_excused g image b)) n + cond y (of_block g image (is_unsound_at image) n) 0) o
-            in
-            let ho' : below g image (is_hole g image) (λ b. not (is_excused g image b)) (n + 1) ≡ below g image (is_hole g image)
-            (λ b. not (is_excused g image b)) n + of_block g image (is_hole g image) n = ho ∙ ap
-            (λ y. below g image (is_hole g image) (λ b. not (is_excused g image b)) n + cond y (of_block g image (is_hole g image) n) 0) o in
-            let uf' : below g image (is_unsound_at image) (is_factory g image) (n + 1) ≡ below g image (is_unsound_at image) (is_factory g image) n +
-            0 = uf ∙ ap (λ y. below g image (is_unsound_at image) (is_factory g image) n + cond y (of_block g image (is_unsound_at image) n) 0)
-            is_f in
-            let hf' : below g image (is_hole g image) (is_factory g image) (n + 1) ≡ below g image (is_hole g image) (is_factory g image) n + 0 = hf ∙ ap (λ y. below g image (is_hole g image) (is_factory g image) n + cond y (of_block g image (is_hole g image) n) 0) is_f in
-            let ur' : below g image (is_unsound_at image) (is_rewritten g image) (n + 1) ≡ below g image (is_unsound_at image) (is_rewritten g image)
-            n + 0 = ur ∙ ap
-            (λ y. below g image (is_unsound_at image) (is_rewritten g image) n + cond y (of_block g image (is_unsound_at image) n) 0) is_r in
-            let hr' : below g image (is_hole g image) (is_rewritten g image) (n + 1) ≡ below g image (is_hole g image) (is_rewritten g image) n + 0 = hr ∙ ap (λ y. below g image (is_hole g image) (is_rewritten g image) n + cond y (of_block g image (is_hole g image) n) 0) is_r in
-            let u0 = h.unsound_is in
-            let h0 = h.holes_is in
-            let f0 = h.factory_is in
-            let r0 = h.rewritten_is in
-            subst (λ y. AreSummed g image (n + 1) (added d (cond y Factory (cond (is_rewritten g image n) Rewritten Open)) unsound holes)) (sym is_f) (
-            subst (λ y. AreSummed g image (n + 1) (added d (cond y Rewritten Open) unsound holes)) (sym is_r) (record {
-              unsound_is = omega arith;
-              holes_is = omega arith;
-              factory_is = omega arith;
-              rewritten_is = omega arith;
-              outside_is = h.outside_is;
-            }))
+            → AreSummed g image (n + 1) (added d (cond f Factory (cond r Rewritten Open)) unsound holes)
+        cases true true alone uo ho uf hf ur hr b1 b2 b3 b4 b5 b6 = absurd (true≢false (alone refl))
+        cases true false alone uo ho uf hf ur hr b1 b2 b3 b4 b5 b6 = record {
+          unsound_is = omega (arith, h.unsound_is);
+          holes_is = omega (arith, h.holes_is);
+          factory_is = omega (arith, h.factory_is);
+          rewritten_is = omega (arith, h.rewritten_is);
+          outside_is = h.outside_is;
+        }
+        cases false true alone uo ho uf hf ur hr b1 b2 b3 b4 b5 b6 = record {
+          unsound_is = omega (arith, h.unsound_is);
+          holes_is = omega (arith, h.holes_is);
+          factory_is = omega (arith, h.factory_is);
+          rewritten_is = omega (arith, h.rewritten_is);
+          outside_is = h.outside_is;
+        }
+        cases false false alone uo ho uf hf ur hr b1 b2 b3 b4 b5 b6 = record {
+          unsound_is = omega (arith, h.unsound_is);
+          holes_is = omega (arith, h.holes_is);
+          factory_is = omega (arith, h.factory_is);
+          rewritten_is = omega (arith, h.rewritten_is);
+          outside_is = h.outside_is;
+        }
 
 -- ---- what was counted of a block
 

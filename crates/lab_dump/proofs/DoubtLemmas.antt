@@ -17,6 +17,7 @@ use Rattle.page_layout.specs.Block.{is_programmed}
 use Rattle.lab_dump.specs.Count.{one}
 use Rattle.lab_dump.specs.Doubts.{has_page, is_erased_at, is_programmed_at, shows_hole, is_hole_below, is_hole, HoleLaw}
 use Rattle.lab_dump.specs.Doubting.{HasHoles, carried, ending, holes_below}
+use Rattle.lab_dump.proofs.AnyLemmas.{any_at, any_more}
 use Rattle.lab_dump.proofs.CountLemmas.{range_last, count_more}
 
 -- ---- how many of the first numbers pass a test
@@ -114,13 +115,7 @@ abbrev shown : Geometry → Image → ℕ → ℕ → Bool
 shown g image n row = list_any (shows_hole g image row) (range_with_len 0 n)
 
 shown_more : (g : Geometry) (image : Image) (n row : ℕ) → shown g image (suc n) row ≡ (shown g image n row || shows_hole g image row n)
-shown_more g image n row =
-    ap (list_any (shows_hole g image row)) (range_last 0 n n (omega arith))
-    ∙ (list_any-append (shows_hole g image row) (range_with_len 0 n) (n ∷ []) ∙ ap (λ b. shown g image n row || b) (alone (shows_hole g image row n)))
-  where
-    alone : (b : Bool) → (b || false) ≡ b
-    alone true = refl
-    alone false = refl
+shown_more g image n row = any_more (shows_hole g image row) n
 
 -- no row shows one behind it
 shown_none : (g : Geometry) (image : Image) (n row : ℕ) → n ≤ row + 1 → shown g image n row ≡ false
@@ -384,18 +379,7 @@ shown_by g image row (suc n) e = by (shown_by g image row n) (shown g image n ro
     by before false is = (n, sym (ap (λ b. b || shows_hole g image row n) is) ∙ (sym (shown_more g image n row) ∙ e))
 
 shown_at : (g : Geometry) (image : Image) (row n later : ℕ) → later < n → shows_hole g image row later ≡ true → shown g image n row ≡ true
-shown_at g image row zero later l e = absurd (omega arith)
-shown_at g image row (suc n) later l e = elim (cases_eq later n) [
-  | inl same ↦ shown_more g image n row ∙ (ap (λ b. shown g image n row || b) (ap (shows_hole g image row) (sym same) ∙ e) ∙ last (shown g image n row))
-  | inr ne ↦ shown_more g image n row ∙ ap (λ b. b || shows_hole g image row n) (shown_at g image row n later (below later n l ne) e)
-]
-  where
-    last : (b : Bool) → (b || true) ≡ true
-    last true = refl
-    last false = refl
-
-    below : (i n : ℕ) → i < suc n → i ≢ n → i < n
-    below i n l ne = elim (cases_order i n) [ inl same ↦ absurd (ne same) | inr (inl less) ↦ less | inr (inr more) ↦ absurd (omega arith) ]
+shown_at g image row n later l e = any_at (shows_hole g image row) n later l e
 
 page_within : (test : Page → Bool) (image : Image) (row : ℕ) → has_page test (slice_get image row) ≡ true → row < length image
 page_within test [] row e = absurd (true≢false (sym e))

@@ -1,4 +1,6 @@
 pub mod PageLemmas
+pub mod PieceLemmas
+pub mod GeometryLemmas
 pub mod ScanLemmas
 pub mod RowLemmas
 pub mod WritingLemmas
@@ -10,6 +12,7 @@ pub mod ComparingLemmas
 pub mod CountLemmas
 pub mod DoubtLemmas
 pub mod TraceLemmas
+mod AnyLemmas
 pub mod BadLemmas
 pub mod SaidLemmas
 pub mod ConcludeLemmas

@@ -34,6 +34,10 @@ cut_untaken g a b Failed f h e = subst (λ (x : PassFault). IfSome a (IsUntaken 
 pub stopped_untaken : (g : Geometry) (a : Option (List ℕ)) (f : PassFault) → f ≡ fault.Stopped → IfSome a (IsUntaken g f)
 stopped_untaken g a f e = subst (λ (x : PassFault). IfSome a (IsUntaken g x)) (sym e) (if_all a (IsUntaken g fault.Stopped) (λ bytes. tt))
 
+-- all rows were read where so many were and there are no more
+pub read_all : (g : Geometry) (row : ℕ) (a b : Option (List ℕ)) (shows : ℕ → Image → Type 0) → row ≡ row_count g → IsReadTo g row a b (shows row) → IsReadTo g (row_count g) a b (shows (row_count g))
+read_all g row a b shows all read = subst (λ n. IsReadTo g n a b (shows n)) all read
+
 pub end_untaken : (g : Geometry) (a b : Option (List ℕ)) (shows : Image → Type 0) (f : PassFault) → IsReadTo g (row_count g) a b shows → (f ≡ fault.Source) ⊎ ((f ≡ fault.WrongLength) × HasMore b) → IfSome a (IsUntaken g f)
 end_untaken g a b shows f h (inl e) = subst (λ (x : PassFault). IfSome a (IsUntaken g x)) (sym e) (source_untaken g a)
 end_untaken g a b shows f h (inr w) = subst (λ (x : PassFault). IfSome a (IsUntaken g x)) (sym w.0) (read_past g a b shows h w.1)

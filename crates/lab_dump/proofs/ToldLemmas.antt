@@ -1,5 +1,5 @@
 -- What pages tell, one page more.
-use Rattle.std.proofs.Common.{◌≡◌, ℕ, suc, ◌+◌, ◌*◌, ◌/◌, ◌%◌, ◌≤◌, List, length, refl, sym, ap, ◌∙◌, subst, arith, count_by, Bool, true, false, Option, Some, None, inl, inr, slice_index, slice_range, le_trans}
+use Rattle.std.proofs.Common.{◌≡◌, ℕ, suc, ◌+◌, ◌*◌, ◌/◌, ◌%◌, ◌≤◌, List, length, refl, sym, ap, ◌∙◌, subst, arith, count_by, Bool, true, false, Option, Some, None, inl, inr, slice_index, slice_range, le_trans, take, length-take-le}
 use Rattle.std.specs.Prelude.{◌||◌, max, nat_lt}
 use Rattle.std.proofs.lemmas.Bool.{ltb-false, true≢false}
 use Rattle.std.specs.List.{range_with_len}
@@ -7,6 +7,8 @@ use Rattle.page_layout.specs.Word.{word_at}
 use Rattle.std.proofs.lemmas.List.Sums.{count_by-le-length}
 use Rattle.std.proofs.lemmas.List.FromFn.{length-range_with_len}
 use Rattle.byteorder.specs.Endian.{little_number}
+use Rattle.page_layout.specs.declared.geometry.Geometry.{Geometry}
+use Rattle.page_layout.specs.Geometry.{page_bytes}
 use Rattle.page_layout.specs.declared.record.Record.{Record}
 use Rattle.page_layout.specs.declared.record.Kind.{Kind}
 use Rattle.page_layout.specs.declared.record.Kind.TheVariants as kind
@@ -16,7 +18,7 @@ use Rattle.page_layout.proofs.RecordLemmas.{is_sound}
 use Rattle.lab_dump.specs.Look.{look_by, look_of}
 use Rattle.lab_dump.specs.declared.look.Look.{Look}
 use Rattle.lab_dump.specs.declared.told.PagesTold.{PagesTold}
-use Rattle.lab_dump.specs.Pages.{page_at}
+use Rattle.lab_dump.specs.Pages.{page_at, page_in}
 use Rattle.lab_dump.specs.Sample.{look_at}
 use Rattle.lab_dump.specs.Told.{words_used, blocks_of, sectors_of, blocks_by, sectors_by, blocks_at, sectors_at, greatest, pages_told_of, raised, may_raise, most_by, most_in}
 use Rattle.lab_dump.proofs.SampleLemmas.{one, count_last}
@@ -53,6 +55,12 @@ told_more d s row all body t new look old is there size e =
     e ∙ (ap (λ k. raised k look body) old ∙ (ap (λ k. raised (pages_told_of d s row all) k body) is ∙ (rw (a, b) (
     ap (λ n. record { blocks = max (greatest (blocks_at d s all) row) (blocks_by (look_at d s all row) body); sectors = max (greatest (sectors_at d s all) row) (sectors_by (look_at d s all row) (n / 4)) }) size
     ∙ ap (λ x. record { blocks = max (greatest (blocks_at d s all) row) (blocks_by (look_at d s all row) x); sectors = max (greatest (sectors_at d s all) row) (sectors_at d s all row) }) there))))
+
+-- a page of which the bytes are known
+pub told_page : (g : Geometry) (row : ℕ) (all bytes : List ℕ) (t new : PagesTold) → t ≡ pages_told_of g.data_bytes g.spare_bytes row all → page_in g.data_bytes bytes ≡ page_at g.data_bytes g.spare_bytes all row → length bytes ≡ page_bytes g
+    → new ≡ raised t (look_of (page_in g.data_bytes bytes)) (take g.data_bytes bytes) → new ≡ pages_told_of g.data_bytes g.spare_bytes (row + 1) all
+told_page g row all bytes t new old there whole e =
+    told_more g.data_bytes g.spare_bytes row all (take g.data_bytes bytes) t new (look_of (page_in g.data_bytes bytes)) old (ap look_of there) (ap (λ p. p.body) there) (length-take-le g.data_bytes bytes (omega arith)) e
 
 -- ---- a page that tells no more
 

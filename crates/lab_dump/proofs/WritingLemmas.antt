@@ -124,6 +124,14 @@ sized_after g Newest n bytes (Some ps) sized = length-set ps n bytes ∙ sized
 sized_after g Tie n bytes None sized = tt
 sized_after g Tie n bytes (Some ps) sized = length-set ps n (zeros g) ∙ sized
 
+-- what holds whatever the pages were holds after one more
+pub stands_after : (g : Geometry) (hs : List Held) (x : Held) (change : Change) (n : ℕ) (blank bytes : List ℕ) (pieces after : Option (List (List ℕ))) → WritingStands g hs blank pieces → after ≡ pieces_after change n bytes (zeros g) pieces → WritingStands g (set hs n x) blank after
+stands_after g hs x change n blank bytes pieces after stands is = record {
+  size = length-set hs n x ∙ stands.size;
+  blank_is = stands.blank_is;
+  sized = subst (λ ps. IfSome ps (AreSized g)) (sym is) (sized_after g change n bytes pieces stands.sized);
+}
+
 -- the record is of a sector of the die, this one
 pub within_is : (g : Geometry) (r : Record) (n : ℕ) → sector_in g r ≡ Some n → (key_of r ≡ key.Sector n) × (n < g.sectors)
 within_is g r n e = by (key_of r) refl e

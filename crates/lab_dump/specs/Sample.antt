@@ -47,6 +47,10 @@ sample_of data_bytes spare_bytes rows all = record {
   unsound = looked_by is_unsound data_bytes spare_bytes rows all (looked_count rows);
 }
 
+-- the sample before a page is looked at
+abbrev pub none_looked : ℕ → Sample
+none_looked rows = record { looked = looked_count rows; sound = 0; unsound = 0 }
+
 -- the sample with one page more
 abbrev pub noted : Sample → Look → Sample
 noted s (Sound r) = record { looked = s.looked; sound = s.sound + 1; unsound = s.unsound }

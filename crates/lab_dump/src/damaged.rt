@@ -14,7 +14,7 @@ ghost use Rattle.lab_dump.specs.Writing.{WritingStands, Shows};
 ghost use Rattle.lab_dump.specs.Written.{MarkedLaw, UnmarkedLaw};
 
 use crate::held::Change;
-use crate::pass::{Stopped, Taker};
+use crate::pass::{Areas, Stopped, Taker};
 use crate::said::spelled_of_die;
 use crate::target::{DamagedTarget, TargetFault};
 use crate::until::record_until;
@@ -132,13 +132,8 @@ impl<T: DamagedTarget> Taker for DamagedWriting<T> {
 
     ghost stopped = { λ s. T.failed s.writing.target ≡ true };
 
-    fn take(
-        &mut self,
-        geometry: &Geometry,
-        row: u32,
-        body: &[u8],
-        spare: &[u8],
-    ) -> Result<(), Stopped> {
+    fn take(&mut self, geometry: &Geometry, row: u32, areas: Areas<'_>) -> Result<(), Stopped> {
+        let Areas { body, spare } = areas;
         let found = read_record(geometry, body, spare);
         self.writing
             .doubting

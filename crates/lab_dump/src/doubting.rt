@@ -13,7 +13,7 @@ ghost use Rattle.lab_dump.specs.Trace.{place_in};
 
 use crate::counts::{note_unsound, one_strange};
 use crate::keys::index_of;
-use crate::pass::{Stopped, Taker};
+use crate::pass::{Areas, Stopped, Taker};
 use crate::said::{SaidPage, note_said};
 use crate::trace::Trace;
 use page_layout::geometry::Geometry;
@@ -214,15 +214,9 @@ impl Taker for Doubting {
     // it never stops
     ghost stopped = { λ _. ⊥ };
 
-    fn take(
-        &mut self,
-        geometry: &Geometry,
-        row: u32,
-        body: &[u8],
-        spare: &[u8],
-    ) -> Result<(), Stopped> {
-        let found = read_record(geometry, body, spare);
-        self.step(geometry, row, found, body, spare);
+    fn take(&mut self, geometry: &Geometry, row: u32, areas: Areas<'_>) -> Result<(), Stopped> {
+        let found = read_record(geometry, areas.body, areas.spare);
+        self.step(geometry, row, found, areas.body, areas.spare);
         Ok(())
     }
 }

@@ -4,7 +4,7 @@ ghost use Rattle.lab_dump.specs.History.{FirstLaw, HistoryLaw, IsHistoryOf, page
 ghost use Rattle.lab_dump.specs.Rooms.{IsHistoryRoom};
 ghost use Rattle.lab_dump.specs.Surveyed.{IsUnsurveyed};
 
-use crate::pass::{Stopped, Taker, scan};
+use crate::pass::{Areas, Stopped, Taker, scan};
 use crate::survey::SurveyFault;
 use image_check::DumpReader;
 use page_layout::geometry::Geometry;
@@ -111,13 +111,8 @@ impl Taker for Recalling {
     // it never stops
     ghost stopped = { λ _. ⊥ };
 
-    fn take(
-        &mut self,
-        geometry: &Geometry,
-        row: u32,
-        body: &[u8],
-        spare: &[u8],
-    ) -> Result<(), Stopped> {
+    fn take(&mut self, geometry: &Geometry, row: u32, areas: Areas<'_>) -> Result<(), Stopped> {
+        let Areas { body, spare } = areas;
         match read_record(geometry, body, spare) {
             Some(found) => self.note(row, spare[2], found),
             None if is_erased(body, spare) => {}

@@ -79,7 +79,7 @@ pub use map_writer::{LineFault, MapWriter};
 pub use mark::{MapMark, Marked};
 pub use nearest::{Legible, NearestRoom, find_nearest, nearest_laws};
 pub use page_bytes::{is_broken, is_sound, join_page};
-pub use pass::{PassFault, Stopped, Taker, expect_end, scan, scan_rows};
+pub use pass::{Areas, PassFault, Stopped, Taker, expect_end, scan, scan_rows};
 pub use row_page::look_in;
 pub use rows::{Rows, asked_law, each_law, is_asked, within_law};
 pub use said::{SaidPage, said_laws, spelled};

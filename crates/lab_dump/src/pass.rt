@@ -4,7 +4,7 @@ ghost use Rattle.std.specs.Io.KnownBytes.{IsAtEnd};
 ghost use Rattle.page_layout.specs.Geometry.{row_count};
 ghost use Rattle.page_layout.specs.Page.{Image};
 ghost use Rattle.lab_dump.specs.Rows.{within};
-ghost use Rattle.lab_dump.specs.Scan.{HasMore, IsReadTo, IsTaken, IsUntaken};
+ghost use Rattle.lab_dump.specs.Scan.{HasMore, IsTaken, IsUntaken};
 ghost use Rattle.lab_dump.specs.declared.pass.PassFault.TheVariants as faults;
 
 use crate::rows::{Rows, show_page};
@@ -41,6 +41,15 @@ impl From<Stopped> for PassFault {
     }
 }
 
+/// The two areas of a page.
+#[derive(Clone, Copy)]
+pub struct Areas<'a> {
+    /// The data area.
+    pub body: &'a [u8],
+    /// The spare area.
+    pub spare: &'a [u8],
+}
+
 /// What takes the pages of a dump one by one, by rising row.
 pub trait Taker {
     ghost use Rattle.std.specs.Prelude.{◌≡◌, ◌<◌, ◌+◌, ℕ, length, slice_get, OnOk, OnErr, Option, Some, None};
@@ -64,26 +73,20 @@ pub trait Taker {
     /// What holds of it where it stopped: why it did.
     ghost stopped: { Self → Type 0 };
 
-    /// Takes the page of a row: its data area and its spare area.
+    /// Takes the page of a row.
     ///
     /// # Errors
     ///
     /// `Stopped` where it wants no more pages. Nothing else is said of it then.
-    fn take(
-        &mut self,
-        geometry: &Geometry,
-        row: u32,
-        body: &[u8],
-        spare: &[u8],
-    ) -> Result<(), Stopped>
+    fn take(&mut self, geometry: &Geometry, row: u32, areas: Areas<'_>) -> Result<(), Stopped>
         requires row_in { row < row_count geometry.now }
-        requires body_whole { length body.now ≡ geometry.now.data_bytes }
-        requires spare_whole { length spare.now ≡ geometry.now.spare_bytes }
+        requires body_whole { length areas.body.now ≡ geometry.now.data_bytes }
+        requires spare_whole { length areas.spare.now ≡ geometry.now.spare_bytes }
         requires stands { stands self.old geometry.now row }
         ensures asked { OnOk result (asked self.new ≡ asked self.old) }
         ensures fixed { OnOk result (fixed self.new ≡ fixed self.old) }
         ensures stands { OnOk result (stands self.new geometry.now (row + 1)) }
-        ensures shows { OnOk result ((image : Image) → shows self.old geometry.now row image → slice_get image row ≡ Some (page body.now spare.now) → shows self.new geometry.now (row + 1) image) }
+        ensures shows { OnOk result ((image : Image) → shows self.old geometry.now row image → slice_get image row ≡ Some (page areas.entry.body.now areas.entry.spare.now) → shows self.new geometry.now (row + 1) image) }
         ensures stopped { OnErr result (stopped self.new) };
 }
 
@@ -98,35 +101,6 @@ impl From<Cut> for PassFault {
             Cut::Failed => PassFault::Source,
         }
     }
-}
-
-// Hands the page of each row asked for to the taker, in row order, as the reader gives them, and an erased one in place of each other.
-fn take_pages<R: DumpReader, T: Taker>(
-    reader: &mut R,
-    geometry: &Geometry,
-    rows: Option<Rows>,
-    taker: &mut T,
-    body: &mut [u8],
-    spare: &mut [u8],
-) -> Result<(), PassFault>
-    requires stands { T.stands taker.old geometry.now 0 }
-    requires shows { (image : Image) → T.shows taker.old geometry.now 0 image }
-    requires body_whole { length body.old ≡ geometry.now.data_bytes }
-    requires spare_whole { length spare.old ≡ geometry.now.spare_bytes }
-    ensures asked { OnOk result (T.asked taker.new ≡ T.asked taker.old) }
-    ensures fixed { OnOk result (T.fixed taker.new ≡ T.fixed taker.old) }
-    ensures stands { OnOk result (T.stands taker.new geometry.now (row_count geometry.now)) }
-    ensures read { OnOk result (IsReadTo geometry.now (row_count geometry.now) (R.remaining reader.old) (R.remaining reader.new) (λ image. T.shows taker.new geometry.now (row_count geometry.now) (within geometry.now rows image))) }
-    ensures untaken { IfErr result (λ fault. IfSome (R.remaining reader.old) (IsUntaken geometry.now fault)) }
-    ensures source { result ≡ Err faults.Source → R.failed reader.new ≡ true }
-    ensures stopped { result ≡ Err faults.Stopped → T.stopped taker.new }
-{
-    for row in 0..geometry.rows() {
-        read_page(reader, body, spare)?;
-        show_page(geometry, rows, row, body, spare);
-        taker.take(geometry, row, body, spare)?;
-    }
-    Ok(())
 }
 
 /// Sees that no byte is left. One is asked for at most.
@@ -203,6 +177,10 @@ pub fn scan_rows<R: DumpReader, T: Taker>(
     ensures source { result ≡ Err faults.Source → R.failed reader.new ≡ true }
     ensures stopped { result ≡ Err faults.Stopped → T.stopped taker.new }
 {
-    take_pages(reader, geometry, rows, taker, body, spare)?;
+    for row in 0..geometry.rows() {
+        read_page(reader, body, spare)?;
+        show_page(geometry, rows, row, body, spare);
+        taker.take(geometry, row, Areas { body, spare })?;
+    }
     expect_end(reader)
 }

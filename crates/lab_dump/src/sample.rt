@@ -1,7 +1,7 @@
 //! What the pages of some rows are, spread over the dump.
 ghost use Rattle.std.specs.Prelude.{◌≡◌, ◌+◌, ◌*◌, ◌<◌, ◌≤◌, List, ℕ, length, IfOk, Some, OnErr, true};
 ghost use Rattle.page_layout.specs.Geometry.{page_bytes, row_count};
-ghost use Rattle.lab_dump.specs.Sample.{looked_count, looked_row, noted, sample_of};
+ghost use Rattle.lab_dump.specs.Sample.{looked_count, looked_row, none_looked, noted, sample_of};
 
 use crate::dump::Dump;
 use crate::look::Look;
@@ -27,6 +27,19 @@ pub struct Sample {
 }
 
 impl Sample {
+    /// The sample before a page is looked at.
+    pub fn none(geometry: &Geometry) -> Sample
+        ensures is { result ≡ none_looked (row_count geometry.now) }
+        ensures looked { result.looked ≡ looked_count (row_count geometry.now) }
+        ensures few { result.looked ≤ 4096 }
+    {
+        Sample {
+            looked: looked_count(geometry.rows()),
+            sound: 0,
+            unsound: 0,
+        }
+    }
+
     /// The sample with one page more.
     pub fn noted(self, look: Look) -> Sample
         requires { self.sound + self.unsound < 4096 }
@@ -76,15 +89,9 @@ pub(crate) fn take_sample<D: Dump>(
     ensures failed { OnErr result (D.failed dump.new ≡ true) }
     ensures same { D.bytes dump.new ≡ D.bytes dump.old }
 {
-    let rows = geometry.rows();
-    let looked = looked_count(rows);
-    let mut sample = Sample {
-        looked,
-        sound: 0,
-        unsound: 0,
-    };
-    for place in 0..looked {
-        let look = look_at_row(dump, geometry, looked_row(rows, place), page)?;
+    let mut sample = Sample::none(geometry);
+    for place in 0..sample.looked {
+        let look = look_at_row(dump, geometry, looked_row(geometry.rows(), place), page)?;
         sample = sample.noted(look);
     }
     Ok(sample)

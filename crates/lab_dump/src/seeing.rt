@@ -7,7 +7,7 @@ use crate::counts::PageCounts;
 use crate::doubting::Doubting;
 use crate::held::KeyState;
 use crate::keys::{blank_table, note_formed};
-use crate::pass::{Stopped, Taker};
+use crate::pass::{Areas, Stopped, Taker};
 use bad_blocks::Table;
 use image_check::{Scratch, Survey};
 use page_layout::geometry::Geometry;
@@ -63,13 +63,8 @@ impl Taker for Seeing {
     // it never stops
     ghost stopped = { λ _. ⊥ };
 
-    fn take(
-        &mut self,
-        geometry: &Geometry,
-        row: u32,
-        body: &[u8],
-        spare: &[u8],
-    ) -> Result<(), Stopped> {
+    fn take(&mut self, geometry: &Geometry, row: u32, areas: Areas<'_>) -> Result<(), Stopped> {
+        let Areas { body, spare } = areas;
         let found = self.survey.see(row, body, spare);
         let erased = is_erased(body, spare);
         self.counts = self.counts.step(geometry, found, erased);

@@ -11,7 +11,7 @@ ghost use Rattle.lab_dump.specs.Writing.{HoldsSector, WritingStands, Shows, sect
 
 use crate::doubting::Doubting;
 use crate::held::{Change, Held};
-use crate::pass::{Stopped, Taker};
+use crate::pass::{Areas, Stopped, Taker};
 use crate::target::{Target, TargetFault};
 use crate::until::record_until;
 use page_layout::geometry::Geometry;
@@ -119,13 +119,8 @@ impl<T: Target> Taker for Writing<T> {
 
     ghost stopped = { λ s. T.failed s.target ≡ true };
 
-    fn take(
-        &mut self,
-        geometry: &Geometry,
-        row: u32,
-        body: &[u8],
-        spare: &[u8],
-    ) -> Result<(), Stopped> {
+    fn take(&mut self, geometry: &Geometry, row: u32, areas: Areas<'_>) -> Result<(), Stopped> {
+        let Areas { body, spare } = areas;
         let found = read_record(geometry, body, spare);
         self.doubting.step(geometry, row, found, body, spare);
         match record_until(self.until, found) {

@@ -1,5 +1,5 @@
 -- Which bit of a page is mended.
-use Rattle.std.proofs.Common.{◌≡◌, inl, inr, ℕ, zero, suc, ◌<◌, ◌≤◌, Bool, true, false, cond, List, length, get_or, Option, Some, None, refl, sym, ap, ◌∙◌, subst, arith}
+use Rattle.std.proofs.Common.{◌≡◌, inl, inr, ℕ, zero, suc, ◌+◌, ◌<◌, ◌≤◌, Bool, true, false, cond, List, length, get_or, Option, Some, None, refl, sym, ap, ◌∙◌, subst, arith}
 use Rattle.std.specs.Prelude.{is_some, not, ◌&&◌, nat_lt}
 use Rattle.std.specs.List.{range_with_len, position, position_or_len}
 use Rattle.std.proofs.lemmas.Bool.{and_parts, and_from, cases_Bool, cases_eq}
@@ -212,6 +212,14 @@ made_whole Sound q h = sound_whole q h
 made_whole Erased q h = erased_whole q h
 
 -- ---- by the bytes of a page, of which the first so many are its data area
+
+-- what is asked of the page that was, with a bit turned
+pub asked_turned : (test : Page → Bool) (size : ℕ) (bytes now turned : List ℕ) (k : ℕ) (answer b : Bool) → now ≡ bytes → turned ≡ turned_bytes now k → answer ≡ test (page_of size turned) → answer ≡ b → test (page_of size (turned_bytes bytes k)) ≡ b
+asked_turned test size bytes now turned k answer b same once is e = ap (λ x. test (page_of size (turned_bytes x k))) (sym same) ∙ (ap (λ x. test (page_of size x)) (sym once) ∙ (sym is ∙ e))
+
+-- no bit passes so far, this one either
+pub none_more : (test : Page → Bool) (size : ℕ) (bytes : List ℕ) (k : ℕ) → test (page_of size (turned_bytes bytes k)) ≡ false → ((j : ℕ) → j < k → test (page_of size (turned_bytes bytes j)) ≡ false) → (j : ℕ) → j < k + 1 → test (page_of size (turned_bytes bytes j)) ≡ false
+none_more test size bytes k here before j l = elim (cases_eq j k) [ inl e ↦ subst (λ n. test (page_of size (turned_bytes bytes n)) ≡ false) (sym e) here | inr ne ↦ before j (omega arith) ]
 
 pub found_in : (size : ℕ) (bytes : List ℕ) (k : ℕ) → size ≤ length bytes → k < bits_of bytes → is_sound (page_of size (turned_bytes bytes k)) ≡ true
     → ((j : ℕ) → j < k → is_sound (page_of size (turned_bytes bytes j)) ≡ false) → lowest_bit (page_of size bytes) ≡ Some k

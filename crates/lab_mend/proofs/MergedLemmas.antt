@@ -1,9 +1,8 @@
 -- What the pieces, the rows and the counts are once all rows were taken.
 use Rattle.std.proofs.Common.{◌≡◌, ◌⊎◌, inl, inr, ℕ, suc, ◌+◌, ◌-◌, ◌*◌, ◌<◌, ◌≤◌, Bool, true, false, List, [], length, get_or, map, take, drop, Option, refl, sym, ap, ◌∙◌, subst, arith}
-use Rattle.std.specs.Prelude.{slice_range}
 use Rattle.std.specs.List.{range_with_len}
 use Rattle.std.proofs.Math.Nat.{mul-le-mul_right}
-use Rattle.std.proofs.lemmas.List.{same_lists, length-map, get_or-map, take-take, drop-take, drop-drop}
+use Rattle.std.proofs.lemmas.List.{same_lists, length-map, get_or-map}
 use Rattle.std.proofs.lemmas.List.FromFn.{length-map-range_with_len, get_or-map-range_with_len, fill_by_all}
 use Rattle.page_layout.specs.declared.geometry.Geometry.{Geometry}
 use Rattle.page_layout.specs.Geometry.{row_count, page_bytes}
@@ -15,6 +14,7 @@ use Rattle.image_check.specs.declared.page_reader.Cut.{Cut}
 use Rattle.image_check.specs.declared.page_reader.Cut.TheVariants as cut
 use Rattle.lab_dump.specs.declared.pass.PassFault.{PassFault}
 use Rattle.lab_dump.specs.declared.pass.PassFault.TheVariants as scan
+use Rattle.lab_dump.proofs.PageLemmas.{page_sliced}
 use Rattle.lab_dump.proofs.ScanLemmas.{if_both}
 use Rattle.lab_mend.specs.declared.merging.RowTally.{RowTally}
 use Rattle.lab_mend.specs.declared.merging.TriedRow.{TriedRow}
@@ -26,20 +26,6 @@ use Rattle.lab_mend.specs.Merging.{unsound_below, tried_below, piece_of, Shows, 
 use Rattle.lab_mend.specs.Merged.{row_of, IsMerged, IsUnmerged, fault_of_cut, fault_of_end, IsPinned}
 
 -- ---- the pages of a row
-
-page_sliced : (g : Geometry) (file : List ℕ) (at : ℕ) → page_of g.data_bytes (slice_range file at (at + page_bytes g)) ≡ page_from g file at
-page_sliced g file at =
-    let d : ℕ = g.data_bytes in
-    let s : ℕ = g.spare_bytes in
-    let all : at + page_bytes g - at ≡ d + s = omega arith in
-    let first : at + d - at ≡ d = omega arith in
-    let second : at + page_bytes g - (at + d) ≡ s = omega arith in
-    let whole : slice_range file at (at + page_bytes g) ≡ take (d + s) (drop at file) = ap (λ n. take n (drop at file)) all in
-    let body : take d (slice_range file at (at + page_bytes g)) ≡ slice_range file at (at + d) =
-    ap (take d) whole ∙ (take-take d (d + s) (drop at file) (omega arith) ∙ sym (ap (λ n. take n (drop at file)) first)) in
-    let spare : drop d (slice_range file at (at + page_bytes g)) ≡ slice_range file (at + d) (at + page_bytes g) =
-    ap (drop d) whole ∙ (drop-take d s (drop at file) ∙ (ap (take s) (drop-drop d at file) ∙ sym (ap (λ n. take n (drop (at + d) file)) second))) in
-    ap (λ b. page b (drop d (slice_range file at (at + page_bytes g)))) body ∙ ap (page (slice_range file at (at + d))) spare
 
 pub row_read : (g : Geometry) (known : List (Option (List ℕ))) (files : List (List ℕ)) (row count size : ℕ) (pieces : List ℕ) → size ≡ page_bytes g → count ≡ length known → AreRead known files (row * page_bytes g) size pieces → row_of g files row ≡ pages_in g pieces count
 unfolding pages_in

@@ -127,31 +127,6 @@ fn turn_pair<W: Watch>(geometry: &Geometry, row: u32, bytes: &mut [u8], watch: &
     turn
 }
 
-// Repairs the broken page of a row, of which so many bits may be turned, and answers what was turned.
-fn turn_broken<W: Watch>(
-    geometry: &Geometry,
-    bits: u32,
-    row: u32,
-    bytes: &mut [u8],
-    watch: &mut W,
-) -> Option<Turn>
-    requires whole { length bytes.old ≡ page_bytes geometry.now }
-    requires broken { is_broken (page_of geometry.now.data_bytes bytes.old) ≡ true }
-    ensures turn { result ≡ page_turn_of bits (page_of geometry.now.data_bytes bytes.old) }
-    ensures after { page_of geometry.now.data_bytes bytes.new ≡ repaired bits (page_of geometry.now.data_bytes bytes.old) }
-{
-    match turn_first(geometry, bytes) {
-        Some(turned) => Some(Turn::One(turned)),
-        None => {
-            if bits >= 2 {
-                Some(turn_pair(geometry, row, bytes, watch))
-            } else {
-                None
-            }
-        }
-    }
-}
-
 // Repairs the page of a row, of which so many bits may be turned, and answers what was turned, if it was broken.
 fn repair_page<W: Watch>(
     geometry: &Geometry,
@@ -165,7 +140,16 @@ fn repair_page<W: Watch>(
     ensures after { page_of geometry.now.data_bytes bytes.new ≡ repaired bits (page_of geometry.now.data_bytes bytes.old) }
 {
     if is_broken(geometry, bytes) {
-        turn_broken(geometry, bits, row, bytes, watch)
+        match turn_first(geometry, bytes) {
+            Some(turned) => Some(Turn::One(turned)),
+            None => {
+                if bits >= 2 {
+                    Some(turn_pair(geometry, row, bytes, watch))
+                } else {
+                    None
+                }
+            }
+        }
     } else {
         None
     }

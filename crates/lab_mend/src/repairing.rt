@@ -6,7 +6,7 @@ ghost use Rattle.lab_mend.specs.Repairing.{HasRoom, IsOwn, is_mended, mended_cou
 
 use crate::mending::write_page;
 use crate::pairs::{Turn, Watch};
-use lab_dump::{PageTarget, Rows, Stopped, Taker};
+use lab_dump::{Areas, PageTarget, Rows, Stopped, Taker};
 use page_layout::geometry::Geometry;
 
 /// A page that was to be mended.
@@ -101,19 +101,13 @@ impl<T: PageTarget, W: Watch> Taker for Repairing<T, W> {
 
     ghost stopped = { λ s. T.failed s.target ≡ true };
 
-    fn take(
-        &mut self,
-        geometry: &Geometry,
-        row: u32,
-        body: &[u8],
-        spare: &[u8],
-    ) -> Result<(), Stopped> {
+    fn take(&mut self, geometry: &Geometry, row: u32, areas: Areas<'_>) -> Result<(), Stopped> {
         let turn = write_page(
             geometry,
             self.asked,
             row,
-            body,
-            spare,
+            areas.body,
+            areas.spare,
             &mut self.scratch,
             &mut self.watch,
         );

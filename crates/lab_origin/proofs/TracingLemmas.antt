@@ -3,7 +3,7 @@ use Rattle.std.proofs.Common.{◌≡◌, ◌≢◌, inl, inr, ℕ, ◌+◌, ◌-
 use Rattle.std.specs.Prelude.{nat_lt, option_map, slice_get, slice_range}
 use Rattle.std.specs.List.{range_with_len}
 use Rattle.std.proofs.lemmas.Bool.{cases_eq}
-use Rattle.std.proofs.lemmas.List.{get_or-set_same, get_or-set_other, get_or-replicate, get_or_default, length-map, length-set, length-replicate, same_lists, take-take, drop-take, drop-drop}
+use Rattle.std.proofs.lemmas.List.{get_or-set_same, get_or-set_other, get_or-replicate, get_or_default, length-map, length-set, length-replicate, same_lists}
 use Rattle.std.proofs.lemmas.Option.{slice_get-map}
 use Rattle.std.proofs.lemmas.List.FromFn.{get_or-map-range_with_len, length-map-range_with_len}
 use Rattle.page_layout.specs.declared.geometry.Geometry.{Geometry}
@@ -26,6 +26,7 @@ use Rattle.page_layout.proofs.RawLemmas.{raw_image-at, length-raw_image}
 use Rattle.page_layout.proofs.StepLemmas.{erased_unsound}
 use Rattle.image_check.proofs.SurveyLemmas.{latest_more, latest_other, latest_start}
 use Rattle.lab_dump.specs.PageBytes.{page_of}
+use Rattle.lab_dump.proofs.PageLemmas.{page_sliced}
 use Rattle.lab_dump.specs.Until.{record_until, is_later, page_until, until}
 use Rattle.lab_dump.specs.Writing.{sector_in}
 use Rattle.lab_dump.proofs.WritingLemmas.{within_is, IsOfNone}
@@ -166,20 +167,6 @@ all_marks g last all files ls ms sized h =
     ∙ sym (get_or-map-range_with_len f 0 g.sectors n n d within (omega arith)))))
 
 -- ---- the page of a row as its bytes
-
-page_sliced : (g : Geometry) (file : List ℕ) (at : ℕ) → page_of g.data_bytes (slice_range file at (at + page_bytes g)) ≡ page_from g file at
-page_sliced g file at =
-    let d : ℕ = g.data_bytes in
-    let s : ℕ = g.spare_bytes in
-    let all : at + page_bytes g - at ≡ d + s = omega arith in
-    let first : at + d - at ≡ d = omega arith in
-    let second : at + page_bytes g - (at + d) ≡ s = omega arith in
-    let whole : slice_range file at (at + page_bytes g) ≡ take (d + s) (drop at file) = ap (λ n. take n (drop at file)) all in
-    let body : take d (slice_range file at (at + page_bytes g)) ≡ slice_range file at (at + d) =
-    ap (take d) whole ∙ (take-take d (d + s) (drop at file) (omega arith) ∙ sym (ap (λ n. take n (drop at file)) first)) in
-    let spare : drop d (slice_range file at (at + page_bytes g)) ≡ slice_range file (at + d) (at + page_bytes g) =
-    ap (drop d) whole ∙ (drop-take d s (drop at file) ∙ (ap (take s) (drop-drop d at file) ∙ sym (ap (λ n. take n (drop (at + d) file)) second))) in
-    ap (λ b. page b (drop d (slice_range file at (at + page_bytes g)))) body ∙ ap (page (slice_range file at (at + d))) spare
 
 -- what counts of it
 pub record_at : (g : Geometry) (last : Option ℕ) (all piece : List ℕ) (row : ℕ) → row < row_count g → piece ≡ row_bytes g all row → get_or (marks (image_of g last all)) row None ≡ record_until last (record_of (page_of g.data_bytes piece))

@@ -5,8 +5,6 @@ use Rattle.std.specs.Option.{unwrap_or}
 use Rattle.std.specs.Result.{result_ok}
 use Rattle.std.proofs.lemmas.Nat.{div-add-mod', div-mul-add, mod-mul-add, mod_below, mul-lt}
 use Rattle.page_layout.specs.declared.geometry.GeometryFault.{GeometryFault}
-use Rattle.std.proofs.Math.Bool.{Bool-set}
-use Rattle.std.proofs.Math.Bridge.{le_prop}
 use Rattle.std.proofs.Math.Nat.{mul-div_cancel, mul-mod_left}
 use Rattle.std.proofs.lemmas.Bool.{cases_lt, le-leb, lt-leb, true≢false}
 use Rattle.std.proofs.lemmas.Option.{none-some}
@@ -16,6 +14,7 @@ use Rattle.page_layout.specs.Limits.{IsBlockCount, IsDataSize, IsPageCount, IsSp
 use Rattle.page_layout.specs.Faults.{HasNumbers}
 use Rattle.lab_dump.specs.declared.fit.Fit.{Fit}
 use Rattle.lab_dump.specs.Scan.{image_bytes}
+use Rattle.lab_dump.proofs.GeometryLemmas.{geometry_by}
 use Rattle.lab_arrange.specs.declared.arrangement.Arrangement.{Arrangement}
 use Rattle.lab_arrange.specs.Place.{length_of}
 use Rattle.lab_shapes.specs.declared.find.ArrangedFit.{ArrangedFit}
@@ -30,37 +29,9 @@ use Rattle.lab_shapes.proofs.TriedLemmas.{tried_of_way}
 
 -- ---- a geometry is its numbers
 
-record Numbers : Type 0 where
-  data_bytes : ℕ
-  spare_bytes : ℕ
-  pages : ℕ
-  blocks : ℕ
-  sectors : ℕ
-
-abbrev numbers_of : Geometry → Numbers
-numbers_of g = record { data_bytes = g.data_bytes; spare_bytes = g.spare_bytes; pages = g.pages; blocks = g.blocks; sectors = g.sectors }
-
-abbrev IsLimited : Numbers → Type 0
-IsLimited z = IsWithinLimits z.data_bytes z.spare_bytes z.pages z.blocks z.sectors
-
-limits_one : (z : Numbers) (l k : IsLimited z) → l ≡ k
-limits_one z l k =
-    let one : IsProp (IsLimited z) = hlevel (Bool-set, le_prop) in
-    one l k
-
-abbrev geometry_of : (z : Numbers) → IsLimited z → Geometry
-geometry_of z l = record { data_bytes = z.data_bytes; spare_bytes = z.spare_bytes; pages = z.pages; blocks = z.blocks; sectors = z.sectors; limits = l }
-
-same_geometry : (a b : Geometry) → numbers_of a ≡ numbers_of b → a ≡ b
-same_geometry a b e = subst (λ (w : Numbers). (k : IsLimited w) → a ≡ geometry_of w k) e (λ k. ap (geometry_of (numbers_of a)) (limits_one (numbers_of a) a.limits k)) b.limits
-
-same_numbers : (d d' s s' p p' b b' n n' : ℕ) → d ≡ d' → s ≡ s' → p ≡ p' → b ≡ b' → n ≡ n'
-    → (let x : Numbers = record { data_bytes = d; spare_bytes = s; pages = p; blocks = b; sectors = n } in x) ≡ record { data_bytes = d'; spare_bytes = s'; pages = p'; blocks = b'; sectors = n' }
-same_numbers d d' s s' p p' b b' n n' e f h i j = cc
-
 pub numbered_once : (d s p b n : ℕ) (g h : Geometry) → HasNumbers d s p b n g → HasNumbers d s p b n h → g ≡ h
 numbered_once d s p b n g h x y =
-    same_geometry g h (same_numbers _ _ _ _ _ _ _ _ _ _ (x.data_bytes_is ∙ sym y.data_bytes_is) (x.spare_bytes_is ∙ sym y.spare_bytes_is) (x.pages_is ∙ sym y.pages_is) (x.blocks_is ∙ sym y.blocks_is) (x.sectors_is ∙ sym y.sectors_is))
+    geometry_by g h (x.data_bytes_is ∙ sym y.data_bytes_is) (x.spare_bytes_is ∙ sym y.spare_bytes_is) (x.pages_is ∙ sym y.pages_is) (x.blocks_is ∙ sym y.blocks_is) (x.sectors_is ∙ sym y.sectors_is)
 
 -- the blocks, by the bytes of all pages
 blocks_by : (g : Geometry) → image_bytes g / page_bytes g / g.pages ≡ g.blocks

@@ -7,9 +7,7 @@ ghost use Rattle.lab_dump.specs.Told.{pages_told_of};
 ghost use Rattle.lab_shapes.specs.Ordered.{follows, in_turn_of, is_likely, look_before, look_in, ordered, sample_first, shows_sound};
 
 use lab_arrange::{Arrangement, read_page, read_spare};
-use lab_dump::{
-    Dump, DumpFault, Look, PagesTold, Sample, look_in, looked_count, looked_row, spelled,
-};
+use lab_dump::{Dump, DumpFault, Look, PagesTold, Sample, look_in, looked_row, spelled};
 use page_layout::geometry::Geometry;
 
 // So many of the pages that are looked at have to show a sound one.
@@ -63,15 +61,9 @@ pub(crate) fn sample_first<D: Dump>(
     ensures failed { OnErr result (D.failed dump.new ≡ true) }
     ensures same { D.bytes dump.new ≡ D.bytes dump.old }
 {
-    let rows = geometry.rows();
-    let looked = looked_count(rows);
-    let mut sample = Sample {
-        looked,
-        sound: 0,
-        unsound: 0,
-    };
+    let mut sample = Sample::none(geometry);
     for place in 0..places {
-        let row = looked_row(rows, place);
+        let row = looked_row(geometry.rows(), place);
         let look = look_in_order(dump, size, geometry, arrangement, row, raw, page)?;
         sample = sample.noted(look);
     }
@@ -262,17 +254,11 @@ pub(crate) fn look_over<D: Dump>(
     ensures failed { OnErr result (D.failed dump.new ≡ true) }
     ensures same { D.bytes dump.new ≡ D.bytes dump.old }
 {
-    let rows = geometry.rows();
-    let looked = looked_count(rows);
-    let mut sample = Sample {
-        looked,
-        sound: 0,
-        unsound: 0,
-    };
+    let mut sample = Sample::none(geometry);
     let mut in_turn = 0;
     let mut last = None;
-    for place in 0..looked {
-        let row = looked_row(rows, place);
+    for place in 0..sample.looked {
+        let row = looked_row(geometry.rows(), place);
         let before = look_before(dump, size, geometry, arrangement, row, last, raw, page)?;
         let look = look_in_order(dump, size, geometry, arrangement, row, raw, page)?;
         sample = sample.noted(look);

@@ -2,8 +2,8 @@
 ghost use Rattle.std.specs.Prelude.{◌≡◌};
 ghost use Rattle.page_layout.specs.Limits.{IsDataSize, IsPageCount, IsSpareSize};
 ghost use Rattle.lab_shapes.specs.Better.{IsShapeAs, IsShapeIn, pages_size};
-ghost use Rattle.lab_shapes.specs.Tried.{IsTriedWay, IsUncut};
-ghost use Rattle.lab_shapes.specs.declared.tried.Way.TheVariants.{Cut, Order};
+ghost use Rattle.lab_shapes.specs.Tried.{IsTriedWay};
+ghost use Rattle.lab_shapes.specs.declared.tried.Way.TheVariants.{Cut};
 
 use crate::tried::Way;
 use lab_arrange::{Arrangement, in_order};
@@ -72,25 +72,6 @@ fn shape_cut(
     ))
 }
 
-// The same in an order of the bytes.
-fn shape_ordered(
-    size: u64,
-    arrangement: &Arrangement,
-    data_bytes: u32,
-    spare_bytes: u32,
-    pages: u32,
-) -> Option<(Geometry, Arrangement)>
-    requires data_size { IsDataSize data_bytes }
-    requires spare_size { IsSpareSize spare_bytes }
-    requires page_count { IsPageCount pages }
-    requires tried { IsUncut arrangement.now }
-    ensures { IsShapeIn size (Order arrangement.now) data_bytes spare_bytes pages result }
-{
-    let bytes = pages_size(size, arrangement)?;
-    let geometry = shape_as(bytes, data_bytes, spare_bytes, pages)?;
-    Some((geometry, *arrangement))
-}
-
 /// The geometry with one sector of such areas and blocks that comes to a dump of this size, in an arrangement of this way, and that arrangement, if
 /// there is one.
 pub(crate) fn shape_in(
@@ -108,7 +89,9 @@ pub(crate) fn shape_in(
 {
     match way {
         Way::Order(arrangement) => {
-            shape_ordered(size, arrangement, data_bytes, spare_bytes, pages)
+            let bytes = pages_size(size, arrangement)?;
+            let geometry = shape_as(bytes, data_bytes, spare_bytes, pages)?;
+            Some((geometry, *arrangement))
         }
         Way::Cut => shape_cut(size, data_bytes, spare_bytes, pages),
     }

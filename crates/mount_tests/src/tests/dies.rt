@@ -1,7 +1,7 @@
 //! Dies in memory behind a driver, formatted and mounted.
 ghost use Rattle.std.specs.Prelude.{◌≡◌, IfOk};
 
-use super::said::{Said, hold_said, mounted, stale_count};
+use super::said::{Said, TWO_MARKS, hold_said, mounted, stale_count};
 use certificate::{Certificate, write_certificate};
 use image_check::Refusal;
 use mount::{FormatFault, format};
@@ -44,16 +44,7 @@ const CASES: [Case; 2] = [
     },
     Case {
         name: "marks of two blocks",
-        marks: &[
-            Mark {
-                block: 3,
-                last: false,
-            },
-            Mark {
-                block: 9,
-                last: true,
-            },
-        ],
+        marks: &TWO_MARKS,
         good: 30,
         said: &[
             Said::Good(30),

@@ -1,6 +1,7 @@
 //! Formatting new dies, dies whose programs fail, and a die that is in use.
 ghost use Rattle.std.specs.Prelude.{◌≡◌, true, IfOk};
 
+use super::said::TWO_MARKS;
 use mount::{FormatFault, format};
 use nand_die::{Die, Fault, Mark};
 use onfi_cycles::{Bus, Driver, Nand};
@@ -34,21 +35,17 @@ struct Case {
     calls: &'static [Call],
 }
 
-const FEW: FormatFault = FormatFault::TooFewGood { good: 16, need: 17 };
+// It is told that there are too few good blocks.
+const REFUSED: Call = Call {
+    answer: Err(FormatFault::TooFewGood { good: 16, need: 17 }),
+    pages: &[],
+    untouched: 0,
+};
 
 const CASES: [Case; 7] = [
     Case {
         name: "marked blocks are named",
-        marks: &[
-            Mark {
-                block: 3,
-                last: false,
-            },
-            Mark {
-                block: 9,
-                last: true,
-            },
-        ],
+        marks: &TWO_MARKS,
         marked_from: 32,
         failing: 0,
         image: &[],
@@ -87,11 +84,7 @@ const CASES: [Case; 7] = [
         marked_from: 16,
         failing: 0,
         image: &[],
-        calls: &[Call {
-            answer: Err(FEW),
-            pages: &[],
-            untouched: 0,
-        }],
+        calls: &[REFUSED],
     },
     Case {
         name: "17 good blocks, and a failure",
@@ -99,11 +92,7 @@ const CASES: [Case; 7] = [
         marked_from: 17,
         failing: 1,
         image: &[],
-        calls: &[Call {
-            answer: Err(FEW),
-            pages: &[],
-            untouched: 0,
-        }],
+        calls: &[REFUSED],
     },
     Case {
         name: "a failed block is grown bad",

@@ -11,10 +11,10 @@ pub loop-place-init : goal.loop-place-init
 loop-place-init g c = record {
   raw_whole = c.requires.raw_whole;
   whole = c.requires.page_whole;
-  looked_is = search rules;
-  few = omega arith;
+  looked_is = c.none-sample.ensures.looked;
+  few = (let is = c.none-sample.ensures.is in rw is (omega arith));
   same = search rules;
-  sample = λ all told rows. sample_none _ _ _ _ _ (ap (λ k. record { looked = k; sound = 0; unsound = 0 }) (c.looked_count-looked.ensures.is ∙ ap looked_count c.rows-rows.ensures));
+  sample = λ all told rows. sample_none _ _ _ _ _ c.none-sample.ensures.is;
 }
 
 pub loop-place-preserved : goal.loop-place-preserved
@@ -23,8 +23,7 @@ loop-place-preserved g c =
     let geo = c.args.geometry.now in
     let d = geo.data_bytes in
     let s = geo.spare_bytes in
-    let place = c.loop-place.place in
-    let row = c.looked_row-row.ensures ∙ ap (λ k. looked_row k place) c.rows-rows.ensures in
+    let row = c.looked_row-row.ensures ∙ ap (λ k. looked_row k c.loop-place.place) c.rows.ensures in
     record {
       raw_whole = search rules;
       whole = search rules;
@@ -32,10 +31,10 @@ loop-place-preserved g c =
       few = (let more = noted_few c.loop-place.sample c.look_in.result in let is = c.noted-sample.ensures in let before = inv.few in rw is (omega arith));
       same = c.read_decoded.ensures.same ∙ inv.same;
       sample = λ all told rows.
-          let early : place < looked_count (row_count geo) = omega (arith, c.loop-place-test.true, c.looked_count-looked.ensures.is, ap looked_count c.rows-rows.ensures) in
-          let inside = looked_in (row_count geo) place early in
+          let early : c.loop-place.place < looked_count (row_count geo) = omega (arith, c.loop-place-test.true, c.none-sample.ensures.looked) in
+          let inside = looked_in (row_count geo) c.loop-place.place early in
           let within : c.looked_row-row.result < length all / raw_size d s = omega (arith, inside, row, rows) in
-          sample_more d s (row_count geo) (decoded_bytes d s all) place c.loop-place.sample _ c.look_in.result (inv.sample all told rows)
+          sample_more d s (row_count geo) (decoded_bytes d s all) c.loop-place.place c.loop-place.sample _ c.look_in.result (inv.sample all told rows)
           (c.look_in.ensures ∙ (ap look_of (c.in_ok-read_decoded.ensures.read all (inv.same ∙ told) within) ∙ ap (look_at d s (decoded_bytes d s all)) row)) c.noted-sample.ensures;
     }
 
@@ -43,4 +42,4 @@ pub returns-clause-sample : goal.returns-clause-sample
 returns-clause-sample g c = λ all told rows.
     let geo = c.args.geometry.now in
     sample_all geo.data_bytes geo.spare_bytes (row_count geo) c.loop-place.place (decoded_bytes geo.data_bytes geo.spare_bytes all) c.loop-place.sample
-    (omega (arith, c.loop-place-test.false, c.loop-place.auto.place-end) ∙ (c.looked_count-looked.ensures.is ∙ ap looked_count c.rows-rows.ensures)) (c.loop-place.invariant.sample all told rows)
+    (omega (arith, c.loop-place-test.false, c.loop-place.auto.place-end) ∙ c.none-sample.ensures.looked) (c.loop-place.invariant.sample all told rows)

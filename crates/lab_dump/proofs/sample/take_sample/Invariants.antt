@@ -1,12 +1,13 @@
 use Rattle.std.proofs.Common.{◌≡◌, ◌+◌, ◌≤◌, List, ℕ, length, Some}
 use Rattle.page_layout.specs.Geometry.{page_bytes, row_count}
+use Rattle.lab_dump.specs.Sample.{looked_count}
 use Rattle.lab_dump.proofs.SampleLemmas.{sample_below}
 use Rattle.lab_dump.proofs.sample.take_sample.Given as goal
 
 abbrev pub invariant-loop-place : goal.invariant-loop-place
 invariant-loop-place g l = record {
   whole : length l.page ≡ page_bytes l.geometry;
-  looked_is : l.sample.looked ≡ l.looked;
+  looked_is : l.sample.looked ≡ looked_count (row_count l.geometry);
   few : l.sample.sound + l.sample.unsound ≤ l.place;
   same : g.D.Dump.bytes l.dump ≡ g.D.Dump.bytes l.fn.dump;
   sample : (all : List ℕ) → g.D.Dump.bytes l.fn.dump ≡ Some all → l.sample ≡ sample_below l.geometry.data_bytes l.geometry.spare_bytes (row_count l.geometry) all l.place;

@@ -1,32 +1,25 @@
-use Rattle.std.proofs.Common.{◌≡◌, true, false, inl, inr, refl, sym, ap, ◌∙◌, subst, arith}
-use Rattle.std.proofs.lemmas.Bool.{cases_eq}
+use Rattle.std.proofs.Common.{true, false, refl, sym, ap, ◌∙◌, arith}
 use Rattle.page_layout.specs.Sound.{is_erased_page}
-use Rattle.lab_dump.specs.PageBytes.{page_of}
 use Rattle.lab_mend.specs.Bits.{turned_bytes}
 use Rattle.lab_mend.proofs.BitLemmas.{back_again}
-use Rattle.lab_mend.proofs.MendLemmas.{erased_in, unerased_in}
+use Rattle.lab_mend.proofs.MendLemmas.{asked_turned, erased_in, none_more, unerased_in}
 use Rattle.lab_mend.proofs.mending.turn_erased.Goals as goal
 
 pub returns-then-is_erased_in-clause-bit : goal.returns-then-is_erased_in-clause-bit
 returns-then-is_erased_in-clause-bit c =
-    let bytes = c.args.bytes.now in
     let size = c.args.geometry.now.data_bytes in
     let inv = c.loop-bit.invariant in
-    let here : is_erased_page (page_of size (turned_bytes bytes c.loop-bit.bit)) ≡ true =
-    ap (λ b. is_erased_page (page_of size b)) (ap (λ b. turned_bytes b c.loop-bit.bit) (sym inv.same) ∙ sym c.turn.ensures) ∙ (sym c.is_erased_in.ensures ∙ c.if-is_erased_in.true) in
-    sym (erased_in size bytes c.loop-bit.bit (omega arith) (omega arith) here inv.none)
+    let here = asked_turned is_erased_page size c.args.bytes.now c.loop-bit.bytes c.turn.new.bytes c.loop-bit.bit c.is_erased_in.result true inv.same c.turn.ensures c.is_erased_in.ensures c.if-is_erased_in.true in
+    sym (erased_in size c.args.bytes.now c.loop-bit.bit (omega arith) (omega arith) here inv.none)
 
 pub loop-bit-preserved : goal.loop-bit-preserved
 loop-bit-preserved c =
-    let bytes = c.args.bytes.now in
     let size = c.args.geometry.now.data_bytes in
-    let bit = c.loop-bit.bit in
     let inv = c.loop-bit.invariant in
-    let once : c.turn.new.bytes ≡ turned_bytes bytes bit = c.turn.ensures ∙ ap (λ b. turned_bytes b bit) inv.same in
-    let here : is_erased_page (page_of size (turned_bytes bytes bit)) ≡ false = ap (λ b. is_erased_page (page_of size b)) (sym once) ∙ (sym c.is_erased_in.ensures ∙ c.if-is_erased_in.false) in
+    let here = asked_turned is_erased_page size c.args.bytes.now c.loop-bit.bytes c.turn.new.bytes c.loop-bit.bit c.is_erased_in.result false inv.same c.turn.ensures c.is_erased_in.ensures c.if-is_erased_in.false in
     record {
-      same = back_again bytes _ _ bit (omega arith) once c.turn-in-loop-bit.ensures;
-      none = λ j l. elim (cases_eq j bit) [ inl e ↦ subst (λ k. is_erased_page (page_of size (turned_bytes bytes k)) ≡ false) (sym e) here | inr ne ↦ inv.none j (omega arith) ];
+      same = back_again c.args.bytes.now _ _ c.loop-bit.bit (omega arith) (c.turn.ensures ∙ ap (λ b. turned_bytes b c.loop-bit.bit) inv.same) c.turn-in-loop-bit.ensures;
+      none = none_more is_erased_page size c.args.bytes.now c.loop-bit.bit here inv.none;
     }
 
 pub returns-clause-bit : goal.returns-clause-bit

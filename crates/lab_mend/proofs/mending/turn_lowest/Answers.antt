@@ -1,11 +1,10 @@
-use Rattle.std.proofs.Common.{◌≡◌, ◌+◌, true, false, inl, inr, refl, sym, ap, ◌∙◌, subst, arith}
-use Rattle.std.proofs.lemmas.Bool.{cases_eq}
-use Rattle.lab_dump.specs.PageBytes.{is_sound, page_of}
+use Rattle.std.proofs.Common.{◌≡◌, ◌+◌, true, false, refl, sym, ap, ◌∙◌, subst, arith}
+use Rattle.lab_dump.specs.PageBytes.{is_sound}
 use Rattle.lab_mend.specs.Bits.{turned_bytes}
 use Rattle.lab_mend.specs.Seal.{HasTaken}
 use Rattle.lab_mend.proofs.BitLemmas.{back_again}
 use Rattle.lab_mend.proofs.SealLemmas.{taken_turned}
-use Rattle.lab_mend.proofs.MendLemmas.{found_in, none_in}
+use Rattle.lab_mend.proofs.MendLemmas.{asked_turned, found_in, none_in, none_more}
 use Rattle.lab_mend.proofs.mending.turn_lowest.Goals as goal
 
 pub is_sound-requires-clause-taken : goal.is_sound-requires-clause-taken
@@ -29,8 +28,7 @@ returns-then-is_sound-clause-bit c =
     let bytes = c.args.bytes.now in
     let size = c.args.geometry.now.data_bytes in
     let inv = c.loop-bit.invariant in
-    let here : is_sound (page_of size (turned_bytes bytes c.loop-bit.bit)) ≡ true =
-    ap (λ b. is_sound (page_of size b)) (ap (λ b. turned_bytes b c.loop-bit.bit) (sym inv.same) ∙ sym c.turn.ensures) ∙ (sym c.is_sound.ensures ∙ c.if-is_sound.true) in
+    let here = asked_turned is_sound size bytes c.loop-bit.bytes c.turn.new.bytes c.loop-bit.bit c.is_sound.result true inv.same c.turn.ensures c.is_sound.ensures c.if-is_sound.true in
     sym (found_in size bytes c.loop-bit.bit (omega arith) (omega arith) here inv.none)
 
 pub loop-bit-preserved : goal.loop-bit-preserved
@@ -39,13 +37,12 @@ loop-bit-preserved c =
     let size = c.args.geometry.now.data_bytes in
     let bit = c.loop-bit.bit in
     let inv = c.loop-bit.invariant in
-    let once : c.turn.new.bytes ≡ turned_bytes bytes bit = c.turn.ensures ∙ ap (λ b. turned_bytes b bit) inv.same in
-    let here : is_sound (page_of size (turned_bytes bytes bit)) ≡ false = ap (λ b. is_sound (page_of size b)) (sym once) ∙ (sym c.is_sound.ensures ∙ c.if-is_sound.false) in
-    let back = back_again bytes _ _ bit (omega arith) once c.turn-in-loop-bit.ensures in
+    let here = asked_turned is_sound size bytes c.loop-bit.bytes c.turn.new.bytes bit c.is_sound.result false inv.same c.turn.ensures c.is_sound.ensures c.if-is_sound.false in
+    let back = back_again bytes _ _ bit (omega arith) (c.turn.ensures ∙ ap (λ b. turned_bytes b bit) inv.same) c.turn-in-loop-bit.ensures in
     record {
       same = back;
       taken = subst (λ b. HasTaken size b (bit + 1) c.pass.new.self) back c.pass.ensures;
-      none = λ j l. elim (cases_eq j bit) [ inl e ↦ subst (λ k. is_sound (page_of size (turned_bytes bytes k)) ≡ false) (sym e) here | inr ne ↦ inv.none j (omega arith) ];
+      none = none_more is_sound size bytes bit here inv.none;
     }
 
 pub returns-clause-bit : goal.returns-clause-bit

@@ -8,11 +8,7 @@ use Rattle.lab_shapes.proofs.find.try_shape.Goals as goal
 
 pub returns-in_default-clause-better : goal.returns-in_default-clause-better
 returns-in_default-clause-better g c = λ all told size.
-    let w = c.args.way.now in
-    let d = c.args.data_bytes in
-    let s = c.args.spare_bytes in
-    let p = c.args.pages in
-    no_shape all w c.args.size d s p c.args.room.now.best size (subst (IsShapeIn c.args.size w d s p) c.in_default.is c.shape_in.ensures)
+    no_shape all c.args.way.now c.args.size _ _ _ c.args.room.now.best size (subst (IsShapeIn c.args.size c.args.way.now c.args.data_bytes c.args.spare_bytes c.args.pages) c.in_default.is c.shape_in.ensures)
 
 pub returns-in-Some-found-clause-better : goal.returns-in-Some-found-clause-better
 returns-in-Some-found-clause-better g c = λ all told size.
@@ -31,13 +27,10 @@ returns-in-Some-found-clause-better g c = λ all told size.
 pub returns-in_default-found-clause-better : goal.returns-in_default-found-clause-better
 returns-in_default-found-clause-better g c = λ all told size.
     let w = c.args.way.now in
-    let d = c.args.data_bytes in
-    let s = c.args.spare_bytes in
-    let p = c.args.pages in
     let geo = c.in-Some.geometry in
     let a = c.in-Some.arrangement in
-    none_fits all w geo a c.args.size d s p c.args.room.now.best c.requires.tried size
-    (subst (IsShapeIn c.args.size w d s p) c.in-Some.is c.shape_in.ensures)
+    none_fits all w geo a c.args.size _ _ _ c.args.room.now.best c.requires.tried size
+    (subst (IsShapeIn c.args.size w c.args.data_bytes c.args.spare_bytes c.args.pages) c.in-Some.is c.shape_in.ensures)
     (subst (IsFoundAs all (least_turns c.args.room.now.best) geo a) c.in_default-found.is
     (subst (λ n. IsFoundAs all n geo a c.in_ok-found.found) c.least_turns.ensures (c.in_ok-found.ensures.found all told size)))
 

@@ -1,6 +1,6 @@
 use Rattle.std.proofs.Common.{◌≡◌, ◌+◌, ap, ◌∙◌, arith, rules}
 use Rattle.page_layout.specs.Geometry.{row_count}
-use Rattle.lab_dump.specs.Sample.{looked_count, looked_row}
+use Rattle.lab_dump.specs.Sample.{looked_row}
 use Rattle.lab_dump.proofs.SampleLemmas.{one, sample_more, sample_none, noted_few, noted_looked}
 use Rattle.lab_shapes.specs.Ordered.{follows, is_in_turn, look_before, look_in, ordered, sample_first}
 use Rattle.lab_shapes.proofs.LookLemmas.{one_byte, one_few, turns_all, turns_more}
@@ -8,16 +8,15 @@ use Rattle.lab_shapes.proofs.looking.look_over.Goals as goal
 
 pub loop-place-init : goal.loop-place-init
 loop-place-init g c =
-    let looked = c.looked_count-looked.ensures.is ∙ ap looked_count c.rows-rows.ensures in
     record {
       raw_room = c.requires.raw_room;
       page_room = c.requires.page_room;
-      few = omega arith;
+      few = (let is = c.none-sample.ensures.is in rw is (omega arith));
       few_turns = omega arith;
-      looked_is = looked;
+      looked_is = c.none-sample.ensures.looked;
       same = search rules;
       last = tt;
-      sample = λ all told size. sample_none _ _ _ _ _ (ap (λ k. record { looked = k; sound = 0; unsound = 0 }) looked);
+      sample = λ all told size. sample_none _ _ _ _ _ c.none-sample.ensures.is;
       turns = search rules;
     }
 
@@ -29,7 +28,7 @@ loop-place-preserved g c =
     let place = c.loop-place.place in
     let look = c.in_ok-look.look in
     let b = c.follows.result in
-    let row = c.looked_row-row.ensures ∙ ap (λ k. looked_row k place) c.rows-rows.ensures in
+    let row = c.looked_row-row.ensures ∙ ap (λ k. looked_row k place) c.rows.ensures in
     let counted : c.loop-place.in_turn + c.from-in_turn.result ≡ c.loop-place.in_turn + one b = ap (λ k. c.loop-place.in_turn + k) (c.from-in_turn.ensures ∙ one_byte b) in
     record {
       raw_room = omega (arith, inv.raw_room, c.look_before.auto.raw, c.look_in_order.auto.raw);
@@ -51,11 +50,11 @@ loop-place-preserved g c =
 pub returns-clause-sample : goal.returns-clause-sample
 returns-clause-sample g c = λ all told size.
     let geo = c.args.geometry.now in
-    let end = omega (arith, c.loop-place-test.false, c.loop-place.auto.place-end) ∙ (c.looked_count-looked.ensures.is ∙ ap looked_count c.rows-rows.ensures) in
+    let end = omega (arith, c.loop-place-test.false, c.loop-place.auto.place-end) ∙ c.none-sample.ensures.looked in
     c.loop-place.invariant.sample all told size ∙ ap (sample_first geo (ordered geo c.args.arrangement.now all)) end
 
 pub returns-clause-turns : goal.returns-clause-turns
 returns-clause-turns g c = λ all told size.
     let geo = c.args.geometry.now in
     turns_all geo (ordered geo c.args.arrangement.now all) c.loop-place.place c.loop-place.in_turn
-    (omega (arith, c.loop-place-test.false, c.loop-place.auto.place-end) ∙ (c.looked_count-looked.ensures.is ∙ ap looked_count c.rows-rows.ensures)) (c.loop-place.invariant.turns all told size)
+    (omega (arith, c.loop-place-test.false, c.loop-place.auto.place-end) ∙ c.none-sample.ensures.looked) (c.loop-place.invariant.turns all told size)

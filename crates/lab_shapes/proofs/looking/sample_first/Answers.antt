@@ -1,20 +1,19 @@
 use Rattle.std.proofs.Common.{ap, ◌∙◌, arith, rules}
 use Rattle.page_layout.specs.Geometry.{row_count}
-use Rattle.lab_dump.specs.Sample.{looked_count, looked_row}
+use Rattle.lab_dump.specs.Sample.{looked_row}
 use Rattle.lab_dump.proofs.SampleLemmas.{sample_more, sample_none, noted_few, noted_looked}
 use Rattle.lab_shapes.specs.Ordered.{look_in, ordered}
 use Rattle.lab_shapes.proofs.looking.sample_first.Goals as goal
 
 pub loop-place-init : goal.loop-place-init
 loop-place-init g c =
-    let looked = c.looked_count-looked.ensures.is ∙ ap looked_count c.rows-rows.ensures in
     record {
       raw_room = c.requires.raw_room;
       page_room = c.requires.page_room;
-      few = omega arith;
-      looked_is = looked;
+      few = (let is = c.none-sample.ensures.is in rw is (omega arith));
+      looked_is = c.none-sample.ensures.looked;
       same = search rules;
-      sample = λ all told size. sample_none _ _ _ _ _ (ap (λ k. record { looked = k; sound = 0; unsound = 0 }) looked);
+      sample = λ all told size. sample_none _ _ _ _ _ c.none-sample.ensures.is;
     }
 
 pub loop-place-preserved : goal.loop-place-preserved
@@ -23,7 +22,7 @@ loop-place-preserved g c =
     let geo = c.args.geometry.now in
     let a = c.args.arrangement.now in
     let place = c.loop-place.place in
-    let row = c.looked_row-row.ensures ∙ ap (λ k. looked_row k place) c.rows-rows.ensures in
+    let row = c.looked_row-row.ensures ∙ ap (λ k. looked_row k place) c.rows.ensures in
     record {
       raw_room = omega (arith, inv.raw_room, c.look_in_order.auto.raw);
       page_room = omega (arith, inv.page_room, c.look_in_order.auto.page);

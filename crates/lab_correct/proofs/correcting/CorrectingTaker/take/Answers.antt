@@ -11,8 +11,8 @@ returns-clause-stands g c =
     let s = c.args.self.now in
     let back = take_at bytes (drop (length bytes) s.scratch.items) s.scratch.len (omega arith) in
     let e = c.correct_page-tally.ensures in
-    ok_map _ _ c.put.result (λ more. more (page c.args.body.now c.args.spare.now) (sizes_by s.geometry c.args.geometry.now c.args.body.now c.args.spare.now c.requires.stands.of c.requires.body_whole c.requires.spare_whole)
-    (made_by s.geometry c.args.body.now c.args.spare.now _ _ _ (back ∙ e.page) e.turned e.lost)) c.put.ensures.stands
+    ok_map _ _ c.put.result (λ more. more (page c.args.areas.body.now c.args.areas.spare.now) (sizes_by s.geometry c.args.geometry.now c.args.areas.body.now c.args.areas.spare.now c.requires.stands.of c.requires.body_whole c.requires.spare_whole)
+    (made_by s.geometry c.args.areas.body.now c.args.areas.spare.now _ _ _ (back ∙ e.page) e.turned e.lost)) c.put.ensures.stands
 
 pub returns-clause-shows : goal.returns-clause-shows
 returns-clause-shows g c =
@@ -20,4 +20,4 @@ returns-clause-shows g c =
     let s = c.args.self.now in
     let back = take_at bytes (drop (length bytes) s.scratch.items) s.scratch.len (omega arith) in
     let e = c.correct_page-tally.ensures in
-    ok_map _ _ c.put.result (λ more image shown at. more image (page c.args.body.now c.args.spare.now) shown at (made_by s.geometry c.args.body.now c.args.spare.now _ _ _ (back ∙ e.page) e.turned e.lost)) c.put.ensures.shows
+    ok_map _ _ c.put.result (λ more image shown at. more image (page c.args.areas.body.now c.args.areas.spare.now) shown at (made_by s.geometry c.args.areas.body.now c.args.areas.spare.now _ _ _ (back ∙ e.page) e.turned e.lost)) c.put.ensures.shows

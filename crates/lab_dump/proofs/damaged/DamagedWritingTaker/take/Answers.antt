@@ -19,7 +19,7 @@ pub returns-in-Some-clause-shows : goal.returns-in-Some-clause-shows
 returns-in-Some-clause-shows g c =
     let geo = c.args.geometry.now in
     let last = c.args.self.now.writing.until in
-    let p = page c.args.body.now c.args.spare.now in
+    let p = page c.args.areas.body.now c.args.areas.spare.now in
     let r = c.in-Some.found in
     let after = c.take_sound.new.self in
     let some : record_until last (record_of p) ≡ Some r = ap (record_until last) (sym c.read_record-found.ensures) ∙ (sym c.record_until-sound.ensures ∙ c.in-Some.is) in
@@ -35,7 +35,7 @@ pub take_said-requires-clause-broken : goal.take_said-requires-clause-broken
 take_said-requires-clause-broken g c =
     let geo = c.args.geometry.now in
     let last = c.args.self.now.writing.until in
-    let p = page c.args.body.now c.args.spare.now in
+    let p = page c.args.areas.body.now c.args.areas.spare.now in
     let some : record_until last (says geo p) ≡ Some c.in-Some-record_until.says = ap (record_until last) (sym c.says-said.ensures) ∙ (sym c.record_until.ensures ∙ c.in-Some-record_until.is) in
     (said_broken geo p c.in-Some-record_until.says (counted_was last (says geo p) c.in-Some-record_until.says some)).0
 
@@ -43,7 +43,7 @@ pub take_said-requires-clause-spelled : goal.take_said-requires-clause-spelled
 take_said-requires-clause-spelled g c =
     let geo = c.args.geometry.now in
     let last = c.args.self.now.writing.until in
-    let p = page c.args.body.now c.args.spare.now in
+    let p = page c.args.areas.body.now c.args.areas.spare.now in
     let some : record_until last (says geo p) ≡ Some c.in-Some-record_until.says = ap (record_until last) (sym c.says-said.ensures) ∙ (sym c.record_until.ensures ∙ c.in-Some-record_until.is) in
     (said_broken geo p c.in-Some-record_until.says (counted_was last (says geo p) c.in-Some-record_until.says some)).1
 
@@ -51,7 +51,7 @@ pub returns-in-Some-record_until-clause-shows : goal.returns-in-Some-record_unti
 returns-in-Some-record_until-clause-shows g c =
     let geo = c.args.geometry.now in
     let last = c.args.self.now.writing.until in
-    let p = page c.args.body.now c.args.spare.now in
+    let p = page c.args.areas.body.now c.args.areas.spare.now in
     let r = c.in-Some-record_until.says in
     let after = c.take_said.new.self in
     let none : record_until last (record_of p) ≡ None = ap (record_until last) (sym c.read_record-found.ensures) ∙ (sym c.record_until-sound.ensures ∙ c.in_default.is) in
@@ -68,7 +68,7 @@ pub returns-in-None-clause-shows : goal.returns-in-None-clause-shows
 returns-in-None-clause-shows g c = λ image h at.
     let geo = c.args.geometry.now in
     let last = c.args.self.now.writing.until in
-    let p = page c.args.body.now c.args.spare.now in
+    let p = page c.args.areas.body.now c.args.areas.spare.now in
     let none : record_until last (record_of p) ≡ None = ap (record_until last) (sym c.read_record-found.ensures) ∙ (sym c.record_until-sound.ensures ∙ c.in_default.is) in
     let silent : record_until last (says geo p) ≡ None = ap (record_until last) (sym c.says-said.ensures) ∙ (sym c.record_until.ensures ∙ c.in-None.is) in (
       nothing_noted geo c.args.row (until geo last image) (said_marks geo last image) (said_reads geo image) _ _ h.0

@@ -11,7 +11,7 @@ use Rattle.lab_dump.proofs.history.RecallingTaker.take.Goals as goal
 pub returns-in-Some-clause-shows : goal.returns-in-Some-clause-shows
 returns-in-Some-clause-shows c = λ image shown at.
     let row = c.args.row in
-    let p = page c.args.body.now c.args.spare.now in
+    let p = page c.args.areas.body.now c.args.areas.spare.now in
     let after = c.note.new.self in
     let says : record_of p ≡ Some c.in-Some.found = sym c.read_record.ensures ∙ c.in-Some.is in
     subst (λ (n : ℕ). Shows n (row + 1) image after.pages.items after.unsound) (sym c.note.ensures.sector) (record {
@@ -22,7 +22,7 @@ returns-in-Some-clause-shows c = λ image shown at.
 pub returns-in-None-clause-shows : goal.returns-in-None-clause-shows
 returns-in-None-clause-shows c = λ image shown at.
     let row = c.args.row in
-    let p = page c.args.body.now c.args.spare.now in
+    let p = page c.args.areas.body.now c.args.areas.spare.now in
     let pages = c.args.self.now.pages.items in
     let says : record_of p ≡ None = sym c.read_record.ensures ∙ c.in-None.is in
     let whole : is_broken p ≡ false = ap (λ b. not b && not (is_some (record_of p))) (sym c.is_erased.ensures ∙ c.if-is_erased.true) in
@@ -34,7 +34,7 @@ returns-in-None-clause-shows c = λ image shown at.
 pub returns-in-None-2-clause-shows : goal.returns-in-None-2-clause-shows
 returns-in-None-2-clause-shows c = λ image shown at.
     let row = c.args.row in
-    let p = page c.args.body.now c.args.spare.now in
+    let p = page c.args.areas.body.now c.args.areas.spare.now in
     let pages = c.args.self.now.pages.items in
     let says : record_of p ≡ None = sym c.read_record.ensures ∙ c.in-None-2.is in
     let broken : is_broken p ≡ true = ap (λ b. not b && not (is_some (record_of p))) (sym c.is_erased.ensures ∙ c.if-is_erased.false) ∙ ap (λ found. not (is_some found)) says in

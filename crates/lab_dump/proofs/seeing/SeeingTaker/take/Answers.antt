@@ -9,7 +9,7 @@ use Rattle.lab_dump.proofs.seeing.SeeingTaker.take.Goals as goal
 
 pub returns-clause-shows : goal.returns-clause-shows
 returns-clause-shows c = λ image h at.
-    let p = page c.args.body.now c.args.spare.now in
+    let p = page c.args.areas.body.now c.args.areas.spare.now in
     let g = c.args.geometry.now in
     let row = c.args.row in
     let same = c.requires.stands.geometry_is in

@@ -1,8 +1,7 @@
-use Rattle.std.proofs.Common.{◌∙◌, sym, subst, IfSome, ◌+◌, set}
-use Rattle.std.proofs.lemmas.List.{length-set}
+use Rattle.std.proofs.Common.{◌∙◌, sym, subst, ◌+◌, set}
 use Rattle.page_layout.specs.Array.{content_of_kind}
-use Rattle.lab_dump.specs.Writing.{AreSized, Shows}
-use Rattle.lab_dump.proofs.WritingLemmas.{other_none, unmarked_none, nothing_noted, said_noted, says_sector, sized_after, within_is}
+use Rattle.lab_dump.specs.Writing.{Shows}
+use Rattle.lab_dump.proofs.WritingLemmas.{other_none, unmarked_none, nothing_noted, said_noted, says_sector, stands_after, within_is}
 use Rattle.lab_dump.proofs.writing.Writing.take_said.Goals as goal
 
 pub returns-in_default-clause-shows : goal.returns-in_default-clause-shows
@@ -12,15 +11,7 @@ returns-in_default-clause-shows g c = λ image said reads shown unmarked mark he
 
 pub returns-in-Ok-clause-stands : goal.returns-in-Ok-clause-stands
 returns-in-Ok-clause-stands g c =
-    let geo = c.args.geometry.now in
-    let n = c.in-Some.sector in
-    let stands = c.requires.stands in
-    record {
-      size = length-set c.args.self.now.held.items n c.step_said-held.result.0 ∙ stands.size;
-      blank_is = stands.blank_is;
-      sized = subst (λ ps. IfSome ps (AreSized geo)) (sym c.in-Ok.ensures.written)
-          (sized_after geo c.step_said-held.result.1 n (content_of_kind geo c.args.says.now.kind c.args.body.now) (g.T.Pieces.pieces c.args.self.now.target) stands.sized);
-    }
+    stands_after c.args.geometry.now _ c.step_said-held.result.0 c.step_said-held.result.1 c.in-Some.sector _ (content_of_kind c.args.geometry.now c.args.says.now.kind c.args.body.now) _ _ c.requires.stands c.in-Ok.ensures.written
 
 pub returns-in-Ok-clause-shows : goal.returns-in-Ok-clause-shows
 returns-in-Ok-clause-shows g c = λ image said reads shown unmarked mark here.

@@ -1,10 +1,9 @@
-use Rattle.std.proofs.Common.{◌∙◌, sym, ap, subst, IfSome, ◌+◌, set}
-use Rattle.std.proofs.lemmas.List.{length-set}
+use Rattle.std.proofs.Common.{◌∙◌, sym, ap, subst, ◌+◌, set}
 use Rattle.page_layout.specs.Array.{content_of_kind, zeros}
 use Rattle.page_layout.proofs.ArrayLemmas.{mark-page}
 use Rattle.lab_dump.specs.Held.{pieces_after}
-use Rattle.lab_dump.specs.Writing.{AreSized, Shows}
-use Rattle.lab_dump.proofs.WritingLemmas.{other_none, unmarked_none, nothing_noted, sound_noted, holds, sized_after, within_is}
+use Rattle.lab_dump.specs.Writing.{Shows}
+use Rattle.lab_dump.proofs.WritingLemmas.{other_none, unmarked_none, nothing_noted, sound_noted, holds, stands_after, within_is}
 use Rattle.lab_dump.proofs.writing.Writing.take_sound.Goals as goal
 
 pub returns-in_default-clause-shows : goal.returns-in_default-clause-shows
@@ -14,15 +13,7 @@ returns-in_default-clause-shows g c = λ image said reads p shown at body says u
 
 pub returns-in-Ok-clause-stands : goal.returns-in-Ok-clause-stands
 returns-in-Ok-clause-stands g c =
-    let geo = c.args.geometry.now in
-    let n = c.in-Some.sector in
-    let stands = c.requires.stands in
-    record {
-      size = length-set c.args.self.now.held.items n c.step-held.result.0 ∙ stands.size;
-      blank_is = stands.blank_is;
-      sized = subst (λ ps. IfSome ps (AreSized geo)) (sym c.in-Ok.ensures.written)
-          (sized_after geo c.step-held.result.1 n (content_of_kind geo c.args.found.now.kind c.args.body.now) (g.T.Pieces.pieces c.args.self.now.target) stands.sized);
-    }
+    stands_after c.args.geometry.now _ c.step-held.result.0 c.step-held.result.1 c.in-Some.sector _ (content_of_kind c.args.geometry.now c.args.found.now.kind c.args.body.now) _ _ c.requires.stands c.in-Ok.ensures.written
 
 pub returns-in-Ok-clause-shows : goal.returns-in-Ok-clause-shows
 returns-in-Ok-clause-shows g c = λ image said reads p shown at body says unsaid.

@@ -16,7 +16,7 @@ pub returns-in-None-clause-shows : goal.returns-in-None-clause-shows
 returns-in-None-clause-shows g c = λ image h at.
     let geo = c.args.geometry.now in
     let last = c.args.self.now.until in
-    let p = page c.args.body.now c.args.spare.now in
+    let p = page c.args.areas.body.now c.args.areas.spare.now in
     let none : record_until last (record_of p) ≡ None = ap (record_until last) (sym c.read_record-found.ensures) ∙ (sym c.record_until.ensures ∙ c.in-None.is) in (
       nothing_noted geo c.args.row (until geo last image) _ _ _ _ h.0
           (unmarked_none geo (marks (until geo last image)) c.args.row
@@ -33,7 +33,7 @@ pub returns-in-Some-clause-shows : goal.returns-in-Some-clause-shows
 returns-in-Some-clause-shows g c =
     let geo = c.args.geometry.now in
     let last = c.args.self.now.until in
-    let p = page c.args.body.now c.args.spare.now in
+    let p = page c.args.areas.body.now c.args.areas.spare.now in
     let r = c.in-Some.found in
     let after = c.take_sound.new.self in
     let some : record_until last (record_of p) ≡ Some r = ap (record_until last) (sym c.read_record-found.ensures) ∙ (sym c.record_until.ensures ∙ c.in-Some.is) in

@@ -17,4 +17,4 @@ returns-clause-shows g c =
     let after = c.write.new.self in
     ok_map _ _ c.write.result (λ more image shown at.
     subst (λ (asked : RepairAsked). Shows asked (c.args.row + 1) image after.mends.items (g.T.Pieces.pieces after.target)) (sym c.write.ensures.asked)
-    (more image (page c.args.body.now c.args.spare.now) shown at c.write_page-turn.ensures.turn (back ∙ c.write_page-turn.ensures.piece))) c.write.ensures.shows
+    (more image (page c.args.areas.body.now c.args.areas.spare.now) shown at c.write_page-turn.ensures.turn (back ∙ c.write_page-turn.ensures.piece))) c.write.ensures.shows

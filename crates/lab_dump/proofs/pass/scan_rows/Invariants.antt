@@ -1,7 +1,7 @@
 use Rattle.std.proofs.Common.{◌≡◌, length}
 use Rattle.lab_dump.specs.Rows.{within}
 use Rattle.lab_dump.specs.Scan.{IsReadTo}
-use Rattle.lab_dump.proofs.pass.take_pages.Given as goal
+use Rattle.lab_dump.proofs.pass.scan_rows.Given as goal
 
 abbrev pub invariant-loop-row : goal.invariant-loop-row
 invariant-loop-row g l =
