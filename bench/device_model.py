@@ -4,13 +4,18 @@ Written from the rules of docs/ alone. It keeps no bytes: a page is its key, its
 count of its block when it was programmed, the version of its record, and what it tells (what a sector
 holds, a list of rows, a list of blocks). `bench/device_expected.py` prints from it what the tests of
 devices expect, and `bench/reference.py` has from it what `migrate` stores.
+
+One number, the share, says how many moved sectors may wait for each translation page, in the mean. The
+engine runs at share 0, of which docs/ tell; greater ones are the model's alone. `bench/share_model.py`
+holds what is said of them.
 """
 
-from collections import OrderedDict
+from collections import Counter, OrderedDict
 
 SECTOR, TRIM, TRANSLATION, TABLE = 1, 2, 3, 4
 DATA, META = 0, 1
 RESERVE, TURN_RESERVE, FLOOR, MOST_WEAR = 9, 12, 5, 16777215
+MOST_STALE = 65535
 NO_SEQUENCE = 2**64 - 1
 TORN = "torn"
 
@@ -20,6 +25,10 @@ class ReadOnly(Exception):
 
 
 class SequenceSpent(Exception):
+    pass
+
+
+class OutOfMemory(Exception):
     pass
 
 
@@ -33,9 +42,25 @@ class Geometry:
         self.E = data // 4
         self.T = -(-sectors // self.E)
         self.U = -(-blocks // self.E)
-        self.vmax = max(pages - 1 - self.T, (pages - 1) // 2)
-        self.need = (sectors + self.T + self.U) // (self.vmax + 1) + 11
+        self.vmax, self.need = self.vmax_at(0), self.need_at(0)
         self.version = 2 if spare >= 40 else 1
+
+    def is_share(self, share):
+        """Whether no more sectors are ever stale than a cache has room for, but for its own."""
+        return share * self.T + self.P <= MOST_STALE
+
+    def vmax_at(self, share):
+        """The most live pages of a block that is worth collecting: with the translation pages that fall due
+        they are fewer than a block has pages."""
+        return max(self.P - 1 - self.T, (self.P - 1) * (share + 1) // (share + 2))
+
+    def flush_blocks(self, share):
+        """The free blocks that a flush asks for beyond those of a call, since it collects nothing on its way."""
+        return -(-self.T // self.P) + 2 if share else 0
+
+    def need_at(self, share):
+        """The good blocks that writing needs."""
+        return (self.L + self.T + self.U) // (self.vmax_at(share) + 1) + 11 + self.flush_blocks(share)
 
 
 class Page:
@@ -121,7 +146,7 @@ class Die:
         return best
 
 
-def format_die(die, marks=()):
+def format_die(die, marks=(), share=0):
     g = die.g
     classes = [1 if b in marks else 0 for b in range(g.B)]
     sequence, failures = 1, 0
@@ -129,7 +154,7 @@ def format_die(die, marks=()):
         good = [b for b in range(g.B) if classes[b] == 0]
         if failures == 3:
             raise Exception("WriteFailed")
-        if len(good) < g.need:
+        if len(good) < g.need_at(share):
             raise Exception(f"TooFewGood {len(good)}")
         block = good[0]
         for u in range(g.U):
@@ -195,11 +220,16 @@ class Mounted:
 
 
 class Device:
-    def __init__(self, die, capacity):
+    """What `start` makes of a die. `refuses` says whether memory for an entry more of the cache is refused."""
+
+    def __init__(self, die, capacity, share=0):
         m = Mounted(die)
         if len(m.stale) > capacity:
             raise TooStale(len(m.stale))
-        self.die, self.g, self.capacity = die, die.g, capacity
+        assert die.g.is_share(share)
+        self.die, self.g, self.capacity, self.refuses = die, die.g, capacity, False
+        self.share, self.settled = share, share * die.g.T
+        self.vmax, self.need, self.flush_blocks = die.g.vmax_at(share), die.g.need_at(share), die.g.flush_blocks(share)
         self.cls = [1 if c == 4 else 2 if c == 5 else 0 for c in m.cls]
         self.wear, self.pointer, self.next = list(m.wear), list(m.pointer), m.next
         self.open = [None, None]
@@ -218,10 +248,10 @@ class Device:
         self.collected = 0
 
     def free(self):
-        return sum(c == 0 and p == 0 for c, p in zip(self.cls, self.pointer))
+        return list(zip(self.cls, self.pointer)).count((0, 0))
 
     def good(self):
-        return sum(c == 0 for c in self.cls)
+        return self.cls.count(0)
 
     def is_closed(self, b):
         return self.cls[b] == 0 and self.pointer[b] > 0 and b not in self.open
@@ -274,6 +304,7 @@ class Device:
         self.marked.discard(t)
 
     def copy(self, row, flushing):
+        assert len(self.moved) < self.settled + self.g.P
         page = self.die.rows[row]
         new = self.put(DATA if page.kind < 3 else META, page.kind, page.number, page.body)
         if page.kind < 3:
@@ -290,18 +321,36 @@ class Device:
         self.collected += 1
         self.pinned = block
 
+    def lowest_due(self):
+        """The lowest translation page that has to be written back before the pinned block is erased: a marked one,
+        and where more sectors wait than may, one that more than `share` of them wait for."""
+        crowded = set()
+        if len(self.moved) > self.settled:
+            waiting = Counter(n // self.g.E for n in self.moved)
+            crowded = {t for t, count in waiting.items() if count > self.share}
+        return min(self.marked | crowded, default=None)
+
+    def bring_out(self, row, flushing):
+        """Programs a live page of the pinned block elsewhere: copied, or a translation page, where sectors may wait,
+        with what waits for it."""
+        if self.share and self.die.rows[row].kind == TRANSLATION:
+            self.write_back(self.die.rows[row].number)
+        else:
+            self.copy(row, flushing)
+
     def step(self, flushing):
         """One step of the collection of the pinned block; whether it was the last."""
         g, block = self.g, self.pinned
+        assert not (flushing and self.share)
         for row in range(block * g.P, (block + 1) * g.P):
             page = self.die.rows[row]
             if page is not None and page is not TORN and self.newest.get(page.key()) == row:
-                self.copy(row, flushing)
+                self.bring_out(row, flushing)
                 return False
-        for t in range(g.T):
-            if t in self.marked or any(n // g.E == t for n in self.moved):
-                self.write_back(t)
-                return False
+        due = self.lowest_due()
+        if due is not None:
+            self.write_back(due)
+            return False
         if self.die.erase(block):
             self.wear[block] = min(MOST_WEAR, self.wear[block] + 1)
             self.pointer[block] = 0
@@ -325,22 +374,25 @@ class Device:
 
     def worth(self, free):
         """The block that is worth collecting, where fewer than so many are free."""
-        victim = self.victim()
-        if self.free() >= free or victim is None or self.live[victim] > self.g.vmax:
+        if self.free() >= free:
             return None
-        return victim
+        victim = self.victim()
+        return None if victim is None or self.live[victim] > self.vmax else victim
 
-    def make_room(self, flushing):
-        if self.pinned is not None and self.free() < RESERVE:
-            self.finish(flushing)
-        while (victim := self.worth(RESERVE)) is not None:
-            self.collect(victim, flushing)
+    def ask_floor(self):
         if self.free() < FLOOR:
             raise ReadOnly()
 
+    def make_room(self, flushing, free=RESERVE):
+        if self.pinned is not None and self.free() < free:
+            self.finish(flushing)
+        while (victim := self.worth(free)) is not None:
+            self.collect(victim, flushing)
+        self.ask_floor()
+
     def call(self, body):
         if self.read_only:
-            return ("ReadOnly", self.good(), self.g.need, 0)
+            return ("ReadOnly", self.good(), self.need, 0)
         if self.next == NO_SEQUENCE:
             return ("SequenceSpent",)
         good = self.good()
@@ -348,27 +400,48 @@ class Device:
             body()
             answer = "Done"
         except ReadOnly:
-            answer = ("ReadOnly", self.good(), self.g.need, good - self.good())
+            answer = ("ReadOnly", self.good(), self.need, good - self.good())
         except SequenceSpent:
             answer = ("SequenceSpent",)
+        except OutOfMemory:
+            answer = ("OutOfMemory",)
         self.read_only = self.free() < FLOOR
         return answer
 
-    def evict(self):
-        """Makes a place in the cache."""
+    def make_place(self):
+        """Cleans the entry that has to leave a full cache."""
         if len(self.cache) == self.capacity:
             n, (row, dirty) = next(iter(self.cache.items()))
             if dirty:
                 self.write_back(n // self.g.E)
+
+    def load(self, n, row):
+        """Caches a sector, as the most recently used."""
+        if len(self.cache) == self.capacity:
             self.cache.popitem(last=False)
+        self.cache[n] = [row, self.moved.pop(n, None) is not None]
+
+    def put_uncached(self, n, kind, byte):
+        """A sector for which memory is refused goes on the list, and its translation page is written back at once.
+        Where there is no block or no sequence for that the sector stays on the list: it is written all the same."""
+        if self.share == 0 or len(self.moved) >= self.settled + self.g.P:
+            raise OutOfMemory()
+        self.moved[n] = self.put(DATA, kind, n, byte)
+        try:
+            self.write_back(n // self.g.E)
+        except (ReadOnly, SequenceSpent):
+            pass
 
     def change(self, n, kind, byte):
         def body():
             self.make_room(False)
             if n not in self.cache:
                 row = self.newest.get((1, n))
-                self.evict()
-                self.cache[n] = [row, self.moved.pop(n, None) is not None]
+                self.make_place()
+                if self.refuses:
+                    self.put_uncached(n, kind, byte)
+                    return
+                self.load(n, row)
             self.cache.move_to_end(n)
             row = self.put(DATA, kind, n, byte)
             self.cache[n] = [row, True]
@@ -384,30 +457,42 @@ class Device:
         row = self.newest.get((1, n))
         if n in self.cache:
             self.cache.move_to_end(n)
-        elif n not in self.moved:
-            if len(self.cache) < self.capacity:
-                self.cache[n] = [row, False]
-            elif not next(iter(self.cache.values()))[1]:
-                self.cache.popitem(last=False)
-                self.cache[n] = [row, False]
+        elif n not in self.moved and not self.refuses:
+            if len(self.cache) < self.capacity or not next(iter(self.cache.values()))[1]:
+                self.load(n, row)
         return 0 if row is None else self.die.rows[row].body
 
     def lacks(self, t):
         return any(n // self.g.E == t for n in [n for n, e in self.cache.items() if e[1]] + list(self.moved))
 
+    def make_flush_room(self):
+        """Room for a page of a flush: where sectors may wait nothing is collected on the way."""
+        if self.share:
+            self.ask_floor()
+        else:
+            self.make_room(True)
+
+    def flush_translations(self):
+        for t in range(self.g.T):
+            if self.lacks(t):
+                self.make_flush_room()
+                self.write_back(t)
+
+    def write_tables(self):
+        while True:
+            good = self.good()
+            for u in range(self.g.U):
+                self.put(META, TABLE, u, list(zip(self.cls, self.wear)))
+            if self.good() == good:
+                break
+
     def flush(self):
         def body():
-            for t in range(self.g.T):
-                if self.lacks(t):
-                    self.make_room(True)
-                    self.write_back(t)
-            self.make_room(True)
-            while True:
-                good = self.good()
-                for u in range(self.g.U):
-                    self.put(META, TABLE, u, list(zip(self.cls, self.wear)))
-                if self.good() == good:
-                    break
+            if self.share:
+                self.make_room(False, RESERVE + self.flush_blocks)
+            self.flush_translations()
+            self.make_flush_room()
+            self.write_tables()
         return self.call(body)
 
     def rescue(self, row):
@@ -441,19 +526,19 @@ class Device:
                 self.rescue(min(rows))
             elif self.pinned is not None:
                 self.step(False)
-            elif (victim := self.worth(TURN_RESERVE)) is not None:
+            elif (victim := self.worth(TURN_RESERVE + self.flush_blocks)) is not None:
                 self.pin(victim)
                 self.step(False)
         return self.call(body)
 
 
-def formatted(g, capacity, marks=(), failing=(), page_left=0):
+def formatted(g, capacity, marks=(), failing=(), page_left=0, share=0):
     die = Die(g, marks)
-    answer = format_die(die, marks)
+    answer = format_die(die, marks, share)
     die.failing = {die.changes + n for n in failing}
     die.page_left = page_left
     die.log = []
-    return Device(die, capacity), answer
+    return Device(die, capacity, share), answer
 
 
 def show(device, first=0):

@@ -2,13 +2,18 @@
 """How many sectors a die gives.
 
 A die serves writes while as many blocks are good as its geometry needs (`need` of docs/FORMATS.md). So the most sectors
-are the most for which no more blocks are needed than there are."""
+are the most for which no more blocks are needed than there are.
+
+With --share several numbers of a die are told, one for each share: how many moved sectors may wait for each translation page
+(`device_model.py`). The programs of today run at share 0, which is told without it."""
 
 import argparse
 import subprocess
 import sys
 import tempfile
 from pathlib import Path
+
+from device_model import Geometry
 
 MOST_SECTORS = 1 << 20
 # docs/FORMATS.md: data, spare, pages, blocks, sectors
@@ -38,25 +43,17 @@ TRIED = [
 ]
 
 
-def up(a, b):
-    """a / b, rounded up."""
-    return -(-a // b)
-
-
-def need(data, pages, blocks, sectors):
+def need(die, sectors, share=0):
     """The good blocks that writing needs."""
-    entries = data // 4
-    translation, table = up(sectors, entries), up(blocks, entries)
-    worth = max(pages - 1 - translation, (pages - 1) // 2)
-    return (sectors + translation + table) // (worth + 1) + 11
+    return Geometry(*die, sectors).need_at(share)
 
 
-def most(data, pages, blocks, good):
+def most(die, good, share=0):
     """The most sectors that this many good blocks serve, 0 where they serve none: `need` never falls as sectors rise."""
     low, high = 0, MOST_SECTORS
     while low < high:
         mid = (low + high + 1) // 2
-        if need(data, pages, blocks, mid) <= good:
+        if need(die, mid, share) <= good:
             low = mid
         else:
             high = mid - 1
@@ -72,17 +69,30 @@ def size(count):
     return f"{count:.0f} GiB"
 
 
-def line(data, spare, pages, blocks, good):
-    sectors = most(data, pages, blocks, good)
-    part = 100 * sectors / (pages * blocks)
-    return f"| {data}+{spare} | {pages} | {blocks:,} | {sectors:,} | {size(sectors * data)} | {part:.0f} % |"
+def told(die, good, share):
+    """The cells of a share: sectors, the disk, the part of all pages."""
+    data, _, pages, blocks = die
+    sectors = most(die, good, share)
+    return [f"{sectors:,}", size(sectors * data), f"{100 * sectors / (pages * blocks):.0f} %"]
 
 
-def table(dies):
-    print("| Page | Pages a block | Blocks | Sectors at most | Disk | Of all pages |")
-    print("|---|---|---|---|---|---|")
-    for data, spare, pages, blocks in dies:
-        print(line(data, spare, pages, blocks, blocks))
+def line(die, good, shares):
+    data, spare, pages, blocks = die
+    cells = [f"{data}+{spare}", str(pages), f"{blocks:,}"]
+    return "| " + " | ".join(cells + [cell for share in shares for cell in told(die, good, share)]) + " |"
+
+
+def head(shares):
+    names = ["Sectors at most", "Disk", "Of all pages"]
+    cells = [f"{name}, share {share}" if len(shares) > 1 else name for share in shares for name in names]
+    return "| Page | Pages a block | Blocks | " + " | ".join(cells) + " |"
+
+
+def table(dies, shares):
+    print(head(shares))
+    print("|---" * (3 + 3 * len(shares)) + "|")
+    for die in dies:
+        print(line(die, die[3], shares))
 
 
 def formats(program, folder, die, sectors):
@@ -100,12 +110,12 @@ def check():
 
     with tempfile.TemporaryDirectory() as name:
         for die in TRIED:
-            data, spare, pages, blocks = die
-            sectors = most(data, pages, blocks, blocks)
+            blocks = die[3]
+            sectors = most(die, blocks)
             if sectors > 0:
                 wanted = f"good {blocks}\n"
                 assert formats(PROGRAM, Path(name), die, sectors) == wanted, (die, sectors)
-            wanted = f"refused format 1 TooFewGood good {blocks} need {need(data, pages, blocks, sectors + 1)}\n"
+            wanted = f"refused format 1 TooFewGood good {blocks} need {need(die, sectors + 1)}\n"
             assert formats(PROGRAM, Path(name), die, sectors + 1) == wanted, (die, sectors + 1)
             print(f"{die}: {sectors} sectors, and no more")
 
@@ -122,14 +132,15 @@ def main():
     words = argparse.ArgumentParser(description="Tells how many sectors a die gives: a table for usual dies, or the line of one.")
     words.add_argument("die", metavar="DATA,SPARE,PAGES,BLOCKS", type=geometry, nargs="?", help="one die, as GEOM begins")
     words.add_argument("--good", metavar="N", type=int, help="so many of its blocks are good (default: all)")
+    words.add_argument("--share", metavar="N", type=int, nargs="+", default=[0], help="for each of these shares (default: 0)")
     words.add_argument("--check", action="store_true", help="holds the numbers against what `nandctl format` refuses (PROGRAM=.. names the program)")
     asked = words.parse_args()
     if asked.check:
         check()
     elif asked.die is None:
-        table(USUAL)
+        table(USUAL, asked.share)
     else:
-        print(line(*asked.die, asked.good or asked.die[3]))
+        print(line(asked.die, asked.good or asked.die[3], asked.share))
 
 
 if __name__ == "__main__":

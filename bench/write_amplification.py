@@ -3,10 +3,16 @@
 per cent of the largest array of a die.
 
     [PROGRAM=..] bench/write_amplification.py [--model]
+    bench/write_amplification.py --share N.. [--die DATA,SPARE,PAGES,BLOCKS] [--sectors N..] [--cache N..] [--writes N]
 
 Programs are read off the next sequences of the image with each sector written once, and of the image after the 100,000. With
---model `device_model.py` makes the same writes, and its programs have to be the same."""
+--model `device_model.py` makes the same writes, and its programs have to be the same.
 
+With --share the model alone makes them, for each of these numbers of moved sectors that may wait for each translation page
+(the program runs at share 0): at 50, 70 and 90 per cent of all pages of a larger die. A size that a share cannot have is `-`.
+It ends with status 1 where a greater share costs more programs than a smaller one."""
+
+import argparse
 import math
 import struct
 import subprocess
@@ -14,18 +20,21 @@ import sys
 import tempfile
 from pathlib import Path
 
-from device_model import Geometry, formatted
+from device_model import META, Device, Die, Geometry, format_die, formatted
 from program import PROGRAM
+from sectors import geometry as die_word
 
 DATA, SPARE, PAGES, BLOCKS = 4096, 128, 64, 128
 WRITES = 100_000
 ARRAYS = [(50, 3358), (70, 4701), (90, 6045)]
+# So large that share 0 can have 70 per cent of its pages as sectors, and share 15 can have 90.
+SHARED_DIE = (4096, 128, 64, 384)
 
 
-def sectors_of(count):
+def sectors_of(count, writes=WRITES):
     """Uniformly random sectors, by a plain generator that the model uses too."""
     state = 20_260_101
-    for _ in range(WRITES):
+    for _ in range(writes):
         state = (state * 6_364_136_223_846_793_005 + 1_442_695_040_888_963_407) % 2**64
         yield (state >> 33) % count
 
@@ -89,19 +98,79 @@ def greedy_limit(pages):
     return 1 / (1 - low)
 
 
-def main(words):
+class Counted(Device):
+    """A device that counts the pages of the mapping's stream."""
+
+    mapped = 0
+
+    def put(self, stream, kind, number, body):
+        self.mapped += stream == META
+        return super().put(stream, kind, number, body)
+
+
+def shared(die, count, capacity, share, writes):
+    """Programs a write, and those of the mapping's stream among them; none where the die has too few blocks."""
+    g = Geometry(*die, count)
+    if g.need_at(share) > g.B:
+        return None
+    pages = Die(g)
+    format_die(pages, (), share)
+    device = Counted(pages, capacity, share)
+    for sector in range(count):
+        assert device.write(sector, 0) == "Done"
+    programs, mapped = device.next, device.mapped
+    for sector in sectors_of(count, writes):
+        assert device.write(sector, 0) == "Done"
+    return (device.next - programs) / writes, (device.mapped - mapped) / writes
+
+
+def told(cost):
+    return f"{'-':>14}" if cost is None else f"{cost[0]:7.2f} {cost[1]:6.2f}"
+
+
+def show_shares(asked):
+    """A line for each size and cache: programs a write, and those of the mapping, at each share. Whether none rises with the share."""
+    data, spare, pages, blocks = asked.die
+    print(" part sectors  cache", *(f" share {share:2} mapped" for share in asked.share), " greedy limit")
+    is_fewer = True
+    for count in asked.sectors or [pages * blocks * part // 100 for part in (50, 70, 90)]:
+        limit = greedy_limit(count / (pages * (blocks - 9 - 1)))
+        for capacity in asked.cache or (256, count):
+            costs = [shared(asked.die, count, capacity, share, asked.writes) for share in asked.share]
+            known = [cost[0] for cost in costs if cost]
+            is_fewer &= known == sorted(known, reverse=True)
+            print(f"{100 * count / (pages * blocks):4.0f}% {count:7} {capacity:6}", *map(told, costs), f"{limit:13.2f}", flush=True)
+    return is_fewer
+
+
+def show_program(model):
     print("part sectors  cache  programs  a write  greedy limit")
     for part, count in ARRAYS:
         # Nine blocks are kept free, and one is open for translation pages.
         limit = greedy_limit(count / (PAGES * (BLOCKS - 9 - 1)))
         for capacity in (256, count):
             programs = measured(count, capacity)
-            if "--model" in words and modelled(count, capacity) != programs:
+            if model and modelled(count, capacity) != programs:
                 sys.exit(f"{part} {capacity}: {programs} programs, and others of the model")
             times = programs / WRITES
             bar = "#" * round(10 * times)
             print(f"{part:3}% {count:7} {capacity:6} {programs:9} {times:8.2f} {limit:13.2f}     {bar}", flush=True)
 
 
+def main():
+    words = argparse.ArgumentParser(description="Measures how many programs a write costs.")
+    words.add_argument("--model", action="store_true", help="holds the model's programs against the program's")
+    words.add_argument("--share", metavar="N", type=int, nargs="+", help="the model alone, at these shares")
+    words.add_argument("--die", metavar="DATA,SPARE,PAGES,BLOCKS", type=die_word, default=SHARED_DIE)
+    words.add_argument("--sectors", metavar="N", type=int, nargs="+", help="these sizes (default: 50, 70 and 90 per cent of all pages)")
+    words.add_argument("--cache", metavar="N", type=int, nargs="+", help="these caches (default: 256 and all)")
+    words.add_argument("--writes", metavar="N", type=int, default=WRITES)
+    asked = words.parse_args()
+    if asked.share is None:
+        show_program(asked.model)
+    elif not show_shares(asked):
+        sys.exit("a share costs more programs than a smaller one")
+
+
 if __name__ == "__main__":
-    main(sys.argv[1:])
+    main()
