@@ -8,7 +8,7 @@ translation page in turn, random ones, turns between, the failure of each progra
 stops at each change, flushes with the list full, refused memory, the last sequences. Victims are the emptiest blocks, as ever,
 or the fullest that are worth it. Each bound is an assertion in `Held`; the script ends with status 1 at the first that is broken.
 
-With --planted the rule is made wrong in nine ways, one at a time, and each has to break a bound.
+With --planted the rule is made wrong in ten ways, one at a time, and each has to break a bound.
 
 The engine runs at share 0. What is held of greater shares is held of the model alone."""
 
@@ -18,7 +18,7 @@ import sys
 from collections import Counter
 
 import sectors as table
-from device_model import FLOOR, MOST_STALE, NO_SEQUENCE, RESERVE, SECTOR, TORN, TRANSLATION, TURN_RESERVE, Device, Die, Geometry, Mounted, format_die
+from device_model import DATA, FLOOR, MOST_STALE, NO_SEQUENCE, RESERVE, SECTOR, TORN, TRANSLATION, TURN_RESERVE, Device, Die, Geometry, Mounted, format_die
 
 SHARES = (0, 1, 3, 15)
 # bytes of data, pages a block, sectors: with more translation pages than a block has pages, and with fewer
@@ -563,6 +563,14 @@ class CopiedTables(Harsh):
             self.moved = {n: at for n, at in self.moved.items() if n // self.g.E != page.number}
 
 
+class RefusedAfterwards(Harsh):
+    """A write without memory answers what its write-back answers, after the sector's page is programmed."""
+
+    def put_uncached(self, n, kind, byte):
+        self.moved[n] = self.put(DATA, kind, n, byte)
+        self.write_back(n // self.g.E)
+
+
 class ShortGeometry(Geometry):
     def need_at(self, share):
         return super().need_at(share) - 1
@@ -574,12 +582,12 @@ class OneTooFew(Harsh):
     geometry = ShortGeometry
 
 
-PLANTED = (VmaxOver, OneOver, Fewest, OnceOnly, LeavesWaiting, FlushWithoutRoom, OffTheList, CopiedTables, OneTooFew)
+PLANTED = (VmaxOver, OneOver, Fewest, OnceOnly, LeavesWaiting, FlushWithoutRoom, OffTheList, CopiedTables, RefusedAfterwards, OneTooFew)
 
 
 def is_refused(kind, share):
     """Whether the scripts break a bound of a device with a wrong rule."""
-    for hold in (hold_levelled, hold_full_flushes, hold_scripts, hold_failures):
+    for hold in (hold_levelled, hold_full_flushes, hold_last_sequences, hold_scripts, hold_failures):
         for shape in (SHORT, SHAPES[1], *SHAPES[5:]):
             try:
                 hold(shape, share, kind)
