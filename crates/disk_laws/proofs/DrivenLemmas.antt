@@ -1,9 +1,10 @@
 -- What a driver's record tells of what is lost of a store, and of what a call that failed leaves there.
-use Rattle.std.proofs.Common.{◌≡◌, ◌⊎◌, inl, inr, ℕ, ◌+◌, ◌*◌, ◌<◌, Bool, true, false, List, [], ◌∷◌, ◌++◌, length, replicate, Some, Ok, Err, Result, refl, sym, ap, subst, ◌∙◌}
+use Rattle.std.proofs.Common.{◌≡◌, ◌⊎◌, inl, inr, ℕ, ◌+◌, ◌*◌, ◌<◌, Bool, true, false, List, [], ◌∷◌, ◌++◌, length, replicate, Some, None, Ok, Err, Result, refl, sym, ap, subst, ◌∙◌, append-nil}
 use Rattle.page_layout.specs.declared.geometry.Geometry.{Geometry}
 use Rattle.page_layout.specs.declared.source.SourceFault.{SourceFault}
 use Rattle.page_layout.specs.Geometry.{row_count}
 use Rattle.page_layout.specs.Page.{Image, IsImage, page}
+use Rattle.page_layout.specs.Sound.{record_of}
 use Rattle.page_layout.specs.Change.{erased_page}
 use Rattle.page_layout.specs.Flash.{Erase, Operation, Program, block_at, may_erase, page_at}
 use Rattle.page_layout.specs.Recording.{Records, image_after, image_after_all}
@@ -22,13 +23,14 @@ use Rattle.image_laws.specs.Power.{LosesSince}
 use Rattle.file_die.specs.declared.die.SyncWhen.{SyncWhen}
 use Rattle.file_die.specs.Die.{ErasesInStore, FileState, IfDue, Leaves, shown}
 use Rattle.file_die.specs.DieLaws.{AddsAlone, Takes, Turn}
-use Rattle.file_die.specs.Store.{AreImages, Held}
+use Rattle.file_die.specs.Store.{AreImages, Held, page_in}
 use Rattle.file_die.proofs.DieLawLemmas.{images, since_sync}
 use Rattle.disk_server.proofs.PowerLemmas.{loses_since}
-use Rattle.disk_laws.specs.Driven.{AddsOrErases, AsksErase, AsksPage, AsksProgram, BlockErased, DriverCalls, DriverFails, DriverLosesLaw, DriverStopsLaw, DriverTellsLaw, EraseFails, NothingAsked, PageProgrammed, PageRead, ProgramFails, ReadFails, StandsReady, behind}
+use Rattle.disk_laws.specs.Driven.{AddsOrErases, AsksErase, AsksPage, AsksProgram, BlockErased, DriverCalls, DriverFails, DriverLosesLaw, DriverStopsLaw, DriverTellsLaw, EraseFails, NothingAsked, PageProgrammed, PageRead, ProgramFails, ReadFails, StandsReady, StopLosesLaw, behind}
 use Rattle.disk_laws.specs.Lost.{LostBy}
+use Rattle.disk_laws.proofs.LossLemmas.{lost_then}
 use Rattle.disk_laws.proofs.LogLemmas.{after_erase, after_program}
-use Rattle.disk_laws.proofs.RefusedLemmas.{erase_left, erase_spared, program_left, program_spared}
+use Rattle.disk_laws.proofs.RefusedLemmas.{erase_left, erase_lost, erase_spared, program_left, program_spared}
 use Rattle.disk_laws.proofs.SentLemmas.{Quiet, Took, operated, quiet, quiet_until, until_operated, until_sized}
 use Rattle.disk_laws.proofs.StoreLostLemmas.{Since, adding_more, begin, stays}
 
@@ -37,6 +39,12 @@ no_ok x e is = cc
 
 no_err : {A E : Type 0} (x : A) (e : E) → Err e ≡ Ok x → ⊥
 no_err x e is = cc
+
+-- the parts of a log that adds or erases
+pub adds_apart : (pages : ℕ) (image : Image) (xs ys : List Operation) → AddsOrErases pages image (xs ++ ys) → AddsOrErases pages image xs × AddsOrErases pages (image_after_all pages image xs) ys
+adds_apart pages image [] ys adds = (tt, adds)
+adds_apart pages image (Program row page passed left ∷ xs) ys adds = (let rest = adds_apart pages (image_after pages image (Program row page passed left)) xs ys adds.1 in ((adds.0, rest.0), rest.1))
+adds_apart pages image (Erase block passed left ∷ xs) ys adds = (let rest = adds_apart pages (image_after pages image (Erase block passed left)) xs ys adds.1 in ((adds.0, rest.0), rest.1))
 
 module _ {S : Type 0} (held : S → Held) (honest : S → Bool) (failed : S → ℕ) where
   -- ---- one call that was done
@@ -157,21 +165,19 @@ module _ {S : Type 0} (held : S → Held) (honest : S → Bool) (failed : S → 
   may_so true P Q e h = h
   may_so false P Q e h = (let no : ⊥ = cc in absurd no)
 
-  module _ (found : Image) where
+  -- the same, and behind the calls other operations, of which it is known what may be lost in them
+  module _ (found : Image) (hand : List Operation) where
     lose : (sync_when : SyncWhen) (g : Geometry) (start : Held) (old new : DriverState (FileState S)) (log : List Operation) → DriverCalls held honest failed old log new → honest old.bus.store ≡ true
-        → old.bus.sync_when ≡ sync_when → (behind held new).durable ≡ found → Since sync_when found g start (behind held old) → AddsOrErases g.pages (behind held old).pages log
-        → LostBy g.pages start.pages (behind held old).pages log found
-    lose sync_when g start old new log (NothingAsked d) h same is since adds =
-        let s : Held = behind held d in
-        let here = stays sync_when found g start s since in
-        let long : length s.durable ≡ length s.pages = here.1.durable_whole.rows ∙ sym here.1.pages_whole.rows in
-        subst (LosesSince start.pages s.pages) is (loses_since start.pages s long (since_sync sync_when start s since.added since.goes since.lasted))
-    lose sync_when g start old new log (PageRead row out first mid last more asks calls) h same is since adds =
+        → old.bus.sync_when ≡ sync_when
+        → ((s : Held) → Since sync_when found g s (behind held new) → new.bus.sync_when ≡ sync_when → LostBy g.pages s.pages (behind held new).pages hand found) → Since sync_when found g start (behind held old) → AddsOrErases g.pages (behind held old).pages log
+        → LostBy g.pages start.pages (behind held old).pages (log ++ hand) found
+    lose sync_when g start old new log (NothingAsked d) h same ends since adds = ends start since same
+    lose sync_when g start old new log (PageRead row out first mid last more asks calls) h same ends since adds =
         let calm = took_page row out first mid h asks in
-        subst (λ (s : Held). LostBy g.pages start.pages s.pages more found) calm.store
-        (lose sync_when g start mid last more calls calm.still (calm.syncs ∙ same) is (subst (Since sync_when found g start) (sym calm.store) since)
+        subst (λ (s : Held). LostBy g.pages start.pages s.pages (more ++ hand) found) calm.store
+        (lose sync_when g start mid last more calls calm.still (calm.syncs ∙ same) ends (subst (Since sync_when found g start) (sym calm.store) since)
         (subst (λ (s : Held). AddsOrErases g.pages s.pages more) (sym calm.store) adds))
-    lose sync_when g start old new log (PageProgrammed row body spare outcome first mid last more asks calls) h same is since adds =
+    lose sync_when g start old new log (PageProgrammed row body spare outcome first mid last more asks calls) h same ends since adds =
         let took = took_program row body spare (Ok outcome) first mid asks outcome h refl in
         let turn : Turn = turn_of first (Programs row (page body spare)) in
         let alone : AddsAlone (behind held first) turn.flash turn.due = λ may. adds.0 in
@@ -184,9 +190,9 @@ module _ {S : Type 0} (held : S → Held) (honest : S → Bool) (failed : S → 
         } in
         let image : (behind held mid).pages ≡ image_after g.pages (behind held first).pages (Program row (page body spare) (is_passed outcome) (page_at (flash_by (shown held) mid) row)) =
         after_program g.pages (flash_by (shown held) first) (flash_by (shown held) mid) row (page body spare) (page_at (flash_by (shown held) mid) row) (is_passed outcome) asks.step in
-        inr (subst (λ i. LostBy g.pages start.pages i more found) image
-        (lose sync_when g start mid last more calls took.still (took.syncs ∙ same) is now (subst (λ i. AddsOrErases g.pages i more) (sym image) adds.1)))
-    lose sync_when g start old new log (BlockErased block outcome first mid last more asks calls) h same is since adds =
+        inr (subst (λ i. LostBy g.pages start.pages i (more ++ hand) found) image
+        (lose sync_when g start mid last more calls took.still (took.syncs ∙ same) ends now (subst (λ i. AddsOrErases g.pages i more) (sym image) adds.1)))
+    lose sync_when g start old new log (BlockErased block outcome first mid last more asks calls) h same ends since adds =
         let took = took_erase block (Ok outcome) first mid asks outcome h refl in
         let here = stays sync_when found g start (behind held first) since in
         let image : (behind held mid).pages ≡ image_after g.pages (behind held first).pages (Erase block (is_passed outcome) (block_at (flash_by (shown held) mid) block)) =
@@ -196,8 +202,8 @@ module _ {S : Type 0} (held : S → Held) (honest : S → Bool) (failed : S → 
         may_so (may_erase (shown held first.bus).flash block) (ErasesInStore (behind held first) block true (behind held mid)) (behind held mid ≡ behind held first) may took.leaves in
         let again : Since sync_when found g (behind held mid) (behind held mid) =
         begin sync_when found g (behind held mid) (erases.clears.whole here.1) (took.geometry ∙ here.0) (erases.after refl) in
-        inr (inr (subst (λ i. LostBy g.pages i i more found) image
-        (lose sync_when g (behind held mid) mid last more calls took.still (took.syncs ∙ same) is again (subst (λ i. AddsOrErases g.pages i more) (sym image) adds.1))))
+        inr (inr (subst (λ i. LostBy g.pages i i (more ++ hand) found) image
+        (lose sync_when g (behind held mid) mid last more calls took.still (took.syncs ∙ same) ends again (subst (λ i. AddsOrErases g.pages i more) (sym image) adds.1))))
 
   -- the store after them
   record Came (old new : DriverState (FileState S)) (log : List Operation) : Type 0 where
@@ -244,14 +250,23 @@ module _ {S : Type 0} (held : S → Held) (honest : S → Bool) (failed : S → 
         still = rest.still;
       }
 
+  -- what lasts by now
+  lasting : (sync_when : SyncWhen) (found : Image) (g : Geometry) (start s : Held) → Since sync_when found g start s → LosesSince start.pages s.pages s.durable
+  lasting sync_when found g start s since =
+      let here = stays sync_when found g start s since in
+      let long : length s.durable ≡ length s.pages = here.1.durable_whole.rows ∙ sym here.1.pages_whole.rows in
+      loses_since start.pages s long (since_sync sync_when start s since.added since.goes since.lasted)
+
   pub loses : DriverLosesLaw held honest failed
   loses old new log h w lasted calls adds =
       let g : Geometry = (behind held old).geometry in
       let end = came old new log calls h w in
       let found : Image = (behind held new).durable in
+      let sync_when : SyncWhen = old.bus.sync_when in
       record {
         whole = subst (λ x. IsImage x found) end.sized end.whole.durable_whole;
-        by = lose found old.bus.sync_when g (behind held old) old new log calls h refl refl (begin old.bus.sync_when found g (behind held old) w refl lasted) adds;
+        by = subst (λ l. LostBy g.pages (behind held old).pages (behind held old).pages l found) (append-nil log)
+            (lose found [] sync_when g (behind held old) old new log calls h refl (λ s since same. lasting sync_when found g s (behind held new) since) (begin sync_when found g (behind held old) w refl lasted) adds);
       }
 
   -- ---- a call that the file refused
@@ -300,4 +315,84 @@ module _ {S : Type 0} (held : S → Held) (honest : S → Bool) (failed : S → 
         whole = subst (λ x. IsImage x (behind held new).pages) (last.sized ∙ so_far.sized) last.whole.pages_whole;
         by = (stops_join g.pages (behind held old).pages (behind held new).pages log hand).1 (inr (subst (λ i. LeftBy g.pages i hand (behind held new).pages) so_far.image
             (subst (λ (x : Geometry). LeftBy x.pages (behind held mid).pages hand (behind held new).pages) so_far.sized last.left)));
+      }
+
+  -- and of what lasts: a program
+  program_lost : (sync_when : SyncWhen) (found : Image) (g : Geometry) (start : Held) (row : ℕ) (body spare : List ℕ) (fault : BusFault) (old new : DriverState (FileState S)) → honest old.bus.store ≡ true
+      → AsksProgram held honest failed row body spare old (Err fault) new → Since sync_when found g start (behind held old) → old.bus.sync_when ≡ sync_when → record_of (page_in (behind held old).pages row) ≡ None
+      → LostBy g.pages start.pages (behind held old).pages (Program row (page body spare) true (page body spare) ∷ []) (behind held new).durable
+  program_lost sync_when found g start row body spare fault old new h asks since same none =
+      let stopped = stopped_program row body spare (Err fault) old new asks h in
+      let here = stays sync_when found g start (behind held old) since in
+      let hand : Operation = Program row (page body spare) true (page body spare) in
+      elim stopped.1 [
+        | inl as_was ↦
+            lost_then g.pages start.pages (behind held old).pages (behind held new).durable (hand ∷ [])
+            (subst (λ (s : Held). LosesSince start.pages (behind held old).pages s.durable) (sym as_was) (lasting sync_when found g start (behind held old) since))
+        | inr took ↦
+            let turn : Turn = record { due = Programs row (page body spare); flash = (shown held old.bus).flash; done = took.0 } in
+            let alone : AddsAlone (behind held old) turn.flash turn.due = λ may. none in
+            let takes_it : Takes sync_when (behind held old) turn (behind held new) = record {
+              leaves = subst (λ w. Leaves turn.due turn.flash w (behind held old) took.0 (behind held new)) same took.1;
+              geometry = stopped.0;
+            } in
+            let now : Since sync_when found g start (behind held new) = record {
+              images = since.images;
+              sized = since.sized;
+              lasted = since.lasted;
+              added = since.added ++ turn ∷ [];
+              goes = adding_more sync_when start (behind held old) (behind held new) since.added turn since.goes alone takes_it;
+            } in
+            let loses : LosesSince start.pages (behind held new).pages (behind held new).durable = lasting sync_when found g start (behind held new) now in
+            let left = program_left (behind held old) (behind held new) stopped.0 here.1 turn.flash old.bus.sync_when row (page body spare) took.0 took.1 in
+            let left_by : LeftBy g.pages (behind held old).pages (hand ∷ []) (behind held new).pages = subst (λ (x : Geometry). LeftBy x.pages (behind held old).pages (hand ∷ []) (behind held new).pages) here.0 left.0 in
+            elim left_by [
+              | inl torn ↦ inl ((behind held new).pages, torn, loses)
+              | inr after ↦ inr (subst (λ i. LosesSince start.pages i (behind held new).durable) after loses)
+            ]
+      ]
+
+  erase_lost_by : (sync_when : SyncWhen) (found : Image) (g : Geometry) (start : Held) (block : ℕ) (fault : BusFault) (old new : DriverState (FileState S)) → honest old.bus.store ≡ true
+      → AsksErase held honest failed block old (Err fault) new → Since sync_when found g start (behind held old)
+      → LostBy g.pages start.pages (behind held old).pages (Erase block true (replicate old.geometry.pages (erased_page old.geometry)) ∷ []) (behind held new).durable
+  erase_lost_by sync_when found g start block fault old new h asks since =
+      let stopped = stopped_erase block (Err fault) old new asks h in
+      let s : Held = behind held old in
+      let here = stays sync_when found g start s since in
+      let loses : LosesSince start.pages s.pages s.durable = lasting sync_when found g start s since in
+      let lost : LostBy s.geometry.pages start.pages s.pages (Erase block true (replicate s.geometry.pages (erased_page s.geometry)) ∷ []) (behind held new).durable = elim stopped.1 [
+        | inl same ↦ inl (subst (λ (t : Held). LosesSince start.pages s.pages t.durable) (sym same) loses)
+        | inr took ↦
+            erase_lost start.pages s (behind held new) stopped.0 here.1 (since_sync sync_when start s since.added since.goes since.lasted) (shown held old.bus).flash old.bus.sync_when block took.0 took.1 loses
+      ] in
+      subst (λ (x : Geometry). LostBy x.pages start.pages s.pages (Erase block true (replicate old.geometry.pages (erased_page old.geometry)) ∷ []) (behind held new).durable) here.0
+      (subst (λ (x : Geometry). LostBy s.geometry.pages start.pages s.pages (Erase block true (replicate x.pages (erased_page x)) ∷ []) (behind held new).durable) asks.stands.geometry lost)
+
+  refused_lost : (sync_when : SyncWhen) (found : Image) (g : Geometry) (start : Held) (old new : DriverState (FileState S)) (hand : List Operation) → DriverFails held honest failed old hand new → honest old.bus.store ≡ true
+      → (behind held new).durable ≡ found → Since sync_when found g start (behind held old) → old.bus.sync_when ≡ sync_when → AddsOrErases g.pages (behind held old).pages hand
+      → LostBy g.pages start.pages (behind held old).pages hand found
+  refused_lost sync_when found g start old new hand (ReadFails row out fault last asks) h is since same adds =
+      let as_was : behind held last ≡ behind held old =
+      quiet_until held honest failed old.bus last.bus (read_cycles row old.geometry.data_bytes old.geometry.spare_bytes) (read_to row old) asks.sends.0 h (read_leads row old asks.stands asks.in_range) asks.sends.2 in
+      subst (LosesSince start.pages (behind held old).pages) (ap (λ (s : Held). s.durable) (sym as_was) ∙ is) (lasting sync_when found g start (behind held old) since)
+  refused_lost sync_when found g start old new hand (ProgramFails row body spare fault last asks) h is since same adds =
+      subst (LostBy g.pages start.pages (behind held old).pages (Program row (page body spare) true (page body spare) ∷ [])) is
+      (program_lost sync_when found g start row body spare fault old last h asks since same adds.0)
+  refused_lost sync_when found g start old new hand (EraseFails block fault last asks) h is since same adds =
+      subst (LostBy g.pages start.pages (behind held old).pages (Erase block true (replicate old.geometry.pages (erased_page old.geometry)) ∷ [])) is
+      (erase_lost_by sync_when found g start block fault old last h asks since)
+
+  pub stop_loses : StopLosesLaw held honest failed
+  stop_loses old mid new log hand h w lasted calls fails adds =
+      let g : Geometry = (behind held old).geometry in
+      let so_far = came old mid log calls h w in
+      let last = refused mid new hand fails so_far.still so_far.whole in
+      let found : Image = (behind held new).durable in
+      let sync_when : SyncWhen = old.bus.sync_when in
+      let apart = adds_apart g.pages (behind held old).pages log hand adds in
+      let ends : (s : Held) → Since sync_when found g s (behind held mid) → mid.bus.sync_when ≡ sync_when → LostBy g.pages s.pages (behind held mid).pages hand found = λ s since same.
+      refused_lost sync_when found g s mid new hand fails so_far.still refl since same (subst (λ i. AddsOrErases g.pages i hand) (sym so_far.image) apart.1) in
+      record {
+        whole = subst (λ x. IsImage x found) (last.sized ∙ so_far.sized) last.whole.durable_whole;
+        by = lose found hand sync_when g (behind held old) old mid log calls h refl ends (begin sync_when found g (behind held old) w refl lasted) apart.0;
       }

@@ -1,10 +1,11 @@
 -- What may be lost, against what may be left by a kill.
-use Rattle.std.proofs.Common.{inl, inr, [], ◌∷◌, refl, sym, subst}
-use Rattle.page_layout.specs.Flash.{Program, Erase}
+use Rattle.std.proofs.Common.{ℕ, List, inl, inr, [], ◌∷◌, refl, sym, subst}
+use Rattle.page_layout.specs.Page.{Image}
+use Rattle.page_layout.specs.Flash.{Erase, Operation, Program}
 use Rattle.page_layout.specs.Recording.{image_after}
 use Rattle.image_laws.specs.Power.{LosesSince}
 use Rattle.image_laws.proofs.PowerLemmas.{none_lost}
-use Rattle.disk_laws.specs.Lost.{AfterEraseLaw, AllGoneLaw, AllThereLaw}
+use Rattle.disk_laws.specs.Lost.{AfterEraseLaw, AllGoneLaw, AllThereLaw, LostBy}
 
 pub all_there : AllThereLaw
 all_there pages stored image [] found same = subst (LosesSince stored image) (sym same) (none_lost stored image)
@@ -17,7 +18,11 @@ all_there pages stored image (Erase block passed left ∷ log) found (inr later)
 pub after_erase : AfterEraseLaw
 after_erase pages stored image block passed left log found later = inr (inr later)
 
+-- what was lost before operations is what may be lost with them
+pub lost_then : (pages : ℕ) (stored image found : Image) (log : List Operation) → LosesSince stored image found → LostBy pages stored image log found
+lost_then pages stored image found [] loses = loses
+lost_then pages stored image found (Program row page passed left ∷ log) loses = inl (image, inl refl, loses)
+lost_then pages stored image found (Erase block passed left ∷ log) loses = inl loses
+
 pub all_gone : AllGoneLaw
-all_gone pages stored image [] loses = loses
-all_gone pages stored image (Program row page passed left ∷ log) loses = inl (image, inl refl, loses)
-all_gone pages stored image (Erase block passed left ∷ log) loses = inl loses
+all_gone pages stored image log loses = lost_then pages stored image stored log loses

@@ -1,22 +1,27 @@
 -- What a program and an erase that were refused leave of the pages of a store: what a stop in them may leave.
-use Rattle.std.proofs.Common.{◌≡◌, ◌⊎◌, inl, inr, ℕ, suc, zero, Bool, true, false, [], ◌∷◌, length, replicate, refl, sym, ap, subst, ◌∙◌, arith}
+use Rattle.std.proofs.Common.{◌≡◌, ◌⊎◌, inl, inr, ℕ, suc, zero, Bool, true, false, [], ◌∷◌, length, replicate, None, refl, sym, ap, subst, ◌∙◌, arith}
 use Rattle.std.specs.List.{Contains}
 use Rattle.std.specs.Prelude.{slice_set}
 use Rattle.std.proofs.lemmas.Bool.{cases_eq}
 use Rattle.std.proofs.lemmas.List.{ext_get_or, get_or-set_other, get_or-set_same, length-set, set-get_or}
 use Rattle.page_layout.specs.Geometry.{row_count}
-use Rattle.page_layout.specs.Page.{Page}
+use Rattle.page_layout.specs.Page.{Image, Page}
 use Rattle.page_layout.specs.Sound.{record_of}
 use Rattle.page_layout.specs.Change.{erased_page}
-use Rattle.page_layout.specs.Flash.{Erase, Flash, Program, may_erase, may_program, no_page}
+use Rattle.page_layout.specs.Flash.{Erase, Flash, Program, may_erase, may_program, no_page, with_block}
 use Rattle.page_layout.specs.Recording.{image_after}
 use Rattle.page_layout.proofs.StepLemmas.{erased_unsound}
 use Rattle.onfi_cycles.specs.Cycles.{Erases, Programs}
 use Rattle.promises.specs.Stop.{LeftBy}
 use Rattle.file_die.specs.declared.die.SyncWhen.{SyncWhen}
 use Rattle.file_die.specs.Die.{ErasesInStore, IfDue, Leaves, ProgramsIn}
-use Rattle.file_die.specs.Store.{AreImages, Clears, Held, Puts, page_in}
+use Rattle.file_die.specs.DieLaws.{LastsSince}
+use Rattle.file_die.specs.Store.{AreImages, Clears, Held, LastsOf, MayBeLeft, Puts, page_in}
+use Rattle.file_die.proofs.AskLemmas.{of_three}
+use Rattle.image_laws.specs.Power.{LosesSince}
+use Rattle.image_laws.proofs.PowerLemmas.{none_lost}
 use Rattle.disk_server.proofs.PowerLemmas.{same_at, unsound_in}
+use Rattle.disk_laws.specs.Lost.{LostBy}
 
 one_of_two : (a b now : Page) → Contains (a ∷ b ∷ []) now → (a ≡ now) ⊎ (b ≡ now)
 one_of_two a b now (zero, lt, e) = inl e
@@ -103,3 +108,76 @@ module _ (s t : Held) (sized : t.geometry ≡ s.geometry) (was : AreImages s) wh
       by : (b : Bool) → IfDue b (ErasesInStore s block done t) (t ≡ s) → LeftBy s.geometry.pages s.pages (Erase block true (replicate s.geometry.pages (erased_page s.geometry)) ∷ []) t.pages × AreImages t
       by true erases = clear_left block done erases.clears
       by false same = erase_spared block same
+
+-- ---- what lasts behind an erase that was refused
+
+module _ (stored : Image) (s t : Held) (sized : t.geometry ≡ s.geometry) (was : AreImages s) (since : LastsSince stored s) where
+  -- what lasts of a row that the erase left, as it was, or without a record where it had none
+  row_kept : (row : ℕ) → LastsOf (page_in s.durable row) (page_in s.pages row) (page_in t.pages row) (page_in t.durable row) → page_in t.pages row ≡ page_in s.pages row
+      → (page_in t.durable row ≡ page_in s.pages row) ⊎ ((record_of (page_in stored row) ≡ None) × (record_of (page_in t.durable row) ≡ None))
+  row_kept row lasts same = elim (since.found row) [
+    | inl lasted ↦ inl (lasts.kept lasted same)
+    | inr gone ↦ elim lasts.left [
+      | inl one ↦ elim (of_three (page_in s.durable row) (page_in s.pages row) (page_in t.pages row) (page_in t.durable row) one) [
+        | inl first ↦ inr (gone.0, ap record_of (sym first) ∙ gone.1)
+        | inr rest ↦ elim rest [ inl second ↦ inl (sym second) | inr third ↦ inl (sym third ∙ same) ]
+      ]
+      | inr none ↦ inr (gone.0, none)
+    ]
+  ]
+
+  -- of a row of the block
+  row_torn : (row : ℕ) → LastsOf (page_in s.durable row) (page_in s.pages row) (page_in t.pages row) (page_in t.durable row) → MayBeLeft (page_in s.pages row ∷ erased_page s.geometry ∷ []) (page_in t.pages row)
+      → (page_in t.durable row ≡ page_in s.pages row) ⊎ (record_of (page_in t.durable row) ≡ None)
+  row_torn row lasts torn = elim lasts.left [
+    | inl one ↦ elim (of_three (page_in s.durable row) (page_in s.pages row) (page_in t.pages row) (page_in t.durable row) one) [
+      | inl first ↦ elim (since.found row) [ inl lasted ↦ inl (sym first ∙ lasted) | inr gone ↦ inr (ap record_of (sym first) ∙ gone.1) ]
+      | inr rest ↦ elim rest [
+        | inl second ↦ inl (sym second)
+        | inr third ↦ elim torn [
+          | inl two ↦ elim (one_of_two (page_in s.pages row) (erased_page s.geometry) (page_in t.pages row) two) [
+            | inl same ↦ inl (sym third ∙ sym same)
+            | inr erased ↦ inr (ap record_of (sym third) ∙ (ap record_of (sym erased) ∙ erased_unsound s.geometry))
+          ]
+          | inr none ↦ inr (ap record_of (sym third) ∙ none)
+        ]
+      ]
+    ]
+    | inr none ↦ inr none
+  ]
+
+  durable_long : AreImages t → length t.durable ≡ length s.pages
+  durable_long now = now.durable_whole.rows ∙ (ap row_count sized ∙ sym was.pages_whole.rows)
+
+  erased_lost : (block : ℕ) (done : Bool) → ErasesInStore s block done t → LostBy s.geometry.pages stored s.pages (Erase block true (replicate s.geometry.pages (erased_page s.geometry)) ∷ []) t.durable
+  unfolding image_after
+  erased_lost block true erases =
+      let after : Image = with_block s.geometry.pages block (replicate s.geometry.pages (erased_page s.geometry)) s.pages in
+      inr (inr (subst (LosesSince after after) (sym (erases.after refl ∙ erases.clears.cleared refl)) (none_lost after after)))
+  erased_lost block false erases =
+      let long : length t.durable ≡ length s.pages = durable_long (erases.clears.whole was) in
+      elim erases.before [
+        | inl same ↦ inl (record {
+          size = long;
+          rows = λ row. elim (row_kept row (erases.clears.lasts row) (ap (λ i. page_in i row) same)) [
+            | inl kept ↦ inl (same_at t.durable s.pages row long kept)
+            | inr gone ↦ inr (unsound_in stored row gone.0, unsound_in t.durable row gone.1)
+          ];
+        })
+        | inr others ↦ inr (inl (record {
+          length_same = long;
+          others = λ row apart. same_at t.durable s.pages row long (others row apart);
+          inside = λ row within. elim (row_torn row (erases.clears.lasts row) (erases.clears.torn refl row within)) [
+            | inl kept ↦ inl (same_at t.durable s.pages row long kept)
+            | inr gone ↦ inr (unsound_in t.durable row gone)
+          ];
+        }))
+      ]
+
+  pub erase_lost : (flash : Flash) (sync_when : SyncWhen) (block : ℕ) (done : Bool) → Leaves (Erases block) flash sync_when s done t → LosesSince stored s.pages s.durable
+      → LostBy s.geometry.pages stored s.pages (Erase block true (replicate s.geometry.pages (erased_page s.geometry)) ∷ []) t.durable
+  erase_lost flash sync_when block done leaves loses = by (may_erase flash block) leaves
+    where
+      by : (b : Bool) → IfDue b (ErasesInStore s block done t) (t ≡ s) → LostBy s.geometry.pages stored s.pages (Erase block true (replicate s.geometry.pages (erased_page s.geometry)) ∷ []) t.durable
+      by true erases = erased_lost block done erases
+      by false same = inl (subst (λ (h : Held). LosesSince stored s.pages h.durable) (sym same) loses)

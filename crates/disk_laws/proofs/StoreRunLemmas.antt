@@ -13,16 +13,16 @@ use Rattle.promises.specs.Legal.{Account, accounted, IsDueProgram, LegalFrom}
 use Rattle.collection.specs.Log.{NumbersFrom}
 use Rattle.collection.proofs.Stops.{one_gain}
 use Rattle.file_die.specs.Store.{Held}
-use Rattle.image_laws.specs.Power.{LosesSince}
 use Rattle.ftl_device.specs.declared.device.Device.{Device}
 use Rattle.disk_laws.specs.Driven.{AddsOrErases, behind}
 use Rattle.disk_laws.specs.Lost.{LostBy, MayLose}
 use Rattle.disk_laws.specs.Runs.{DeviceCalls, NoCall, OneMore, image_on}
 use Rattle.disk_laws.specs.Sessions.{words_of}
 use Rattle.disk_laws.specs.StoreRuns.{ErasesPass, StoreRunLaw}
-use Rattle.disk_laws.proofs.DrivenLemmas.{loses, tells}
+use Rattle.disk_laws.proofs.DrivenLemmas.{adds_apart, loses, tells}
 use Rattle.disk_laws.proofs.FitLemmas.{Fits, erase_fits, program_fits, unsound}
 use Rattle.disk_laws.proofs.LogLemmas.{after_erase, after_program}
+use Rattle.disk_laws.proofs.LossLemmas.{lost_then}
 use Rattle.disk_laws.proofs.RunLemmas.{called_on, lost_run_law, run_image}
 
 -- ---- a log is cut
@@ -37,17 +37,7 @@ adds_join pages image [] ys first second = second
 adds_join pages image (Program row page passed left ∷ xs) ys first second = (first.0, adds_join pages (image_after pages image (Program row page passed left)) xs ys first.1 second)
 adds_join pages image (Erase block passed left ∷ xs) ys first second = (first.0, adds_join pages (image_after pages image (Erase block passed left)) xs ys first.1 second)
 
-adds_first : (pages : ℕ) (image : Image) (xs ys : List Operation) → AddsOrErases pages image (xs ++ ys) → AddsOrErases pages image xs
-adds_first pages image [] ys adds = tt
-adds_first pages image (Program row page passed left ∷ xs) ys adds = (adds.0, adds_first pages (image_after pages image (Program row page passed left)) xs ys adds.1)
-adds_first pages image (Erase block passed left ∷ xs) ys adds = (adds.0, adds_first pages (image_after pages image (Erase block passed left)) xs ys adds.1)
-
--- what was lost before operations is what may be lost with them
-lost_then : (pages : ℕ) (stored image found : Image) (ys : List Operation) → LosesSince stored image found → LostBy pages stored image ys found
-lost_then pages stored image found [] loses = loses
-lost_then pages stored image found (Program row page passed left ∷ ys) loses = inl (image, inl refl, loses)
-lost_then pages stored image found (Erase block passed left ∷ ys) loses = inl loses
-
+-- what may be lost by operations may be lost by more
 lost_first : (pages : ℕ) (stored image found : Image) (xs ys : List Operation) → LostBy pages stored image xs found → LostBy pages stored image (xs ++ ys) found
 lost_first pages stored image found [] ys loses = lost_then pages stored image found ys loses
 lost_first pages stored image found (Program row page passed left ∷ xs) ys (inl here) = inl here
@@ -110,7 +100,7 @@ store_run held honest failed old new log run mid first later few stands calls mo
     let adds : AddsOrErases old.engine.geometry.pages (image_on die old) (first ++ later) =
     subst (AddsOrErases old.engine.geometry.pages (image_on die old)) one (run_adds die old log new run (subst ErasesPass (sym one) erases)) in
     let before : AddsOrErases (behind held nand).geometry.pages (behind held nand).pages first =
-    subst (λ (g : Geometry). AddsOrErases g.pages (behind held nand).pages first) (sym sized) (adds_first old.engine.geometry.pages (image_on die old) first later adds) in
+    subst (λ (g : Geometry). AddsOrErases g.pages (behind held nand).pages first) (sym sized) (adds_apart old.engine.geometry.pages (image_on die old) first later adds).0 in
     let lost = loses held honest failed nand mid first stands.is_honest stands.images stands.lasted calls before in
     let whole : MayLose old.engine.geometry (image_on die old) first (behind held mid).durable =
     subst (λ g. MayLose g (behind held nand).pages first (behind held mid).durable) sized lost in

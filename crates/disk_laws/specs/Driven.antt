@@ -99,3 +99,9 @@ abbrev pub DriverStopsLaw : {S : Type 0} → (S → Held) → (honest : S → Bo
 DriverStopsLaw {S} held honest failed = (old mid new : DriverState (FileState S)) (log hand : List Operation) → honest old.bus.store ≡ true → AreImages (behind held old)
     → DriverCalls held honest failed old log mid → DriverFails held honest failed mid hand new
     → MayLeave (behind held old).geometry (behind held old).pages (log ++ hand) (behind held new).pages
+
+-- and what lasts of the store behind it, since all of its pages did, is what a loss of power may leave by the same operations
+abbrev pub StopLosesLaw : {S : Type 0} → (S → Held) → (honest : S → Bool) → (failed : S → ℕ) → Type 0
+StopLosesLaw {S} held honest failed = (old mid new : DriverState (FileState S)) (log hand : List Operation) → honest old.bus.store ≡ true → AreImages (behind held old) → (behind held old).durable ≡ (behind held old).pages
+    → DriverCalls held honest failed old log mid → DriverFails held honest failed mid hand new → AddsOrErases (behind held old).geometry.pages (behind held old).pages (log ++ hand)
+    → MayLose (behind held old).geometry (behind held old).pages (log ++ hand) (behind held new).durable

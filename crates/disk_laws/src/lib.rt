@@ -3,7 +3,7 @@
 #![tactic(auto)]
 
 ghost use Rattle.disk_laws.specs.Lost.{AfterEraseLaw, AllGoneLaw, AllThereLaw};
-ghost use Rattle.disk_laws.specs.Driven.{DriverLosesLaw, DriverStopsLaw, DriverTellsLaw};
+ghost use Rattle.disk_laws.specs.Driven.{DriverLosesLaw, DriverStopsLaw, DriverTellsLaw, StopLosesLaw};
 ghost use Rattle.disk_laws.specs.StoreLost.{StoreLosesLaw};
 ghost use Rattle.disk_laws.specs.StoreRuns.{StoreRunLaw};
 ghost use Rattle.disk_laws.specs.Runs.{CutLeavesLaw, KilledRunLaw, LostRunLaw, OneCallLaw, SessionLaw};
@@ -66,10 +66,11 @@ pub fn served_laws<S: Sectors, Y: Syncs>()
 
 /// What the record of a driver tells of the store of its die, where its calls, one after another, are answered `Ok`, by what its contract says of them: it gains just the operations of these calls; and what lasts of an honest
 /// store, since all of its pages did, is what a loss of power may leave by these operations, as long as each page is programmed where none has a record, and no erase fails. A call behind them that the store
-/// refused leaves pages that a stop in it may leave. So where the power goes in calls of a device since all pages lasted, what lasts of its store is what `run_laws` says of the disk. (This project.)
+/// refused leaves pages that a stop in it may leave, and of what lasts what a loss of power may. So where the power goes in calls of a device since all pages lasted, what lasts of its store is what `run_laws` says of the disk. (This project.)
 pub fn driver_laws<S: Store>()
     ensures tells { DriverTellsLaw S.held S.honest S.failed }
     ensures loses { DriverLosesLaw S.held S.honest S.failed }
     ensures stops { DriverStopsLaw S.held S.honest S.failed }
+    ensures stop_loses { StopLosesLaw S.held S.honest S.failed }
     ensures run { StoreRunLaw S.held S.honest S.failed }
 {}

@@ -1,4 +1,4 @@
-use Rattle.disk_laws.proofs.DrivenLemmas.{loses, stops, tells}
+use Rattle.disk_laws.proofs.DrivenLemmas.{loses, stop_loses, stops, tells}
 use Rattle.disk_laws.proofs.StoreRunLemmas.{store_run}
 use Rattle.disk_laws.proofs.driver_laws.Goals as goal
 
@@ -13,3 +13,6 @@ returns-clause-stops g c = stops g.S.Store.held g.S.Store.honest g.S.Store.faile
 
 pub returns-clause-run : goal.returns-clause-run
 returns-clause-run g c = store_run g.S.Store.held g.S.Store.honest g.S.Store.failed
+
+pub returns-clause-stop_loses : goal.returns-clause-stop_loses
+returns-clause-stop_loses g c = stop_loses g.S.Store.held g.S.Store.honest g.S.Store.failed
