@@ -21,7 +21,7 @@ use Rattle.commands.specs.declared.text.CommandFault.{CommandFault}
 use Rattle.commands.specs.declared.text.CommandFault.TheVariants as fault
 use Rattle.commands.specs.Files.{Stored}
 use Rattle.commands.specs.Migrate.{EndsShort, Renews}
-use Rattle.commands.specs.Serve.{flash_behind, recorded_of, is_honest, is_calm_as, programs_of, erases_of, failures_of}
+use Rattle.commands.specs.Serve.{flash_behind, driver_view}
 use Rattle.commands.proofs.MigrateLemmas.{has_room}
 use Rattle.commands.specs.Text.{device_words}
 use Rattle.command_laws.specs.Migrations.{CallsCountedLaw, RenewsWithRoom, FirstPageLaw, NumberLaw, HasTried, MigrateDoneLaw, MigratedLaw, MigrateStopsLaw, SettledLaw, ShortLaw, TellsRefusal}
@@ -139,7 +139,7 @@ from_zero row image (inr behind) = behind.first
 
 pub first_page : FirstPageLaw
 first_page g capacity c s after count m =
-    let one = first_call flash_behind recorded_of is_honest is_calm_as programs_of erases_of failures_of count m.first m.comes.1.0 m.comes.1.1 in
+    let one = first_call driver_view count m.first m.comes.1.0 m.comes.1.1 in
     let held : (flash_behind m.first.engine.nand).image ≡ s.image = ap (λ (f : Flash). f.image) (m.starts.begun.same refl ∙ m.held) in
     let found : FindsFrom 0 (flash_behind m.first.engine.nand).image (Some one.1.row) = subst (λ k. FindsFrom k (flash_behind m.first.engine.nand).image (Some one.1.row)) m.starts.cursor one.1.found in
     (one.0, one.1, from_zero one.1.row s.image (subst (λ i. FindsFrom 0 i (Some one.1.row)) held found))
@@ -150,7 +150,7 @@ number g capacity c s after count m =
     let held : (flash_behind first.engine.nand).image ≡ s.image = ap (λ (f : Flash). f.image) (m.starts.begun.same refl ∙ m.held) in
     let two : version_for first.engine.geometry ≡ 2 = ap version_for m.starts.sized ∙ has_room g m.starts.roomy in
     let renews = m.comes.1.1 in
-    let few = fewer_each flash_behind recorded_of is_honest is_calm_as programs_of erases_of failures_of count first m.comes.1.0 two renews in
+    let few = fewer_each driver_view count first m.comes.1.0 two renews in
     let here = subst (λ (h : Geometry). count + old_pages h (flash_behind m.comes.1.0.engine.nand).image ≤ old_pages h (flash_behind first.engine.nand).image) m.starts.sized few in
     let there = subst (λ (i : Image). count + old_pages g (flash_behind m.comes.1.0.engine.nand).image ≤ old_pages g i) held here in
-    (omega (arith, there), λ none. none_called flash_behind recorded_of is_honest is_calm_as programs_of erases_of failures_of count first m.comes.1.0 (subst HasOldTablesOnly (sym held) none) renews)
+    (omega (arith, there), λ none. none_called driver_view count first m.comes.1.0 (subst HasOldTablesOnly (sym held) none) renews)

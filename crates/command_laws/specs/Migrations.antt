@@ -29,7 +29,7 @@ use Rattle.commands.specs.declared.text.CommandFault.{CommandFault}
 use Rattle.commands.specs.Check.{AsksForCapacity}
 use Rattle.commands.specs.Files.{Left, Stored, with_store, written_file, unwritten_file}
 use Rattle.commands.specs.Migrate.{CallsMigrate, DoesMigrate, EndsShort, MigratesDie, migrated_line}
-use Rattle.commands.specs.Serve.{Driver, bad_in, checked_words, flash_behind, recorded_of}
+use Rattle.commands.specs.Serve.{Driver, bad_in, checked_words, flash_behind, driver_view}
 use Rattle.commands.specs.Text.{device_words, line_of}
 
 -- WHATEVER CAME OF THE CALLS, the bytes are those of the die's pages. Its array is that of the image before, and it mounts. One legal log leads to the die,
@@ -107,4 +107,4 @@ NumberLaw = (g : Geometry) (capacity : ℕ) (c : Claim) (s : Flash) (after : Lis
 -- THE FIRST CALL begins with the lowest row of IMAGE that has a page to be brought forward
 abbrev pub FirstPageLaw : Type 0
 FirstPageLaw = (g : Geometry) (capacity : ℕ) (c : Claim) (s : Flash) (after : List ℕ) (count : ℕ) → (m : MigratesDie g capacity c s after (Ok (suc count)))
-    → (next : Device Driver) × (one : BringsOne flash_behind recorded_of m.first next) × IsNextDue 0 one.row s.image
+    → (next : Device Driver) × (one : BringsOne driver_view m.first next) × IsNextDue 0 one.row s.image

@@ -7,7 +7,7 @@ ghost use Rattle.command_laws.specs.Rescues.{NoGainLaw, NoneAilsLaw, RescuedEven
 ghost use Rattle.command_laws.specs.Queued.{RefusedBytesLaw, OtherBytesLaw};
 ghost use Rattle.command_laws.specs.Loads.{KnownLaw, InputLaw};
 ghost use Rattle.command_laws.specs.Images.{HeldLaw, OtherGeometryLaw, OnlyOtherLaw, AcceptedLaw, SpelledLaw, FormattedLaw, ServedLaw};
-ghost use Rattle.commands.specs.Serve.{flash_behind, recorded_of, is_honest, is_calm_as, programs_of, erases_of, failures_of};
+ghost use Rattle.commands.specs.Serve.{driver_view};
 ghost use Rattle.command_laws.specs.Migrations.{CallsCountedLaw, MigratedLaw, FirstPageLaw, NumberLaw, SettledLaw, ShortLaw, MigrateDoneLaw, MigrateStopsLaw};
 ghost use Rattle.command_laws.specs.Lines.{ToldLaw, WholeLineLaw, UnprintedLaw, FailedStoreLaw, StoresInOrderLaw, UnstoredLaw};
 
@@ -53,7 +53,7 @@ pub fn migration_laws()
     ensures short { ShortLaw }
     ensures number { NumberLaw }
     ensures first { FirstPageLaw }
-    ensures calls { CallsCountedLaw flash_behind recorded_of is_honest is_calm_as programs_of erases_of failures_of }
+    ensures calls { CallsCountedLaw driver_view }
 {}
 
 /// What the command stores: an image with the array of the one that it read, brought forward where the command is done. (This project.)

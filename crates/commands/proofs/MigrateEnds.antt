@@ -30,7 +30,7 @@ use Rattle.commands.specs.declared.text.CommandFault.{CommandFault}
 use Rattle.commands.specs.Files.{Gives, Left, LeavesUntouched, with_store, written_file}
 use Rattle.commands.specs.Lines.{IsUnprinted}
 use Rattle.commands.specs.Steady.{has_spared}
-use Rattle.commands.specs.Serve.{Driver, bad_in, erases_of, failures_of, flash_behind, is_calm_as, is_honest, programs_of, recorded_of}
+use Rattle.commands.specs.Serve.{Driver, bad_in, failures_of, flash_behind, recorded_of, driver_view}
 use Rattle.commands.specs.Migrate.{DoesMigrate, EndsShort, HasMigrated, IsSettled, IsUnbegun, KeepsAll, MigratesDie, RenewsThenFlushes, StartsOver, migrated_line}
 use Rattle.ftl_device.proofs.CallLemmas.{mountable_kept}
 use Rattle.block_server.proofs.Checking.{accepted_for, closed_as, geometry_is, is_begun, well}
@@ -81,7 +81,7 @@ accounts_over nand checked g capacity c a d sized same whole claim_is acceptance
 
 -- the checker's answer and the start's, together
 pub starts_over : (nand checked : Driver) (g : Geometry) (capacity : ℕ) (c : Claim) (a : Acceptance) (d : Device Driver) → 40 ≤ g.spare_bytes
-    → (flash_behind nand).geometry ≡ g → OnlyReads flash_behind is_honest is_calm_as programs_of erases_of failures_of nand checked
+    → (flash_behind nand).geometry ≡ g → OnlyReads driver_view nand checked
     → flash_behind checked ≡ flash_behind nand → recorded_of checked ≡ recorded_of nand → IsImage g (flash_behind nand).image → a.claim ≡ c → IsAcceptance g capacity (flash_behind nand).image c a
     → IsDevice flash_behind d → d.engine.nand ≡ checked → ram d.engine ≡ begun_ram (flash_behind checked).geometry a.claim a.stale
     → (IsAcceptedFor (flash_behind checked) a → IsTrue None (ram d.engine) (image_in flash_behind d.engine))
@@ -92,13 +92,13 @@ starts_over nand checked g capacity c a d roomy sized reads same told whole clai
   cursor = cursor;
   agrees = acceptance.agrees;
   roomy = roomy;
-  begun = is_begun flash_behind recorded_of is_honest is_calm_as failures_of erases_of nand checked checked g capacity c a d sized reads.geometry_is reads.honest_is reads.calm_is reads.failed_is
+  begun = is_begun driver_view nand checked checked g capacity c a d sized reads.geometry_is reads.honest_is reads.calm_is reads.failed_is
       (λ _. same) (λ _. told) (λ _. whole) claim_is (λ _. acceptance) device nand_is begun (λ _. truth) (λ _. free) (λ _. accounts);
-  sized = geometry_is flash_behind recorded_of is_honest is_calm_as failures_of erases_of nand checked checked g capacity c a d sized reads.geometry_is reads.honest_is reads.calm_is reads.failed_is
+  sized = geometry_is driver_view nand checked checked g capacity c a d sized reads.geometry_is reads.honest_is reads.calm_is reads.failed_is
       (λ _. same) (λ _. told) (λ _. whole) claim_is (λ _. acceptance) device nand_is begun (λ _. truth) (λ _. free) (λ _. accounts);
-  well = well flash_behind recorded_of is_honest is_calm_as failures_of erases_of nand checked checked g capacity c a d sized reads.geometry_is reads.honest_is reads.calm_is reads.failed_is
+  well = well driver_view nand checked checked g capacity c a d sized reads.geometry_is reads.honest_is reads.calm_is reads.failed_is
       (λ _. same) (λ _. told) (λ _. whole) claim_is (λ _. acceptance) device nand_is begun (λ _. truth) (λ _. free) (λ _. accounts) refl;
-  free = closed_as flash_behind recorded_of is_honest is_calm_as failures_of erases_of nand checked checked g capacity c a d sized reads.geometry_is reads.honest_is reads.calm_is reads.failed_is
+  free = closed_as driver_view nand checked checked g capacity c a d sized reads.geometry_is reads.honest_is reads.calm_is reads.failed_is
       (λ _. same) (λ _. told) (λ _. whole) claim_is (λ _. acceptance) device nand_is begun (λ _. truth) (λ _. free) (λ _. accounts) refl;
   accounts = accounts_over nand checked g capacity c a d sized same whole claim_is acceptance accounts;
 }
@@ -109,7 +109,7 @@ never_bus came was now most rose le none is = not_risen was now most (rose is) l
 
 -- the image has a certificate at the capacity that the device began with
 mounts_on : (g : Geometry) (capacity : ℕ) (c : Claim) (nand : Driver) (first last : Device Driver) → StartsOver g capacity c nand first → IsDevice flash_behind last
-    → last.engine.geometry ≡ g → KeepsAll flash_behind recorded_of first last → capacity + g.pages ≤ 65536 → IsMountable g (capacity + g.pages) (flash_behind last.engine.nand).image
+    → last.engine.geometry ≡ g → KeepsAll driver_view first last → capacity + g.pages ≤ 65536 → IsMountable g (capacity + g.pages) (flash_behind last.engine.nand).image
 mounts_on g capacity c nand first last starts device sized kept =
     let held : last.engine.mapping.capacity ≡ capacity =
     kept.capacity ∙ (ap (λ (r : Ram). r.mapping.capacity) starts.begun.begun ∙ starts.agrees.asked.capacity_same) in
@@ -127,8 +127,8 @@ legal_by g capacity c nand first last starts went =
 
 pub die_migrated : (g : Geometry) (capacity : ℕ) (c : Claim) (nand given : Driver) (first last : Device Driver) (came : Result ℕ DeviceFault) (after : List ℕ) (back : Flash) (most : ℕ)
     → StartsOver g capacity c nand first
-    → RenewsThenFlushes flash_behind recorded_of is_honest is_calm_as programs_of erases_of failures_of first came last
-    → (came ≢ Err BusFault → KeepsAll flash_behind recorded_of first last) → (came ≡ Err BusFault → HasRisen (failures_of first.engine.nand) (failures_of last.engine.nand))
+    → RenewsThenFlushes driver_view first came last
+    → (came ≢ Err BusFault → KeepsAll driver_view first last) → (came ≡ Err BusFault → HasRisen (failures_of first.engine.nand) (failures_of last.engine.nand))
     → OnOk came (IsSettled g (image_in flash_behind last.engine)) → IsDevice flash_behind last
     → last.engine.geometry ≡ g → given ≡ last.engine.nand → failures_of given ≤ most → most ≡ 0 → back ≡ flash_behind given
     → has_spared back ≡ true → raw_image back.geometry after ≡ back.image → after ≡ raw_bytes back.image → MigratesDie g capacity c (flash_behind nand) after came
@@ -136,7 +136,7 @@ die_migrated g capacity c nand given first last came after back most starts come
     let le : failures_of last.engine.nand ≤ most = subst (λ n. failures_of n ≤ most) given_is few in
     let there : back ≡ flash_behind last.engine.nand = known ∙ ap flash_behind given_is in
     let sized : back.geometry ≡ g = ap (λ (f : Flash). f.geometry) there ∙ (device.engine.geometry ∙ sized') in
-    let kept : KeepsAll flash_behind recorded_of first last = keeps (never_bus came _ _ most rose le none) in
+    let kept : KeepsAll driver_view first last = keeps (never_bus came _ _ most rose le none) in
     let image_is : raw_image g after ≡ (flash_behind last.engine.nand).image = ap (λ k. raw_image k after) (sym sized) ∙ (pages ∙ ap (λ (f : Flash). f.image) there) in
     let same : flash_behind first.engine.nand ≡ flash_behind nand = starts.begun.same refl in
     let there_told = recorded_of last.engine.nand in

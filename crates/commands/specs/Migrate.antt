@@ -38,7 +38,7 @@ use Rattle.commands.specs.Check.{HasNoCertificate, IsImageUnopened, IsUnasked, I
 use Rattle.commands.specs.Files.{Gives, Left, LeavesUntouched, Stored, with_store, written_file, unwritten_file}
 use Rattle.commands.specs.Lines.{IsUnprinted}
 use Rattle.commands.specs.Serve.{Driver, HasClaim, IsDieUnmade, bad_in, checked_words}
-use Rattle.commands.specs.Serve.{erases_of, failures_of, flash_behind, is_calm_as, is_honest, programs_of, recorded_of}
+use Rattle.commands.specs.Serve.{flash_behind, recorded_of, driver_view}
 
 -- ---- one call after another, of a device on an honest die whose pages have room for version 2
 
@@ -105,7 +105,7 @@ pub record IsSettled (g : Geometry) (image : Image) : Type 0 where
 pub record StartsOver (g : Geometry) (capacity : ℕ) (c : Claim) (nand : Driver) (first : Device Driver) : Type 0 where
   pub agrees : Agrees g capacity (flash_behind nand).image c
   pub roomy : 40 ≤ g.spare_bytes
-  pub begun : IsBegun flash_behind recorded_of is_honest failures_of nand g c first
+  pub begun : IsBegun driver_view nand g c first
   pub sized : first.engine.geometry ≡ g
   pub well : IsWell flash_behind first
   pub cursor : first.cursor ≡ 0
@@ -121,7 +121,7 @@ pub record MigratesDie (g : Geometry) (capacity : ℕ) (c : Claim) (s : Flash) (
   pub last : Device Driver
   pub held : flash_behind nand ≡ s
   pub starts : StartsOver g capacity c nand first
-  pub comes : RenewsThenFlushes flash_behind recorded_of is_honest is_calm_as programs_of erases_of failures_of first came last
+  pub comes : RenewsThenFlushes driver_view first came last
   pub pages : raw_image g after ≡ (flash_behind last.engine.nand).image
   pub bytes : after ≡ raw_bytes (flash_behind last.engine.nand).image
   pub array : array_of g (raw_image g after) ≡ array_of g s.image

@@ -2,6 +2,7 @@
 use Rattle.std.specs.Prelude.{◌≡◌, ◌⊎◌, ℕ, Bool, true, List, map, filter, min, Option, Some, None, Result, Ok, Err}
 use Rattle.std.specs.List.{range_with_len}
 use Rattle.std.specs.Io.KnownBytes.{Keeps}
+use Rattle.page_layout.specs.View.{View}
 use Rattle.page_layout.specs.declared.geometry.Geometry.{Geometry}
 use Rattle.page_layout.specs.Flash.{Flash}
 use Rattle.page_layout.specs.Recording.{Recording}
@@ -69,6 +70,18 @@ programs_of d = d.programs
 abbrev pub erases_of : Driver → ℕ
 erases_of d = d.erases
 
+abbrev pub driver_view : View Driver
+driver_view = record {
+  flash = flash_behind;
+  recorded = recorded_of;
+  honest = is_honest;
+  calm = is_calm_as;
+  reads = λ d. d.reads;
+  programs = programs_of;
+  erases = erases_of;
+  failed = failures_of;
+}
+
 -- Requests were served over a die in memory: what was read and written, the calls of the device that `start` began over it, and the image that it
 -- holds then. The headline holds, since a die in memory is honest and answers all that it is asked; its events are those calls. And of a die that was
 -- loaded with the certificate's bad blocks no program and no erase failed: so no further block is bad.
@@ -82,8 +95,8 @@ pub record ServesDie (g : Geometry) (capacity : ℕ) (c : Claim) (s : Flash) (af
   pub first : Device Driver
   pub last : Device Driver
   pub held : flash_behind nand ≡ s
-  pub begun : IsBegun flash_behind recorded_of is_honest failures_of nand g c first
-  pub holds : HeadlineHolds flash_behind recorded_of is_honest failures_of erases_of g capacity c s first exchanges last
+  pub begun : IsBegun driver_view nand g c first
+  pub holds : HeadlineHolds driver_view g capacity c s first exchanges last
   pub passed : (before : List ℕ) → s ≡ loaded_flash g before (bad_in g c) → failures (log_of holds.headline.run.events) ≡ 0
   pub pages : raw_image g after ≡ (flash_behind last.engine.nand).image
   pub bytes : after ≡ raw_bytes (flash_behind last.engine.nand).image

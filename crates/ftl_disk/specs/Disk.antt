@@ -7,7 +7,7 @@ use Rattle.certificate.specs.declared.fault.CertFault.{CertFault}
 use Rattle.certificate.specs.Faults.{IsFirstFault}
 use Rattle.device_slot.specs.declared.slot.CallFault.{CallFault}
 use Rattle.device_slot.specs.Calls.{IsSlotCall, ToldCommand, ToldSized}
-use Rattle.ftl_disk.specs.Die.{Die, ReachesDie, flash_in, recorded_in, honest_in, failed_in, programs_in_die, erases_in_die}
+use Rattle.ftl_disk.specs.Die.{Die, ReachesDie, die_view}
 use Rattle.ftl_disk.specs.Dies.{CertifiesBy, IsFormattedBy, StartsBy, StartsByClaim}
 use Rattle.ftl_disk.specs.Measures.{certificate_length}
 use Rattle.ftl_disk.specs.Numbers.{of_call, of_certificate}
@@ -41,7 +41,7 @@ pub record IsForStopped (was : FtlDisk) (number : ℕ) (is : FtlDisk) (Then : Ty
 -- A FORMAT leaves the disk as it was: with no device
 pub record IsFormatting (was : FtlDisk) (number : ℕ) (is : FtlDisk) : Type 0 where
   pub same : is ≡ was
-  pub formats : ReachesDie was.plan was.link number ⊤ (λ die. IsFormattedBy flash_in honest_in programs_in_die failed_in was.plan.geometry die number)
+  pub formats : ReachesDie was.plan was.link number ⊤ (λ die. IsFormattedBy die_view was.plan.geometry die number)
 
 abbrev pub FormatsDisk : FtlDisk → ℕ → FtlDisk → Type 0
 FormatsDisk was number is = IsForStopped was number is (IsFormatting was number is)
@@ -49,7 +49,7 @@ FormatsDisk was number is = IsForStopped was number is (IsFormatting was number 
 -- A START: 0 with a device that power brought over the die, of the disk's geometry and with at least its cache; or the number of what kept it from one, and the slot as it was
 pub record IsStarting (was : FtlDisk) (number : ℕ) (is : FtlDisk) : Type 0 where
   pub same : IsSame was is
-  pub starts : ReachesDie was.plan was.link number (is.slot ≡ was.slot) (λ die. StartsBy flash_in honest_in failed_in was.plan.geometry was.plan.cache die was.slot number is.slot)
+  pub starts : ReachesDie was.plan was.link number (is.slot ≡ was.slot) (λ die. StartsBy die_view was.plan.geometry was.plan.cache die was.slot number is.slot)
 
 abbrev pub Starts : FtlDisk → ℕ → FtlDisk → Type 0
 Starts was number is = IsForStopped was number is (IsStarting was number is)
@@ -57,7 +57,7 @@ Starts was number is = IsForStopped was number is (IsStarting was number is)
 -- the same by this certificate
 pub record IsStartingBy (was : FtlDisk) (c : Claim) (number : ℕ) (is : FtlDisk) : Type 0 where
   pub same : IsSame was is
-  pub starts : ReachesDie was.plan was.link number (is.slot ≡ was.slot) (λ die. StartsByClaim flash_in honest_in failed_in was.plan.geometry was.plan.cache c die was.slot number is.slot)
+  pub starts : ReachesDie was.plan was.link number (is.slot ≡ was.slot) (λ die. StartsByClaim die_view was.plan.geometry was.plan.cache c die was.slot number is.slot)
 
 -- the bytes are none of a certificate: the first fault that stands in them
 pub record IsNoCertificate (was : FtlDisk) (bytes : List ℕ) (number : ℕ) (is : FtlDisk) : Type 0 where
@@ -84,7 +84,7 @@ StartsCertified was bytes number is = IsForStopped was number is (StartsByBytes 
 -- the die's certificate is made, into bytes that may be as many
 abbrev pub CertifiesDisk : FtlDisk → (given : List ℕ) → ℕ → (out : List ℕ) → Type 0
 CertifiesDisk was given number out =
-    ReachesDie was.plan was.link number (out ≡ given) (λ die. CertifiesBy flash_in honest_in failed_in was.plan.geometry was.plan.cache die given number out)
+    ReachesDie was.plan was.link number (out ≡ given) (λ die. CertifiesBy die_view was.plan.geometry was.plan.cache die given number out)
 
 -- A CERTIFICATE IS MADE, or the number says why not, and the bytes stay: 18 just where they are not as many as one of this disk has
 pub record IsCertifying (was : FtlDisk) (given : List ℕ) (number : ℕ) (out : List ℕ) (is : FtlDisk) : Type 0 where
@@ -114,15 +114,15 @@ pub record AnswersByNumber (was : FtlDisk) (number : ℕ) (is : FtlDisk) (Comes 
 -- the device was told a command without bytes
 abbrev pub Tells : FtlDisk → step.Command → ℕ → FtlDisk → Type 0
 Tells was command number is = AnswersByNumber was number is (λ answer.
-    IsSlotCall was.slot (λ d now. ToldCommand flash_in recorded_in honest_in failed_in erases_in_die d command [] answer [] now is.slot.shortage) [] answer [] is.slot)
+    IsSlotCall was.slot (λ d now. ToldCommand die_view d command [] answer [] now is.slot.shortage) [] answer [] is.slot)
 
 abbrev pub ReadsDiskSector : FtlDisk → (sector : ℕ) → (given : List ℕ) → ℕ → (out : List ℕ) → FtlDisk → Type 0
 ReadsDiskSector was sector given number out is = AnswersByNumber was number is (λ answer.
-    IsSlotCall was.slot (λ d now. ToldSized flash_in recorded_in honest_in failed_in erases_in_die d was.slot.shortage (step.Read sector) (length given) given answer out now is.slot.shortage) given answer out is.slot)
+    IsSlotCall was.slot (λ d now. ToldSized die_view d was.slot.shortage (step.Read sector) (length given) given answer out now is.slot.shortage) given answer out is.slot)
 
 abbrev pub WritesDiskSector : FtlDisk → (sector : ℕ) → (body : List ℕ) → ℕ → FtlDisk → Type 0
 WritesDiskSector was sector body number is = AnswersByNumber was number is (λ answer.
-    IsSlotCall was.slot (λ d now. ToldSized flash_in recorded_in honest_in failed_in erases_in_die d was.slot.shortage (step.Write sector body) (length body) [] answer [] now is.slot.shortage) [] answer [] is.slot)
+    IsSlotCall was.slot (λ d now. ToldSized die_view d was.slot.shortage (step.Write sector body) (length body) [] answer [] now is.slot.shortage) [] answer [] is.slot)
 
 abbrev pub Trims : FtlDisk → (sector : ℕ) → ℕ → FtlDisk → Type 0
 Trims was sector number is = Tells was (step.Trim sector) number is

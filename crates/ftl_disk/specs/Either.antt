@@ -1,8 +1,9 @@
 -- A DIE OF ONE OF TWO KINDS behind a link: one whose pages read back as they were programmed, or one over a chip whose pages have codes. It is what the one that it holds is.
-use Rattle.std.specs.Prelude.{◌≡◌, ◌⊎◌, ℕ, Bool, true, List, [], Option, Some, None, IsSome, Result}
+use Rattle.std.specs.Prelude.{◌≡◌, ◌⊎◌, ℕ, Bool, false, true, List, [], Option, Some, None, IsSome, Result}
 use Rattle.page_layout.specs.declared.geometry.Geometry.{Geometry}
 use Rattle.page_layout.specs.Flash.{Flash}
 use Rattle.page_layout.specs.Recording.{Recording}
+use Rattle.page_layout.specs.View.{View}
 use Rattle.onfi_cycles.specs.declared.nand.BusFault.{BusFault}
 use Rattle.onfi_cycles.specs.Cycles.{Command, DieState, IsCounted}
 use Rattle.onfi_cycles.specs.Driver.{DriverState, flash_by, seen}
@@ -52,6 +53,19 @@ erases_of d = of_either (λ p. p.erases) (λ c. c.erases) d
 
 abbrev pub failed_of : {L : Type 0} → EitherDie L → ℕ
 failed_of d = of_either (λ p. p.failures) (λ c. c.failures) d
+
+-- what contracts say of it
+abbrev pub either_view : {L : Type 0} → (L → DieState) → (chip : L → Flash) → (honest keeps : L → Bool) → View (EitherDie L)
+either_view die chip honest keeps = record {
+  flash = flash_of die chip;
+  recorded = recorded_of;
+  honest = honest_of honest keeps;
+  calm = λ _. false;
+  reads = reads_of;
+  programs = programs_of;
+  erases = erases_of;
+  failed = failed_of;
+}
 
 -- ---- a Reset over a link
 

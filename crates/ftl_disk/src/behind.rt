@@ -1,7 +1,7 @@
 //! What the calls of a disk come to, over the die behind a link. So only these, which are told of any link, are proved over what a device has.
 ghost use Rattle.std.specs.Prelude.{◌≡◌, ⊤};
 ghost use Rattle.ftl_disk.specs.Dies.{CertifiesBy, IsFormattedBy, StartsBy, StartsByClaim};
-ghost use Rattle.ftl_disk.specs.Either.{LeadsTo, Reaches, failed_of, flash_of, honest_of, programs_of};
+ghost use Rattle.ftl_disk.specs.Either.{LeadsTo, Reaches, either_view};
 
 use crate::dies::{certify_over, format_over, start_checked_over, start_over};
 use crate::either::EitherDie;
@@ -15,7 +15,7 @@ use stream_bus::ChipLink;
 /// Makes the die ready; of none the number of why comes, here as in each of these.
 pub(crate) fn format_behind<L: ChipLink + Drop>(alloc: Global, link: L, plan: &Plan) -> u32
     requires { LeadsTo L.die L.chip L.honest L.keeps plan.now link }
-    ensures { Reaches L.called plan.now link result ⊤ (λ die. IsFormattedBy (flash_of L.die L.chip) (honest_of L.honest L.keeps) programs_of failed_of plan.now.geometry die result) }
+    ensures { Reaches L.called plan.now link result ⊤ (λ die. IsFormattedBy (either_view L.die L.chip L.honest L.keeps) plan.now.geometry die result) }
 {
     match reset(alloc, link, plan) {
         Ok(die) => format_over(alloc, die, &plan.geometry),
@@ -32,7 +32,7 @@ pub(crate) fn start_behind<L: ChipLink + Drop>(
 ) -> u32
     requires { LeadsTo L.die L.chip L.honest L.keeps plan.now link }
     ensures { Reaches L.called plan.now link result (slot.new ≡ slot.old)
-        (λ die. StartsBy (flash_of L.die L.chip) (honest_of L.honest L.keeps) failed_of plan.now.geometry plan.now.cache die slot.old result slot.new) }
+        (λ die. StartsBy (either_view L.die L.chip L.honest L.keeps) plan.now.geometry plan.now.cache die slot.old result slot.new) }
 {
     match reset(alloc, link, plan) {
         Ok(die) => start_over(alloc, die, plan, slot),
@@ -50,7 +50,7 @@ pub(crate) fn start_checked_behind<L: ChipLink + Drop>(
 ) -> u32
     requires { LeadsTo L.die L.chip L.honest L.keeps plan.now link }
     ensures { Reaches L.called plan.now link result (slot.new ≡ slot.old)
-        (λ die. StartsByClaim (flash_of L.die L.chip) (honest_of L.honest L.keeps) failed_of plan.now.geometry plan.now.cache certificate.now die slot.old result slot.new) }
+        (λ die. StartsByClaim (either_view L.die L.chip L.honest L.keeps) plan.now.geometry plan.now.cache certificate.now die slot.old result slot.new) }
 {
     match reset(alloc, link, plan) {
         Ok(die) => start_checked_over(alloc, die, plan, certificate, slot),
@@ -67,7 +67,7 @@ pub(crate) fn certify_behind<L: ChipLink + Drop>(
 ) -> u32
     requires { LeadsTo L.die L.chip L.honest L.keeps plan.now link }
     ensures { Reaches L.called plan.now link result (out.new ≡ out.old)
-        (λ die. CertifiesBy (flash_of L.die L.chip) (honest_of L.honest L.keeps) failed_of plan.now.geometry plan.now.cache die out.old result out.new) }
+        (λ die. CertifiesBy (either_view L.die L.chip L.honest L.keeps) plan.now.geometry plan.now.cache die out.old result out.new) }
 {
     match reset(alloc, link, plan) {
         Ok(die) => certify_over(alloc, die, plan, out),

@@ -1,5 +1,5 @@
 //! A die of one of two kinds.
-ghost use Rattle.ftl_disk.specs.Either.{erases_of, failed_of, flash_of, honest_of, programs_of, reads_of, recorded_of};
+ghost use Rattle.ftl_disk.specs.Either.{either_view};
 
 use corrected_nand::{ChipDriver, Corrected};
 use onfi_cycles::{BusFault, Driver, Nand, Outcome};
@@ -17,18 +17,7 @@ pub enum EitherDie<L: ChipLink> {
 }
 
 impl<L: ChipLink> PageSource for EitherDie<L> {
-    ghost use Rattle.std.specs.Prelude.{false};
-
-    ghost view = { record {
-      flash = λ d. flash_of L.die L.chip d;
-      recorded = λ d. recorded_of d;
-      honest = λ d. honest_of L.honest L.keeps d;
-      calm = λ _. false;
-      reads = λ d. reads_of d;
-      programs = λ d. programs_of d;
-      erases = λ d. erases_of d;
-      failed = λ d. failed_of d;
-    } };
+    ghost view = { either_view L.die L.chip L.honest L.keeps };
 
     fn read_page(
         &mut self,

@@ -1,4 +1,4 @@
-use Rattle.commands.specs.Serve.{flash_behind, recorded_of, is_honest, is_calm_as, programs_of, erases_of, failures_of}
+use Rattle.commands.specs.Serve.{driver_view}
 use Rattle.command_laws.proofs.MigrationLemmas.{calls_counted, first_page, migrated, number, settled, short}
 use Rattle.command_laws.proofs.migration_laws.Goals as goal
 
@@ -18,4 +18,4 @@ pub returns-clause-first : goal.returns-clause-first
 returns-clause-first c = first_page
 
 pub returns-clause-calls : goal.returns-clause-calls
-returns-clause-calls c = calls_counted flash_behind recorded_of is_honest is_calm_as programs_of erases_of failures_of
+returns-clause-calls c = calls_counted driver_view

@@ -1,5 +1,5 @@
 //! Lists of commands, told from an accepted certificate on.
-ghost use Rattle.std.specs.Prelude.{◌≡◌, ◌⊎◌, true, Some, IfOk, OnOk};
+ghost use Rattle.std.specs.Prelude.{◌≡◌, ◌⊎◌, IfOk, OnOk};
 ghost use Rattle.page_layout.specs.Counter.{HasRisen};
 ghost use Rattle.onfi_cycles.specs.Driver.{flash_by};
 ghost use Rattle.command_queue.specs.Commands.{IsWhole, AreWhole};
@@ -14,6 +14,7 @@ use image_check::check;
 use nand_die::Die;
 use onfi_cycles::{Bus, Driver, Nand};
 use page_layout::geometry::Geometry;
+use page_layout::source::PageSource;
 use std::alloc::Global;
 use std::process::Abort;
 use std::test::Fail;
@@ -132,8 +133,7 @@ fn run_on_die(
     requires same { driver.geometry ≡ geometry.now }
     requires whole { AreWhole geometry.now calls.old }
     ensures rose { IfOk result (λ d. AreKnown (exchanges_of calls.new) ⊎ HasRisen driver.failures d.engine.nand.failures) }
-    ensures ran { IfOk result (λ d. AreKnown (exchanges_of calls.new) → RanFrom (flash_by (λ die. die.state)) (λ n. Some n.told) (λ _. true) (λ n. n.failures) (λ n. n.erases)
-        (flash_by (λ die. die.state) driver) certificate.now (exchanges_of calls.new) d) }
+    ensures ran { IfOk result (λ d. AreKnown (exchanges_of calls.new) → RanFrom ⟦<Driver<Die> as PageSource>⟧.view (flash_by (λ die. die.state) driver) certificate.now (exchanges_of calls.new) d) }
 {
     let accepted = check(alloc, &mut driver, geometry, 4, certificate)?;
     match run_accepted(alloc, driver, accepted, calls) {

@@ -1,4 +1,4 @@
-use Rattle.std.proofs.Common.{◌≡◌, ◌≢◌, ◌⊎◌, inl, inr, ℕ, ◌≤◌, true, Some, Result, Ok, Err, refl, sym, ap, subst, ◌∙◌}
+use Rattle.std.proofs.Common.{◌≡◌, ◌≢◌, ◌⊎◌, inl, inr, ℕ, ◌≤◌, Result, Ok, Err, refl, sym, ap, subst, ◌∙◌}
 use Rattle.page_layout.specs.declared.geometry.Geometry.{Geometry}
 use Rattle.page_layout.specs.Page.{IsImage}
 use Rattle.page_layout.specs.Counter.{HasRisen}
@@ -43,9 +43,8 @@ returns-in-Ok c =
     record {
       rose = risen_since c.args.driver.failures c.check.new.source.failures c.in-Ok.device.engine.nand.failures its.only_reads.failed_is (c.in-Ok.ensures.rose);
       ran = λ known.
-          subst (λ s. RanFrom (flash_by (λ die. die.state)) (λ n. Some n.told) (λ _. true) (λ n. n.failures) (λ n. n.erases) s c.args.certificate.now (exchanges_of c.run_accepted.new.calls) c.in-Ok.device) same
+          subst (λ s. RanFrom _ s c.args.certificate.now (exchanges_of c.run_accepted.new.calls) c.in-Ok.device) same
           (subst
-          (λ k. RanFrom (flash_by (λ die. die.state)) (λ n. Some n.told) (λ _. true) (λ n. n.failures) (λ n. n.erases)
-          (flash_by (λ die. die.state) c.check.new.source) k (exchanges_of c.run_accepted.new.calls) c.in-Ok.device) its.accepted.0
+          (λ k. RanFrom _ (flash_by (λ die. die.state) c.check.new.source) k (exchanges_of c.run_accepted.new.calls) c.in-Ok.device) its.accepted.0
           (until_known _ _ _ _ c.in-Ok.ensures.until known refl accepted).1);
     }
