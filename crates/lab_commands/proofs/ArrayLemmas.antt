@@ -56,23 +56,23 @@ map_kept_there a words file what _ said some other k = absurd k
 
 -- ---- the command
 
-pub no_geometry : {a : StoreAnswers} {words : UntilWords} {k : Option Store} {opens opened : Option ℕ} (broke : Bool) {out : Option (List ℕ)} {told : LabFault} → IsNoGeometry words.array.geometry.now told → IsArrayFault a words k k opens opened broke out out told
-no_geometry broke h = inl (left_all refl, inl h)
+pub no_geometry : {a : StoreAnswers} {words : UntilWords} {k : Option Store} {opens opened : Option ℕ} {broke : Bool} {out : Option (List ℕ)} {told : LabFault} → IsNoGeometry words.array.geometry.now told → IsArrayFault a words k k opens opened broke out out told
+no_geometry h = inl (left_all refl, inl h)
 
-pub no_last : {a : StoreAnswers} {words : UntilWords} {g : Geometry} {k : Option Store} {opens opened : Option ℕ} (broke : Bool) {out : Option (List ℕ)} {told : LabFault} → IsGeometryAt words.array.geometry.now g → IsNoLast words.until told
+pub no_last : {a : StoreAnswers} {words : UntilWords} {g : Geometry} {k : Option Store} {opens opened : Option ℕ} {broke : Bool} {out : Option (List ℕ)} {told : LabFault} → IsGeometryAt words.array.geometry.now g → IsNoLast words.until told
     → IsArrayFault a words k k opens opened broke out out told
-no_last broke is h = inl (left_all refl, inr (_, is, inl h))
+no_last is h = inl (left_all refl, inr (_, is, inl h))
 
-pub not_allowed : {a : StoreAnswers} {words : UntilWords} {g : Geometry} {last : Option ℕ} {k after : Option Store} {opens opened : Option ℕ} (broke : Bool) {out : Option (List ℕ)} {told : LabFault} → IsGeometryAt words.array.geometry.now g → IsLastAt words.until last → after ≡ k
+pub not_allowed : {a : StoreAnswers} {words : UntilWords} {g : Geometry} {last : Option ℕ} {k after : Option Store} {opens opened : Option ℕ} {broke : Bool} {out : Option (List ℕ)} {told : LabFault} → IsGeometryAt words.array.geometry.now g → IsLastAt words.until last → after ≡ k
     → AreNotAllowed a words.array told
     → IsArrayFault a words k after opens opened broke out out told
-not_allowed broke is at same h = inl (left_all same, inr (_, is, inr (_, at, inl h)))
+not_allowed is at same h = inl (left_all same, inr (_, is, inr (_, at, inl h)))
 
-pub not_put : {a : StoreAnswers} {words : UntilWords} {g : Geometry} {last : Option ℕ} {k after : Option Store} {opens opened : Option ℕ} (broke : Bool) {out : Option (List ℕ)} {told : LabFault} → IsGeometryAt words.array.geometry.now g → IsLastAt words.until last
+pub not_put : {a : StoreAnswers} {words : UntilWords} {g : Geometry} {last : Option ℕ} {k after : Option Store} {opens opened : Option ℕ} {broke : Bool} {out : Option (List ℕ)} {told : LabFault} → IsGeometryAt words.array.geometry.now g → IsLastAt words.until last
     → AreAllowed a words.array → after ≡ k
     → IsUnput a g words.array opens opened told
     → IsArrayFault a words k after opens opened broke out out told
-not_put broke is at allowed same h = inl (left_all same, inr (_, is, inr (_, at, inr (allowed, h))))
+not_put is at allowed same h = inl (left_all same, inr (_, is, inr (_, at, inr (allowed, h))))
 
 -- ---- what was put in its place
 
@@ -100,7 +100,7 @@ array_put words g last held shown left kept made put shows mapped = record {
 }
 
 -- it was, and no map
-pub not_mapped : {a : StoreAnswers} {words : UntilWords} {g : Geometry} {last : Option ℕ} {pieces : Option (List (List ℕ))} {held : List Held} {left : Unsettled} {before after : Option Store} {opens opened : Option ℕ} (broke : Bool) {out : Option (List ℕ)} {told : LabFault}
+pub not_mapped : {a : StoreAnswers} {words : UntilWords} {g : Geometry} {last : Option ℕ} {pieces : Option (List (List ℕ))} {held : List Held} {left : Unsettled} {before after : Option Store} {opens opened : Option ℕ} {broke : Bool} {out : Option (List ℕ)} {told : LabFault}
     → MadeArray a words g last pieces held left → after ≡ with_kept before words.array.out.now pieces words.array.force → IsUnmapped a words.array told
     → IsArrayFault a words before after opens opened broke out out told
-not_mapped broke made put unmapped = inr (inl (record { g = _; last = _; pieces = _; held = _; left = _; made = made; put = put; silent = Keeps-refl _; unmapped = unmapped }))
+not_mapped made put unmapped = inr (inl (record { g = _; last = _; pieces = _; held = _; left = _; made = made; put = put; silent = Keeps-refl _; unmapped = unmapped }))

@@ -13,21 +13,21 @@ use Rattle.lab_commands.specs.Array.{AreAllowed, AreNotAllowed, IsUnmapped, IsUn
 use Rattle.lab_commands.specs.Correct.{Counts, IsCorrectFault, IsNoChip, IsPutRight, MadeCorrected, PutCorrected}
 use Rattle.lab_commands.proofs.UndoneLemmas.{left_all}
 
-pub no_geometry : {a : StoreAnswers} {words : ArrayWords} {k : Option Store} {opens opened : Option ℕ} (broke : Bool) {out : Option (List ℕ)} {told : LabFault} → IsNoGeometry words.geometry.now told → IsCorrectFault a words k k opens opened broke out out told
-no_geometry broke h = inl (left_all refl, inl h)
+pub no_geometry : {a : StoreAnswers} {words : ArrayWords} {k : Option Store} {opens opened : Option ℕ} {broke : Bool} {out : Option (List ℕ)} {told : LabFault} → IsNoGeometry words.geometry.now told → IsCorrectFault a words k k opens opened broke out out told
+no_geometry h = inl (left_all refl, inl h)
 
-pub no_chip : {a : StoreAnswers} {words : ArrayWords} {g : Geometry} {k : Option Store} {opens opened : Option ℕ} (broke : Bool) {out : Option (List ℕ)} {told : LabFault} → IsGeometryAt words.geometry.now g → IsNoChip g told
+pub no_chip : {a : StoreAnswers} {words : ArrayWords} {g : Geometry} {k : Option Store} {opens opened : Option ℕ} {broke : Bool} {out : Option (List ℕ)} {told : LabFault} → IsGeometryAt words.geometry.now g → IsNoChip g told
     → IsCorrectFault a words k k opens opened broke out out told
-no_chip broke is h = inl (left_all refl, inr (_, is, inl h))
+no_chip is h = inl (left_all refl, inr (_, is, inl h))
 
-pub not_allowed : {a : StoreAnswers} {words : ArrayWords} {g chip : Geometry} {k after : Option Store} {opens opened : Option ℕ} (broke : Bool) {out : Option (List ℕ)} {told : LabFault} → IsGeometryAt words.geometry.now g → IsChipOf g chip → after ≡ k → AreNotAllowed a words told
+pub not_allowed : {a : StoreAnswers} {words : ArrayWords} {g chip : Geometry} {k after : Option Store} {opens opened : Option ℕ} {broke : Bool} {out : Option (List ℕ)} {told : LabFault} → IsGeometryAt words.geometry.now g → IsChipOf g chip → after ≡ k → AreNotAllowed a words told
     → IsCorrectFault a words k after opens opened broke out out told
-not_allowed broke is of same h = inl (left_all same, inr (_, is, inr (_, of, inl h)))
+not_allowed is of same h = inl (left_all same, inr (_, is, inr (_, of, inl h)))
 
-pub not_put : {a : StoreAnswers} {words : ArrayWords} {g chip : Geometry} {k after : Option Store} {opens opened : Option ℕ} (broke : Bool) {out : Option (List ℕ)} {told : LabFault} → IsGeometryAt words.geometry.now g → IsChipOf g chip → AreAllowed a words → after ≡ k
+pub not_put : {a : StoreAnswers} {words : ArrayWords} {g chip : Geometry} {k after : Option Store} {opens opened : Option ℕ} {broke : Bool} {out : Option (List ℕ)} {told : LabFault} → IsGeometryAt words.geometry.now g → IsChipOf g chip → AreAllowed a words → after ≡ k
     → IsUnput a chip words opens opened told
     → IsCorrectFault a words k after opens opened broke out out told
-not_put broke is of allowed same h = inl (left_all same, inr (_, is, inr (_, of, inr (allowed, h))))
+not_put is of allowed same h = inl (left_all same, inr (_, is, inr (_, of, inr (allowed, h))))
 
 -- the dump was made, by what the files answered before
 pub corrected_made : {a b : StoreAnswers} (words : ArrayWords) (g chip : Geometry) (pieces : Option (List (List ℕ))) (c : Counts) → IsGeometryAt words.geometry.now g → IsChipOf g chip → AreAllowed a words → b ≡ a
@@ -52,6 +52,6 @@ corrected_put words g c shown kept made put shows mapped = record {
 }
 
 -- it was, and no map
-pub not_mapped : {a : StoreAnswers} {words : ArrayWords} {g : Geometry} {pieces : Option (List (List ℕ))} {c : Counts} {before after : Option Store} {opens opened : Option ℕ} (broke : Bool) {out : Option (List ℕ)} {told : LabFault}
+pub not_mapped : {a : StoreAnswers} {words : ArrayWords} {g : Geometry} {pieces : Option (List (List ℕ))} {c : Counts} {before after : Option Store} {opens opened : Option ℕ} {broke : Bool} {out : Option (List ℕ)} {told : LabFault}
     → MadeCorrected a words g pieces c → after ≡ with_kept before words.out.now pieces words.force → IsUnmapped a words told → IsCorrectFault a words before after opens opened broke out out told
-not_mapped broke made put unmapped = inr (inl (record { g = _; pieces = _; counts = _; made = made; put = put; silent = Keeps-refl _; unmapped = unmapped }))
+not_mapped made put unmapped = inr (inl (record { g = _; pieces = _; counts = _; made = made; put = put; silent = Keeps-refl _; unmapped = unmapped }))

@@ -101,26 +101,26 @@ unmerged_as a paths g out known _ _ opened of h reads writes is = absurd is
 
 -- ---- the command
 
-pub no_geometry : {a : StoreAnswers} {words : MergeWords} {k : Option Store} {opens opened : Option ℕ} (broke : Bool) {out : Option (List ℕ)} {told : LabFault} → IsNoGeometry words.geometry.now told → IsMergeFault a words k k opens opened broke out out told
-no_geometry broke h = inl (left_all refl, inl h)
+pub no_geometry : {a : StoreAnswers} {words : MergeWords} {k : Option Store} {opens opened : Option ℕ} {broke : Bool} {out : Option (List ℕ)} {told : LabFault} → IsNoGeometry words.geometry.now told → IsMergeFault a words k k opens opened broke out out told
+no_geometry h = inl (left_all refl, inl h)
 
-pub not_allowed : {a : StoreAnswers} {words : MergeWords} {g : Geometry} {k after : Option Store} {opens opened : Option ℕ} (broke : Bool) {out : Option (List ℕ)} {told : LabFault} → IsGeometryAt words.geometry.now g → after ≡ k → MayNotMerge a words told
+pub not_allowed : {a : StoreAnswers} {words : MergeWords} {g : Geometry} {k after : Option Store} {opens opened : Option ℕ} {broke : Bool} {out : Option (List ℕ)} {told : LabFault} → IsGeometryAt words.geometry.now g → after ≡ k → MayNotMerge a words told
     → IsMergeFault a words k after opens opened broke out out told
-not_allowed broke is same h = inl (left_all same, inr (_, is, inl h))
+not_allowed is same h = inl (left_all same, inr (_, is, inl h))
 
-pub not_put : {a : StoreAnswers} {words : MergeWords} {g : Geometry} {k after : Option Store} {opens opened : Option ℕ} (broke : Bool) {out : Option (List ℕ)} {told : LabFault} → IsGeometryAt words.geometry.now g → MayMerge a words → after ≡ k
+pub not_put : {a : StoreAnswers} {words : MergeWords} {g : Geometry} {k after : Option Store} {opens opened : Option ℕ} {broke : Bool} {out : Option (List ℕ)} {told : LabFault} → IsGeometryAt words.geometry.now g → MayMerge a words → after ≡ k
     → IsUnroomed opens opened told ⊎ IsUnjoined a (dumps_of words) g words.out.now told ⊎ IsUnplaced a words.out.now words.force told → IsMergeFault a words k after opens opened broke out out told
-not_put broke is allowed same h = inl (left_all same, inr (_, is, inr (allowed, h)))
+not_put is allowed same h = inl (left_all same, inr (_, is, inr (allowed, h)))
 
 -- the one dump was put in its place, by what the files answered and kept before it was made
-pub merged_put : {a b : StoreAnswers} {begun before after : Option Store} (laid : Option Store) (words : MergeWords) (g : Geometry) (pieces : Option (List (List ℕ))) (conflicts unsound : List ℕ) (tried : List TriedRow) (tally : RowTally)
+pub merged_put : {a b : StoreAnswers} {begun made before after : Option Store} (words : MergeWords) (g : Geometry) (pieces : Option (List (List ℕ))) (conflicts unsound : List ℕ) (tried : List TriedRow) (tally : RowTally)
     → IsGeometryAt words.geometry.now g → MayMerge a words → b ≡ a → begun ≡ before → IsJoined b (dumps_of words) g pieces conflicts unsound tried tally
-    → without_part laid ≡ begun → after ≡ with_kept (without_part laid) words.out.now pieces words.force → PutMerge a words before after conflicts unsound tried tally
-merged_put laid words g pieces conflicts unsound tried tally is allowed same kept made beside put = record {
+    → without_part made ≡ begun → after ≡ with_kept (without_part made) words.out.now pieces words.force → PutMerge a words before after conflicts unsound tried tally
+merged_put words g pieces conflicts unsound tried tally is allowed same kept made beside put = record {
   g = g;
   pieces = pieces;
   geometry_is = is;
   allowed = allowed;
   made = subst (λ s. IsJoined s (dumps_of words) g pieces conflicts unsound tried tally) same made;
-  put = placed laid words.out.now pieces words.force kept beside put;
+  put = placed words.out.now pieces words.force kept beside put;
 }

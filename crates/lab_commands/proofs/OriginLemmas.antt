@@ -74,20 +74,20 @@ as_taken a path force k = k
 
 -- ---- the command
 
-pub origin_no_geometry : {a : StoreAnswers} {words : OriginWords} {k : Option Store} {opens opened : Option ℕ} (broke : Bool) {out : Option (List ℕ)} {told : LabFault} → IsNoGeometry words.geometry.now told → IsOriginFault a words k k opens opened broke out out told
-origin_no_geometry broke h = inl (left_all refl, inl h)
+pub origin_no_geometry : {a : StoreAnswers} {words : OriginWords} {k : Option Store} {opens opened : Option ℕ} {broke : Bool} {out : Option (List ℕ)} {told : LabFault} → IsNoGeometry words.geometry.now told → IsOriginFault a words k k opens opened broke out out told
+origin_no_geometry h = inl (left_all refl, inl h)
 
-pub origin_no_last : {a : StoreAnswers} {words : OriginWords} {g : Geometry} {k : Option Store} {opens opened : Option ℕ} (broke : Bool) {out : Option (List ℕ)} {told : LabFault} → IsGeometryAt words.geometry.now g → IsNoLast words.until told
+pub origin_no_last : {a : StoreAnswers} {words : OriginWords} {g : Geometry} {k : Option Store} {opens opened : Option ℕ} {broke : Bool} {out : Option (List ℕ)} {told : LabFault} → IsGeometryAt words.geometry.now g → IsNoLast words.until told
     → IsOriginFault a words k k opens opened broke out out told
-origin_no_last broke is h = inl (left_all refl, inr (_, is, inl h))
+origin_no_last is h = inl (left_all refl, inr (_, is, inl h))
 
-pub origin_not_allowed : {a : StoreAnswers} {words : OriginWords} {g : Geometry} {last : Option ℕ} {k after : Option Store} {opens opened : Option ℕ} (broke : Bool) {out : Option (List ℕ)} {told : LabFault} → IsGeometryAt words.geometry.now g
+pub origin_not_allowed : {a : StoreAnswers} {words : OriginWords} {g : Geometry} {last : Option ℕ} {k after : Option Store} {opens opened : Option ℕ} {broke : Bool} {out : Option (List ℕ)} {told : LabFault} → IsGeometryAt words.geometry.now g
     → IsLastAt words.until last → after ≡ k → MayNotMap a words told → IsOriginFault a words k after opens opened broke out out told
-origin_not_allowed broke is at same h = inl (left_all same, inr (_, is, inr (_, at, inl h)))
+origin_not_allowed is at same h = inl (left_all same, inr (_, is, inr (_, at, inl h)))
 
-pub origin_not_put : {a : StoreAnswers} {words : OriginWords} {g : Geometry} {last : Option ℕ} {k after : Option Store} {opens opened : Option ℕ} (broke : Bool) {out : Option (List ℕ)} {told : LabFault} → IsGeometryAt words.geometry.now g
+pub origin_not_put : {a : StoreAnswers} {words : OriginWords} {g : Geometry} {last : Option ℕ} {k after : Option Store} {opens opened : Option ℕ} {broke : Bool} {out : Option (List ℕ)} {told : LabFault} → IsGeometryAt words.geometry.now g
     → IsLastAt words.until last → MayMap a words → after ≡ k → IsUnput a words g opens opened told → IsOriginFault a words k after opens opened broke out out told
-origin_not_put broke is at allowed same h = inl (left_all same, inr (_, is, inr (_, at, inr (allowed, h))))
+origin_not_put is at allowed same h = inl (left_all same, inr (_, is, inr (_, at, inr (allowed, h))))
 
 -- the map was put in the place of OUT, by what the files answered and kept before the readings were followed
 pub origin_put : {a b : StoreAnswers} {begun before after : Option Store} (words : OriginWords) (g : Geometry) (last : Option ℕ) (marks shown : List MapMark) (followed : Option Store)

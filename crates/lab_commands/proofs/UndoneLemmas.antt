@@ -109,5 +109,5 @@ kept_there a dump path what force _ said some other k = absurd k
 -- ---- what was put in its place
 
 -- a file that was made beside its place and then put there, by what was kept before
-pub placed : {before begun after : Option Store} (laid : Option Store) (path : List ℕ) (pieces : Option (List (List ℕ))) (force : Bool) → begun ≡ before → without_part laid ≡ begun → after ≡ with_kept (without_part laid) path pieces force → after ≡ with_kept before path pieces force
-placed laid path pieces force same beside kept = kept ∙ ap (λ x. with_kept x path pieces force) (beside ∙ same)
+pub placed : {before begun made after : Option Store} (path : List ℕ) (pieces : Option (List (List ℕ))) (force : Bool) → begun ≡ before → without_part made ≡ begun → after ≡ with_kept (without_part made) path pieces force → after ≡ with_kept before path pieces force
+placed path pieces force same beside kept = kept ∙ ap (λ x. with_kept x path pieces force) (beside ∙ same)

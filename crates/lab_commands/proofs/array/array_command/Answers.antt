@@ -13,43 +13,41 @@ use Rattle.lab_commands.proofs.UndoneLemmas.{handed_on, no_more_then, placed, un
 use Rattle.lab_commands.proofs.array.array_command.Goals as goal
 
 pub returns-in_err-geometry-clause-fault : goal.returns-in_err-geometry-clause-fault
-returns-in_err-geometry-clause-fault g c = handed_on _ _ _ c.from_residual.ensures.1 (no_geometry _ c.in_err-geometry.ensures.fault)
+returns-in_err-geometry-clause-fault g c = handed_on _ _ _ c.from_residual.ensures.1 (no_geometry c.in_err-geometry.ensures.fault)
 
 pub returns-in_err-last-clause-fault : goal.returns-in_err-last-clause-fault
-returns-in_err-last-clause-fault g c = handed_on _ _ _ c.from_residual-in_err-last.ensures.1 (no_last _ c.in_ok-geometry.ensures.ok c.in_err-last.ensures.fault)
+returns-in_err-last-clause-fault g c = handed_on _ _ _ c.from_residual-in_err-last.ensures.1 (no_last c.in_ok-geometry.ensures.ok c.in_err-last.ensures.fault)
 
 pub returns-in_err-allow_both-clause-fault : goal.returns-in_err-allow_both-clause-fault
-returns-in_err-allow_both-clause-fault g c = handed_on _ _ _ c.from_residual-in_err-allow_both.ensures.1 (not_allowed _ c.in_ok-geometry.ensures.ok c.in_ok-last.ensures.ok (ap g.F.LabFiles.kept c.in_err-allow_both.ensures.same) c.in_err-allow_both.ensures.fault)
+returns-in_err-allow_both-clause-fault g c = handed_on _ _ _ c.from_residual-in_err-allow_both.ensures.1 (not_allowed c.in_ok-geometry.ensures.ok c.in_ok-last.ensures.ok (ap g.F.LabFiles.kept c.in_err-allow_both.ensures.same) c.in_err-allow_both.ensures.fault)
 
 pub returns-in_err-written-clause-fault : goal.returns-in_err-written-clause-fault
 returns-in_err-written-clause-fault g c =
     let same = c.in_ok-allow_both.ensures.same in
     handed_on _ _ _ c.from_residual-in_err-written.ensures.1
-    (not_put _ c.in_ok-geometry.ensures.ok c.in_ok-last.ensures.ok c.in_ok-allow_both.ensures.ok (c.in_err-written.ensures.kept ∙ ap g.F.LabFiles.kept same)
+    (not_put c.in_ok-geometry.ensures.ok c.in_ok-last.ensures.ok c.in_ok-allow_both.ensures.ok (c.in_err-written.ensures.kept ∙ ap g.F.LabFiles.kept same)
     (inr (inl (subst (λ f. IsFileUnmade (g.F.LabFiles.answers f) c.in_ok-geometry.geometry c.args.words.array.dump.now c.args.words.array.out.now c.in_err-written.field-0.0) same c.in_err-written.ensures.fault))))
 
 pub returns-in_err-keep-clause-fault : goal.returns-in_err-keep-clause-fault
 returns-in_err-keep-clause-fault g c =
-    let b = g.F.LabFiles.answers c.make.new.files in
     let same = c.in_ok-allow_both.ensures.same in
-    let more = subst (λ f. AnswersNoMore (g.F.LabFiles.answers f) b) same c.in_ok-written.ensures.no_more in
+    let more = subst (λ f. AnswersNoMore (g.F.LabFiles.answers f) _) same c.in_ok-written.ensures.no_more in
     handed_on _ _ _ c.from_residual-in_err-keep.ensures.1
-    (not_put _ c.in_ok-geometry.ensures.ok c.in_ok-last.ensures.ok c.in_ok-allow_both.ensures.ok (c.in_err-keep.ensures.kept ∙ (c.in_ok-written.ensures.beside ∙ ap g.F.LabFiles.kept same)) (inr (inr (unplaced_before _ _ _ _ _ more c.in_err-keep.ensures.fault))))
+    (not_put c.in_ok-geometry.ensures.ok c.in_ok-last.ensures.ok c.in_ok-allow_both.ensures.ok (c.in_err-keep.ensures.kept ∙ (c.in_ok-written.ensures.beside ∙ ap g.F.LabFiles.kept same)) (inr (inr (unplaced_before _ _ _ _ _ more c.in_err-keep.ensures.fault))))
 
 pub returns-in_err-put_map-clause-fault : goal.returns-in_err-put_map-clause-fault
 returns-in_err-put_map-clause-fault g c =
-    let b = g.F.LabFiles.answers c.make.new.files in
     let same = c.in_ok-allow_both.ensures.same in
-    let first = subst (λ f. AnswersNoMore (g.F.LabFiles.answers f) b) same c.in_ok-written.ensures.no_more in
+    let first = subst (λ f. AnswersNoMore (g.F.LabFiles.answers f) _) same c.in_ok-written.ensures.no_more in
     let made = array_made c.args.words _ _ _ _ _ c.in_ok-geometry.ensures.ok c.in_ok-last.ensures.ok c.in_ok-allow_both.ensures.ok (ap g.F.LabFiles.answers same) c.in_ok-written.ensures.made in
-    let put = placed _ _ _ _ (ap g.F.LabFiles.kept same) c.in_ok-written.ensures.beside c.in_ok-keep.ensures.ok in
+    let put = placed _ _ _ (ap g.F.LabFiles.kept same) c.in_ok-written.ensures.beside c.in_ok-keep.ensures.ok in
     handed_on _ _ _ c.from_residual-in_err-put_map.ensures.1
-    (not_mapped _ made (c.in_err-put_map.ensures.kept ∙ put) (unmapped_before _ _ c.args.words.array _ (no_more_then _ _ _ first c.in_ok-keep.ensures.no_more) c.in_err-put_map.ensures.fault))
+    (not_mapped made (c.in_err-put_map.ensures.kept ∙ put) (unmapped_before _ _ c.args.words.array _ (no_more_then _ _ _ first c.in_ok-keep.ensures.no_more) c.in_err-put_map.ensures.fault))
 
 pub returns-in_err-room-clause-fault : goal.returns-in_err-room-clause-fault
 returns-in_err-room-clause-fault g c =
     handed_on _ _ fault.OutOfMemory c.from_residual-in_err-room.ensures.1
-    (not_put (g.W.Output.failed c.args.out.now) c.in_ok-geometry.ensures.ok c.in_ok-last.ensures.ok c.in_ok-allow_both.ensures.ok (ap g.F.LabFiles.kept c.in_ok-allow_both.ensures.same) (inl (refl, ap g.F.LabFiles.opened c.in_ok-allow_both.ensures.same)))
+    (not_put c.in_ok-geometry.ensures.ok c.in_ok-last.ensures.ok c.in_ok-allow_both.ensures.ok (ap g.F.LabFiles.kept c.in_ok-allow_both.ensures.same) (inl (refl, ap g.F.LabFiles.opened c.in_ok-allow_both.ensures.same)))
 
 pub returns-in-Ok-clause-ok : goal.returns-in-Ok-clause-ok
 returns-in-Ok-clause-ok g c =
@@ -64,7 +62,7 @@ returns-in-Ok-clause-ok g c =
       held = held;
       left = left;
       put = array_put c.args.words geometry last held _ left _ (array_made c.args.words _ _ _ _ _ c.in_ok-geometry.ensures.ok c.in_ok-last.ensures.ok c.in_ok-allow_both.ensures.ok (ap g.F.LabFiles.answers same) c.in_ok-written.ensures.made)
-          (placed _ _ _ _ (ap g.F.LabFiles.kept same) c.in_ok-written.ensures.beside c.in_ok-keep.ensures.ok) c.deref.ensures.value c.in_ok-put_map.ensures.ok;
+          (placed _ _ _ (ap g.F.LabFiles.kept same) c.in_ok-written.ensures.beside c.in_ok-keep.ensures.ok) c.deref.ensures.value c.in_ok-put_map.ensures.ok;
       told = subst (λ f. Appends (g.W.Output.contents c.args.out.now) (g.W.Output.contents c.print_array.new.out) (array_text f geometry last (map shown_in held) left)) c.printer-printer.ensures
           (subst (λ (hs : List Held). Appends (g.W.Output.contents c.args.out.now) (g.W.Output.contents c.print_array.new.out) (array_text c.printer-printer.result.form geometry last (map shown_in hs) left)) c.deref-2.ensures.value c.in-Ok.ensures);
     }
@@ -77,7 +75,7 @@ returns-clause-fault g c =
     let held = c.in_ok-written.written.held.items in
     let left = c.in_ok-written.written.left in
     let put = array_put c.args.words geometry last held _ left _ (array_made c.args.words _ _ _ _ _ c.in_ok-geometry.ensures.ok c.in_ok-last.ensures.ok c.in_ok-allow_both.ensures.ok (ap g.F.LabFiles.answers same) c.in_ok-written.ensures.made)
-    (placed _ _ _ _ (ap g.F.LabFiles.kept same) c.in_ok-written.ensures.beside c.in_ok-keep.ensures.ok) c.deref.ensures.value c.in_ok-put_map.ensures.ok in
+    (placed _ _ _ (ap g.F.LabFiles.kept same) c.in_ok-written.ensures.beside c.in_ok-keep.ensures.ok) c.deref.ensures.value c.in_ok-put_map.ensures.ok in
     inr (inr (
       geometry,
       last,

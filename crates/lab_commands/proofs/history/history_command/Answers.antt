@@ -11,16 +11,16 @@ use Rattle.lab_commands.proofs.UndoneLemmas.{handed_on}
 use Rattle.lab_commands.proofs.history.history_command.Goals as goal
 
 pub returns-in_err-geometry-clause-fault : goal.returns-in_err-geometry-clause-fault
-returns-in_err-geometry-clause-fault g c = handed_on _ _ _ c.from_residual.ensures.1 (no_geometry _ c.in_err-geometry.ensures.fault)
+returns-in_err-geometry-clause-fault g c = handed_on _ _ _ c.from_residual.ensures.1 (no_geometry c.in_err-geometry.ensures.fault)
 
 pub returns-in_err-sector-clause-fault : goal.returns-in_err-sector-clause-fault
-returns-in_err-sector-clause-fault g c = handed_on _ _ _ c.from_residual-in_err-sector.ensures.1 (no_sector _ c.in_ok-geometry.ensures.ok c.in_err-sector.ensures.fault)
+returns-in_err-sector-clause-fault g c = handed_on _ _ _ c.from_residual-in_err-sector.ensures.1 (no_sector c.in_ok-geometry.ensures.ok c.in_err-sector.ensures.fault)
 
 pub returns-in_err-history-clause-fault : goal.returns-in_err-history-clause-fault
-returns-in_err-history-clause-fault g c = handed_on _ _ _ c.from_residual-in_err-history.ensures.1 (not_told _ c.in_ok-geometry.ensures.ok c.in_ok-sector.ensures.ok c.in_err-history.ensures.kept (inr c.in_err-history.ensures.fault))
+returns-in_err-history-clause-fault g c = handed_on _ _ _ c.from_residual-in_err-history.ensures.1 (not_told c.in_ok-geometry.ensures.ok c.in_ok-sector.ensures.ok c.in_err-history.ensures.kept (inr c.in_err-history.ensures.fault))
 
 pub returns-in_err-room-clause-fault : goal.returns-in_err-room-clause-fault
-returns-in_err-room-clause-fault g c = handed_on _ _ fault.OutOfMemory c.from_residual-in_err-room.ensures.1 (not_told (g.W.Output.failed c.args.out.now) c.in_ok-geometry.ensures.ok c.in_ok-sector.ensures.ok refl (inl (refl, refl)))
+returns-in_err-room-clause-fault g c = handed_on _ _ fault.OutOfMemory c.from_residual-in_err-room.ensures.1 (not_told c.in_ok-geometry.ensures.ok c.in_ok-sector.ensures.ok refl (inl (refl, refl)))
 
 pub returns-in-Ok-clause-ok : goal.returns-in-Ok-clause-ok
 returns-in-Ok-clause-ok g c = record {

@@ -12,29 +12,28 @@ use Rattle.lab_commands.proofs.UndoneLemmas.{handed_on, unplaced_before}
 use Rattle.lab_commands.proofs.merge.merge_command.Goals as goal
 
 pub returns-in_err-geometry-clause-fault : goal.returns-in_err-geometry-clause-fault
-returns-in_err-geometry-clause-fault g c = handed_on _ _ _ c.from_residual.ensures.1 (no_geometry _ c.in_err-geometry.ensures.fault)
+returns-in_err-geometry-clause-fault g c = handed_on _ _ _ c.from_residual.ensures.1 (no_geometry c.in_err-geometry.ensures.fault)
 
 pub returns-in_err-allow_merge-clause-fault : goal.returns-in_err-allow_merge-clause-fault
-returns-in_err-allow_merge-clause-fault g c = handed_on _ _ _ c.from_residual-in_err-allow_merge.ensures.1 (not_allowed _ c.in_ok-geometry.ensures.ok (ap g.F.LabFiles.kept c.in_err-allow_merge.ensures.same) c.in_err-allow_merge.ensures.fault)
+returns-in_err-allow_merge-clause-fault g c = handed_on _ _ _ c.from_residual-in_err-allow_merge.ensures.1 (not_allowed c.in_ok-geometry.ensures.ok (ap g.F.LabFiles.kept c.in_err-allow_merge.ensures.same) c.in_err-allow_merge.ensures.fault)
 
 pub returns-in_err-merged-clause-fault : goal.returns-in_err-merged-clause-fault
 returns-in_err-merged-clause-fault g c =
     let same = c.in_ok-allow_merge.ensures.same in
     handed_on _ _ _ c.from_residual-in_err-merged.ensures.1
-    (not_put _ c.in_ok-geometry.ensures.ok c.in_ok-allow_merge.ensures.ok (c.in_err-merged.ensures.kept ∙ ap g.F.LabFiles.kept same)
+    (not_put c.in_ok-geometry.ensures.ok c.in_ok-allow_merge.ensures.ok (c.in_err-merged.ensures.kept ∙ ap g.F.LabFiles.kept same)
     (inr (inl (subst (λ f. IsUnjoined (g.F.LabFiles.answers f) (dumps_of c.args.words) c.in_ok-geometry.geometry c.args.words.out.now c.in_err-merged.field-0.0) same c.in_err-merged.ensures.fault))))
 
 pub returns-in_err-keep-clause-fault : goal.returns-in_err-keep-clause-fault
 returns-in_err-keep-clause-fault g c =
-    let b = g.F.LabFiles.answers c.join.new.files in
     let same = c.in_ok-allow_merge.ensures.same in
-    let more = subst (λ f. AnswersNoMore (g.F.LabFiles.answers f) b) same c.in_ok-merged.ensures.no_more in
-    handed_on _ _ _ c.from_residual-in_err-keep.ensures.1 (not_put _ c.in_ok-geometry.ensures.ok c.in_ok-allow_merge.ensures.ok (c.in_err-keep.ensures.kept ∙ (c.in_ok-merged.ensures.beside ∙ ap g.F.LabFiles.kept same)) (inr (inr (unplaced_before _ _ _ _ _ more c.in_err-keep.ensures.fault))))
+    let more = subst (λ f. AnswersNoMore (g.F.LabFiles.answers f) _) same c.in_ok-merged.ensures.no_more in
+    handed_on _ _ _ c.from_residual-in_err-keep.ensures.1 (not_put c.in_ok-geometry.ensures.ok c.in_ok-allow_merge.ensures.ok (c.in_err-keep.ensures.kept ∙ (c.in_ok-merged.ensures.beside ∙ ap g.F.LabFiles.kept same)) (inr (inr (unplaced_before _ _ _ _ _ more c.in_err-keep.ensures.fault))))
 
 pub returns-in_err-room-clause-fault : goal.returns-in_err-room-clause-fault
 returns-in_err-room-clause-fault g c =
     handed_on _ _ fault.OutOfMemory c.from_residual-in_err-room.ensures.1
-    (not_put (g.W.Output.failed c.args.out.now) c.in_ok-geometry.ensures.ok c.in_ok-allow_merge.ensures.ok (ap g.F.LabFiles.kept c.in_ok-allow_merge.ensures.same) (inl (refl, ap g.F.LabFiles.opened c.in_ok-allow_merge.ensures.same)))
+    (not_put c.in_ok-geometry.ensures.ok c.in_ok-allow_merge.ensures.ok (ap g.F.LabFiles.kept c.in_ok-allow_merge.ensures.same) (inl (refl, ap g.F.LabFiles.opened c.in_ok-allow_merge.ensures.same)))
 
 pub returns-in-Ok-clause-ok : goal.returns-in-Ok-clause-ok
 returns-in-Ok-clause-ok g c =
@@ -48,7 +47,7 @@ returns-in-Ok-clause-ok g c =
       unsound = unsound;
       tried = tried;
       tally = tally;
-      put = merged_put _ c.args.words _ _ conflicts unsound tried tally c.in_ok-geometry.ensures.ok c.in_ok-allow_merge.ensures.ok (ap g.F.LabFiles.answers same) (ap g.F.LabFiles.kept same) c.in_ok-merged.ensures.made c.in_ok-merged.ensures.beside c.in_ok-keep.ensures.ok;
+      put = merged_put c.args.words _ _ conflicts unsound tried tally c.in_ok-geometry.ensures.ok c.in_ok-allow_merge.ensures.ok (ap g.F.LabFiles.answers same) (ap g.F.LabFiles.kept same) c.in_ok-merged.ensures.made c.in_ok-merged.ensures.beside c.in_ok-keep.ensures.ok;
       told = subst (λ f. Appends (g.W.Output.contents c.args.out.now) (g.W.Output.contents c.print_merged.new.out) (merge_text f conflicts unsound tried tally)) c.printer-printer.ensures
           (subst (λ (rows : List TriedRow). Appends (g.W.Output.contents c.args.out.now) (g.W.Output.contents c.print_merged.new.out) (merge_text c.printer-printer.result.form conflicts unsound rows tally)) c.deref-3.ensures.value
           (subst (λ (rows : List ℕ). Appends (g.W.Output.contents c.args.out.now) (g.W.Output.contents c.print_merged.new.out) (merge_text c.printer-printer.result.form conflicts rows c.deref-3.result.now tally)) c.deref-2.ensures.value
@@ -62,7 +61,7 @@ returns-clause-fault g c =
     let unsound = c.in_ok-merged.merged.unsound.items in
     let tried = c.in_ok-merged.merged.tried.items in
     let tally = c.in_ok-merged.merged.tally in
-    let put = merged_put _ c.args.words _ _ conflicts unsound tried tally c.in_ok-geometry.ensures.ok c.in_ok-allow_merge.ensures.ok (ap g.F.LabFiles.answers same) (ap g.F.LabFiles.kept same) c.in_ok-merged.ensures.made c.in_ok-merged.ensures.beside c.in_ok-keep.ensures.ok in
+    let put = merged_put c.args.words _ _ conflicts unsound tried tally c.in_ok-geometry.ensures.ok c.in_ok-allow_merge.ensures.ok (ap g.F.LabFiles.answers same) (ap g.F.LabFiles.kept same) c.in_ok-merged.ensures.made c.in_ok-merged.ensures.beside c.in_ok-keep.ensures.ok in
     inr (
       conflicts,
       unsound,

@@ -12,33 +12,32 @@ use Rattle.lab_commands.proofs.UndoneLemmas.{handed_on, unplaced_before}
 use Rattle.lab_commands.proofs.origin.origin_command.Goals as goal
 
 pub returns-in_err-geometry-clause-fault : goal.returns-in_err-geometry-clause-fault
-returns-in_err-geometry-clause-fault g c = handed_on _ _ _ c.from_residual.ensures.1 (origin_no_geometry _ c.in_err-geometry.ensures.fault)
+returns-in_err-geometry-clause-fault g c = handed_on _ _ _ c.from_residual.ensures.1 (origin_no_geometry c.in_err-geometry.ensures.fault)
 
 pub returns-in_err-last-clause-fault : goal.returns-in_err-last-clause-fault
-returns-in_err-last-clause-fault g c = handed_on _ _ _ c.from_residual-in_err-last.ensures.1 (origin_no_last _ c.in_ok-geometry.ensures.ok c.in_err-last.ensures.fault)
+returns-in_err-last-clause-fault g c = handed_on _ _ _ c.from_residual-in_err-last.ensures.1 (origin_no_last c.in_ok-geometry.ensures.ok c.in_err-last.ensures.fault)
 
 pub returns-in_err-allow_origin-clause-fault : goal.returns-in_err-allow_origin-clause-fault
-returns-in_err-allow_origin-clause-fault g c = handed_on _ _ _ c.from_residual-in_err-allow_origin.ensures.1 (origin_not_allowed _ c.in_ok-geometry.ensures.ok c.in_ok-last.ensures.ok (ap g.F.LabFiles.kept c.in_err-allow_origin.ensures.same) c.in_err-allow_origin.ensures.fault)
+returns-in_err-allow_origin-clause-fault g c = handed_on _ _ _ c.from_residual-in_err-allow_origin.ensures.1 (origin_not_allowed c.in_ok-geometry.ensures.ok c.in_ok-last.ensures.ok (ap g.F.LabFiles.kept c.in_err-allow_origin.ensures.same) c.in_err-allow_origin.ensures.fault)
 
 pub returns-in_err-room-clause-fault : goal.returns-in_err-room-clause-fault
 returns-in_err-room-clause-fault g c =
     handed_on _ _ fault.OutOfMemory c.from_residual-in_err-room.ensures.1
-    (origin_not_put (g.W.Output.failed c.args.out.now) c.in_ok-geometry.ensures.ok c.in_ok-last.ensures.ok c.in_ok-allow_origin.ensures.ok (ap g.F.LabFiles.kept c.in_ok-allow_origin.ensures.same) (inl (refl, ap g.F.LabFiles.opened c.in_ok-allow_origin.ensures.same)))
+    (origin_not_put c.in_ok-geometry.ensures.ok c.in_ok-last.ensures.ok c.in_ok-allow_origin.ensures.ok (ap g.F.LabFiles.kept c.in_ok-allow_origin.ensures.same) (inl (refl, ap g.F.LabFiles.opened c.in_ok-allow_origin.ensures.same)))
 
 pub returns-in_err-marks-clause-fault : goal.returns-in_err-marks-clause-fault
 returns-in_err-marks-clause-fault g c =
     let same = c.in_ok-allow_origin.ensures.same in
     handed_on _ _ _ c.from_residual-in_err-marks.ensures.1
-    (origin_not_put _ c.in_ok-geometry.ensures.ok c.in_ok-last.ensures.ok c.in_ok-allow_origin.ensures.ok (c.follow.ensures.kept ∙ ap g.F.LabFiles.kept same)
+    (origin_not_put c.in_ok-geometry.ensures.ok c.in_ok-last.ensures.ok c.in_ok-allow_origin.ensures.ok (c.follow.ensures.kept ∙ ap g.F.LabFiles.kept same)
     (inr (inl (subst (λ f. IsUnfollowed (g.F.LabFiles.answers f) c.args.words c.in_ok-geometry.geometry c.in_err-marks.field-0.0) same c.in_err-marks.ensures.fault))))
 
 pub returns-in_err-put_origin-clause-fault : goal.returns-in_err-put_origin-clause-fault
 returns-in_err-put_origin-clause-fault g c =
-    let b = g.F.LabFiles.answers c.follow.new.files in
     let same = c.in_ok-allow_origin.ensures.same in
-    let more = subst (λ f. AnswersNoMore (g.F.LabFiles.answers f) b) same c.follow.ensures.no_more in
+    let more = subst (λ f. AnswersNoMore (g.F.LabFiles.answers f) _) same c.follow.ensures.no_more in
     handed_on _ _ _ c.from_residual-in_err-put_origin.ensures.1
-    (origin_not_put _ c.in_ok-geometry.ensures.ok c.in_ok-last.ensures.ok c.in_ok-allow_origin.ensures.ok (c.in_err-put_origin.ensures.kept ∙ (c.follow.ensures.kept ∙ ap g.F.LabFiles.kept same)) (inr (inr (unplaced_before _ _ _ _ _ more c.in_err-put_origin.ensures.fault))))
+    (origin_not_put c.in_ok-geometry.ensures.ok c.in_ok-last.ensures.ok c.in_ok-allow_origin.ensures.ok (c.in_err-put_origin.ensures.kept ∙ (c.follow.ensures.kept ∙ ap g.F.LabFiles.kept same)) (inr (inr (unplaced_before _ _ _ _ _ more c.in_err-put_origin.ensures.fault))))
 
 pub returns-in-Ok-clause-ok : goal.returns-in-Ok-clause-ok
 returns-in-Ok-clause-ok g c =

@@ -13,36 +13,35 @@ use Rattle.lab_commands.proofs.UndoneLemmas.{handed_on, unplaced_before}
 use Rattle.lab_commands.proofs.repair.repair_command.Goals as goal
 
 pub returns-in_err-geometry-clause-fault : goal.returns-in_err-geometry-clause-fault
-returns-in_err-geometry-clause-fault g c = handed_on _ _ _ c.from_residual.ensures.1 (no_geometry _ c.in_err-geometry.ensures.fault)
+returns-in_err-geometry-clause-fault g c = handed_on _ _ _ c.from_residual.ensures.1 (no_geometry c.in_err-geometry.ensures.fault)
 
 pub returns-in_err-rows-clause-fault : goal.returns-in_err-rows-clause-fault
-returns-in_err-rows-clause-fault g c = handed_on _ _ _ c.from_residual-in_err-rows.ensures.1 (no_rows _ c.in_ok-geometry.ensures.ok c.in_err-rows.ensures.fault)
+returns-in_err-rows-clause-fault g c = handed_on _ _ _ c.from_residual-in_err-rows.ensures.1 (no_rows c.in_ok-geometry.ensures.ok c.in_err-rows.ensures.fault)
 
 pub returns-in_err-bits-clause-fault : goal.returns-in_err-bits-clause-fault
-returns-in_err-bits-clause-fault g c = handed_on _ _ _ c.from_residual-in_err-bits.ensures.1 (no_bits _ c.in_ok-geometry.ensures.ok c.in_ok-rows.ensures.ok c.in_err-bits.ensures.fault)
+returns-in_err-bits-clause-fault g c = handed_on _ _ _ c.from_residual-in_err-bits.ensures.1 (no_bits c.in_ok-geometry.ensures.ok c.in_ok-rows.ensures.ok c.in_err-bits.ensures.fault)
 
 pub returns-in_err-allow-clause-fault : goal.returns-in_err-allow-clause-fault
-returns-in_err-allow-clause-fault g c = handed_on _ _ _ c.from_residual-in_err-allow.ensures.1 (not_allowed _ c.in_ok-geometry.ensures.ok c.in_ok-rows.ensures.ok c.in_ok-bits.ensures.ok (ap g.F.LabFiles.kept c.in_err-allow.ensures.same) c.in_err-allow.ensures.fault)
+returns-in_err-allow-clause-fault g c = handed_on _ _ _ c.from_residual-in_err-allow.ensures.1 (not_allowed c.in_ok-geometry.ensures.ok c.in_ok-rows.ensures.ok c.in_ok-bits.ensures.ok (ap g.F.LabFiles.kept c.in_err-allow.ensures.same) c.in_err-allow.ensures.fault)
 
 pub returns-in_err-repaired-clause-fault : goal.returns-in_err-repaired-clause-fault
 returns-in_err-repaired-clause-fault g c =
     let same = c.in_ok-allow.ensures.same in
     handed_on _ _ _ c.from_residual-in_err-repaired.ensures.1
-    (not_put _ c.in_ok-geometry.ensures.ok c.in_ok-rows.ensures.ok c.in_ok-bits.ensures.ok c.in_ok-allow.ensures.ok (c.in_err-repaired.ensures.kept ∙ ap g.F.LabFiles.kept same)
+    (not_put c.in_ok-geometry.ensures.ok c.in_ok-rows.ensures.ok c.in_ok-bits.ensures.ok c.in_ok-allow.ensures.ok (c.in_err-repaired.ensures.kept ∙ ap g.F.LabFiles.kept same)
     (inr (inl (subst (λ f. IsFileUnmade (g.F.LabFiles.answers f) c.in_ok-geometry.geometry c.args.words.dump.now c.args.words.out.now c.in_err-repaired.field-0.0) same c.in_err-repaired.ensures.fault))))
 
 pub returns-in_err-keep-clause-fault : goal.returns-in_err-keep-clause-fault
 returns-in_err-keep-clause-fault g c =
-    let b = g.F.LabFiles.answers c.mend.new.files in
     let same = c.in_ok-allow.ensures.same in
-    let more = subst (λ f. AnswersNoMore (g.F.LabFiles.answers f) b) same c.in_ok-repaired.ensures.no_more in
+    let more = subst (λ f. AnswersNoMore (g.F.LabFiles.answers f) _) same c.in_ok-repaired.ensures.no_more in
     handed_on _ _ _ c.from_residual-in_err-keep.ensures.1
-    (not_put _ c.in_ok-geometry.ensures.ok c.in_ok-rows.ensures.ok c.in_ok-bits.ensures.ok c.in_ok-allow.ensures.ok (c.in_err-keep.ensures.kept ∙ (c.in_ok-repaired.ensures.beside ∙ ap g.F.LabFiles.kept same)) (inr (inr (unplaced_before _ _ _ _ _ more c.in_err-keep.ensures.fault))))
+    (not_put c.in_ok-geometry.ensures.ok c.in_ok-rows.ensures.ok c.in_ok-bits.ensures.ok c.in_ok-allow.ensures.ok (c.in_err-keep.ensures.kept ∙ (c.in_ok-repaired.ensures.beside ∙ ap g.F.LabFiles.kept same)) (inr (inr (unplaced_before _ _ _ _ _ more c.in_err-keep.ensures.fault))))
 
 pub returns-in_err-room-clause-fault : goal.returns-in_err-room-clause-fault
 returns-in_err-room-clause-fault g c =
     handed_on _ _ fault.OutOfMemory c.from_residual-in_err-room.ensures.1
-    (not_put (g.W.Output.failed c.args.out.now) c.in_ok-geometry.ensures.ok c.in_ok-rows.ensures.ok c.in_ok-bits.ensures.ok c.in_ok-allow.ensures.ok (ap g.F.LabFiles.kept c.in_ok-allow.ensures.same) (inl (refl, ap g.F.LabFiles.opened c.in_ok-allow.ensures.same)))
+    (not_put c.in_ok-geometry.ensures.ok c.in_ok-rows.ensures.ok c.in_ok-bits.ensures.ok c.in_ok-allow.ensures.ok (ap g.F.LabFiles.kept c.in_ok-allow.ensures.same) (inl (refl, ap g.F.LabFiles.opened c.in_ok-allow.ensures.same)))
 
 pub returns-in-Ok-clause-ok : goal.returns-in-Ok-clause-ok
 returns-in-Ok-clause-ok g c =
@@ -53,7 +52,7 @@ returns-in-Ok-clause-ok g c =
     let tries : c.tries_told-tries.result ≡ told_tries bits geometry mends = c.tries_told-tries.ensures ∙ ap (told_tries bits geometry) c.deref.ensures.value in
     record {
       mends = mends;
-      put = mended_put _ c.args.words geometry c.in_ok-rows.rows bits _ mends c.in_ok-geometry.ensures.ok c.in_ok-rows.ensures.ok c.in_ok-bits.ensures.ok c.in_ok-allow.ensures.ok
+      put = mended_put c.args.words geometry c.in_ok-rows.rows bits _ mends c.in_ok-geometry.ensures.ok c.in_ok-rows.ensures.ok c.in_ok-bits.ensures.ok c.in_ok-allow.ensures.ok
           (ap g.F.LabFiles.answers same) (ap g.F.LabFiles.kept same) c.in_ok-repaired.ensures.made c.in_ok-repaired.ensures.beside c.in_ok-keep.ensures.ok;
       told = subst (λ f. Appends (g.W.Output.contents c.args.out.now) (g.W.Output.contents c.print_repaired.new.out) (repair_text f (told_tries bits geometry mends) mends)) c.printer.ensures
           (subst (λ (n : ℕ). Appends (g.W.Output.contents c.args.out.now) (g.W.Output.contents c.print_repaired.new.out) (repair_text c.printer.result.form n mends)) tries
@@ -67,7 +66,7 @@ returns-clause-fault g c =
     let bits = c.in_ok-bits.bits in
     let mends = c.in_ok-repaired.repaired.mends.items in
     let tries : c.tries_told-tries.result ≡ told_tries bits geometry mends = c.tries_told-tries.ensures ∙ ap (told_tries bits geometry) c.deref.ensures.value in
-    let put = mended_put _ c.args.words geometry c.in_ok-rows.rows bits _ mends c.in_ok-geometry.ensures.ok c.in_ok-rows.ensures.ok c.in_ok-bits.ensures.ok c.in_ok-allow.ensures.ok
+    let put = mended_put c.args.words geometry c.in_ok-rows.rows bits _ mends c.in_ok-geometry.ensures.ok c.in_ok-rows.ensures.ok c.in_ok-bits.ensures.ok c.in_ok-allow.ensures.ok
     (ap g.F.LabFiles.answers same) (ap g.F.LabFiles.kept same) c.in_ok-repaired.ensures.made c.in_ok-repaired.ensures.beside c.in_ok-keep.ensures.ok in
     let a = g.W.Output.contents c.args.out.now in
     let b = g.W.Output.contents c.print_repaired.new.out in

@@ -10,16 +10,16 @@ use Rattle.lab_commands.proofs.UndoneLemmas.{handed_on}
 use Rattle.lab_commands.proofs.survey.survey_command.Goals as goal
 
 pub returns-in_err-geometry-clause-fault : goal.returns-in_err-geometry-clause-fault
-returns-in_err-geometry-clause-fault g c = handed_on _ _ _ c.from_residual.ensures.1 (no_geometry _ c.in_err-geometry.ensures.fault)
+returns-in_err-geometry-clause-fault g c = handed_on _ _ _ c.from_residual.ensures.1 (no_geometry c.in_err-geometry.ensures.fault)
 
 pub returns-in_err-rows-clause-fault : goal.returns-in_err-rows-clause-fault
-returns-in_err-rows-clause-fault g c = handed_on _ _ _ c.from_residual-in_err-rows.ensures.1 (no_rows _ c.in_ok-geometry.ensures.ok c.in_err-rows.ensures.fault)
+returns-in_err-rows-clause-fault g c = handed_on _ _ _ c.from_residual-in_err-rows.ensures.1 (no_rows c.in_ok-geometry.ensures.ok c.in_err-rows.ensures.fault)
 
 pub returns-in_err-survey-clause-fault : goal.returns-in_err-survey-clause-fault
-returns-in_err-survey-clause-fault g c = handed_on _ _ _ c.from_residual-in_err-survey.ensures.1 (not_seen _ c.in_ok-geometry.ensures.ok c.in_ok-rows.ensures.ok c.in_err-survey.ensures.kept (inr c.in_err-survey.ensures.fault))
+returns-in_err-survey-clause-fault g c = handed_on _ _ _ c.from_residual-in_err-survey.ensures.1 (not_seen c.in_ok-geometry.ensures.ok c.in_ok-rows.ensures.ok c.in_err-survey.ensures.kept (inr c.in_err-survey.ensures.fault))
 
 pub returns-in_err-room-clause-fault : goal.returns-in_err-room-clause-fault
-returns-in_err-room-clause-fault g c = handed_on _ _ fault.OutOfMemory c.from_residual-in_err-room.ensures.1 (not_seen (g.W.Output.failed c.args.out.now) c.in_ok-geometry.ensures.ok c.in_ok-rows.ensures.ok refl (inl (refl, refl)))
+returns-in_err-room-clause-fault g c = handed_on _ _ fault.OutOfMemory c.from_residual-in_err-room.ensures.1 (not_seen c.in_ok-geometry.ensures.ok c.in_ok-rows.ensures.ok refl (inl (refl, refl)))
 
 pub returns-in-Ok-clause-ok : goal.returns-in-Ok-clause-ok
 returns-in-Ok-clause-ok g c = record {
