@@ -15,7 +15,7 @@ numbered g c = record { numbers = c.in_ok-numbers.numbers; geometry = c.in_ok-nu
 -- and the image is one of that geometry
 imaged : (g : Over) (c : In-Ok g) → HasImage (g.F.FileStore.gives c.args.files.now) c.args.words c.in_ok-geometry.geometry c.in_ok-sector.sector c.in_ok-bytes.bytes.items
 imaged g c = record {
-  asked = record { numbers = c.in_ok-numbers.numbers; geometry = c.in_ok-numbers.ensures.ok; sector = c.in_ok-sector.ensures.ok; valid = c.in_ok-geometry.ensures.ok };
+  asked = numbered g c.In_ok-geometry;
   given = c.in_ok-bytes.ensures.ok;
   whole = ap length (sym c.deref.ensures.value) ∙ c.in-Ok.ensures.accepted.0 refl;
 }
