@@ -1,24 +1,18 @@
 -- What the command `array` comes to where it isn't done.
-use Rattle.std.proofs.Common.{◌≡◌, ◌≢◌, inl, inr, ℕ, Bool, false, subst, List, Option, Some, None, refl, ap, map, ◌∙◌}
+use Rattle.std.proofs.Common.{◌≡◌, ◌≢◌, inl, inr, ℕ, Bool, false, subst, List, Option, Some, None, refl}
 use Rattle.std.specs.Prelude.{IsSomeAnd}
 use Rattle.std.specs.Borrow.{Bor}
 use Rattle.page_layout.specs.declared.geometry.Geometry.{Geometry}
-use Rattle.std.proofs.KnownBytes.{Keeps-refl}
-use Rattle.lab_dump.specs.declared.doubts.Unsettled.{Unsettled}
-use Rattle.lab_dump.specs.declared.held.Held.{Held}
-use Rattle.lab_dump.specs.declared.map_head.Remark.TheVariants as remark
-use Rattle.lab_dump.specs.Held.{mark_in}
-use Rattle.lab_dump.specs.Map.{map_text}
 use Rattle.lab_commands.specs.declared.words.ArrayWords.{ArrayWords}
 use Rattle.lab_commands.specs.declared.words.UntilWords.{UntilWords}
 use Rattle.lab_commands.specs.declared.files.Standing.{Standing}
 use Rattle.lab_commands.specs.declared.files.Standing.TheVariants as standing
 use Rattle.lab_commands.specs.declared.text.LabFault.{LabFault}
 use Rattle.lab_commands.specs.declared.text.LabFault.TheVariants as fault
-use Rattle.lab_commands.specs.Files.{AnswersNoMore, Store, StoreAnswers, with_kept}
+use Rattle.lab_commands.specs.Files.{AnswersNoMore, Store, StoreAnswers}
 use Rattle.lab_commands.specs.Numbers.{IsLastAt, IsNoLast}
 use Rattle.lab_commands.specs.Undone.{IsGeometryAt, IsNoGeometry, IsKeptThere, IsMapUnplaced, IsUnread, IsUnwritten}
-use Rattle.lab_commands.specs.Array.{AreAllowed, AreNotAllowed, IsArrayFault, IsArrayMade, IsMapNotAllowed, IsUnmapped, IsUnput, MadeArray, PutArray, as_map, with_map}
+use Rattle.lab_commands.specs.Array.{AreAllowed, AreNotAllowed, IsArrayFault, IsMapNotAllowed, IsUnmapped, IsUnput, as_map}
 use Rattle.lab_commands.proofs.UndoneLemmas.{left_all, map_unplaced_before}
 
 -- ---- whether FILE may be written
@@ -56,51 +50,22 @@ map_kept_there a words file what _ said some other k = absurd k
 
 -- ---- the command
 
-pub no_geometry : {a : StoreAnswers} {words : UntilWords} {k : Option Store} {opens opened : Option ℕ} {broke : Bool} {out : Option (List ℕ)} {told : LabFault} → IsNoGeometry words.array.geometry.now told → IsArrayFault a words k k opens opened broke out out told
-no_geometry h = inl (left_all refl, inl h)
+pub no_geometry : (a : StoreAnswers) (words : UntilWords) (k : Option Store) (opens opened : Option ℕ) (broke : Bool) (out : Option (List ℕ)) (told : LabFault) → IsNoGeometry words.array.geometry.now told → IsArrayFault a words k k opens opened broke out out told
+no_geometry a words k opens opened broke out told h = inl (left_all k k out refl, inl h)
 
-pub no_last : {a : StoreAnswers} {words : UntilWords} {g : Geometry} {k : Option Store} {opens opened : Option ℕ} {broke : Bool} {out : Option (List ℕ)} {told : LabFault} → IsGeometryAt words.array.geometry.now g → IsNoLast words.until told
+pub no_last : (a : StoreAnswers) (words : UntilWords) (g : Geometry) (k : Option Store) (opens opened : Option ℕ) (broke : Bool) (out : Option (List ℕ)) (told : LabFault) → IsGeometryAt words.array.geometry.now g → IsNoLast words.until told
     → IsArrayFault a words k k opens opened broke out out told
-no_last is h = inl (left_all refl, inr (_, is, inl h))
+no_last a words g k opens opened broke out told is h = inl (left_all k k out refl, inr (g, is, inl h))
 
-pub not_allowed : {a : StoreAnswers} {words : UntilWords} {g : Geometry} {last : Option ℕ} {k after : Option Store} {opens opened : Option ℕ} {broke : Bool} {out : Option (List ℕ)} {told : LabFault} → IsGeometryAt words.array.geometry.now g → IsLastAt words.until last → after ≡ k
+pub not_allowed : (a : StoreAnswers) (words : UntilWords) (g : Geometry) (last : Option ℕ) (k after : Option Store) (opens opened : Option ℕ)
+    (broke : Bool) (out : Option (List ℕ)) (told : LabFault) → IsGeometryAt words.array.geometry.now g → IsLastAt words.until last → after ≡ k
     → AreNotAllowed a words.array told
     → IsArrayFault a words k after opens opened broke out out told
-not_allowed is at same h = inl (left_all same, inr (_, is, inr (_, at, inl h)))
+not_allowed a words g last k after opens opened broke out told is at same h = inl (left_all k after out same, inr (g, is, inr (last, at, inl h)))
 
-pub not_put : {a : StoreAnswers} {words : UntilWords} {g : Geometry} {last : Option ℕ} {k after : Option Store} {opens opened : Option ℕ} {broke : Bool} {out : Option (List ℕ)} {told : LabFault} → IsGeometryAt words.array.geometry.now g → IsLastAt words.until last
+pub not_put : (a : StoreAnswers) (words : UntilWords) (g : Geometry) (last : Option ℕ) (k after : Option Store) (opens opened : Option ℕ)
+    (broke : Bool) (out : Option (List ℕ)) (told : LabFault) → IsGeometryAt words.array.geometry.now g → IsLastAt words.until last
     → AreAllowed a words.array → after ≡ k
     → IsUnput a g words.array opens opened told
     → IsArrayFault a words k after opens opened broke out out told
-not_put is at allowed same h = inl (left_all same, inr (_, is, inr (_, at, inr (allowed, h))))
-
--- ---- what was put in its place
-
--- the array was made, by what the files answered before
-pub array_made : {a b : StoreAnswers} (words : UntilWords) (g : Geometry) (last : Option ℕ) (pieces : Option (List (List ℕ))) (held : List Held) (left : Unsettled)
-    → IsGeometryAt words.array.geometry.now g → IsLastAt words.until last → AreAllowed a words.array → b ≡ a
-    → IsArrayMade b words.array.dump.now g last words.damaged pieces held left → MadeArray a words g last pieces held left
-array_made words g last pieces held left is at allowed same made = record {
-  geometry_is = is;
-  last_is = at;
-  allowed = allowed;
-  made = subst (λ s. IsArrayMade s words.array.dump.now g last words.damaged pieces held left) same made;
-}
-
--- it was put in the place of OUT, and its map, of these states, in that of FILE, where one is wanted
-pub array_put : {a : StoreAnswers} {before after : Option Store} {pieces : Option (List (List ℕ))} (words : UntilWords) (g : Geometry) (last : Option ℕ) (held shown : List Held) (left : Unsettled) (kept : Option Store)
-    → MadeArray a words g last pieces held left → kept ≡ with_kept before words.array.out.now pieces words.array.force → shown ≡ held
-    → after ≡ with_map kept words.array (map_text remark.Array g (map mark_in shown)) → PutArray a words before after g last held left
-array_put words g last held shown left kept made put shows mapped = record {
-  pieces = _;
-  made = made;
-  put = mapped
-      ∙ (ap (λ (hs : List Held). with_map kept words.array (map_text remark.Array g (map mark_in hs))) shows
-      ∙ ap (λ x. with_map x words.array (map_text remark.Array g (map mark_in held))) put);
-}
-
--- it was, and no map
-pub not_mapped : {a : StoreAnswers} {words : UntilWords} {g : Geometry} {last : Option ℕ} {pieces : Option (List (List ℕ))} {held : List Held} {left : Unsettled} {before after : Option Store} {opens opened : Option ℕ} {broke : Bool} {out : Option (List ℕ)} {told : LabFault}
-    → MadeArray a words g last pieces held left → after ≡ with_kept before words.array.out.now pieces words.array.force → IsUnmapped a words.array told
-    → IsArrayFault a words before after opens opened broke out out told
-not_mapped made put unmapped = inr (inl (record { g = _; last = _; pieces = _; held = _; left = _; made = made; put = put; silent = Keeps-refl _; unmapped = unmapped }))
+not_put a words g last k after opens opened broke out told is at allowed same h = inl (left_all k after out same, inr (g, is, inr (last, at, inr (allowed, h))))

@@ -10,13 +10,13 @@ use Rattle.lab_commands.specs.History.{IsHistoryFault}
 use Rattle.lab_commands.specs.Survey.{IsUnsurveyed}
 use Rattle.lab_commands.proofs.UndoneLemmas.{left_all}
 
-pub no_geometry : {a : StoreAnswers} {words : HistoryWords} {k : Option Store} {opens opened : Option ℕ} {broke : Bool} {out : Option (List ℕ)} {told : LabFault} → IsNoGeometry words.geometry.now told → IsHistoryFault a words k k opens opened broke out out told
-no_geometry h = inl (left_all refl, inl h)
+pub no_geometry : (a : StoreAnswers) (words : HistoryWords) (k : Option Store) (opens opened : Option ℕ) (broke : Bool) (out : Option (List ℕ)) (told : LabFault) → IsNoGeometry words.geometry.now told → IsHistoryFault a words k k opens opened broke out out told
+no_geometry a words k opens opened broke out told h = inl (left_all k k out refl, inl h)
 
-pub no_sector : {a : StoreAnswers} {words : HistoryWords} {g : Geometry} {k : Option Store} {opens opened : Option ℕ} {broke : Bool} {out : Option (List ℕ)} {told : LabFault} → IsGeometryAt words.geometry.now g → IsNoSector words.sector.now g told
+pub no_sector : (a : StoreAnswers) (words : HistoryWords) (g : Geometry) (k : Option Store) (opens opened : Option ℕ) (broke : Bool) (out : Option (List ℕ)) (told : LabFault) → IsGeometryAt words.geometry.now g → IsNoSector words.sector.now g told
     → IsHistoryFault a words k k opens opened broke out out told
-no_sector is h = inl (left_all refl, inr (_, is, inl h))
+no_sector a words g k opens opened broke out told is h = inl (left_all k k out refl, inr (g, is, inl h))
 
-pub not_told : {a : StoreAnswers} {words : HistoryWords} {g : Geometry} {n : ℕ} {k after : Option Store} {opens opened : Option ℕ} {broke : Bool} {out : Option (List ℕ)} {told : LabFault} → IsGeometryAt words.geometry.now g
+pub not_told : (a : StoreAnswers) (words : HistoryWords) (g : Geometry) (n : ℕ) (k after : Option Store) (opens opened : Option ℕ) (broke : Bool) (out : Option (List ℕ)) (told : LabFault) → IsGeometryAt words.geometry.now g
     → IsSectorAt words.sector.now g n → after ≡ k → IsUnroomed opens opened told ⊎ IsUnsurveyed a g words.dump.now told → IsHistoryFault a words k after opens opened broke out out told
-not_told is at same h = inl (left_all same, inr (_, is, inr (_, at, h)))
+not_told a words g n k after opens opened broke out told is at same h = inl (left_all k after out same, inr (g, is, inr (n, at, h)))

@@ -6,8 +6,6 @@ use Rattle.std.specs.Borrow.{Bor}
 use Rattle.page_layout.specs.declared.geometry.Geometry.{Geometry}
 use Rattle.lab_mend.specs.declared.merge.MergeFault.{MergeFault}
 use Rattle.lab_mend.specs.declared.merge.MergeFault.TheVariants as merge
-use Rattle.lab_mend.specs.declared.merging.RowTally.{RowTally}
-use Rattle.lab_mend.specs.declared.merging.TriedRow.{TriedRow}
 use Rattle.lab_mend.specs.InStep.{Tell}
 use Rattle.lab_mend.specs.Merged.{IsOfReading, IsUnmerged}
 use Rattle.lab_commands.specs.declared.words.MergeWords.{MergeWords}
@@ -16,10 +14,10 @@ use Rattle.lab_commands.specs.declared.files.Standing.{Standing}
 use Rattle.lab_commands.specs.declared.files.Standing.TheVariants as standing
 use Rattle.lab_commands.specs.declared.text.LabFault.{LabFault}
 use Rattle.lab_commands.specs.declared.text.LabFault.TheVariants as fault
-use Rattle.lab_commands.specs.Files.{AnswersNoMore, IsFileOpened, StandsAtPath, Store, StoreAnswers, with_kept, without_part}
+use Rattle.lab_commands.specs.Files.{AnswersNoMore, IsFileOpened, StandsAtPath, Store, StoreAnswers}
 use Rattle.lab_commands.specs.Undone.{IsGeometryAt, IsKeptThere, IsNoGeometry, IsUnplaced, IsUnread, IsUnroomed, IsUnwritten}
-use Rattle.lab_commands.specs.Merge.{AreOpened, AreOpenedBelow, AreOthersBelow, HasSame, IsJoined, IsMergeFault, IsSomeUnread, IsUnjoined, IsUnmergedTo, MayMerge, MayNotMerge, PutMerge, TellsFault, dumps_of}
-use Rattle.lab_commands.proofs.UndoneLemmas.{left_all, opened_before, placed, unread_before}
+use Rattle.lab_commands.specs.Merge.{AreOpened, AreOpenedBelow, AreOthersBelow, HasSame, IsMergeFault, IsSomeUnread, IsUnjoined, IsUnmergedTo, MayMerge, MayNotMerge, TellsFault, dumps_of}
+use Rattle.lab_commands.proofs.UndoneLemmas.{left_all, opened_before, unread_before}
 
 -- ---- the paths
 
@@ -101,26 +99,14 @@ unmerged_as a paths g out known _ _ opened of h reads writes is = absurd is
 
 -- ---- the command
 
-pub no_geometry : {a : StoreAnswers} {words : MergeWords} {k : Option Store} {opens opened : Option ℕ} {broke : Bool} {out : Option (List ℕ)} {told : LabFault} → IsNoGeometry words.geometry.now told → IsMergeFault a words k k opens opened broke out out told
-no_geometry h = inl (left_all refl, inl h)
+pub no_geometry : (a : StoreAnswers) (words : MergeWords) (k : Option Store) (opens opened : Option ℕ) (broke : Bool) (out : Option (List ℕ)) (told : LabFault) → IsNoGeometry words.geometry.now told → IsMergeFault a words k k opens opened broke out out told
+no_geometry a words k opens opened broke out told h = inl (left_all k k out refl, inl h)
 
-pub not_allowed : {a : StoreAnswers} {words : MergeWords} {g : Geometry} {k after : Option Store} {opens opened : Option ℕ} {broke : Bool} {out : Option (List ℕ)} {told : LabFault} → IsGeometryAt words.geometry.now g → after ≡ k → MayNotMerge a words told
+pub not_allowed : (a : StoreAnswers) (words : MergeWords) (g : Geometry) (k after : Option Store) (opens opened : Option ℕ) (broke : Bool)
+    (out : Option (List ℕ)) (told : LabFault) → IsGeometryAt words.geometry.now g → after ≡ k → MayNotMerge a words told
     → IsMergeFault a words k after opens opened broke out out told
-not_allowed is same h = inl (left_all same, inr (_, is, inl h))
+not_allowed a words g k after opens opened broke out told is same h = inl (left_all k after out same, inr (g, is, inl h))
 
-pub not_put : {a : StoreAnswers} {words : MergeWords} {g : Geometry} {k after : Option Store} {opens opened : Option ℕ} {broke : Bool} {out : Option (List ℕ)} {told : LabFault} → IsGeometryAt words.geometry.now g → MayMerge a words → after ≡ k
+pub not_put : (a : StoreAnswers) (words : MergeWords) (g : Geometry) (k after : Option Store) (opens opened : Option ℕ) (broke : Bool) (out : Option (List ℕ)) (told : LabFault) → IsGeometryAt words.geometry.now g → MayMerge a words → after ≡ k
     → IsUnroomed opens opened told ⊎ IsUnjoined a (dumps_of words) g words.out.now told ⊎ IsUnplaced a words.out.now words.force told → IsMergeFault a words k after opens opened broke out out told
-not_put is allowed same h = inl (left_all same, inr (_, is, inr (allowed, h)))
-
--- the one dump was put in its place, by what the files answered and kept before it was made
-pub merged_put : {a b : StoreAnswers} {begun made before after : Option Store} (words : MergeWords) (g : Geometry) (pieces : Option (List (List ℕ))) (conflicts unsound : List ℕ) (tried : List TriedRow) (tally : RowTally)
-    → IsGeometryAt words.geometry.now g → MayMerge a words → b ≡ a → begun ≡ before → IsJoined b (dumps_of words) g pieces conflicts unsound tried tally
-    → without_part made ≡ begun → after ≡ with_kept (without_part made) words.out.now pieces words.force → PutMerge a words before after conflicts unsound tried tally
-merged_put words g pieces conflicts unsound tried tally is allowed same kept made beside put = record {
-  g = g;
-  pieces = pieces;
-  geometry_is = is;
-  allowed = allowed;
-  made = subst (λ s. IsJoined s (dumps_of words) g pieces conflicts unsound tried tally) same made;
-  put = placed words.out.now pieces words.force kept beside put;
-}
+not_put a words g k after opens opened broke out told is allowed same h = inl (left_all k after out same, inr (g, is, inr (allowed, h)))

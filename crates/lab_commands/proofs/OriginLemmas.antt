@@ -1,9 +1,6 @@
 -- What the command `origin` comes to where it isn't done.
-use Rattle.std.proofs.Common.{◌≡◌, ◌≢◌, ◌⊎◌, inl, inr, ℕ, ◌<◌, Bool, false, List, [], ◌∷◌, length, get_or, Option, Some, None, refl, sym, ap, subst, ◌∙◌}
+use Rattle.std.proofs.Common.{◌≡◌, ◌≢◌, ◌⊎◌, inl, inr, ℕ, ◌<◌, Bool, false, List, [], length, get_or, Option, Some, None, refl, sym, ap, subst, ◌∙◌}
 use Rattle.page_layout.specs.declared.geometry.Geometry.{Geometry}
-use Rattle.lab_dump.specs.declared.map_head.Remark.TheVariants as remark
-use Rattle.lab_dump.specs.declared.mark.MapMark.{MapMark}
-use Rattle.lab_dump.specs.Map.{map_text}
 use Rattle.lab_origin.specs.declared.readings.ReadingFault.TheVariants as reading
 use Rattle.lab_origin.specs.declared.trace.OriginFault.{OriginFault}
 use Rattle.lab_origin.specs.declared.trace.OriginFault.TheVariants as origin
@@ -13,11 +10,11 @@ use Rattle.lab_commands.specs.declared.files.Standing.{Standing}
 use Rattle.lab_commands.specs.declared.files.Standing.TheVariants as standing
 use Rattle.lab_commands.specs.declared.text.LabFault.{LabFault}
 use Rattle.lab_commands.specs.declared.text.LabFault.TheVariants as fault
-use Rattle.lab_commands.specs.Files.{AnswersNoMore, IsFileOpened, StandsAtPath, Store, StoreAnswers, with_kept}
+use Rattle.lab_commands.specs.Files.{AnswersNoMore, IsFileOpened, StandsAtPath, Store, StoreAnswers}
 use Rattle.lab_commands.specs.Merge.{AreOpened, HasSame, IsSomeUnread}
 use Rattle.lab_commands.specs.Numbers.{IsLastAt, IsNoLast}
 use Rattle.lab_commands.specs.Undone.{IsGeometryAt, IsKeptThere, IsMapUnplaced, IsNoGeometry, IsUnplaced, IsUnread, IsUnwritten}
-use Rattle.lab_commands.specs.Origin.{IsFollowed, IsOriginFault, IsUnput, IsUntracedTo, MayMap, MayNotMap, PutOrigin, TellsOrigin, readings_of}
+use Rattle.lab_commands.specs.Origin.{IsFollowed, IsOriginFault, IsUnput, IsUntracedTo, MayMap, MayNotMap, TellsOrigin, readings_of}
 use Rattle.lab_commands.proofs.UndoneLemmas.{left_all, opened_before, unread_before}
 
 -- ---- whether OUT may be written
@@ -74,31 +71,17 @@ as_taken a path force k = k
 
 -- ---- the command
 
-pub origin_no_geometry : {a : StoreAnswers} {words : OriginWords} {k : Option Store} {opens opened : Option ℕ} {broke : Bool} {out : Option (List ℕ)} {told : LabFault} → IsNoGeometry words.geometry.now told → IsOriginFault a words k k opens opened broke out out told
-origin_no_geometry h = inl (left_all refl, inl h)
+pub origin_no_geometry : (a : StoreAnswers) (words : OriginWords) (k : Option Store) (opens opened : Option ℕ) (broke : Bool) (out : Option (List ℕ)) (told : LabFault) → IsNoGeometry words.geometry.now told → IsOriginFault a words k k opens opened broke out out told
+origin_no_geometry a words k opens opened broke out told h = inl (left_all k k out refl, inl h)
 
-pub origin_no_last : {a : StoreAnswers} {words : OriginWords} {g : Geometry} {k : Option Store} {opens opened : Option ℕ} {broke : Bool} {out : Option (List ℕ)} {told : LabFault} → IsGeometryAt words.geometry.now g → IsNoLast words.until told
+pub origin_no_last : (a : StoreAnswers) (words : OriginWords) (g : Geometry) (k : Option Store) (opens opened : Option ℕ) (broke : Bool) (out : Option (List ℕ)) (told : LabFault) → IsGeometryAt words.geometry.now g → IsNoLast words.until told
     → IsOriginFault a words k k opens opened broke out out told
-origin_no_last is h = inl (left_all refl, inr (_, is, inl h))
+origin_no_last a words g k opens opened broke out told is h = inl (left_all k k out refl, inr (g, is, inl h))
 
-pub origin_not_allowed : {a : StoreAnswers} {words : OriginWords} {g : Geometry} {last : Option ℕ} {k after : Option Store} {opens opened : Option ℕ} {broke : Bool} {out : Option (List ℕ)} {told : LabFault} → IsGeometryAt words.geometry.now g
+pub origin_not_allowed : (a : StoreAnswers) (words : OriginWords) (g : Geometry) (last : Option ℕ) (k after : Option Store) (opens opened : Option ℕ) (broke : Bool) (out : Option (List ℕ)) (told : LabFault) → IsGeometryAt words.geometry.now g
     → IsLastAt words.until last → after ≡ k → MayNotMap a words told → IsOriginFault a words k after opens opened broke out out told
-origin_not_allowed is at same h = inl (left_all same, inr (_, is, inr (_, at, inl h)))
+origin_not_allowed a words g last k after opens opened broke out told is at same h = inl (left_all k after out same, inr (g, is, inr (last, at, inl h)))
 
-pub origin_not_put : {a : StoreAnswers} {words : OriginWords} {g : Geometry} {last : Option ℕ} {k after : Option Store} {opens opened : Option ℕ} {broke : Bool} {out : Option (List ℕ)} {told : LabFault} → IsGeometryAt words.geometry.now g
+pub origin_not_put : (a : StoreAnswers) (words : OriginWords) (g : Geometry) (last : Option ℕ) (k after : Option Store) (opens opened : Option ℕ) (broke : Bool) (out : Option (List ℕ)) (told : LabFault) → IsGeometryAt words.geometry.now g
     → IsLastAt words.until last → MayMap a words → after ≡ k → IsUnput a words g opens opened told → IsOriginFault a words k after opens opened broke out out told
-origin_not_put is at allowed same h = inl (left_all same, inr (_, is, inr (_, at, inr (allowed, h))))
-
--- the map was put in the place of OUT, by what the files answered and kept before the readings were followed
-pub origin_put : {a b : StoreAnswers} {begun before after : Option Store} (words : OriginWords) (g : Geometry) (last : Option ℕ) (marks shown : List MapMark) (followed : Option Store)
-    → IsGeometryAt words.geometry.now g → IsLastAt words.until last → MayMap a words → b ≡ a → begun ≡ before → IsFollowed b words g last marks → followed ≡ begun → shown ≡ marks
-    → after ≡ with_kept followed words.out.now (Some (map_text remark.Readings g shown ∷ [])) words.force → PutOrigin a words before after g last marks
-origin_put words g last marks shown followed is at allowed same kept marked still shows put = record {
-  geometry_is = is;
-  last_is = at;
-  allowed = allowed;
-  followed = subst (λ s. IsFollowed s words g last marks) same marked;
-  put = put
-      ∙ (ap (λ (ms : List MapMark). with_kept followed words.out.now (Some (map_text remark.Readings g ms ∷ [])) words.force) shows
-      ∙ ap (λ x. with_kept x words.out.now (Some (map_text remark.Readings g marks ∷ [])) words.force) (still ∙ kept));
-}
+origin_not_put a words g last k after opens opened broke out told is at allowed same h = inl (left_all k after out same, inr (g, is, inr (last, at, inr (allowed, h))))

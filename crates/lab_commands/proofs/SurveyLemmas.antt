@@ -10,13 +10,13 @@ use Rattle.lab_commands.specs.Undone.{IsGeometryAt, IsNoGeometry, IsUnroomed}
 use Rattle.lab_commands.specs.Survey.{IsSurveyFault, IsUnsurveyed}
 use Rattle.lab_commands.proofs.UndoneLemmas.{left_all}
 
-pub no_geometry : {a : StoreAnswers} {words : SurveyWords} {k : Option Store} {opens opened : Option ℕ} {broke : Bool} {out : Option (List ℕ)} {told : LabFault} → IsNoGeometry words.geometry.now told → IsSurveyFault a words k k opens opened broke out out told
-no_geometry h = inl (left_all refl, inl h)
+pub no_geometry : (a : StoreAnswers) (words : SurveyWords) (k : Option Store) (opens opened : Option ℕ) (broke : Bool) (out : Option (List ℕ)) (told : LabFault) → IsNoGeometry words.geometry.now told → IsSurveyFault a words k k opens opened broke out out told
+no_geometry a words k opens opened broke out told h = inl (left_all k k out refl, inl h)
 
-pub no_rows : {a : StoreAnswers} {words : SurveyWords} {g : Geometry} {k : Option Store} {opens opened : Option ℕ} {broke : Bool} {out : Option (List ℕ)} {told : LabFault} → IsGeometryAt words.geometry.now g → AreNoRows words.rows g told
+pub no_rows : (a : StoreAnswers) (words : SurveyWords) (g : Geometry) (k : Option Store) (opens opened : Option ℕ) (broke : Bool) (out : Option (List ℕ)) (told : LabFault) → IsGeometryAt words.geometry.now g → AreNoRows words.rows g told
     → IsSurveyFault a words k k opens opened broke out out told
-no_rows is h = inl (left_all refl, inr (_, is, inl h))
+no_rows a words g k opens opened broke out told is h = inl (left_all k k out refl, inr (g, is, inl h))
 
-pub not_seen : {a : StoreAnswers} {words : SurveyWords} {g : Geometry} {rows : Option Rows} {k after : Option Store} {opens opened : Option ℕ} {broke : Bool} {out : Option (List ℕ)} {told : LabFault} → IsGeometryAt words.geometry.now g
+pub not_seen : (a : StoreAnswers) (words : SurveyWords) (g : Geometry) (rows : Option Rows) (k after : Option Store) (opens opened : Option ℕ) (broke : Bool) (out : Option (List ℕ)) (told : LabFault) → IsGeometryAt words.geometry.now g
     → AreRowsAt words.rows g rows → after ≡ k → IsUnroomed opens opened told ⊎ IsUnsurveyed a g words.dump.now told → IsSurveyFault a words k after opens opened broke out out told
-not_seen is are same h = inl (left_all same, inr (_, is, inr (_, are, h)))
+not_seen a words g rows k after opens opened broke out told is are same h = inl (left_all k after out same, inr (g, is, inr (rows, are, h)))

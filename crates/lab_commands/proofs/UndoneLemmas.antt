@@ -1,5 +1,5 @@
 -- Why a command ended before it was done.
-use Rattle.std.proofs.Common.{◌≡◌, ◌≢◌, inl, inr, ℕ, Bool, false, List, Option, Some, None, IfSome, refl, sym, ◌∙◌, ap, subst}
+use Rattle.std.proofs.Common.{◌≡◌, ◌≢◌, inl, inr, ℕ, Bool, false, List, Option, Some, None, IfSome, refl, sym, ◌∙◌, subst}
 use Rattle.std.specs.Prelude.{Result, Ok, Err, IfErr}
 use Rattle.std.specs.Result.{IsErrAnd}
 use Rattle.std.proofs.KnownBytes.{Keeps-refl}
@@ -13,11 +13,11 @@ use Rattle.lab_commands.specs.declared.text.LabFault.TheVariants as fault
 use Rattle.lab_commands.specs.declared.files.LabFileFault.TheVariants as file
 use Rattle.lab_commands.specs.declared.files.Standing.{Standing}
 use Rattle.lab_commands.specs.declared.files.Standing.TheVariants as standing
-use Rattle.lab_commands.specs.Files.{AnswersNoMore, IsFileOpened, StandsAtPath, Store, StoreAnswers, with_kept, without_part}
+use Rattle.lab_commands.specs.Files.{AnswersNoMore, IsFileOpened, StandsAtPath, Store, StoreAnswers}
 use Rattle.lab_commands.specs.Undone.{IsFileUnmade, IsKeptThere, IsMapUnplaced, IsUnplaced, IsUnread, IsUntaken, IsUnwritten, LeavesAll, MayNotWrite, OpensForReading, unmade_as}
 
-pub left_all : {before after : Option Store} {out : Option (List ℕ)} → after ≡ before → LeavesAll before after out out
-left_all same = record { kept = same; silent = Keeps-refl _ }
+pub left_all : (before after : Option Store) (out : Option (List ℕ)) → after ≡ before → LeavesAll before after out out
+left_all before after out same = record { kept = same; silent = Keeps-refl out }
 
 -- a fault that is handed on
 pub handed_on : {T : Type 0} (P : LabFault → Type 0) (r : Result T LabFault) (told : LabFault) → IsErrAnd r (λ e. e ≡ told) → P told → IfErr r P
@@ -105,9 +105,3 @@ pub kept_there : (a : StoreAnswers) (dump path : List ℕ) (what : Standing) (fo
 kept_there a dump path what force fault.Exists said some other k = ((what, some, said), other, k)
 kept_there a dump path what force fault.NoFile said some other k = (subst (λ w. a.says path w) k.0 said, other, k.1)
 kept_there a dump path what force _ said some other k = absurd k
-
--- ---- what was put in its place
-
--- a file that was made beside its place and then put there, by what was kept before
-pub placed : {before begun made after : Option Store} (path : List ℕ) (pieces : Option (List (List ℕ))) (force : Bool) → begun ≡ before → without_part made ≡ begun → after ≡ with_kept (without_part made) path pieces force → after ≡ with_kept before path pieces force
-placed path pieces force same beside kept = kept ∙ ap (λ x. with_kept x path pieces force) (beside ∙ same)

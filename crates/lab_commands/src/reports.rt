@@ -1,10 +1,11 @@
 //! What each command says.
-ghost use Rattle.std.specs.Prelude.{◌≡◌, ◌++◌, option_map, map};
+ghost use Rattle.std.specs.Prelude.{◌≡◌, count_by, option_map, map};
 ghost use Rattle.lab_dump.specs.Held.{shown_in};
 ghost use Rattle.lab_commands.specs.declared.lines.Line.TheVariants as said;
-ghost use Rattle.lab_commands.specs.Document.{Prints, head_text, if_text, line_text, report_words, tail_text, text_below};
+ghost use Rattle.lab_commands.specs.Document.{Prints, if_text, line_text, text_below};
 ghost use Rattle.lab_mend.specs.Repairing.{mended_count};
 ghost use Rattle.lab_mend.specs.Tries.{tries_in};
+ghost use Rattle.lab_origin.specs.Origin.{is_mended};
 ghost use Rattle.lab_commands.specs.Lines.{tries_line};
 ghost use Rattle.lab_commands.specs.Reports.{age_text, arrange_text, arranged_fit_text, array_text, blocks_text, compare_text, correct_text, count_lines, doubts_text, ending_text, fits_text, history_text, key_at, keys_text, left_text, losses_text, merge_text, origin_text};
 ghost use Rattle.lab_commands.specs.Reports.{repair_text, some_text, survey_lines, survey_text, table_at, ties_text};
@@ -335,20 +336,6 @@ pub fn print_fits<W: Output>(
     printer.end(out)
 }
 
-// A document of this one line.
-fn print_only<W: Output>(
-    printer: Printer,
-    out: &mut W,
-    report: Report,
-    line: Line,
-) -> Result<(), OutputFault>
-    ensures { Prints (W.failed out.new) (W.contents out.old) (W.contents out.new) (head_text printer.form (report_words report) ++ (line_text printer.form line ++ tail_text printer.form)) result }
-{
-    printer.begin(out, report)?;
-    printer.line(out, Some(line))?;
-    printer.end(out)
-}
-
 /// Prints the geometry that fits best in another arrangement, and the words of that.
 ///
 /// # Errors
@@ -361,7 +348,9 @@ pub fn print_arranged_fit<W: Output>(
 ) -> Result<(), OutputFault>
     ensures { Prints (W.failed out.new) (W.contents out.old) (W.contents out.new) (arranged_fit_text printer.form found.now) result }
 {
-    print_only(printer, out, Report::Geometry, Line::ArrangedFit(*found))
+    printer.begin(out, Report::Geometry)?;
+    printer.line(out, Some(Line::ArrangedFit(*found)))?;
+    printer.end(out)
 }
 
 // How many pages were tried, where that is told.
@@ -441,7 +430,20 @@ pub fn print_arranged<W: Output>(
 ) -> Result<(), OutputFault>
     ensures { Prints (W.failed out.new) (W.contents out.old) (W.contents out.new) (arrange_text printer.form rows) result }
 {
-    print_only(printer, out, Report::Arrange, Line::Arranged(rows))
+    printer.begin(out, Report::Arrange)?;
+    printer.line(out, Some(Line::Arranged(rows)))?;
+    printer.end(out)
+}
+
+// How many sectors are shown of a page that no reading has.
+fn print_origin_count<W: Output>(
+    printer: Printer,
+    out: &mut W,
+    marks: &[MapMark],
+) -> Result<(), OutputFault>
+    ensures { Prints (W.failed out.new) (W.contents out.old) (W.contents out.new) (line_text printer.form (Line.Origin (count_by is_mended marks.now))) result }
+{
+    printer.line(out, Some(Line::Origin(mended_count(marks))))
 }
 
 /// Prints how many sectors are shown of a page that no reading has, by the mark of each.
@@ -456,8 +458,9 @@ pub fn print_origin<W: Output>(
 ) -> Result<(), OutputFault>
     ensures { Prints (W.failed out.new) (W.contents out.old) (W.contents out.new) (origin_text printer.form marks.now) result }
 {
-    let line = Line::Origin(mended_count(marks));
-    print_only(printer, out, Report::Origin, line)
+    printer.begin(out, Report::Origin)?;
+    print_origin_count(printer, out, marks)?;
+    printer.end(out)
 }
 
 // How many pages were tried, if some were.

@@ -4,7 +4,7 @@ use std::alloc::{AllocError, Global};
 use std::process::Abort;
 use std::test::Fail;
 use test_images::{
-    Claim, FORMATTED, Layout, META, Said, TABLE_0, TABLE_1, Written, certificate_bytes, image_of,
+    Claim, FORMATTED, Layout, Said, TABLE_0, TABLE_1, Written, certificate_bytes, image_of,
     laid_out,
 };
 
@@ -142,23 +142,6 @@ pub enum Made {
     /// These bytes cut or made longer, by bytes 00h, to so many.
     Cut(Claimed, usize),
 }
-
-/// The image of a formatted die, its certificate, and a file to be written.
-pub const FORMATTED_FILES: [(&str, Made); 3] = [
-    ("image.bin", Made::Formatted(&[])),
-    ("cert.bin", Made::Certificate((4, 3, &[META], &[]))),
-    OUT,
-];
-
-/// The same with a certificate of another next sequence.
-pub const DISAGREEING_FILES: [(&str, Made); 3] = [
-    ("image.bin", Made::Formatted(&[])),
-    ("cert.bin", Made::Certificate((4, 2, &[META], &[]))),
-    OUT,
-];
-
-// A file to be written.
-const OUT: (&str, Made) = ("out.bin", Made::Formatted(&[]));
 
 /// The bytes of a file.
 pub fn bytes_of(rt: &impl Abort, alloc: Global, bytes: &Made) -> Result<Vec<u8>, Fail> {

@@ -1,8 +1,8 @@
 //! What `migrate` prints and stores.
-use super::images::{DISAGREEING_FILES, FORMATTED_FILES, Made};
+use super::images::Made;
 use super::runs::{Case, Step, expect_cases};
 use std::test::Fail;
-use test_images::{Layout, Old, TABLE_0, TABLE_1, Written, page};
+use test_images::{Layout, META, Old, TABLE_0, TABLE_1, Written, page};
 
 const OLD: Layout = Layout {
     spare_bytes: 40,
@@ -90,17 +90,14 @@ const READ_ONLY: &str = "refused migrate 2 ReadOnly good 7 need 17 failed 0\n";
 
 const SMALL: &str = "nandctl migrate 64,32,8,32,32 4 image.bin cert.bin out.bin";
 
-// Of the pages of version 1, with no certificate yet.
-const OLD_FILES: [(&str, Made); 3] = [
-    ("image.bin", Made::LaidOut(OLD, &PAGES)),
-    ("cert.bin", Made::Erased(0)),
-    ("out.bin", Made::Erased(0)),
-];
-
 const MIGRATED: [Case; 6] = [
     Case {
         name: "pages of version 1",
-        files: &OLD_FILES,
+        files: &[
+            ("image.bin", Made::LaidOut(OLD, &PAGES)),
+            ("cert.bin", Made::Erased(0)),
+            ("out.bin", Made::Erased(0)),
+        ],
         steps: &[
             MOUNT,
             Step::Run(MIGRATE, 0, "migrated 2\n"),
@@ -135,7 +132,11 @@ const MIGRATED: [Case; 6] = [
     },
     Case {
         name: "a file that cannot be written, and a line",
-        files: &OLD_FILES,
+        files: &[
+            ("image.bin", Made::LaidOut(OLD, &PAGES)),
+            ("cert.bin", Made::Erased(0)),
+            ("out.bin", Made::Erased(0)),
+        ],
         steps: &[
             MOUNT,
             Step::Unstored(
@@ -196,7 +197,11 @@ const MIGRATED: [Case; 6] = [
     },
     Case {
         name: "no room for version 2",
-        files: &FORMATTED_FILES,
+        files: &[
+            ("image.bin", Made::Formatted(&[])),
+            ("cert.bin", Made::Certificate((4, 3, &[META], &[]))),
+            ("out.bin", Made::Formatted(&[])),
+        ],
         steps: &[
             Step::Run(SMALL, 1, "refused migrate 8 SpareSize\n"),
             Step::Run(
@@ -233,7 +238,11 @@ const MIGRATED: [Case; 6] = [
     },
     Case {
         name: "a certificate that does not agree",
-        files: &DISAGREEING_FILES,
+        files: &[
+            ("image.bin", Made::Formatted(&[])),
+            ("cert.bin", Made::Certificate((4, 2, &[META], &[]))),
+            ("out.bin", Made::Formatted(&[])),
+        ],
         steps: &[Step::Run(SMALL, 1, "refused check 11 NextSequence\n")],
     },
     Case {

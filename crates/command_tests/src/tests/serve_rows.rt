@@ -1,5 +1,5 @@
 //! What `serve` writes, stores and answers.
-use super::images::{DISAGREEING_FILES, FORMATTED_FILES, Made};
+use super::images::Made;
 use super::runs::{Case, Step, expect_cases};
 use std::test::Fail;
 use test_images::META;
@@ -38,7 +38,11 @@ const SECTOR: Step = Step::Run("nandctl sector 64,32,8,32,32 out.bin 5", 0, ELEV
 const SERVED: [Case; 6] = [
     Case {
         name: "a write, and its certificate",
-        files: &FORMATTED_FILES,
+        files: &[
+            ("image.bin", Made::Formatted(&[])),
+            ("cert.bin", Made::Certificate((4, 3, &[META], &[]))),
+            ("out.bin", Made::Formatted(&[])),
+        ],
         steps: &[
             Step::Serve(SERVE, WRITE, 0, WRITTEN, ""),
             Step::Stored(1, "out.bin", true),
@@ -52,7 +56,11 @@ const SERVED: [Case; 6] = [
     },
     Case {
         name: "a request that is cut short",
-        files: &FORMATTED_FILES,
+        files: &[
+            ("image.bin", Made::Formatted(&[])),
+            ("cert.bin", Made::Certificate((4, 3, &[META], &[]))),
+            ("out.bin", Made::Formatted(&[])),
+        ],
         steps: &[
             Step::Serve(SERVE, CUT, 0, CUT_REPLIES, ""),
             Step::Holds("out.bin", Made::Formatted(&[])),
@@ -65,7 +73,11 @@ const SERVED: [Case; 6] = [
     },
     Case {
         name: "a bad header",
-        files: &FORMATTED_FILES,
+        files: &[
+            ("image.bin", Made::Formatted(&[])),
+            ("cert.bin", Made::Certificate((4, 3, &[META], &[]))),
+            ("out.bin", Made::Formatted(&[])),
+        ],
         steps: &[
             Step::Serve(SERVE, BAD, 1, BAD_REPLIES, "refused serve 7 BadFrame\n"),
             Step::Stored(1, "out.bin", true),
@@ -91,7 +103,11 @@ const SERVED: [Case; 6] = [
     },
     Case {
         name: "a certificate that does not agree",
-        files: &DISAGREEING_FILES,
+        files: &[
+            ("image.bin", Made::Formatted(&[])),
+            ("cert.bin", Made::Certificate((4, 2, &[META], &[]))),
+            ("out.bin", Made::Formatted(&[])),
+        ],
         steps: &[
             Step::Serve(SERVE, WRITE, 1, b"", "refused check 11 NextSequence\n"),
             Step::Serve(

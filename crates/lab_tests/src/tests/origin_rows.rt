@@ -7,25 +7,26 @@ use test_images::{TABLE_0, TABLE_1, Written, page};
 
 const ONE: &str = "nandlab origin 64,32,8,32,32 map dump.bin a.bin";
 
-// The pages of a dump, of which the one in row 17 is filled with this byte.
-macro_rules! pages {
-    ($fill:literal) => {
-        [
-            TABLE_0,
-            TABLE_1,
-            page!(9, Sector 3, sequence 5, fill 0x31),
-            page!(10, Trim 4, sequence 8, fill 0x00),
-            page!(11, Sector 5, sequence 9, fill 0x35),
-            page!(12, Sector 5, sequence 9, fill 0x36),
-            page!(17, Sector 30, sequence 7, fill $fill),
-        ]
-    };
-}
-
-const PAGES: [Written; 7] = pages!(0x33);
+const PAGES: [Written; 7] = [
+    TABLE_0,
+    TABLE_1,
+    page!(9, Sector 3, sequence 5, fill 0x31),
+    page!(10, Trim 4, sequence 8, fill 0x00),
+    page!(11, Sector 5, sequence 9, fill 0x35),
+    page!(12, Sector 5, sequence 9, fill 0x36),
+    page!(17, Sector 30, sequence 7, fill 0x33),
+];
 
 // Another sound page in row 17, of the same sector.
-const OTHERS: [Written; 7] = pages!(0x34);
+const OTHERS: [Written; 7] = [
+    TABLE_0,
+    TABLE_1,
+    page!(9, Sector 3, sequence 5, fill 0x31),
+    page!(10, Trim 4, sequence 8, fill 0x00),
+    page!(11, Sector 5, sequence 9, fill 0x35),
+    page!(12, Sector 5, sequence 9, fill 0x36),
+    page!(17, Sector 30, sequence 7, fill 0x34),
+];
 
 // One bit of the data area of row 9, and one of the spare area of the trim.
 const A: Made = Made::Changed(&PAGES, &[(866, 0x30), (1044, 0x7F)]);

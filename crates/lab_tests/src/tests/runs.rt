@@ -47,7 +47,6 @@ fn hold<T: PartialEq + Debug>(rt: &impl Abort, place: &impl Debug, found: &T, ex
     assert_eq!(rt; *found, *expected, "{place:?}");
 }
 
-// Runs a command line.
 fn run_line<O: Output, E: Output>(
     files: &mut MemoryFiles,
     line: &str,
@@ -61,12 +60,25 @@ fn run_line<O: Output, E: Output>(
     Ok(run(files.alloc, &words, files, out, err))
 }
 
-// The same with standard output and standard error in memory.
-fn ran_line(files: &mut MemoryFiles, line: &str) -> Result<Ran, AllocError> {
+// Runs a command line and holds it to its status and to what it says.
+fn expect_said(
+    rt: &impl Abort,
+    files: &mut MemoryFiles,
+    line: &str,
+    status: u8,
+    said: &str,
+) -> Result<(), AllocError> {
     let mut out: Vec<u8> = Vec::new(files.alloc);
     let mut err: Vec<u8> = Vec::new(files.alloc);
-    let status = run_line(files, line, &mut out, &mut err)?;
-    Ok(Ran { status, out, err })
+    let answered = run_line(files, line, &mut out, &mut err)?;
+    let ran = Ran {
+        status: answered,
+        out,
+        err,
+    };
+    hold_run(rt, &(files.case, line), &ran, status, said);
+    hold(rt, &(files.case, line), &files.beside, &0);
+    Ok(())
 }
 
 fn hold_run(rt: &impl Abort, place: &impl Debug, ran: &Ran, status: u8, said: &str) {
@@ -76,29 +88,19 @@ fn hold_run(rt: &impl Abort, place: &impl Debug, ran: &Ran, status: u8, said: &s
     hold(rt, place, &ran.status, &status);
 }
 
-// Runs a command line and holds it to its status and to what it says, and where it is told how many files it has to put in their places, to that.
 fn expect_run(
     rt: &impl Abort,
     files: &mut MemoryFiles,
     line: &str,
     status: u8,
     said: &str,
-    kept: Option<usize>,
 ) -> Result<(), AllocError> {
     let before = files.kept;
-    let ran = ran_line(files, line)?;
-    hold_run(rt, &(files.case, line), &ran, status, said);
-    hold(rt, &(files.case, line), &files.beside, &0);
-    if let Some(kept) = kept {
-        let expected = before.saturating_add(kept);
-        hold(rt, &(files.case, line), &files.kept, &expected);
+    expect_said(rt, files, line, status, said)?;
+    if status != 0 {
+        hold(rt, &(files.case, line), &files.kept, &before);
     }
     Ok(())
-}
-
-// How many files a run of this status has to put in their places; after one that was done that is not told.
-fn kept_of(status: u8) -> Option<usize> {
-    if status == 0 { None } else { Some(0) }
 }
 
 fn expect_both(
@@ -109,21 +111,31 @@ fn expect_both(
     said: (&str, &str),
 ) -> Result<(), AllocError> {
     let before = files.kept;
-    let ran = ran_line(files, line)?;
-    hold(
-        rt,
-        &(files.case, line),
-        &ran.out.as_slice(),
-        &said.0.as_bytes(),
-    );
-    hold(
-        rt,
-        &(files.case, line),
-        &ran.err.as_slice(),
-        &said.1.as_bytes(),
-    );
-    hold(rt, &(files.case, line), &ran.status, &status);
+    let mut out: Vec<u8> = Vec::new(files.alloc);
+    let mut err: Vec<u8> = Vec::new(files.alloc);
+    let answered = run_line(files, line, &mut out, &mut err)?;
+    hold(rt, &(files.case, line), &out.as_slice(), &said.0.as_bytes());
+    hold(rt, &(files.case, line), &err.as_slice(), &said.1.as_bytes());
+    hold(rt, &(files.case, line), &answered, &status);
     hold(rt, &(files.case, line), &files.kept, &before);
+    Ok(())
+}
+
+fn expect_half(
+    rt: &impl Abort,
+    files: &mut MemoryFiles,
+    line: &str,
+    status: u8,
+    said: &str,
+) -> Result<(), AllocError> {
+    let before = files.kept;
+    expect_said(rt, files, line, status, said)?;
+    hold(
+        rt,
+        &(files.case, line),
+        &files.kept,
+        &before.saturating_add(1),
+    );
     Ok(())
 }
 
@@ -140,8 +152,12 @@ fn expect_closed(
     hold(rt, &(files.case, line), &err.as_slice(), &said);
     hold(rt, &(files.case, line), &answered, &3);
     hold(rt, &(files.case, line), &files.beside, &0);
-    let expected = before.saturating_add(kept);
-    hold(rt, &(files.case, line), &files.kept, &expected);
+    hold(
+        rt,
+        &(files.case, line),
+        &files.kept,
+        &before.saturating_add(kept),
+    );
     Ok(())
 }
 
@@ -160,11 +176,9 @@ fn expect_contents(
 fn take(rt: &impl Abort, files: &mut MemoryFiles, step: &Step) -> Result<(), Fail> {
     match step {
         Step::Trouble(trouble) => files.trouble = *trouble,
-        Step::Run(line, status, said) => {
-            expect_run(rt, files, line, *status, said, kept_of(*status))?;
-        }
+        Step::Run(line, status, said) => expect_run(rt, files, line, *status, said)?,
         Step::Closed(line, kept) => expect_closed(rt, files, line, *kept)?,
-        Step::Half(line, status, said) => expect_run(rt, files, line, *status, said, Some(1))?,
+        Step::Half(line, status, said) => expect_half(rt, files, line, *status, said)?,
         Step::Both(line, status, out, err) => {
             expect_both(rt, files, line, *status, (*out, *err))?;
         }

@@ -7,14 +7,15 @@ use Rattle.lab_origin.specs.Traced.{ArePinned, IsOfSome, IsUntraced}
 use Rattle.lab_origin.specs.Tracing.{Tell}
 use Rattle.program_words.specs.Met.{texts}
 use Rattle.lab_commands.specs.Merge.{AreOpened, IsSomeUnread}
-use Rattle.lab_commands.specs.Origin.{readings_of}
+use Rattle.lab_commands.specs.Origin.{IsUnfollowed, readings_of}
 use Rattle.lab_commands.proofs.MergeLemmas.{failed_one}
 use Rattle.lab_commands.proofs.OriginLemmas.{each_opened_before, some_unread_before, untraced_as}
 use Rattle.lab_commands.proofs.UndoneLemmas.{handed_on}
 use Rattle.lab_commands.proofs.origin.follow_by.Goals as goal
 
 pub returns-in_err-dump-clause-fault : goal.returns-in_err-dump-clause-fault
-returns-in_err-dump-clause-fault g c = handed_on _ _ _ c.from_residual.ensures.1 (inl c.in_err-dump.ensures.fault)
+returns-in_err-dump-clause-fault g c =
+    handed_on (IsUnfollowed (g.F.LabFiles.answers c.args.files.now) c.args.words.now c.args.geometry.now) _ _ c.from_residual.ensures.1 (inl c.in_err-dump.ensures.fault)
 
 pub returns-in_err-open_readings-clause-fault : goal.returns-in_err-open_readings-clause-fault
 returns-in_err-open_readings-clause-fault g c =
@@ -22,7 +23,8 @@ returns-in_err-open_readings-clause-fault g c =
     let b = g.F.LabFiles.answers c.open_dump.new.files in
     let words = c.args.words.now in
     let unread : IsSomeUnread b (readings_of words) c.in_err-open_readings.field-0.0 = subst (λ (ps : List (Bor (List ℕ))). IsSomeUnread b (texts ps) c.in_err-open_readings.field-0.0) c.deref.ensures.value c.in_err-open_readings.ensures.fault in
-    handed_on _ _ _ c.from_residual-in_err-open_readings.ensures.1 (inr (inl (some_unread_before a b (readings_of words) _ c.in_ok-dump.ensures.no_more unread)))
+    handed_on (IsUnfollowed a words c.args.geometry.now) _ _ c.from_residual-in_err-open_readings.ensures.1
+    (inr (inl (some_unread_before a b (readings_of words) _ c.in_ok-dump.ensures.no_more unread)))
 
 pub returns-in-Ok-clause-followed : goal.returns-in-Ok-clause-followed
 returns-in-Ok-clause-followed g c =

@@ -1,5 +1,5 @@
 use Rattle.lab_commands.proofs.PrintLemmas.{failed, stops_after, stops_more, prints_after}
-use Rattle.lab_commands.proofs.reports.print_only.Goals as goal
+use Rattle.lab_commands.proofs.reports.print_arranged.Goals as goal
 
 pub returns-in_err-begin : goal.returns-in_err-begin
 returns-in_err-begin g c = failed _ c.from_residual.result _ _ _ _ c.from_residual.ensures.1 (stops_more _ _ _ _ _ _ c.in_err-begin.ensures)
