@@ -11,8 +11,9 @@ ghost use Rattle.commands.specs.Files.{left_behind};
 ghost use Rattle.commands.specs.Steady.{is_steady};
 ghost use Rattle.commands.specs.Serve.{bad_in, stop_in, EndsServing, HasServed, IsDieUnmade, IsUnservedDie, DoesServe};
 
-use crate::claimed::{claimed_by, driver_over};
+use crate::claimed::{Claimed, claimed_by};
 use crate::files::{FileFault, FileStore};
+use crate::format::driver_of;
 use crate::inputs::CacheAsked;
 use crate::steady::SteadyDie;
 use crate::text::{CommandFault, ServeStop};
@@ -167,16 +168,14 @@ pub fn serve_command<'a, F: FileStore, R: Read, W: Write>(
     ensures { DoesServe (F.gives files.old) words.entry (R.remaining input.old) (R.remaining input.new)
         (left_behind (F.stores files.old) (W.contents out.old)) (left_behind (F.stores files.new) (W.contents out.new)) result }
 {
-    let mut claimed = claimed_by(alloc, &words, files)?;
-    let driver = driver_over(alloc, &claimed)?;
-    let stop = serve_die(
-        alloc,
-        &claimed.asked,
-        driver,
-        &claimed.certificate,
-        &mut claimed.bytes,
-        input,
-        out,
-    )?;
-    finish(files, words.output, &claimed.bytes, stop)
+    let claimed = claimed_by(alloc, &words, files)?;
+    let Claimed {
+        asked,
+        mut bytes,
+        certificate,
+    } = claimed;
+    let die = die_of(alloc, &asked, &bytes, &certificate)?;
+    let driver = driver_of(die, asked.geometry);
+    let stop = serve_die(alloc, &asked, driver, &certificate, &mut bytes, input, out)?;
+    finish(files, words.output, &bytes, stop)
 }

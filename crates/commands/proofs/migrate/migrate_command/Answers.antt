@@ -1,4 +1,4 @@
-use Rattle.std.proofs.Common.{◌≡◌, ◌⊎◌, ◌∙◌, Err, List, Ok, Option, Some, ℕ, ap, inl, inr, refl, rules, subst, sym}
+use Rattle.std.proofs.Common.{◌≡◌, ◌∙◌, Err, List, Ok, Option, Some, ℕ, ap, inl, inr, refl, rules, subst, sym}
 use Rattle.std.proofs.KnownBytes.{Keeps-refl}
 use Rattle.std.proofs.lemmas.Result.{err_from_is_err_and}
 use Rattle.page_layout.specs.Flash.{Flash}
@@ -6,54 +6,61 @@ use Rattle.onfi_cycles.specs.Driver.{flash_by}
 use Rattle.nand_die.specs.DieValue.{DieValue}
 use Rattle.nand_die.specs.Made.{loaded_flash}
 use Rattle.commands.specs.declared.steady.SteadyDie.{SteadyDie}
-use Rattle.commands.specs.declared.text.CommandFault.{CommandFault}
 use Rattle.commands.specs.Check.{IsWhole}
 use Rattle.commands.specs.Files.{Stored, with_store, written_file}
-use Rattle.commands.specs.Migrate.{EndsShort, IsUnbegun, IsUnmigratedDie, MigratesDie}
+use Rattle.commands.specs.Migrate.{EndsShort, IsUnmigratedDie, MigratesDie}
 use Rattle.commands.specs.Serve.{IsDieUnmade, bad_in}
 use Rattle.commands.proofs.FormatLemmas.{kept_whole}
 use Rattle.commands.proofs.MigrateEnds.{falls_short, prints, stops}
 use Rattle.commands.proofs.ServeLemmas.{early}
-use Rattle.commands.proofs.migrate.migrate_command.Given.{Over}
-use Rattle.commands.proofs.migrate.migrate_command.Goals.{In_ok-claimed}
 use Rattle.commands.proofs.migrate.migrate_command.Goals as goal
-
-pub driver_over-requires : goal.driver_over-requires
-driver_over-requires g c = c.in_ok-claimed.ensures.ok.spelled.fits.blocks_length
 
 pub returns-in_err-claimed : goal.returns-in_err-claimed
 returns-in_err-claimed g c =
     stops (g.F.FileStore.gives c.args.files.now) c.args.words _ _ c.from_residual.result c.in_err-claimed.field-0.0 (search rules) (c.in_err-claimed.ensures.stores, search rules)
     (early c.in_err-claimed.ensures.fault)
 
--- what was read made no device, for this reason
-unmigrated : (g : Over) (c : In_ok-claimed g) (stop : CommandFault)
-    → let claimed = c.in_ok-claimed.claimed in
-    let asked = claimed.asked in
-    IsDieUnmade asked.geometry claimed.bytes.items stop
-    ⊎ (IsWhole asked.geometry claimed.bytes.items × IsUnmigratedDie asked.geometry asked.capacity claimed.certificate (loaded_flash asked.geometry claimed.bytes.items (bad_in asked.geometry claimed.certificate)) stop)
-    → IsUnbegun (g.F.FileStore.gives c.args.files.now) c.args.words stop
-unmigrated g c stop because =
-    let claimed = c.in_ok-claimed.claimed in
-    inr (inr (inr (inr (record { geometry = claimed.asked.geometry; capacity = claimed.asked.capacity; bytes = claimed.bytes.items; claim = claimed.certificate; has = c.in_ok-claimed.ensures.ok; unmigrated = because }))))
-
-pub returns-in_err-driver : goal.returns-in_err-driver
-returns-in_err-driver g c =
-    let stop = c.in_err-driver.field-0.0 in
-    stops (g.F.FileStore.gives c.args.files.now) c.args.words _ _ c.from_residual-in_err-driver.result stop (search rules) (c.in_ok-claimed.ensures.stores, search rules)
-    (unmigrated g (goal.at.returns-in_err-driver g c).In_ok-claimed stop (inl c.in_err-driver.ensures.fault))
+pub returns-in_err-die : goal.returns-in_err-die
+returns-in_err-die g c =
+    let asked = c.in_ok-claimed.claimed.asked in
+    let gives = g.F.FileStore.gives c.args.files.now in
+    let bytes = c.in_ok-claimed.claimed.bytes.items in
+    let claim = c.in_ok-claimed.claimed.certificate in
+    let stop = c.in_err-die.field-0.0 in
+    let P : List ℕ → Type 0 = λ b. IsDieUnmade asked.geometry b stop in
+    let has = c.in_ok-claimed.ensures.ok in
+    stops gives c.args.words _ _ c.from_residual-in_err-die.result stop (search rules) (c.in_ok-claimed.ensures.stores, search rules)
+    (inr (inr (inr (inr (record {
+      geometry = asked.geometry;
+      capacity = asked.capacity;
+      bytes = bytes;
+      claim = claim;
+      has = has;
+      unmigrated = inl (subst P c.deref.ensures.value c.in_err-die.ensures.fault);
+    })))))
 
 pub returns-in_err-came : goal.returns-in_err-came
 returns-in_err-came g c =
-    let claimed = c.in_ok-claimed.claimed in
-    let geometry = claimed.asked.geometry in
+    let asked = c.in_ok-claimed.claimed.asked in
+    let gives = g.F.FileStore.gives c.args.files.now in
+    let bytes = c.in_ok-claimed.claimed.bytes.items in
+    let claim = c.in_ok-claimed.claimed.certificate in
     let stop = c.in_err-came.field-0.0 in
-    let loaded = c.in_ok-driver.ensures.loaded in
-    let whole = c.in_ok-driver.ensures.whole in
+    let has = c.in_ok-claimed.ensures.ok in
+    let s : Flash = flash_by {B = SteadyDie} (λ bus. bus.die.state) c.driver_of-driver.result in
+    let loaded : s ≡ loaded_flash asked.geometry bytes (bad_in asked.geometry claim) = c.driver_of-driver.ensures.flash ∙ (ap (λ (d : DieValue). d.state.flash) c.in_ok-die.ensures.made
+    ∙ ap (λ (b : List ℕ). loaded_flash asked.geometry b (bad_in asked.geometry claim)) c.deref.ensures.value) in
+    let whole : IsWhole asked.geometry bytes = subst (λ (b : List ℕ). IsWhole asked.geometry b) c.deref.ensures.value c.in_ok-die.ensures.whole in
     let p = err_from_is_err_and c.from_residual-in_err-came.result c.from_residual-in_err-came.ensures.1 in
-    stops (g.F.FileStore.gives c.args.files.now) c.args.words _ _ c.from_residual-in_err-came.result stop (p.1 ∙ ap Err p.2) (c.in_ok-claimed.ensures.stores, Keeps-refl _)
-    (unmigrated g (goal.at.returns-in_err-came g c).In_ok-claimed stop
-    (inr (whole, subst (λ (f : Flash). IsUnmigratedDie geometry claimed.asked.capacity claimed.certificate f stop) loaded c.in_err-came.ensures.fault)))
+    stops gives c.args.words _ _ c.from_residual-in_err-came.result stop (p.1 ∙ ap Err p.2) (c.in_ok-claimed.ensures.stores, Keeps-refl _)
+    (inr (inr (inr (inr (record {
+      geometry = asked.geometry;
+      capacity = asked.capacity;
+      bytes = bytes;
+      claim = claim;
+      has = has;
+      unmigrated = inr (whole, subst (λ (f : Flash). IsUnmigratedDie asked.geometry asked.capacity claim f stop) loaded c.in_err-came.ensures.fault);
+    })))))
 
 pub returns-in_err-count : goal.returns-in_err-count
 returns-in_err-count g c =
@@ -64,11 +71,12 @@ returns-in_err-count g c =
     let claim = c.in_ok-claimed.claimed.certificate in
     let stop = c.in_err-count.field-0.0 in
     let came = c.in_ok-came.came in
-    let image = c.deref.result.now in
+    let image = c.deref-2.result.now in
     let has = c.in_ok-claimed.ensures.ok in
-    let s : Flash = flash_by {B = SteadyDie} (λ bus. bus.die.state) c.in_ok-driver.driver in
-    let loaded = c.in_ok-driver.ensures.loaded in
-    let kept : image ≡ c.migrate_die.new.image = c.deref.ensures.value ∙ kept_whole c.in_ok-claimed.claimed.bytes.len c.migrate_die.new.image bytes (c.migrate_die.auto.image ∙ c.deref_mut.ensures.len) in
+    let s : Flash = flash_by {B = SteadyDie} (λ bus. bus.die.state) c.driver_of-driver.result in
+    let loaded : s ≡ loaded_flash asked.geometry bytes (bad_in asked.geometry claim) = c.driver_of-driver.ensures.flash ∙ (ap (λ (d : DieValue). d.state.flash) c.in_ok-die.ensures.made
+    ∙ ap (λ (b : List ℕ). loaded_flash asked.geometry b (bad_in asked.geometry claim)) c.deref.ensures.value) in
+    let kept : image ≡ c.migrate_die.new.image = c.deref-2.ensures.value ∙ kept_whole c.in_ok-claimed.claimed.bytes.len c.migrate_die.new.image bytes (c.migrate_die.auto.image ∙ c.deref_mut.ensures.len) in
     let E : Option (List Stored) → Type 0 = λ stores. EndsShort words.output.now image came stores (g.F.FileStore.stores c.finish.new.files) stop in
     let H : List ℕ → Flash → Type 0 = λ i f. MigratesDie asked.geometry asked.capacity claim f i came in
     let p = err_from_is_err_and c.from_residual-in_err-count.result c.from_residual-in_err-count.ensures.1 in
@@ -85,11 +93,12 @@ returns g c =
     let claim = c.in_ok-claimed.claimed.certificate in
     let came = c.in_ok-came.came in
     let count = c.in_ok-count.count in
-    let image = c.deref.result.now in
+    let image = c.deref-2.result.now in
     let has = c.in_ok-claimed.ensures.ok in
-    let s : Flash = flash_by {B = SteadyDie} (λ bus. bus.die.state) c.in_ok-driver.driver in
-    let loaded = c.in_ok-driver.ensures.loaded in
-    let kept : image ≡ c.migrate_die.new.image = c.deref.ensures.value ∙ kept_whole c.in_ok-claimed.claimed.bytes.len c.migrate_die.new.image bytes (c.migrate_die.auto.image ∙ c.deref_mut.ensures.len) in
+    let s : Flash = flash_by {B = SteadyDie} (λ bus. bus.die.state) c.driver_of-driver.result in
+    let loaded : s ≡ loaded_flash asked.geometry bytes (bad_in asked.geometry claim) = c.driver_of-driver.ensures.flash ∙ (ap (λ (d : DieValue). d.state.flash) c.in_ok-die.ensures.made
+    ∙ ap (λ (b : List ℕ). loaded_flash asked.geometry b (bad_in asked.geometry claim)) c.deref.ensures.value) in
+    let kept : image ≡ c.migrate_die.new.image = c.deref-2.ensures.value ∙ kept_whole c.in_ok-claimed.claimed.bytes.len c.migrate_die.new.image bytes (c.migrate_die.auto.image ∙ c.deref_mut.ensures.len) in
     let H : List ℕ → Flash → Type 0 = λ i f. MigratesDie asked.geometry asked.capacity claim f i came in
     let stored = c.in_ok-count.ensures.done.1 ∙ ap (λ (s : Option (List Stored)). with_store s (written_file words.output.now image)) c.in_ok-claimed.ensures.stores in
     prints gives words _ _ c.print_migrated.result image count came c.in_ok-count.ensures.done.0

@@ -4,49 +4,59 @@ use Rattle.onfi_cycles.specs.Driver.{flash_by}
 use Rattle.nand_die.specs.DieValue.{DieValue}
 use Rattle.nand_die.specs.Made.{loaded_flash}
 use Rattle.commands.specs.declared.steady.SteadyDie.{SteadyDie}
-use Rattle.commands.specs.declared.text.CommandFault.{CommandFault}
 use Rattle.commands.specs.Check.{IsWhole}
 use Rattle.commands.specs.Files.{Stored, left_behind}
-use Rattle.commands.specs.Serve.{EndsServing, HasServed, IsDieUnmade, IsServeUnstarted, IsUnserved, bad_in}
+use Rattle.commands.specs.Serve.{EndsServing, HasServed, IsDieUnmade, bad_in}
 use Rattle.commands.proofs.FormatLemmas.{kept_whole}
 use Rattle.commands.proofs.ServeLemmas.{early, served_does, stops, undied, unserved}
-use Rattle.commands.proofs.serve.serve_command.Given.{Over}
-use Rattle.commands.proofs.serve.serve_command.Goals.{In_ok-claimed}
 use Rattle.commands.proofs.serve.serve_command.Goals as goal
-
-pub driver_over-requires : goal.driver_over-requires
-driver_over-requires g c = c.in_ok-claimed.ensures.ok.spelled.fits.blocks_length
 
 pub returns-in_err-claimed : goal.returns-in_err-claimed
 returns-in_err-claimed g c =
     stops (g.F.FileStore.gives c.args.files.now) c.args.words _ _ _ _ c.from_residual.result c.in_err-claimed.field-0.0 (search rules) (c.in_err-claimed.ensures.stores, search rules) (search rules)
     (early c.in_err-claimed.ensures.fault)
 
--- what was read was not served, for this reason
-unstarted : (g : Over) (c : In_ok-claimed g) (stop : CommandFault) → IsUnserved c.in_ok-claimed.claimed.asked.geometry c.in_ok-claimed.claimed.asked.capacity c.in_ok-claimed.claimed.bytes.items c.in_ok-claimed.claimed.certificate stop
-    → IsServeUnstarted (g.F.FileStore.gives c.args.files.now) c.args.words stop
-unstarted g c stop because =
-    let claimed = c.in_ok-claimed.claimed in
-    inr (inr (inr (inr (record { geometry = claimed.asked.geometry; capacity = claimed.asked.capacity; bytes = claimed.bytes.items; claim = claimed.certificate; has = c.in_ok-claimed.ensures.ok; unserved = because }))))
-
-pub returns-in_err-driver : goal.returns-in_err-driver
-returns-in_err-driver g c =
-    let claimed = c.in_ok-claimed.claimed in
-    let stop = c.in_err-driver.field-0.0 in
-    stops (g.F.FileStore.gives c.args.files.now) c.args.words _ _ _ _ c.from_residual-in_err-driver.result stop (search rules) (c.in_ok-claimed.ensures.stores, search rules) (search rules)
-    (unstarted g (goal.at.returns-in_err-driver g c).In_ok-claimed stop
-    (undied claimed.asked.geometry claimed.asked.capacity claimed.bytes.items claimed.certificate stop c.in_err-driver.ensures.fault))
+pub returns-in_err-die : goal.returns-in_err-die
+returns-in_err-die g c =
+    let asked = c.in_ok-claimed.claimed.asked in
+    let gives = g.F.FileStore.gives c.args.files.now in
+    let bytes = c.in_ok-claimed.claimed.bytes.items in
+    let claim = c.in_ok-claimed.claimed.certificate in
+    let stop = c.in_err-die.field-0.0 in
+    let P : List ℕ → Type 0 = λ b. IsDieUnmade asked.geometry b stop in
+    let has = c.in_ok-claimed.ensures.ok in
+    stops gives c.args.words _ _ _ _ c.from_residual-in_err-die.result stop (search rules) (c.in_ok-claimed.ensures.stores, search rules) (search rules)
+    (inr (inr (inr (inr (record {
+      geometry = asked.geometry;
+      capacity = asked.capacity;
+      bytes = bytes;
+      claim = claim;
+      has = has;
+      unserved = undied asked.geometry asked.capacity bytes claim stop (subst P c.deref.ensures.value c.in_err-die.ensures.fault);
+    })))))
 
 pub returns-in_err-stop : goal.returns-in_err-stop
 returns-in_err-stop g c =
-    let claimed = c.in_ok-claimed.claimed in
+    let asked = c.in_ok-claimed.claimed.asked in
+    let gives = g.F.FileStore.gives c.args.files.now in
+    let bytes = c.in_ok-claimed.claimed.bytes.items in
+    let claim = c.in_ok-claimed.claimed.certificate in
     let stop = c.in_err-stop.field-0.0 in
-    let s : Flash = flash_by {B = SteadyDie} (λ bus. bus.die.state) c.in_ok-driver.driver in
-    let loaded = c.in_ok-driver.ensures.loaded in
-    let whole = c.in_ok-driver.ensures.whole in
-    stops (g.F.FileStore.gives c.args.files.now) c.args.words _ _ _ _ c.from_residual-in_err-stop.result stop (search rules) (c.in_ok-claimed.ensures.stores, c.in_err-stop.ensures.unwritten) c.in_err-stop.ensures.unread
-    (unstarted g (goal.at.returns-in_err-stop g c).In_ok-claimed stop
-    (unserved claimed.asked.geometry claimed.asked.capacity claimed.bytes.items claimed.certificate s stop whole loaded c.in_err-stop.ensures.fault))
+    let has = c.in_ok-claimed.ensures.ok in
+    let driver = c.driver_of-driver.result in
+    let s : Flash = flash_by {B = SteadyDie} (λ bus. bus.die.state) driver in
+    let loaded : s ≡ loaded_flash asked.geometry bytes (bad_in asked.geometry claim) = c.driver_of-driver.ensures.flash ∙ (ap (λ (d : DieValue). d.state.flash) c.in_ok-die.ensures.made
+    ∙ ap (λ (b : List ℕ). loaded_flash asked.geometry b (bad_in asked.geometry claim)) c.deref.ensures.value) in
+    let whole : IsWhole asked.geometry bytes = subst (λ (b : List ℕ). IsWhole asked.geometry b) c.deref.ensures.value c.in_ok-die.ensures.whole in
+    stops gives c.args.words _ _ _ _ c.from_residual-in_err-stop.result stop (search rules) (c.in_ok-claimed.ensures.stores, c.in_err-stop.ensures.unwritten) c.in_err-stop.ensures.unread
+    (inr (inr (inr (inr (record {
+      geometry = asked.geometry;
+      capacity = asked.capacity;
+      bytes = bytes;
+      claim = claim;
+      has = has;
+      unserved = unserved asked.geometry asked.capacity bytes claim s stop whole loaded c.in_err-stop.ensures.fault;
+    })))))
 
 pub returns : goal.returns
 returns g c =
@@ -56,12 +66,14 @@ returns g c =
     let bytes = c.in_ok-claimed.claimed.bytes.items in
     let claim = c.in_ok-claimed.claimed.certificate in
     let has = c.in_ok-claimed.ensures.ok in
-    let s : Flash = flash_by {B = SteadyDie} (λ bus. bus.die.state) c.in_ok-driver.driver in
-    let loaded = c.in_ok-driver.ensures.loaded in
+    let driver = c.driver_of-driver.result in
+    let s : Flash = flash_by {B = SteadyDie} (λ bus. bus.die.state) driver in
+    let loaded : s ≡ loaded_flash asked.geometry bytes (bad_in asked.geometry claim) = c.driver_of-driver.ensures.flash ∙ (ap (λ (d : DieValue). d.state.flash) c.in_ok-die.ensures.made
+    ∙ ap (λ (b : List ℕ). loaded_flash asked.geometry b (bad_in asked.geometry claim)) c.deref.ensures.value) in
     let before = left_behind (g.F.FileStore.stores c.args.files.now) (g.W.Write.contents c.args.out.now) in
     let after = left_behind (g.F.FileStore.stores c.finish.new.files) (g.W.Write.contents c.serve_die.new.out) in
-    let image = c.deref.result.now in
-    let kept : image ≡ c.serve_die.new.image = c.deref.ensures.value ∙ kept_whole c.in_ok-claimed.claimed.bytes.len c.serve_die.new.image bytes (c.serve_die.auto.image ∙ c.deref_mut.ensures.len) in
+    let image = c.deref-2.result.now in
+    let kept : image ≡ c.serve_die.new.image = c.deref-2.ensures.value ∙ kept_whole c.in_ok-claimed.claimed.bytes.len c.serve_die.new.image bytes (c.serve_die.auto.image ∙ c.deref_mut.ensures.len) in
     let E : Option (List Stored) → Type 0 = λ stores. EndsServing words.output.now image c.in_ok-stop.stop stores after.stores c.finish.result in
     let H : List ℕ → Type 0 = λ i. HasServed asked.geometry asked.capacity claim s i (g.R.Read.remaining c.args.input.now) (g.R.Read.remaining c.serve_die.new.input) before.out after.out c.in_ok-stop.stop in
     served_does gives words _ _ before after c.finish.result asked.geometry asked.capacity bytes image claim s c.in_ok-stop.stop
