@@ -27,10 +27,11 @@ use Rattle.ftl_device.specs.declared.fault.DeviceFault.TheVariants.{BusFault}
 use Rattle.page_layout.specs.Counter.{HasRisen}
 use Rattle.command_words.specs.declared.words.ServeWords.{ServeWords}
 use Rattle.commands.specs.declared.text.CommandFault.{CommandFault}
+use Rattle.commands.specs.Check.{AsksForCapacity, IsSpelled}
 use Rattle.commands.specs.Files.{Gives, Left, LeavesUntouched, with_store, written_file}
 use Rattle.commands.specs.Lines.{IsUnprinted}
 use Rattle.commands.specs.Steady.{has_spared}
-use Rattle.commands.specs.Serve.{Driver, bad_in, failures_of, flash_behind, recorded_of, driver_view}
+use Rattle.commands.specs.Serve.{Driver, HasClaim, bad_in, checked_words, failures_of, flash_behind, recorded_of, driver_view}
 use Rattle.commands.specs.Migrate.{DoesMigrate, EndsShort, HasMigrated, IsSettled, IsUnbegun, KeepsAll, MigratesDie, RenewsThenFlushes, StartsOver, migrated_line}
 use Rattle.ftl_device.proofs.CallLemmas.{mountable_kept}
 use Rattle.block_server.proofs.Checking.{accepted_for, closed_as, geometry_is, is_begun, well}
@@ -64,6 +65,15 @@ prints gives words before after result image count came is has stored ok failed 
     go : (r : Result (Unit {0}) CommandFault) → OnOk r (Appends before.out after.out (migrated_line count)) → IfErr r (IsUnprinted (migrated_line count) before.out after.out) → DoesMigrate gives words before after r
     go (Ok _) told told_not = (image, count, done, stored, told)
     go (Err stop) told told_not = inr (inr (image, count, done, stored, told_not))
+
+-- both files were read, and these are the certificate's bytes
+pub has_claim : (gives : Gives) (words : ServeWords) (g : Geometry) (capacity : ℕ) (bytes spelled read : List ℕ) (c : Claim) → AsksForCapacity (checked_words words) g capacity
+    → gives words.image.now (Ok bytes) → gives words.certificate.now (Ok spelled) → read ≡ spelled → IsSpelled c read → HasClaim gives words g capacity bytes c
+has_claim gives words g capacity bytes spelled read c asked image certificate same is = record {
+  written = spelled;
+  files = record { asked = asked; image = record { bytes = image; told = λ _. refl }; certificate = certificate };
+  spelled = subst (λ (w : List ℕ). IsSpelled c w) same is;
+}
 
 -- ---- a die in memory
 

@@ -15,7 +15,7 @@ use Rattle.page_layout.proofs.FlashLemmas.{program_fair, erase_fair}
 use Rattle.page_layout.proofs.TurnLemmas.{program_turn, program_count, erase_turn, erase_count}
 use Rattle.promises.specs.Log.{block_of}
 use Rattle.promises.specs.Legal.{account_at, Account, accounts_of, accounted, noted, IsDue, LegalFrom, IsLegal}
-use Rattle.promises.proofs.AccountLemmas.{account_of, length-accounts_of}
+use Rattle.promises.proofs.AccountLemmas.{account_of, length-accounts_of, accounted-same, accounted-other, due_good}
 use Rattle.onfi_cycles.specs.Cycles.{Cycle, Command, Address, DataIn, DataOut, Due, Moves, Resets, Programs, Erases, Refuses}
 use Rattle.nand_die.specs.declared.fault.Fault.{Fault}
 use Rattle.nand_die.specs.ChipValue.{ChipValue, answered, program_passes, erase_passes, program_left, erase_left}
@@ -25,7 +25,7 @@ use Rattle.nand_die.specs.Made.{first_turn, is_named, loaded_flash, next_in}
 use Rattle.nand_die.proofs.StopLemmas.{calm_stops}
 use Rattle.mount.specs.Log.{failures}
 use Rattle.commands.specs.Steady.{is_spared, has_spared, is_steady}
-use Rattle.commands.proofs.LogLemmas.{within, Agree, agrees, agrees_elsewhere, barred_step, due_erase, due_program, noted_here, stays}
+use Rattle.commands.proofs.LogLemmas.{within, Agree, due_program, due_erase, agrees, barred_step, stays}
 use Rattle.commands.proofs.SteadyLemmas.{bars_none, passes, not_stopped}
 
 -- ---- after an operation
@@ -162,10 +162,15 @@ agrees_failed old new op accounts next due passed moved agree asked shut b good 
     let at = block_of pages op in
     elim (cases_eq b at) [
       | inl e ↦
-          let noted_is = noted_here pages accounts op b e asked in
+          let noted_is : account_at (accounted pages accounts op) b ≡ noted (account_at accounts at) op =
+          subst (λ k. account_at (accounted pages accounts op) k ≡ noted (account_at accounts at) op) (sym e) (accounted-same pages accounts op at refl (within accounts at (due_good pages accounts op asked))) in
           let no : true ≡ false = sym shut ∙ (ap (λ (a : Account). a.barred) (sym noted_is) ∙ good) in
           absurd (let never : ⊥ = cc in never)
-      | inr ne ↦ agrees_elsewhere old new op accounts next due passed moved agree b ne good
+      | inr ne ↦
+          let same : account_at (accounted pages accounts op) b ≡ account_at accounts b = accounted-other pages accounts op b (λ e. ne (sym e)) in
+          let turn : turn_at new b ≡ turn_at old b = moved.others b ne in
+          let was = agree b (ap (λ (a : Account). a.barred) (sym same) ∙ good) in
+          (ap (λ (t : TurnState). t.barred) turn ∙ was.0, ap (λ (t : TurnState). t.next) turn ∙ (was.1 ∙ ap (λ (a : Account). a.next) (sym same)))
     ]
 
 agree_on : (s mid : Flash) (accounts : List Account) (op : Operation) → Agree s accounts → IsDue s.geometry.pages accounts op → Steps s op mid → Agree mid (accounted s.geometry.pages accounts op)

@@ -94,13 +94,6 @@ stops gives words unread left before after result stop is leaves keeps because =
     let P : Result (Unit {0}) CommandFault → Type 0 = λ r. DoesServe gives words unread left before after r in
     subst P (sym is) (inl (record { leaves = leaves; unread_is = keeps; because = because }))
 
--- a case of the first four
-pub early : {A B C D E : Type 0} → A ⊎ B ⊎ C ⊎ D → A ⊎ B ⊎ C ⊎ D ⊎ E
-early (inl a) = inl a
-early (inr (inl b)) = inr (inl b)
-early (inr (inr (inl c))) = inr (inr (inl c))
-early (inr (inr (inr d))) = inr (inr (inr (inl d)))
-
 -- an image of which no die was made
 pub undied : (g : Geometry) (capacity : ℕ) (bytes : List ℕ) (c : Claim) (stop : CommandFault) → IsDieUnmade g bytes stop → IsUnserved g capacity bytes c stop
 undied g capacity bytes c fault.WrongLength unmade = unmade

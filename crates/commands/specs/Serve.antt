@@ -153,14 +153,6 @@ pub record HasClaim (gives : Gives) (words : ServeWords) (g : Geometry) (capacit
   pub files : HasFiles gives true (checked_words words) g capacity (Some bytes) written
   pub spelled : IsSpelled c written
 
--- Why there is none. Each case says that none before it in the order held. The image's file was loaded whole, so its bytes are known.
-abbrev pub IsUnclaimed : Gives → ServeWords → CommandFault → Type 0
-IsUnclaimed gives words stopped =
-    IsUnasked (checked_words words) stopped
-    ⊎ IsImageUnopened gives (checked_words words) stopped
-    ⊎ LacksCertificate gives true (checked_words words) stopped
-    ⊎ HasNoCertificate gives true (checked_words words) stopped
-
 -- but the die was not served
 pub record IsClaimUnserved (gives : Gives) (words : ServeWords) (stopped : CommandFault) : Type 0 where
   pub geometry : Geometry

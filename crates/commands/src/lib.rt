@@ -4,7 +4,6 @@
 #![tactic(auto)]
 
 mod check;
-mod claimed;
 mod files;
 mod format;
 mod inputs;

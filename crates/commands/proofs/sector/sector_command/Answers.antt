@@ -4,39 +4,31 @@ use Rattle.commands.specs.declared.sector.PrintFault.{PrintFault}
 use Rattle.commands.specs.Sector.{DoesSector, HasImage, AsksForNumber, IsPrintFault, IsUnprinted, sector_line}
 use Rattle.commands.proofs.CommandLemmas.{unread_does}
 use Rattle.commands.proofs.ImageLemmas.{part_in, line_in, readable_in, unreadable_in}
-use Rattle.commands.proofs.sector.sector_command.Given.{Over}
-use Rattle.commands.proofs.sector.sector_command.Goals.{In-Ok, In_ok-geometry}
 use Rattle.commands.proofs.sector.sector_command.Goals as goal
-
--- the words are numbers
-numbered : (g : Over) (c : In_ok-geometry g) → AsksForNumber c.args.words c.in_ok-geometry.geometry c.in_ok-sector.sector
-numbered g c = record { numbers = c.in_ok-numbers.numbers; geometry = c.in_ok-numbers.ensures.ok; sector = c.in_ok-sector.ensures.ok; valid = c.in_ok-geometry.ensures.ok }
-
--- and the image is one of that geometry
-imaged : (g : Over) (c : In-Ok g) → HasImage (g.F.FileStore.gives c.args.files.now) c.args.words c.in_ok-geometry.geometry c.in_ok-sector.sector c.in_ok-bytes.bytes.items
-imaged g c = record {
-  asked = numbered g c.In_ok-geometry;
-  given = c.in_ok-bytes.ensures.ok;
-  whole = ap length (sym c.deref.ensures.value) ∙ c.in-Ok.ensures.accepted.0 refl;
-}
 
 pub returns-in_err-bytes-clause-does : goal.returns-in_err-bytes-clause-does
 returns-in_err-bytes-clause-does g c =
-    let asked = numbered g (goal.at.returns-in_err-bytes-clause-does g c).In_ok-geometry in
+    let asked : AsksForNumber c.args.words c.in_ok-geometry.geometry c.in_ok-sector.sector =
+    record { numbers = c.in_ok-numbers.numbers; geometry = c.in_ok-numbers.ensures.ok; sector = c.in_ok-sector.ensures.ok; valid = c.in_ok-geometry.ensures.ok } in
     let is : c.from_residual-in_err-bytes.result ≡ Err c.in_err-bytes.field-0.0 = search rules in
     let P : Result (Unit {0}) CommandFault → Type 0 = λ r. DoesSector (g.F.FileStore.gives c.args.files.now) c.args.words (g.W.Write.contents c.args.out.now) (g.W.Write.contents c.args.out.now) r in
     subst P (sym is) (unread_does (g.F.FileStore.gives c.args.files.now) c.args.words c.in_ok-geometry.geometry c.in_ok-sector.sector _ _ c.in_err-bytes.field-0.0 asked (search rules) c.in_err-bytes.ensures.fault)
 
 pub returns-in-Err-clause-does : goal.returns-in-Err-clause-does
 returns-in-Err-clause-does g c =
-    let asked = numbered g (goal.at.returns-in-Err-clause-does g c).In_ok-geometry in
+    let asked : AsksForNumber c.args.words c.in_ok-geometry.geometry c.in_ok-sector.sector =
+    record { numbers = c.in_ok-numbers.numbers; geometry = c.in_ok-numbers.ensures.ok; sector = c.in_ok-sector.ensures.ok; valid = c.in_ok-geometry.ensures.ok } in
     (search rules, (c.in_ok-geometry.geometry, c.in_ok-sector.sector, c.in_ok-bytes.bytes.items, asked, c.in_ok-bytes.ensures.ok, λ whole. let taken : false ≡ true = c.in-Err.ensures.accepted.1 (ap length c.deref.ensures.value ∙ whole) in cc))
 
 pub returns-in-Ok-print_sector-clause-does : goal.returns-in-Ok-print_sector-clause-does
 returns-in-Ok-print_sector-clause-does g c =
     let geometry = c.in_ok-geometry.geometry in
     let bytes = c.in_ok-bytes.bytes.items in
-    let image = imaged g (goal.at.returns-in-Ok-print_sector-clause-does g c).In-Ok in (
+    let image : HasImage (g.F.FileStore.gives c.args.files.now) c.args.words geometry c.in_ok-sector.sector bytes = record {
+      asked = record { numbers = c.in_ok-numbers.numbers; geometry = c.in_ok-numbers.ensures.ok; sector = c.in_ok-sector.ensures.ok; valid = c.in_ok-geometry.ensures.ok };
+      given = c.in_ok-bytes.ensures.ok;
+      whole = ap length (sym c.deref.ensures.value) ∙ c.in-Ok.ensures.accepted.0 refl;
+    } in (
       geometry,
       c.in_ok-sector.sector,
       bytes,
@@ -49,7 +41,11 @@ pub returns-in-Err-Sector-clause-does : goal.returns-in-Err-Sector-clause-does
 returns-in-Err-Sector-clause-does g c =
     let geometry = c.in_ok-geometry.geometry in
     let bytes = c.in_ok-bytes.bytes.items in
-    let image = imaged g (goal.at.returns-in-Err-Sector-clause-does g c).In-Ok in
+    let image : HasImage (g.F.FileStore.gives c.args.files.now) c.args.words geometry c.in_ok-sector.sector bytes = record {
+      asked = record { numbers = c.in_ok-numbers.numbers; geometry = c.in_ok-numbers.ensures.ok; sector = c.in_ok-sector.ensures.ok; valid = c.in_ok-geometry.ensures.ok };
+      given = c.in_ok-bytes.ensures.ok;
+      whole = ap length (sym c.deref.ensures.value) ∙ c.in-Ok.ensures.accepted.0 refl;
+    } in
     let P : PrintFault → Type 0 = λ f. IsUnprinted (sector_line c.in-Ok.image.flash.geometry c.in-Ok.image.flash.image c.in_ok-sector.sector) f (g.W.Write.contents c.args.out.now) (g.W.Write.contents c.print_sector.new.out) in
     let Q : PrintFault → Type 0 = λ f. IsPrintFault c.in-Ok.image.flash.geometry c.in-Ok.image.flash.image c.in_ok-sector.sector f in (
       subst P c.in-Err-Sector.field-0-is c.in-Err-Sector.ensures.unprinted,
@@ -67,7 +63,11 @@ pub returns-in-Err-Write-clause-does : goal.returns-in-Err-Write-clause-does
 returns-in-Err-Write-clause-does g c =
     let geometry = c.in_ok-geometry.geometry in
     let bytes = c.in_ok-bytes.bytes.items in
-    let image = imaged g (goal.at.returns-in-Err-Write-clause-does g c).In-Ok in
+    let image : HasImage (g.F.FileStore.gives c.args.files.now) c.args.words geometry c.in_ok-sector.sector bytes = record {
+      asked = record { numbers = c.in_ok-numbers.numbers; geometry = c.in_ok-numbers.ensures.ok; sector = c.in_ok-sector.ensures.ok; valid = c.in_ok-geometry.ensures.ok };
+      given = c.in_ok-bytes.ensures.ok;
+      whole = ap length (sym c.deref.ensures.value) ∙ c.in-Ok.ensures.accepted.0 refl;
+    } in
     let P : PrintFault → Type 0 = λ f. IsUnprinted (sector_line c.in-Ok.image.flash.geometry c.in-Ok.image.flash.image c.in_ok-sector.sector) f (g.W.Write.contents c.args.out.now) (g.W.Write.contents c.print_sector.new.out) in
     let Q : PrintFault → Type 0 = λ f. IsPrintFault c.in-Ok.image.flash.geometry c.in-Ok.image.flash.image c.in_ok-sector.sector f in (
       refl,
@@ -85,7 +85,11 @@ pub returns-clause-does : goal.returns-clause-does
 returns-clause-does g c =
     let geometry = c.in_ok-geometry.geometry in
     let bytes = c.in_ok-bytes.bytes.items in
-    let image = imaged g (goal.at.returns-clause-does g c).In-Ok in
+    let image : HasImage (g.F.FileStore.gives c.args.files.now) c.args.words geometry c.in_ok-sector.sector bytes = record {
+      asked = record { numbers = c.in_ok-numbers.numbers; geometry = c.in_ok-numbers.ensures.ok; sector = c.in_ok-sector.ensures.ok; valid = c.in_ok-geometry.ensures.ok };
+      given = c.in_ok-bytes.ensures.ok;
+      whole = ap length (sym c.deref.ensures.value) ∙ c.in-Ok.ensures.accepted.0 refl;
+    } in
     let P : PrintFault → Type 0 = λ f. IsUnprinted (sector_line c.in-Ok.image.flash.geometry c.in-Ok.image.flash.image c.in_ok-sector.sector) f (g.W.Write.contents c.args.out.now) (g.W.Write.contents c.print_sector.new.out) in
     let Q : PrintFault → Type 0 = λ f. IsPrintFault c.in-Ok.image.flash.geometry c.in-Ok.image.flash.image c.in_ok-sector.sector f in (
       subst P c.in-Err-OutOfMemory.field-0-is c.in-Err-OutOfMemory.ensures.unprinted,
