@@ -53,16 +53,6 @@ const ALL: &[Step] = &[
     Step::Read(256, &[0; 64], Ok(())),
 ];
 
-// The life after two bits of one page turned, and one of each other: that page alone cannot be read.
-const TWO_TURNED: Life = Life {
-    synced: 9,
-    flushed: 9,
-    turned: 510,
-    unread: 1,
-    bad: 1,
-    ..QUIET
-};
-
 const ROWS: &[Row] = &[
     Row {
         name: "a bit of each chunk, twice",
@@ -95,6 +85,11 @@ const ROWS: &[Row] = &[
             (
                 Turn::TwoIn(2),
                 Life {
+                    synced: 9,
+                    flushed: 9,
+                    turned: 510,
+                    unread: 1,
+                    bad: 1,
                     lost: &[1],
                     steps: &[
                         Step::Read(0, &[1; 64], Ok(())),
@@ -103,7 +98,7 @@ const ROWS: &[Row] = &[
                         Step::Read(192, &[4; 64], Ok(())),
                         Step::Write(64, &[6; 64], false, Ok(())),
                     ],
-                    ..TWO_TURNED
+                    ..QUIET
                 },
             ),
             (
@@ -129,8 +124,13 @@ const ROWS: &[Row] = &[
         lives: &[(
             Turn::TwoIn(9),
             Life {
+                synced: 9,
+                flushed: 9,
+                turned: 510,
+                unread: 1,
+                bad: 1,
                 steps: ALL,
-                ..TWO_TURNED
+                ..QUIET
             },
         )],
     },

@@ -97,33 +97,42 @@ const STILL_LOST: &[Step] = &[
     Step::Read(192, &[4; 64], Ok(())),
 ];
 
-// What was flushed is all there, and stays.
-const KEPT_ALL: &[Life] = &[
-    Life {
-        synced: 8,
-        flushed: 8,
-        bad: 1,
-        steps: FLUSHED,
-        ..QUIET
-    },
-    Life {
-        steps: STAYS,
-        ..QUIET
-    },
-];
-
 const ROWS: &[Row] = &[
     Row {
         name: "the last page is torn",
         before: SIX,
         hurt: &[(5, Hurt::Torn), (6, Hurt::Missing)],
-        lives: KEPT_ALL,
+        lives: &[
+            Life {
+                synced: 8,
+                flushed: 8,
+                bad: 1,
+                steps: FLUSHED,
+                ..QUIET
+            },
+            Life {
+                steps: STAYS,
+                ..QUIET
+            },
+        ],
     },
     Row {
         name: "a page before the last one is missing",
         before: SIX,
         hurt: &[(5, Hurt::Missing)],
-        lives: KEPT_ALL,
+        lives: &[
+            Life {
+                synced: 8,
+                flushed: 8,
+                bad: 1,
+                steps: FLUSHED,
+                ..QUIET
+            },
+            Life {
+                steps: STAYS,
+                ..QUIET
+            },
+        ],
     },
     Row {
         name: "an old mark, and no damage beside what a crash left",

@@ -127,30 +127,6 @@ struct CountingSyncs<'a> {
     failing: u64,
 }
 
-// The mark of a disk that was never synced.
-const UNMARKED: SyncMark = SyncMark {
-    synced: 0,
-    flushed: 0,
-};
-
-impl<'a> CountingSyncs<'a> {
-    // None so far, of a disk without a mark.
-    fn none_yet(asked: &'a Cell<u64>, told: &'a Cell<SyncMark>, failing: u64) -> CountingSyncs<'a>
-        ensures mark { (result.mark.synced ≡ 0) × (result.mark.flushed ≡ 0) }
-        ensures none { (result.done ≡ 0) × (result.failed ≡ 0) }
-        ensures failing { result.failing ≡ failing }
-    {
-        CountingSyncs {
-            asked,
-            told,
-            mark: UNMARKED,
-            done: 0,
-            failed: 0,
-            failing,
-        }
-    }
-}
-
 impl Syncs for CountingSyncs<'_> {
     ghost synced = { λ s. s.done };
 
@@ -266,8 +242,19 @@ const ROWS: &[Row] = &[
 // Whether a disk of zeros does all of a row, and asks for so many syncs, the last one with this mark.
 fn holds(alloc: Global, row: &Row) -> Result<bool, Fail> {
     let asked = Cell::new(0);
-    let told = Cell::new(UNMARKED);
-    let syncs = CountingSyncs::none_yet(&asked, &told, row.failing);
+    let mark = SyncMark {
+        synced: 0,
+        flushed: 0,
+    };
+    let told = Cell::new(mark);
+    let syncs = CountingSyncs {
+        asked: &asked,
+        told: &told,
+        mark,
+        done: 0,
+        failed: 0,
+        failing: row.failing,
+    };
     let Ok(disk) = SectorDisk::new(alloc, PlainSectors::zeros()) else {
         return Err("no memory")?;
     };
@@ -290,8 +277,19 @@ fn syncs_between_flushes(rt: HostRuntime) -> Result<(), Fail> {
 // What a disk that was written with four bytes is marked with once it is closed so often, by whether its mark counts.
 fn closed(alloc: Global, times: u64, counts: bool) -> Result<(u64, u64, u64), Fail> {
     let asked = Cell::new(0);
-    let told = Cell::new(UNMARKED);
-    let syncs = CountingSyncs::none_yet(&asked, &told, 0);
+    let mark = SyncMark {
+        synced: 0,
+        flushed: 0,
+    };
+    let told = Cell::new(mark);
+    let syncs = CountingSyncs {
+        asked: &asked,
+        told: &told,
+        mark,
+        done: 0,
+        failed: 0,
+        failing: 0,
+    };
     let Ok(disk) = SectorDisk::new(alloc, PlainSectors::zeros()) else {
         return Err("no memory")?;
     };
