@@ -1,19 +1,28 @@
 //! The blocks that a new die is to have bad.
-ghost use Rattle.std.specs.Prelude.{◌≡◌, ◌⊎◌, ◌<◌, ◌≤◌, ℕ, [], List, length, IfErr, IfOk, IfSome, OnErr, OnOk, true};
+ghost use Rattle.std.specs.Prelude.{◌≡◌, ◌⊎◌, ◌<◌, ◌≤◌, ℕ, [], List, length, IfErr, IfOk, IfSome, IsSomeAnd, OnErr, OnOk, true};
 ghost use Rattle.page_layout.specs.Change.{erased_page};
 ghost use Rattle.page_layout.specs.Counter.{HasRisen};
 ghost use Rattle.page_layout.specs.Geometry.{page_bytes};
 ghost use Rattle.onfi_cycles.specs.Cycles.{page_of};
 ghost use Rattle.nand_die.specs.Made.{AreNames, IsFirstMisnamed, with_mark};
-ghost use Rattle.program_words.specs.Numbers.{SpellsNumbers};
+ghost use Rattle.program_words.specs.Numbers.{SpellsNumbers, StartsWithNumber};
 ghost use Rattle.disk_commands.specs.BadBlocks.{AreBadAsked, AreNoneAsked, HasMarks, Names, NamesNone, is_copied};
 
 use crate::text::DiskCommandFault;
 use crate::words::MakeWords;
 use file_die::Store;
 use page_layout::geometry::Geometry;
-use program_words::{first_number, number};
+use program_words::number;
 use std::alloc::Global;
+
+// The number before the first comma, and what follows that comma.
+fn first_number(word: &str) -> Option<(u32, &str)>
+    ensures some { IfSome result (λ found. StartsWithNumber word.now found.0 found.1.now) }
+    ensures all { (n : ℕ) (rest : List ℕ) → StartsWithNumber word.now n rest → IsSomeAnd result (λ found. (found.0 ≡ n) × (found.1.now ≡ rest)) }
+{
+    let (front, rest) = word.split_once(',')?;
+    Some((number(front)?, rest))
+}
 
 // The numbers of a word, with commas between them.
 fn numbers_of<'a>(alloc: Global, word: &'a str) -> Result<Vec<u32>, DiskCommandFault<'a>>

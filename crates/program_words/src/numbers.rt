@@ -30,10 +30,8 @@ fn next_value(value: u32, digit: u8) -> Option<u32>
     value.checked_mul(10)?.checked_add(u32::from(digit - b'0'))
 }
 
-/// The number before the first comma of a word, and what follows that comma. `None` where there is no comma, or no number before it.
-///
-/// (This project's rule.)
-pub fn first_number(word: &str) -> Option<(u32, &str)>
+// The number before the first comma, and what follows that comma.
+fn first_number(word: &str) -> Option<(u32, &str)>
     ensures some { IfSome result (λ found. StartsWithNumber word.now found.0 found.1.now) }
     ensures all { (n : ℕ) (rest : List ℕ) → StartsWithNumber word.now n rest → IsSomeAnd result (λ found. (found.0 ≡ n) × (found.1.now ≡ rest)) }
 {

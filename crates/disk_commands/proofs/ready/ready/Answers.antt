@@ -1,11 +1,8 @@
-use Rattle.std.proofs.Common.{◌⊎◌, ◌∙◌, ap, false, inl, inr, subst, sym}
+use Rattle.std.proofs.Common.{◌∙◌, ap, false, inl, inr, subst, sym}
 use Rattle.disk_server.specs.Synced.{after_sync}
-use Rattle.disk_commands.specs.declared.text.DiskCommandFault.{DiskCommandFault}
-use Rattle.disk_commands.specs.Ready.{IsNoneOf, IsNotOpened, IsUnkeptBy, IsUnreadyAt, KeepsBy}
+use Rattle.disk_commands.specs.Ready.{IsNoneOf, IsUnkeptBy, IsUnreadyAt, KeepsBy}
 use Rattle.disk_server.proofs.FaultLemmas.{handed_on}
 use Rattle.disk_commands.proofs.ReadyLemmas.{looked_same, marks_then, unkept_by, unlisted_back}
-use Rattle.disk_commands.proofs.ready.ready.Given.{Over}
-use Rattle.disk_commands.proofs.ready.ready.Goals.{After-disk_of}
 use Rattle.disk_commands.proofs.ready.ready.Goals as goal
 
 pub returns-in_err-looked-clause-fault : goal.returns-in_err-looked-clause-fault
@@ -21,41 +18,42 @@ returns-in_err-keeper-clause-fault g c =
     (inr (inl (unlisted_back (g.F.DiskFiles.answers c.args.files.now) (g.F.DiskFiles.answers c.look_at.new.files) c.args.words.now.disk.now c.in_err-keeper.field-0.0 c.in_ok-looked.ensures.no_more
     c.in_err-keeper.ensures.fault)))
 
--- a disk that was looked at, and for which a place of the list is there, was not opened
-unopened : (g : Over) (c : After-disk_of g) (why : DiskCommandFault)
-    → IsNoneOf g.F.Store.Store.held g.F.Store.Store.honest g.F.Store.Store.failed g.F.Lists.KeepsLost.kept g.F.Lists.KeepsLost.failed c.args.words.now.disk.now c.args.words.now.read_only c.in_ok-looked.looked.told
-    c.in_ok-looked.looked.found c.in_ok-looked.looked.store c.in_ok-looked.looked.lost.items c.in_ok-keeper.keeper c.disk_of.new.keeper why
-    ⊎ IsUnkeptBy c.args.words.now.read_only g.F.Syncs.Syncs.failed (g.F.DiskFiles.answers c.args.files.now) c.args.words.now.disk.now why
-    → IsNotOpened g.F.Store.Store.held g.F.Store.Store.honest g.F.Store.Store.failed g.F.Syncs.Syncs.failed g.F.Lists.KeepsLost.kept g.F.Lists.KeepsLost.failed (g.F.DiskFiles.answers c.args.files.now) c.args.words.now.disk.now c.args.words.now.read_only why
-unopened g c why because = record {
-  told = c.in_ok-looked.looked.told;
-  found = c.in_ok-looked.looked.found;
-  store = c.in_ok-looked.looked.store;
-  certificate = _;
-  lost = c.in_ok-looked.looked.lost.items;
-  looked = c.in_ok-looked.ensures.ok;
-  place = c.in_ok-keeper.keeper;
-  none_kept = c.in_ok-keeper.ensures.none_kept;
-  left = c.disk_of.new.keeper;
-  unopened = because;
-}
-
 pub returns-in_err-disk-clause-fault : goal.returns-in_err-disk-clause-fault
 returns-in_err-disk-clause-fault g c =
     handed_on (IsUnreadyAt g.F.Store.Store.held g.F.Store.Store.honest g.F.Store.Store.failed g.F.Syncs.Syncs.failed g.F.Lists.KeepsLost.kept g.F.Lists.KeepsLost.failed
     (g.F.DiskFiles.answers c.args.files.now) c.args.words.now.disk.now c.args.words.now.read_only) _ _ c.from_residual-in_err-disk.ensures.1
-    (inr (inr (inl (unopened g (goal.at.returns-in_err-disk-clause-fault g c).After-disk_of c.in_err-disk.field-0.0
-    (inl (subst (λ l. IsNoneOf g.F.Store.Store.held g.F.Store.Store.honest g.F.Store.Store.failed g.F.Lists.KeepsLost.kept g.F.Lists.KeepsLost.failed c.args.words.now.disk.now c.args.words.now.read_only c.in_ok-looked.looked.told
-    c.in_ok-looked.looked.found c.in_ok-looked.looked.store l c.in_ok-keeper.keeper c.disk_of.new.keeper c.in_err-disk.field-0.0) c.deref.ensures.value c.in_err-disk.ensures.fault))))))
+    (inr (inr (inl (record {
+      told = c.in_ok-looked.looked.told;
+      found = c.in_ok-looked.looked.found;
+      store = c.in_ok-looked.looked.store;
+      certificate = _;
+      lost = c.in_ok-looked.looked.lost.items;
+      looked = c.in_ok-looked.ensures.ok;
+      place = c.in_ok-keeper.keeper;
+      none_kept = c.in_ok-keeper.ensures.none_kept;
+      left = c.disk_of.new.keeper;
+      unopened = inl (subst (λ l. IsNoneOf g.F.Store.Store.held g.F.Store.Store.honest g.F.Store.Store.failed g.F.Lists.KeepsLost.kept g.F.Lists.KeepsLost.failed c.args.words.now.disk.now c.args.words.now.read_only c.in_ok-looked.looked.told
+          c.in_ok-looked.looked.found c.in_ok-looked.looked.store l c.in_ok-keeper.keeper c.disk_of.new.keeper c.in_err-disk.field-0.0) c.deref.ensures.value c.in_err-disk.ensures.fault);
+    }))))
 
 pub returns-in_err-syncs-clause-fault : goal.returns-in_err-syncs-clause-fault
 returns-in_err-syncs-clause-fault g c =
     handed_on (IsUnreadyAt g.F.Store.Store.held g.F.Store.Store.honest g.F.Store.Store.failed g.F.Syncs.Syncs.failed g.F.Lists.KeepsLost.kept g.F.Lists.KeepsLost.failed
     (g.F.DiskFiles.answers c.args.files.now) c.args.words.now.disk.now c.args.words.now.read_only) _ _ c.from_residual-in_err-syncs.ensures.1
-    (inr (inr (inl (unopened g (goal.at.returns-in_err-syncs-clause-fault g c).After-disk_of c.in_err-syncs.field-0.0
-    (inr (unkept_by c.args.words.now.read_only g.F.Syncs.Syncs.failed (g.F.DiskFiles.answers c.args.files.now) (g.F.DiskFiles.answers c.look_at.new.files) c.args.words.now.disk.now c.in_err-syncs.field-0.0
-    c.in_ok-looked.ensures.no_more (subst (λ x. IsUnkeptBy c.args.words.now.read_only g.F.Syncs.Syncs.failed (g.F.DiskFiles.answers x) c.args.words.now.disk.now c.in_err-syncs.field-0.0) c.in_ok-keeper.ensures.same
-    c.in_err-syncs.ensures.fault)))))))
+    (inr (inr (inl (record {
+      told = c.in_ok-looked.looked.told;
+      found = c.in_ok-looked.looked.found;
+      store = c.in_ok-looked.looked.store;
+      certificate = _;
+      lost = c.in_ok-looked.looked.lost.items;
+      looked = c.in_ok-looked.ensures.ok;
+      place = c.in_ok-keeper.keeper;
+      none_kept = c.in_ok-keeper.ensures.none_kept;
+      left = c.disk_of.new.keeper;
+      unopened = inr (unkept_by c.args.words.now.read_only g.F.Syncs.Syncs.failed (g.F.DiskFiles.answers c.args.files.now) (g.F.DiskFiles.answers c.look_at.new.files) c.args.words.now.disk.now c.in_err-syncs.field-0.0
+          c.in_ok-looked.ensures.no_more (subst (λ x. IsUnkeptBy c.args.words.now.read_only g.F.Syncs.Syncs.failed (g.F.DiskFiles.answers x) c.args.words.now.disk.now c.in_err-syncs.field-0.0) c.in_ok-keeper.ensures.same
+          c.in_err-syncs.ensures.fault));
+    }))))
 
 pub returns-in_err-name_all-clause-fault : goal.returns-in_err-name_all-clause-fault
 returns-in_err-name_all-clause-fault g c =
