@@ -60,8 +60,8 @@ module _ (old new : Ram) (pin : new.pin ≡ old.pin) (goes : Goes old new) where
   -- a translation page was written, or the call was refused
   pub beside_written : (t : ℕ) → (new.mapping ≡ old.mapping) ⊎ (new.mapping ≡ cleaned old.mapping t) → LeavesPin old new
   beside_written t is = elim is [
-    | inl same ↦ beside_same (ap (λ (m : MappingState). m.moved) same) (record { geometry = ap (λ (m : MappingState). m.geometry) same; capacity = ap (λ (m : MappingState). m.capacity) same; share = ap (λ (m : MappingState). m.share) same })
-    | inr clean ↦ beside_filtered (λ e. not (e.0 / per_page old.mapping == t)) (record { geometry = ap (λ (m : MappingState). m.geometry) clean; capacity = ap (λ (m : MappingState). m.capacity) clean; share = ap (λ (m : MappingState). m.share) clean }) (ap (λ (m : MappingState). m.moved) clean)
+    | inl same ↦ beside_same (ap (λ (m : MappingState). m.moved) same) (record { geometry = ap (λ (m : MappingState). m.geometry) same; capacity = ap (λ (m : MappingState). m.capacity) same })
+    | inr clean ↦ beside_filtered (λ e. not (e.0 / per_page old.mapping == t)) (record { geometry = ap (λ (m : MappingState). m.geometry) clean; capacity = ap (λ (m : MappingState). m.capacity) clean }) (ap (λ (m : MappingState). m.moved) clean)
   ]
 
 -- nothing but the mapping changes
@@ -69,8 +69,8 @@ goes_mapped : (old : Ram) (m : MappingState) → Goes old (record old { mapping 
 goes_mapped old m = (let g = goes_same old in record { geometry = g.geometry; next = g.next; shut = g.shut })
 
 mapped_by : (slot : Option Slot) (old : Ram) (n : ℕ) (row : Option ℕ) → LeavesPin old (record old { mapping = loaded_by slot old.mapping n row })
-mapped_by (Some s) old n row = beside_same old (record old { mapping = loaded_by (Some s) old.mapping n row }) refl (goes_mapped old (loaded_by (Some s) old.mapping n row)) refl (record { geometry = refl; capacity = refl; share = refl })
-mapped_by None old n row = beside_filtered old (record old { mapping = loaded_by None old.mapping n row }) refl (goes_mapped old (loaded_by None old.mapping n row)) (λ e. not (e.0 == n)) (record { geometry = refl; capacity = refl; share = refl }) refl
+mapped_by (Some s) old n row = beside_same old (record old { mapping = loaded_by (Some s) old.mapping n row }) refl (goes_mapped old (loaded_by (Some s) old.mapping n row)) refl (record { geometry = refl; capacity = refl })
+mapped_by None old n row = beside_filtered old (record old { mapping = loaded_by None old.mapping n row }) refl (goes_mapped old (loaded_by None old.mapping n row)) (λ e. not (e.0 == n)) (record { geometry = refl; capacity = refl }) refl
 
 -- a sector was cached
 pub beside_loaded : (old new : Ram) (n : ℕ) (row : Option ℕ) → new ≡ record old { mapping = loaded old.mapping n row } → LeavesPin old new

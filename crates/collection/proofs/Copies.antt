@@ -132,7 +132,7 @@ mark_within r key n e s of_key is same =
     omega (arith, s.marks)
 
 pub place_any : (r : Ram) (key : Key) → IsRam r → length r.mapping.moved < r.geometry.pages → HasPlace r.mapping key
-place_any r (Sector n) s lt = λ uncached unmoved. (let pages : r.mapping.geometry.pages ≡ r.geometry.pages = ap (λ (g : Geometry). g.pages) s.mapping_of in omega (arith, pages, lt))
+place_any r (Sector n) s lt = λ uncached unmoved. rw s.mapping_of lt
 place_any r (Translation t) s lt = tt
 place_any r (Table u) s lt = tt
 
@@ -142,7 +142,7 @@ moves_one (Translation t) row m m' s = (let l = ap (λ (z : MappingState). lengt
 moves_one (Table u) row m m' s = (let l = ap (λ (z : MappingState). length z.moved) s in omega arith)
 
 pub keys_same : (m m' : MappingState) → m' ≡ m → KeepsKeys m m'
-keys_same m m' s = record { limits = record { geometry = ap (λ (z : MappingState). z.geometry) s; capacity = ap (λ (z : MappingState). z.capacity) s; share = ap (λ (z : MappingState). z.share) s }; keys = ap (λ (z : MappingState). keys_of z.cached) s }
+keys_same m m' s = record { limits = record { geometry = ap (λ (z : MappingState). z.geometry) s; capacity = ap (λ (z : MappingState). z.capacity) s }; keys = ap (λ (z : MappingState). keys_of z.cached) s }
 
 pub keys_set : (key : Key) (row : ℕ) (m m' : MappingState) → SetsMapping key row m m' → KeepsKeys m m'
 keys_set (Sector n) row m m' s = record { limits = s.limits; keys = s.keys }
@@ -150,7 +150,7 @@ keys_set (Translation t) row m m' s = keys_same m m' s
 keys_set (Table u) row m m' s = keys_same m m' s
 
 pub keys_then : (a b c : MappingState) → KeepsKeys a b → KeepsKeys b c → KeepsKeys a c
-keys_then a b c x y = record { limits = record { geometry = y.limits.geometry ∙ x.limits.geometry; capacity = y.limits.capacity ∙ x.limits.capacity; share = y.limits.share ∙ x.limits.share }; keys = y.keys ∙ x.keys }
+keys_then a b c x y = record { limits = record { geometry = y.limits.geometry ∙ x.limits.geometry; capacity = y.limits.capacity ∙ x.limits.capacity }; keys = y.keys ∙ x.keys }
 
 pub marked_at : (flushing : Bool) (key key' : Key) (b r' : Ram) → key' ≡ key
     → r' ≡ record b { pin = record { block = b.pin.block; marks = marks_after flushing b.geometry key' b.pin.marks } }

@@ -20,6 +20,30 @@ use Rattle.collection.specs.Collect.{has_moved, is_marked, is_due, due_count, ma
 
 -- ---- the moved list
 
+without_head : (n pp t : ℕ) (e : ℕ × ℕ) (ms : List (ℕ × ℕ)) → t ≢ n / pp → (b : Bool) → (e.0 == n) ≡ b → (c : Bool) → (e.0 / pp == t) ≡ c → moved_in pp t (without n ms) ≡ moved_in pp t ms → moved_in pp t (without n (e ∷ ms)) ≡ moved_in pp t (e ∷ ms)
+without_head n pp t e ms ne true here true of_page rest =
+    let same : e.0 ≡ n = Rattle.std.proofs.lemmas.Bool.eqb-true e.0 n here in
+    let page : e.0 / pp ≡ t = Rattle.std.proofs.lemmas.Bool.eqb-true (e.0 / pp) t of_page in
+    absurd (ne (sym page ∙ ap (λ k. k / pp) same))
+without_head n pp t e ms ne true here false of_page rest = rw (here, of_page) rest
+without_head n pp t e ms ne false here true of_page rest = rw (here, of_page) (ap (λ l. e ∷ l) rest)
+without_head n pp t e ms ne false here false of_page rest = rw (here, of_page) rest
+
+without_others : (n pp t : ℕ) (ms : List (ℕ × ℕ)) → t ≢ n / pp → moved_in pp t (without n ms) ≡ moved_in pp t ms
+without_others n pp t [] ne = refl
+without_others n pp t (e ∷ ms) ne = without_head n pp t e ms ne (e.0 == n) refl (e.0 / pp == t) refl (without_others n pp t ms ne)
+
+append_head : (pp t n row : ℕ) (e : ℕ × ℕ) (ms : List (ℕ × ℕ)) (b : Bool) → (e.0 / pp == t) ≡ b → moved_in pp t (ms ++ (n, row) ∷ []) ≡ moved_in pp t ms → moved_in pp t ((e ∷ ms) ++ (n, row) ∷ []) ≡ moved_in pp t (e ∷ ms)
+append_head pp t n row e ms true is rest = rw is (ap (λ l. e ∷ l) rest)
+append_head pp t n row e ms false is rest = rw is rest
+
+append_other : (pp t n row : ℕ) (ms : List (ℕ × ℕ)) → t ≢ n / pp → moved_in pp t (ms ++ (n, row) ∷ []) ≡ moved_in pp t ms
+append_other pp t n row [] ne = (let e : (n / pp == t) ≡ false = ne_eqb (n / pp) t (λ x. ne (sym x)) in rw e refl)
+append_other pp t n row (e ∷ ms) ne = append_head pp t n row e ms (e.0 / pp == t) refl (append_other pp t n row ms ne)
+
+pub moved_others : (pp t n row : ℕ) (ms : List (ℕ × ℕ)) → t ≢ n / pp → moved_in pp t (without n ms ++ (n, row) ∷ []) ≡ moved_in pp t ms
+moved_others pp t n row ms ne = append_other pp t n row (without n ms) ne ∙ without_others n pp t ms ne
+
 -- the sectors of a page leave it
 left_head : (pp t k : ℕ) (e : ℕ × ℕ) (ms : List (ℕ × ℕ)) → k ≢ t → (b : Bool) → (e.0 / pp == t) ≡ b → (c : Bool) → (e.0 / pp == k) ≡ c → moved_in pp k (without_page pp t ms) ≡ moved_in pp k ms → moved_in pp k (without_page pp t (e ∷ ms)) ≡ moved_in pp k (e ∷ ms)
 left_head pp t k e ms ne true here true of_page rest =

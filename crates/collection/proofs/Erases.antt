@@ -136,7 +136,6 @@ cleared_ram block r r' s t m = record {
   directory_rows = (let x = s.directory_rows in rw (t.directory, t.geometry) x);
   mapping = (let x = s.mapping in rw t.mapping x);
   mapping_of = (let x = s.mapping_of in rw (t.mapping, t.geometry) x);
-  unshared = (let x = s.unshared in rw t.mapping x);
   blocks = m.safe;
   blocks_of = m.geometry ∙ (s.blocks_of ∙ sym t.geometry);
   next = (let x = s.next in rw t.next x);

@@ -31,7 +31,7 @@ module _ (fault : Option EngineFault) where
   with_fault r = record r { fault = fault }
 
   pub ram_noted : (r : Ram) → IsRam r → IsRam (record r { fault = fault })
-  ram_noted r s = record { directory = s.directory; directory_rows = s.directory_rows; mapping = s.mapping; mapping_of = s.mapping_of; unshared = s.unshared; blocks = s.blocks; blocks_of = s.blocks_of; next = s.next; marks = s.marks }
+  ram_noted r s = record { directory = s.directory; directory_rows = s.directory_rows; mapping = s.mapping; mapping_of = s.mapping_of; blocks = s.blocks; blocks_of = s.blocks_of; next = s.next; marks = s.marks }
 
   pub true_noted : (but : Option Key) (r : Ram) (image : Image) → IsTrue but r image → IsTrue but (record r { fault = fault }) image
   true_noted but r image w = record { whole = w.whole; one = w.one; below = w.below; filled = w.filled; live = w.live; worn = w.worn; tables = w.tables; maps = w.maps }

@@ -34,7 +34,7 @@ use Rattle.collection.specs.declared.engine.collect_steps.Progress.TheVariants a
 use Rattle.collection.specs.declared.engine.collect_in_turns.Step.TheVariants as steps
 use Rattle.allocation.specs.Laws.{IsLeftButLive}
 use Rattle.collection.proofs.Blocks.{left_then}
-use Rattle.collection.proofs.Memory.{shut_same, few_moved}
+use Rattle.collection.proofs.Memory.{shut_same}
 use Rattle.collection.proofs.Puts.{same_then}
 use Rattle.collection.proofs.Finds.{none_of_all}
 use Rattle.collection.proofs.Lowest.{same_here, holds_none, shut_closed}
@@ -348,7 +348,7 @@ pub room_next : (flushing : Bool) (block first next pages : ℕ) (now new : Ram)
     → length now.mapping.moved ≤ first → next_of pages step ≡ Some next → StepCosts flushing block first now new (Ok step)
     → length new.mapping.moved ≤ next
 room_next flushing block first next pages now new (step_is.Copied page) s' p room is cost = (let e : page + 1 ≡ next = cc in omega (arith, e, cost.0, cost.2.moved))
-room_next flushing block first next pages now new step_is.WroteBack s' p room is cost = (let e : pages ≡ next = cc in let m = few_moved new s' in let g = ap (λ (x : Geometry). x.pages) s'.mapping_of in omega arith)
+room_next flushing block first next pages now new step_is.WroteBack s' p room is cost = (let e : pages ≡ next = cc in let m = s'.mapping.moved_within in let g = ap (λ (x : Geometry). x.pages) s'.mapping_of in omega arith)
 room_next flushing block first next pages now new step_is.Erased s' p room is cost = (let no : ⊥ = cc in absurd no)
 
 pub steps_fall : (flushing : Bool) (block first next pages : ℕ) (now new : Ram) (step : Progress) → IsRam new → next_of pages step ≡ Some next → StepCosts flushing block first now new (Ok step) → 18446744073709551615 - new.next < 18446744073709551615 - now.next

@@ -56,12 +56,6 @@ table_then a b c x y = record {
   same = λ as_many. y.same (omega (arith, x.fewer, y.fewer)) ∙ x.same (omega (arith, x.fewer, y.fewer));
 }
 
--- the moved list of a mapping whose sectors don't wait has no more than a block has pages
-pub few_moved : (r : Ram) → IsRam r → length r.mapping.moved ≤ r.mapping.geometry.pages
-few_moved r s =
-    let none : r.mapping.share * translation_pages r.mapping.geometry ≡ 0 * translation_pages r.mapping.geometry = ap (λ n. n * translation_pages r.mapping.geometry) s.unshared in
-    omega (arith, none, s.mapping.moved_within)
-
 -- ---- an attempt
 
 pub made_ram : (block : ℕ) (old new : Ram) → IsRam old → Ticks old new → IsMade block old.blocks new.blocks → old.next + 1 < 2 ^ 64 → IsRam new
@@ -70,7 +64,6 @@ made_ram block old new s t m next = record {
   directory_rows = rw (t.directory, t.geometry) s.directory_rows;
   mapping = rw t.mapping s.mapping;
   mapping_of = rw (t.mapping, t.geometry) s.mapping_of;
-  unshared = rw t.mapping s.unshared;
   blocks = m.safe;
   blocks_of = m.geometry ∙ (s.blocks_of ∙ sym t.geometry);
   next = omega (arith, t.next);

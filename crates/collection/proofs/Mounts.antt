@@ -30,7 +30,6 @@ use Rattle.collection.specs.State.{Ram}
 use Rattle.collection.specs.Safe.{IsRam}
 use Rattle.collection.specs.Truth.{IsTrue, HasTable}
 use Rattle.collection.proofs.MapLemmas.{none_not}
-use Rattle.collection.proofs.Memory.{few_moved}
 
 -- ---- stale sectors are cached or moved
 
@@ -84,7 +83,7 @@ few_stale r image s w =
     let cached = length-map r.mapping.cached (λ (e : ℕ × Slot). e.0) in
     let moved = length-map r.mapping.moved (λ (e : ℕ × ℕ). e.0) in
     let pages_same : r.mapping.geometry.pages ≡ r.geometry.pages = ap (λ (g : Geometry). g.pages) s.mapping_of in
-    omega (arith, length-filter (is_stale r.geometry image) (range_with_len 0 r.geometry.sectors), most, size, cached, moved, pages_same, s.mapping.within, few_moved r s)
+    omega (arith, length-filter (is_stale r.geometry image) (range_with_len 0 r.geometry.sectors), most, size, cached, moved, pages_same, s.mapping.within, s.mapping.moved_within)
 
 -- ---- a certificate is to be had
 

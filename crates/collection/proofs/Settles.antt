@@ -63,7 +63,6 @@ record Left (r r' : Ram) : Type 0 where
   pub rows : (k row : ℕ) → slice_get r'.directory k ≡ Some (Some row) → row < row_count r.geometry
   pub mapping : IsMapping r'.mapping
   pub mapping_of : r'.mapping.geometry ≡ r.mapping.geometry
-  pub share : r'.mapping.share ≡ r.mapping.share
 
 left : (r r' : Ram) (key : Key) (row : ℕ) → IsRam r → IsKeyOf r.geometry key → row < row_count r.geometry → SetsDirectory r.geometry key row r.directory r'.directory → SetsMapping key row r.mapping r'.mapping → Left r r'
 left r r' (Sector n) row s of_key lt d m = record {
@@ -71,21 +70,18 @@ left r r' (Sector n) row s of_key lt d m = record {
   rows = (let x = s.directory_rows in rw d x);
   mapping = m.valid;
   mapping_of = m.limits.geometry;
-  share = m.limits.share;
 }
 left r r' (Translation t) row s of_key lt d m = record {
   directory = ap length d ∙ length-set r.directory t (Some row);
   rows = rows_by r.directory r'.directory t row (row_count r.geometry) d lt s.directory_rows (let x = s.directory in omega arith);
   mapping = (let x = s.mapping in rw m x);
   mapping_of = ap (λ z. z.geometry) m;
-  share = ap (λ z. z.share) m;
 }
 left r r' (Table u) row s of_key lt d m = record {
   directory = ap length d ∙ length-set r.directory (translation_pages r.geometry + u) (Some row);
   rows = rows_by r.directory r'.directory (translation_pages r.geometry + u) row (row_count r.geometry) d lt s.directory_rows (let x = s.directory in omega arith);
   mapping = (let x = s.mapping in rw m x);
   mapping_of = ap (λ z. z.geometry) m;
-  share = ap (λ z. z.share) m;
 }
 
 pub settled_ram : (r r' : Ram) (key : Key) (row : ℕ) → IsRam r → IsKeyOf r.geometry key → row < row_count r.geometry → SettlesRow key row r r' → IsRam r'
@@ -96,7 +92,6 @@ settled_ram r r' key row s of_key lt t =
       directory_rows = (let x = l.rows in rw t.geometry x);
       mapping = l.mapping;
       mapping_of = (let x = s.mapping_of in l.mapping_of ∙ (rw t.geometry x));
-      unshared = l.share ∙ s.unshared;
       blocks = (let x = s.blocks in rw t.blocks x);
       blocks_of = (let x = s.blocks_of in rw (t.blocks, t.geometry) x);
       next = (let x = s.next in rw t.next x);

@@ -34,8 +34,6 @@ pub record IsRam (r : Ram) : Type 0 where
   pub directory_rows : (k row : ℕ) → slice_get r.directory k ≡ Some (Some row) → row < row_count r.geometry
   pub mapping : IsMapping r.mapping
   pub mapping_of : r.mapping.geometry ≡ r.geometry
-  -- no moved sector waits once a block was collected
-  pub unshared : r.mapping.share ≡ 0
   pub blocks : blocks.IsSafe (free_count r.blocks) r.blocks
   pub blocks_of : r.blocks.geometry ≡ r.geometry
   pub next : r.next < 2 ^ 64

@@ -301,7 +301,7 @@ refuses_at_once failed old fault why = record {
 }
 
 pub stays_same : {N : Type 0} (view : View N) (d : Device N) → Stays view d d
-stays_same view d = record { limits = record { geometry = refl; capacity = refl; share = refl }; honest_is = refl; calm_is = refl; failed_is = omega arith }
+stays_same view d = record { limits = record { geometry = refl; capacity = refl }; honest_is = refl; calm_is = refl; failed_is = omega arith }
 
 module _ (r : Ram) (ro : Bool) (n : ℕ) where
   why_not : (fault : DeviceFault) → MayNot r ro n fault → Why r fault

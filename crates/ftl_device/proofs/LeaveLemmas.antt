@@ -161,7 +161,7 @@ module _ {N : Type 0} (view : View N) where
 -- ---- what stays of the memory
 
 pub limits_same : (a b : MappingState) → b ≡ a → HasLimitsOf a b
-limits_same a b is = record { geometry = ap (λ (m : MappingState). m.geometry) is; capacity = ap (λ (m : MappingState). m.capacity) is; share = ap (λ (m : MappingState). m.share) is }
+limits_same a b is = record { geometry = ap (λ (m : MappingState). m.geometry) is; capacity = ap (λ (m : MappingState). m.capacity) is }
 
 -- ---- what the engine's answers cost, as what the memory tells
 

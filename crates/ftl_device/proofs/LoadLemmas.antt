@@ -46,7 +46,7 @@ not_yet size xs i n rising within is = elim (cases_Bool (list_any (nat_eq n) (ta
 -- ---- one sector
 
 abbrev mapping_with : Geometry → Claim → List (ℕ × Slot) → MappingState
-mapping_with g c es = record { geometry = g; capacity = c.capacity; share = 0; cached = es; moved = [] }
+mapping_with g c es = record { geometry = g; capacity = c.capacity; cached = es; moved = [] }
 
 abbrev dirty_slot : Option ℕ → Slot
 dirty_slot row = record { row = row; dirty = true }

@@ -145,4 +145,4 @@ module _ {N : Type 0} (view : View N) where
   }
     where
       limits : HasLimitsOf old.mapping mid.mapping
-      limits = record { geometry = ap (λ (r : Ram). r.mapping.geometry) same; capacity = ap (λ (r : Ram). r.mapping.capacity) same; share = ap (λ (r : Ram). r.mapping.share) same }
+      limits = record { geometry = ap (λ (r : Ram). r.mapping.geometry) same; capacity = ap (λ (r : Ram). r.mapping.capacity) same }

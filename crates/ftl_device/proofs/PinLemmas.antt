@@ -26,7 +26,7 @@ few_more r few p is = (let h = few p is in record { within = h.within; small = h
 -- ---- a call that is no step
 
 pub beside_here : (r : Ram) → LeavesPin r r
-beside_here r = beside_same r r refl (goes_same r) refl (record { geometry = refl; capacity = refl; share = refl })
+beside_here r = beside_same r r refl (goes_same r) refl (record { geometry = refl; capacity = refl })
 
 -- a translation page was written back, or the call was refused
 pub beside_back : (result : Result (Unit {0}) EngineFault) (a b : Ram) (t : ℕ) → b.pin ≡ a.pin → Goes a b → OnOk result (b.mapping ≡ cleaned a.mapping t) → OnErr result (b.mapping ≡ a.mapping) → LeavesPin a b

@@ -94,8 +94,8 @@ loaded_limits : (m : MappingState) (n : ℕ) (row : Option ℕ) → HasLimitsOf 
 loaded_limits m n row = by (slot_of m n)
   where
     by : (slot : Option Slot) → HasLimitsOf m (loaded_by slot m n row)
-    by (Some s) = record { geometry = refl; capacity = refl; share = refl }
-    by None = record { geometry = refl; capacity = refl; share = refl }
+    by (Some s) = record { geometry = refl; capacity = refl }
+    by None = record { geometry = refl; capacity = refl }
 
 module _ {N : Type 0} (e f : Engine N) (n : ℕ) (row : Option ℕ) (is : f ≡ record e { mapping = loaded e.mapping n row }) where
   pub beside_now : LeavesPin (ram e) (ram f)
@@ -105,7 +105,7 @@ module _ {N : Type 0} (e f : Engine N) (n : ℕ) (row : Option ℕ) (is : f ≡ 
   limits_loaded m l =
       let P : Engine N → Type 0 = λ x. HasLimitsOf m x.mapping in
       let here = loaded_limits e.mapping n row in
-      subst P (sym is) (record { geometry = here.geometry ∙ l.geometry; capacity = here.capacity ∙ l.capacity; share = here.share ∙ l.share })
+      subst P (sym is) (record { geometry = here.geometry ∙ l.geometry; capacity = here.capacity ∙ l.capacity })
 
   pub went_loaded : (view : View N) (a : Ram) (s : Flash) (rs : Option Recording) → Went a s rs (ram e) (view.flash e.nand) (view.recorded e.nand) → Went a s rs (ram f) (view.flash f.nand) (view.recorded f.nand)
   went_loaded view a s rs w =

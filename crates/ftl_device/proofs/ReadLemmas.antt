@@ -91,8 +91,8 @@ loaded_moved m n row None none = without_none n m.moved none
 -- ---- what a look-up leaves of the engine
 
 loaded_limits : (m : MappingState) (n : ℕ) (row : Option ℕ) (o : Option Slot) → HasLimitsOf m (loaded_by o m n row)
-loaded_limits m n row (Some s) = record { geometry = refl; capacity = refl; share = refl }
-loaded_limits m n row None = record { geometry = refl; capacity = refl; share = refl }
+loaded_limits m n row (Some s) = record { geometry = refl; capacity = refl }
+loaded_limits m n row None = record { geometry = refl; capacity = refl }
 
 module _ {N : Type 0} (old new : Engine N) (n : ℕ) (row : Option ℕ) where
   abbrev the_engine : MappingState → Engine N
@@ -118,7 +118,7 @@ module _ {N : Type 0} (old new : Engine N) (n : ℕ) (row : Option ℕ) where
 
   pub limits_by : (result : Result (Unit {0}) LoadFault) → OnOk result (new ≡ record old { mapping = loaded old.mapping n row }) → OnErr result (new ≡ old) → HasLimitsOf old.mapping new.mapping
   limits_by (Ok done) is same = rw (mapping_is (loaded old.mapping n row) is) (loaded_limits old.mapping n row (slot_of old.mapping n))
-  limits_by (Err fault) is same = (let e : new.mapping ≡ old.mapping = ap (λ (z : Engine N). z.mapping) same in rw e (record { geometry = refl; capacity = refl; share = refl }))
+  limits_by (Err fault) is same = (let e : new.mapping ≡ old.mapping = ap (λ (z : Engine N). z.mapping) same in rw e (record { geometry = refl; capacity = refl }))
 
 -- ---- what is known of a pinned block, where the moved list and all but the mapping stay
 

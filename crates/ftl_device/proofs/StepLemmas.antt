@@ -282,13 +282,13 @@ module _ {N : Type 0} (view : View N) (e f : Engine N) (block : ℕ) (is : f ≡
       }
 
       limits_pinned : HasLimitsOf e.mapping f.mapping
-      limits_pinned = subst (λ (z : Engine N). HasLimitsOf e.mapping z.mapping) (sym is) (record { geometry = refl; capacity = refl; share = refl })
+      limits_pinned = subst (λ (z : Engine N). HasLimitsOf e.mapping z.mapping) (sym is) (record { geometry = refl; capacity = refl })
 
 -- none begins
 pub collects_none : {N : Type 0} (view : View N) (e : Engine N) → IsSafe view.flash e → e.fault ≡ None → IsCalm (ram e) → CollectsOn view e (Ok tt) e
 collects_none view e safe going calm_now = record {
   leaves = leaves_same view e safe going;
-  limits = record { geometry = refl; capacity = refl; share = refl };
+  limits = record { geometry = refl; capacity = refl };
   calm_memory = λ none. calm_now;
   goes = on_same (ram e);
   counts = inr (omega arith);

@@ -28,7 +28,7 @@ stale_entry c n = (n, record { row = get_or c.sectors n None; dirty = true })
 
 -- the stale sectors were cached one after another, so the last is the most recently used
 abbrev pub begun_mapping : Geometry → Claim → List ℕ → MappingState
-begun_mapping g c stale = record { geometry = g; capacity = c.capacity; share = 0; cached = map (stale_entry c) (reverse stale); moved = [] }
+begun_mapping g c stale = record { geometry = g; capacity = c.capacity; cached = map (stale_entry c) (reverse stale); moved = [] }
 
 -- the memory of an engine that nothing was asked of yet
 abbrev pub begun_ram : Geometry → Claim → List ℕ → Ram

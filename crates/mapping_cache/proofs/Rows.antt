@@ -17,8 +17,7 @@ use Rattle.page_layout.specs.Word.{IsRow}
 use Rattle.mapping_cache.specs.declared.slot.Slot.{Slot}
 use Rattle.mapping_cache.specs.Mapping.{MappingState, IsMapping, per_page, slot_of, moved_row, pending_by, dirty_row, pending, dirty_from, moved_in}
 use Rattle.mapping_cache.specs.Mapping.{some_rows, lacking, AreRowsOf, AreLacking}
-use Rattle.mapping_cache.proofs.Entries.{by_test, eqb_self, lookup-append, All-append, All-from, IsDistinct-filter}
-use Rattle.mapping_cache.proofs.Places.{IsDistinct-by_sector}
+use Rattle.mapping_cache.proofs.Entries.{by_test, eqb_self, IsDistinct-filter}
 use Rattle.mapping_cache.proofs.Clean.{passes_from_keys, of_page_at, in_page_at}
 use Rattle.mapping_cache.proofs.Steps.{pending-at, known-pending}
 
@@ -43,6 +42,16 @@ rows_left per_page t e left rows = (IsDistinct-tail eqb e.0 (keys_of left) rows.
 
 -- ---- two lists of entries, one after the other
 module _ {X : Type 0} where
+  lookup-append : (test : ℕ → Bool) (xs ys : List (ℕ × X)) (o : Option X) → lookup test xs ≡ o → lookup test (xs ++ ys) ≡ cond (is_some o) o (lookup test ys)
+  lookup-append test [] ys o h = rw (← h)
+  lookup-append test (x ∷ xs) ys o h = by_test (test x.0)
+      (λ y. let found : Some x.1 ≡ o = sym (cond-true _ _ _ y) ∙ h in cond-true _ _ _ y ∙ rw (← found))
+      (λ n. cond-false _ _ _ n ∙ lookup-append test xs ys o (sym (cond-false _ _ _ n) ∙ h))
+
+  All-append : (P : ℕ × X → Type 0) (xs ys : List (ℕ × X)) → AllByRecursion P xs → AllByRecursion P ys → AllByRecursion P (xs ++ ys)
+  All-append P [] ys h k = k
+  All-append P (x ∷ xs) ys h k = (h.0, All-append P xs ys h.1 k)
+
   keys-append : (P : ℕ → Type 0) (xs ys : List (ℕ × X)) → AllByRecursion P (keys_of xs) → AllByRecursion P (keys_of ys) → AllByRecursion P (keys_of (xs ++ ys))
   keys-append P [] ys h k = k
   keys-append P (x ∷ xs) ys h k = (h.0, keys-append P xs ys h.1 k)
@@ -64,7 +73,7 @@ module _ {X : Type 0} where
   keys-each P (e ∷ es) h = (h.0, keys-each P es h.1)
 
   -- what a look-up says of every entry
-  pub each_from_lookup : (Q : ℕ → X → Type 0) (es : List (ℕ × X)) → IsDistinct eqb (keys_of es) → ((n : ℕ) (s : X) → lookup (eqb n) es ≡ Some s → Q n s) → AllByRecursion (λ e. Q e.0 e.1) es
+  each_from_lookup : (Q : ℕ → X → Type 0) (es : List (ℕ × X)) → IsDistinct eqb (keys_of es) → ((n : ℕ) (s : X) → lookup (eqb n) es ≡ Some s → Q n s) → AllByRecursion (λ e. Q e.0 e.1) es
   each_from_lookup Q [] d h = tt
   each_from_lookup Q (e ∷ es) d h = (
     h e.0 e.1 (cond-true _ _ _ (eqb_self e.0)),
@@ -159,6 +168,10 @@ each-some_rows : (Q : ℕ × Option ℕ → Type 0) (ms : List (ℕ × ℕ)) →
 each-some_rows Q [] h = tt
 each-some_rows Q (e ∷ ms) h = (h.0, each-some_rows Q ms h.1)
 
+All-from : {X : Type 0} (P Q : X → Type 0) (xs : List X) → ((x : X) → P x → Q x) → AllByRecursion P xs → AllByRecursion Q xs
+All-from P Q [] f h = tt
+All-from P Q (x ∷ xs) f h = (f x h.0, All-from P Q xs f h.1)
+
 -- with no moved sector left, the dirty ones come
 pub past_moved : (ms ms' : List (ℕ × ℕ)) (d d' d'' : List (ℕ × Option ℕ)) (e : ℕ × Option ℕ) → ms ≡ [] → ms' ≡ [] → d'' ≡ d → d'' ≡ e ∷ d' → some_rows ms ++ d ≡ e ∷ (some_rows ms' ++ d')
 past_moved ms ms' d d' d'' e none none' left found = rw (none, none') (sym left ∙ found)
@@ -189,7 +202,7 @@ module _ (m : MappingState) (t : ℕ) (v : IsMapping m) where
   moved_pends n r h = pending-at m n (slot_of m n) (Some r) refl h
 
   moved_rows : AllByRecursion (λ e. (e.0 / per_page m ≡ t) × ((moved_row m e.0 ≡ Some e.1))) (moved_in (per_page m) t m.moved)
-  moved_rows = each-moved_in (λ n r. moved_row m n ≡ Some r) (per_page m) t m.moved (each_from_lookup (λ n r. moved_row m n ≡ Some r) m.moved (IsDistinct-by_sector m.moved v.moved_order) (λ n r h. h))
+  moved_rows = each-moved_in (λ n r. moved_row m n ≡ Some r) (per_page m) t m.moved (each_from_lookup (λ n r. moved_row m n ≡ Some r) m.moved v.moved_distinct (λ n r h. h))
 
   in_page : (n : ℕ) → n / per_page m ≡ t → (t * per_page m ≤ n) × (n < t * per_page m + per_page m)
   in_page n e = in_page_at (per_page m) t n (some_entries m.geometry) e
@@ -201,7 +214,7 @@ module _ (m : MappingState) (t : ℕ) (v : IsMapping m) where
   pub AreRowsOf-lacking : AreRowsOf (per_page m) t (lacking m t)
   AreRowsOf-lacking = (
     IsDistinct-append (some_rows (moved_in (per_page m) t m.moved)) (dirty_from m.cached (t * per_page m) (per_page m))
-        (rw (keys-some_rows (moved_in (per_page m) t m.moved)) (IsDistinct-filter _ m.moved (IsDistinct-by_sector m.moved v.moved_order)))
+        (rw (keys-some_rows (moved_in (per_page m) t m.moved)) (IsDistinct-filter _ m.moved v.moved_distinct))
         (IsDistinct-dirty_from m.cached (t * per_page m) (per_page m))
         (each-some_rows _ (moved_in (per_page m) t m.moved) (All-from _ _ (moved_in (per_page m) t m.moved) (λ e h. not_dirty e.0 e.1 h.0 h.1) moved_rows)),
     All-append _ (some_rows (moved_in (per_page m) t m.moved)) (dirty_from m.cached (t * per_page m) (per_page m))

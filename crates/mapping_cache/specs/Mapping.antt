@@ -1,12 +1,12 @@
 -- What contracts see of the cached mapping table.
-use Rattle.std.specs.Prelude.{◌≡◌, ℕ, zero, suc, ◌-◌, ◌*◌, ◌/◌, ◌<◌, ◌≤◌, ◌==◌, false, true, List, [], ◌∷◌, ◌++◌, length, take, map, filter, Option, Some, None}
+use Rattle.std.specs.Prelude.{◌≡◌, ℕ, ◌-◌, ◌*◌, ◌/◌, ◌<◌, ◌≤◌, ◌==◌, false, true, List, [], ◌∷◌, ◌++◌, length, take, map, filter, Option, Some, None}
 use Rattle.std.specs.Prelude.{nat_eq, option_map, option_and_then, not, ◌+◌, nat_le, nat_lt, ◌&&◌, if◌then◌else◌}
 use Rattle.std.specs.List.{IsDistinct, AllByRecursion, filter_map, range_with_len}
 use Rattle.std.specs.Option.{ForSome}
 use Rattle.std.specs.Map.{keys_of, lookup, set_value}
 use Rattle.lru.specs.LruCache.{promoted, last_entry}
 use Rattle.page_layout.specs.declared.geometry.Geometry.{Geometry}
-use Rattle.page_layout.specs.Geometry.{entries, translation_pages, row_count, waiting_at, IsShare}
+use Rattle.page_layout.specs.Geometry.{entries, row_count}
 use Rattle.page_layout.specs.Word.{IsRow}
 use Rattle.mapping_cache.specs.declared.slot.Slot.{Slot}
 
@@ -14,11 +14,9 @@ pub record MappingState : Type 0 where
   pub geometry : Geometry
   -- the most sectors that are cached
   pub capacity : ℕ
-  -- how many moved sectors may wait for each translation page, in the mean
-  pub share : ℕ
   -- the cached sectors with their slots, the most recently used first
   pub cached : List (ℕ × Slot)
-  -- the moved sectors, none of them cached, with their new rows, by sector
+  -- the moved sectors, none of them cached, with their new rows
   pub moved : List (ℕ × ℕ)
 
 -- the entries of a translation page: sector n is of page n / per_page
@@ -31,39 +29,6 @@ slot_of m n = lookup (nat_eq n) m.cached
 
 abbrev pub moved_row : MappingState → ℕ → Option ℕ
 moved_row m n = lookup (nat_eq n) m.moved
-
--- ---- the moved list: by sector, so that those of a translation page stand together
-
--- each sector is below all that follow
-abbrev pub IsBySector : List (ℕ × ℕ) → Type 0
-IsBySector [] = Unit {0}
-IsBySector (e ∷ es) = AllByRecursion (λ x. e.0 < x.0) es × IsBySector es
-
--- of sectors that rise the first so many are below the bound, and no more
-abbrev pub IsPlace : ℕ → List (ℕ × ℕ) → ℕ → Type 0
-IsPlace bound [] place = place ≡ 0
-IsPlace bound (e ∷ es) zero = bound ≤ e.0
-IsPlace bound (e ∷ es) (suc place) = (e.0 < bound) × IsPlace bound es place
-
--- an entry's row where it is of sector n
-abbrev pub row_if : ℕ → ℕ × ℕ → Option ℕ
-row_if n e = if e.0 == n then Some e.1 else None
-
--- the moved list without sector n
-abbrev pub without : ℕ → List (ℕ × ℕ) → List (ℕ × ℕ)
-without n ms = filter (λ e. not (e.0 == n)) ms
-
--- the moved list with sector n at its place, with this row
-abbrev pub placed : ℕ → ℕ → List (ℕ × ℕ) → List (ℕ × ℕ)
-placed n row ms = filter (λ e. nat_lt e.0 n) ms ++ (n, row) ∷ filter (λ e. nat_lt n e.0) ms
-
--- the moved sectors of page t, with their rows
-abbrev pub moved_in : ℕ → ℕ → List (ℕ × ℕ) → List (ℕ × ℕ)
-moved_in per_page t ms = filter (λ e. e.0 / per_page == t) ms
-
--- the moved list without the sectors of page t
-abbrev pub without_page : ℕ → ℕ → List (ℕ × ℕ) → List (ℕ × ℕ)
-without_page per_page t ms = filter (λ e. not (e.0 / per_page == t)) ms
 
 -- ---- what the mapping knows, and what translation pages lack
 
@@ -90,10 +55,6 @@ pending m n = pending_by (slot_of m n) (moved_row m n)
 
 -- ---- what holds of every mapping
 
--- how many sectors the moved list has room for: those that may wait, and one for each page of a block
-abbrev pub moved_room : MappingState → ℕ
-moved_room m = waiting_at m.geometry m.share + m.geometry.pages
-
 -- a sector of the die, and a row of the die or none
 pub record IsEntryOf (g : Geometry) (n : ℕ) (row : Option ℕ) : Type 0 where
   pub sector : n < g.sectors
@@ -103,17 +64,15 @@ pub record IsMapping (m : MappingState) : Type 0 where
   pub distinct : IsDistinct nat_eq (keys_of m.cached)
   pub within : length m.cached ≤ m.capacity
   pub holds_one : 0 < m.capacity
-  pub share_fits : IsShare m.geometry m.share
-  pub moved_order : IsBySector m.moved
-  pub moved_within : length m.moved ≤ moved_room m
+  pub moved_distinct : IsDistinct nat_eq (keys_of m.moved)
+  pub moved_within : length m.moved ≤ m.geometry.pages
   pub apart : (n r : ℕ) → moved_row m n ≡ Some r → slot_of m n ≡ None
   pub known_in : (n : ℕ) → ForSome (known m n) (IsEntryOf m.geometry n)
 
--- the new mapping is of the same die and share, and as large as the old one
+-- the new mapping is of the same die, and as large as the old one
 pub record HasLimitsOf (old new : MappingState) : Type 0 where
   pub geometry : new.geometry ≡ old.geometry
   pub capacity : new.capacity ≡ old.capacity
-  pub share : new.share ≡ old.share
 
 -- ---- the conditions of calls
 
@@ -123,7 +82,7 @@ CanLoad m n = slot_of m n ≡ None → length m.cached ≡ m.capacity → ForSom
 
 -- the row of a sector has a place on the moved list
 abbrev pub CanMove : MappingState → ℕ → Type 0
-CanMove m n = moved_row m n ≡ None → length m.moved < moved_room m
+CanMove m n = moved_row m n ≡ None → length m.moved < m.geometry.pages
 
 -- ---- what a call makes of a mapping
 
@@ -135,6 +94,14 @@ used m n = record m { cached = promoted (nat_eq n) m.cached }
 abbrev pub new_slot : Option ℕ → Option ℕ → Slot
 new_slot (Some r) row = record { row = Some r; dirty = true }
 new_slot None row = record { row = row; dirty = false }
+
+-- the moved list without sector n
+abbrev pub without : ℕ → List (ℕ × ℕ) → List (ℕ × ℕ)
+without n ms = filter (λ e. not (e.0 == n)) ms
+
+-- the moved list without the sectors of page t
+abbrev pub without_page : ℕ → ℕ → List (ℕ × ℕ) → List (ℕ × ℕ)
+without_page per_page t ms = filter (λ e. not (e.0 / per_page == t)) ms
 
 -- an uncached sector is cached, as the most recent, and no longer moved; a full cache drops its last
 abbrev pub inserted : MappingState → ℕ → Option ℕ → MappingState
@@ -158,7 +125,7 @@ dropped m = record m { cached = take (length m.cached - 1) m.cached }
 
 -- a moved sector has this row
 abbrev pub with_moved : MappingState → ℕ → ℕ → MappingState
-with_moved m n row = record m { moved = placed n row m.moved }
+with_moved m n row = record m { moved = without n m.moved ++ (n, row) ∷ [] }
 
 -- an entry, clean if it is of page t
 abbrev pub clean_entry : ℕ → ℕ → ℕ × Slot → ℕ × Slot
@@ -174,6 +141,10 @@ cleaned m t = record m { cached = map (clean_entry (per_page m) t) m.cached; mov
 
 -- ---- the rows that a translation page lacks
 
+-- the moved sectors of page t, with their rows
+abbrev pub moved_in : ℕ → ℕ → List (ℕ × ℕ) → List (ℕ × ℕ)
+moved_in per_page t ms = filter (λ e. e.0 / per_page == t) ms
+
 -- the moved rows, as rows that an entry may have
 abbrev pub some_rows : List (ℕ × ℕ) → List (ℕ × Option ℕ)
 some_rows ms = map (λ e. (e.0, Some e.1)) ms
@@ -186,7 +157,7 @@ dirty_entry es n = option_map (λ row. (n, row)) (option_and_then dirty_row (loo
 abbrev pub dirty_from : List (ℕ × Slot) → ℕ → ℕ → List (ℕ × Option ℕ)
 dirty_from es first count = filter_map (dirty_entry es) (range_with_len first count)
 
--- the moved sectors of page t, rising, then its dirty cached ones, rising
+-- the moved sectors of page t in the order of the moved list, then its dirty cached ones, rising
 abbrev pub lacking : MappingState → ℕ → List (ℕ × Option ℕ)
 lacking m t = some_rows (moved_in (per_page m) t m.moved) ++ dirty_from m.cached (t * per_page m) (per_page m)
 
@@ -198,11 +169,3 @@ AreRowsOf per_page t es = IsDistinct nat_eq (keys_of es) × AllByRecursion (λ e
 pub record AreLacking (m : MappingState) (t : ℕ) (es : List (ℕ × Option ℕ)) : Type 0 where
   pub rows : AreRowsOf (per_page m) t es
   pub each : (n : ℕ) → n / per_page m ≡ t → lookup (nat_eq n) es ≡ pending m n
-
--- ---- the translation page that is to be written back
-
--- the lowest page that more than `share` moved sectors wait for
-pub record IsLowestOver (m : MappingState) (t : ℕ) : Type 0 where
-  pub within : t < translation_pages m.geometry
-  pub over : m.share < length (moved_in (per_page m) t m.moved)
-  pub others : (k : ℕ) → k < t → length (moved_in (per_page m) k m.moved) ≤ m.share

@@ -3,7 +3,6 @@
 #![tactic(auto)]
 
 mod mapping;
-mod moved;
 mod pages;
 mod slot;
 

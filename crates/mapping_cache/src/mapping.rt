@@ -1,15 +1,13 @@
 //! The cached mapping table and the rows of moved sectors.
 ghost use Rattle.std.specs.Prelude.{◌≡◌, ◌≢◌, ◌↔◌, ℕ, ◌+◌, ◌-◌, ◌*◌, ◌/◌, ◌^◌, ◌<◌, ◌≤◌, ◌==◌, [], ◌∷◌, ◌++◌, Some, None, List, Option, length, take};
-ghost use Rattle.std.specs.Prelude.{nat_eq, is_some, unwrap_or, true, false, IsTrue, IsSome, IfSome, IfNone, IsOk, IfOk, OnOk, OnErr, map};
+ghost use Rattle.std.specs.Prelude.{nat_eq, is_some, unwrap_or, true, false, IsTrue, IsSome, IsOk, IfOk, OnOk, OnErr, map};
 ghost use Rattle.std.specs.Option.{ForSome};
 ghost use Rattle.std.specs.Map.{keys_of, lookup};
 ghost use Rattle.lru.specs.LruCache.{lru_cache, last_entry};
 ghost use Rattle.std.specs.Vec.{vec_capacity};
 ghost use Rattle.std.specs.List.{IsDistinct};
-ghost use Rattle.page_layout.specs.Geometry.{waiting_at, IsShare};
-ghost use Rattle.mapping_cache.specs.Mapping.{new_slot, clean_between, IsBySector};
+ghost use Rattle.mapping_cache.specs.Mapping.{new_slot, clean_between, without, without_page};
 
-use crate::moved::{forget_page, forget_sector, list_sector, lowest_over, places_in, row_in};
 use crate::pages::{DirtyOf, MovedOf, write_rows};
 use crate::slot::Slot;
 use lru::LruCache;
@@ -40,13 +38,12 @@ pub struct Mapping {
     geometry: Geometry,
     cache: LruCache<u32, Slot>,
     moved: Vec<(u32, u32)>,
-    share: u32,
 }
 
 impl Model for Mapping {
     ghost use Rattle.std.specs.Prelude.{◌≤◌};
     ghost use Rattle.std.specs.Vec.{vec_capacity};
-    ghost use Rattle.mapping_cache.specs.Mapping.{MappingState, IsMapping, moved_room};
+    ghost use Rattle.mapping_cache.specs.Mapping.{MappingState, IsMapping};
 
     ghost Value = { MappingState };
 
@@ -54,12 +51,21 @@ impl Model for Mapping {
 
     ghost view = { mapping_state };
 
-    ghost invariant = { λ m. IsMapping (mapping_state m) × (moved_room (mapping_state m) ≤ vec_capacity m.moved) };
+    ghost invariant = { λ m. IsMapping (mapping_state m) × (m.geometry.pages ≤ vec_capacity m.moved) };
+}
+
+// The row of a sector on the moved list.
+fn row_in(moved: &[(u32, u32)], sector: u32) -> Option<u32>
+    ensures { result ≡ lookup (nat_eq sector) moved.now }
+{
+    match moved.iter().find(|m| m.0 == sector) {
+        Some(m) => Some(m.1),
+        None => None,
+    }
 }
 
 // The slot with which an uncached sector is cached: a moved row is dirty.
 fn slot_for(moved: &[(u32, u32)], sector: u32, row: Option<u32>) -> Slot
-    requires { IsBySector moved.now }
     ensures { result ≡ new_slot (lookup (nat_eq sector) moved.now) row }
 {
     match row_in(moved, sector) {
@@ -69,14 +75,6 @@ fn slot_for(moved: &[(u32, u32)], sector: u32, row: Option<u32>) -> Slot
         },
         None => Slot { row, dirty: false },
     }
-}
-
-// How many sectors the moved list has room for.
-fn moved_room(geometry: &Geometry, share: u32) -> usize
-    requires { IsShare geometry.now share }
-    ensures { result ≡ waiting_at geometry.now share + geometry.now.pages }
-{
-    (geometry.waiting_at(share) + geometry.pages()) as usize
 }
 
 // Caches a sector that isn't cached, in place of the last of a full cache.
@@ -90,6 +88,33 @@ fn insert_new(cache: &mut LruCache<u32, Slot>, sector: u32, slot: Slot) -> Resul
         Ok(_) => Ok(()),
         Err(_) => Err(LoadFault::OutOfMemory),
     }
+}
+
+// Takes a sector off the moved list.
+fn forget_sector(moved: &mut Vec<(u32, u32)>, sector: u32)
+    ensures items { moved.new.items ≡ without sector moved.old.items }
+    ensures capacity { vec_capacity moved.new ≡ vec_capacity moved.old }
+{
+    moved.retain(|m| m.0 != sector);
+}
+
+// Takes the sectors of translation page `t` off the moved list.
+fn forget_page(moved: &mut Vec<(u32, u32)>, per_page: u32, t: u32)
+    requires { 0 < per_page }
+    ensures items { moved.new.items ≡ without_page per_page t moved.old.items }
+    ensures capacity { vec_capacity moved.new ≡ vec_capacity moved.old }
+{
+    moved.retain(|m| m.0 / per_page != t);
+}
+
+// Puts a sector on the moved list, with this row alone.
+fn list_sector(moved: &mut Vec<(u32, u32)>, sector: u32, row: u32)
+    requires { length (without sector moved.old.items) < vec_capacity moved.old }
+    ensures items { moved.new.items ≡ without sector moved.old.items ++ (sector, row) ∷ [] }
+    ensures capacity { vec_capacity moved.old ≤ vec_capacity moved.new }
+{
+    forget_sector(moved, sector);
+    let _ = moved.push((sector, row));
 }
 
 // Makes so many cached sectors clean, from the first on. The order stays.
@@ -109,43 +134,25 @@ fn clean_sectors(cache: &mut LruCache<u32, Slot>, first: u32, count: u32)
 impl Mapping {
     ghost use Rattle.page_layout.specs.Geometry.{translation_pages, row_count};
     ghost use Rattle.translation_pages.specs.TranslationPage.{entry_at};
-    ghost use Rattle.mapping_cache.specs.Mapping.{IsMapping, IsEntryOf, HasLimitsOf, per_page, slot_of, moved_row, known, pending, CanLoad, CanMove, IsLowestOver};
-    ghost use Rattle.mapping_cache.specs.Mapping.{used, loaded, dropped, with_dirty, with_moved, cleaned, lacking, moved_in, without_page, AreLacking};
+    ghost use Rattle.mapping_cache.specs.Mapping.{IsMapping, IsEntryOf, HasLimitsOf, per_page, slot_of, moved_row, known, pending, CanLoad, CanMove};
+    ghost use Rattle.mapping_cache.specs.Mapping.{used, loaded, dropped, with_dirty, with_moved, cleaned, lacking, moved_in, AreLacking};
 
-    /// An empty mapping of a die whose moved sectors don't wait: of share 0.
-    /// [`Mapping::with_share`] has the rest.
-    pub fn new(alloc: Global, geometry: &Geometry, capacity: u32) -> Result<Mapping, AllocError>
-        requires { 0 < capacity }
-        ensures empty { IfOk result (λ m. m ≡
-            record { geometry = geometry.now; capacity = capacity; share = 0; cached = []; moved = [] }) }
-        ensures valid { IfOk result IsMapping }
-    {
-        Mapping::with_share(alloc, geometry, capacity, 0)
-    }
-
-    /// An empty mapping of a die, with room for so many cached sectors, for `share` moved sectors a
-    /// translation page in the mean, and for one for each page of a block.
+    /// An empty mapping of a die, with room for so many cached sectors and for a moved sector for
+    /// each page of a block.
     ///
     /// It fails for want of memory alone. The room of the moved list is taken here; of the cache's
     /// entries, as they come.
-    pub fn with_share(
-        alloc: Global,
-        geometry: &Geometry,
-        capacity: u32,
-        share: u32,
-    ) -> Result<Mapping, AllocError>
-        requires some { 0 < capacity }
-        requires share { IsShare geometry.now share }
+    pub fn new(alloc: Global, geometry: &Geometry, capacity: u32) -> Result<Mapping, AllocError>
+        requires { 0 < capacity }
         ensures empty { IfOk result (λ m. m ≡
-            record { geometry = geometry.now; capacity = capacity; share = share; cached = []; moved = [] }) }
+            record { geometry = geometry.now; capacity = capacity; cached = []; moved = [] }) }
         ensures valid { IfOk result IsMapping }
     {
         let most = NonZeroUsize::new(capacity as usize).unwrap();
         Ok(Mapping {
             geometry: *geometry,
             cache: LruCache::new(alloc, most)?,
-            moved: Vec::with_capacity(alloc, moved_room(geometry, share))?,
-            share,
+            moved: Vec::with_capacity(alloc, geometry.pages() as usize)?,
         })
     }
 
@@ -193,7 +200,7 @@ impl Mapping {
         self.cache.contains(&sector)
     }
 
-    /// Whether a sector is on the moved list. It takes no memory, and searches the list.
+    /// Whether a sector is on the moved list. It takes no memory, and a walk looks at the list.
     pub fn is_moved(&self, sector: u32) -> bool
         ensures { result ≡ is_some (moved_row self.now sector) }
     {
@@ -241,8 +248,7 @@ impl Mapping {
     pub fn can_move(&self, sector: u32) -> bool
         ensures { IsTrue result ↔ CanMove self.now sector }
     {
-        row_in(&self.moved, sector).is_some()
-            || self.moved.len() < moved_room(&self.geometry, self.share)
+        row_in(&self.moved, sector).is_some() || self.moved.len() < self.geometry.pages() as usize
     }
 
     /// Caches a sector with its row so far, and makes it the most recently used. A cached sector
@@ -317,10 +323,6 @@ impl Mapping {
         requires entry { IsEntryOf self.old.geometry sector (Some row) }
         ensures set { self.new ≡ with_moved self.old sector row }
         ensures one_more { length self.new.moved ≤ length self.old.moved + 1 }
-        ensures same_in { (t : ℕ) → t ≢ sector / per_page self.old →
-            moved_in (per_page self.old) t self.new.moved ≡ moved_in (per_page self.old) t self.old.moved }
-        ensures same_but { without_page (per_page self.old) (sector / per_page self.old) self.new.moved ≡
-            without_page (per_page self.old) (sector / per_page self.old) self.old.moved }
 
         ensures knows { known self.new sector ≡ Some (Some row) }
         ensures pends { pending self.new sector ≡ Some (Some row) }
@@ -332,8 +334,8 @@ impl Mapping {
     }
 
     /// The rows that translation page `t` lacks, each with its sector: first those of moved
-    /// sectors, rising, then those of dirty cached sectors, rising. It takes no memory, and a walk
-    /// looks at the sectors of the page.
+    /// sectors, in the order in which they were moved, then those of dirty cached sectors, rising.
+    /// It takes no memory, and a walk looks at the moved list and at the sectors of the page.
     pub fn dirty_of(&self, t: u32) -> DirtyOf<'_>
         requires { t < translation_pages self.now.geometry }
         ensures is { result ≡ lacking self.now t }
@@ -348,38 +350,16 @@ impl Mapping {
         }
     }
 
-    /// The moved sectors of translation page `t`, rising, with their new rows. It takes no memory,
-    /// and searches the moved list.
+    /// The moved sectors of translation page `t`, with their new rows, in the order in which they
+    /// were moved. It takes no memory, and a walk looks at the moved list.
     pub fn moved_of(&self, t: u32) -> MovedOf<'_>
         ensures { result ≡ moved_in (per_page self.now) t self.now.moved }
     {
-        let (first, end) = places_in(&self.moved, self.geometry.entries(), t);
         MovedOf {
-            rest: &self.moved[first..end],
+            rest: &self.moved,
+            per_page: self.geometry.entries(),
+            page: t,
         }
-    }
-
-    /// The lowest translation page that more than `share` moved sectors wait for, where more than
-    /// `share` wait for each in the mean; else `None`. One pass over the moved list in the first
-    /// case, and no look at it in the second.
-    ///
-    /// Source: the batch updates of the DFTL paper; which page is taken is this project's.
-    pub fn overdue(&self) -> Option<u32>
-        ensures page { IfSome result (IsLowestOver self.now) }
-        ensures many { IfSome result (λ t. waiting_at self.now.geometry self.now.share < length self.now.moved) }
-        ensures none { IfNone result (length self.now.moved ≤ waiting_at self.now.geometry self.now.share) }
-    {
-        if self.moved.len() <= self.geometry.waiting_at(self.share) as usize {
-            return None;
-        }
-        lowest_over(&self.moved, self.geometry.entries(), self.share)
-    }
-
-    /// How many moved sectors may wait for each translation page, in the mean.
-    pub fn share(&self) -> u32
-        ensures { result ≡ self.now.share }
-    {
-        self.share
     }
 
     /// Whether translation page `t` lacks a row.

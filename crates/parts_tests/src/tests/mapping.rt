@@ -34,8 +34,6 @@ enum Step {
     Moved(u32, &'static [(u32, u32)]),
     // The first entries of an erased translation page into which the rows were written. The others have none.
     Spells(u32, &'static [Option<u32>]),
-    // The lowest translation page that more than its share of moved sectors wait for.
-    Overdue(Option<u32>),
     // The cached sectors, the least recently used first, all of them clean. They are dropped.
     Holds(&'static [(u32, u32)]),
 }
@@ -43,14 +41,12 @@ enum Step {
 // Calls on an empty mapping, one after the other.
 struct Script {
     name: &'static str,
-    share: u32,
     steps: &'static [Step],
 }
 
-const SCRIPTS: [Script; 5] = [
+const SCRIPTS: [Script; 4] = [
     Script {
         name: "a write evicts what was written back",
-        share: 0,
         steps: &[
             Step::Peek(0, None),
             Step::Write(0, 8),
@@ -83,7 +79,6 @@ const SCRIPTS: [Script; 5] = [
     },
     Script {
         name: "moved sectors wait for their page",
-        share: 0,
         steps: &[
             Step::Write(7, 8),
             Step::Write(7, 9),
@@ -103,14 +98,14 @@ const SCRIPTS: [Script; 5] = [
             Step::SetDirty(3, 20),
             Step::SetDirty(4, 21),
             Step::SetDirty(5, 22),
-            Step::Moved(0, &[(0, 17), (1, 18), (7, 16)]),
+            Step::Moved(0, &[(7, 16), (0, 17), (1, 18)]),
             Step::Moved(1, &[]),
             Step::Lacks(
                 0,
                 &[
+                    (7, Some(16)),
                     (0, Some(17)),
                     (1, Some(18)),
-                    (7, Some(16)),
                     (2, Some(19)),
                     (3, Some(20)),
                     (4, Some(21)),
@@ -125,7 +120,6 @@ const SCRIPTS: [Script; 5] = [
     },
     Script {
         name: "a moved sector that is cached is dirty",
-        share: 0,
         steps: &[
             Step::Move(7, 16),
             Step::Move(20, 18),
@@ -138,7 +132,6 @@ const SCRIPTS: [Script; 5] = [
     },
     Script {
         name: "a refused load changes nothing",
-        share: 0,
         steps: &[
             Step::TryLoad(0, Some(0)),
             Step::TryLoad(1, Some(1)),
@@ -148,43 +141,12 @@ const SCRIPTS: [Script; 5] = [
             Step::TryLoad(5, Some(5)),
         ],
     },
-    Script {
-        name: "of a share of one up to two wait",
-        share: 1,
-        steps: &[
-            Step::Overdue(None),
-            Step::Move(18, 32),
-            Step::Move(16, 33),
-            Step::Overdue(None),
-            Step::Move(31, 34),
-            Step::Overdue(Some(1)),
-            Step::Moved(1, &[(16, 33), (18, 32), (31, 34)]),
-            Step::Move(15, 35),
-            Step::Overdue(Some(1)),
-            Step::Move(0, 36),
-            Step::Overdue(Some(0)),
-            Step::Moved(0, &[(0, 36), (15, 35)]),
-            Step::Move(15, 37),
-            Step::Load(0, None),
-            Step::Moved(0, &[(15, 37)]),
-            Step::Overdue(Some(1)),
-            Step::Clean(1),
-            Step::Moved(1, &[]),
-            Step::Overdue(None),
-            Step::Peek(15, Some(Some(37))),
-            Step::Lacks(0, &[(15, Some(37)), (0, Some(36))]),
-        ],
-    },
 ];
 
 // 16 entries a page, two translation pages, eight pages a block, 256 rows; four cached sectors.
-fn small(alloc: Global, share: u32) -> Result<Mapping, Fail> {
+fn small(alloc: Global) -> Result<Mapping, Fail> {
     let geometry = Geometry::new(64, 32, 8, 32, 32)?;
-    if geometry.is_share(share) {
-        Ok(Mapping::with_share(alloc, &geometry, 4, share)?)
-    } else {
-        Ok(Mapping::new(alloc, &geometry, 4)?)
-    }
+    Ok(Mapping::new(alloc, &geometry, 4)?)
 }
 
 fn is_entry(geometry: &Geometry, sector: u32, row: Option<u32>) -> bool
@@ -315,13 +277,12 @@ fn passes(mapping: &mut Mapping, step: Step) -> bool {
         Step::Lacks(t, want) => lacks(mapping, t, want),
         Step::Moved(t, want) => moved(mapping, t, want),
         Step::Spells(t, want) => spells(&page_of(mapping, t), want),
-        Step::Overdue(want) => mapping.overdue() == want,
         Step::Holds(want) => holds(mapping, want),
     }
 }
 
 fn run(rt: &impl Abort, alloc: Global, script: &Script) -> Result<(), Fail> {
-    let mut mapping = small(alloc, script.share)?;
+    let mut mapping = small(alloc)?;
     for (at, step) in script.steps.iter().enumerate() {
         assert!(rt; passes(&mut mapping, *step), "{}: step {at}", script.name);
     }

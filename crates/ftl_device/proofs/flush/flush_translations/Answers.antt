@@ -14,7 +14,7 @@ translations-init g c = record {
   leaves = leaves_same g.N.PageSource.view c.args.engine.now c.requires.safe c.requires.going;
   pins = λ none. none;
   keys = refl;
-  limits = record { geometry = refl; capacity = refl; share = refl };
+  limits = record { geometry = refl; capacity = refl };
   calm = c.requires.calm;
   clean = λ t lt. absurd (omega arith);
   pages = refl;

@@ -1,16 +1,11 @@
 use Rattle.std.proofs.Common.{arith}
 use Rattle.mapping_cache.specs.View.{mapping_state}
-use Rattle.mapping_cache.specs.Mapping.{per_page}
-use Rattle.mapping_cache.proofs.Places.{moved_in-placed, without_page-placed}
 use Rattle.mapping_cache.proofs.Steps.{length-without, length-with_moved, IsMapping-with_moved, known-with_moved, pending-with_moved}
 use Rattle.mapping_cache.proofs.Steps.{known-with_moved_other, pending-with_moved_other}
 use Rattle.mapping_cache.proofs.mapping.Mapping.move_entry.Goals as goal
 
-pub list_sector-requires-clause-order : goal.list_sector-requires-clause-order
-list_sector-requires-clause-order c = c.self.invariant.0.moved_order
-
-pub list_sector-requires-clause-room : goal.list_sector-requires-clause-room
-list_sector-requires-clause-room c =
+pub list_sector-requires : goal.list_sector-requires
+list_sector-requires c =
     let m = mapping_state c.self.inside in
     let v = c.self.invariant.0 in
     let uncached = rw (← c.self.view_is) at c.requires.uncached in
@@ -49,12 +44,6 @@ pub returns-clause-valid : goal.returns-clause-valid
 returns-clause-valid c = let m = mapping_state c.self.inside in let v = c.self.invariant.0 in let uncached = rw (← c.self.view_is) at
     c.requires.uncached in let room = rw (← c.self.view_is) at c.requires.room in let entry = rw (← c.self.view_is) at c.requires.entry in rw
     (c.list_sector.ensures.items) (IsMapping-with_moved m c.args.sector c.args.row v uncached room entry)
-
-pub returns-clause-same_in : goal.returns-clause-same_in
-returns-clause-same_in c = let m = mapping_state c.self.inside in rw (c.list_sector.ensures.items, ← c.self.view_is) (λ t ne. moved_in-placed (per_page m) t c.args.sector c.args.row m.moved c.self.invariant.0.moved_order ne)
-
-pub returns-clause-same_but : goal.returns-clause-same_but
-returns-clause-same_but c = let m = mapping_state c.self.inside in rw (c.list_sector.ensures.items, ← c.self.view_is) (without_page-placed (per_page m) c.args.sector c.args.row m.moved c.self.invariant.0.moved_order)
 
 pub returns-clause-one_more : goal.returns-clause-one_more
 returns-clause-one_more c = let m = mapping_state c.self.inside in let v = c.self.invariant.0 in let uncached = rw (← c.self.view_is) at c.requires.uncached in rw (c.list_sector.ensures.items, ← c.self.view_is) (length-with_moved m c.args.sector c.args.row v uncached)
