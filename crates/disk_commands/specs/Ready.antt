@@ -15,7 +15,7 @@ use Rattle.disk_server.specs.declared.mark.SyncMark.{SyncMark}
 use Rattle.disk_server.specs.declared.opened.OpenStoreFault.{OpenStoreFault}
 use Rattle.disk_server.specs.Disk.{contents_of, holds}
 use Rattle.disk_server.specs.Reopened.{Reopened}
-use Rattle.disk_server.specs.Opened.{SyncsWhen, bytes_of, flash_in, is_honest_in}
+use Rattle.disk_server.specs.Opened.{SyncsWhen, bytes_of, is_honest_in, view_in}
 use Rattle.disk_server.specs.Stopped.{IsUnopenedLater}
 use Rattle.disk_server.specs.Synced.{after_sync}
 use Rattle.disk_commands.specs.declared.files.Access.{Access}
@@ -53,7 +53,7 @@ HoldsPages false mark honest s bytes = honest → HoldsRecovered mark s bytes
 pub record IsDiskOf {S Y : Type 0} (held : S → Held) (honest : S → Bool) (marked : Y → SyncMark) (read_only always : Bool) (told : DiskText) (found : FoundMark) (store : S)
     (d : Device (DriverState (FileState S))) (syncs : Y) : Type 0 where
   pub held_array : honest store ≡ true → holds (is_honest_in honest) d ≡ true
-  pub bytes : HoldsPages read_only found.mark.synced (honest store ≡ true) (held store) (contents_of (flash_in held) (is_honest_in honest) d).bytes
+  pub bytes : HoldsPages read_only found.mark.synced (honest store ≡ true) (held store) (contents_of (view_in held honest) d).bytes
   pub syncs_when : SyncsWhen (sync_when always) d.engine.nand
   pub keeps : read_only ≡ false → told.marked ≡ true → marked syncs ≡ after_sync d.engine.next false found.mark
 

@@ -2,7 +2,7 @@
 ghost use Rattle.std.specs.Prelude.{◌≡◌, ◌⊎◌, false, not, true, IfErr, IfOk, OnOk};
 ghost use Rattle.image_check.specs.Agrees.{Agrees};
 ghost use Rattle.disk_server.specs.Disk.{contents_of, holds};
-ghost use Rattle.disk_server.specs.Opened.{SyncsWhen, flash_in, is_honest_in};
+ghost use Rattle.disk_server.specs.Opened.{SyncsWhen, is_honest_in, view_in};
 ghost use Rattle.disk_server.specs.Synced.{after_sync};
 ghost use Rattle.disk_commands.specs.Damage.{NamesAll};
 ghost use Rattle.disk_commands.specs.Files.{OpensMarked, with_mark};
@@ -74,7 +74,7 @@ fn disk_of<'a, S: Store + Drop, K: KeepsLost>(
     requires mounted { S.honest store ≡ true → Agrees (S.held store).geometry 65536 (S.held store).pages certificate.now }
     ensures syncs { IfOk result (λ d. SyncsWhen (sync_when words.now.sync_always) d.engine.nand) }
     ensures honest { IfOk result (λ d. S.honest store ≡ true → holds (is_honest_in S.honest) d ≡ true) }
-    ensures bytes { IfOk result (λ d. HoldsPages words.now.read_only found.mark.synced (S.honest store ≡ true) (S.held store) (contents_of (flash_in S.held) (is_honest_in S.honest) d).bytes) }
+    ensures bytes { IfOk result (λ d. HoldsPages words.now.read_only found.mark.synced (S.honest store ≡ true) (S.held store) (contents_of (view_in S.held S.honest) d).bytes) }
     ensures listed { OnOk result (KeepsBy words.now.read_only K.kept lost.now keeper.old keeper.new) }
     ensures fault { IfErr result (IsNoneOf S.held S.honest S.failed K.kept K.failed words.now.disk.now words.now.read_only told.now found store lost.now keeper.old keeper.new) }
 {

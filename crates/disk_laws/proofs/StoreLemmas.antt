@@ -15,7 +15,8 @@ use Rattle.disk_server.specs.Disk.{ChangesOne}
 use Rattle.disk_server.specs.Guarded.{PassesOn}
 use Rattle.disk_server.specs.Reopened.{AsksDevice, HasDevice, ReadsDevice, Reopened, SettlesCall, Terms, changes_in, changes_of, clears_of, flushes_of, reads_of, rests_of, terms_of}
 use Rattle.disk_laws.specs.Runs.{AsksOneOf, IsDiskCall}
-use Rattle.disk_laws.specs.Sessions.{AsksGuarded, AsksReopened, GuardedSessionLaw, ReopenedSessionLaw, StoreSessionLaw, words_of}
+use Rattle.disk_server.specs.Opened.{view_in}
+use Rattle.disk_laws.specs.Sessions.{AsksGuarded, AsksReopened, GuardedSessionLaw, ReopenedSessionLaw, StoreSessionLaw}
 use Rattle.disk_laws.proofs.SessionLemmas.{session}
 
 -- ---- guarded
@@ -95,26 +96,26 @@ module _ {S : Type 0} (held : S → Held) (honest full : S → Bool) (failed : S
         → WasAsked one old new last → WasAsked two old new last
     same_call one two so w = record { not_anew = w.not_anew; first = w.first; was = w.was; asked = so w.first last w.asked }
 
-    one_reopened : AsksReopened held honest full failed old new → WasAsked (IsDiskCall (words_of held honest)) old new last
+    one_reopened : AsksReopened held honest full failed old new → WasAsked (IsDiskCall (view_in held honest)) old new last
     unfolding AsksCall changes_in ChangesOne
-    one_reopened (inl (inl read)) = same_call (reads_of held honest) (IsDiskCall (words_of held honest)) (λ d left is. inl (inl is)) (read_one read)
+    one_reopened (inl (inl read)) = same_call (reads_of held honest) (IsDiskCall (view_in held honest)) (λ d left is. inl (inl is)) (read_one read)
     one_reopened (inl (inr (inl (n, result, inl (command, is))))) =
-        asked_one (changes_of held honest n command) (IsDiskCall (words_of held honest)) fault.NoSpace result (λ d left answer asks. inl (inr (inl (n, answer, inl (command, asks))))) is
+        asked_one (changes_of held honest n command) (IsDiskCall (view_in held honest)) fault.NoSpace result (λ d left answer asks. inl (inr (inl (n, answer, inl (command, asks))))) is
     one_reopened (inl (inr (inl (n, result, inr is)))) =
-        asked_one (clears_of held honest n) (IsDiskCall (words_of held honest)) fault.NoSpace result (λ d left answer asks. inl (inr (inl (n, answer, inr asks)))) is
+        asked_one (clears_of held honest n) (IsDiskCall (view_in held honest)) fault.NoSpace result (λ d left answer asks. inl (inr (inl (n, answer, inr asks)))) is
     one_reopened (inl (inr (inr (result, is)))) =
-        asked_one (flushes_of held honest) (IsDiskCall (words_of held honest)) fault.Failed result (λ d left answer asks. inl (inr (inr (answer, asks)))) is
-    one_reopened (inr (result, is)) = asked_one (rests_of held honest) (IsDiskCall (words_of held honest)) fault.Failed result (λ d left answer asks. inr (answer, asks)) is
+        asked_one (flushes_of held honest) (IsDiskCall (view_in held honest)) fault.Failed result (λ d left answer asks. inl (inr (inr (answer, asks)))) is
+    one_reopened (inr (result, is)) = asked_one (rests_of held honest) (IsDiskCall (view_in held honest)) fault.Failed result (λ d left answer asks. inr (answer, asks)) is
 
   all_reopened : (n : ℕ) (old new : Reopened S) → Times (AsksReopened held honest full failed) n old new → new.reopened ≡ false → (last : Device (DriverState (FileState S))) → new.device ≡ Some last
-      → (first : Device (DriverState (FileState S))) × (old.device ≡ Some first) × Through (IsDiskCall (words_of held honest)) first last
+      → (first : Device (DriverState (FileState S))) × (old.device ≡ Some first) × Through (IsDiskCall (view_in held honest)) first last
   unfolding Times
   all_reopened zero old new same plain last there =
-      (last, ap (λ (d : Reopened S). d.device) (sym same) ∙ there, none (IsDiskCall (words_of held honest)) last last refl)
+      (last, ap (λ (d : Reopened S). d.device) (sym same) ∙ there, none (IsDiskCall (view_in held honest)) last last refl)
   all_reopened (suc n) old new (mid, before, call) plain last there =
       let w = one_reopened mid new plain last there call in
       let rest = all_reopened n old mid before w.not_anew w.first w.was in
-      (rest.0, rest.1, joined (IsDiskCall (words_of held honest)) rest.0 w.first last rest.2 (once (IsDiskCall (words_of held honest)) w.first last w.asked))
+      (rest.0, rest.1, joined (IsDiskCall (view_in held honest)) rest.0 w.first last rest.2 (once (IsDiskCall (view_in held honest)) w.first last w.asked))
 
   pub reopened_session : ReopenedSessionLaw held honest full failed
   reopened_session old new (n, through) plain last there = all_reopened n old new through plain last there
@@ -124,4 +125,4 @@ module _ {S : Type 0} (held : S → Held) (honest full : S → Bool) (failed : S
       let below = guarded_session (ReadsDevice (reads_of held honest)) (changes_in held honest full failed) (AsksDevice held honest full failed (flushes_of held honest) fault.Failed)
       (AsksDevice held honest full failed (rests_of held honest) fault.Failed) old new through in
       let device = reopened_session old.sectors new.sectors below plain last there in
-      (device.0, device.1, λ was. (let s = session (words_of held honest) device.0 last device.2 was on refl in (s.0, s.1)))
+      (device.0, device.1, λ was. (let s = session (view_in held honest) device.0 last device.2 was on refl in (s.0, s.1)))

@@ -17,7 +17,7 @@ use Rattle.ftl_device.specs.declared.device.Device.{Device}
 use Rattle.disk_laws.specs.Driven.{AddsOrErases, behind}
 use Rattle.disk_laws.specs.Lost.{LostBy, MayLose}
 use Rattle.disk_laws.specs.Runs.{DeviceCalls, NoCall, OneMore, image_on}
-use Rattle.disk_laws.specs.Sessions.{words_of}
+use Rattle.disk_server.specs.Opened.{view_in}
 use Rattle.disk_laws.specs.StoreRuns.{ErasesPass, StoreRunLaw}
 use Rattle.disk_laws.proofs.DrivenLemmas.{adds_apart, loses, tells}
 use Rattle.disk_laws.proofs.FitLemmas.{Fits, erase_fits, program_fits, unsound}
@@ -91,7 +91,7 @@ module _ {N : Type 0} (die : View N) (old : Device N) where
 
 pub store_run : {S : Type 0} (held : S → Held) (honest : S → Bool) (failed : S → ℕ) → StoreRunLaw held honest failed
 store_run held honest failed old new log run mid first later few stands calls more erases =
-    let die = words_of held honest in
+    let die = view_in held honest in
     let nand = old.engine.nand in
     let gains : Records (Some nand.told) (first ++ later) (Some new.engine.nand.told) =
     records_join (Some nand.told) (Some mid.told) (Some new.engine.nand.told) first later (tells held honest failed nand mid first calls) (tells held honest failed mid new.engine.nand later more) in

@@ -1,6 +1,5 @@
 -- WHAT IS ASKED OF THE DEVICE OF A STORE in a session, through what guards its lost sectors and what opens it anew.
 use Rattle.std.specs.Prelude.{◌≡◌, Bool, false, true, ℕ, List, Option, Some, Result}
-use Rattle.page_layout.specs.View.{View}
 use Rattle.page_layout.specs.Flash.{Operation}
 use Rattle.onfi_cycles.specs.Driver.{DriverState}
 use Rattle.file_die.specs.Die.{FileState}
@@ -21,22 +20,9 @@ use Rattle.disk_server.specs.Asked.{AsksSectors}
 use Rattle.disk_server.specs.Disk.{IsDisk, holds}
 use Rattle.disk_server.specs.Synced.{Closes, RestsSynced, SyncsTask}
 use Rattle.disk_server.specs.Guarded.{ChangesGuarded, PassesOn, ReadsGuarded}
-use Rattle.disk_server.specs.Opened.{always_in, flash_in, is_honest_in, told_in}
+use Rattle.disk_server.specs.Opened.{is_honest_in, view_in}
 use Rattle.disk_server.specs.Reopened.{AsksDevice, ReadsDevice, Reopened, changes_in, flushes_of, reads_of, rests_of}
 use Rattle.disk_laws.specs.Runs.{AsksOneOf, DeviceCalls, IsDiskCall}
-
--- the words of the die over a store
-abbrev pub words_of : {S : Type 0} → (S → Held) → (honest : S → Bool) → View (DriverState (FileState S))
-words_of held honest = record {
-  flash = flash_in held;
-  recorded = told_in;
-  honest = is_honest_in honest;
-  calm = always_in;
-  reads = λ d. d.reads;
-  programs = λ d. d.programs;
-  erases = λ d. d.erases;
-  failed = λ d. d.failures;
-}
 
 -- what is asked of a guarded device, and of one that is opened anew where its store was full
 abbrev pub AsksGuarded : {S K : Type 0} → (reads changes : S → S → Type 0) → (flushes rests : S → Result (Unit {0}) DiskFault → S → Type 0) → (old new : GuardedSectors S K) → Type 0
@@ -62,14 +48,14 @@ GuardedSessionLaw {S} K reads changes flushes rests = (old new : GuardedSectors 
 abbrev pub ReopenedSessionLaw : {S : Type 0} → (S → Held) → (honest full : S → Bool) → (failed : S → ℕ) → Type 0
 ReopenedSessionLaw {S} held honest full failed = (old new : Reopened S) → Through (AsksReopened held honest full failed) old new → new.reopened ≡ false
     → (last : Device (DriverState (FileState S))) → new.device ≡ Some last
-    → (first : Device (DriverState (FileState S))) × (old.device ≡ Some first) × Through (IsDiskCall (words_of held honest)) first last
+    → (first : Device (DriverState (FileState S))) × (old.device ≡ Some first) × Through (IsDiskCall (view_in held honest)) first last
 
 -- SO ALL THAT A SESSION ASKS of the disk in a store, guarded, and not opened anew, is calls of its device one after another, as long as that holds its array
 abbrev pub StoreSessionLaw : {S : Type 0} → (K : Type 0) → (S → Held) → (honest full : S → Bool) → (failed : S → ℕ) → Type 0
 StoreSessionLaw {S} K held honest full failed = (old new : GuardedSectors (Reopened S) K) → Through (AsksStored held honest full failed) old new → new.sectors.reopened ≡ false
     → (last : Device (DriverState (FileState S))) → new.sectors.device ≡ Some last → holds (is_honest_in honest) last ≡ true
     → (first : Device (DriverState (FileState S))) × (old.sectors.device ≡ Some first)
-    × (IsDisk (flash_in held) (is_honest_in honest) first → (log : List Operation) × DeviceCalls (words_of held honest) first log last)
+    × (IsDisk (view_in held honest) first → (log : List Operation) × DeviceCalls (view_in held honest) first log last)
 
 -- ALL THAT A SERVER ASKS of its device of sectors, in a session with one client and as it closes the disk behind that, is reads and changes of sectors, flushes and rests, one after another, and no other change of it
 abbrev pub ServedSessionLaw : {S Y : Type 0} → (S → Contents) → (honest : S → Bool) → (reads changes : S → S → Type 0) → (flushes rests : S → Result (Unit {0}) DiskFault → S → Type 0)

@@ -7,10 +7,9 @@ use Rattle.file_die.specs.Store.{Held, AreImages}
 use Rattle.image_laws.specs.Power.{LosesSince}
 use Rattle.ftl_device.specs.declared.device.Device.{Device}
 use Rattle.disk_server.specs.Disk.{IsDisk}
-use Rattle.disk_server.specs.Opened.{flash_in, is_honest_in}
+use Rattle.disk_server.specs.Opened.{view_in}
 use Rattle.disk_laws.specs.Driven.{DriverCalls, StandsReady, behind}
 use Rattle.disk_laws.specs.Runs.{DeviceCalls, HasNoCall, IsFoundAfterLoss, image_on}
-use Rattle.disk_laws.specs.Sessions.{words_of}
 
 -- no erase in a log failed
 abbrev pub ErasesPass : List Operation → Type 0
@@ -20,7 +19,7 @@ ErasesPass (Erase block passed left ∷ log) = (passed ≡ true) × ErasesPass l
 
 -- A DEVICE OF AN HONEST STORE ALL OF WHOSE PAGES LAST, as after a sync
 pub record StandsSynced {S : Type 0} (held : S → Held) (honest : S → Bool) (d : Device (DriverState (FileState S))) : Type 0 where
-  pub disk : IsDisk (flash_in held) (is_honest_in honest) d
+  pub disk : IsDisk (view_in held honest) d
   pub ready : StandsReady held d.engine.nand
   pub is_honest : honest d.engine.nand.bus.store ≡ true
   pub images : AreImages (behind held d.engine.nand)
@@ -30,8 +29,8 @@ pub record StandsSynced {S : Type 0} (held : S → Held) (honest : S → Bool) (
 
 -- THE POWER GOES between two calls of the driver, in calls of the device one after another since all pages lasted: what lasts of the store then is what `LostRunLaw` says of the disk. Its die went on by calls of its driver, each answered, and no erase failed
 abbrev pub StoreRunLaw : {S : Type 0} → (S → Held) → (honest : S → Bool) → (failed : S → ℕ) → Type 0
-StoreRunLaw {S} held honest failed = (old new : Device (DriverState (FileState S))) (log : List Operation) (run : DeviceCalls (words_of held honest) old log new) (mid : DriverState (FileState S)) (first later : List Operation)
+StoreRunLaw {S} held honest failed = (old new : Device (DriverState (FileState S))) (log : List Operation) (run : DeviceCalls (view_in held honest) old log new) (mid : DriverState (FileState S)) (first later : List Operation)
     → old.engine.mapping.capacity + old.engine.geometry.pages ≤ 65536 → StandsSynced held honest old
     → DriverCalls held honest failed old.engine.nand first mid → DriverCalls held honest failed mid later new.engine.nand → ErasesPass (first ++ later)
-    → (HasNoCall (words_of held honest) old log new run × LosesSince (image_on (words_of held honest) old) (image_on (words_of held honest) old) (behind held mid).durable)
-    ⊎ IsFoundAfterLoss (words_of held honest) old log new run (behind held mid).durable
+    → (HasNoCall (view_in held honest) old log new run × LosesSince (image_on (view_in held honest) old) (image_on (view_in held honest) old) (behind held mid).durable)
+    ⊎ IsFoundAfterLoss (view_in held honest) old log new run (behind held mid).durable

@@ -3,7 +3,7 @@ ghost use Rattle.std.specs.Prelude.{◌≡◌, ◌≤◌, true, IfErr, IfOk, Mat
 ghost use Rattle.std.specs.List.{list_any};
 ghost use Rattle.image_check.specs.Agrees.{Agrees};
 ghost use Rattle.disk_server.specs.Disk.{contents_of, holds};
-ghost use Rattle.disk_server.specs.Opened.{SyncsWhen, flash_in, is_honest_in};
+ghost use Rattle.disk_server.specs.Opened.{SyncsWhen, is_honest_in, view_in};
 ghost use Rattle.disk_recovery.specs.Listed.{IsUnkept, KeepsIfAny};
 ghost use Rattle.disk_recovery.specs.Recovered.{HoldsRecovered, IsUnrecovered};
 
@@ -82,7 +82,7 @@ pub fn recover_listed<S: Store + Drop>(
     requires most { capacity ≤ 65536 }
     ensures syncs { IfOk result (λ d. SyncsWhen sync_when d.engine.nand) }
     ensures honest { IfOk result (λ d. S.honest listed.store ≡ true → holds (is_honest_in S.honest) d ≡ true) }
-    ensures bytes { IfOk result (λ d. S.honest listed.store ≡ true → HoldsRecovered mark (S.held listed.store) (contents_of (flash_in S.held) (is_honest_in S.honest) d).bytes) }
+    ensures bytes { IfOk result (λ d. S.honest listed.store ≡ true → HoldsRecovered mark (S.held listed.store) (contents_of (view_in S.held S.honest) d).bytes) }
     ensures fault { IfErr result (IsUnrecovered S.held S.honest S.failed listed.store capacity mark) }
 {
     let ListedStore { store } = listed;

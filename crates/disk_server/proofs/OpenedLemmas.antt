@@ -21,7 +21,7 @@ use Rattle.disk_server.specs.declared.open.OpenFault.TheVariants.{Refused, Start
 use Rattle.disk_server.specs.Open.{nand_of}
 use Rattle.mount.specs.Mounted.{Refuses}
 use Rattle.disk_server.proofs.FaultLemmas.{handed_on}
-use Rattle.disk_server.specs.Opened.{ComesBack, HasCome, IsUnmounted, IsUnopened, IsUnopenedAt, bytes_of, flash_in, is_honest_in, why_of}
+use Rattle.disk_server.specs.Opened.{ComesBack, HasCome, IsUnmounted, IsUnopened, IsUnopenedAt, bytes_of, flash_in, is_honest_in, why_of, view_in}
 
 -- a driver that was made over a store
 pub record IsOver {S : Type 0} (held : S → Held) (honest : S → Bool) (store : S) (d : DriverState (FileState S)) : Type 0 where
@@ -72,7 +72,7 @@ comes held honest store d e given fault over behind same = record {
 pub opened_bytes : {S : Type 0} (held : S → Held) (honest : S → Bool) (store : S) (driver : DriverState (FileState S)) (g : Geometry) (d : Device (DriverState (FileState S)))
     → IsOver held honest store driver → g ≡ (held store).geometry → holds (is_honest_in honest) d ≡ is_honest_in honest driver
     → (is_honest_in honest driver ≡ true → array_in (flash_in held) d ≡ array_of g (flash_in held driver).image)
-    → honest store ≡ true → (contents_of (flash_in held) (is_honest_in honest) d).bytes ≡ bytes_of (held store)
+    → honest store ≡ true → (contents_of (view_in held honest) d).bytes ≡ bytes_of (held store)
 opened_bytes held honest store driver g d over same held_is array is =
     let begun = over.as_honest ∙ is in
     ap (λ (b : Bool). flat (if b then array_in (flash_in held) d else replicate d.engine.geometry.sectors (zeros d.engine.geometry))) (held_is ∙ begun)
@@ -82,14 +82,14 @@ opened_bytes held honest store driver g d over same held_is array is =
 
 -- the store of a die that was not mounted, or on which no device was started
 pub unopened_come : {S : Type 0} (held : S → Held) (honest : S → Bool) (store : S) (d : DriverState (FileState S)) (g : Geometry) (capacity : ℕ) (fault : OpenFault (DriverState (FileState S))) (given : S)
-    → IsOver held honest store d → IsBehind held honest d (nand_of fault) given → IsUnmounted (flash_in held) (is_honest_in honest) d g capacity fault → ComesBack held honest store (why_of fault) given
+    → IsOver held honest store d → IsBehind held honest d (nand_of fault) given → IsUnmounted (view_in held honest) d g capacity fault → ComesBack held honest store (why_of fault) given
 unopened_come held honest store d g capacity (Refused refusal e) given over behind unmounted =
     comes held honest store d e given (why.Mount refusal) over behind (λ other is. unmounted.same (λ source. other (ap why.Mount source)) is)
 unopened_come held honest store d g capacity (Start e) given over behind unmounted =
     comes held honest store d e given why.OutOfMemory over behind (λ other is. unmounted.same is)
 
 pub unopened_so : {S : Type 0} (held : S → Held) (honest : S → Bool) (failed : S → ℕ) (store : S) (d : DriverState (FileState S)) (capacity : ℕ) (fault : OpenFault (DriverState (FileState S))) (given : S)
-    → IsOver held honest store d → IsUnmounted (flash_in held) (is_honest_in honest) d (held store).geometry capacity fault → IsUnopened held honest failed store capacity given (why_of fault)
+    → IsOver held honest store d → IsUnmounted (view_in held honest) d (held store).geometry capacity fault → IsUnopened held honest failed store capacity given (why_of fault)
 unopened_so held honest failed store d capacity (Refused refusal e) given over unmounted = λ is.
     subst (λ image. Refuses (held store).geometry capacity image refusal) (over.pages is) (unmounted.refuses (over.as_honest ∙ is))
 unopened_so held honest failed store d capacity (Start e) given over unmounted = tt

@@ -14,7 +14,7 @@ use Rattle.nbd_stream.specs.declared.task.Task.{Task}
 use Rattle.nbd_stream.specs.Disk.{Contents, Idles, MayAnswer, PerformsTask, TaskSteps, answer_from, error_for}
 use Rattle.disk_server.specs.Asked.{HasZeros, SparesZeros}
 use Rattle.disk_server.specs.Disk.{contents_of, holds}
-use Rattle.disk_server.specs.Opened.{flash_in, is_honest_in}
+use Rattle.disk_server.specs.Opened.{is_honest_in, view_in}
 use Rattle.nbd_stream.specs.declared.task.Task.TheVariants.{Read}
 use Rattle.disk_server.specs.Reopened.{AnewLaw, AreParts, GoneLaw, HasDevice, IsAnew, TermsLaw, IsGone, IsOpenedFrom, ReadsDevice, Reopened, Reopens, SettlesCall, Terms, bytes_by, contents_in, holds_by, holds_in, reads_of, terms_of}
 
@@ -38,7 +38,7 @@ on_ok (Err e) f h = tt
 
 module _ {S : Type 0} (held : S → Held) (honest : S → Bool) where
   abbrev pub at : Device (DriverState (FileState S)) → Contents
-  at d = contents_of (flash_in held) (is_honest_in honest) d
+  at d = contents_of (view_in held honest) d
 
   abbrev pub going : Device (DriverState (FileState S)) → Bool
   going d = holds (is_honest_in honest) d
@@ -191,7 +191,7 @@ long_before size count size' count' n sized counted long = long ∙ (ap (λ k. k
 -- the store of a device that has stopped was full, and was opened
 pub reopens : {S : Type 0} (held : S → Held) (honest full : S → Bool) (terms : Terms) (left : Device (DriverState (FileState S))) (new : Reopened S) (store : S) → store ≡ left.engine.nand.bus.store → full store ≡ true
     → (next : ℕ) → next ≡ left.engine.next
-    → ((d : Device (DriverState (FileState S))) × IsOpenedFrom held honest terms store d × HasDevice terms true next (Some d) new × (length (contents_of (flash_in held) (is_honest_in honest) d).bytes ≡ terms.count * terms.size))
+    → ((d : Device (DriverState (FileState S))) × IsOpenedFrom held honest terms store d × HasDevice terms true next (Some d) new × (length (contents_of (view_in held honest) d).bytes ≡ terms.count * terms.size))
     → Reopens held honest full terms left new
 reopens held honest full terms left new store same is next last opened = record {
   was_full = ap full (sym same) ∙ is;
@@ -218,13 +218,13 @@ parts_on size count capacity device d left was parts sizes counts = record {
 
 -- what was given of a sector, by the device that was there
 pub given_of : {S : Type 0} (held : S → Held) (honest : S → Bool) (n size : ℕ) (before after : Option (Device (DriverState (FileState S)))) (d left : Device (DriverState (FileState S))) (answer : Result (List ℕ) RequestError) → before ≡ Some d → after ≡ Some left
-    → PerformsTask (contents_of (flash_in held) (is_honest_in honest)) (holds (is_honest_in honest)) (λ x. false) (Read (n * size) size) [] d answer left
-    → (x : Device (DriverState (FileState S))) → before ≡ Some x → (y : Device (DriverState (FileState S))) × (after ≡ Some y) × PerformsTask (contents_of (flash_in held) (is_honest_in honest)) (holds (is_honest_in honest)) (λ z. false) (Read (n * size) size) [] x answer y
+    → PerformsTask (contents_of (view_in held honest)) (holds (is_honest_in honest)) (λ x. false) (Read (n * size) size) [] d answer left
+    → (x : Device (DriverState (FileState S))) → before ≡ Some x → (y : Device (DriverState (FileState S))) × (after ≡ Some y) × PerformsTask (contents_of (view_in held honest)) (holds (is_honest_in honest)) (λ z. false) (Read (n * size) size) [] x answer y
 given_of held honest n size before after d left answer was is p = λ x there. (
   left,
   is,
   subst
-      (λ y. PerformsTask (contents_of (flash_in held) (is_honest_in honest)) (holds (is_honest_in honest)) (λ z. false) (Read (n * size) size) [] y
+      (λ y. PerformsTask (contents_of (view_in held honest)) (holds (is_honest_in honest)) (λ z. false) (Read (n * size) size) [] y
       answer left) (some_same d x (sym was ∙ there)) p,
 )
 

@@ -58,6 +58,19 @@ told_in d = Some d.told
 abbrev pub always_in : {S : Type 0} → DriverState (FileState S) → Bool
 always_in d = syncs_always d.bus.sync_when
 
+-- all of that, with what it counts
+abbrev pub view_in : {S : Type 0} → (S → Held) → (honest : S → Bool) → View (DriverState (FileState S))
+view_in held honest = record {
+  flash = flash_in held;
+  recorded = told_in;
+  honest = is_honest_in honest;
+  calm = always_in;
+  reads = λ d. d.reads;
+  programs = λ d. d.programs;
+  erases = λ d. d.erases;
+  failed = λ d. d.failures;
+}
+
 -- it syncs as it was to
 abbrev pub SyncsWhen : {S : Type 0} → SyncWhen → DriverState (FileState S) → Type 0
 SyncsWhen sync_when d = d.bus.sync_when ≡ sync_when

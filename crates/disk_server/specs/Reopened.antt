@@ -13,7 +13,7 @@ use Rattle.nbd_stream.specs.declared.task.Task.TheVariants.{Read}
 use Rattle.nbd_stream.specs.Disk.{Contents, PerformsTask}
 use Rattle.disk_server.specs.declared.opened.OpenStoreFault.{OpenStoreFault}
 use Rattle.disk_server.specs.Disk.{AsksChange, AsksClear, AsksFlush, AsksRead, AsksTurn, contents_of, holds, takes_changes}
-use Rattle.disk_server.specs.Opened.{IsUnopened, SyncsWhen, always_in, bytes_of, flash_in, flash_of, is_honest_in, told_in}
+use Rattle.disk_server.specs.Opened.{IsUnopened, SyncsWhen, bytes_of, flash_in, flash_of, is_honest_in, view_in}
 
 -- its device, where one is there; its sectors; what was next as its device stopped; whether it was opened anew; and how it is: with a cache of so many entries, and by when its die syncs its store
 pub record Reopened (S : Type 0) : Type 0 where
@@ -39,7 +39,7 @@ pub record AreParts {S : Type 0} (size count capacity : ℕ) (device : Option (D
 -- the bytes of the device that is there; where it is gone as many zeros stand for them
 abbrev pub bytes_by : {S : Type 0} → (S → Held) → (honest : S → Bool) → (size count : ℕ) → Option (Device (DriverState (FileState S))) → List ℕ
 bytes_by held honest size count None = replicate (count * size) 0
-bytes_by held honest size count (Some d) = (contents_of (flash_in held) (is_honest_in honest) d).bytes
+bytes_by held honest size count (Some d) = (contents_of (view_in held honest) d).bytes
 
 -- ITS CONTENTS. What is there after a stop is what is there
 abbrev pub contents_in : {S : Type 0} → (S → Held) → (honest : S → Bool) → Reopened S → Contents
@@ -91,7 +91,7 @@ pub record HasDevice {S : Type 0} (terms : Terms) (reopened : Bool) (next : ℕ)
 -- A DEVICE THAT A STORE WAS OPENED WITH, on these terms: of a store that is honest it holds the array that the store's pages hold, byte by byte, and the pages are as they were
 pub record IsOpenedFrom {S : Type 0} (held : S → Held) (honest : S → Bool) (terms : Terms) (store : S) (d : Device (DriverState (FileState S))) : Type 0 where
   pub as_honest : holds (is_honest_in honest) d ≡ honest store
-  pub bytes : honest store ≡ true → (contents_of (flash_in held) (is_honest_in honest) d).bytes ≡ bytes_of (held store)
+  pub bytes : honest store ≡ true → (contents_of (view_in held honest) d).bytes ≡ bytes_of (held store)
   pub pages : honest store ≡ true → flash_in held d.engine.nand ≡ flash_of (held store)
   pub entries : d.engine.mapping.capacity ≡ terms.capacity
   pub syncs : SyncsWhen terms.sync_when d.engine.nand
@@ -110,7 +110,7 @@ pub record Reopens {S : Type 0} (held : S → Held) (honest full : S → Bool) (
   pub was_full : full left.engine.nand.bus.store ≡ true
   pub device : Device (DriverState (FileState S))
   pub opened : IsOpenedFrom held honest terms left.engine.nand.bus.store device
-  pub long : length (contents_of (flash_in held) (is_honest_in honest) device).bytes ≡ terms.count * terms.size
+  pub long : length (contents_of (view_in held honest) device).bytes ≡ terms.count * terms.size
   pub there : HasDevice terms true left.engine.next (Some device) new
 
 -- THE DEVICE IS GONE: its store was not full, or was not opened
@@ -162,17 +162,17 @@ ReadsDevice reads old new = ((old.device ≡ None) × HasDevice (terms_of old) o
 -- WHAT IS GIVEN OF A SECTOR: by the device that is there, opened anew or not, its bytes as such a one gives them
 abbrev pub ReopenedGivesSector : {S : Type 0} → (S → Held) → (honest : S → Bool) → (n : ℕ) → (old : Reopened S) → (answer : Result (List ℕ) RequestError) → (new : Reopened S) → Type 0
 ReopenedGivesSector {S} held honest n old answer new = (d : Device (DriverState (FileState S))) → old.device ≡ Some d → (left : Device (DriverState (FileState S))) × (new.device ≡ Some left)
-    × PerformsTask (contents_of (flash_in held) (is_honest_in honest)) (holds (is_honest_in honest)) (λ x. false) (Read (n * old.size) old.size) [] d answer left
+    × PerformsTask (contents_of (view_in held honest)) (holds (is_honest_in honest)) (λ x. false) (Read (n * old.size) old.size) [] d answer left
 
 -- ---- the calls of the device over the die of a store
 
 -- a change of a sector
 abbrev pub changes_of : {S : Type 0} → (S → Held) → (honest : S → Bool) → (n : ℕ) → Command → Device (DriverState (FileState S)) → Result (Unit {0}) DiskFault → Device (DriverState (FileState S)) → Type 0
-changes_of held honest n command = AsksChange (flash_in held) told_in (is_honest_in honest) always_in (λ d. d.failures) n command
+changes_of held honest n command = AsksChange (view_in held honest) n command
 
 -- a sector to be cleared
 abbrev pub clears_of : {S : Type 0} → (S → Held) → (honest : S → Bool) → (n : ℕ) → Device (DriverState (FileState S)) → Result (Unit {0}) DiskFault → Device (DriverState (FileState S)) → Type 0
-clears_of held honest n = AsksClear (flash_in held) told_in (is_honest_in honest) always_in (λ d. d.programs) (λ d. d.erases) (λ d. d.failures) n
+clears_of held honest n = AsksClear (view_in held honest) n
 
 -- ONE CHANGE OF THE DEVICE THAT IS THERE, of any sector, and what it comes to
 unfoldable pub changes_in : {S : Type 0} → (S → Held) → (honest full : S → Bool) → (failed : S → ℕ) → (old new : Reopened S) → Type 0
@@ -181,15 +181,15 @@ changes_in held honest full failed old new = (n : ℕ) × (result : Result (Unit
 
 -- a rest
 abbrev pub rests_of : {S : Type 0} → (S → Held) → (honest : S → Bool) → Device (DriverState (FileState S)) → Result (Unit {0}) DiskFault → Device (DriverState (FileState S)) → Type 0
-rests_of held honest = AsksTurn (flash_in held) told_in (is_honest_in honest) always_in (λ d. d.erases) (λ d. d.failures)
+rests_of held honest = AsksTurn (view_in held honest)
 
 -- a read: its die is asked for reads, and programs and erases nothing
 abbrev pub reads_of : {S : Type 0} → (S → Held) → (honest : S → Bool) → Device (DriverState (FileState S)) → Device (DriverState (FileState S)) → Type 0
-reads_of held honest = AsksRead (flash_in held) told_in (is_honest_in honest) always_in (λ d. d.programs) (λ d. d.erases) (λ d. d.failures)
+reads_of held honest = AsksRead (view_in held honest)
 
 -- a flush
 abbrev pub flushes_of : {S : Type 0} → (S → Held) → (honest : S → Bool) → Device (DriverState (FileState S)) → Result (Unit {0}) DiskFault → Device (DriverState (FileState S)) → Type 0
-flushes_of held honest = AsksFlush (flash_in held) told_in (is_honest_in honest) always_in (λ d. d.failures)
+flushes_of held honest = AsksFlush (view_in held honest)
 
 -- ---- laws. They are of any call of the device
 

@@ -10,7 +10,7 @@ use Rattle.ftl_device.specs.declared.device.Device.{Device}
 use Rattle.disk_server.specs.declared.opened.OpenStoreFault.{OpenStoreFault}
 use Rattle.disk_server.specs.declared.opened.OpenStoreFault.TheVariants.{Flush, Mount}
 use Rattle.disk_server.specs.Disk.{AsksFlush}
-use Rattle.disk_server.specs.Opened.{HasCome, IsUnopened, always_in, flash_in, is_honest_in, told_in}
+use Rattle.disk_server.specs.Opened.{HasCome, IsUnopened, view_in}
 
 -- a store was refused for its stale sectors, and a cache of so many entries would have room for them
 pub record HasRoomFor (fault : OpenStoreFault) (stale : ℕ) : Type 0 where
@@ -36,7 +36,7 @@ pub record IsStale {S : Type 0} (held : S → Held) (honest : S → Bool) (store
 pub record AsksToFlush {S : Type 0} (held : S → Held) (honest : S → Bool) (entries : ℕ) (answer : Result (Unit {0}) DiskFault) (left : Device (DriverState (FileState S))) : Type 0 where
   pub opened : Device (DriverState (FileState S))
   pub entries_are : opened.engine.mapping.capacity ≡ entries
-  pub flush : AsksFlush (flash_in held) told_in (is_honest_in honest) always_in (λ d. d.failures) opened answer left
+  pub flush : AsksFlush (view_in held honest) opened answer left
 
 -- ---- it is opened
 

@@ -61,7 +61,7 @@ fn store_under<S: Store + Drop>(device: StoreDevice<S>) -> S
 impl<S: Store + TellsFull + Drop> ReopenedDevice<S> {
     ghost use Rattle.std.specs.Prelude.{◌≡◌, ◌≢◌, ◌⊎◌, ◌≤◌, ◌*◌, false, true, length, None, Some};
     ghost use Rattle.disk_server.specs.Disk.{contents_of};
-    ghost use Rattle.disk_server.specs.Opened.{flash_in, is_honest_in};
+    ghost use Rattle.disk_server.specs.Opened.{view_in};
     ghost use Rattle.onfi_cycles.specs.Driver.{DriverState};
     ghost use Rattle.file_die.specs.Die.{FileState};
     ghost use Rattle.ftl_device.specs.declared.device.Device.{Device};
@@ -99,7 +99,7 @@ impl<S: Store + TellsFull + Drop> ReopenedDevice<S> {
     fn take_in(&mut self, device: StoreDevice<S>) -> bool
         requires { self.old.device ≡ None }
         ensures taken { result ≡ true → HasDevice (terms_of self.old) true self.old.next (Some device) self.new }
-        ensures long { result ≡ true → length (contents_of (flash_in S.held) (is_honest_in S.honest) device).bytes ≡ self.old.count * self.old.size }
+        ensures long { result ≡ true → length (contents_of (view_in S.held S.honest) device).bytes ≡ self.old.count * self.old.size }
         ensures left { result ≡ false → (device.engine.geometry.data_bytes ≢ self.old.size) ⊎ (device.engine.geometry.sectors ≢ self.old.count) }
         ensures same { result ≡ false → self.new ≡ self.old }
     {
@@ -115,7 +115,7 @@ impl<S: Store + TellsFull + Drop> ReopenedDevice<S> {
     fn open(&mut self, store: S) -> bool
         requires { self.old.device ≡ None }
         ensures opened { result ≡ true → (d : Device (DriverState (FileState S))) × IsOpenedFrom S.held S.honest (terms_of self.old) store d × HasDevice (terms_of self.old) true self.old.next (Some d) self.new
-            × (length (contents_of (flash_in S.held) (is_honest_in S.honest) d).bytes ≡ self.old.count * self.old.size) }
+            × (length (contents_of (view_in S.held S.honest) d).bytes ≡ self.old.count * self.old.size) }
         ensures unopened { result ≡ false → IsNotReopened S.held S.honest S.failed (terms_of self.old) store }
         ensures same { result ≡ false → self.new ≡ self.old }
     {

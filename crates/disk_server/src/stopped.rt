@@ -2,7 +2,7 @@
 ghost use Rattle.std.specs.Prelude.{◌≡◌, ◌≤◌, false, true, IfOk, IfErr, OnOk};
 ghost use Rattle.nbd_stream.specs.declared.task.Task.TheVariants as task;
 ghost use Rattle.disk_server.specs.Disk.{contents_of, holds};
-ghost use Rattle.disk_server.specs.Opened.{SyncsWhen, bytes_of, flash_in, flash_of, is_honest_in};
+ghost use Rattle.disk_server.specs.Opened.{SyncsWhen, bytes_of, flash_in, flash_of, is_honest_in, view_in};
 ghost use Rattle.disk_server.specs.Stopped.{IsLastFault, IsOpenedEither, IsOpenedFlushed, IsOpenedNeither, IsOpenedWith, IsRoomIn, IsUnopenedLater, IsUnopenedStale};
 
 use crate::opened::{OpenStoreFault, StoreDisk, close_store, open_store};
@@ -46,7 +46,7 @@ fn open_once<S: Store + Drop>(
     requires most { capacity ≤ 65536 }
     ensures syncs { IfOk result (λ d. SyncsWhen sync_when d.engine.nand) }
     ensures honest { IfOk result (λ d. holds (is_honest_in S.honest) d ≡ S.honest store) }
-    ensures bytes { IfOk result (λ d. S.honest store ≡ true → (contents_of (flash_in S.held) (is_honest_in S.honest) d).bytes ≡ bytes_of (S.held store)) }
+    ensures bytes { IfOk result (λ d. S.honest store ≡ true → (contents_of (view_in S.held S.honest) d).bytes ≡ bytes_of (S.held store)) }
     ensures pages { IfOk result (λ d. S.honest store ≡ true → flash_in S.held d.engine.nand ≡ flash_of (S.held store)) }
     ensures entries { IfOk result (λ d. d.engine.mapping.capacity ≡ capacity) }
     ensures fault { IfErr result (IsLastFault S.held S.honest S.failed store capacity) }
@@ -69,7 +69,7 @@ fn open_either<S: Store + Drop>(
     requires most { (capacity ≤ 65536) × (stale ≤ 65536) }
     ensures syncs { IfOk result (λ d. SyncsWhen sync_when d.engine.nand) }
     ensures honest { IfOk result (λ d. holds (is_honest_in S.honest) d ≡ S.honest store) }
-    ensures bytes { IfOk result (λ d. S.honest store ≡ true → (contents_of (flash_in S.held) (is_honest_in S.honest) d).bytes ≡ bytes_of (S.held store)) }
+    ensures bytes { IfOk result (λ d. S.honest store ≡ true → (contents_of (view_in S.held S.honest) d).bytes ≡ bytes_of (S.held store)) }
     ensures entries { IfOk result (λ d. IsOpenedEither S.held S.honest store capacity stale d.engine.mapping.capacity) }
     ensures fault { IfErr result (IsOpenedNeither S.held S.honest S.failed store capacity stale) }
 {
@@ -95,7 +95,7 @@ fn open_stale<S: Store + Drop>(
     requires most { (capacity ≤ 65536) × (stale ≤ 65536) }
     ensures syncs { IfOk result (λ d. SyncsWhen sync_when d.engine.nand) }
     ensures honest { IfOk result (λ d. S.honest store ≡ true → holds (is_honest_in S.honest) d ≡ true) }
-    ensures bytes { IfOk result (λ d. S.honest store ≡ true → (contents_of (flash_in S.held) (is_honest_in S.honest) d).bytes ≡ bytes_of (S.held store)) }
+    ensures bytes { IfOk result (λ d. S.honest store ≡ true → (contents_of (view_in S.held S.honest) d).bytes ≡ bytes_of (S.held store)) }
     ensures entries { IfOk result (λ d. IsOpenedFlushed S.held S.honest capacity stale d.engine.mapping.capacity) }
     ensures fault { IfErr result (IsUnopenedStale S.held S.honest S.failed store capacity stale) }
 {
@@ -130,7 +130,7 @@ pub fn open_stopped<S: Store + Drop>(
     requires most { capacity ≤ 65536 }
     ensures syncs { IfOk result (λ d. SyncsWhen sync_when d.engine.nand) }
     ensures honest { IfOk result (λ d. S.honest store ≡ true → holds (is_honest_in S.honest) d ≡ true) }
-    ensures bytes { IfOk result (λ d. S.honest store ≡ true → (contents_of (flash_in S.held) (is_honest_in S.honest) d).bytes ≡ bytes_of (S.held store)) }
+    ensures bytes { IfOk result (λ d. S.honest store ≡ true → (contents_of (view_in S.held S.honest) d).bytes ≡ bytes_of (S.held store)) }
     ensures pages { IfOk result (λ d. writes ≡ false → S.honest store ≡ true → flash_in S.held d.engine.nand ≡ flash_of (S.held store)) }
     ensures entries { IfOk result (λ d. IsOpenedWith S.held S.honest writes store capacity d.engine.mapping.capacity) }
     ensures fault { IfErr result (IsUnopenedLater S.held S.honest S.failed store capacity) }

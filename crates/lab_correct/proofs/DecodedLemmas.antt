@@ -1,6 +1,6 @@
 -- A dump that is read without its codes, page by page.
 use Rattle.std.proofs.Common.{◌≡◌, ℕ, ◌+◌, ◌*◌, ◌-◌, ◌/◌, ◌%◌, ◌<◌, ◌≤◌, zero, suc, Bool, true, false, cond, All, List, ◌++◌, length, map, take, drop, replicate, Option, Some, None, refl, sym, ap, ◌∙◌, arith}
-use Rattle.std.proofs.Common.{length-take, length-drop, length-set}
+use Rattle.std.proofs.Common.{length-append, length-take, length-drop, length-set}
 use Rattle.std.specs.Prelude.{nat_le, nat_eq, slice_range}
 use Rattle.std.specs.List.{concat, range_with_len}
 use Rattle.std.specs.Int.{div_ceil}

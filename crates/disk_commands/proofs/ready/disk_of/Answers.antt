@@ -1,7 +1,7 @@
 use Rattle.std.proofs.Common.{◌≡◌, true, refl, subst, sym}
 use Rattle.disk_recovery.specs.Recovered.{HoldsRecovered, IsUnrecovered}
 use Rattle.disk_server.specs.Disk.{contents_of}
-use Rattle.disk_server.specs.Opened.{flash_in, is_honest_in}
+use Rattle.disk_server.specs.Opened.{view_in}
 use Rattle.disk_commands.specs.Ready.{HoldsPages, IsNoDiskBy, KeepsBy}
 use Rattle.disk_commands.proofs.ready.disk_of.Goals as goal
 
@@ -10,7 +10,7 @@ pub returns-in-Ok-recover_listed-clause-bytes : goal.returns-in-Ok-recover_liste
 returns-in-Ok-recover_listed-clause-bytes g c =
     let held = g.S.Store.held in
     let honest = g.S.Store.honest in
-    let bytes = (contents_of (flash_in held) (is_honest_in honest) c.in-Ok-recover_listed.disk).bytes in
+    let bytes = (contents_of (view_in held honest) c.in-Ok-recover_listed.disk).bytes in
     subst (λ r. HoldsPages r c.args.found.mark.synced (honest c.args.store ≡ true) (held c.args.store) bytes) (sym c.if-words.false)
     (subst (λ s. honest s ≡ true → HoldsRecovered c.args.found.mark.synced (held s) bytes) c.in-Ok-list_first.ensures.same c.in-Ok-recover_listed.ensures.bytes)
 

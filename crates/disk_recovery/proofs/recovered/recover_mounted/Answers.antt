@@ -1,6 +1,6 @@
 use Rattle.std.proofs.Common.{◌≡◌, ◌∙◌, inl, true}
 use Rattle.disk_server.specs.Disk.{contents_of}
-use Rattle.disk_server.specs.Opened.{flash_in, is_honest_in}
+use Rattle.disk_server.specs.Opened.{view_in}
 use Rattle.disk_recovery.specs.Recovered.{IsUnrecovered}
 use Rattle.disk_server.proofs.FaultLemmas.{handed_on}
 use Rattle.disk_recovery.proofs.RecoveredLemmas.{left_once, left_twice, opened_bytes, opened_fault}
@@ -10,7 +10,7 @@ pub returns-then-not-changed-clause-bytes : goal.returns-then-not-changed-clause
 returns-then-not-changed-clause-bytes g c =
     let held = g.S.Store.held in
     let honest = g.S.Store.honest in
-    opened_bytes (λ d. (contents_of (flash_in held) (is_honest_in honest) d).bytes) held (honest c.args.store ≡ true) (honest c.recover_once.new.store ≡ true) c.args.store c.recover_once.new.store c.args.mark c.open_stopped.result
+    opened_bytes (λ d. (contents_of (view_in held honest) d).bytes) held (honest c.args.store ≡ true) (honest c.recover_once.new.store ≡ true) c.args.store c.recover_once.new.store c.args.mark c.open_stopped.result
     (λ h. c.in_ok-changed.ensures.honest ∙ h)
     (λ h. left_once c.args.mark (held c.args.store) (held c.recover_once.new.store) c.in_ok-changed.changed c.if-not-changed.true (c.in_ok-changed.ensures.recovered h))
     c.open_stopped.ensures.bytes
@@ -27,7 +27,7 @@ returns-in-Ok-clause-bytes g c =
     let held = g.S.Store.held in
     let honest = g.S.Store.honest in
     let left = c.in-Ok.left in
-    opened_bytes (λ d. (contents_of (flash_in held) (is_honest_in honest) d).bytes) held (honest c.args.store ≡ true) (honest left ≡ true) c.args.store left c.args.mark c.open_stopped-in-Ok.result
+    opened_bytes (λ d. (contents_of (view_in held honest) d).bytes) held (honest c.args.store ≡ true) (honest left ≡ true) c.args.store left c.args.mark c.open_stopped-in-Ok.result
     (λ h. c.in-Ok.ensures.honest ∙ (c.in_ok-changed.ensures.honest ∙ h))
     (λ h. left_twice c.args.mark (held c.args.store) (held c.recover_once.new.store) (held left) c.in_ok-changed.changed c.if-not-changed.false (c.in_ok-changed.ensures.recovered h)
     (c.in-Ok.ensures.recovered (c.in_ok-changed.ensures.honest ∙ h)))

@@ -2,7 +2,7 @@ use Rattle.std.proofs.Common.{sym, subst, ◌∙◌}
 use Rattle.disk_server.specs.Open.{nand_of}
 use Rattle.disk_server.proofs.FaultLemmas.{handed_on}
 use Rattle.disk_server.proofs.OpenedLemmas.{opened_bytes, unbegun, unopened_come, unopened_so, IsBehind, IsOver}
-use Rattle.disk_server.specs.Opened.{ComesBack, IsUnmounted, IsUnopened, flash_in, is_honest_in}
+use Rattle.disk_server.specs.Opened.{ComesBack, IsUnmounted, IsUnopened, view_in}
 use Rattle.disk_server.proofs.opened.open_store.Goals as goal
 
 pub returns-in_err-driver-clause-fault : goal.returns-in_err-driver-clause-fault
@@ -29,7 +29,7 @@ returns-in-Err-clause-fault g c =
     let over : IsOver g.S.Store.held g.S.Store.honest c.args.store c.in_ok-driver.driver = record { as_honest = c.in_ok-driver.ensures.honest; geometry = c.in_ok-driver.ensures.geometry; pages = c.in_ok-driver.ensures.pages } in
     subst (λ fault. IsUnopened g.S.Store.held g.S.Store.honest g.S.Store.failed c.args.store c.args.capacity c.unopened.result.0 fault) (sym c.unopened.ensures.why)
     (unopened_so g.S.Store.held g.S.Store.honest g.S.Store.failed c.args.store c.in_ok-driver.driver c.args.capacity c.in-Err.fault c.unopened.result.0 over
-    (subst (λ x. IsUnmounted (flash_in g.S.Store.held) (is_honest_in g.S.Store.honest) c.in_ok-driver.driver x c.args.capacity c.in-Err.fault) c.geometry-geometry.ensures.geometry
+    (subst (λ x. IsUnmounted (view_in g.S.Store.held g.S.Store.honest) c.in_ok-driver.driver x c.args.capacity c.in-Err.fault) c.geometry-geometry.ensures.geometry
     c.in-Err.ensures.unmounted))
 
 pub returns-in-Ok-clause-geometry : goal.returns-in-Ok-clause-geometry
