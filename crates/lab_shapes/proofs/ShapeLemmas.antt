@@ -114,7 +114,7 @@ shape_of all w y size d s p e h =
 -- two of one size, of the same areas and as many blocks, are one
 same_shape : (w v : Way) (size d s p : ℕ) (g h : Geometry) (a b : Arrangement) → IsShapeOf size w d s p g a → IsShapeOf size v d s p h b → g.blocks ≡ h.blocks → g ≡ h
 same_shape w v size d s p g h a b x y e =
-    same_geometry g h (same_numbers _ _ _ _ _ _ _ _ _ _ (x.data_is ∙ sym y.data_is) (x.spare_is ∙ sym y.spare_is) (x.pages_is ∙ sym y.pages_is) e (x.sector ∙ sym y.sector))
+    geometry_by g h (x.data_is ∙ sym y.data_is) (x.spare_is ∙ sym y.spare_is) (x.pages_is ∙ sym y.pages_is) e (x.sector ∙ sym y.sector)
 
 -- in an order of the bytes
 pub order_pages : (b : Arrangement) (size d s p : ℕ) (g : Geometry) (a : Arrangement) → IsUncut b → IsShapeOf size (Order b) d s p g a → pages_size size b ≡ Some (image_bytes g)
