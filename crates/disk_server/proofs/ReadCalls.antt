@@ -108,14 +108,14 @@ module _ {N : Type 0} (view : View N) (n : ℕ) (old new : Device N) (result : R
   }
 
   -- it asked its die for reads, and left it as it was
-  pub read_asks : (view : View N) → OnlyReads view old.engine.nand new.engine.nand
+  pub read_asks : OnlyReads view old.engine.nand new.engine.nand
       → HasLimitsOf old.engine.mapping new.engine.mapping → IsDisk view new
       → (view.honest old.engine.nand ≡ true → result ≢ Err BusFault → view.flash new.engine.nand ≡ view.flash old.engine.nand)
       → (view.honest old.engine.nand ≡ true → result ≢ Err BusFault → view.recorded new.engine.nand ≡ view.recorded old.engine.nand)
       → (view.honest old.engine.nand ≡ true → IsWell view.flash old → result ≢ Err BusFault → old.engine.mapping.capacity + old.engine.geometry.pages ≤ 65536
       → IsMountable old.engine.geometry (old.engine.mapping.capacity + old.engine.geometry.pages) (view.flash new.engine.nand).image)
       → AsksRead view old new
-  read_asks view only limits disk same told mounts = record {
+  read_asks only limits disk same told mounts = record {
     only_reads = only;
     limits = limits;
     disk = disk;
