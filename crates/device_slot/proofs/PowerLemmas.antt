@@ -191,8 +191,8 @@ module _ {N : Type 0} (view : View N) (nand : N) (g : Geometry) (capacity : ℕ)
   }
   unbrought (OfFlush fault given) un none = absurd un
 
-  pub handed_back : (view : View N) (given : N) → OnlyReads view nand given → IsDieHandedBack view nand given
-  handed_back view given reads = record { honest_is = reads.honest_is; geometry_is = reads.geometry_is; failed_is = reads.failed_is }
+  pub handed_back : (given : N) → OnlyReads view nand given → IsDieHandedBack view nand given
+  handed_back given reads = record { honest_is = reads.honest_is; geometry_is = reads.geometry_is; failed_is = reads.failed_is }
 
   pub unsettled_at : (fault : PowerFault N) → ArePagesUnmounted view nand g capacity fault → IsUnsettledWith view nand g capacity fault
   unsettled_at (Refused why given) un = un
@@ -223,16 +223,16 @@ module _ {N : Type 0} (view : View N) (nand : N) (g : Geometry) (capacity : ℕ)
       subst (λ (k : Geometry). stale_count k s.image ≤ begun.accepted.claim.capacity) same its.accepted.agrees.fresh in
       omega (arith, fresh, claimed, cache)
 
-  pub brought : (view : View N) (d : Device N) → IsDeviceBegun view d → d.engine.geometry ≡ g → d.engine.mapping.capacity ≡ capacity
+  pub brought : (d : Device N) → IsDeviceBegun view d → d.engine.geometry ≡ g → d.engine.mapping.capacity ≡ capacity
       → (view.honest nand ≡ true → array_in view.flash d ≡ array_of g (view.flash nand).image) → OnlyReads view nand d.engine.nand
       → IsBrought view nand g capacity d
-  brought view d begun sized cache array reads = record {
+  brought d begun sized cache array reads = record {
     begun = begun;
     sized = sized;
     cache = omega (arith, cache);
     entries = λ h. entries_are d begun sized cache (reads.honest_is ∙ h);
     array = array;
-    back = handed_back view d.engine.nand reads;
+    back = handed_back d.engine.nand reads;
   }
 
 -- ---- a look at a larger cache, of a die whose pages are as they were

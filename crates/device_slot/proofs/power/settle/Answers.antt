@@ -11,7 +11,7 @@ pub returns-in-Err : goal.returns-in-Err
 returns-in-Err g c =
     let s = g.N.PageSource in
     let first = c.in_ok-device.ensures in
-    let its = brought s.view c.args.nand c.args.geometry.now c.args.stale s.view c.in_ok-device.device first.begun first.geometry first.capacity first.array first.reads in
+    let its = brought s.view c.args.nand c.args.geometry.now c.args.stale c.in_ok-device.device first.begun first.geometry first.capacity first.array first.reads in
     let then = c.flush.ensures in
     record {
       back = tt;
@@ -32,7 +32,7 @@ pub returns-in-Ok-clause-array : goal.returns-in-Ok-clause-array
 returns-in-Ok-clause-array g c =
     let s = g.N.PageSource in
     let first = c.in_ok-device.ensures in
-    let its = brought s.view c.args.nand c.args.geometry.now c.args.stale s.view c.in_ok-device.device first.begun first.geometry first.capacity first.array first.reads in
+    let its = brought s.view c.args.nand c.args.geometry.now c.args.stale c.in_ok-device.device first.begun first.geometry first.capacity first.array first.reads in
     let then = c.flush.ensures in
     flushed_same s.view c.args.nand c.args.geometry.now c.args.stale c.in_ok-device.device c.flush.new.self c.flush.result its then.geometry then.device then.upkeeps
     c.stop.result c.stop.ensures.nand c.in-Ok.ensures.ok
