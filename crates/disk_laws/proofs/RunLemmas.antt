@@ -262,11 +262,11 @@ module _ {N : Type 0} (die : View N) (old : Device N) where
   killed before mid log new found NoCall does m = inr (in_call [] old log new found NoCall does m)
   killed before mid log new found (OneMore earlier first more last run one) does m = elim ((stops_join old.engine.geometry.pages (image_on die old) found (earlier ++ more) log).0 m.by) [
     | inl here ↦ inl (killed earlier first more last found run one (record { whole = m.whole; by = here }))
-    | inr behind ↦
+    | inr store_behind ↦
         let so_far : DeviceCalls die old (earlier ++ more) last = OneMore earlier first more last run one in
         inr (in_call (earlier ++ more) last log new found so_far does (record {
           whole = m.whole;
-          by = subst (λ i. LeftBy old.engine.geometry.pages i log found) (run_image (earlier ++ more) last so_far) behind;
+          by = subst (λ i. LeftBy old.engine.geometry.pages i log found) (run_image (earlier ++ more) last so_far) store_behind;
         }))
   ]
 
@@ -375,9 +375,9 @@ module _ {N : Type 0} (die : View N) (old : Device N) where
           | inl here ↦
               let f = lost_run earlier first more last found run one (record { whole = m.whole; by = here }) in
               record { one = f.one; mounts = f.mounts; sectors = λ n within. inl (f.sectors n within) }
-          | inr behind ↦
+          | inr store_behind ↦
               lost_in (earlier ++ more) last log new found so_far does m.whole
-              (subst (λ i. LostBy old.engine.geometry.pages (lasting (earlier ++ more)) i log found) (run_image (earlier ++ more) last so_far) behind)
+              (subst (λ i. LostBy old.engine.geometry.pages (lasting (earlier ++ more)) i log found) (run_image (earlier ++ more) last so_far) store_behind)
         ]
 
 pub killed_run : {N : Type 0} (die : View N) → KilledRunLaw die

@@ -49,14 +49,14 @@ module _ (sync_when : SyncWhen) (found : Image) where
 
   same_behind : (g : Geometry) (start s mid : Held) (ops : List Operation) → Since g start s → mid ≡ s → Behind g mid ops → LostBy g.pages start.pages s.pages ops found
   unfolding Behind
-  same_behind g start s mid ops since same behind = subst (λ x. LostBy g.pages start.pages x.pages ops found) same (behind start (subst (Since g start) (sym same) since))
+  same_behind g start s mid ops since same store_behind = subst (λ x. LostBy g.pages start.pages x.pages ops found) same (store_behind start (subst (Since g start) (sym same) since))
 
   on_program : (g : Geometry) (start s mid : Held) (turn : Turn) (row : ℕ) (page : Page) (ops : List Operation) (b : Bool) → turn.due ≡ Programs row page → turn.done ≡ true → b ≡ may_program turn.flash row
       → Since g start s → ProgramsUnsound s turn.flash turn.due → Takes sync_when s turn mid → IfDue b (ProgramsIn s row page sync_when true mid) (mid ≡ s) → Behind g mid ops
       → LostBy g.pages start.pages s.pages ((if b then Program row page true page ∷ [] else []) ++ ops) found
   unfolding Behind image_after
-  on_program g start s mid turn row page ops false is done allowed since adds takes same behind = same_behind g start s mid ops since same behind
-  on_program g start s mid turn row page ops true is done allowed since adds takes puts behind =
+  on_program g start s mid turn row page ops false is done allowed since adds takes same store_behind = same_behind g start s mid ops since same store_behind
+  on_program g start s mid turn row page ops true is done allowed since adds takes puts store_behind =
       let alone : AddsAlone s turn.flash turn.due = subst (λ due. ProgramsUnsound s turn.flash due → AddsAlone s turn.flash due) (sym is) (λ h. h) adds in
       let now : Since g start mid = record {
         images = since.images;
@@ -65,27 +65,27 @@ module _ (sync_when : SyncWhen) (found : Image) where
         added = since.added ++ turn ∷ [];
         goes = adding_more sync_when start s mid since.added turn since.goes alone takes;
       } in
-      inr (subst (λ i. LostBy g.pages start.pages i ops found) (puts.puts.put refl) (behind start now))
+      inr (subst (λ i. LostBy g.pages start.pages i ops found) (puts.puts.put refl) (store_behind start now))
 
   on_erase : (g : Geometry) (start s mid : Held) (turn : Turn) (block : ℕ) (ops : List Operation) (b : Bool) → Since g start s → Takes sync_when s turn mid
       → IfDue b (ErasesInStore s block true mid) (mid ≡ s) → Behind g mid ops
       → LostBy g.pages start.pages s.pages ((if b then Erase block true (replicate g.pages (erased_page g)) ∷ [] else []) ++ ops) found
   unfolding Behind image_after
-  on_erase g start s mid turn block ops false since takes same behind = same_behind g start s mid ops since same behind
-  on_erase g start s mid turn block ops true since takes erases behind =
+  on_erase g start s mid turn block ops false since takes same store_behind = same_behind g start s mid ops since same store_behind
+  on_erase g start s mid turn block ops true since takes erases store_behind =
       let here = stays g start s since in
       let cleared : mid.pages ≡ with_block g.pages block (replicate g.pages (erased_page g)) s.pages =
       subst (λ (h : Geometry). mid.pages ≡ with_block h.pages block (replicate h.pages (erased_page h)) s.pages) here.0 (erases.clears.cleared refl) in
       let again : Since g mid mid = begin g mid (erases.clears.whole here.1) (takes.geometry ∙ here.0) (erases.after refl) in
-      inr (inr (subst (λ i. LostBy g.pages i i ops found) cleared (behind mid again)))
+      inr (inr (subst (λ i. LostBy g.pages i i ops found) cleared (store_behind mid again)))
 
   on_due : (g : Geometry) (start s mid : Held) (turn : Turn) (ops : List Operation) (due : Due) → turn.due ≡ due → turn.done ≡ true → Since g start s → ProgramsUnsound s turn.flash turn.due
       → Takes sync_when s turn mid → Leaves due turn.flash sync_when s true mid → Behind g mid ops → LostBy g.pages start.pages s.pages (operation_in g turn.flash due ++ ops) found
-  on_due g start s mid turn ops (Programs row page) is done since adds takes leaves behind = on_program g start s mid turn row page ops (may_program turn.flash row) is done refl since adds takes leaves behind
-  on_due g start s mid turn ops (Erases block) is done since adds takes leaves behind = on_erase g start s mid turn block ops (may_erase turn.flash block) since takes leaves behind
-  on_due g start s mid turn ops (Moves phase) is done since adds takes same behind = same_behind g start s mid ops since same behind
-  on_due g start s mid turn ops Resets is done since adds takes same behind = same_behind g start s mid ops since same behind
-  on_due g start s mid turn ops (Refuses fault) is done since adds takes same behind = same_behind g start s mid ops since same behind
+  on_due g start s mid turn ops (Programs row page) is done since adds takes leaves store_behind = on_program g start s mid turn row page ops (may_program turn.flash row) is done refl since adds takes leaves store_behind
+  on_due g start s mid turn ops (Erases block) is done since adds takes leaves store_behind = on_erase g start s mid turn block ops (may_erase turn.flash block) since takes leaves store_behind
+  on_due g start s mid turn ops (Moves phase) is done since adds takes same store_behind = same_behind g start s mid ops since same store_behind
+  on_due g start s mid turn ops Resets is done since adds takes same store_behind = same_behind g start s mid ops since same store_behind
+  on_due g start s mid turn ops (Refuses fault) is done since adds takes same store_behind = same_behind g start s mid ops since same store_behind
 
   all_done : (g : Geometry) (start s t : Held) (turns : List Turn) → t.durable ≡ found → Since g start s → GoesDone sync_when s turns t → LostBy g.pages start.pages s.pages (operations_in g turns) found
   unfolding Behind

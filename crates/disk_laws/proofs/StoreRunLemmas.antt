@@ -14,7 +14,7 @@ use Rattle.collection.specs.Log.{NumbersFrom}
 use Rattle.collection.proofs.Stops.{one_gain}
 use Rattle.file_die.specs.Store.{Held}
 use Rattle.ftl_device.specs.declared.device.Device.{Device}
-use Rattle.disk_laws.specs.Driven.{AddsOrErases, behind}
+use Rattle.disk_laws.specs.Driven.{AddsOrErases, store_behind}
 use Rattle.disk_laws.specs.Lost.{LostBy, MayLose}
 use Rattle.disk_laws.specs.Runs.{DeviceCalls, NoCall, OneMore, image_on}
 use Rattle.disk_server.specs.Opened.{view_in}
@@ -96,17 +96,17 @@ store_run held honest failed old new log run mid first later few stands calls mo
     let gains : Records (Some nand.told) (first ++ later) (Some new.engine.nand.told) =
     records_join (Some nand.told) (Some mid.told) (Some new.engine.nand.told) first later (tells held honest failed nand mid first calls) (tells held honest failed mid new.engine.nand later more) in
     let one : log ≡ first ++ later = one_gain (die.recorded nand) (die.recorded new.engine.nand) log (first ++ later) refl (run_records die old log new run) gains in
-    let sized : (behind held nand).geometry ≡ old.engine.geometry = stands.ready.geometry ∙ stands.disk.device.engine.geometry in
+    let sized : (store_behind held nand).geometry ≡ old.engine.geometry = stands.ready.geometry ∙ stands.disk.device.engine.geometry in
     let adds : AddsOrErases old.engine.geometry.pages (image_on die old) (first ++ later) =
     subst (AddsOrErases old.engine.geometry.pages (image_on die old)) one (run_adds die old log new run (subst ErasesPass (sym one) erases)) in
-    let before : AddsOrErases (behind held nand).geometry.pages (behind held nand).pages first =
-    subst (λ (g : Geometry). AddsOrErases g.pages (behind held nand).pages first) (sym sized) (adds_apart old.engine.geometry.pages (image_on die old) first later adds).0 in
+    let before : AddsOrErases (store_behind held nand).geometry.pages (store_behind held nand).pages first =
+    subst (λ (g : Geometry). AddsOrErases g.pages (store_behind held nand).pages first) (sym sized) (adds_apart old.engine.geometry.pages (image_on die old) first later adds).0 in
     let lost = loses held honest failed nand mid first stands.is_honest stands.images stands.lasted calls before in
-    let whole : MayLose old.engine.geometry (image_on die old) first (behind held mid).durable =
-    subst (λ g. MayLose g (behind held nand).pages first (behind held mid).durable) sized lost in
-    let all : MayLose old.engine.geometry (image_on die old) log (behind held mid).durable = record {
+    let whole : MayLose old.engine.geometry (image_on die old) first (store_behind held mid).durable =
+    subst (λ g. MayLose g (store_behind held nand).pages first (store_behind held mid).durable) sized lost in
+    let all : MayLose old.engine.geometry (image_on die old) log (store_behind held mid).durable = record {
       whole = whole.whole;
-      by = subst (λ l. LostBy old.engine.geometry.pages (image_on die old) (image_on die old) l (behind held mid).durable) (sym one)
-          (lost_first old.engine.geometry.pages (image_on die old) (image_on die old) (behind held mid).durable first later whole.by);
+      by = subst (λ l. LostBy old.engine.geometry.pages (image_on die old) (image_on die old) l (store_behind held mid).durable) (sym one)
+          (lost_first old.engine.geometry.pages (image_on die old) (image_on die old) (store_behind held mid).durable first later whole.by);
     } in
-    lost_run_law die old new log (behind held mid).durable run few all
+    lost_run_law die old new log (store_behind held mid).durable run few all

@@ -24,12 +24,12 @@ abbrev pub Acts : {S : Type 0} → (S → Held) → (honest : S → Bool) → (f
 Acts held honest failed old cycle answer out new = ActsOverStore held honest failed (due_of (held old.store).geometry old.phase cycle) old new answer
 
 -- the store behind a driver
-abbrev pub behind : {S : Type 0} → (S → Held) → DriverState (FileState S) → Held
-behind held d = held d.bus.store
+abbrev pub store_behind : {S : Type 0} → (S → Held) → DriverState (FileState S) → Held
+store_behind held d = held d.bus.store
 
 -- A DRIVER BETWEEN TWO CALLS knows the geometry of its die, on which no command is unfinished
 pub record StandsReady {S : Type 0} (held : S → Held) (d : DriverState (FileState S)) : Type 0 where
-  pub geometry : (behind held d).geometry ≡ d.geometry
+  pub geometry : (store_behind held d).geometry ≡ d.geometry
   pub ready : IsReady d.bus.phase
 
 -- A PROGRAM OF A PAGE, AN ERASE AND A READ, each by what a driver's contract says: which cycles it sent; where it was done the step of the die; and the operation that its record gained, or none
@@ -90,18 +90,18 @@ DriverTellsLaw {S} held honest failed = (old new : DriverState (FileState S)) (l
 
 -- WHAT LASTS OF AN HONEST STORE after calls, since all of its pages did, as after a sync, is what a loss of power may leave by the operations that the driver's record gained since
 abbrev pub DriverLosesLaw : {S : Type 0} → (S → Held) → (honest : S → Bool) → (failed : S → ℕ) → Type 0
-DriverLosesLaw {S} held honest failed = (old new : DriverState (FileState S)) (log : List Operation) → honest old.bus.store ≡ true → AreImages (behind held old) → (behind held old).durable ≡ (behind held old).pages
-    → DriverCalls held honest failed old log new → AddsOrErases (behind held old).geometry.pages (behind held old).pages log
-    → MayLose (behind held old).geometry (behind held old).pages log (behind held new).durable
+DriverLosesLaw {S} held honest failed = (old new : DriverState (FileState S)) (log : List Operation) → honest old.bus.store ≡ true → AreImages (store_behind held old) → (store_behind held old).durable ≡ (store_behind held old).pages
+    → DriverCalls held honest failed old log new → AddsOrErases (store_behind held old).geometry.pages (store_behind held old).pages log
+    → MayLose (store_behind held old).geometry (store_behind held old).pages log (store_behind held new).durable
 
 -- WHAT A CALL THAT WAS REFUSED LEAVES of an honest store's pages is what a stop may leave, by the operations that the record gained before it and the one at hand
 abbrev pub DriverStopsLaw : {S : Type 0} → (S → Held) → (honest : S → Bool) → (failed : S → ℕ) → Type 0
-DriverStopsLaw {S} held honest failed = (old mid new : DriverState (FileState S)) (log hand : List Operation) → honest old.bus.store ≡ true → AreImages (behind held old)
+DriverStopsLaw {S} held honest failed = (old mid new : DriverState (FileState S)) (log hand : List Operation) → honest old.bus.store ≡ true → AreImages (store_behind held old)
     → DriverCalls held honest failed old log mid → DriverFails held honest failed mid hand new
-    → MayLeave (behind held old).geometry (behind held old).pages (log ++ hand) (behind held new).pages
+    → MayLeave (store_behind held old).geometry (store_behind held old).pages (log ++ hand) (store_behind held new).pages
 
 -- and what lasts of the store behind it, since all of its pages did, is what a loss of power may leave by the same operations
 abbrev pub StopLosesLaw : {S : Type 0} → (S → Held) → (honest : S → Bool) → (failed : S → ℕ) → Type 0
-StopLosesLaw {S} held honest failed = (old mid new : DriverState (FileState S)) (log hand : List Operation) → honest old.bus.store ≡ true → AreImages (behind held old) → (behind held old).durable ≡ (behind held old).pages
-    → DriverCalls held honest failed old log mid → DriverFails held honest failed mid hand new → AddsOrErases (behind held old).geometry.pages (behind held old).pages (log ++ hand)
-    → MayLose (behind held old).geometry (behind held old).pages (log ++ hand) (behind held new).durable
+StopLosesLaw {S} held honest failed = (old mid new : DriverState (FileState S)) (log hand : List Operation) → honest old.bus.store ≡ true → AreImages (store_behind held old) → (store_behind held old).durable ≡ (store_behind held old).pages
+    → DriverCalls held honest failed old log mid → DriverFails held honest failed mid hand new → AddsOrErases (store_behind held old).geometry.pages (store_behind held old).pages (log ++ hand)
+    → MayLose (store_behind held old).geometry (store_behind held old).pages (log ++ hand) (store_behind held new).durable

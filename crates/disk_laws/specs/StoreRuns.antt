@@ -8,7 +8,7 @@ use Rattle.image_laws.specs.Power.{LosesSince}
 use Rattle.ftl_device.specs.declared.device.Device.{Device}
 use Rattle.disk_server.specs.Disk.{IsDisk}
 use Rattle.disk_server.specs.Opened.{view_in}
-use Rattle.disk_laws.specs.Driven.{DriverCalls, StandsReady, behind}
+use Rattle.disk_laws.specs.Driven.{DriverCalls, StandsReady, store_behind}
 use Rattle.disk_laws.specs.Runs.{DeviceCalls, HasNoCall, IsFoundAfterLoss, image_on}
 
 -- no erase in a log failed
@@ -22,8 +22,8 @@ pub record StandsSynced {S : Type 0} (held : S → Held) (honest : S → Bool) (
   pub disk : IsDisk (view_in held honest) d
   pub ready : StandsReady held d.engine.nand
   pub is_honest : honest d.engine.nand.bus.store ≡ true
-  pub images : AreImages (behind held d.engine.nand)
-  pub lasted : (behind held d.engine.nand).durable ≡ (behind held d.engine.nand).pages
+  pub images : AreImages (store_behind held d.engine.nand)
+  pub lasted : (store_behind held d.engine.nand).durable ≡ (store_behind held d.engine.nand).pages
 
 -- ---- law
 
@@ -32,5 +32,5 @@ abbrev pub StoreRunLaw : {S : Type 0} → (S → Held) → (honest : S → Bool)
 StoreRunLaw {S} held honest failed = (old new : Device (DriverState (FileState S))) (log : List Operation) (run : DeviceCalls (view_in held honest) old log new) (mid : DriverState (FileState S)) (first later : List Operation)
     → old.engine.mapping.capacity + old.engine.geometry.pages ≤ 65536 → StandsSynced held honest old
     → DriverCalls held honest failed old.engine.nand first mid → DriverCalls held honest failed mid later new.engine.nand → ErasesPass (first ++ later)
-    → (HasNoCall (view_in held honest) old log new run × LosesSince (image_on (view_in held honest) old) (image_on (view_in held honest) old) (behind held mid).durable)
-    ⊎ IsFoundAfterLoss (view_in held honest) old log new run (behind held mid).durable
+    → (HasNoCall (view_in held honest) old log new run × LosesSince (image_on (view_in held honest) old) (image_on (view_in held honest) old) (store_behind held mid).durable)
+    ⊎ IsFoundAfterLoss (view_in held honest) old log new run (store_behind held mid).durable
