@@ -10,13 +10,13 @@ use Rattle.page_layout.specs.Page.{Page, Image, IsPage, IsImage}
 use Rattle.page_layout.specs.Change.{erased_page}
 use Rattle.page_layout.specs.Counter.{counted}
 use Rattle.page_layout.specs.Flash.{Flash, TurnState, Program, Erase, Steps, IsWhole, after, after_program, after_erase, turn_at, may_program, may_erase, no_page, with_block}
-use Rattle.onfi_cycles.specs.Cycles.{Phase, Due, Moves, Ready, NoOutput, status_of}
+use Rattle.onfi_cycles.specs.Cycles.{Phase, Due, Moves, Ready, NoOutput, Follows, status_of}
 use Rattle.nand_die.proofs.PagesLemmas.{block_within, middle_part}
 use Rattle.file_die.specs.declared.die.SyncWhen.{SyncWhen}
 use Rattle.file_die.specs.Store.{Held, AreImages}
 use Rattle.nand_die.specs.declared.change.BlockTurn.{BlockTurn}
 use Rattle.nand_die.specs.Turns.{turn_of}
-use Rattle.file_die.specs.Die.{FileState, IsFit, ActsOverStore, change_ended}
+use Rattle.file_die.specs.Die.{FileState, IsFit, ActsOverStore, Asks, Leaves, change_ended, shown}
 
 -- a die of these parts
 abbrev of_parts : {S : Type 0} → S → List TurnState → ℕ → Phase → List ℕ → ℕ → SyncWhen → FileState S
@@ -37,6 +37,27 @@ pub fit_of : {S : Type 0} → (held : S → Held) (honest : S → Bool) (store :
 fit_of held honest store turns abuse phase register status sync_when d g is same images blocks =
     subst (IsFit held honest) is (record { images = images; blocks = length-map turns turn_of ∙ (blocks ∙ ap (λ (x : Geometry). x.blocks) (sym same)) })
 
+-- the store was asked nothing
+pub asks_none : {S : Type 0} → (held : S → Held) (honest : S → Bool) (failed : S → ℕ) (store : S) → Asks held honest failed store store (Ok tt)
+asks_none held honest failed store = record { geometry = refl; as_honest = refl; rising = omega arith; settled = refl; rose = tt; device = tt }
+
+-- a cycle that was done, by what the store was asked
+pub acts_done : {S : Type 0} → (held : S → Held) (honest : S → Bool) (failed : S → ℕ) (due : Due) (d e : FileState S) → e.sync_when ≡ d.sync_when → Asks held honest failed d.store e.store (Ok tt)
+    → (honest d.store ≡ true → Follows {A = Unit {0}} due (shown held d) (shown held e) (Ok tt)) → (honest d.store ≡ true → Leaves due (shown held d).flash d.sync_when (held d.store) true (held e.store))
+    → (honest d.store ≡ true → IsWhole (shown held e).flash) → ActsOverStore held honest failed due d e (Ok tt)
+acts_done held honest failed due d e same asks follows leaves whole = record {
+  follows = follows;
+  leaves = leaves;
+  whole = whole;
+  geometry = asks.geometry;
+  sync_when = same;
+  as_honest = asks.as_honest;
+  rising = asks.rising;
+  rose = tt;
+  settled = asks.settled;
+  uncounted = tt;
+}
+
 -- a cycle that moves on, with another register or the same
 pub acts_moves : {S : Type 0} → (held : S → Held) (honest : S → Bool) (failed : S → ℕ) (due : Geometry → Phase → Due) (store : S) (turns : List TurnState) (abuse : ℕ) (phase : Phase) (register : List ℕ) (status : ℕ) (sync_when : SyncWhen)
     → (d : FileState S) (g : Geometry) (phase' : Phase) (register' : List ℕ) → of_parts store turns abuse phase register status sync_when ≡ d → (held store).geometry ≡ g → due g phase ≡ Moves phase'
@@ -46,18 +67,8 @@ acts_moves held honest failed due store turns abuse phase register status sync_w
     let new = of_parts store turns abuse phase' register' status sync_when in
     subst (λ v. ActsOverStore held honest failed (due (held v.store).geometry v.phase) v new (Ok tt)) is
     (subst (λ u. ActsOverStore held honest failed u old new (Ok tt)) (sym (ap (λ x. due x phase) same ∙ to))
-    (record {
-      follows = λ h. refl;
-      leaves = λ h. refl;
-      whole = λ h. record { image_whole = (images h).pages_whole; turns_whole = blocks ∙ ap (λ (x : Geometry). x.blocks) (sym same) };
-      geometry = refl;
-      sync_when = refl;
-      as_honest = refl;
-      rising = omega arith;
-      rose = tt;
-      settled = refl;
-      uncounted = tt;
-    }))
+    (acts_done held honest failed (Moves phase') old new refl (asks_none held honest failed store) (λ h. refl) (λ h. refl)
+    (λ h. record { image_whole = (images h).pages_whole; turns_whole = blocks ∙ ap (λ (x : Geometry). x.blocks) (sym same) })))
 
 pub not_legal : (legal : Bool) (a b n : ℕ) → not legal ≡ true → n ≡ counted b → n ≡ (if legal then a else counted b)
 not_legal true a b n e is = let no : ⊥ = cc in absurd no

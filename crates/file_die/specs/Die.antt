@@ -3,15 +3,13 @@ use Rattle.std.specs.Prelude.{◌≡◌, ◌≢◌, ◌⊎◌, ◌≤◌, ◌/�
 use Rattle.page_layout.specs.declared.geometry.Geometry.{Geometry}
 use Rattle.page_layout.specs.Geometry.{page_bytes}
 use Rattle.page_layout.specs.Page.{Page}
-use Rattle.page_layout.specs.Flash.{Flash, TurnState, IsWhole, page_at, may_program, may_erase}
-use Rattle.page_layout.specs.Raw.{bytes_of_page}
+use Rattle.page_layout.specs.Flash.{Flash, TurnState, IsWhole, may_program, may_erase}
 use Rattle.page_layout.specs.Counter.{counted, HasRisen}
 use Rattle.onfi_cycles.specs.Cycles.{DieState, Phase, Due, Moves, Resets, Programs, Erases, Refuses, Follows, IsCounted, IsUncounted, Ready, NoOutput, page_of, given_up, status_of}
 use Rattle.onfi_cycles.specs.declared.nand.BusFault.{BusFault}
 use Rattle.onfi_cycles.specs.declared.nand.BusFault.TheVariants.{Device}
 use Rattle.nand_die.specs.declared.bus_state.BusState.{BusState}
 use Rattle.nand_die.specs.declared.bus_state.BusState.TheVariants as stands
-use Rattle.nand_die.specs.declared.bus_state.OutputSource.{OutputSource}
 use Rattle.nand_die.specs.declared.bus_state.OutputSource.TheVariants as source
 use Rattle.nand_die.specs.declared.change.BlockTurn.{BlockTurn}
 use Rattle.nand_die.specs.BusState.{IsWithin}
@@ -53,14 +51,6 @@ pub record AreParts (s : Held) (honest : Bool) (g : Geometry) (register buffer :
 pub record IsFit {S : Type 0} (held : S → Held) (honest : S → Bool) (d : FileState S) : Type 0 where
   pub images : honest d.store ≡ true → AreImages (held d.store)
   pub blocks : length d.turns ≡ (held d.store).geometry.blocks
-
--- the bytes are those of the page that is put out, where one is
-abbrev pub Shows : Flash → OutputSource → List ℕ → Type 0
-Shows s source.Nothing bytes = Unit {0}
-Shows s (source.Page row column) bytes = bytes_of_page (page_at s row) ≡ bytes
-Shows s source.Status bytes = Unit {0}
-Shows s (source.Identity taken) bytes = Unit {0}
-Shows s (source.Zeros taken) bytes = Unit {0}
 
 -- the die with this store
 abbrev pub with_store : {S : Type 0} → S → FileState S → FileState S

@@ -10,11 +10,10 @@ ghost use Rattle.file_die.specs.Open.{newly_opened, OnlyLooks, IsCause, CountsAs
 
 use crate::asks;
 use crate::open::{OpenDieFault, Parts, parts_of};
-use crate::output::put_out_at;
 use crate::store::Store;
 use nand_die::{
     AddressStep, BlockTurn, BusState, Change, CommandStep, OutputSource, address_step, change_of,
-    command_step, data_place, erased, is_due, programmed,
+    command_step, data_place, erased, is_due, programmed, put_out_at,
 };
 use onfi_cycles::{Bus, BusFault};
 use page_layout::geometry::Geometry;

@@ -22,7 +22,6 @@ mod memory_bytes;
 mod memory_store;
 mod moves;
 mod open;
-mod output;
 mod row_file;
 mod store;
 

@@ -1,10 +1,7 @@
 //! A store in memory.
-ghost use Rattle.std.specs.Prelude.{◌≡◌, ◌≢◌, ◌<◌, ◌*◌, length, replicate, slice_set, IfSome, IfNone, OnSome};
+ghost use Rattle.std.specs.Prelude.{◌≡◌, ◌≢◌, ◌*◌, length, IfSome, IfNone, OnSome};
 ghost use Rattle.page_layout.specs.Geometry.{row_count, page_bytes};
 ghost use Rattle.page_layout.specs.Raw.{raw_image, IsRaw};
-ghost use Rattle.page_layout.specs.Change.{erased_page};
-ghost use Rattle.page_layout.specs.Flash.{with_block};
-ghost use Rattle.onfi_cycles.specs.Cycles.{page_of};
 ghost use Rattle.file_die.specs.Memory.{Memory, standing};
 
 use crate::store::{Store, StoreFault};
@@ -29,27 +26,6 @@ impl Model for MemoryStore {
     } };
 
     ghost invariant = { λ s. IsRaw s.geometry s.bytes.items };
-}
-
-// Sets the page of a row.
-fn set_page(bytes: &mut [u8], geometry: &Geometry, row: u32, page: &[u8])
-    requires in_range { row < row_count geometry.now }
-    requires whole { length bytes.old ≡ row_count geometry.now * page_bytes geometry.now }
-    requires page { length page.now ≡ page_bytes geometry.now }
-    ensures raw { IsRaw geometry.now bytes.new }
-    ensures image { raw_image geometry.now bytes.new ≡ slice_set (raw_image geometry.now bytes.old) row (page_of geometry.now page.now) }
-{
-    write_page(bytes, geometry, row, page);
-}
-
-// Erases the pages of a block.
-fn clear_block(bytes: &mut [u8], geometry: &Geometry, block: u32)
-    requires in_range { block < geometry.now.blocks }
-    requires whole { length bytes.old ≡ row_count geometry.now * page_bytes geometry.now }
-    ensures raw { IsRaw geometry.now bytes.new }
-    ensures image { raw_image geometry.now bytes.new ≡ with_block geometry.now.pages block (replicate geometry.now.pages (erased_page geometry.now)) (raw_image geometry.now bytes.old) }
-{
-    erase_pages(bytes, geometry, block);
 }
 
 impl MemoryStore {
@@ -82,12 +58,12 @@ impl Store for MemoryStore {
     }
 
     fn put(&mut self, row: u32, page: &[u8]) -> Result<(), StoreFault> {
-        set_page(&mut self.bytes, &self.geometry, row, page);
+        write_page(&mut self.bytes, &self.geometry, row, page);
         Ok(())
     }
 
     fn clear(&mut self, block: u32) -> Result<(), StoreFault> {
-        clear_block(&mut self.bytes, &self.geometry, block);
+        erase_pages(&mut self.bytes, &self.geometry, block);
         Ok(())
     }
 

@@ -1,16 +1,15 @@
 //! How a die over a store is begun.
-ghost use Rattle.std.specs.Prelude.{◌≡◌, ◌⊎◌, ◌<◌, ◌≤◌, true, false, [], ℕ, List, length, map, replicate, slice_set, get_or, IfOk, IfErr, IfSome, IfNone, OnOk, OnErr};
+ghost use Rattle.std.specs.Prelude.{◌≡◌, ◌<◌, true, [], ℕ, List, length, map, replicate, IfOk, IfErr, OnOk};
 ghost use Rattle.page_layout.specs.Geometry.{row_count, page_bytes};
 ghost use Rattle.page_layout.specs.Sound.{is_erased_page};
-ghost use Rattle.page_layout.specs.Flash.{no_turn};
 ghost use Rattle.nand_die.specs.Turns.{turn_of};
-ghost use Rattle.nand_die.specs.Made.{AreNames, IsFirstMisnamed, first_turn, first_turns, barred_turn, next_in};
+ghost use Rattle.nand_die.specs.Made.{AreNames, IsFirstMisnamed, first_turns, next_in};
 ghost use Rattle.file_die.specs.Store.{page_in};
 ghost use Rattle.file_die.specs.Open.{OnlyLooks, Counts, IsCause};
 
 use crate::asks::load;
 use crate::store::Store;
-use nand_die::{BlockTurn, page_length};
+use nand_die::{BlockTurn, bar_all, new_turns, page_length};
 use page_layout::geometry::Geometry;
 use page_layout::record::is_erased;
 use std::alloc::Global;
@@ -49,25 +48,13 @@ fn blank(alloc: Global, geometry: &Geometry) -> Result<Vec<u8>, OpenDieFault>
     }
 }
 
-// The turn of a block of which nothing was asked.
-fn turn_from(next: u32) -> BlockTurn
-    ensures { turn_of result ≡ first_turn next false }
-{
-    BlockTurn {
-        next,
-        barred: false,
-        programs: 0,
-        erases: 0,
-    }
-}
-
 // A turn for each block.
-fn new_turns(alloc: Global, geometry: &Geometry) -> Result<Vec<BlockTurn>, OpenDieFault>
+fn turns_for(alloc: Global, geometry: &Geometry) -> Result<Vec<BlockTurn>, OpenDieFault>
     ensures ok { IfOk result (λ turns. map turn_of turns.items ≡ first_turns geometry.now (λ block. 0) []) }
     ensures len { IfOk result (λ turns. length turns.items ≡ geometry.now.blocks) }
     ensures err { IfErr result (λ fault. fault ≡ OpenDieFault.OutOfMemory) }
 {
-    match vec![in alloc; turn_from(0); geometry.blocks() as usize] {
+    match new_turns(alloc, geometry) {
         Ok(turns) => Ok(turns),
         Err(_) => Err(OpenDieFault::OutOfMemory),
     }
@@ -121,35 +108,18 @@ fn next_page<S: Store>(
     Ok(0)
 }
 
-// Names a block bad, where it lies in the die and was not named before.
-fn bar(turns: &mut [BlockTurn], block: u32) -> Result<(), OpenDieFault>
-    ensures ok { OnOk result ((block < length turns.old) × ((get_or (map turn_of turns.old) block no_turn).barred ≡ false)
-        × (map turn_of turns.new ≡ slice_set (map turn_of turns.old) block (barred_turn (get_or (map turn_of turns.old) block no_turn)))) }
-    ensures err { IfErr result (λ fault. (fault ≡ OpenDieFault.BadBlock block) × ((length turns.old ≤ block) ⊎ ((get_or (map turn_of turns.old) block no_turn).barred ≡ true))) }
-{
-    if block as usize >= turns.len() {
-        return Err(OpenDieFault::BadBlock { block });
-    }
-    let turn = &mut turns[block as usize];
-    if turn.barred {
-        return Err(OpenDieFault::BadBlock { block });
-    }
-    turn.barred = true;
-    Ok(())
-}
-
-// Names blocks bad.
-fn bar_all(turns: &mut [BlockTurn], geometry: &Geometry, bad: &[u32]) -> Result<(), OpenDieFault>
+// Names blocks bad, where none was yet.
+fn name_bad(turns: &mut [BlockTurn], geometry: &Geometry, bad: &[u32]) -> Result<(), OpenDieFault>
     requires blocks { length turns.old ≡ geometry.now.blocks }
     requires fresh { map turn_of turns.old ≡ first_turns geometry.now (λ block. 0) [] }
     ensures turns { OnOk result (map turn_of turns.new ≡ first_turns geometry.now (λ block. 0) bad.now) }
     ensures named { OnOk result (AreNames geometry.now bad.now) }
     ensures err { IfErr result (λ fault. (block : ℕ) × (fault ≡ OpenDieFault.BadBlock block) × IsFirstMisnamed geometry.now bad.now block) }
 {
-    for block in bad {
-        bar(turns, *block)?;
+    match bar_all(turns, geometry, bad) {
+        Ok(()) => Ok(()),
+        Err(block) => Err(OpenDieFault::BadBlock { block }),
     }
-    Ok(())
 }
 
 // Finds the next page of each block of a store.
@@ -186,7 +156,7 @@ fn new_parts(alloc: Global, geometry: &Geometry) -> Result<Parts, OpenDieFault>
     Ok(Parts {
         register: blank(alloc, geometry)?,
         page: blank(alloc, geometry)?,
-        turns: new_turns(alloc, geometry)?,
+        turns: turns_for(alloc, geometry)?,
     })
 }
 
@@ -209,7 +179,7 @@ pub fn parts_of<S: Store>(
     ensures err { IfErr result (IsCause geometry.now bad.now) }
 {
     let mut parts = new_parts(alloc, geometry)?;
-    bar_all(&mut parts.turns, geometry, bad)?;
+    name_bad(&mut parts.turns, geometry, bad)?;
     find_next_pages(&mut parts.turns, store, geometry, &mut parts.page)?;
     Ok(parts)
 }

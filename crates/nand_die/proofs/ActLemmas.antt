@@ -1,5 +1,5 @@
 -- What a die does is a case of the protocol.
-use Rattle.std.proofs.Common.{◌≡◌, ◌⊎◌, inl, inr, ℕ, zero, suc, ◌+◌, ◌*◌, ◌<◌, ◌≤◌, ◌==◌, Bool, true, false, not, ◌&&◌, List, [], ◌∷◌, ◌++◌, take}
+use Rattle.std.proofs.Common.{◌≡◌, ◌⊎◌, inl, inr, ℕ, zero, suc, ◌+◌, ◌-◌, ◌*◌, ◌<◌, ◌≤◌, ◌==◌, Bool, true, false, not, ◌&&◌, List, [], ◌∷◌, ◌++◌, take}
 use Rattle.std.proofs.Common.{drop, length, refl, sym, ◌∙◌, ap, subst, arith, get_or, if◌then◌else◌, nat_lt, Ok, Err, length-drop, length-append}
 use Rattle.std.proofs.Common.{append_assoc, None, Some, Option}
 use Rattle.std.specs.Prelude.{is_some}
@@ -23,6 +23,7 @@ use Rattle.onfi_cycles.specs.declared.nand.BusFault.TheVariants.{NoReset, Unknow
 use Rattle.nand_die.specs.declared.fault.Fault.{Fault}
 use Rattle.nand_die.specs.declared.bus_state.BusState.{BusState}
 use Rattle.nand_die.specs.declared.bus_state.BusState.TheVariants as state
+use Rattle.nand_die.specs.declared.bus_state.OutputSource.TheVariants as source
 use Rattle.nand_die.specs.declared.change.BlockTurn.{BlockTurn}
 use Rattle.nand_die.specs.BusState.{IsProtocolFault, phase_of}
 use Rattle.nand_die.specs.Faults.{fault_at, left_by, IsPageLeft, ArePagesLeft}
@@ -48,6 +49,34 @@ left_if g false f o h k = k
 pub left_at : (g : Geometry) (faults : List Fault) (n : ℕ) → ArePagesLeft g faults → IsPageLeft g (left_by (fault_at faults n))
 left_at g [] n h = record { size = λ l. absurd (omega (arith, l)); unsound = λ l. absurd (omega (arith, l)) }
 left_at g (f ∷ fs) n h = left_if g (f.nth_change == n) f (fault_at fs n) h.0 (left_at g fs n h.1)
+
+-- what the next fault leaves is as long as a page, where it leaves any bytes
+pub struck_size : (i : Inside) (fs : List Fault) (left : List ℕ) → AreFields i.geometry i.bytes.items i.register.items i.turns.items i.bus_state i.faults.items
+    → left ≡ left_by (fault_at fs (i.counts.asked + 1)) → fs ≡ i.faults.items → 0 < length left → length left ≡ page_bytes i.geometry
+struck_size i fs left fit is same =
+    (subst (IsPageLeft i.geometry) (sym (is ∙ ap (λ gs. left_by (fault_at gs (i.counts.asked + 1))) same)) (left_at i.geometry i.faults.items (i.counts.asked + 1) fit.left)).size
+
+-- other pages in the fields
+pub pages_changed : (i : Inside) (bytes bytes' : List ℕ) → AreFields i.geometry i.bytes.items i.register.items i.turns.items i.bus_state i.faults.items → bytes' ≡ bytes → IsRaw i.geometry bytes
+    → AreFields i.geometry bytes' i.register.items i.turns.items i.bus_state i.faults.items
+pages_changed i bytes bytes' fit is raw = record {
+  raw = subst (IsRaw i.geometry) (sym is) raw;
+  register_whole = fit.register_whole;
+  blocks = fit.blocks;
+  within = fit.within;
+  left = fit.left;
+}
+
+-- the same after a program or an erase: other turns too, and nothing is put out
+pub change_fits : (i : Inside) (bytes bytes' : List ℕ) (turns turns' : List BlockTurn) → AreFields i.geometry i.bytes.items i.register.items i.turns.items i.bus_state i.faults.items → bytes' ≡ bytes → turns' ≡ turns
+    → IsRaw i.geometry bytes → length turns ≡ i.geometry.blocks → AreFields i.geometry bytes' i.register.items turns' (state.Ready source.Nothing) i.faults.items
+change_fits i bytes bytes' turns turns' fit is are raw blocks = record {
+  raw = subst (IsRaw i.geometry) (sym is) raw;
+  register_whole = fit.register_whole;
+  blocks = ap length are ∙ blocks;
+  within = tt;
+  left = fit.left;
+}
 
 -- an array of the right length is whole
 pub whole_of : (g : Geometry) (bytes : List ℕ) (turns : List BlockTurn) (abuse : ℕ) → IsRaw g bytes → length turns ≡ g.blocks → IsWhole (flash_of g bytes turns abuse)
@@ -324,16 +353,31 @@ pub fields_whole : (i : Inside) → AreFields i.geometry i.bytes.items i.registe
 fields_whole i fit = whole_of i.geometry i.bytes.items i.turns.items i.counts.abuse fit.raw fit.blocks
 
 -- a register in which bytes were written
-pub replaced_so : (register here bytes written : List ℕ) (column k : ℕ) → here ≡ register → written ≡ bytes → k ≡ length bytes → take column here ++ (written ++ drop k (drop column here)) ≡ replaced register column bytes
+replaced_so : (register here bytes written : List ℕ) (column k : ℕ) → here ≡ register → written ≡ bytes → k ≡ length bytes → take column here ++ (written ++ drop k (drop column here)) ≡ replaced register column bytes
 replaced_so register here bytes written column k e f is_k =
     ap (λ r. take column r ++ (written ++ drop k (drop column r))) e ∙ (ap (λ b. take column register ++ (b ++ drop k (drop column register))) f ∙ (ap (λ n. take column register ++ (bytes ++ drop n (drop column register))) is_k
     ∙ (ap (λ r. take column register ++ (bytes ++ r)) (drop-drop (length bytes) column register) ∙ sym (append_assoc (take column register) bytes (drop (column + length bytes) register)))))
 
-pub written_length : (here written : List ℕ) (column k : ℕ) → length written ≡ k → column + k ≤ length here → length (take column here ++ (written ++ drop k (drop column here))) ≡ length here
+written_length : (here written : List ℕ) (column k : ℕ) → length written ≡ k → column + k ≤ length here → length (take column here ++ (written ++ drop k (drop column here))) ≡ length here
 written_length here written column k e le =
     omega (arith, length-append (take column here) (written ++ drop k (drop column here)), length-append written (drop k (drop column here)), length-take-le column here (omega (arith, le)), length-drop k (drop column here), length-drop column here, e, le)
 
 -- data that fits in is taken
-pub load_in : (g : Geometry) (row column : ℕ) (register bytes : List ℕ) → column + length bytes ≤ page_bytes g → data_in_due g (Loading row column register) bytes ≡ Moves (Loading row (column + length bytes) (replaced register column bytes))
+load_in : (g : Geometry) (row column : ℕ) (register bytes : List ℕ) → column + length bytes ≤ page_bytes g → data_in_due g (Loading row column register) bytes ≡ Moves (Loading row (column + length bytes) (replaced register column bytes))
 unfolding data_in_due
 load_in g row column register bytes le = ap (λ b. if b then Moves (Loading row (column + length bytes) (replaced register column bytes)) else Refuses ColumnRange) (le-leb (column + length bytes) (page_bytes g) le)
+
+-- bytes that fit in, taken into a register
+pub taken_in : (g : Geometry) (register here bytes written : List ℕ) (w : BusState) (row column : ℕ) → (w ≡ state.Loading row column) × (column + length bytes ≤ page_bytes g)
+    → length register ≡ page_bytes g → here ≡ register → written ≡ bytes
+    → (data_in_due g (phase_of register w) bytes ≡ Moves (Loading row (column + length bytes) (replaced register column bytes)))
+    × (length (take column here ++ (written ++ drop (column + length bytes - column) (drop column here))) ≡ length here)
+    × (take column here ++ (written ++ drop (column + length bytes - column) (drop column here)) ≡ replaced register column bytes)
+taken_in g register here bytes written w row column fits whole e f =
+    let n : ℕ = column + length bytes - column in
+    let is_n : n ≡ length bytes = omega arith in
+    let size : length here ≡ page_bytes g = ap length e ∙ whole in (
+      ap (λ (u : BusState). data_in_due g (phase_of register u) bytes) fits.0 ∙ load_in g row column register bytes fits.1,
+      written_length here written column n (ap length f ∙ sym is_n) (omega (arith, fits.1, size)),
+      replaced_so register here bytes written column n e f is_n,
+    )

@@ -145,6 +145,22 @@ last_part u v w a b e f = ap (λ k. drop (k + b) (u ++ (v ++ w))) (sym e) ∙ (d
 pub middle_part : (u v w : List Page) (a b : ℕ) → length u ≡ a → length v ≡ b → take b (drop a (u ++ (v ++ w))) ≡ v
 middle_part u v w a b e f = ap (λ k. take b (drop k (u ++ (v ++ w)))) (sym e) ∙ (ap (take b) (drop-append_seam u (v ++ w)) ∙ (ap (λ k. take k (v ++ w)) (sym f) ∙ take-append_seam v w))
 
+-- the pages of three parts of an array
+three_parts : (g : Geometry) (a b m : ℕ) (xs : List ℕ) → length xs ≡ (a + (b + m)) * page_bytes g
+    → pages_of g (a + (b + m)) xs
+    ≡ pages_of g a (take (a * page_bytes g) xs) ++ (pages_of g b (take (b * page_bytes g) (drop (a * page_bytes g) xs)) ++ pages_of g m (drop (b * page_bytes g) (drop (a * page_bytes g) xs)))
+three_parts g a b m xs lx =
+    let z : ℕ = page_bytes g in
+    let u : List ℕ = take (a * z) xs in
+    let t : List ℕ = drop (a * z) xs in
+    let v : List ℕ = take (b * z) t in
+    let total : (a + (b + m)) * z ≡ a * z + (b * z + m * z) = omega arith in
+    let lu : length u ≡ a * z = length-take-le (a * z) xs (omega (arith, lx, total)) in
+    let lt : length t ≡ b * z + m * z = omega (arith, lx, total, length-drop (a * z) xs) in
+    let lv : length v ≡ b * z = length-take-le (b * z) t (omega (arith, lt)) in
+    ap (pages_of g (a + (b + m))) (sym (take-append-drop (a * z) xs)) ∙ (pages_append g a (b + m) u t lu
+    ∙ ap (λ ps. pages_of g a u ++ ps) (ap (pages_of g (b + m)) (sym (take-append-drop (b * z) t)) ∙ pages_append g b m v (drop (b * z) t) lv))
+
 -- other bytes in the place of some pages
 put_pages : (g : Geometry) (a b m : ℕ) (xs ys : List ℕ) → length xs ≡ (a + (b + m)) * page_bytes g → length ys ≡ b * page_bytes g
     → pages_of g (a + (b + m)) (put (a * page_bytes g) (b * page_bytes g) xs ys)
@@ -153,16 +169,11 @@ put_pages g a b m xs ys lx ly =
     let z : ℕ = page_bytes g in
     let n : ℕ = a + (b + m) in
     let u : List ℕ = take (a * z) xs in
-    let t : List ℕ = drop (a * z) xs in
-    let v : List ℕ = take (b * z) t in
-    let w : List ℕ = drop (b * z) t in
+    let v : List ℕ = take (b * z) (drop (a * z) xs) in
+    let w : List ℕ = drop (b * z) (drop (a * z) xs) in
     let total : n * z ≡ a * z + (b * z + m * z) = omega arith in
     let lu : length u ≡ a * z = length-take-le (a * z) xs (omega (arith, lx, total)) in
-    let lt : length t ≡ b * z + m * z = omega (arith, lx, total, length-drop (a * z) xs) in
-    let lv : length v ≡ b * z = length-take-le (b * z) t (omega (arith, lt)) in
-    let parts : pages_of g n xs ≡ pages_of g a u ++ (pages_of g b v ++ pages_of g m w)
-    = ap (pages_of g n) (sym (take-append-drop (a * z) xs)) ∙ (pages_append g a (b + m) u t lu
-    ∙ ap (λ ps. pages_of g a u ++ ps) (ap (pages_of g (b + m)) (sym (take-append-drop (b * z) t)) ∙ pages_append g b m v w lv)) in
+    let parts : pages_of g n xs ≡ pages_of g a u ++ (pages_of g b v ++ pages_of g m w) = three_parts g a b m xs lx in
     let front : take a (pages_of g n xs) ≡ pages_of g a u = ap (take a) parts ∙ first_part _ (pages_of g b v) (pages_of g m w) a (length-pages_of g a u) in
     let back : drop (a + b) (pages_of g n xs) ≡ pages_of g m w = ap (drop (a + b)) parts ∙ last_part _ (pages_of g b v) (pages_of g m w) a b (length-pages_of g a u) (length-pages_of g b v) in
     pages_append g a (b + m) u (ys ++ w) lu ∙ (ap (λ ps. pages_of g a u ++ ps) (pages_append g b m ys w ly)
@@ -196,25 +207,13 @@ pub block_read : (g : Geometry) (block start size : ℕ) (xs : List ℕ) → blo
     → take g.pages (drop (block * g.pages) (raw_image g xs)) ≡ pages_of g g.pages (take size (drop start xs))
 block_read g block start size xs le is_start is_size lx =
     let z : ℕ = page_bytes g in
-    let n : ℕ = row_count g in
     let a : ℕ = block * g.pages in
     let b : ℕ = g.pages in
-    let m : ℕ = n - (a + b) in
-    let k : n ≡ a + (b + m) = omega (arith, le) in
-    let u : List ℕ = take (a * z) xs in
+    let m : ℕ = row_count g - (a + b) in
+    let k : row_count g ≡ a + (b + m) = omega (arith, le) in
     let t : List ℕ = drop (a * z) xs in
-    let v : List ℕ = take (b * z) t in
-    let w : List ℕ = drop (b * z) t in
-    let total : (a + (b + m)) * z ≡ a * z + (b * z + m * z) = omega arith in
-    let whole : length xs ≡ (a + (b + m)) * z = lx ∙ ap (λ j. j * z) k in
-    let lu : length u ≡ a * z = length-take-le (a * z) xs (omega (arith, whole, total)) in
-    let lt : length t ≡ b * z + m * z = omega (arith, whole, total, length-drop (a * z) xs) in
-    let lv : length v ≡ b * z = length-take-le (b * z) t (omega (arith, lt)) in
-    let parts : pages_of g (a + (b + m)) xs ≡ pages_of g a u ++ (pages_of g b v ++ pages_of g m w)
-    = ap (pages_of g (a + (b + m))) (sym (take-append-drop (a * z) xs)) ∙ (pages_append g a (b + m) u t lu
-    ∙ ap (λ ps. pages_of g a u ++ ps) (ap (pages_of g (b + m)) (sym (take-append-drop (b * z) t)) ∙ pages_append g b m v w lv)) in
-    ap (λ ps. take b (drop a ps)) (raw_image_is g xs ∙ (ap (λ j. pages_of g j xs) k ∙ parts))
-    ∙ (middle_part (pages_of g a u) (pages_of g b v) (pages_of g m w) a b (length-pages_of g a u) (length-pages_of g b v)
+    ap (λ ps. take b (drop a ps)) (raw_image_is g xs ∙ (ap (λ j. pages_of g j xs) k ∙ three_parts g a b m xs (lx ∙ ap (λ j. j * z) k)))
+    ∙ (middle_part (pages_of g a (take (a * z) xs)) (pages_of g b (take (b * z) t)) (pages_of g m (drop (b * z) t)) a b (length-pages_of g a (take (a * z) xs)) (length-pages_of g b (take (b * z) t))
     ∙ (ap (λ j. pages_of g b (take j t)) (sym is_size) ∙ ap (λ j. pages_of g b (take size (drop j xs))) (sym is_start)))
 
 -- a block lies in the array

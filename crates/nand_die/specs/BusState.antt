@@ -2,6 +2,8 @@
 use Rattle.std.specs.Prelude.{◌≡◌, ◌≢◌, ℕ, ◌<◌, ◌≤◌, List, [], ◌∷◌, drop, replicate}
 use Rattle.page_layout.specs.declared.geometry.Geometry.{Geometry}
 use Rattle.page_layout.specs.Geometry.{row_count, page_bytes}
+use Rattle.page_layout.specs.Raw.{bytes_of_page}
+use Rattle.page_layout.specs.Flash.{Flash, page_at}
 use Rattle.onfi_cycles.specs.Cycles as cycles
 use Rattle.onfi_cycles.specs.declared.nand.BusFault.{BusFault}
 use Rattle.onfi_cycles.specs.declared.nand.BusFault.TheVariants.{Device}
@@ -82,6 +84,14 @@ abbrev pub column_progress_due : (ℕ → cycles.Phase) → cycles.Purpose → A
 column_progress_due to purpose (progress.More bytes) = cycles.Moves (cycles.Taking purpose (address_bytes bytes))
 column_progress_due to purpose (progress.Complete row column) = cycles.Moves (to column)
 column_progress_due to purpose (progress.Refused fault) = cycles.Refuses fault
+
+-- the bytes are those of the page that is put out, where one is
+abbrev pub Shows : Flash → OutputSource → List ℕ → Type 0
+Shows s source.Nothing bytes = Unit {0}
+Shows s (source.Page row column) bytes = bytes_of_page (page_at s row) ≡ bytes
+Shows s source.Status bytes = Unit {0}
+Shows s (source.Identity taken) bytes = Unit {0}
+Shows s (source.Zeros taken) bytes = Unit {0}
 
 -- ---- what holds of them
 

@@ -29,22 +29,12 @@ pub fn write_page(bytes: &mut [u8], geometry: &Geometry, row: u32, page: &[u8])
     requires in_range { row < row_count geometry.now }
     requires whole { length bytes.old ≡ row_count geometry.now * page_bytes geometry.now }
     requires page { length page.now ≡ page_bytes geometry.now }
-    ensures { raw_image geometry.now bytes.new ≡ slice_set (raw_image geometry.now bytes.old) row (page_of geometry.now page.now) }
+    ensures raw { IsRaw geometry.now bytes.new }
+    ensures image { raw_image geometry.now bytes.new ≡ slice_set (raw_image geometry.now bytes.old) row (page_of geometry.now page.now) }
 {
     let size = page_length(geometry);
     let start = row as usize * size;
     bytes[start..start + size].copy_from_slice(page);
-}
-
-// Leaves a page in its place, torn.
-pub fn tear_page(bytes: &mut [u8], geometry: &Geometry, row: u32, page: &[u8])
-    requires in_range { row < row_count geometry.now }
-    requires whole { length bytes.old ≡ row_count geometry.now * page_bytes geometry.now }
-    requires page { length page.now ≡ page_bytes geometry.now }
-    ensures raw { IsRaw geometry.now bytes.new }
-    ensures image { raw_image geometry.now bytes.new ≡ slice_set (raw_image geometry.now bytes.old) row (page_of geometry.now page.now) }
-{
-    write_page(bytes, geometry, row, page);
 }
 
 /// A page of a raw image, lent: its data area and then its spare area.
@@ -87,7 +77,8 @@ pub fn mark_page(bytes: &mut [u8], geometry: &Geometry, row: u32)
 pub fn erase_pages(bytes: &mut [u8], geometry: &Geometry, block: u32)
     requires in_range { block < geometry.now.blocks }
     requires whole { length bytes.old ≡ row_count geometry.now * page_bytes geometry.now }
-    ensures { raw_image geometry.now bytes.new ≡ with_block geometry.now.pages block (replicate geometry.now.pages (erased_page geometry.now)) (raw_image geometry.now bytes.old) }
+    ensures raw { IsRaw geometry.now bytes.new }
+    ensures image { raw_image geometry.now bytes.new ≡ with_block geometry.now.pages block (replicate geometry.now.pages (erased_page geometry.now)) (raw_image geometry.now bytes.old) }
 {
     let size = geometry.pages() as usize * page_length(geometry);
     let start = block as usize * size;

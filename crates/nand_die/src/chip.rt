@@ -8,11 +8,11 @@ ghost use Rattle.page_layout.specs.Flash.{page_at, block_at};
 ghost use Rattle.nand_die.specs.Tape.{pages_of};
 ghost use Rattle.nand_die.specs.BusState.{IsProtocolFault};
 
-use crate::array::{block_slice, image_length, page_length, page_slice, tear_page};
+use crate::array::{block_slice, image_length, page_length, page_slice, write_page};
 use crate::bus_state::{AddressStep, BusState, CommandStep, OutputSource};
 use crate::change::{BlockTurn, Change, erase_into, program_into, program_is_due};
 use crate::cycle_step::{address_step, command_step, data_place};
-use crate::data_out::put_out_at;
+use crate::data_out::{page_put_out, put_out_at};
 use crate::fault::{DieFault, Fault, Mark};
 use crate::make::{blank, copy_of, load_turns, mark_all, new_turns};
 use crate::strike::{check_faults, next_strike};
@@ -285,12 +285,12 @@ impl Chip {
         match command_step(&self.geometry, self.bus_state, code) {
             CommandStep::Programs { row } => {
                 if program_is_due(&self.turns, &self.geometry, row) {
-                    tear_page(&mut self.bytes, &self.geometry, row, page);
+                    write_page(&mut self.bytes, &self.geometry, row, page);
                 }
             }
             CommandStep::Erases { block } => {
                 if !self.turns[block as usize].barred {
-                    tear_page(
+                    write_page(
                         &mut self.bytes,
                         &self.geometry,
                         self.geometry.row(block, 0),
@@ -416,7 +416,7 @@ impl Chip {
     {
         match put_out_at(
             &self.geometry,
-            self.bytes.as_slice(),
+            page_put_out(self.bytes.as_slice(), &self.geometry, self.bus_state),
             self.passed,
             self.bus_state,
             bytes,

@@ -4,9 +4,9 @@
 //! - `Mark`: factory marks of a new die. `Fault`: programs and erases that are to fail. `Stop`: one at which the die stops for good.
 //!   `DieFault`: what is refused.
 //! - `CycleFuse`, `Garble`: buses for tests, which break down for a while and which turn bits of one byte that is put out.
-//! - `command_step`, `address_step`, `data_place`: the table of commands, by where a die stands (`BusState`). `is_due`, `change_of`,
-//!   `programmed`, `erased`: the rules of turns. `write_page`, `page_slice`, `erase_pages`: the pages of an array of bytes. For dies that
-//!   keep their pages elsewhere.
+//! - `command_step`, `address_step`, `data_place`, `put_out_at`: the table of commands and what is put out, by where a die stands (`BusState`).
+//!   `is_due`, `change_of`, `programmed`, `erased`, `new_turns`, `bar_all`: the rules of turns. `write_page`, `page_slice`, `erase_pages`: the
+//!   pages of an array of bytes. For dies that keep their pages elsewhere.
 //! - `laws`: when a program or an erase fails, what counts as abuse, when a die stops, and what dies are made of, proved.
 //!
 //! The commands are those of ONFI 1.0; the rules of turns, the marks and the faults are this project's.
@@ -31,5 +31,7 @@ pub use bus_state::{AddressBytes, AddressStep, AddressUse, BusState, CommandStep
 pub use buses::{CycleFuse, Garble};
 pub use change::{BlockTurn, Change, change_of, erased, is_due, programmed};
 pub use cycle_step::{address_step, command_step, data_place};
+pub use data_out::put_out_at;
 pub use die::Die;
 pub use fault::{DieFault, Fault, Mark, Stop};
+pub use make::{bar_all, new_turns};

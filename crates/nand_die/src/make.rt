@@ -4,7 +4,7 @@ ghost use Rattle.page_layout.specs.Geometry.{row_count, page_bytes};
 ghost use Rattle.page_layout.specs.Raw.{raw_image};
 ghost use Rattle.page_layout.specs.Flash.{no_turn};
 ghost use Rattle.nand_die.specs.Turns.{turn_of};
-ghost use Rattle.nand_die.specs.Made.{AreNames, NamesFirst, first_turn, first_turns, barred_turn, marked_blocks, new_image, next_in};
+ghost use Rattle.nand_die.specs.Made.{AreNames, IsFirstMisnamed, NamesFirst, first_turn, first_turns, barred_turn, marked_blocks, new_image, next_in};
 
 use crate::array::{mark_page, page_slice};
 use crate::change::BlockTurn;
@@ -41,7 +41,11 @@ fn turn_from(next: u32) -> BlockTurn
     }
 }
 
-// The turns of blocks that are erased.
+/// The turns of blocks that are erased, of which nothing was asked.
+///
+/// # Errors
+///
+/// `OutOfMemory` where there is no memory for them.
 pub fn new_turns(alloc: Global, geometry: &Geometry) -> Result<Vec<BlockTurn>, DieFault>
     ensures ok { IfOk result (λ turns. map turn_of turns.items ≡ first_turns geometry.now (λ block. 0) []) }
     ensures len { IfOk result (λ turns. length turns.items ≡ geometry.now.blocks) }
@@ -82,20 +86,39 @@ fn find_next_pages(turns: &mut [BlockTurn], geometry: &Geometry, bytes: &[u8])
     }
 }
 
-// Names a block bad.
-fn bar(turns: &mut [BlockTurn], block: u32) -> Result<(), DieFault>
-    ensures ok { OnOk result ((block < length turns.old) × ((get_or (map turn_of turns.old) block no_turn).barred ≡ false)
-        × (map turn_of turns.new ≡ slice_set (map turn_of turns.old) block (barred_turn (get_or (map turn_of turns.old) block no_turn)))) }
-    ensures err { IfErr result (λ fault. (fault ≡ DieFault.BadMark block) × ((length turns.old ≤ block) ⊎ ((get_or (map turn_of turns.old) block no_turn).barred ≡ true))) }
+// Names a block bad, and says whether it lies in the die and was not named before.
+fn bar(turns: &mut [BlockTurn], block: u32) -> bool
+    ensures named { result ≡ true → (block < length turns.old) × ((get_or (map turn_of turns.old) block no_turn).barred ≡ false)
+        × (map turn_of turns.new ≡ slice_set (map turn_of turns.old) block (barred_turn (get_or (map turn_of turns.old) block no_turn))) }
+    ensures misnamed { result ≡ false → (length turns.old ≤ block) ⊎ ((get_or (map turn_of turns.old) block no_turn).barred ≡ true) }
 {
     if block as usize >= turns.len() {
-        return Err(DieFault::BadMark { block });
+        return false;
     }
     let turn = &mut turns[block as usize];
     if turn.barred {
-        return Err(DieFault::BadMark { block });
+        return false;
     }
     turn.barred = true;
+    true
+}
+
+/// Names blocks bad.
+///
+/// # Errors
+///
+/// The first block that lies past the die or was named before. Those before it are named bad then.
+pub fn bar_all(turns: &mut [BlockTurn], geometry: &Geometry, bad: &[u32]) -> Result<(), u32>
+    requires blocks { length turns.old ≡ geometry.now.blocks }
+    ensures turns { OnOk result ((next : ℕ → ℕ) → map turn_of turns.old ≡ first_turns geometry.now next [] → map turn_of turns.new ≡ first_turns geometry.now next bad.now) }
+    ensures named { OnOk result ((next : ℕ → ℕ) → map turn_of turns.old ≡ first_turns geometry.now next [] → AreNames geometry.now bad.now) }
+    ensures misnamed { IfErr result (λ block. (next : ℕ → ℕ) → map turn_of turns.old ≡ first_turns geometry.now next [] → IsFirstMisnamed geometry.now bad.now block) }
+{
+    for block in bad {
+        if !bar(turns, *block) {
+            return Err(*block);
+        }
+    }
     Ok(())
 }
 
@@ -113,10 +136,10 @@ pub fn load_turns(
     ensures err { IfErr result (NamesFirst geometry.now bad.now) }
 {
     find_next_pages(turns, geometry, bytes);
-    for block in bad {
-        bar(turns, *block)?;
+    match bar_all(turns, geometry, bad) {
+        Ok(()) => Ok(()),
+        Err(block) => Err(DieFault::BadMark { block }),
     }
-    Ok(())
 }
 
 // Puts factory marks on erased pages, and names their blocks bad.
@@ -136,7 +159,9 @@ pub fn mark_all(
     ensures err { IfErr result (NamesFirst geometry.now (marked_blocks marks.now)) }
 {
     for mark in marks {
-        bar(turns, mark.block)?;
+        if !bar(turns, mark.block) {
+            return Err(DieFault::BadMark { block: mark.block });
+        }
         let page = if mark.last { geometry.pages() - 1 } else { 0 };
         mark_page(bytes, geometry, geometry.row(mark.block, page));
     }

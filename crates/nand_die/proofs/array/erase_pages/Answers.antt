@@ -6,8 +6,8 @@ use Rattle.nand_die.proofs.array.erase_pages.Goals as goal
 pub slice_bounds-fill-end : goal.slice_bounds-fill-end
 slice_bounds-fill-end c = block_ends c.args.geometry.now c.args.block c.pages.result c.page_length.result (length c.args.bytes.now) c.pages.ensures c.page_length.ensures c.requires.whole c.requires.in_range
 
-pub returns : goal.returns
-returns c =
+pub returns-clause-image : goal.returns-clause-image
+returns-clause-image c =
     let g = c.args.geometry.now in
     let size : ℕ = c.pages.result * c.page_length.result in
     let start : ℕ = c.args.block * size in

@@ -21,4 +21,4 @@ returns c =
     let le : c.args.block * g.pages + g.pages ≤ length ps = subst (λ n. c.args.block * g.pages + g.pages ≤ n) (sym (length-raw_image g c.args.bytes.now)) (block_within g c.args.block c.requires.in_range) in
     let at : c.row.result ≡ c.args.block * g.pages = omega (arith, c.row.ensures.is) in
     let some : 0 < length c.args.left.now = grind (arith, common_steps, c.if-is_empty.ensures, c.is_empty.ensures) in
-    struck_block g ps _ c.args.block c.row.result c.args.change.legal c.args.change.passed c.args.left.now c.if-change.false (not-false c.args.change.legal c.if-not-change.false) some le at c.write_page.ensures
+    struck_block g ps _ c.args.block c.row.result c.args.change.legal c.args.change.passed c.args.left.now c.if-change.false (not-false c.args.change.legal c.if-not-change.false) some le at c.write_page.ensures.image

@@ -7,8 +7,8 @@ use Rattle.nand_die.specs.Turns.{turn_of}
 use Rattle.nand_die.specs.Made.{barred_turn}
 use Rattle.nand_die.proofs.make.bar.Goals as goal
 
-pub returns-clause-ok : goal.returns-clause-ok
-returns-clause-ok c =
+pub returns-clause-named : goal.returns-clause-named
+returns-clause-named c _ =
     let turns = c.args.turns.now in
     let block = c.args.block in
     let none : BlockTurn = record { next = 0; barred = false; programs = 0; erases = 0 } in

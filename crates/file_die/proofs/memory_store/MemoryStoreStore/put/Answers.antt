@@ -10,13 +10,13 @@ use Rattle.file_die.proofs.memory_store.MemoryStoreStore.put.Goals as goal
 pub invariant_of-self : goal.invariant_of-self
 invariant_of-self c =
     let i = c.self.inside in
-    subst (IsRaw i.geometry) (sym (with_items_is i.bytes c.set_page.new.bytes (c.set_page.auto.bytes ∙ c.deref_mut.ensures.len))) c.set_page.ensures.raw
+    subst (IsRaw i.geometry) (sym (with_items_is i.bytes c.write_page.new.bytes (c.write_page.auto.bytes ∙ c.deref_mut.ensures.len))) c.write_page.ensures.raw
 
 pub returns-clause-puts : goal.returns-clause-puts
 returns-clause-puts c e =
     let i = c.self.inside in
-    let is_bytes = with_items_is i.bytes c.set_page.new.bytes (c.set_page.auto.bytes ∙ c.deref_mut.ensures.len) in
+    let is_bytes = with_items_is i.bytes c.write_page.new.bytes (c.write_page.auto.bytes ∙ c.deref_mut.ensures.len) in
     let page = page_of i.geometry c.args.page.now in
-    rw (← c.self.view_is) (puts i.geometry i.bytes.items (with_items i.bytes c.set_page.new.bytes).items c.args.row page
-    (subst (IsRaw i.geometry) (sym is_bytes) c.set_page.ensures.raw)
-    (ap (raw_image i.geometry) is_bytes ∙ (c.set_page.ensures.image ∙ ap (λ bs. slice_set (raw_image i.geometry bs) c.args.row page) c.deref_mut.ensures.value)))
+    rw (← c.self.view_is) (puts i.geometry i.bytes.items (with_items i.bytes c.write_page.new.bytes).items c.args.row page
+    (subst (IsRaw i.geometry) (sym is_bytes) c.write_page.ensures.raw)
+    (ap (raw_image i.geometry) is_bytes ∙ (c.write_page.ensures.image ∙ ap (λ bs. slice_set (raw_image i.geometry bs) c.args.row page) c.deref_mut.ensures.value)))

@@ -1,36 +1,23 @@
-use Rattle.std.proofs.Common.{◌≡◌, ◌∙◌, ap, sym, subst, ◌+◌, List, length, Ok}
+use Rattle.std.proofs.Common.{◌≡◌, ◌∙◌, ap, subst, length, Ok}
 use Rattle.std.proofs.lemmas.List.{with_items_is}
 use Rattle.std.specs.Vec.{with_items}
-use Rattle.page_layout.specs.Raw.{IsRaw}
 use Rattle.onfi_cycles.specs.Cycles.{Programs, page_of}
 use Rattle.nand_die.specs.declared.bus_state.BusState.TheVariants.{Ready}
 use Rattle.nand_die.specs.declared.bus_state.OutputSource.TheVariants.{Nothing}
-use Rattle.nand_die.specs.declared.fault.Fault.{Fault}
 use Rattle.nand_die.specs.contracts.chip.Chip.{the_view}
-use Rattle.nand_die.specs.Faults.{IsPageLeft, fault_at, left_by}
 use Rattle.nand_die.specs.ChipValue.{ChipValue, Acts}
-use Rattle.nand_die.proofs.ActLemmas.{acts_closed, program_acts, left_at, loading_register}
+use Rattle.nand_die.proofs.ActLemmas.{acts_closed, change_fits, program_acts, struck_size, loading_register}
 use Rattle.nand_die.proofs.chip.Chip.confirm_program.Goals as goal
 
 pub program_into-change-requires-clause-left : goal.program_into-change-requires-clause-left
-program_into-change-requires-clause-left c =
-    let i = c.self.inside in
-    let is_left = c.next_strike-strike.ensures.left ∙ ap (λ (fs : List Fault). left_by (fault_at fs (i.counts.asked + 1))) c.as_slice.ensures.value in
-    (subst (IsPageLeft i.geometry) (sym is_left) (left_at i.geometry i.faults.items (i.counts.asked + 1) c.self.invariant.left)).size
+program_into-change-requires-clause-left c = struck_size c.self.inside c.as_slice.result.now _ c.self.invariant c.next_strike-strike.ensures.left c.as_slice.ensures.value
 
 pub invariant_of-self : goal.invariant_of-self
 invariant_of-self c =
     let i = c.self.inside in
     let change = c.program_into-change in
-    let is_bytes = with_items_is i.bytes change.new.bytes (change.auto.bytes ∙ c.deref_mut.ensures.len) in
-    let is_turns = with_items_is i.turns change.new.turns (change.auto.turns ∙ c.deref_mut-2.ensures.len) in
-    record {
-      raw = subst (IsRaw i.geometry) (sym is_bytes) change.ensures.raw;
-      register_whole = c.self.invariant.register_whole;
-      blocks = ap length is_turns ∙ (change.auto.turns ∙ (ap length c.deref_mut-2.ensures.value ∙ c.self.invariant.blocks));
-      within = tt;
-      left = c.self.invariant.left;
-    }
+    change_fits i change.new.bytes _ change.new.turns _ c.self.invariant (with_items_is i.bytes change.new.bytes (change.auto.bytes ∙ c.deref_mut.ensures.len))
+    (with_items_is i.turns change.new.turns (change.auto.turns ∙ c.deref_mut-2.ensures.len)) change.ensures.raw (change.auto.turns ∙ (ap length c.deref_mut-2.ensures.value ∙ c.self.invariant.blocks))
 
 pub returns : goal.returns
 returns c register column at =

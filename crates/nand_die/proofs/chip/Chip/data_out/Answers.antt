@@ -1,7 +1,8 @@
-use Rattle.std.proofs.Common.{refl, ℕ, List, length}
+use Rattle.std.proofs.Common.{refl, subst, ℕ, List, length}
 use Rattle.onfi_cycles.specs.Cycles.{Ready, data_out_due}
 use Rattle.nand_die.specs.contracts.chip.Chip.{the_view}
-use Rattle.nand_die.specs.BusState.{phase_of, output_of}
+use Rattle.nand_die.specs.BusState.{Shows, phase_of, output_of}
+use Rattle.nand_die.specs.Turns.{flash_of}
 use Rattle.nand_die.proofs.ActLemmas.{acts_moves, fields_whole}
 use Rattle.nand_die.proofs.chip.Chip.data_out.Goals as goal
 
@@ -10,3 +11,10 @@ returns-in-Ok-clause-acts c =
     let i = c.self.inside in
     let r : List ℕ = i.register.items in
     rw (← c.self.view_is) (acts_moves (data_out_due i.geometry (phase_of r i.bus_state) (length c.args.bytes.now)) (the_view i) _ (Ready (output_of c.in-Ok.next)) tt (c.in-Ok.ensures.due r) refl (fields_whole i c.self.invariant))
+
+pub returns-in-Ok-clause-out : goal.returns-in-Ok-clause-out
+returns-in-Ok-clause-out c =
+    let i = c.self.inside in
+    let turns = i.turns.items in
+    rw (← c.self.view_is) (c.in-Ok.ensures.bytes i.register.items (flash_of i.geometry i.bytes.items turns i.counts.abuse) (phase_of i.register.items i.bus_state) (λ out at.
+    subst (λ bytes. Shows (flash_of i.geometry bytes turns i.counts.abuse) out c.page_put_out.result.now) c.as_slice.ensures.value (c.page_put_out.ensures.shows turns i.counts.abuse out at)))

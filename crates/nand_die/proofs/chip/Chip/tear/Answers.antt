@@ -1,8 +1,8 @@
-use Rattle.std.proofs.Common.{◌≡◌, ◌∙◌, ap, sym, subst, true, false, List, if◌then◌else◌}
+use Rattle.std.proofs.Common.{◌≡◌, ◌∙◌, ap, true, false, List, if◌then◌else◌}
 use Rattle.std.specs.Prelude.{slice_set}
 use Rattle.std.proofs.lemmas.List.{with_items_is}
 use Rattle.std.specs.Vec.{with_items}
-use Rattle.page_layout.specs.Raw.{IsRaw, raw_image}
+use Rattle.page_layout.specs.Raw.{raw_image}
 use Rattle.page_layout.specs.Flash.{may_program}
 use Rattle.onfi_cycles.specs.Cycles.{page_of}
 use Rattle.nand_die.specs.declared.change.BlockTurn.{BlockTurn}
@@ -10,40 +10,27 @@ use Rattle.nand_die.specs.contracts.chip.Chip.{the_view}
 use Rattle.nand_die.specs.Turns.{flash_of}
 use Rattle.nand_die.specs.ChipValue.{ChipValue}
 use Rattle.nand_die.specs.Stopping.{torn_image, with_image}
+use Rattle.nand_die.proofs.ActLemmas.{pages_changed}
 use Rattle.nand_die.proofs.chip.Chip.tear.Goals as goal
 
 pub invariant_of-self : goal.invariant_of-self
 invariant_of-self c =
     let i = c.self.inside in
-    let torn = c.tear_page in
-    let is_bytes = with_items_is i.bytes torn.new.bytes (torn.auto.bytes ∙ c.deref_mut.ensures.len) in
-    record {
-      raw = subst (IsRaw i.geometry) (sym is_bytes) torn.ensures.raw;
-      register_whole = c.self.invariant.register_whole;
-      blocks = c.self.invariant.blocks;
-      within = c.self.invariant.within;
-      left = c.self.invariant.left;
-    }
+    let torn = c.write_page in
+    pages_changed i torn.new.bytes _ c.self.invariant (with_items_is i.bytes torn.new.bytes (torn.auto.bytes ∙ c.deref_mut.ensures.len)) torn.ensures.raw
 
 pub invariant_of-self-then-not-index : goal.invariant_of-self-then-not-index
 invariant_of-self-then-not-index c =
     let i = c.self.inside in
-    let torn = c.tear_page-then-not-index in
-    let is_bytes = with_items_is i.bytes torn.new.bytes (torn.auto.bytes ∙ c.deref_mut-then-not-index.ensures.len) in
-    record {
-      raw = subst (IsRaw i.geometry) (sym is_bytes) torn.ensures.raw;
-      register_whole = c.self.invariant.register_whole;
-      blocks = c.self.invariant.blocks;
-      within = c.self.invariant.within;
-      left = c.self.invariant.left;
-    }
+    let torn = c.write_page-then-not-index in
+    pages_changed i torn.new.bytes _ c.self.invariant (with_items_is i.bytes torn.new.bytes (torn.auto.bytes ∙ c.deref_mut-then-not-index.ensures.len)) torn.ensures.raw
 
 pub returns-then-program_is_due : goal.returns-then-program_is_due
 returns-then-program_is_due c =
     let i = c.self.inside in
     let g = i.geometry in
     let d : ChipValue = the_view i in
-    let torn = c.tear_page in
+    let torn = c.write_page in
     let left = page_of g c.args.page.now in
     let is_bytes = with_items_is i.bytes torn.new.bytes (torn.auto.bytes ∙ c.deref_mut.ensures.len) in
     let now : raw_image g (with_items i.bytes torn.new.bytes).items ≡ slice_set (raw_image g i.bytes.items) c.in-Programs.row left
