@@ -3,7 +3,7 @@ ghost use Rattle.std.specs.Prelude.{◌≡◌, ◌<◌, ◌++◌, ◌∷◌, [],
 ghost use Rattle.page_layout.specs.Counter.{HasRisen};
 ghost use Rattle.page_layout.specs.Block.{is_broken};
 ghost use Rattle.page_layout.specs.Geometry.{row_count, page_bytes};
-ghost use Rattle.file_die.specs.Store.{page_in};
+ghost use Rattle.page_layout.specs.Page.{page};
 ghost use Rattle.file_die.specs.Open.{OnlyLooks};
 ghost use Rattle.disk_damage.specs.Look.{bad_numbers, is_bad_in, is_factory_in, unsound_numbers, is_unsound_in};
 
@@ -53,27 +53,16 @@ pub fn bad_blocks(alloc: Global, certificate: &Certificate) -> Result<Vec<u64>, 
     Ok(blocks)
 }
 
-// Whether the page of a row is neither erased nor sound.
-fn is_broken<S: Store>(
-    store: &mut S,
-    geometry: &Geometry,
-    row: u32,
-    page: &mut [u8],
-) -> Result<bool, StoreFault>
-    requires geometry { (S.held store.old).geometry ≡ geometry.now }
-    requires in_range { row < row_count geometry.now }
-    requires room { length page.old ≡ page_bytes geometry.now }
-    ensures broken { IfOk result (λ broken. S.honest store.old ≡ true → broken ≡ is_broken (page_in (S.held store.old).pages row)) }
-    ensures looks { OnlyLooks S.held S.honest store.old store.new }
-    ensures settled { OnOk result (S.failed store.new ≡ S.failed store.old) }
-    ensures rose { OnErr result (HasRisen (S.failed store.old) (S.failed store.new)) }
+// Whether a page is neither erased nor sound.
+fn is_broken(geometry: &Geometry, body: &[u8], spare: &[u8]) -> bool
+    requires body { length body.now ≡ geometry.now.data_bytes }
+    requires spare { length spare.now ≡ geometry.now.spare_bytes }
+    ensures { result ≡ is_broken (page body.now spare.now) }
 {
-    store.load(row, page)?;
-    let (body, spare) = page.split_at(geometry.data_bytes());
-    Ok(!is_erased(body, spare) && read_record(geometry, body, spare).is_none())
+    !is_erased(body, spare) && read_record(geometry, body, spare).is_none()
 }
 
-// Whether such a page stands in a block that the factory did not mark.
+// Whether the page of a row is so, in a block that the factory did not mark.
 fn is_unsound<S: Store>(
     store: &mut S,
     geometry: &Geometry,
@@ -92,7 +81,9 @@ fn is_unsound<S: Store>(
     if class_of(certificate, row / geometry.pages()) == FACTORY {
         return Ok(false);
     }
-    is_broken(store, geometry, row, page)
+    store.load(row, page)?;
+    let (body, spare) = page.split_at(geometry.data_bytes());
+    Ok(is_broken(geometry, body, spare))
 }
 
 // Adds the rows of such pages to a list.
