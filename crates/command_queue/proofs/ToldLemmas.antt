@@ -69,7 +69,7 @@ risen_on a b c low high (inr top) = risen_by a b c low high top (eq-or-lt_of_le 
 -- ---- up to the first fault of the bus
 
 -- the fault stops the device after any command
-bus_stops : (command : step.Command) → StopsDevice command BusFault
+pub bus_stops : (command : step.Command) → StopsDevice command BusFault
 bus_stops (step.Read sector) = tt
 bus_stops (step.Write sector body) = tt
 bus_stops (step.Trim sector) = tt

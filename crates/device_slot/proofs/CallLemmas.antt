@@ -15,7 +15,7 @@ use Rattle.command_queue.specs.Exchanges.{Exchange, StopsDevice}
 use Rattle.command_queue.specs.Tells.{Tells}
 use Rattle.command_queue.specs.Told.{WasTold, RunsTo}
 use Rattle.command_queue.proofs.AcceptedLemmas.{started_well, ran_accepted}
-use Rattle.command_queue.proofs.ToldLemmas.{told_none, told_more, until_so}
+use Rattle.command_queue.proofs.ToldLemmas.{bus_stops, told_none, told_more, until_so}
 use Rattle.device_slot.specs.declared.slot.CallFault.{CallFault}
 use Rattle.device_slot.specs.declared.slot.Shortage.{Shortage}
 use Rattle.device_slot.specs.Begun.{IsDeviceKept}
@@ -27,13 +27,6 @@ nil_on [] = refl
 nil_on (x ∷ xs) = refl
 
 -- ---- a device between calls
-
-bus_stops : (command : step.Command) → StopsDevice command BusFault
-bus_stops (step.Read sector) = tt
-bus_stops (step.Write sector body) = tt
-bus_stops (step.Trim sector) = tt
-bus_stops step.Flush = tt
-bus_stops step.Turn = tt
 
 -- a call after which the device goes on was not answered by a fault of the bus
 not_bus : (command : step.Command) (stop : Option DeviceFault) (result : Result (Unit {0}) DeviceFault) → IfErr result (λ fault. StopsDevice command fault → stop ≡ Some fault)
