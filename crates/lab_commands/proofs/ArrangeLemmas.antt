@@ -13,18 +13,6 @@ use Rattle.lab_commands.specs.Undone.{IsUnplaced, IsUnroomed, MayNotWrite, MayWr
 use Rattle.lab_commands.specs.Arrange.{AreSaid, AreUnsaid, IsArrangeFault, IsUnordered, unordered_as}
 use Rattle.lab_commands.proofs.UndoneLemmas.{left_all}
 
-pub not_said : (s : StoreAnswers) (words : ArrangeWords) (k : Option Store) (opens opened : Option ℕ) (broke : Bool) (out : Option (List ℕ)) (told : LabFault) → AreUnsaid words told → IsArrangeFault s words k k opens opened broke out out told
-not_said s words k opens opened broke out told h = inl (left_all k k out refl, inl h)
-
-pub not_allowed : (s : StoreAnswers) (words : ArrangeWords) (g : Geometry) (a : Arrangement) (k after : Option Store) (opens opened : Option ℕ) (broke : Bool) (out : Option (List ℕ)) (told : LabFault) → AreSaid words g a
-    → after ≡ k → MayNotWrite s words.dump.now words.out.now words.force told → IsArrangeFault s words k after opens opened broke out out told
-not_allowed s words g a k after opens opened broke out told said same h = inl (left_all k after out same, inr (g, a, said, inl h))
-
-pub not_put : (s : StoreAnswers) (words : ArrangeWords) (g : Geometry) (a : Arrangement) (k after : Option Store) (opens opened : Option ℕ) (broke : Bool) (out : Option (List ℕ)) (told : LabFault) → AreSaid words g a
-    → MayWrite s words.dump.now words.out.now words.force → after ≡ k
-    → IsUnroomed opens opened told ⊎ IsUnordered s g a words.dump.now words.out.now told ⊎ IsUnplaced s words.out.now words.force told → IsArrangeFault s words k after opens opened broke out out told
-not_put s words g a k after opens opened broke out told said allowed same h = inl (left_all k after out same, inr (g, a, said, inr (allowed, h)))
-
 -- no dump in order was made of one that was opened
 pub unordered : (s : StoreAnswers) (dump out : Bor (List ℕ)) (g : Geometry) (a : Arrangement) (known : Option (List ℕ)) (f : ArrangeFault) → IsFileOpened s dump.now known → IsUnarranged g a known f
     → (f ≡ arrange.Source → s.reads_fail) → (f ≡ arrange.Target → s.writes_fail) → IsUnordered s g a dump.now out.now (unordered_as f dump out)

@@ -47,25 +47,3 @@ pub map_kept_there : (a : StoreAnswers) (words : ArrayWords) (file : List ℕ) (
 map_kept_there a words file what fault.Exists said some other k = ((what, some, said), other, k)
 map_kept_there a words file what fault.NoFile said some other k = (subst (λ w. a.says file w) k.0 said, other, k.1)
 map_kept_there a words file what _ said some other k = absurd k
-
--- ---- the command
-
-pub no_geometry : (a : StoreAnswers) (words : UntilWords) (k : Option Store) (opens opened : Option ℕ) (broke : Bool) (out : Option (List ℕ)) (told : LabFault) → IsNoGeometry words.array.geometry.now told → IsArrayFault a words k k opens opened broke out out told
-no_geometry a words k opens opened broke out told h = inl (left_all k k out refl, inl h)
-
-pub no_last : (a : StoreAnswers) (words : UntilWords) (g : Geometry) (k : Option Store) (opens opened : Option ℕ) (broke : Bool) (out : Option (List ℕ)) (told : LabFault) → IsGeometryAt words.array.geometry.now g → IsNoLast words.until told
-    → IsArrayFault a words k k opens opened broke out out told
-no_last a words g k opens opened broke out told is h = inl (left_all k k out refl, inr (g, is, inl h))
-
-pub not_allowed : (a : StoreAnswers) (words : UntilWords) (g : Geometry) (last : Option ℕ) (k after : Option Store) (opens opened : Option ℕ)
-    (broke : Bool) (out : Option (List ℕ)) (told : LabFault) → IsGeometryAt words.array.geometry.now g → IsLastAt words.until last → after ≡ k
-    → AreNotAllowed a words.array told
-    → IsArrayFault a words k after opens opened broke out out told
-not_allowed a words g last k after opens opened broke out told is at same h = inl (left_all k after out same, inr (g, is, inr (last, at, inl h)))
-
-pub not_put : (a : StoreAnswers) (words : UntilWords) (g : Geometry) (last : Option ℕ) (k after : Option Store) (opens opened : Option ℕ)
-    (broke : Bool) (out : Option (List ℕ)) (told : LabFault) → IsGeometryAt words.array.geometry.now g → IsLastAt words.until last
-    → AreAllowed a words.array → after ≡ k
-    → IsUnput a g words.array opens opened told
-    → IsArrayFault a words k after opens opened broke out out told
-not_put a words g last k after opens opened broke out told is at allowed same h = inl (left_all k after out same, inr (g, is, inr (last, at, inr (allowed, h))))

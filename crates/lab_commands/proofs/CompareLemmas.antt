@@ -51,22 +51,6 @@ pub broken_by : (known : Option (List ℕ)) (f : CertFault) (items : List ℕ) �
 broken_by None f items read is = tt
 broken_by (Some bytes) f items read is = subst (λ xs. IsFirstFault xs f) read is
 
-pub no_geometry : (a : StoreAnswers) (words : CompareWords) (k : Option Store) (opens opened : Option ℕ) (broke : Bool) (out : Option (List ℕ)) (told : LabFault) → IsNoGeometry words.geometry.now told → IsCompareFault a words k k opens opened broke out out told
-no_geometry a words k opens opened broke out told h = inl (left_all k k out refl, inl h)
-
-pub no_certificate : (a : StoreAnswers) (words : CompareWords) (g : Geometry) (k after : Option Store) (opens opened : Option ℕ) (broke : Bool)
-    (out : Option (List ℕ)) (told : LabFault) → IsGeometryAt words.geometry.now g → after ≡ k
-    → IsUnroomed opens opened told ⊎ (HasNone a words.certificate.now told × (opened ≡ option_map suc opens))
-    → IsCompareFault a words k after opens opened broke out out told
-no_certificate a words g k after opens opened broke out told is same (inl unroomed) = inl (left_all k after out same, inr (g, is, inl unroomed))
-no_certificate a words g k after opens opened broke out told is same (inr none) = inl (left_all k after out same, inr (g, is, inr (inl none)))
-
-pub not_held : (a : StoreAnswers) (words : CompareWords) (g : Geometry) (c : Claim) (k after : Option Store) (opens opened : Option ℕ) (broke : Bool)
-    (out : Option (List ℕ)) (told : LabFault) → IsGeometryAt words.geometry.now g → IsCertificateAt a words.certificate.now c → after ≡ k
-    → IsDumpUnheld a g c words.dump.now told
-    → IsCompareFault a words k after opens opened broke out out told
-not_held a words g c k after opens opened broke out told is has same h = inl (left_all k after out same, inr (g, is, inr (inr (c, has, h))))
-
 -- ---- the files between
 
 pub compared_before : (a b : StoreAnswers) (path : List ℕ) (g : Geometry) (c : Claim) (told : Compared) → AnswersNoMore a b → IsCompared b path g c told → IsCompared a path g c told

@@ -96,17 +96,3 @@ unmerged_as a paths g out known (merge.WrongLength i) (fault.DumpLength word) op
 unmerged_as a paths g out known (merge.Source i) (fault.Read word) opened of h reads writes is = ((i, of, sym is), (known, opened), reads i refl)
 unmerged_as a paths g out known merge.Target (fault.Write word) opened of h reads writes is = (is, (known, opened), writes refl)
 unmerged_as a paths g out known _ _ opened of h reads writes is = absurd is
-
--- ---- the command
-
-pub no_geometry : (a : StoreAnswers) (words : MergeWords) (k : Option Store) (opens opened : Option ℕ) (broke : Bool) (out : Option (List ℕ)) (told : LabFault) → IsNoGeometry words.geometry.now told → IsMergeFault a words k k opens opened broke out out told
-no_geometry a words k opens opened broke out told h = inl (left_all k k out refl, inl h)
-
-pub not_allowed : (a : StoreAnswers) (words : MergeWords) (g : Geometry) (k after : Option Store) (opens opened : Option ℕ) (broke : Bool)
-    (out : Option (List ℕ)) (told : LabFault) → IsGeometryAt words.geometry.now g → after ≡ k → MayNotMerge a words told
-    → IsMergeFault a words k after opens opened broke out out told
-not_allowed a words g k after opens opened broke out told is same h = inl (left_all k after out same, inr (g, is, inl h))
-
-pub not_put : (a : StoreAnswers) (words : MergeWords) (g : Geometry) (k after : Option Store) (opens opened : Option ℕ) (broke : Bool) (out : Option (List ℕ)) (told : LabFault) → IsGeometryAt words.geometry.now g → MayMerge a words → after ≡ k
-    → IsUnroomed opens opened told ⊎ IsUnjoined a (dumps_of words) g words.out.now told ⊎ IsUnplaced a words.out.now words.force told → IsMergeFault a words k after opens opened broke out out told
-not_put a words g k after opens opened broke out told is allowed same h = inl (left_all k after out same, inr (g, is, inr (allowed, h)))

@@ -5,10 +5,10 @@ use Rattle.std.specs.Result.{IsErrAnd}
 use Rattle.std.specs.Io.KnownBytes.{Appends}
 use Rattle.std.proofs.KnownBytes.{Appends-nil, Appends-trans}
 use Rattle.request_stream.proofs.Writing.{part_more, part_stop}
-use Rattle.std.specs.Prelude.{Bool}
+use Rattle.std.specs.Prelude.{Bool, IfErr, OnOk}
 use Rattle.lab_commands.specs.declared.text.LabFault.{LabFault}
 use Rattle.lab_commands.specs.declared.text.LabFault.TheVariants as fault
-use Rattle.lab_commands.specs.Undone.{IsHalfPrinted, TellsPrint}
+use Rattle.lab_commands.specs.Undone.{EndsAs, IsHalfPrinted, TellsPrint}
 use Rattle.lab_commands.specs.declared.lines.Line.{Line}
 use Rattle.lab_commands.specs.declared.document.ReportForm.{ReportForm}
 use Rattle.lab_commands.specs.declared.output.OutputFault.{OutputFault}
@@ -31,6 +31,18 @@ prints_after broke a b d xs ys (Err e) first last = stops_after e broke a b d xs
 pub half_printed : (e : OutputFault) (told : LabFault) (broke : Bool) (a b : Option (List ℕ)) (due : List ℕ) → TellsPrint e told → StopsPrinting e broke a b due → IsHalfPrinted broke a b due told
 half_printed e (fault.Write word) broke a b due tells (is, part) = (tells, is, part)
 half_printed e _ broke a b due tells stops = absurd tells
+
+-- what a command that ends with its report has done, and why it has not
+pub done_by : {T S : Type 0} (P : Type 0) (broke : Bool) (a b : Option (List ℕ)) (due : List ℕ) (printed : Result T OutputFault) (r : Result S LabFault) → Prints broke a b due printed → EndsAs printed r → (Appends a b due → P) → OnOk r P
+done_by P broke a b due (Ok x) (Ok done) told ends made = made told
+done_by P broke a b due (Err e) (Ok done) stops ends made = absurd ends
+done_by P broke a b due printed (Err told) stops ends made = tt
+
+pub undone_by : {T S : Type 0} (P : LabFault → Type 0) (broke : Bool) (a b : Option (List ℕ)) (due : List ℕ) (printed : Result T OutputFault) (r : Result S LabFault) → Prints broke a b due printed → EndsAs printed r
+    → ((told : LabFault) → IsHalfPrinted broke a b due told → P told) → IfErr r P
+undone_by P broke a b due (Ok x) (Err told) done ends made = absurd ends
+undone_by P broke a b due (Err e) (Err told) stops ends made = made told (half_printed e told broke a b due ends stops)
+undone_by P broke a b due printed (Ok done) told ends made = tt
 
 -- ---- the lines of a list
 

@@ -25,6 +25,7 @@ mod origin;
 mod origin_lines;
 mod origin_words;
 mod output;
+mod parts;
 mod pieces;
 mod printing;
 mod program;
