@@ -17,7 +17,7 @@ use Rattle.lab_commands.specs.declared.text.LabFault.TheVariants as fault
 use Rattle.lab_commands.specs.Files.{AnswersNoMore, IsFileOpened, StandsAtPath, Store, StoreAnswers}
 use Rattle.lab_commands.specs.Undone.{IsGeometryAt, IsKeptThere, IsNoGeometry, IsUnplaced, IsUnread, IsUnroomed, IsUnwritten}
 use Rattle.lab_commands.specs.Merge.{AreOpened, AreOpenedBelow, AreOthersBelow, HasSame, IsMergeFault, IsSomeUnread, IsUnjoined, IsUnmergedTo, MayMerge, MayNotMerge, TellsFault, dumps_of}
-use Rattle.lab_commands.proofs.UndoneLemmas.{left_all, opened_before, unread_before}
+use Rattle.lab_commands.proofs.UndoneLemmas.{no_more_then, opened_before, unread_before}
 
 -- ---- the paths
 
@@ -51,6 +51,24 @@ pub unopened_at : (a b : StoreAnswers) (ds : List (Bor (List ℕ))) (n : ℕ) (d
 unopened_at a b ds n d told l more k =
     let before : IsUnread a (get_or (texts ds) n []) told = subst (λ (path : List ℕ). IsUnread a path told) (sym (path_at ds n d l)) (unread_before a b (get_or ds n d).now told more k) in
     (n, (let count = paths_count ds in omega arith), before)
+
+-- what holds once the first files of these paths were opened: of the files as they were and as they are, of the readers, and of the room for them
+pub record AreOpenSoFar (a b : StoreAnswers) (before after : Option Store) (paths : List (List ℕ)) (known : List (Option (List ℕ))) (n had has : ℕ) : Type 0 where
+  pub no_more : AnswersNoMore a b
+  pub kept : after ≡ before
+  pub opened : AreOpenedBelow a paths known n
+  pub places : has ≡ had
+
+-- and one more
+pub opened_next : {R : Type 0} (f : R → Option (List ℕ)) (a b d : StoreAnswers) (before after later : Option Store) (ds : List (Bor (List ℕ))) (rs more : List R) (r : R) (n : ℕ) (w : Bor (List ℕ)) (had has room : ℕ) → n < length ds
+    → AreOpenSoFar a b before after (texts ds) (map f rs) n had has → AnswersNoMore b d → later ≡ after → IsFileOpened b (get_or ds n w).now (f r) → more ≡ rs ++ r ∷ [] → room ≡ has
+    → AreOpenSoFar a d before later (texts ds) (map f more) (n + 1) had room
+opened_next f a b d before after later ds rs more r n w had has room l h next same opened are wide = record {
+  no_more = no_more_then a b d h.no_more next;
+  kept = same ∙ h.kept;
+  opened = opened_more f a b ds rs more r n w l h.no_more h.opened opened are;
+  places = wide ∙ h.places;
+}
 
 -- each reader that has failed says that a read did
 abbrev pub TellsFailing : {R : Type 0} → (R → Bool) → Type 0 → Type 0

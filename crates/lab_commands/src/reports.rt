@@ -53,20 +53,6 @@ fn print_counts<W: Output>(
     )
 }
 
-// The table pages that are a reason against a mount, by how those stand from a place on.
-fn print_tables<W: Output>(
-    printer: Printer,
-    out: &mut W,
-    states: &[KeyState],
-    formed: &[bool],
-    from: u32,
-    count: u32,
-) -> Result<(), OutputFault>
-    ensures { Prints (W.failed out.new) (W.contents out.old) (W.contents out.new) (text_below printer.form (table_at states.now from formed.now) count) result }
-{
-    printer.list(out, &Lines::Tables(states, from, formed, count))
-}
-
 // The table pages that are a reason against a mount, and the keys that are tied or missing.
 fn print_keys<W: Output>(
     printer: Printer,
@@ -79,31 +65,21 @@ fn print_keys<W: Output>(
 {
     let (sectors, translations) = (geometry.sectors(), geometry.translation_pages());
     let (first, tables) = (sectors + translations, geometry.table_pages());
-    print_tables(printer, out, states, formed, first, tables)?;
-    print_kind(printer, out, states, Label::Sector, 0, sectors)?;
-    print_kind(
+    print_parts(
         printer,
         out,
-        states,
-        Label::Translation,
-        sectors,
-        translations,
-    )?;
-    print_kind(printer, out, states, Label::Table, first, tables)
-}
-
-// The keys of one kind that are tied or missing, by how those stand from a place on.
-fn print_kind<W: Output>(
-    printer: Printer,
-    out: &mut W,
-    states: &[KeyState],
-    of: Label,
-    from: u32,
-    count: u32,
-) -> Result<(), OutputFault>
-    ensures { Prints (W.failed out.new) (W.contents out.old) (W.contents out.new) (text_below printer.form (key_at of states.now from) count) result }
-{
-    printer.list(out, &Lines::Keys(of, states, from, count))
+        &[
+            Part::List(Lines::Tables(states, first, formed, tables)),
+            Part::List(Lines::Keys(Label::Sector, states, 0, sectors)),
+            Part::List(Lines::Keys(
+                Label::Translation,
+                states,
+                sectors,
+                translations,
+            )),
+            Part::List(Lines::Keys(Label::Table, states, first, tables)),
+        ],
+    )
 }
 
 // The blocks.

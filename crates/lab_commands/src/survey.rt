@@ -39,7 +39,7 @@ fn survey_of<'a, F: LabFiles>(
 
 // A survey, and of what it is one.
 #[derive(Drop)]
-struct Seen {
+struct SurveySeen {
     geometry: Geometry,
     rows: Option<Rows>,
     survey: DieSurvey,
@@ -50,7 +50,7 @@ fn see<'a, F: LabFiles>(
     alloc: Global,
     words: &SurveyWords<'a>,
     files: &mut F,
-) -> Result<Seen, LabFault<'a>>
+) -> Result<SurveySeen, LabFault<'a>>
     ensures seen { IfOk result (λ seen. HasSurvey (F.answers files.old) words.now seen.geometry seen.rows seen.survey) }
     ensures fault { IfErr result (IsUnseen (F.answers files.old) words.now (F.opened files.old) (F.opened files.new)) }
     ensures kept { F.kept files.new ≡ F.kept files.old }
@@ -59,7 +59,7 @@ fn see<'a, F: LabFiles>(
     let rows = rows_at(words.rows, &geometry)?;
     let room = SurveyRoom::new(alloc, &geometry)?;
     let survey = survey_of(room, words.dump, &geometry, rows, words.showing, files)?;
-    Ok(Seen {
+    Ok(SurveySeen {
         geometry,
         rows,
         survey,

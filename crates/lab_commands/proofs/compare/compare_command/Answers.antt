@@ -9,10 +9,9 @@ use Rattle.lab_commands.proofs.compare.compare_command.Goals as goal
 
 pub returns-in_err-held-clause-fault : goal.returns-in_err-held-clause-fault
 returns-in_err-held-clause-fault g c =
-    let k = g.F.LabFiles.kept in
     let o = g.W.Output.contents c.args.out.now in
-    handed_on (IsCompareFault (g.F.LabFiles.answers c.args.files.now) c.args.words (k c.args.files.now) (k c.hold.new.files) (g.F.LabFiles.opened c.args.files.now) (g.F.LabFiles.opened c.hold.new.files) (g.W.Output.failed c.args.out.now) o o) _ _ c.from_residual.ensures.1
-    (inl (left_all (k c.args.files.now) _ o c.in_err-held.ensures.kept, c.in_err-held.ensures.fault))
+    handed_on (IsCompareFault (g.F.LabFiles.answers c.args.files.now) c.args.words (g.F.LabFiles.kept c.args.files.now) (g.F.LabFiles.kept c.hold.new.files) (g.F.LabFiles.opened c.args.files.now) (g.F.LabFiles.opened c.hold.new.files) (g.W.Output.failed c.args.out.now) o o) _ _ c.from_residual.ensures.1
+    (inl (left_all (g.F.LabFiles.kept c.args.files.now) _ o c.in_err-held.ensures.kept, c.in_err-held.ensures.fault))
 
 pub returns : goal.returns
 returns g c =

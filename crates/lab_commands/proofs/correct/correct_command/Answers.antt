@@ -14,18 +14,16 @@ use Rattle.lab_commands.proofs.correct.correct_command.Goals as goal
 
 pub returns-in_err-told-clause-fault : goal.returns-in_err-told-clause-fault
 returns-in_err-told-clause-fault g c =
-    let k = g.F.LabFiles.kept in
     let o = g.W.Output.contents c.args.out.now in
-    handed_on (IsCorrectFault (g.F.LabFiles.answers c.args.files.now) c.args.words (k c.args.files.now) (k c.place.new.files) (g.F.LabFiles.opened c.args.files.now) (g.F.LabFiles.opened c.place.new.files) (g.W.Output.failed c.args.out.now) o o) _ _ c.from_residual.ensures.1
-    (inl (left_all (k c.args.files.now) _ o c.in_err-told.ensures.kept, c.in_err-told.ensures.fault))
+    handed_on (IsCorrectFault (g.F.LabFiles.answers c.args.files.now) c.args.words (g.F.LabFiles.kept c.args.files.now) (g.F.LabFiles.kept c.place.new.files) (g.F.LabFiles.opened c.args.files.now) (g.F.LabFiles.opened c.place.new.files) (g.W.Output.failed c.args.out.now) o o) _ _ c.from_residual.ensures.1
+    (inl (left_all (g.F.LabFiles.kept c.args.files.now) _ o c.in_err-told.ensures.kept, c.in_err-told.ensures.fault))
 
 pub returns-in_err-put_map-clause-fault : goal.returns-in_err-put_map-clause-fault
 returns-in_err-put_map-clause-fault g c =
-    let k = g.F.LabFiles.kept in
     let o = g.W.Output.contents c.args.out.now in
     let a = g.F.LabFiles.answers c.args.files.now in
     let placed = c.in_ok-told.ensures.placed in
-    handed_on (IsCorrectFault a c.args.words (k c.args.files.now) (k c.put_map.new.files) (g.F.LabFiles.opened c.args.files.now) (g.F.LabFiles.opened c.put_map.new.files) (g.W.Output.failed c.args.out.now) o o) _ _ c.from_residual-in_err-put_map.ensures.1
+    handed_on (IsCorrectFault a c.args.words (g.F.LabFiles.kept c.args.files.now) (g.F.LabFiles.kept c.put_map.new.files) (g.F.LabFiles.opened c.args.files.now) (g.F.LabFiles.opened c.put_map.new.files) (g.W.Output.failed c.args.out.now) o o) _ _ c.from_residual-in_err-put_map.ensures.1
     (inr (inl (record {
       g = c.in_ok-told.told.geometry;
       pieces = placed.pieces;

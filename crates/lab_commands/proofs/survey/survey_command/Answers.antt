@@ -9,10 +9,9 @@ use Rattle.lab_commands.proofs.survey.survey_command.Goals as goal
 
 pub returns-in_err-seen-clause-fault : goal.returns-in_err-seen-clause-fault
 returns-in_err-seen-clause-fault g c =
-    let k = g.F.LabFiles.kept in
     let o = g.W.Output.contents c.args.out.now in
-    handed_on (IsSurveyFault (g.F.LabFiles.answers c.args.files.now) c.args.words (k c.args.files.now) (k c.see.new.files) (g.F.LabFiles.opened c.args.files.now) (g.F.LabFiles.opened c.see.new.files) (g.W.Output.failed c.args.out.now) o o) _ _ c.from_residual.ensures.1
-    (inl (left_all (k c.args.files.now) _ o c.in_err-seen.ensures.kept, c.in_err-seen.ensures.fault))
+    handed_on (IsSurveyFault (g.F.LabFiles.answers c.args.files.now) c.args.words (g.F.LabFiles.kept c.args.files.now) (g.F.LabFiles.kept c.see.new.files) (g.F.LabFiles.opened c.args.files.now) (g.F.LabFiles.opened c.see.new.files) (g.W.Output.failed c.args.out.now) o o) _ _ c.from_residual.ensures.1
+    (inl (left_all (g.F.LabFiles.kept c.args.files.now) _ o c.in_err-seen.ensures.kept, c.in_err-seen.ensures.fault))
 
 pub returns : goal.returns
 returns g c =
