@@ -126,9 +126,5 @@ pub(crate) fn arrange_command<'a, F: LabFiles, W: Output>(
     ensures fault { IfErr result (IsArrangeFault (F.answers files.old) words.entry (F.kept files.old) (F.kept files.new) (F.opened files.old) (F.opened files.new) (W.failed out.new) (W.contents out.old) (W.contents out.new)) }
 {
     let geometry = place(alloc, &words, files)?;
-    ended(print_arranged(
-        printer(alloc, words.showing),
-        out,
-        geometry.rows(),
-    ))
+    ended(print_arranged(printer(alloc, words.showing), out, geometry.rows()))
 }

@@ -151,9 +151,5 @@ pub(crate) fn geometry_command<'a, F: LabFiles, W: Output>(
 {
     let rooms = GeometryRooms::new(alloc)?;
     let fitting = find_fits(rooms, words.dump, words.showing, files)?;
-    ended(print_fitting(
-        printer(alloc, words.showing),
-        out,
-        &fitting,
-    ))
+    ended(print_fitting(printer(alloc, words.showing), out, &fitting))
 }

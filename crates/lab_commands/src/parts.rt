@@ -21,11 +21,7 @@ pub(crate) enum Part<'a> {
 }
 
 // Prints a part.
-fn print_part<W: Output>(
-    printer: Printer,
-    out: &mut W,
-    part: Part<'_>,
-) -> Result<(), OutputFault>
+fn print_part<W: Output>(printer: Printer, out: &mut W, part: Part<'_>) -> Result<(), OutputFault>
     ensures { Prints (W.failed out.new) (W.contents out.old) (W.contents out.new) (part_text printer.form part.entry) result }
 {
     match part {

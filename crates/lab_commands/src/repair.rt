@@ -115,10 +115,5 @@ pub(crate) fn repair_command<'a, F: LabFiles, W: Output>(
     ensures fault { IfErr result (IsRepairFault (F.answers files.old) words.entry (F.kept files.old) (F.kept files.new) (F.opened files.old) (F.opened files.new) (W.failed out.new) (W.contents out.old) (W.contents out.new)) }
 {
     let told = put_mended(alloc, &words, files)?;
-    ended(print_repaired(
-        printer(alloc, words.showing),
-        out,
-        told.tries,
-        &told.mends,
-    ))
+    ended(print_repaired(printer(alloc, words.showing), out, told.tries, &told.mends))
 }

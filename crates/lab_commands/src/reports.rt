@@ -71,12 +71,7 @@ fn print_keys<W: Output>(
         &[
             Part::List(Lines::Tables(states, first, formed, tables)),
             Part::List(Lines::Keys(Label::Sector, states, 0, sectors)),
-            Part::List(Lines::Keys(
-                Label::Translation,
-                states,
-                sectors,
-                translations,
-            )),
+            Part::List(Lines::Keys(Label::Translation, states, sectors, translations)),
             Part::List(Lines::Keys(Label::Table, states, first, tables)),
         ],
     )

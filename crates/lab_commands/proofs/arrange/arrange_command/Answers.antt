@@ -11,17 +11,24 @@ use Rattle.lab_commands.proofs.arrange.arrange_command.Goals as goal
 pub returns-in_err-geometry-clause-fault : goal.returns-in_err-geometry-clause-fault
 returns-in_err-geometry-clause-fault g c =
     let o = g.W.Output.contents c.args.out.now in
-    handed_on (IsArrangeFault (g.F.LabFiles.answers c.args.files.now) c.args.words (g.F.LabFiles.kept c.args.files.now) (g.F.LabFiles.kept c.place.new.files) (g.F.LabFiles.opened c.args.files.now) (g.F.LabFiles.opened c.place.new.files) (g.W.Output.failed c.args.out.now) o o) _ _ c.from_residual.ensures.1
-    (inl (left_all (g.F.LabFiles.kept c.args.files.now) _ o c.in_err-geometry.ensures.kept, c.in_err-geometry.ensures.fault))
+    let a = g.F.LabFiles.answers c.args.files.now in
+    handed_on (IsArrangeFault a c.args.words (g.F.LabFiles.kept c.args.files.now) (g.F.LabFiles.kept c.place.new.files) (g.F.LabFiles.opened c.args.files.now) (g.F.LabFiles.opened c.place.new.files) (g.W.Output.failed c.args.out.now) o o) _ _ c.from_residual.ensures.1
+    (inl (left_all _ _ o c.in_err-geometry.ensures.kept, c.in_err-geometry.ensures.fault))
 
 pub returns : goal.returns
 returns g c =
     let o = g.W.Output.contents c.args.out.now in
+    let a = g.F.LabFiles.answers c.args.files.now in
     let p = g.W.Output.contents c.print_arranged.new.out in
     let broke = g.W.Output.failed c.print_arranged.new.out in
-    let printed : Prints broke o p (arrange_text (form_of c.args.words.showing) (row_count c.in_ok-geometry.geometry)) c.print_arranged.result = subst (λ f. Prints broke o p (arrange_text f (row_count c.in_ok-geometry.geometry)) c.print_arranged.result) c.printer.ensures
-        (subst (λ (n : ℕ). Prints broke o p (arrange_text c.printer.result.form n) c.print_arranged.result) c.rows.ensures c.print_arranged.ensures) in
+    let k = g.F.LabFiles.kept c.args.files.now in
+    let l = g.F.LabFiles.kept c.place.new.files in
+    let printed : Prints broke o p (arrange_text (form_of c.args.words.showing) (row_count c.in_ok-geometry.geometry)) c.print_arranged.result =
+    subst (λ f. Prints broke o p (arrange_text f (row_count c.in_ok-geometry.geometry)) c.print_arranged.result) c.printer.ensures
+    (subst (λ (n : ℕ). Prints broke o p (arrange_text c.printer.result.form n) c.print_arranged.result) c.rows.ensures c.print_arranged.ensures) in
     record {
-      ok = done_by (WroteArranged (g.F.LabFiles.answers c.args.files.now) c.args.words (g.F.LabFiles.kept c.args.files.now) (g.F.LabFiles.kept c.place.new.files) o p) broke o p _ c.print_arranged.result c.ended.result printed c.ended.ensures (λ told. record { g = c.in_ok-geometry.geometry; put = c.in_ok-geometry.ensures.placed; told = told });
-      fault = undone_by (IsArrangeFault (g.F.LabFiles.answers c.args.files.now) c.args.words (g.F.LabFiles.kept c.args.files.now) (g.F.LabFiles.kept c.place.new.files) (g.F.LabFiles.opened c.args.files.now) (g.F.LabFiles.opened c.place.new.files) broke o p) broke o p _ c.print_arranged.result c.ended.result printed c.ended.ensures (λ told half. inr (c.in_ok-geometry.geometry, c.in_ok-geometry.ensures.placed, half));
+      ok = done_by (WroteArranged a c.args.words k l o p) broke o p _ c.print_arranged.result c.ended.result printed c.ended.ensures (λ told. record { g = c.in_ok-geometry.geometry; put = c.in_ok-geometry.ensures.placed; told = told });
+      fault =
+          undone_by (IsArrangeFault a c.args.words k l (g.F.LabFiles.opened c.args.files.now) (g.F.LabFiles.opened c.place.new.files) broke o p) broke o p _ c.print_arranged.result c.ended.result printed c.ended.ensures
+          (λ told half. inr (c.in_ok-geometry.geometry, c.in_ok-geometry.ensures.placed, half));
     }

@@ -23,17 +23,17 @@ returns-in_err-room-clause-fault g c =
 pub returns-in_err-target-clause-fault : goal.returns-in_err-target-clause-fault
 returns-in_err-target-clause-fault g c =
     let words = c.args.words.now in
+    let why = subst (λ f. IsUnordered (g.F.LabFiles.answers f) c.in_ok-said.said.0 c.in_ok-said.said.1 words.dump.now words.out.now c.in_err-target.field-0.0) c.in_ok-allow.ensures.same c.in_err-target.ensures.fault in
     handed_on (IsUnarrangedBy (g.F.LabFiles.answers c.args.files.now) c.args.words.now (g.F.LabFiles.opened c.args.files.now) (g.F.LabFiles.opened c.put_in_order.new.files)) _ _ c.from_residual-in_err-target.ensures.1
-    (inr (c.in_ok-said.said.0, c.in_ok-said.said.1, c.in_ok-said.ensures.ok, inr (c.in_ok-allow.ensures.ok, inr (inl
-    (subst (λ f. IsUnordered (g.F.LabFiles.answers f) c.in_ok-said.said.0 c.in_ok-said.said.1 words.dump.now words.out.now c.in_err-target.field-0.0) c.in_ok-allow.ensures.same c.in_err-target.ensures.fault)))))
+    (inr (c.in_ok-said.said.0, c.in_ok-said.said.1, c.in_ok-said.ensures.ok, inr (c.in_ok-allow.ensures.ok, inr (inl why))))
 
 pub returns-in_err-keep-clause-fault : goal.returns-in_err-keep-clause-fault
 returns-in_err-keep-clause-fault g c =
     let words = c.args.words.now in
     let b = g.F.LabFiles.answers c.put_in_order.new.files in
+    let why = unplaced_before (g.F.LabFiles.answers c.args.files.now) b words.out.now words.force c.in_err-keep.field-0.0 (subst (λ f. AnswersNoMore (g.F.LabFiles.answers f) b) c.in_ok-allow.ensures.same c.in_ok-target.ensures.no_more) c.in_err-keep.ensures.fault in
     handed_on (IsUnarrangedBy (g.F.LabFiles.answers c.args.files.now) c.args.words.now (g.F.LabFiles.opened c.args.files.now) (g.F.LabFiles.opened c.keep.new.files)) _ _ c.from_residual-in_err-keep.ensures.1
-    (inr (c.in_ok-said.said.0, c.in_ok-said.said.1, c.in_ok-said.ensures.ok, inr (c.in_ok-allow.ensures.ok, inr (inr
-    (unplaced_before _ b words.out.now words.force _ (subst (λ f. AnswersNoMore (g.F.LabFiles.answers f) b) c.in_ok-allow.ensures.same c.in_ok-target.ensures.no_more) c.in_err-keep.ensures.fault)))))
+    (inr (c.in_ok-said.said.0, c.in_ok-said.said.1, c.in_ok-said.ensures.ok, inr (c.in_ok-allow.ensures.ok, inr (inr why))))
 
 pub returns-clause-placed : goal.returns-clause-placed
 returns-clause-placed g c =

@@ -16,14 +16,15 @@ use Rattle.lab_commands.proofs.array.array_command.Goals as goal
 pub returns-in_err-told-clause-fault : goal.returns-in_err-told-clause-fault
 returns-in_err-told-clause-fault g c =
     let o = g.W.Output.contents c.args.out.now in
-    handed_on (IsArrayFault (g.F.LabFiles.answers c.args.files.now) c.args.words (g.F.LabFiles.kept c.args.files.now) (g.F.LabFiles.kept c.place.new.files) (g.F.LabFiles.opened c.args.files.now) (g.F.LabFiles.opened c.place.new.files) (g.W.Output.failed c.args.out.now) o o) _ _ c.from_residual.ensures.1
-    (inl (left_all (g.F.LabFiles.kept c.args.files.now) _ o c.in_err-told.ensures.kept, c.in_err-told.ensures.fault))
+    let a = g.F.LabFiles.answers c.args.files.now in
+    handed_on (IsArrayFault a c.args.words (g.F.LabFiles.kept c.args.files.now) (g.F.LabFiles.kept c.place.new.files) (g.F.LabFiles.opened c.args.files.now) (g.F.LabFiles.opened c.place.new.files) (g.W.Output.failed c.args.out.now) o o) _ _ c.from_residual.ensures.1
+    (inl (left_all _ _ o c.in_err-told.ensures.kept, c.in_err-told.ensures.fault))
 
 pub returns-in_err-put_map-clause-fault : goal.returns-in_err-put_map-clause-fault
 returns-in_err-put_map-clause-fault g c =
+    let told = c.in_ok-told.told in
     let o = g.W.Output.contents c.args.out.now in
     let a = g.F.LabFiles.answers c.args.files.now in
-    let told = c.in_ok-told.told in
     let placed = c.in_ok-told.ensures.placed in
     handed_on (IsArrayFault a c.args.words (g.F.LabFiles.kept c.args.files.now) (g.F.LabFiles.kept c.put_map.new.files) (g.F.LabFiles.opened c.args.files.now) (g.F.LabFiles.opened c.put_map.new.files) (g.W.Output.failed c.args.out.now) o o) _ _ c.from_residual-in_err-put_map.ensures.1
     (inr (inl (record {
@@ -41,21 +42,27 @@ returns-in_err-put_map-clause-fault g c =
 pub returns : goal.returns
 returns g c =
     let o = g.W.Output.contents c.args.out.now in
+    let a = g.F.LabFiles.answers c.args.files.now in
     let p = g.W.Output.contents c.print_array.new.out in
     let broke = g.W.Output.failed c.print_array.new.out in
+    let k = g.F.LabFiles.kept c.args.files.now in
+    let l = g.F.LabFiles.kept c.put_map.new.files in
     let words = c.args.words.array in
     let made = c.in_ok-told.told in
     let held = made.held.items in
     let placed = c.in_ok-told.ensures.placed in
-    let put : PutArray (g.F.LabFiles.answers c.args.files.now) c.args.words (g.F.LabFiles.kept c.args.files.now) (g.F.LabFiles.kept c.put_map.new.files) made.geometry made.last held made.left = record {
+    let put : PutArray a c.args.words k l made.geometry made.last held made.left = record {
       pieces = placed.pieces;
       made = placed.made;
       put = c.in_ok-put_map.ensures.ok ∙ (ap (λ (hs : List Held). with_map (g.F.LabFiles.kept c.place.new.files) words (map_text remark.Array made.geometry (map mark_in hs))) c.deref.ensures.value
-        ∙ ap (λ x. with_map x words (map_text remark.Array made.geometry (map mark_in held))) placed.put);
+          ∙ ap (λ x. with_map x words (map_text remark.Array made.geometry (map mark_in held))) placed.put);
     } in
-    let printed : Prints broke o p (array_text (form_of words.showing) made.geometry made.last (map shown_in held) made.left) c.print_array.result = subst (λ f. Prints broke o p (array_text f made.geometry made.last (map shown_in held) made.left) c.print_array.result) c.printer.ensures
-        (subst (λ (hs : List Held). Prints broke o p (array_text c.printer.result.form made.geometry made.last (map shown_in hs) made.left) c.print_array.result) c.deref-2.ensures.value c.print_array.ensures) in
+    let printed : Prints broke o p (array_text (form_of words.showing) made.geometry made.last (map shown_in held) made.left) c.print_array.result =
+    subst (λ f. Prints broke o p (array_text f made.geometry made.last (map shown_in held) made.left) c.print_array.result) c.printer.ensures
+    (subst (λ (hs : List Held). Prints broke o p (array_text c.printer.result.form made.geometry made.last (map shown_in hs) made.left) c.print_array.result) c.deref-2.ensures.value c.print_array.ensures) in
     record {
-      ok = done_by (WroteArray (g.F.LabFiles.answers c.args.files.now) c.args.words (g.F.LabFiles.kept c.args.files.now) (g.F.LabFiles.kept c.put_map.new.files) o p) broke o p _ c.print_array.result c.ended.result printed c.ended.ensures (λ told. record { g = made.geometry; last = made.last; held = held; left = made.left; put = put; told = told });
-      fault = undone_by (IsArrayFault (g.F.LabFiles.answers c.args.files.now) c.args.words (g.F.LabFiles.kept c.args.files.now) (g.F.LabFiles.kept c.put_map.new.files) (g.F.LabFiles.opened c.args.files.now) (g.F.LabFiles.opened c.put_map.new.files) broke o p) broke o p _ c.print_array.result c.ended.result printed c.ended.ensures (λ told half. inr (inr (made.geometry, made.last, held, made.left, put, half)));
+      ok = done_by (WroteArray a c.args.words k l o p) broke o p _ c.print_array.result c.ended.result printed c.ended.ensures (λ told. record { g = made.geometry; last = made.last; held = held; left = made.left; put = put; told = told });
+      fault =
+          undone_by (IsArrayFault a c.args.words k l (g.F.LabFiles.opened c.args.files.now) (g.F.LabFiles.opened c.put_map.new.files) broke o p) broke o p _ c.print_array.result c.ended.result printed c.ended.ensures
+          (λ told half. inr (inr (made.geometry, made.last, held, made.left, put, half)));
     }

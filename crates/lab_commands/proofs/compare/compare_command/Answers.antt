@@ -10,18 +10,25 @@ use Rattle.lab_commands.proofs.compare.compare_command.Goals as goal
 pub returns-in_err-held-clause-fault : goal.returns-in_err-held-clause-fault
 returns-in_err-held-clause-fault g c =
     let o = g.W.Output.contents c.args.out.now in
-    handed_on (IsCompareFault (g.F.LabFiles.answers c.args.files.now) c.args.words (g.F.LabFiles.kept c.args.files.now) (g.F.LabFiles.kept c.hold.new.files) (g.F.LabFiles.opened c.args.files.now) (g.F.LabFiles.opened c.hold.new.files) (g.W.Output.failed c.args.out.now) o o) _ _ c.from_residual.ensures.1
-    (inl (left_all (g.F.LabFiles.kept c.args.files.now) _ o c.in_err-held.ensures.kept, c.in_err-held.ensures.fault))
+    let a = g.F.LabFiles.answers c.args.files.now in
+    handed_on (IsCompareFault a c.args.words (g.F.LabFiles.kept c.args.files.now) (g.F.LabFiles.kept c.hold.new.files) (g.F.LabFiles.opened c.args.files.now) (g.F.LabFiles.opened c.hold.new.files) (g.W.Output.failed c.args.out.now) o o) _ _ c.from_residual.ensures.1
+    (inl (left_all _ _ o c.in_err-held.ensures.kept, c.in_err-held.ensures.fault))
 
 pub returns : goal.returns
 returns g c =
     let o = g.W.Output.contents c.args.out.now in
+    let a = g.F.LabFiles.answers c.args.files.now in
     let p = g.W.Output.contents c.print_compared.new.out in
     let broke = g.W.Output.failed c.print_compared.new.out in
+    let k = g.F.LabFiles.kept c.args.files.now in
+    let l = g.F.LabFiles.kept c.hold.new.files in
     let held = c.in_ok-held.held in
-    let printed : Prints broke o p (compare_text (form_of c.args.words.showing) held.geometry held.compared) c.print_compared.result = subst (λ f. Prints broke o p (compare_text f held.geometry held.compared) c.print_compared.result) c.printer.ensures c.print_compared.ensures in
+    let printed : Prints broke o p (compare_text (form_of c.args.words.showing) held.geometry held.compared) c.print_compared.result =
+    subst (λ f. Prints broke o p (compare_text f held.geometry held.compared) c.print_compared.result) c.printer.ensures c.print_compared.ensures in
     record {
-      ok = done_by (ToldCompared (g.F.LabFiles.answers c.args.files.now) c.args.words o p) broke o p _ c.print_compared.result c.ended.result printed c.ended.ensures (λ told. record { g = held.geometry; compared = held.compared; has = c.in_ok-held.ensures.ok; told = told });
+      ok = done_by (ToldCompared a c.args.words o p) broke o p _ c.print_compared.result c.ended.result printed c.ended.ensures (λ told. record { g = held.geometry; compared = held.compared; has = c.in_ok-held.ensures.ok; told = told });
       kept = c.in_ok-held.ensures.kept;
-      fault = undone_by (IsCompareFault (g.F.LabFiles.answers c.args.files.now) c.args.words (g.F.LabFiles.kept c.args.files.now) (g.F.LabFiles.kept c.hold.new.files) (g.F.LabFiles.opened c.args.files.now) (g.F.LabFiles.opened c.hold.new.files) broke o p) broke o p _ c.print_compared.result c.ended.result printed c.ended.ensures (λ told half. inr (c.in_ok-held.ensures.kept, (held.geometry, held.compared, c.in_ok-held.ensures.ok, half)));
+      fault =
+          undone_by (IsCompareFault a c.args.words k l (g.F.LabFiles.opened c.args.files.now) (g.F.LabFiles.opened c.hold.new.files) broke o p) broke o p _ c.print_compared.result c.ended.result printed c.ended.ensures
+          (λ told half. inr (c.in_ok-held.ensures.kept, (held.geometry, held.compared, c.in_ok-held.ensures.ok, half)));
     }

@@ -24,9 +24,9 @@ pub returns-in_err-compared-clause-fault : goal.returns-in_err-compared-clause-f
 returns-in_err-compared-clause-fault g c =
     let a = g.F.LabFiles.answers c.args.files.now in
     let b = g.F.LabFiles.answers c.load_certificate.new.files in
+    let why = unheld_before a b c.in_ok-geometry.geometry c.in_ok-certificate.certificate c.args.words.now.dump.now c.in_err-compared.field-0.0 c.in_ok-certificate.ensures.no_more c.in_err-compared.ensures.fault in
     handed_on (IsUncompared (g.F.LabFiles.answers c.args.files.now) c.args.words.now (g.F.LabFiles.opened c.args.files.now) (g.F.LabFiles.opened c.compare_with.new.files)) _ _ c.from_residual-in_err-compared.ensures.1
-    (inr (c.in_ok-geometry.geometry, c.in_ok-geometry.ensures.ok, inr (inr (c.in_ok-certificate.certificate, c.in_ok-certificate.ensures.ok,
-    unheld_before a b c.in_ok-geometry.geometry c.in_ok-certificate.certificate c.args.words.now.dump.now _ c.in_ok-certificate.ensures.no_more c.in_err-compared.ensures.fault))))
+    (inr (c.in_ok-geometry.geometry, c.in_ok-geometry.ensures.ok, inr (inr (c.in_ok-certificate.certificate, c.in_ok-certificate.ensures.ok, why))))
 
 pub returns-clause-ok : goal.returns-clause-ok
 returns-clause-ok g c =

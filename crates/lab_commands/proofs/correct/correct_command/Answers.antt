@@ -15,8 +15,9 @@ use Rattle.lab_commands.proofs.correct.correct_command.Goals as goal
 pub returns-in_err-told-clause-fault : goal.returns-in_err-told-clause-fault
 returns-in_err-told-clause-fault g c =
     let o = g.W.Output.contents c.args.out.now in
-    handed_on (IsCorrectFault (g.F.LabFiles.answers c.args.files.now) c.args.words (g.F.LabFiles.kept c.args.files.now) (g.F.LabFiles.kept c.place.new.files) (g.F.LabFiles.opened c.args.files.now) (g.F.LabFiles.opened c.place.new.files) (g.W.Output.failed c.args.out.now) o o) _ _ c.from_residual.ensures.1
-    (inl (left_all (g.F.LabFiles.kept c.args.files.now) _ o c.in_err-told.ensures.kept, c.in_err-told.ensures.fault))
+    let a = g.F.LabFiles.answers c.args.files.now in
+    handed_on (IsCorrectFault a c.args.words (g.F.LabFiles.kept c.args.files.now) (g.F.LabFiles.kept c.place.new.files) (g.F.LabFiles.opened c.args.files.now) (g.F.LabFiles.opened c.place.new.files) (g.W.Output.failed c.args.out.now) o o) _ _ c.from_residual.ensures.1
+    (inl (left_all _ _ o c.in_err-told.ensures.kept, c.in_err-told.ensures.fault))
 
 pub returns-in_err-put_map-clause-fault : goal.returns-in_err-put_map-clause-fault
 returns-in_err-put_map-clause-fault g c =
@@ -37,22 +38,28 @@ returns-in_err-put_map-clause-fault g c =
 pub returns : goal.returns
 returns g c =
     let o = g.W.Output.contents c.args.out.now in
+    let a = g.F.LabFiles.answers c.args.files.now in
     let p = g.W.Output.contents c.print_corrected.new.out in
     let broke = g.W.Output.failed c.print_corrected.new.out in
+    let k = g.F.LabFiles.kept c.args.files.now in
+    let l = g.F.LabFiles.kept c.put_map.new.files in
     let words = c.args.words in
     let made = c.in_ok-told.told in
     let counts : Counts = record { turned = made.turned; touched = made.touched; losses = made.losses.items } in
     let placed = c.in_ok-told.ensures.placed in
-    let put : PutCorrected (g.F.LabFiles.answers c.args.files.now) words (g.F.LabFiles.kept c.args.files.now) (g.F.LabFiles.kept c.put_map.new.files) counts = record {
+    let put : PutCorrected a words k l counts = record {
       g = made.geometry;
       pieces = placed.pieces;
       made = placed.made;
       put = c.in_ok-put_map.ensures.ok ∙ (ap (λ (ls : List Loss). with_map (g.F.LabFiles.kept c.place.new.files) words (loss_map_text made.geometry ls)) c.deref.ensures.value
-        ∙ ap (λ x. with_map x words (loss_map_text made.geometry counts.losses)) placed.put);
+          ∙ ap (λ x. with_map x words (loss_map_text made.geometry counts.losses)) placed.put);
     } in
-    let printed : Prints broke o p (correct_text (form_of words.showing) counts.turned counts.touched counts.losses) c.print_corrected.result = subst (λ f. Prints broke o p (correct_text f counts.turned counts.touched counts.losses) c.print_corrected.result) c.printer.ensures
-        (subst (λ (ls : List Loss). Prints broke o p (correct_text c.printer.result.form counts.turned counts.touched ls) c.print_corrected.result) c.deref-2.ensures.value c.print_corrected.ensures) in
+    let printed : Prints broke o p (correct_text (form_of words.showing) counts.turned counts.touched counts.losses) c.print_corrected.result =
+    subst (λ f. Prints broke o p (correct_text f counts.turned counts.touched counts.losses) c.print_corrected.result) c.printer.ensures
+    (subst (λ (ls : List Loss). Prints broke o p (correct_text c.printer.result.form counts.turned counts.touched ls) c.print_corrected.result) c.deref-2.ensures.value c.print_corrected.ensures) in
     record {
-      ok = done_by (WroteCorrected (g.F.LabFiles.answers c.args.files.now) c.args.words (g.F.LabFiles.kept c.args.files.now) (g.F.LabFiles.kept c.put_map.new.files) o p) broke o p _ c.print_corrected.result c.ended.result printed c.ended.ensures (λ told. record { counts = counts; put = put; told = told });
-      fault = undone_by (IsCorrectFault (g.F.LabFiles.answers c.args.files.now) c.args.words (g.F.LabFiles.kept c.args.files.now) (g.F.LabFiles.kept c.put_map.new.files) (g.F.LabFiles.opened c.args.files.now) (g.F.LabFiles.opened c.put_map.new.files) broke o p) broke o p _ c.print_corrected.result c.ended.result printed c.ended.ensures (λ told half. inr (inr (counts, put, half)));
+      ok = done_by (WroteCorrected a c.args.words k l o p) broke o p _ c.print_corrected.result c.ended.result printed c.ended.ensures (λ told. record { counts = counts; put = put; told = told });
+      fault =
+          undone_by (IsCorrectFault a c.args.words k l (g.F.LabFiles.opened c.args.files.now) (g.F.LabFiles.opened c.put_map.new.files) broke o p) broke o p _ c.print_corrected.result c.ended.result printed c.ended.ensures
+          (λ told half. inr (inr (counts, put, half)));
     }

@@ -11,19 +11,26 @@ use Rattle.lab_commands.proofs.history.history_command.Goals as goal
 pub returns-in_err-found-clause-fault : goal.returns-in_err-found-clause-fault
 returns-in_err-found-clause-fault g c =
     let o = g.W.Output.contents c.args.out.now in
-    handed_on (IsHistoryFault (g.F.LabFiles.answers c.args.files.now) c.args.words (g.F.LabFiles.kept c.args.files.now) (g.F.LabFiles.kept c.recall.new.files) (g.F.LabFiles.opened c.args.files.now) (g.F.LabFiles.opened c.recall.new.files) (g.W.Output.failed c.args.out.now) o o) _ _ c.from_residual.ensures.1
-    (inl (left_all (g.F.LabFiles.kept c.args.files.now) _ o c.in_err-found.ensures.kept, c.in_err-found.ensures.fault))
+    let a = g.F.LabFiles.answers c.args.files.now in
+    handed_on (IsHistoryFault a c.args.words (g.F.LabFiles.kept c.args.files.now) (g.F.LabFiles.kept c.recall.new.files) (g.F.LabFiles.opened c.args.files.now) (g.F.LabFiles.opened c.recall.new.files) (g.W.Output.failed c.args.out.now) o o) _ _ c.from_residual.ensures.1
+    (inl (left_all _ _ o c.in_err-found.ensures.kept, c.in_err-found.ensures.fault))
 
 pub returns : goal.returns
 returns g c =
     let o = g.W.Output.contents c.args.out.now in
+    let a = g.F.LabFiles.answers c.args.files.now in
     let p = g.W.Output.contents c.print_history.new.out in
     let broke = g.W.Output.failed c.print_history.new.out in
+    let k = g.F.LabFiles.kept c.args.files.now in
+    let l = g.F.LabFiles.kept c.recall.new.files in
     let found = c.in_ok-found.found in
-    let printed : Prints broke o p (history_text (form_of c.args.words.showing) found.geometry found.history.pages.items found.history.unsound) c.print_history.result = subst (λ f. Prints broke o p (history_text f found.geometry found.history.pages.items found.history.unsound) c.print_history.result) c.printer.ensures
-        (subst (λ (ps : List SectorPage). Prints broke o p (history_text c.printer.result.form found.geometry ps found.history.unsound) c.print_history.result) c.deref.ensures.value c.print_history.ensures) in
+    let printed : Prints broke o p (history_text (form_of c.args.words.showing) found.geometry found.history.pages.items found.history.unsound) c.print_history.result =
+    subst (λ f. Prints broke o p (history_text f found.geometry found.history.pages.items found.history.unsound) c.print_history.result) c.printer.ensures
+    (subst (λ (ps : List SectorPage). Prints broke o p (history_text c.printer.result.form found.geometry ps found.history.unsound) c.print_history.result) c.deref.ensures.value c.print_history.ensures) in
     record {
-      ok = done_by (ToldHistory (g.F.LabFiles.answers c.args.files.now) c.args.words o p) broke o p _ c.print_history.result c.ended.result printed c.ended.ensures (λ told. record { g = found.geometry; history = found.history; has = c.in_ok-found.ensures.recalled; told = told });
+      ok = done_by (ToldHistory a c.args.words o p) broke o p _ c.print_history.result c.ended.result printed c.ended.ensures (λ told. record { g = found.geometry; history = found.history; has = c.in_ok-found.ensures.recalled; told = told });
       kept = c.in_ok-found.ensures.kept;
-      fault = undone_by (IsHistoryFault (g.F.LabFiles.answers c.args.files.now) c.args.words (g.F.LabFiles.kept c.args.files.now) (g.F.LabFiles.kept c.recall.new.files) (g.F.LabFiles.opened c.args.files.now) (g.F.LabFiles.opened c.recall.new.files) broke o p) broke o p _ c.print_history.result c.ended.result printed c.ended.ensures (λ told half. inr (c.in_ok-found.ensures.kept, (found.geometry, found.history, c.in_ok-found.ensures.recalled, half)));
+      fault =
+          undone_by (IsHistoryFault a c.args.words k l (g.F.LabFiles.opened c.args.files.now) (g.F.LabFiles.opened c.recall.new.files) broke o p) broke o p _ c.print_history.result c.ended.result printed c.ended.ensures
+          (λ told half. inr (c.in_ok-found.ensures.kept, (found.geometry, found.history, c.in_ok-found.ensures.recalled, half)));
     }

@@ -23,4 +23,3 @@ pub returns-in_err-history-clause-fault : goal.returns-in_err-history-clause-fau
 returns-in_err-history-clause-fault g c =
     handed_on (IsHistoryUntold (g.F.LabFiles.answers c.args.files.now) c.args.words.now (g.F.LabFiles.opened c.args.files.now) (g.F.LabFiles.opened c.history_of.new.files)) _ _ c.from_residual-in_err-history.ensures.1
     (inr (c.in_ok-geometry.geometry, c.in_ok-geometry.ensures.ok, inr (c.in_ok-sector.sector, c.in_ok-sector.ensures.ok, inr c.in_err-history.ensures.fault)))
-

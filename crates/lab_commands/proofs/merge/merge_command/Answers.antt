@@ -11,20 +11,29 @@ use Rattle.lab_commands.proofs.merge.merge_command.Goals as goal
 pub returns-in_err-told-clause-fault : goal.returns-in_err-told-clause-fault
 returns-in_err-told-clause-fault g c =
     let o = g.W.Output.contents c.args.out.now in
-    handed_on (IsMergeFault (g.F.LabFiles.answers c.args.files.now) c.args.words (g.F.LabFiles.kept c.args.files.now) (g.F.LabFiles.kept c.place.new.files) (g.F.LabFiles.opened c.args.files.now) (g.F.LabFiles.opened c.place.new.files) (g.W.Output.failed c.args.out.now) o o) _ _ c.from_residual.ensures.1
-    (inl (left_all (g.F.LabFiles.kept c.args.files.now) _ o c.in_err-told.ensures.kept, c.in_err-told.ensures.fault))
+    let a = g.F.LabFiles.answers c.args.files.now in
+    handed_on (IsMergeFault a c.args.words (g.F.LabFiles.kept c.args.files.now) (g.F.LabFiles.kept c.place.new.files) (g.F.LabFiles.opened c.args.files.now) (g.F.LabFiles.opened c.place.new.files) (g.W.Output.failed c.args.out.now) o o) _ _ c.from_residual.ensures.1
+    (inl (left_all _ _ o c.in_err-told.ensures.kept, c.in_err-told.ensures.fault))
 
 pub returns : goal.returns
 returns g c =
     let o = g.W.Output.contents c.args.out.now in
+    let a = g.F.LabFiles.answers c.args.files.now in
     let p = g.W.Output.contents c.print_merged.new.out in
     let broke = g.W.Output.failed c.print_merged.new.out in
+    let k = g.F.LabFiles.kept c.args.files.now in
+    let l = g.F.LabFiles.kept c.place.new.files in
     let made = c.in_ok-told.told in
-    let printed : Prints broke o p (merge_text (form_of c.args.words.showing) made.conflicts.items made.unsound.items made.tried.items made.tally) c.print_merged.result = subst (λ f. Prints broke o p (merge_text f made.conflicts.items made.unsound.items made.tried.items made.tally) c.print_merged.result) c.printer.ensures
-        (subst (λ (rows : List TriedRow). Prints broke o p (merge_text c.printer.result.form made.conflicts.items made.unsound.items rows made.tally) c.print_merged.result) c.deref-3.ensures.value
-        (subst (λ (rows : List ℕ). Prints broke o p (merge_text c.printer.result.form made.conflicts.items rows c.deref-3.result.now made.tally) c.print_merged.result) c.deref-2.ensures.value
-        (subst (λ (rows : List ℕ). Prints broke o p (merge_text c.printer.result.form rows c.deref-2.result.now c.deref-3.result.now made.tally) c.print_merged.result) c.deref.ensures.value c.print_merged.ensures))) in
+    let printed : Prints broke o p (merge_text (form_of c.args.words.showing) made.conflicts.items made.unsound.items made.tried.items made.tally) c.print_merged.result =
+    subst (λ f. Prints broke o p (merge_text f made.conflicts.items made.unsound.items made.tried.items made.tally) c.print_merged.result) c.printer.ensures
+    (subst (λ (rows : List TriedRow). Prints broke o p (merge_text c.printer.result.form made.conflicts.items made.unsound.items rows made.tally) c.print_merged.result) c.deref-3.ensures.value
+    (subst (λ (rows : List ℕ). Prints broke o p (merge_text c.printer.result.form made.conflicts.items rows c.deref-3.result.now made.tally) c.print_merged.result) c.deref-2.ensures.value
+    (subst (λ (rows : List ℕ). Prints broke o p (merge_text c.printer.result.form rows c.deref-2.result.now c.deref-3.result.now made.tally) c.print_merged.result) c.deref.ensures.value c.print_merged.ensures))) in
     record {
-      ok = done_by (WroteMerge (g.F.LabFiles.answers c.args.files.now) c.args.words (g.F.LabFiles.kept c.args.files.now) (g.F.LabFiles.kept c.place.new.files) o p) broke o p _ c.print_merged.result c.ended.result printed c.ended.ensures (λ told. record { conflicts = made.conflicts.items; unsound = made.unsound.items; tried = made.tried.items; tally = made.tally; put = c.in_ok-told.ensures.placed; told = told });
-      fault = undone_by (IsMergeFault (g.F.LabFiles.answers c.args.files.now) c.args.words (g.F.LabFiles.kept c.args.files.now) (g.F.LabFiles.kept c.place.new.files) (g.F.LabFiles.opened c.args.files.now) (g.F.LabFiles.opened c.place.new.files) broke o p) broke o p _ c.print_merged.result c.ended.result printed c.ended.ensures (λ told half. inr (made.conflicts.items, made.unsound.items, made.tried.items, made.tally, c.in_ok-told.ensures.placed, half));
+      ok =
+          done_by (WroteMerge a c.args.words k l o p) broke o p _ c.print_merged.result c.ended.result printed c.ended.ensures
+          (λ told. record { conflicts = made.conflicts.items; unsound = made.unsound.items; tried = made.tried.items; tally = made.tally; put = c.in_ok-told.ensures.placed; told = told });
+      fault =
+          undone_by (IsMergeFault a c.args.words k l (g.F.LabFiles.opened c.args.files.now) (g.F.LabFiles.opened c.place.new.files) broke o p) broke o p _ c.print_merged.result c.ended.result printed c.ended.ensures
+          (λ told half. inr (made.conflicts.items, made.unsound.items, made.tried.items, made.tally, c.in_ok-told.ensures.placed, half));
     }

@@ -23,17 +23,17 @@ returns-in_err-room-clause-fault g c =
 pub returns-in_err-merged-clause-fault : goal.returns-in_err-merged-clause-fault
 returns-in_err-merged-clause-fault g c =
     let words = c.args.words.now in
+    let why = subst (λ f. IsUnjoined (g.F.LabFiles.answers f) (dumps_of words) c.in_ok-geometry.geometry words.out.now c.in_err-merged.field-0.0) c.in_ok-allow_merge.ensures.same c.in_err-merged.ensures.fault in
     handed_on (IsUnmergedBy (g.F.LabFiles.answers c.args.files.now) c.args.words.now (g.F.LabFiles.opened c.args.files.now) (g.F.LabFiles.opened c.join.new.files)) _ _ c.from_residual-in_err-merged.ensures.1
-    (inr (c.in_ok-geometry.geometry, c.in_ok-geometry.ensures.ok, inr (c.in_ok-allow_merge.ensures.ok, inr (inl
-    (subst (λ f. IsUnjoined (g.F.LabFiles.answers f) (dumps_of words) c.in_ok-geometry.geometry words.out.now c.in_err-merged.field-0.0) c.in_ok-allow_merge.ensures.same c.in_err-merged.ensures.fault)))))
+    (inr (c.in_ok-geometry.geometry, c.in_ok-geometry.ensures.ok, inr (c.in_ok-allow_merge.ensures.ok, inr (inl why))))
 
 pub returns-in_err-keep-clause-fault : goal.returns-in_err-keep-clause-fault
 returns-in_err-keep-clause-fault g c =
     let words = c.args.words.now in
     let b = g.F.LabFiles.answers c.join.new.files in
+    let why = unplaced_before (g.F.LabFiles.answers c.args.files.now) b words.out.now words.force c.in_err-keep.field-0.0 (subst (λ f. AnswersNoMore (g.F.LabFiles.answers f) b) c.in_ok-allow_merge.ensures.same c.in_ok-merged.ensures.no_more) c.in_err-keep.ensures.fault in
     handed_on (IsUnmergedBy (g.F.LabFiles.answers c.args.files.now) c.args.words.now (g.F.LabFiles.opened c.args.files.now) (g.F.LabFiles.opened c.keep.new.files)) _ _ c.from_residual-in_err-keep.ensures.1
-    (inr (c.in_ok-geometry.geometry, c.in_ok-geometry.ensures.ok, inr (c.in_ok-allow_merge.ensures.ok, inr (inr
-    (unplaced_before _ b words.out.now words.force _ (subst (λ f. AnswersNoMore (g.F.LabFiles.answers f) b) c.in_ok-allow_merge.ensures.same c.in_ok-merged.ensures.no_more) c.in_err-keep.ensures.fault)))))
+    (inr (c.in_ok-geometry.geometry, c.in_ok-geometry.ensures.ok, inr (c.in_ok-allow_merge.ensures.ok, inr (inr why))))
 
 pub returns-clause-placed : goal.returns-clause-placed
 returns-clause-placed g c =

@@ -11,19 +11,26 @@ use Rattle.lab_commands.proofs.origin.origin_command.Goals as goal
 pub returns-in_err-marks-clause-fault : goal.returns-in_err-marks-clause-fault
 returns-in_err-marks-clause-fault g c =
     let o = g.W.Output.contents c.args.out.now in
-    handed_on (IsOriginFault (g.F.LabFiles.answers c.args.files.now) c.args.words (g.F.LabFiles.kept c.args.files.now) (g.F.LabFiles.kept c.place.new.files) (g.F.LabFiles.opened c.args.files.now) (g.F.LabFiles.opened c.place.new.files) (g.W.Output.failed c.args.out.now) o o) _ _ c.from_residual.ensures.1
-    (inl (left_all (g.F.LabFiles.kept c.args.files.now) _ o c.in_err-marks.ensures.kept, c.in_err-marks.ensures.fault))
+    let a = g.F.LabFiles.answers c.args.files.now in
+    handed_on (IsOriginFault a c.args.words (g.F.LabFiles.kept c.args.files.now) (g.F.LabFiles.kept c.place.new.files) (g.F.LabFiles.opened c.args.files.now) (g.F.LabFiles.opened c.place.new.files) (g.W.Output.failed c.args.out.now) o o) _ _ c.from_residual.ensures.1
+    (inl (left_all _ _ o c.in_err-marks.ensures.kept, c.in_err-marks.ensures.fault))
 
 pub returns : goal.returns
 returns g c =
     let o = g.W.Output.contents c.args.out.now in
+    let a = g.F.LabFiles.answers c.args.files.now in
     let p = g.W.Output.contents c.print_origin.new.out in
     let broke = g.W.Output.failed c.print_origin.new.out in
+    let k = g.F.LabFiles.kept c.args.files.now in
+    let l = g.F.LabFiles.kept c.place.new.files in
     let marks = c.in_ok-marks.marks.items in
     let put = c.in_ok-marks.ensures.placed in
-    let printed : Prints broke o p (origin_text (form_of c.args.words.showing) marks) c.print_origin.result = subst (λ f. Prints broke o p (origin_text f marks) c.print_origin.result) c.printer.ensures
-        (subst (λ (ms : List MapMark). Prints broke o p (origin_text c.printer.result.form ms) c.print_origin.result) c.deref.ensures.value c.print_origin.ensures) in
+    let printed : Prints broke o p (origin_text (form_of c.args.words.showing) marks) c.print_origin.result =
+    subst (λ f. Prints broke o p (origin_text f marks) c.print_origin.result) c.printer.ensures
+    (subst (λ (ms : List MapMark). Prints broke o p (origin_text c.printer.result.form ms) c.print_origin.result) c.deref.ensures.value c.print_origin.ensures) in
     record {
-      ok = done_by (WroteOrigin (g.F.LabFiles.answers c.args.files.now) c.args.words (g.F.LabFiles.kept c.args.files.now) (g.F.LabFiles.kept c.place.new.files) o p) broke o p _ c.print_origin.result c.ended.result printed c.ended.ensures (λ told. record { g = put.g; last = put.last; marks = marks; put = put.put; told = told });
-      fault = undone_by (IsOriginFault (g.F.LabFiles.answers c.args.files.now) c.args.words (g.F.LabFiles.kept c.args.files.now) (g.F.LabFiles.kept c.place.new.files) (g.F.LabFiles.opened c.args.files.now) (g.F.LabFiles.opened c.place.new.files) broke o p) broke o p _ c.print_origin.result c.ended.result printed c.ended.ensures (λ told half. inr (put.g, put.last, marks, put.put, half));
+      ok = done_by (WroteOrigin a c.args.words k l o p) broke o p _ c.print_origin.result c.ended.result printed c.ended.ensures (λ told. record { g = put.g; last = put.last; marks = marks; put = put.put; told = told });
+      fault =
+          undone_by (IsOriginFault a c.args.words k l (g.F.LabFiles.opened c.args.files.now) (g.F.LabFiles.opened c.place.new.files) broke o p) broke o p _ c.print_origin.result c.ended.result printed c.ended.ensures
+          (λ told half. inr (put.g, put.last, marks, put.put, half));
     }

@@ -30,17 +30,17 @@ returns-in_err-room-clause-fault g c =
 
 pub returns-in_err-marks-clause-fault : goal.returns-in_err-marks-clause-fault
 returns-in_err-marks-clause-fault g c =
+    let why = subst (λ f. IsUnfollowed (g.F.LabFiles.answers f) c.args.words.now c.in_ok-geometry.geometry c.in_err-marks.field-0.0) c.in_ok-allow_origin.ensures.same c.in_err-marks.ensures.fault in
     handed_on (IsUndone (g.F.LabFiles.answers c.args.files.now) c.args.words.now (g.F.LabFiles.opened c.args.files.now) (g.F.LabFiles.opened c.follow.new.files)) _ _ c.from_residual-in_err-marks.ensures.1
-    (inr (c.in_ok-geometry.geometry, c.in_ok-geometry.ensures.ok, inr (c.in_ok-last.last, c.in_ok-last.ensures.ok, inr (c.in_ok-allow_origin.ensures.ok, inr (inl
-    (subst (λ f. IsUnfollowed (g.F.LabFiles.answers f) c.args.words.now c.in_ok-geometry.geometry c.in_err-marks.field-0.0) c.in_ok-allow_origin.ensures.same c.in_err-marks.ensures.fault))))))
+    (inr (c.in_ok-geometry.geometry, c.in_ok-geometry.ensures.ok, inr (c.in_ok-last.last, c.in_ok-last.ensures.ok, inr (c.in_ok-allow_origin.ensures.ok, inr (inl why)))))
 
 pub returns-in_err-put_origin-clause-fault : goal.returns-in_err-put_origin-clause-fault
 returns-in_err-put_origin-clause-fault g c =
     let words = c.args.words.now in
     let b = g.F.LabFiles.answers c.follow.new.files in
+    let why = unplaced_before (g.F.LabFiles.answers c.args.files.now) b words.out.now words.force c.in_err-put_origin.field-0.0 (subst (λ f. AnswersNoMore (g.F.LabFiles.answers f) b) c.in_ok-allow_origin.ensures.same c.follow.ensures.no_more) c.in_err-put_origin.ensures.fault in
     handed_on (IsUndone (g.F.LabFiles.answers c.args.files.now) c.args.words.now (g.F.LabFiles.opened c.args.files.now) (g.F.LabFiles.opened c.put_origin.new.files)) _ _ c.from_residual-in_err-put_origin.ensures.1
-    (inr (c.in_ok-geometry.geometry, c.in_ok-geometry.ensures.ok, inr (c.in_ok-last.last, c.in_ok-last.ensures.ok, inr (c.in_ok-allow_origin.ensures.ok, inr (inr
-    (unplaced_before _ b words.out.now words.force _ (subst (λ f. AnswersNoMore (g.F.LabFiles.answers f) b) c.in_ok-allow_origin.ensures.same c.follow.ensures.no_more) c.in_err-put_origin.ensures.fault))))))
+    (inr (c.in_ok-geometry.geometry, c.in_ok-geometry.ensures.ok, inr (c.in_ok-last.last, c.in_ok-last.ensures.ok, inr (c.in_ok-allow_origin.ensures.ok, inr (inr why)))))
 
 pub returns-clause-placed : goal.returns-clause-placed
 returns-clause-placed g c =

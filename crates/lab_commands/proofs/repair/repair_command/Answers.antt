@@ -11,20 +11,27 @@ use Rattle.lab_commands.proofs.repair.repair_command.Goals as goal
 pub returns-in_err-told-clause-fault : goal.returns-in_err-told-clause-fault
 returns-in_err-told-clause-fault g c =
     let o = g.W.Output.contents c.args.out.now in
-    handed_on (IsRepairFault (g.F.LabFiles.answers c.args.files.now) c.args.words (g.F.LabFiles.kept c.args.files.now) (g.F.LabFiles.kept c.put_mended.new.files) (g.F.LabFiles.opened c.args.files.now) (g.F.LabFiles.opened c.put_mended.new.files) (g.W.Output.failed c.args.out.now) o o) _ _ c.from_residual.ensures.1
-    (inl (left_all (g.F.LabFiles.kept c.args.files.now) _ o c.in_err-told.ensures.kept, c.in_err-told.ensures.fault))
+    let a = g.F.LabFiles.answers c.args.files.now in
+    handed_on (IsRepairFault a c.args.words (g.F.LabFiles.kept c.args.files.now) (g.F.LabFiles.kept c.put_mended.new.files) (g.F.LabFiles.opened c.args.files.now) (g.F.LabFiles.opened c.put_mended.new.files) (g.W.Output.failed c.args.out.now) o o) _ _ c.from_residual.ensures.1
+    (inl (left_all _ _ o c.in_err-told.ensures.kept, c.in_err-told.ensures.fault))
 
 pub returns : goal.returns
 returns g c =
     let o = g.W.Output.contents c.args.out.now in
+    let a = g.F.LabFiles.answers c.args.files.now in
     let p = g.W.Output.contents c.print_repaired.new.out in
     let broke = g.W.Output.failed c.print_repaired.new.out in
+    let k = g.F.LabFiles.kept c.args.files.now in
+    let l = g.F.LabFiles.kept c.put_mended.new.files in
     let mends = c.in_ok-told.told.mends.items in
     let has = c.in_ok-told.ensures.put in
-    let printed : Prints broke o p (repair_text (form_of c.args.words.showing) (told_tries has.put.bits has.put.g mends) mends) c.print_repaired.result = subst (λ f. Prints broke o p (repair_text f (told_tries has.put.bits has.put.g mends) mends) c.print_repaired.result) c.printer.ensures
-        (subst (λ (n : ℕ). Prints broke o p (repair_text c.printer.result.form n mends) c.print_repaired.result) has.tried
-        (subst (λ (ms : List Mend). Prints broke o p (repair_text c.printer.result.form c.in_ok-told.told.tries ms) c.print_repaired.result) c.deref.ensures.value c.print_repaired.ensures)) in
+    let printed : Prints broke o p (repair_text (form_of c.args.words.showing) (told_tries has.put.bits has.put.g mends) mends) c.print_repaired.result =
+    subst (λ f. Prints broke o p (repair_text f (told_tries has.put.bits has.put.g mends) mends) c.print_repaired.result) c.printer.ensures
+    (subst (λ (n : ℕ). Prints broke o p (repair_text c.printer.result.form n mends) c.print_repaired.result) has.tried
+    (subst (λ (ms : List Mend). Prints broke o p (repair_text c.printer.result.form c.in_ok-told.told.tries ms) c.print_repaired.result) c.deref.ensures.value c.print_repaired.ensures)) in
     record {
-      ok = done_by (WroteRepair (g.F.LabFiles.answers c.args.files.now) c.args.words (g.F.LabFiles.kept c.args.files.now) (g.F.LabFiles.kept c.put_mended.new.files) o p) broke o p _ c.print_repaired.result c.ended.result printed c.ended.ensures (λ told. record { mends = mends; put = has.put; told = told });
-      fault = undone_by (IsRepairFault (g.F.LabFiles.answers c.args.files.now) c.args.words (g.F.LabFiles.kept c.args.files.now) (g.F.LabFiles.kept c.put_mended.new.files) (g.F.LabFiles.opened c.args.files.now) (g.F.LabFiles.opened c.put_mended.new.files) broke o p) broke o p _ c.print_repaired.result c.ended.result printed c.ended.ensures (λ told half. inr (mends, has.put, half));
+      ok = done_by (WroteRepair a c.args.words k l o p) broke o p _ c.print_repaired.result c.ended.result printed c.ended.ensures (λ told. record { mends = mends; put = has.put; told = told });
+      fault =
+          undone_by (IsRepairFault a c.args.words k l (g.F.LabFiles.opened c.args.files.now) (g.F.LabFiles.opened c.put_mended.new.files) broke o p) broke o p _ c.print_repaired.result c.ended.result printed c.ended.ensures
+          (λ told half. inr (mends, has.put, half));
     }

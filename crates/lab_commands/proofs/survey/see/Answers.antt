@@ -23,4 +23,3 @@ pub returns-in_err-survey-clause-fault : goal.returns-in_err-survey-clause-fault
 returns-in_err-survey-clause-fault g c =
     handed_on (IsUnseen (g.F.LabFiles.answers c.args.files.now) c.args.words.now (g.F.LabFiles.opened c.args.files.now) (g.F.LabFiles.opened c.survey_of.new.files)) _ _ c.from_residual-in_err-survey.ensures.1
     (inr (c.in_ok-geometry.geometry, c.in_ok-geometry.ensures.ok, inr (c.in_ok-rows.rows, c.in_ok-rows.ensures.ok, inr c.in_err-survey.ensures.fault)))
-

@@ -10,18 +10,25 @@ use Rattle.lab_commands.proofs.survey.survey_command.Goals as goal
 pub returns-in_err-seen-clause-fault : goal.returns-in_err-seen-clause-fault
 returns-in_err-seen-clause-fault g c =
     let o = g.W.Output.contents c.args.out.now in
-    handed_on (IsSurveyFault (g.F.LabFiles.answers c.args.files.now) c.args.words (g.F.LabFiles.kept c.args.files.now) (g.F.LabFiles.kept c.see.new.files) (g.F.LabFiles.opened c.args.files.now) (g.F.LabFiles.opened c.see.new.files) (g.W.Output.failed c.args.out.now) o o) _ _ c.from_residual.ensures.1
-    (inl (left_all (g.F.LabFiles.kept c.args.files.now) _ o c.in_err-seen.ensures.kept, c.in_err-seen.ensures.fault))
+    let a = g.F.LabFiles.answers c.args.files.now in
+    handed_on (IsSurveyFault a c.args.words (g.F.LabFiles.kept c.args.files.now) (g.F.LabFiles.kept c.see.new.files) (g.F.LabFiles.opened c.args.files.now) (g.F.LabFiles.opened c.see.new.files) (g.W.Output.failed c.args.out.now) o o) _ _ c.from_residual.ensures.1
+    (inl (left_all _ _ o c.in_err-seen.ensures.kept, c.in_err-seen.ensures.fault))
 
 pub returns : goal.returns
 returns g c =
     let o = g.W.Output.contents c.args.out.now in
+    let a = g.F.LabFiles.answers c.args.files.now in
     let p = g.W.Output.contents c.print_survey.new.out in
     let broke = g.W.Output.failed c.print_survey.new.out in
+    let k = g.F.LabFiles.kept c.args.files.now in
+    let l = g.F.LabFiles.kept c.see.new.files in
     let seen = c.in_ok-seen.seen in
-    let printed : Prints broke o p (survey_text (form_of c.args.words.showing) seen.geometry seen.rows seen.survey) c.print_survey.result = subst (λ f. Prints broke o p (survey_text f seen.geometry seen.rows seen.survey) c.print_survey.result) c.printer.ensures c.print_survey.ensures in
+    let printed : Prints broke o p (survey_text (form_of c.args.words.showing) seen.geometry seen.rows seen.survey) c.print_survey.result =
+    subst (λ f. Prints broke o p (survey_text f seen.geometry seen.rows seen.survey) c.print_survey.result) c.printer.ensures c.print_survey.ensures in
     record {
-      ok = done_by (ToldSurvey (g.F.LabFiles.answers c.args.files.now) c.args.words o p) broke o p _ c.print_survey.result c.ended.result printed c.ended.ensures (λ told. record { g = seen.geometry; rows = seen.rows; survey = seen.survey; has = c.in_ok-seen.ensures.seen; told = told });
+      ok = done_by (ToldSurvey a c.args.words o p) broke o p _ c.print_survey.result c.ended.result printed c.ended.ensures (λ told. record { g = seen.geometry; rows = seen.rows; survey = seen.survey; has = c.in_ok-seen.ensures.seen; told = told });
       kept = c.in_ok-seen.ensures.kept;
-      fault = undone_by (IsSurveyFault (g.F.LabFiles.answers c.args.files.now) c.args.words (g.F.LabFiles.kept c.args.files.now) (g.F.LabFiles.kept c.see.new.files) (g.F.LabFiles.opened c.args.files.now) (g.F.LabFiles.opened c.see.new.files) broke o p) broke o p _ c.print_survey.result c.ended.result printed c.ended.ensures (λ told half. inr (c.in_ok-seen.ensures.kept, (seen.geometry, seen.rows, seen.survey, c.in_ok-seen.ensures.seen, half)));
+      fault =
+          undone_by (IsSurveyFault a c.args.words k l (g.F.LabFiles.opened c.args.files.now) (g.F.LabFiles.opened c.see.new.files) broke o p) broke o p _ c.print_survey.result c.ended.result printed c.ended.ensures
+          (λ told half. inr (c.in_ok-seen.ensures.kept, (seen.geometry, seen.rows, seen.survey, c.in_ok-seen.ensures.seen, half)));
     }
