@@ -9,7 +9,7 @@ use Rattle.lab_dump.specs.declared.fit.Fit.{Fit}
 use Rattle.lab_dump.specs.declared.doubts.Doubts.{Doubts}
 use Rattle.lab_correct.specs.declared.found.FoundFit.{FoundFit}
 use Rattle.lab_dump.specs.Doubts.{most_older}
-use Rattle.lab_commands.specs.Lines.{age_words, first_words, fit_words, found_words, moved_words, says_words, whole_words}
+use Rattle.lab_commands.specs.Lines.{age_words, counted_words, first_words, fit_words, found_words, moved_words, says_words, shape_words, whole_words}
 use Rattle.lab_commands.specs.declared.output.OutputFault.{OutputFault}
 use Rattle.lab_commands.specs.Document.{StopsPrinting}
 use Rattle.lab_commands.specs.Pieces.{joined}
@@ -45,30 +45,22 @@ stopped_put f o broke ps n d a b e l first last =
 
 -- ---- lines that are told of in parts
 
--- a geometry that fits, piece by piece
-pub fit_flat : (f : Fit) → codes "geometry " ++ (decimal f.data_bytes ++ (codes "," ++ (decimal f.spare_bytes ++ (codes "," ++ (decimal f.pages ++ (codes "," ++ (decimal f.blocks ++ (codes "," ++ (decimal f.sectors
-    ++ (codes " looked " ++ (decimal f.looked ++ (codes " sound " ++ (decimal f.sound.0 ++ (codes " unsound " ++ (decimal f.unsound
-    ++ (codes " table " ++ (says_words f.table ++ (codes " blocks " ++ (decimal f.blocks_told ++ (codes " sectors " ++ decimal f.sectors_told)))))))))))))))))))) ≡ fit_words f
-fit_flat f = simp append_assoc
+-- the five numbers of a geometry, between other words
+shaped_flat : (f : Fit) (before behind : List ℕ)
+    → before ++ (decimal f.data_bytes ++ (codes "," ++ (decimal f.spare_bytes ++ (codes "," ++ (decimal f.pages ++ (codes "," ++ (decimal f.blocks ++ (codes "," ++ (decimal f.sectors ++ behind))))))))) ≡ before ++ (shape_words f ++ behind)
+shaped_flat f before behind = simp append_assoc
 
-pub fit_pieces : (f : Fit) (r1 r2 r3 r4 r5 r6 r7 r8 : ℕ) (w : List ℕ) → r1 ≡ f.data_bytes → r2 ≡ f.spare_bytes → r3 ≡ f.pages → r4 ≡ f.blocks → r5 ≡ f.sectors → r6 ≡ f.looked → r7 ≡ f.sound.0 → r8 ≡ f.unsound → w ≡ says_words f.table
-    → codes "geometry " ++ (decimal r1 ++ (codes "," ++ (decimal r2 ++ (codes "," ++ (decimal r3 ++ (codes "," ++ (decimal r4 ++ (codes "," ++ (decimal r5 ++ (codes " looked " ++ (decimal r6 ++ (codes " sound " ++ (decimal r7 ++ (codes " unsound " ++ (decimal r8
-    ++ (codes " table " ++ (w ++ (codes " blocks " ++ (decimal f.blocks_told ++ (codes " sectors " ++ decimal f.sectors_told)))))))))))))))))))) ≡ fit_words f
-fit_pieces f r1 r2 r3 r4 r5 r6 r7 r8 w e1 e2 e3 e4 e5 e6 e7 e8 ew = rw (e1, e2, e3, e4, e5, e6, e7, e8, ew) (fit_flat f)
+pub shaped_pieces : (f : Fit) (before behind : List ℕ) (r1 r2 r3 r4 r5 : ℕ) → r1 ≡ f.data_bytes → r2 ≡ f.spare_bytes → r3 ≡ f.pages → r4 ≡ f.blocks → r5 ≡ f.sectors
+    → before ++ (decimal r1 ++ (codes "," ++ (decimal r2 ++ (codes "," ++ (decimal r3 ++ (codes "," ++ (decimal r4 ++ (codes "," ++ (decimal r5 ++ behind))))))))) ≡ before ++ (shape_words f ++ behind)
+shaped_pieces f before behind r1 r2 r3 r4 r5 e1 e2 e3 e4 e5 = rw (e1, e2, e3, e4, e5) (shaped_flat f before behind)
 
--- what comes first of a dump with codes
-first_flat : (f : Fit)
-    → codes " codes hamming: first nandlab correct " ++
-    (decimal f.data_bytes
-    ++ (codes ","
-    ++ (decimal f.spare_bytes
-    ++ (codes "," ++ (decimal f.pages ++ (codes "," ++ (decimal f.blocks ++ (codes "," ++ (decimal f.sectors ++ codes " DUMP OUT")))))))))
-    ≡ first_words f
-first_flat f = simp append_assoc
+-- a geometry that fits, in two parts
+pub fit_parts : (f : Fit) → (codes "geometry " ++ (shape_words f ++ codes " looked ")) ++ counted_words f ≡ fit_words f
+fit_parts f = simp append_assoc
 
-pub first_pieces : (f : Fit) (r1 r2 r3 r4 r5 : ℕ) → r1 ≡ f.data_bytes → r2 ≡ f.spare_bytes → r3 ≡ f.pages → r4 ≡ f.blocks → r5 ≡ f.sectors
-    → codes " codes hamming: first nandlab correct " ++ (decimal r1 ++ (codes "," ++ (decimal r2 ++ (codes "," ++ (decimal r3 ++ (codes "," ++ (decimal r4 ++ (codes "," ++ (decimal r5 ++ codes " DUMP OUT"))))))))) ≡ first_words f
-first_pieces f r1 r2 r3 r4 r5 e1 e2 e3 e4 e5 = rw (e1, e2, e3, e4, e5) (first_flat f)
+pub counted_pieces : (f : Fit) (r1 r2 r3 : ℕ) (w : List ℕ) → r1 ≡ f.looked → r2 ≡ f.sound.0 → r3 ≡ f.unsound → w ≡ says_words f.table
+    → decimal r1 ++ (codes " sound " ++ (decimal r2 ++ (codes " unsound " ++ (decimal r3 ++ (codes " table " ++ (w ++ (codes " blocks " ++ (decimal f.blocks_told ++ (codes " sectors " ++ decimal f.sectors_told))))))))) ≡ counted_words f
+counted_pieces f r1 r2 r3 w e1 e2 e3 ew = rw (e1, e2, e3, ew) refl
 
 -- a geometry with codes is told in both parts
 pub coded_found : (found : FoundFit) → found.coded ≡ true → fit_words found.fit ++ first_words found.fit ≡ found_words found

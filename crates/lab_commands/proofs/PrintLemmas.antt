@@ -27,6 +27,14 @@ pub prints_after : {T : Type 0} (broke : Bool) (a b d : Option (List ℕ)) (xs y
 prints_after broke a b d xs ys (Ok x) first last = Appends-trans a b d xs ys first last
 prints_after broke a b d xs ys (Err e) first last = stops_after e broke a b d xs ys first last
 
+-- two parts of what is due, and where it stopped in the first
+pub both_parts : {T : Type 0} (broke : Bool) (a b d : Option (List ℕ)) (xs ys due : List ℕ) (r : Result T OutputFault) → xs ++ ys ≡ due → Appends a b xs → Prints broke b d ys r → Prints broke a d due r
+both_parts broke a b d xs ys due r are first last = subst (λ t. Prints broke a d t r) are (prints_after broke a b d xs ys r first last)
+
+pub first_part : {T : Type 0} (e : OutputFault) (broke : Bool) (a b : Option (List ℕ)) (xs ys due : List ℕ) (r : Result T OutputFault) → xs ++ ys ≡ due → IsErrAnd r (λ x. x ≡ e) → StopsPrinting e broke a b xs → Prints broke a b due r
+first_part e broke a b xs ys due (Ok x) are is stops = absurd is
+first_part e broke a b xs ys due (Err x) are is stops = subst (λ y. StopsPrinting y broke a b due) (sym is) (subst (λ t. StopsPrinting e broke a b t) are (stops_more e broke a b xs ys stops))
+
 -- how it is told that not all was printed
 pub half_printed : (e : OutputFault) (told : LabFault) (broke : Bool) (a b : Option (List ℕ)) (due : List ℕ) → TellsPrint e told → StopsPrinting e broke a b due → IsHalfPrinted broke a b due told
 half_printed e (fault.Write word) broke a b due tells (is, part) = (tells, is, part)
