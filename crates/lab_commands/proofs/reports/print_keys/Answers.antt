@@ -16,5 +16,5 @@ keys_by form geo states formed n t u ns ts us = rw (ns, ts, us) refl
 pub returns : goal.returns
 returns g c =
     let o = g.W.Output.contents in
-    subst (λ text. Prints (g.W.Output.failed c.print_parts.new.out) (o c.args.out.now) (o c.print_parts.new.out) text c.print_parts.result)
+    subst (λ (text : List ℕ). Prints (g.W.Output.failed c.print_parts.new.out) (o c.args.out.now) (o c.print_parts.new.out) text c.print_parts.result)
     (keys_by c.args.printer.form c.args.geometry.now c.args.states.now c.args.formed.now _ _ _ c.sectors-sectors.ensures c.translation_pages-translations.ensures c.table_pages-tables.ensures) c.print_parts.ensures
