@@ -54,12 +54,12 @@ fn print_counts<W: Output>(
 }
 
 // The table pages that are a reason against a mount, and the keys that are tied or missing.
-fn print_keys<W: Output>(
+fn print_keys<'x, W: Output>(
     printer: Printer,
     out: &mut W,
     geometry: &Geometry,
-    states: &[KeyState],
-    formed: &[bool],
+    states: &'x [KeyState],
+    formed: &'x [bool],
 ) -> Result<(), OutputFault>
     ensures { Prints (W.failed out.new) (W.contents out.old) (W.contents out.new) (keys_text printer.form geometry.now states.now formed.now) result }
 {
@@ -263,11 +263,11 @@ pub fn print_array<W: Output>(
 /// # Errors
 ///
 /// As of `print_survey`. (This project's.)
-pub fn print_history<W: Output>(
+pub fn print_history<'x, W: Output>(
     printer: Printer,
     out: &mut W,
-    geometry: &Geometry,
-    pages: &[SectorPage],
+    geometry: &'x Geometry,
+    pages: &'x [SectorPage],
     unsound: u32,
 ) -> Result<(), OutputFault>
     ensures { Prints (W.failed out.new) (W.contents out.old) (W.contents out.new) (history_text printer.form geometry.now pages.now unsound) result }
@@ -464,12 +464,12 @@ fn tried_line(tried: &[TriedRow]) -> Option<Line>
 /// # Errors
 ///
 /// As of `print_survey`. (This project's.)
-pub fn print_merged<W: Output>(
+pub fn print_merged<'x, W: Output>(
     printer: Printer,
     out: &mut W,
-    conflicts: &[u32],
-    unsound: &[u32],
-    tried: &[TriedRow],
+    conflicts: &'x [u32],
+    unsound: &'x [u32],
+    tried: &'x [TriedRow],
     tally: RowTally,
 ) -> Result<(), OutputFault>
     ensures { Prints (W.failed out.new) (W.contents out.old) (W.contents out.new) (merge_text printer.form conflicts.now unsound.now tried.now tally) result }
