@@ -1,17 +1,13 @@
 -- What the command `arrange` comes to where it isn't done.
-use Rattle.std.proofs.Common.{◌≡◌, ◌⊎◌, inl, inr, ℕ, Bool, List, Option, Some, None, IfSome, refl}
+use Rattle.std.proofs.Common.{◌≡◌, inl, inr, ℕ, List, Option, refl}
 use Rattle.std.specs.Borrow.{Bor}
 use Rattle.page_layout.specs.declared.geometry.Geometry.{Geometry}
 use Rattle.lab_arrange.specs.declared.arrangement.Arrangement.{Arrangement}
 use Rattle.lab_arrange.specs.declared.arrange.ArrangeFault.{ArrangeFault}
 use Rattle.lab_arrange.specs.declared.arrange.ArrangeFault.TheVariants as arrange
 use Rattle.lab_arrange.specs.Arranged.{IsUnarranged}
-use Rattle.lab_commands.specs.declared.arrange_words.ArrangeWords.{ArrangeWords}
-use Rattle.lab_commands.specs.declared.text.LabFault.{LabFault}
-use Rattle.lab_commands.specs.Files.{IsFileOpened, Store, StoreAnswers}
-use Rattle.lab_commands.specs.Undone.{IsUnplaced, IsUnroomed, MayNotWrite, MayWrite}
-use Rattle.lab_commands.specs.Arrange.{AreSaid, AreUnsaid, IsArrangeFault, IsUnordered, unordered_as}
-use Rattle.lab_commands.proofs.UndoneLemmas.{left_all}
+use Rattle.lab_commands.specs.Files.{IsFileOpened, StoreAnswers}
+use Rattle.lab_commands.specs.Arrange.{IsUnordered, unordered_as}
 
 -- no dump in order was made of one that was opened
 pub unordered : (s : StoreAnswers) (dump out : Bor (List ℕ)) (g : Geometry) (a : Arrangement) (known : Option (List ℕ)) (f : ArrangeFault) → IsFileOpened s dump.now known → IsUnarranged g a known f

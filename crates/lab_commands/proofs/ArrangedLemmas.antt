@@ -1,5 +1,5 @@
 -- A geometry that fits in another arrangement, piece by piece.
-use Rattle.std.proofs.Common.{◌≡◌, ℕ, zero, suc, ◌+◌, ◌/◌, ◌%◌, ◌<◌, Bool, true, false, cond, List, [], ◌∷◌, ◌++◌, Option, Some, None, refl, sym, ap, ◌∙◌, append_assoc, arith}
+use Rattle.std.proofs.Common.{◌≡◌, ℕ, zero, suc, ◌+◌, ◌/◌, ◌%◌, ◌<◌, Bool, true, false, cond, List, [], ◌∷◌, ◌++◌, Option, Some, None, refl, sym, ap, ◌∙◌, arith}
 use Rattle.std.specs.Prelude.{◌||◌, codes, is_some, nat_eq}
 use Rattle.std.specs.Fmt.{decimal, digit_glyph, digits_onto, digits}
 use Rattle.std.proofs.lemmas.Bool.{lt-ltb}
@@ -8,7 +8,6 @@ use Rattle.std.proofs.lemmas.Grind.{flat_map-append}
 use Rattle.json.specs.Print.{escape, escape_byte}
 use Rattle.serde_json.specs.Data.{member}
 use Rattle.serde_json.specs.Written.{compact_text, members_text}
-use Rattle.lab_dump.specs.declared.fit.Fit.{Fit}
 use Rattle.lab_arrange.specs.declared.arrangement.Arrangement.{Arrangement}
 use Rattle.lab_arrange.specs.declared.arrangement.Spares.{Spares}
 use Rattle.lab_arrange.specs.declared.arrangement.Spares.TheVariants.{Block, Die}

@@ -1,19 +1,16 @@
 -- What the command `array` comes to where it isn't done.
-use Rattle.std.proofs.Common.{◌≡◌, ◌≢◌, inl, inr, ℕ, Bool, false, subst, List, Option, Some, None, refl}
+use Rattle.std.proofs.Common.{◌≢◌, inl, inr, ℕ, false, subst, List, Option, Some, None}
 use Rattle.std.specs.Prelude.{IsSomeAnd}
 use Rattle.std.specs.Borrow.{Bor}
-use Rattle.page_layout.specs.declared.geometry.Geometry.{Geometry}
 use Rattle.lab_commands.specs.declared.words.ArrayWords.{ArrayWords}
-use Rattle.lab_commands.specs.declared.words.UntilWords.{UntilWords}
 use Rattle.lab_commands.specs.declared.files.Standing.{Standing}
 use Rattle.lab_commands.specs.declared.files.Standing.TheVariants as standing
 use Rattle.lab_commands.specs.declared.text.LabFault.{LabFault}
 use Rattle.lab_commands.specs.declared.text.LabFault.TheVariants as fault
-use Rattle.lab_commands.specs.Files.{AnswersNoMore, Store, StoreAnswers}
-use Rattle.lab_commands.specs.Numbers.{IsLastAt, IsNoLast}
-use Rattle.lab_commands.specs.Undone.{IsGeometryAt, IsNoGeometry, IsKeptThere, IsMapUnplaced, IsUnread, IsUnwritten}
-use Rattle.lab_commands.specs.Array.{AreAllowed, AreNotAllowed, IsArrayFault, IsMapNotAllowed, IsUnmapped, IsUnput, as_map}
-use Rattle.lab_commands.proofs.UndoneLemmas.{left_all, map_unplaced_before}
+use Rattle.lab_commands.specs.Files.{AnswersNoMore, StoreAnswers}
+use Rattle.lab_commands.specs.Undone.{IsKeptThere, IsMapUnplaced, IsUnread, IsUnwritten}
+use Rattle.lab_commands.specs.Array.{IsMapNotAllowed, IsUnmapped, as_map}
+use Rattle.lab_commands.proofs.UndoneLemmas.{map_unplaced_before}
 
 -- ---- whether FILE may be written
 

@@ -1,20 +1,18 @@
 -- What the command `compare` comes to where it isn't done.
-use Rattle.std.proofs.Common.{◌≡◌, ◌≢◌, ◌⊎◌, inl, inr, ℕ, suc, Bool, List, Option, Some, None, IfSome, option_map, refl, ap, subst, ◌∙◌}
+use Rattle.std.proofs.Common.{◌≡◌, ◌≢◌, inl, inr, ℕ, List, Option, Some, None, IfSome, ap, subst, ◌∙◌}
 use Rattle.std.proofs.lemmas.Bool.{cases_eq}
 use Rattle.page_layout.specs.declared.geometry.Geometry.{Geometry}
 use Rattle.certificate.specs.declared.fault.CertFault.{CertFault}
 use Rattle.certificate.specs.Claim.{Claim, Sizes}
 use Rattle.certificate.specs.Faults.{IsFirstFault}
 use Rattle.certificate.specs.Spelling.{certificate_bytes}
-use Rattle.lab_commands.specs.declared.words.CompareWords.{CompareWords}
 use Rattle.lab_commands.specs.declared.text.LabFault.{LabFault}
 use Rattle.lab_commands.specs.declared.text.LabFault.TheVariants as fault
-use Rattle.lab_commands.specs.Files.{AnswersNoMore, Store, StoreAnswers}
-use Rattle.lab_commands.specs.Undone.{IsGeometryAt, IsNoGeometry, IsUnroomed}
-use Rattle.lab_commands.specs.Compare.{HasNone, IsBroken, IsCertificateAt, IsCompareFault, IsDumpUnheld, looked_at}
+use Rattle.lab_commands.specs.Files.{AnswersNoMore, StoreAnswers}
+use Rattle.lab_commands.specs.Compare.{IsBroken, IsDumpUnheld, looked_at}
 use Rattle.lab_dump.specs.declared.compare.Compared.{Compared}
 use Rattle.lab_commands.specs.Compare.{IsCompared}
-use Rattle.lab_commands.proofs.UndoneLemmas.{left_all, opened_before, opens_before, unread_before, untaken_before}
+use Rattle.lab_commands.proofs.UndoneLemmas.{opened_before, opens_before, unread_before, untaken_before}
 
 -- ---- the certificate
 

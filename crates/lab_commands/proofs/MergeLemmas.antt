@@ -1,5 +1,5 @@
 -- What the command `merge` comes to.
-use Rattle.std.proofs.Common.{◌≡◌, ◌≢◌, ◌⊎◌, inl, inr, ℕ, zero, suc, ◌+◌, ◌<◌, Bool, true, false, List, [], ◌∷◌, ◌++◌, length, get_or, map, Option, None, refl, ap, sym, subst, ◌∙◌, arith}
+use Rattle.std.proofs.Common.{◌≡◌, ◌≢◌, inl, inr, ℕ, zero, suc, ◌+◌, ◌<◌, Bool, true, false, List, [], ◌∷◌, ◌++◌, length, get_or, map, Option, None, refl, ap, sym, subst, ◌∙◌, arith}
 use Rattle.std.proofs.lemmas.Bool.{cases_eq}
 use Rattle.std.proofs.lemmas.List.{get_or-map, get_or_append_left, get_or_push, length-map, length_push, map-append}
 use Rattle.std.specs.Borrow.{Bor}
@@ -15,8 +15,8 @@ use Rattle.lab_commands.specs.declared.files.Standing.TheVariants as standing
 use Rattle.lab_commands.specs.declared.text.LabFault.{LabFault}
 use Rattle.lab_commands.specs.declared.text.LabFault.TheVariants as fault
 use Rattle.lab_commands.specs.Files.{AnswersNoMore, IsFileOpened, StandsAtPath, Store, StoreAnswers}
-use Rattle.lab_commands.specs.Undone.{IsGeometryAt, IsKeptThere, IsNoGeometry, IsUnplaced, IsUnread, IsUnroomed, IsUnwritten}
-use Rattle.lab_commands.specs.Merge.{AreOpened, AreOpenedBelow, AreOthersBelow, HasSame, IsMergeFault, IsSomeUnread, IsUnjoined, IsUnmergedTo, MayMerge, MayNotMerge, TellsFault, dumps_of}
+use Rattle.lab_commands.specs.Undone.{IsKeptThere, IsUnread, IsUnwritten}
+use Rattle.lab_commands.specs.Merge.{AreOpened, AreOpenedBelow, AreOthersBelow, HasSame, IsSomeUnread, IsUnmergedTo, MayNotMerge, TellsFault, dumps_of}
 use Rattle.lab_commands.proofs.UndoneLemmas.{no_more_then, opened_before, unread_before}
 
 -- ---- the paths

@@ -1,5 +1,5 @@
 -- What the command `origin` comes to where it isn't done.
-use Rattle.std.proofs.Common.{◌≡◌, ◌≢◌, ◌⊎◌, inl, inr, ℕ, ◌<◌, Bool, false, List, [], length, get_or, Option, Some, None, refl, sym, ap, subst, ◌∙◌}
+use Rattle.std.proofs.Common.{◌≡◌, ◌≢◌, inl, inr, ℕ, Bool, false, List, [], length, get_or, Option, None, refl, sym, subst}
 use Rattle.page_layout.specs.declared.geometry.Geometry.{Geometry}
 use Rattle.lab_origin.specs.declared.readings.ReadingFault.TheVariants as reading
 use Rattle.lab_origin.specs.declared.trace.OriginFault.{OriginFault}
@@ -10,12 +10,11 @@ use Rattle.lab_commands.specs.declared.files.Standing.{Standing}
 use Rattle.lab_commands.specs.declared.files.Standing.TheVariants as standing
 use Rattle.lab_commands.specs.declared.text.LabFault.{LabFault}
 use Rattle.lab_commands.specs.declared.text.LabFault.TheVariants as fault
-use Rattle.lab_commands.specs.Files.{AnswersNoMore, IsFileOpened, StandsAtPath, Store, StoreAnswers}
+use Rattle.lab_commands.specs.Files.{AnswersNoMore, IsFileOpened, StandsAtPath, StoreAnswers}
 use Rattle.lab_commands.specs.Merge.{AreOpened, HasSame, IsSomeUnread}
-use Rattle.lab_commands.specs.Numbers.{IsLastAt, IsNoLast}
-use Rattle.lab_commands.specs.Undone.{IsGeometryAt, IsKeptThere, IsMapUnplaced, IsNoGeometry, IsUnplaced, IsUnread, IsUnwritten}
-use Rattle.lab_commands.specs.Origin.{IsFollowed, IsOriginFault, IsUnput, IsUntracedTo, MayMap, MayNotMap, TellsOrigin, readings_of}
-use Rattle.lab_commands.proofs.UndoneLemmas.{left_all, opened_before, unread_before}
+use Rattle.lab_commands.specs.Undone.{IsKeptThere, IsMapUnplaced, IsUnplaced, IsUnread, IsUnwritten}
+use Rattle.lab_commands.specs.Origin.{IsUntracedTo, MayNotMap, TellsOrigin, readings_of}
+use Rattle.lab_commands.proofs.UndoneLemmas.{opened_before, unread_before}
 
 -- ---- whether OUT may be written
 

@@ -1,4 +1,4 @@
-use Rattle.std.proofs.Common.{◌≡◌, refl, inl, inr, ap, subst, ◌∙◌}
+use Rattle.std.proofs.Common.{refl, inl, inr, ap, subst, ◌∙◌}
 use Rattle.lab_commands.specs.Files.{AnswersNoMore, with_kept}
 use Rattle.lab_commands.specs.Arrange.{IsInOrder, IsUnarrangedBy, IsUnordered}
 use Rattle.lab_commands.specs.declared.text.LabFault.TheVariants as fault

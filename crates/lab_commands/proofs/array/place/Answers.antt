@@ -1,4 +1,4 @@
-use Rattle.std.proofs.Common.{◌≡◌, refl, inl, inr, ap, subst, ◌∙◌}
+use Rattle.std.proofs.Common.{refl, inl, inr, ap, subst, ◌∙◌}
 use Rattle.lab_commands.specs.Files.{AnswersNoMore, with_kept}
 use Rattle.lab_commands.specs.Undone.{IsFileUnmade}
 use Rattle.lab_commands.specs.Array.{IsArrayMade, IsUndone}

@@ -1,4 +1,4 @@
-use Rattle.std.proofs.Common.{◌≡◌, List, [], ◌∷◌, Some, refl, inl, inr, ap, subst, ◌∙◌}
+use Rattle.std.proofs.Common.{List, [], ◌∷◌, Some, refl, inl, inr, ap, subst, ◌∙◌}
 use Rattle.lab_dump.specs.declared.map_head.Remark.TheVariants as remark
 use Rattle.lab_dump.specs.declared.mark.MapMark.{MapMark}
 use Rattle.lab_dump.specs.Map.{map_text}

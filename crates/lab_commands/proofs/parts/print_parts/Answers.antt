@@ -1,8 +1,12 @@
 use Rattle.std.proofs.Common.{arith}
+use Rattle.std.proofs.KnownBytes.{Appends-nil}
 use Rattle.lab_commands.specs.Pieces.{part_text}
 use Rattle.lab_commands.proofs.PieceLemmas.{one_put, stopped_put}
 use Rattle.lab_commands.proofs.PrintLemmas.{failed}
 use Rattle.lab_commands.proofs.parts.print_parts.Goals as goal
+
+pub loop-place-init : goal.loop-place-init
+loop-place-init g c = Appends-nil (g.W.Output.contents c.args.out.now)
 
 pub loop-place-preserved : goal.loop-place-preserved
 loop-place-preserved g c =
