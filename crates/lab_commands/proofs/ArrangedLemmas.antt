@@ -8,12 +8,13 @@ use Rattle.std.proofs.lemmas.Grind.{flat_map-append}
 use Rattle.json.specs.Print.{escape, escape_byte}
 use Rattle.serde_json.specs.Data.{member}
 use Rattle.serde_json.specs.Written.{compact_text, members_text}
+use Rattle.lab_dump.specs.declared.fit.Fit.{Fit}
 use Rattle.lab_arrange.specs.declared.arrangement.Arrangement.{Arrangement}
 use Rattle.lab_arrange.specs.declared.arrangement.Spares.{Spares}
 use Rattle.lab_arrange.specs.declared.arrangement.Spares.TheVariants.{Block, Die}
 use Rattle.lab_shapes.specs.declared.find.ArrangedFit.{ArrangedFit}
 use Rattle.lab_shapes.specs.Words.{around_words, arrangement_words, cut_words, flag_words, order_words, spares_words}
-use Rattle.lab_commands.specs.Values.{arranged_fit_data, arranged_rest, count, fit_members}
+use Rattle.lab_commands.specs.Values.{arranged_fit_data, arranged_rest, count, fit_members, rest_words}
 use Rattle.lab_commands.proofs.JsonLemmas.{quoted_in}
 
 -- ---- plain text
@@ -103,6 +104,10 @@ plain_arrangement a =
     plain_both (around_words a.header a.tail) _ (plain_around a.header a.tail) (plain_both (cut_words around a.cut) _ (plain_cut around a.cut) (plain_order _ a))
 
 -- ---- the object
+
+pub arranged_parts : (f : Fit) → (codes "\",\"blocks_told\":" ++ decimal f.blocks_told) ++ rest_words f ≡ arranged_rest f
+unfolding escape_byte
+arranged_parts f = refl
 
 pub arranged_json : (found : ArrangedFit) → codes "{\"arrange\":\"" ++ (arrangement_words found.arrangement ++ arranged_rest found.fit) ≡ compact_text (arranged_fit_data found)
 unfolding escape_byte
