@@ -86,14 +86,16 @@ module _ {S Y : Type 0} (contents : S → Contents) (honest : S → Bool) (reads
   run_rest asked (Some result) old new (change, idles, inr on) = run_once One old.disk new.disk (inr (result, on.1))
 
   run_rounds : (e : Export) (old new : SyncedDisk S Y) (xs : List Round)
-      (is : ToldEachRound (λ s. contents s.disk) (λ s. honest s.disk) (λ _. false) (SyncsTask Does synced failed marked next) (RestsSynced rests) e old xs new) → IsRunOf One (rounds_asked contents honest reads changes flushes rests synced failed marked next e old new xs is) old.disk new.disk
+      (is : ToldEachRound (λ s. contents s.disk) (λ s. honest s.disk) (λ _. false) (SyncsTask Does synced failed marked next) (RestsSynced rests) e old xs new)
+      → IsRunOf One (rounds_asked contents honest reads changes flushes rests synced failed marked next e old new xs is) old.disk new.disk
   run_rounds e old new [] same = run_none One old.disk new.disk (same_disk old new same)
   run_rounds e old new (x ∷ xs) (at, one, more) =
       let told = run_tells (task_of e x.exchange.request) old one.mid x.exchange one.tells in
       let rested = run_rest (task_of e x.exchange.request) x.rested one.mid at one.rest in
-      run_joined One old.disk at.disk new.disk (tells_asked contents honest reads changes flushes rests synced failed marked next (task_of e x.exchange.request) old one.mid x.exchange one.tells ++ rest_asked contents honest reads changes flushes rests synced failed marked next (task_of e x.exchange.request) x.rested one.mid at one.rest)
-      (rounds_asked contents honest reads changes flushes rests synced failed marked next e at new xs more)
-      (run_joined One old.disk one.mid.disk at.disk (tells_asked contents honest reads changes flushes rests synced failed marked next (task_of e x.exchange.request) old one.mid x.exchange one.tells) (rest_asked contents honest reads changes flushes rests synced failed marked next (task_of e x.exchange.request) x.rested one.mid at one.rest) told rested)
+      let calls = tells_asked contents honest reads changes flushes rests synced failed marked next (task_of e x.exchange.request) old one.mid x.exchange one.tells in
+      let rest = rest_asked contents honest reads changes flushes rests synced failed marked next (task_of e x.exchange.request) x.rested one.mid at one.rest in
+      run_joined One old.disk at.disk new.disk (calls ++ rest) (rounds_asked contents honest reads changes flushes rests synced failed marked next e at new xs more)
+      (run_joined One old.disk one.mid.disk at.disk calls rest told rested)
       (run_rounds e at new xs more)
 
   pub served_session : ServedSessionLaw contents honest reads changes flushes rests synced failed marked next
