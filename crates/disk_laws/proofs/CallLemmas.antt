@@ -1,5 +1,5 @@
 -- What a real call of a driver over a die in a store is, what it did in the store, and that the driver stands ready behind it.
-use Rattle.std.proofs.Common.{◌≡◌, inl, inr, ℕ, ◌+◌, ◌<◌, Bool, true, List, ◌++◌, length, Ok, Err, Result, IfOk, MatchResult, refl, sym, ap, subst, ◌∙◌, arith}
+use Rattle.std.proofs.Common.{◌≡◌, inl, ℕ, ◌<◌, Bool, true, List, length, Ok, Err, Result, IfOk, MatchResult, refl, sym, ap, subst, ◌∙◌, arith}
 use Rattle.page_layout.specs.declared.geometry.Geometry.{Geometry}
 use Rattle.page_layout.specs.declared.source.SourceFault.{SourceFault}
 use Rattle.page_layout.specs.Geometry.{row_count}
@@ -10,7 +10,7 @@ use Rattle.onfi_cycles.specs.declared.nand.Outcome.{Outcome}
 use Rattle.onfi_cycles.specs.Cycles.{Command, Cycle, CycleStep, DieState, Erases, IsCounted, NoOutput, Programs}
 use Rattle.onfi_cycles.specs.Driver.{DriverState, IsReady, Operated, flash_by, gained}
 use Rattle.onfi_cycles.specs.Outcomes.{is_passed, outcome_of}
-use Rattle.onfi_cycles.specs.Sent.{Operates, SendsRead}
+use Rattle.onfi_cycles.specs.Sent.{Operates}
 use Rattle.onfi_cycles.specs.Spelling.{Spells, SpellsRead, done, erase_cycles, program_cycles, read_cycles}
 use Rattle.onfi_cycles.proofs.Operations.{erase_broke, erase_did, program_broke, program_did, read_broke, read_did}
 use Rattle.onfi_cycles.proofs.Resets.{reset_does}

@@ -1,5 +1,5 @@
 -- Calls read off a run, joined to the run that they are.
-use Rattle.std.proofs.Common.{◌≡◌, ℕ, suc, zero, Bool, true, false, List, [], ◌∷◌, ◌++◌, refl, sym, ap, subst, ◌∙◌, append-nil, append_assoc}
+use Rattle.std.proofs.Common.{◌≡◌, ℕ, suc, zero, Bool, true, false, List, [], ◌++◌, refl, sym, ap, subst, ◌∙◌, append-nil, append_assoc}
 use Rattle.std.proofs.lemmas.List.{flat_map_more}
 use Rattle.nbd_stream.specs.Through.{Through, Times}
 use Rattle.disk_laws.specs.CallsMade.{CallMade, IsRunOf, asked_unless, calls_made, each_asked, this_call, times_made}
