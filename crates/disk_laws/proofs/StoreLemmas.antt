@@ -1,6 +1,7 @@
 -- What is asked of the device of a store, through what guards its lost sectors and what opens it anew.
 use Rattle.std.proofs.Common.{◌≡◌, inl, inr, ℕ, suc, zero, Bool, true, false, List, ◌++◌, Some, None, Result, Ok, Err, refl, sym, ap, subst, ◌∙◌}
 use Rattle.std.specs.Prelude.{unwrap_or}
+use Rattle.page_layout.specs.Flash.{Operation}
 use Rattle.onfi_cycles.specs.Driver.{DriverState}
 use Rattle.file_die.specs.Die.{FileState}
 use Rattle.file_die.specs.Store.{Held}
@@ -10,11 +11,11 @@ use Rattle.nbd_stream.specs.Through.{Times}
 use Rattle.ftl_device.specs.declared.device.Device.{Device}
 use Rattle.disk_server.specs.declared.guarded.GuardedSectors.{GuardedSectors}
 use Rattle.disk_server.specs.Asked.{AsksCall}
-use Rattle.disk_server.specs.Disk.{ChangesOne}
+use Rattle.disk_server.specs.Disk.{ChangesOne, IsDisk, holds}
 use Rattle.disk_server.specs.Reopened.{AsksDevice, HasDevice, ReadsDevice, Reopened, SettlesCall, Terms, changes_in, changes_of, clears_of, flushes_of, reads_of, rests_of, terms_of}
-use Rattle.disk_server.specs.Opened.{view_in}
+use Rattle.disk_server.specs.Opened.{is_honest_in, view_in}
 use Rattle.disk_laws.specs.CallsMade.{CallMade, IsRunOf, calls_made, this_call, times_made}
-use Rattle.disk_laws.specs.Runs.{AsksOneOf, IsDiskCall}
+use Rattle.disk_laws.specs.Runs.{AsksOneOf, DeviceCalls, IsDiskCall, calls_of}
 use Rattle.disk_laws.specs.Sessions.{AsksGuarded, AsksReopened, GuardedSessionLaw, ReopenedSessionLaw, StoreSessionLaw, device_asked, devices_asked, one_asked, sectors_asked}
 use Rattle.disk_laws.proofs.RunOfLemmas.{each_more, run_below, run_joined, run_none, run_once}
 use Rattle.disk_laws.proofs.SessionLemmas.{session}
@@ -131,15 +132,14 @@ module _ {S : Type 0} (held : S → Held) (honest full : S → Bool) (failed : S
   pub reopened_session : ReopenedSessionLaw held honest full failed
   reopened_session old new (n, times) plain last there = (let all = all_reopened n old new times plain last there in (all.first, all.was, all.asked))
 
+  -- calls that are just these are calls of a device that holds its array
+  these : (first last : Device (DriverState (FileState S))) (calls asked : List (CallMade DeviceCall)) → IsRunOf DeviceCall calls first last → IsDisk (view_in held honest) first → holds (is_honest_in honest) last ≡ true → calls ≡ asked
+      → (log : List Operation) × (run : DeviceCalls (view_in held honest) first log last) × (calls_made DeviceCall first last (calls_of (view_in held honest) first log last run) ≡ asked)
+  these first last calls asked is was on same = (let s = session (view_in held honest) first last is.0 was on refl in (s.0, s.1, ap (calls_made DeviceCall first last) s.2 ∙ (is.1 ∙ same)))
+
   pub store_session : (K : Type 0) → StoreSessionLaw K held honest full failed
   store_session K old new asked plain last there on =
       let below = guarded_session (ReadsDevice (reads_of held honest)) (changes_in held honest full failed) (AsksDevice held honest full failed (flushes_of held honest) fault.Failed)
       (AsksDevice held honest full failed (rests_of held honest) fault.Failed) old new asked in
-      let device = reopened_session old.sectors new.sectors below.0 plain last there in (
-        device.0,
-        device.1,
-        λ was. (
-          let s = session (view_in held honest) device.0 last device.2.0 was on refl in
-          (s.0, s.1, ap (calls_made DeviceCall device.0 last) s.2 ∙ (device.2.1 ∙ ap (devices_asked held honest full failed) below.1))
-        ),
-      )
+      let device = reopened_session old.sectors new.sectors below.0 plain last there in
+      (device.0, device.1, λ was. these device.0 last _ _ device.2 was on (ap (devices_asked held honest full failed) below.1))

@@ -12,9 +12,7 @@ use onfi_cycles::{BusFault, Driver, Nand, Outcome};
 use page_layout::source::{PageSource, SourceFault};
 
 /// The driver of a die in a store, which it resets: it stands ready, and its record begins with the die as it is. The fault of the bus comes back with the die. (This project's.)
-pub fn start_stored<S: Store>(
-    die: FileDie<S>,
-) -> Result<Driver<FileDie<S>>, (FileDie<S>, BusFault)>
+pub fn start_stored<S: Store>(die: FileDie<S>) -> Result<Driver<FileDie<S>>, (FileDie<S>, BusFault)>
     ensures stands { IfOk result (λ driver. S.honest die.store ≡ true → StandsReady S.held driver) }
     ensures told { IfOk result (λ driver. driver.told ≡ untouched (shown S.held driver.bus).flash) }
     ensures honest { IfOk result (λ driver. S.honest driver.bus.store ≡ S.honest die.store) }

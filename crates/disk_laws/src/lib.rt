@@ -13,9 +13,8 @@ ghost use Rattle.disk_laws.specs.Killed.{FoundAsItWasLaw, FoundTornLaw, KilledCh
 
 mod driver_calls;
 
-pub use driver_calls::{erase_stored, program_stored, read_stored, start_stored};
-
 use disk_server::{KeepsLost, Sectors, Syncs};
+pub use driver_calls::{erase_stored, program_stored, read_stored, start_stored};
 use file_die::{FileDie, Store, TellsFull};
 use onfi_cycles::{Driver, Nand};
 use page_layout::source::PageSource;
