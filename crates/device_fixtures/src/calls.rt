@@ -21,6 +21,31 @@ pub enum Call {
     Migrate,
 }
 
+/// Calls of a device with a cache of four on a formatted die, by which block 1 is closed with seven live pages. Nine pages are
+/// programmed: rows 8 to 15, of which sector 7 has two, and row 2 for a translation page, before the sixth other sector, since the cache
+/// is full of dirty ones.
+pub const CLOSING: [Call; 8] = [
+    Call::Write(7, 0x77),
+    Call::Trim(7),
+    Call::Write(0, 0x10),
+    Call::Write(1, 0x11),
+    Call::Write(2, 0x12),
+    Call::Write(3, 0x13),
+    Call::Write(4, 0x14),
+    Call::Write(5, 0x15),
+];
+
+/// Their sectors are read back.
+pub const CLOSING_READ: [Call; 7] = [
+    Call::Read(7, 0),
+    Call::Read(0, 0x10),
+    Call::Read(1, 0x11),
+    Call::Read(2, 0x12),
+    Call::Read(3, 0x13),
+    Call::Read(4, 0x14),
+    Call::Read(5, 0x15),
+];
+
 impl Call {
     /// The sector of a call: 0 of one that has none.
     pub fn sector(self) -> u32 {

@@ -14,6 +14,8 @@ pub const NO: u8 = 0xFF;
 pub enum PageAt {
     /// A row, the sector, the sequence, and the byte that its data area has throughout.
     Sector(u32, u32, u64, u8),
+    /// So many such pages from this one on, each with the next row, sector, sequence and byte.
+    Sectors(u8, u32, u32, u64, u8),
     /// A row, the sector, and the sequence. The data area has bytes 00h.
     Trim(u32, u32, u64),
     /// A row, the number, the sequence, and the rows of the first entries. The others have none.
@@ -62,21 +64,37 @@ fn table_body(first: &[u8; 16]) -> [u8; 64] {
 }
 
 impl PageAt {
+    // The first row.
     fn row(&self) -> u32 {
         match self {
-            PageAt::Sector(row, ..) | PageAt::Trim(row, ..) => *row,
+            PageAt::Sector(row, ..) | PageAt::Sectors(_, row, ..) | PageAt::Trim(row, ..) => *row,
             PageAt::Translation(row, ..) | PageAt::Table(row, ..) | PageAt::Torn(row) => *row,
         }
     }
 
-    fn page(&self) -> Page {
+    // How many pages these are.
+    fn count(&self) -> u8 {
         match self {
-            PageAt::Sector(_, n, sequence, byte) => page_with(
-                Kind::Sector,
-                *n,
-                *sequence,
-                [*byte; 64],
-            ),
+            PageAt::Sectors(count, ..) => *count,
+            PageAt::Sector(..)
+            | PageAt::Trim(..)
+            | PageAt::Translation(..)
+            | PageAt::Table(..)
+            | PageAt::Torn(_) => 1,
+        }
+    }
+
+    // The page so many after the first.
+    fn page(&self, after: u8) -> Page {
+        match self {
+            PageAt::Sector(_, n, sequence, byte) | PageAt::Sectors(_, _, n, sequence, byte) => {
+                page_with(
+                    Kind::Sector,
+                    n.wrapping_add(u32::from(after)),
+                    sequence.wrapping_add(u64::from(after)),
+                    [byte.wrapping_add(after); 64],
+                )
+            }
             PageAt::Trim(_, n, sequence) => page_with(Kind::Trim, *n, *sequence, [0; 64]),
             PageAt::Translation(_, t, sequence, entries) => page_with(
                 Kind::Translation,
@@ -96,13 +114,23 @@ impl PageAt {
             },
         }
     }
+
+    // The page that stands in a row, if it is one of these.
+    fn page_at(&self, row: u32) -> Option<Page> {
+        let after = u8::try_from(row.checked_sub(self.row())?).ok()?;
+        if after < self.count() {
+            Some(self.page(after))
+        } else {
+            None
+        }
+    }
 }
 
 // The page of this list that stands in a row: else the row is as an erase leaves it.
 fn page_in(pages: &[PageAt], row: u32) -> Page {
     for at in pages {
-        if at.row() == row {
-            return at.page();
+        if let Some(page) = at.page_at(row) {
+            return page;
         }
     }
     Page {

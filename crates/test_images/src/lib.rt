@@ -1,10 +1,19 @@
 //! What several crates of tests build: raw images and certificates of a small die, of 32 blocks of 8 pages with data areas of 64
-//! bytes, and of 32 sectors. It holds no test, and no crate but one of tests stands on it.
+//! bytes, and of 32 sectors; the marks of such a die, sources of its pages and readers that are not to be relied on, and what a run of a program wrote.
+//! It holds no test, and no crate but one of tests stands on it.
 #![tactic(auto)]
 
+mod pieces;
+mod ran;
+mod source;
+
+use nand_die::Mark;
 use page_layout::geometry::Geometry;
 use page_layout::record::{write_record, write_record_v1};
 pub use page_layout::record::{Kind, Record};
+pub use pieces::Pieces;
+pub use ran::{Closed, Ran, TestCase, hold_cases, hold_same};
+pub use source::{FaultySource, SourceTrouble};
 use std::alloc::{AllocError, Global};
 
 /// A page that was written.
@@ -43,6 +52,30 @@ macro_rules! page {
 pub const TABLE_0: Written = page!(0, Table 0, sequence 1, fill 0);
 
 pub const TABLE_1: Written = page!(1, Table 1, sequence 2, fill 0);
+
+/// A formatted die of which three sectors were written, and no translation page.
+pub const THREE_SECTORS: [Written; 5] = [
+    TABLE_0,
+    TABLE_1,
+    page!(8, Sector 0, sequence 3, fill 1),
+    page!(9, Sector 1, sequence 4, fill 1),
+    page!(10, Sector 2, sequence 5, fill 1),
+];
+
+/// A table page whose record is sound, and whose bytes no table has.
+pub const DAMAGED_TABLE: Written = page!(0, Table 0, sequence 1, fill 3);
+
+/// The factory marks of two bad blocks: in the first page of one, in the last page of the other.
+pub const TWO_MARKS: [Mark; 2] = [
+    Mark {
+        block: 3,
+        last: false,
+    },
+    Mark {
+        block: 9,
+        last: true,
+    },
+];
 
 /// Which pages of a die are of version 1 although there is room for version 2.
 #[derive(Clone, Copy, Debug)]

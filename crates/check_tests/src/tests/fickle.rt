@@ -1,57 +1,10 @@
 //! The plain scan of a source that puts out other pages when it is read again.
 use image_check::sector;
 use page_layout::geometry::Geometry;
-use page_layout::source::{ImageSlice, PageSource, SourceFault};
+use page_layout::source::ImageSlice;
 use std::process::Abort;
 use std::test::Fail;
-use test_images::{TABLE_0, Written, image_of, page};
-
-// The pages of one image, and after so many reads those of another. The reads are counted.
-#[derive(Drop)]
-pub struct Fickle<'a> {
-    pub first: ImageSlice<'a>,
-    pub later: ImageSlice<'a>,
-    pub after: u32,
-    pub reads: u32,
-}
-
-impl PageSource for Fickle<'_> {
-    ghost use Rattle.std.specs.Prelude.{false, None};
-
-    ghost view = { record {
-      flash = λ s. s.first.flash;
-      recorded = λ _. None;
-      honest = λ _. false;
-      calm = λ _. false;
-      reads = λ s. s.first.reads;
-      programs = λ _. 0;
-      erases = λ _. 0;
-      failed = λ _. 0;
-    } };
-
-    fn read_page(
-        &mut self,
-        row: u32,
-        body: &mut [u8],
-        spare: &mut [u8],
-    ) -> Result<(), SourceFault> {
-        self.reads = self.reads.saturating_add(1);
-        self.first.read_page(row, body, spare)?;
-        if self.reads <= self.after {
-            return Ok(());
-        }
-        let geometry = self.later.geometry();
-        let is_whole = body.len() == geometry.data_bytes() && spare.len() == geometry.spare_bytes();
-        if is_whole && row < geometry.rows() {
-            return self.later.read_page(row, body, spare);
-        }
-        Ok(())
-    }
-
-    fn failures(&self) -> u64 {
-        0
-    }
-}
+use test_images::{FaultySource, SourceTrouble, TABLE_0, Written, image_of, page};
 
 // Sector 5 as it is found.
 const FOUND: [Written; 2] = [TABLE_0, page!(8, Sector 5, sequence 3, fill 0x11)];
@@ -69,12 +22,8 @@ const CASES: [Case; 5] = [
 
 fn hold_case(rt: &impl Abort, found: &[u8], later: &[u8], want: u8) -> Result<(), Fail> {
     let geometry = Geometry::new(64, 32, 8, 32, 32)?;
-    let mut source = Fickle {
-        first: ImageSlice::new(&geometry, found)?,
-        later: ImageSlice::new(&geometry, later)?,
-        after: 256,
-        reads: 0,
-    };
+    let trouble = SourceTrouble::Turns(256, ImageSlice::new(&geometry, later)?);
+    let mut source = FaultySource::new(ImageSlice::new(&geometry, found)?, trouble);
     let mut page = [0; 96];
     let mut out = [0xEE; 64];
     let read = sector(&mut source, &geometry, 5, &mut page, &mut out);

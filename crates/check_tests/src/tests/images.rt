@@ -8,8 +8,8 @@ use std::process::Abort;
 use std::test::Fail;
 pub(super) use test_images::image_of;
 use test_images::{
-    Claim, FORMATTED, LAYOUTS, Layout, META, Said, TABLE_0, TABLE_1, Written, certificate_bytes,
-    laid_out, page,
+    Claim, DAMAGED_TABLE, FORMATTED, LAYOUTS, Layout, META, Said, TABLE_0, TABLE_1, THREE_SECTORS,
+    Written, certificate_bytes, laid_out, page,
 };
 
 // The pages of a die that is else erased, the capacity that a certificate of it is checked for, and the answer: the stale
@@ -25,21 +25,53 @@ struct Case {
 // A directory that names a translation page which is not there.
 const MISLED: [Option<u8>; 4] = [Some(8), None, Some(0), Some(1)];
 
-const THREE: [Written; 5] = [
-    TABLE_0,
-    TABLE_1,
-    page!(8, Sector 0, sequence 3, fill 1),
-    page!(9, Sector 1, sequence 4, fill 1),
-    page!(10, Sector 2, sequence 5, fill 1),
-];
-
 // A block whose first page is erased and whose second is sound was programmed out of order.
 const GAP: [Written; 3] = [TABLE_0, TABLE_1, page!(41, Sector 5, sequence 3, fill 1)];
 
 const ONE: [Written; 3] = [TABLE_0, TABLE_1, page!(8, Sector 5, sequence 3, fill 1)];
 
-// A table page whose record is sound, and whose bytes no table has.
-const DAMAGED: Written = page!(0, Table 0, sequence 1, fill 3);
+// A next sequence that is past all of them.
+const LATER: Claim = Claim {
+    next: 12,
+    ..FORMATTED
+};
+
+const LATER_AND_MISLED: Claim = Claim {
+    directory: MISLED,
+    ..LATER
+};
+
+// Three stale sectors.
+const THREE_CLAIM: Claim = Claim {
+    capacity: 3,
+    next: 6,
+    blocks: &[META, (1, 1, 3, 3, 0)],
+    sectors: &[(0, 8), (1, 9), (2, 10)],
+    ..FORMATTED
+};
+
+// Sector 5 in the first of two pages of a block.
+const FIRST_OF_TWO: Claim = Claim {
+    next: 5,
+    blocks: &[META, (1, 1, 2, 1, 0)],
+    sectors: &[(5, 8)],
+    ..FORMATTED
+};
+
+// The block with the gap is grown bad.
+const GAP_CLAIM: Claim = Claim {
+    next: 4,
+    blocks: &[META, (5, 5, 0, 1, 0)],
+    sectors: &[(5, 41)],
+    ..FORMATTED
+};
+
+// Sector 5 in the one page of a block, of which no row is told.
+const ONE_CLAIM: Claim = Claim {
+    next: 4,
+    blocks: &[META, (1, 1, 1, 1, 0)],
+    ..FORMATTED
+};
 
 const FREE_BUT_LIVE: Said = (2, 0, 0, 1, 0);
 
@@ -51,6 +83,12 @@ const FREE_BUT_WORN: Said = (1, 0, 0, 0, 1);
 pub(super) const FORMATTED_CLAIM: Claim = FORMATTED;
 
 pub(super) const FORMATTED_PAGES: [Written; 2] = [TABLE_0, TABLE_1];
+
+// The rows 0 and 8 share a sequence.
+const REPEATED: Refusal = Refusal::SequenceRepeated {
+    first: 0,
+    second: 8,
+};
 
 const CASES: [Case; 26] = [
     Case {
@@ -89,27 +127,18 @@ const CASES: [Case; 26] = [
     },
     Case {
         name: "three stale sectors",
-        pages: &THREE,
+        pages: &THREE_SECTORS,
         asked: 3,
-        claim: Claim {
-            capacity: 3,
-            next: 6,
-            blocks: &[META, (1, 1, 3, 3, 0)],
-            sectors: &[(0, 8), (1, 9), (2, 10)],
-            ..FORMATTED
-        },
+        claim: THREE_CLAIM,
         answer: Ok(&[0, 1, 2]),
     },
     Case {
         name: "three stale sectors, and room for two",
-        pages: &THREE,
+        pages: &THREE_SECTORS,
         asked: 2,
         claim: Claim {
             capacity: 2,
-            next: 6,
-            blocks: &[META, (1, 1, 3, 3, 0)],
-            sectors: &[(0, 8), (1, 9), (2, 10)],
-            ..FORMATTED
+            ..THREE_CLAIM
         },
         answer: Err(Refusal::TooStale {
             stale: 3,
@@ -125,24 +154,14 @@ const CASES: [Case; 26] = [
             page!(9, Sector 5, sequence 4, fill 2),
         ],
         asked: 4,
-        claim: Claim {
-            next: 5,
-            blocks: &[META, (1, 1, 2, 1, 0)],
-            sectors: &[(5, 8)],
-            ..FORMATTED
-        },
+        claim: FIRST_OF_TWO,
         answer: Err(Refusal::NotNewest { sector: 5, row: 9 }),
     },
     Case {
         name: "another sector's page",
         pages: &[TABLE_0, TABLE_1, page!(8, Sector 6, sequence 3, fill 1)],
         asked: 4,
-        claim: Claim {
-            next: 5,
-            blocks: &[META, (1, 1, 2, 1, 0)],
-            sectors: &[(5, 8)],
-            ..FORMATTED
-        },
+        claim: FIRST_OF_TWO,
         answer: Err(Refusal::NoSuchRecord { sector: 5, row: 8 }),
     },
     Case {
@@ -156,10 +175,7 @@ const CASES: [Case; 26] = [
             page!(25, Sector 3, sequence 10, fill 1),
         ],
         asked: 4,
-        claim: Claim {
-            next: 12,
-            ..FORMATTED
-        },
+        claim: LATER,
         answer: Err(Refusal::SequenceRepeated {
             first: 8,
             second: 16,
@@ -169,32 +185,21 @@ const CASES: [Case; 26] = [
         name: "a sector past the last",
         pages: &[TABLE_0, TABLE_1, page!(8, Sector 32, sequence 3, fill 1)],
         asked: 4,
-        claim: Claim {
-            next: 12,
-            ..FORMATTED
-        },
+        claim: LATER,
         answer: Err(Refusal::NumberRange { row: 8 }),
     },
     Case {
         name: "an erased die",
         pages: &[],
         asked: 4,
-        claim: Claim {
-            next: 12,
-            ..FORMATTED
-        },
+        claim: LATER,
         answer: Err(Refusal::NotFormatted),
     },
     Case {
         name: "a gap, and its block grown bad",
         pages: &GAP,
         asked: 4,
-        claim: Claim {
-            next: 4,
-            blocks: &[META, (5, 5, 0, 1, 0)],
-            sectors: &[(5, 41)],
-            ..FORMATTED
-        },
+        claim: GAP_CLAIM,
         answer: Ok(&[5]),
     },
     Case {
@@ -202,10 +207,8 @@ const CASES: [Case; 26] = [
         pages: &GAP,
         asked: 4,
         claim: Claim {
-            next: 4,
             blocks: &[META, (5, 3, 0, 1, 0)],
-            sectors: &[(5, 41)],
-            ..FORMATTED
+            ..GAP_CLAIM
         },
         answer: Err(Refusal::BadSetWrong { block: 5 }),
     },
@@ -214,58 +217,35 @@ const CASES: [Case; 26] = [
         name: "the capacity before a number",
         pages: &[TABLE_0, TABLE_1, page!(8, Sector 32, sequence 2, fill 1)],
         asked: 5,
-        claim: Claim {
-            next: 12,
-            directory: MISLED,
-            ..FORMATTED
-        },
+        claim: LATER_AND_MISLED,
         answer: Err(Refusal::GeometryDiffers),
     },
     Case {
         name: "a number before a sequence",
         pages: &[TABLE_0, TABLE_1, page!(8, Sector 32, sequence 2, fill 1)],
         asked: 4,
-        claim: Claim {
-            next: 12,
-            directory: MISLED,
-            ..FORMATTED
-        },
+        claim: LATER_AND_MISLED,
         answer: Err(Refusal::NumberRange { row: 8 }),
     },
     Case {
         name: "a sequence before a table page",
         pages: &[TABLE_0, page!(8, Sector 1, sequence 1, fill 1)],
         asked: 4,
-        claim: Claim {
-            next: 12,
-            directory: MISLED,
-            ..FORMATTED
-        },
-        answer: Err(Refusal::SequenceRepeated {
-            first: 0,
-            second: 8,
-        }),
+        claim: LATER_AND_MISLED,
+        answer: Err(REPEATED),
     },
     Case {
         name: "a missing table page before a damaged one",
-        pages: &[DAMAGED],
+        pages: &[DAMAGED_TABLE],
         asked: 4,
-        claim: Claim {
-            next: 12,
-            directory: MISLED,
-            ..FORMATTED
-        },
+        claim: LATER_AND_MISLED,
         answer: Err(Refusal::NotFormatted),
     },
     Case {
         name: "a damaged table page before the directory",
-        pages: &[DAMAGED, TABLE_1],
+        pages: &[DAMAGED_TABLE, TABLE_1],
         asked: 4,
-        claim: Claim {
-            next: 12,
-            directory: MISLED,
-            ..FORMATTED
-        },
+        claim: LATER_AND_MISLED,
         answer: Err(Refusal::TableDamaged { page: 0 }),
     },
     Case {
@@ -273,11 +253,9 @@ const CASES: [Case; 26] = [
         pages: &ONE,
         asked: 4,
         claim: Claim {
-            next: 4,
-            blocks: &[META, (1, 1, 1, 1, 0)],
             directory: MISLED,
             sectors: &[(5, 20)],
-            ..FORMATTED
+            ..ONE_CLAIM
         },
         answer: Err(Refusal::DirectoryWrong { page: 0 }),
     },
@@ -286,10 +264,8 @@ const CASES: [Case; 26] = [
         pages: &ONE,
         asked: 4,
         claim: Claim {
-            next: 4,
-            blocks: &[META, (1, 1, 1, 1, 0)],
             sectors: &[(9, 20)],
-            ..FORMATTED
+            ..ONE_CLAIM
         },
         answer: Err(Refusal::NoSuchRecord { sector: 9, row: 20 }),
     },
@@ -381,42 +357,7 @@ fn hold_answer(rt: &impl Abort, case: &Case, form: &str, answer: Result<Accepted
     assert!(rt; is_wanted, "{}, {form}", case.name);
 }
 
-fn hold_source(
-    rt: &impl Abort,
-    alloc: Global,
-    geometry: &Geometry,
-    case: &Case,
-    bytes: &[u8],
-    certificate: &Certificate,
-) -> Result<(), Fail> {
-    let mut source = ImageSlice::new(geometry, bytes)?;
-    hold_answer(
-        rt,
-        case,
-        "page by page",
-        check(alloc, &mut source, geometry, case.asked, certificate),
-    );
-    Ok(())
-}
-
-// The same image from a reader.
-fn hold_reader(
-    rt: &impl Abort,
-    alloc: Global,
-    geometry: &Geometry,
-    case: &Case,
-    bytes: &[u8],
-    certificate: &Certificate,
-) {
-    let mut reader = bytes;
-    hold_answer(
-        rt,
-        case,
-        "streamed",
-        check_stream(alloc, &mut reader, geometry, case.asked, certificate),
-    );
-}
-
+// The same image page by page and from a reader.
 fn hold_laid_out(rt: &impl Abort, alloc: Global, case: &Case, layout: Layout) -> Result<(), Fail> {
     let geometry = Geometry::new(64, layout.spare_bytes, 8, 32, 32)?;
     let claim = Claim {
@@ -425,8 +366,12 @@ fn hold_laid_out(rt: &impl Abort, alloc: Global, case: &Case, layout: Layout) ->
     };
     let certificate = certificate_of(alloc, &claim)?;
     let bytes = laid_out(alloc, &geometry, layout, case.pages)?;
-    hold_source(rt, alloc, &geometry, case, &bytes, &certificate)?;
-    hold_reader(rt, alloc, &geometry, case, &bytes, &certificate);
+    let mut source = ImageSlice::new(&geometry, &bytes)?;
+    let answer = check(alloc, &mut source, &geometry, case.asked, &certificate);
+    hold_answer(rt, case, "page by page", answer);
+    let mut reader = bytes.as_slice();
+    let answer = check_stream(alloc, &mut reader, &geometry, case.asked, &certificate);
+    hold_answer(rt, case, "streamed", answer);
     Ok(())
 }
 

@@ -1,7 +1,6 @@
 //! Bytes looked at in lanes, and images that are checked in one pass, from a source that counts its reads and from readers.
 ghost use Rattle.std.specs.Prelude.{◌≡◌};
 
-use super::fickle::Fickle;
 use super::images::{FORMATTED_CLAIM, FORMATTED_PAGES, certificate_of, image_of};
 use certificate::Certificate;
 use image_check::{Refusal, check, check_stream};
@@ -10,9 +9,10 @@ use page_layout::lanes::has_zero;
 use page_layout::record::is_erased;
 use page_layout::source::ImageSlice;
 use std::alloc::Global;
-use std::io::{self, ErrorKind, Read};
+use std::io::ErrorKind;
 use std::process::Abort;
 use std::test::Fail;
+use test_images::{FaultySource, Pieces, SourceTrouble};
 
 // The longest piece: four chunks and two bytes.
 const LONGEST: usize = 130;
@@ -52,31 +52,6 @@ fn each_length_and_place(rt: HostRuntime) {
     }
 }
 
-// A reader that gives its bytes in pieces, and fails at the read after a number of them, and at that one alone: whoever tries it again is
-// given the rest.
-#[derive(Drop)]
-struct Pieces<'a> {
-    left: &'a [u8],
-    piece: usize,
-    reads_left: usize,
-    fault: ErrorKind,
-}
-
-impl Read for Pieces<'_> {
-    fn read(&mut self, buf: &mut [u8]) -> io::Result<usize> {
-        if self.reads_left == 0 {
-            self.reads_left = MANY;
-            return Err(io::Error::from(self.fault));
-        }
-        self.reads_left -= 1;
-        let n = buf.len().min(self.piece).min(self.left.len());
-        let (now, later) = self.left.split_at(n);
-        buf[..n].copy_from_slice(now);
-        self.left = later;
-        Ok(n)
-    }
-}
-
 // How many bytes the reader has, in what pieces, the reads that pass, and the answer.
 type Streamed = (usize, usize, usize, Option<Refusal>);
 
@@ -112,7 +87,7 @@ fn hold_streamed(
     let mut reader = Pieces {
         left: bytes.get(..length).unwrap_or(&[]),
         piece,
-        reads_left,
+        reads_left: Some(reads_left),
         fault,
     };
     let checked = check_stream(alloc, &mut reader, &geometry, 4, &certificate);
@@ -143,7 +118,7 @@ fn another_capacity_is_told_first(rt: HostRuntime) -> Result<(), Fail> {
     let mut reader = Pieces {
         left: &[],
         piece: 1,
-        reads_left: 0,
+        reads_left: Some(0),
         fault: ErrorKind::BrokenPipe,
     };
     let checked = check_stream(rt.alloc(), &mut reader, &geometry, 5, &certificate);
@@ -154,11 +129,11 @@ fn another_capacity_is_told_first(rt: HostRuntime) -> Result<(), Fail> {
 // Whether a certificate is accepted for a cache of four entries.
 fn is_accepted(
     alloc: Global,
-    source: &mut Fickle,
+    source: &mut FaultySource,
     geometry: &Geometry,
     certificate: &Certificate,
 ) -> bool
-    requires { source.old.first.flash.geometry ≡ geometry.now }
+    requires { source.old.image.flash.geometry ≡ geometry.now }
 {
     check(alloc, source, geometry, 4, certificate).is_ok()
 }
@@ -169,12 +144,8 @@ fn pages_are_read_once(rt: HostRuntime) -> Result<(), Fail> {
     let geometry = Geometry::new(64, 32, 8, 32, 32)?;
     let bytes = image_of(rt.alloc(), &geometry, &FORMATTED_PAGES)?;
     let certificate = certificate_of(rt.alloc(), &FORMATTED_CLAIM)?;
-    let mut source = Fickle {
-        first: ImageSlice::new(&geometry, &bytes)?,
-        later: ImageSlice::new(&geometry, &bytes)?,
-        after: u32::MAX,
-        reads: 0,
-    };
+    let image = ImageSlice::new(&geometry, &bytes)?;
+    let mut source = FaultySource::new(image, SourceTrouble::Calm);
     assert!(rt; is_accepted(rt.alloc(), &mut source, &geometry, &certificate));
     assert!(rt; source.reads == 256);
     Ok(())

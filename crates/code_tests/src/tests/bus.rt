@@ -209,11 +209,11 @@ const TORN_2: &[u8] = &[
     0x5a, 0x5a, 0x5a, 0x5a, 0x5a, 0x5a, 0x5a, 0x5a, 0x5a, 0x5a, 0x5a, 0x5a, 0x5a, 0x5a, 0x5a, 0x5a,
 ];
 
-// Calls of a new bus, of whose programs and erases these fail.
+// Calls of a new bus, each list of them so many times, of whose programs and erases these fail.
 struct Row {
     name: &'static str,
     failing: &'static [u64],
-    calls: &'static [&'static [Call]],
+    calls: &'static [(u8, &'static [Call])],
 }
 
 const ROWS: &[Row] = &[
@@ -221,183 +221,179 @@ const ROWS: &[Row] = &[
         name: "a page with a wrong bit in its data and one in its spare area",
         failing: &[],
         calls: &[
-            PROGRAM,
-            PASSED,
-            READ,
-            READ,
-            READ,
-            &[Call::Out(BODY_2), Call::Out(OUTER_2), Call::Short(1)],
+            (1, PROGRAM),
+            (1, PASSED),
+            (3, READ),
+            (1, &[Call::Out(BODY_2), Call::Out(OUTER_2), Call::Short(1)]),
         ],
     },
     Row {
         name: "a page with a wrong bit in a code",
         failing: &[],
         calls: &[
-            PROGRAM,
-            READ,
-            READ,
-            READ,
-            READ,
-            READ,
-            READ,
-            READ,
-            &[Call::Out(BODY), Call::Out(OUTER_6)],
+            (1, PROGRAM),
+            (7, READ),
+            (1, &[Call::Out(BODY), Call::Out(OUTER_6)]),
         ],
     },
     Row {
         name: "an erased page, in one piece",
         failing: &[],
         calls: &[
-            READ,
-            READ,
-            READ,
-            &[Call::Short(103), Call::Out(ERASED_2), Call::Out(&[])],
+            (3, READ),
+            (1, &[Call::Short(103), Call::Out(ERASED_2), Call::Out(&[])]),
         ],
     },
     Row {
         name: "the second byte of a row",
         failing: &[],
-        calls: &[
-            PROGRAM,
-            READ_OTHER,
-            READ_OTHER,
-            READ_OTHER,
-            &[Call::Out(ERASED_2)],
-        ],
+        calls: &[(1, PROGRAM), (3, READ_OTHER), (1, &[Call::Out(ERASED_2)])],
     },
     Row {
         name: "an erase",
         failing: &[],
         calls: &[
-            PROGRAM,
-            ERASE,
-            PASSED,
-            READ,
-            READ,
-            READ,
-            &[Call::Out(ERASED_2)],
+            (1, PROGRAM),
+            (1, ERASE),
+            (1, PASSED),
+            (3, READ),
+            (1, &[Call::Out(ERASED_2)]),
         ],
     },
     Row {
         name: "an erased page with a wrong bit in a code",
         failing: &[],
-        calls: &[
-            READ,
-            READ,
-            READ,
-            READ,
-            READ,
-            READ,
-            READ,
-            &[Call::Out(ERASED), Call::Out(BLANK_6)],
-        ],
+        calls: &[(7, READ), (1, &[Call::Out(ERASED), Call::Out(BLANK_6)])],
     },
     Row {
         name: "a program that fails",
         failing: &[1],
         calls: &[
-            PROGRAM,
-            FAILED,
-            FAILED,
-            READ,
-            READ,
-            READ,
-            &[Call::Out(TORN_2), Call::Out(CLEAR)],
-            FAILED,
+            (1, PROGRAM),
+            (2, FAILED),
+            (3, READ),
+            (1, &[Call::Out(TORN_2), Call::Out(CLEAR)]),
+            (1, FAILED),
         ],
     },
     Row {
         name: "an erase that fails",
         failing: &[1],
         calls: &[
-            ERASE,
-            FAILED,
-            READ,
-            READ,
-            READ,
-            &[Call::Out(TORN_2), Call::Out(CLEAR)],
-            PROGRAM,
-            FAILED,
+            (1, ERASE),
+            (1, FAILED),
+            (3, READ),
+            (1, &[Call::Out(TORN_2), Call::Out(CLEAR)]),
+            (1, PROGRAM),
+            (1, FAILED),
         ],
     },
     Row {
         name: "a program with a wrong code",
         failing: &[],
         calls: &[
-            &[
-                Call::Command(0x80),
-                ROW,
-                Call::In(BODY),
-                Call::In(OUTER_6),
-                Call::Refused(0x10, BusFault::ColumnRange),
-            ],
-            READ,
-            READ,
-            READ,
-            &[Call::Out(ERASED_2)],
+            (
+                1,
+                &[
+                    Call::Command(0x80),
+                    ROW,
+                    Call::In(BODY),
+                    Call::In(OUTER_6),
+                    Call::Refused(0x10, BusFault::ColumnRange),
+                ],
+            ),
+            (3, READ),
+            (1, &[Call::Out(ERASED_2)]),
         ],
     },
     Row {
         name: "a program with a page that is too short or too long",
         failing: &[],
-        calls: &[&[
-            Call::Command(0x80),
-            ROW,
-            Call::In(BODY),
-            Call::Refused(0x10, BusFault::ColumnRange),
-            Call::Command(0x80),
-            ROW,
-            Call::In(BODY),
-            Call::In(OUTER),
-            Call::Full(&[0]),
-        ]],
+        calls: &[(
+            1,
+            &[
+                Call::Command(0x80),
+                ROW,
+                Call::In(BODY),
+                Call::Refused(0x10, BusFault::ColumnRange),
+                Call::Command(0x80),
+                ROW,
+                Call::In(BODY),
+                Call::In(OUTER),
+                Call::Full(&[0]),
+            ],
+        )],
     },
     Row {
         name: "commands out of turn",
         failing: &[],
-        calls: &[&[
-            Call::Short(1),
-            Call::Refused(0x30, BusFault::OutOfTurn),
-            Call::Refused(0x10, BusFault::OutOfTurn),
-            Call::Refused(0xD0, BusFault::OutOfTurn),
-            Call::Refused(0x90, BusFault::UnknownCommand),
-            Call::Command(0x00),
-            Call::Address(&[0, 0, 0x20, 1]),
-            Call::Refused(0x30, BusFault::OutOfTurn),
-            Call::Command(0x60),
-            Call::Address(&[0x20, 1]),
-            Call::Refused(0xD0, BusFault::OutOfTurn),
-            Call::Command(0x80),
-            Call::Address(&[0, 0, 0x20, 1]),
-            Call::Refused(0x10, BusFault::OutOfTurn),
-        ]],
+        calls: &[(
+            1,
+            &[
+                Call::Short(1),
+                Call::Refused(0x30, BusFault::OutOfTurn),
+                Call::Refused(0x10, BusFault::OutOfTurn),
+                Call::Refused(0xD0, BusFault::OutOfTurn),
+                Call::Refused(0x90, BusFault::UnknownCommand),
+                Call::Command(0x00),
+                Call::Address(&[0, 0, 0x20, 1]),
+                Call::Refused(0x30, BusFault::OutOfTurn),
+                Call::Command(0x60),
+                Call::Address(&[0x20, 1]),
+                Call::Refused(0xD0, BusFault::OutOfTurn),
+                Call::Command(0x80),
+                Call::Address(&[0, 0, 0x20, 1]),
+                Call::Refused(0x10, BusFault::OutOfTurn),
+            ],
+        )],
     },
     Row {
         name: "rows past the chip",
         failing: &[],
-        calls: &[&[
-            Call::Command(0x00),
-            Call::Address(&[0, 0, 0, 2, 0]),
-            Call::Refused(0x30, BusFault::OutOfTurn),
-            Call::Command(0x60),
-            Call::Address(&[0, 0, 1]),
-            Call::Refused(0xD0, BusFault::OutOfTurn),
-            Call::Command(0x80),
-            Call::Address(&[0, 0, 0, 2, 0]),
-            Call::In(BODY),
-            Call::In(OUTER),
-            Call::Refused(0x10, BusFault::OutOfTurn),
-        ]],
+        calls: &[(
+            1,
+            &[
+                Call::Command(0x00),
+                Call::Address(&[0, 0, 0, 2, 0]),
+                Call::Refused(0x30, BusFault::OutOfTurn),
+                Call::Command(0x60),
+                Call::Address(&[0, 0, 1]),
+                Call::Refused(0xD0, BusFault::OutOfTurn),
+                Call::Command(0x80),
+                Call::Address(&[0, 0, 0, 2, 0]),
+                Call::In(BODY),
+                Call::In(OUTER),
+                Call::Refused(0x10, BusFault::OutOfTurn),
+            ],
+        )],
     },
 ];
 
+// Whether calls come to what they say.
+fn are_answered<B: Bus>(bus: &mut B, calls: &[Call]) -> bool {
+    for call in calls {
+        if !is_answered(bus, call) {
+            return false;
+        }
+    }
+    true
+}
+
+// The same of so many times these calls.
+fn are_repeated<B: Bus>(bus: &mut B, times: u8, calls: &[Call]) -> bool {
+    for _ in 0..times {
+        if !are_answered(bus, calls) {
+            return false;
+        }
+    }
+    true
+}
+
 // The number of the first part whose calls do not come to what they say.
-fn first_wrong<B: Bus>(bus: &mut B, parts: &[&[Call]]) -> Option<usize> {
-    for (number, part) in parts.iter().enumerate() {
-        for call in *part {
-            if !is_answered(bus, call) {
-                return Some(number);
-            }
+fn first_wrong<B: Bus>(bus: &mut B, parts: &[(u8, &[Call])]) -> Option<usize> {
+    for (number, (times, calls)) in parts.iter().enumerate() {
+        if !are_repeated(bus, *times, calls) {
+            return Some(number);
         }
     }
     None

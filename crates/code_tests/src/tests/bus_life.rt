@@ -244,7 +244,6 @@ fn live<N: Nand>(rt: &impl Abort, nand: &mut N, geometry: &Geometry, list: &mut 
     requires rows { row_count geometry.now ≡ 512 }
     requires data_bytes { geometry.now.data_bytes ≡ 64 }
     requires spare_bytes { geometry.now.spare_bytes ≡ 32 }
-    ensures { (N.view.flash nand.new).geometry ≡ geometry.now }
 {
     let mut drawn = 0x9e37_79b9_7f4a_7c15;
     'changes: for _ in 0..CHANGES {

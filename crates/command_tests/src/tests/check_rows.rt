@@ -1,6 +1,6 @@
 //! What `check` answers, and where several faults hold the first of them.
 use super::images::{Claimed, Made};
-use super::runs::{Case, Step, expect_cases};
+use super::runs::{Case, Step, hold_cases};
 use std::test::Fail;
 use test_images::{META, Written, page};
 
@@ -178,7 +178,7 @@ const ANSWERED: [Case; 13] = [
 
 #[test]
 fn check_rows(rt: HostRuntime) -> Result<(), Fail> {
-    expect_cases(&rt, rt.alloc(), &ANSWERED)
+    hold_cases(&rt, rt.alloc(), &ANSWERED)
 }
 
 // The numbers by their words, the geometry, the capacity, the files by their words, the certificate's bytes, the image's length,
@@ -275,5 +275,5 @@ const FIRST_FAULTS: [Case; 5] = [
 
 #[test]
 fn first_fault_is_told(rt: HostRuntime) -> Result<(), Fail> {
-    expect_cases(&rt, rt.alloc(), &FIRST_FAULTS)
+    hold_cases(&rt, rt.alloc(), &FIRST_FAULTS)
 }

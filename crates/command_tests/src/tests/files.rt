@@ -1,11 +1,11 @@
-//! Files in memory, a writer that is closed, and what stands on standard input.
+//! Files in memory, and what stands on standard input.
 ghost use Rattle.std.specs.Prelude.{◌≡◌, ◌⊎◌, IfOk, IfNone, IfSome, map, string_bytes};
 ghost use Rattle.commands.specs.Files.{written_file};
 ghost use Rattle.command_tests.specs.Files.{HasFile, LacksFile};
 
 use commands::{FileFault, FileStore};
 use std::alloc::{AllocError, Global};
-use std::io::{self, Cursor, ErrorKind, Read, Write};
+use std::io::{self, Cursor, ErrorKind, Read};
 use std::test::Fail;
 
 /// A file in memory, as it was before the first run.
@@ -156,20 +156,6 @@ impl FileStore for MemoryFiles {
             return Err(FileFault::OutOfMemory);
         }
         if done { Ok(()) } else { Err(FileFault::Failed) }
-    }
-}
-
-/// Standard output or standard error that is closed.
-#[derive(Drop)]
-pub struct Closed;
-
-impl Write for Closed {
-    fn write(&mut self, _buf: &[u8]) -> io::Result<usize> {
-        Err(io::Error::from(ErrorKind::BrokenPipe))
-    }
-
-    fn flush(&mut self) -> io::Result<()> {
-        Ok(())
     }
 }
 

@@ -1,6 +1,6 @@
 //! What `format` makes of fresh images, and what it refuses.
 use super::images::{IMAGE_BYTES, Made, PAGE_BYTES};
-use super::runs::{Case, Step, expect_cases};
+use super::runs::{Case, Step, hold_cases};
 use super::sector_rows::ZEROS;
 use std::test::Fail;
 
@@ -128,5 +128,5 @@ const CASES: [Case; 7] = [
 
 #[test]
 fn format_rows(rt: HostRuntime) -> Result<(), Fail> {
-    expect_cases(&rt, rt.alloc(), &CASES)
+    hold_cases(&rt, rt.alloc(), &CASES)
 }

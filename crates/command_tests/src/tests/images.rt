@@ -4,7 +4,7 @@ use std::alloc::{AllocError, Global};
 use std::process::Abort;
 use std::test::Fail;
 use test_images::{
-    Claim, FORMATTED, Layout, Said, TABLE_0, TABLE_1, Written, certificate_bytes, image_of,
+    Claim, FORMATTED, Layout, META, Said, TABLE_0, TABLE_1, Written, certificate_bytes, image_of,
     laid_out,
 };
 
@@ -142,6 +142,20 @@ pub enum Made {
     /// These bytes cut or made longer, by bytes 00h, to so many.
     Cut(Claimed, usize),
 }
+
+/// A formatted die, its certificate, and a file for what is made of them.
+pub const FORMATTED_FILES: &[(&str, Made)] = &[
+    ("image.bin", Made::Formatted(&[])),
+    ("cert.bin", Made::Certificate((4, 3, &[META], &[]))),
+    ("out.bin", Made::Formatted(&[])),
+];
+
+/// The same with a certificate whose next sequence was used.
+pub const DISAGREEING_FILES: &[(&str, Made)] = &[
+    ("image.bin", Made::Formatted(&[])),
+    ("cert.bin", Made::Certificate((4, 2, &[META], &[]))),
+    ("out.bin", Made::Formatted(&[])),
+];
 
 /// The bytes of a file.
 pub fn bytes_of(rt: &impl Abort, alloc: Global, bytes: &Made) -> Result<Vec<u8>, Fail> {

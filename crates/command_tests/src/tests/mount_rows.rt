@@ -1,6 +1,6 @@
 //! What `mount` stores and prints, and where several faults hold the first of them.
 use super::images::Made;
-use super::runs::{Case, Step, expect_cases};
+use super::runs::{Case, Step, hold_cases};
 use std::test::Fail;
 use test_images::{META, Written, page};
 
@@ -127,7 +127,7 @@ const MOUNTED: [Case; 5] = [
 
 #[test]
 fn certificates_are_stored(rt: HostRuntime) -> Result<(), Fail> {
-    expect_cases(&rt, rt.alloc(), &MOUNTED)
+    hold_cases(&rt, rt.alloc(), &MOUNTED)
 }
 
 const SHARED: [Written; 2] = [
@@ -272,5 +272,5 @@ const REFUSED: [Case; 9] = [
 
 #[test]
 fn refusals_store_nothing(rt: HostRuntime) -> Result<(), Fail> {
-    expect_cases(&rt, rt.alloc(), &REFUSED)
+    hold_cases(&rt, rt.alloc(), &REFUSED)
 }

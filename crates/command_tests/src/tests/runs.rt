@@ -1,12 +1,13 @@
 //! Runs of the program over files in memory, and what they have to answer: cases, each a list of steps over files of its own.
-use super::files::{Closed, MemoryFiles, Requests, Unread};
+use super::files::{MemoryFiles, Requests, Unread};
 use super::images::{Made, bytes_of};
 use commands::run;
 use std::alloc::{AllocError, Global};
-use std::fmt::Debug;
 use std::io::Write;
 use std::process::Abort;
 use std::test::Fail;
+pub use test_images::hold_cases;
+use test_images::{Closed, Ran, TestCase, hold_same};
 
 /// A step of a case.
 pub enum Step {
@@ -46,19 +47,6 @@ pub struct Case {
     pub steps: &'static [Step],
 }
 
-// What a run answered and wrote.
-#[derive(Drop)]
-struct Ran {
-    status: u8,
-    out: Vec<u8>,
-    err: Vec<u8>,
-}
-
-// Holds what was found to what is expected at a place of a table. Each caller's proof is the cheaper for it.
-fn hold<T: PartialEq + Debug>(rt: &impl Abort, place: &impl Debug, found: &T, expected: &T) {
-    assert_eq!(rt; *found, *expected, "{place:?}");
-}
-
 // Runs the words over a standard input that fails as it is read, and that no command but `serve` is to read.
 fn run_to<O: Write, E: Write>(
     rt: &impl Abort,
@@ -89,109 +77,63 @@ fn run_words(rt: &impl Abort, words: &[&str], files: &mut MemoryFiles) -> Ran {
     Ran { status, out, err }
 }
 
-// Holds a run to its status and to what it said.
-fn hold_run(rt: &impl Abort, place: &impl Debug, ran: &Ran, status: u8, said: &str) {
-    let (out, err) = if status == 0 { (said, "") } else { ("", said) };
-    hold(rt, place, &ran.err.as_slice(), &err.as_bytes());
-    hold(rt, place, &ran.out.as_slice(), &out.as_bytes());
-    hold(rt, place, &ran.status, &status);
-}
-
 // Runs the words and holds the run to what it has to answer.
-fn expect_words(rt: &impl Abort, files: &mut MemoryFiles, words: &[&str], status: u8, said: &str) {
-    let before = files.stored.len();
-    let ran = run_words(rt, words, files);
-    hold_run(rt, &(files.case, words), &ran, status, said);
-    if status != 0 {
-        hold(rt, &(files.case, words), &files.stored.len(), &before);
-    }
-}
-
-fn expect_line(
+fn expect_words(
     rt: &impl Abort,
     files: &mut MemoryFiles,
-    line: &str,
+    words: &[&str],
     status: u8,
     said: &str,
-) -> Result<(), AllocError> {
-    let words = words_of(files.alloc, line)?;
-    expect_words(rt, files, &words, status, said);
+) -> Result<(), Fail> {
+    let before = files.stored.len();
+    let ran = run_words(rt, words, files);
+    ran.hold_said(&(files.case, words), status, said)?;
+    if status != 0 {
+        hold_same(&(files.case, words), &files.stored.len(), &before)?;
+    }
     Ok(())
 }
 
-fn expect_unstored(
-    rt: &impl Abort,
-    files: &mut MemoryFiles,
-    line: &str,
-    said: &str,
-) -> Result<(), AllocError> {
-    let words = words_of(files.alloc, line)?;
-    let ran = run_words(rt, &words, files);
-    hold_run(rt, &(files.case, line), &ran, 3, said);
-    Ok(())
-}
-
+// Runs the words over a standard output that is closed, and over a standard error that is closed too where nothing is to be said there.
 fn expect_closed(
     rt: &impl Abort,
     files: &mut MemoryFiles,
-    line: &str,
+    words: &[&str],
     status: u8,
-    said: &str,
-) -> Result<(), AllocError> {
-    let words = words_of(files.alloc, line)?;
+    said: Option<&str>,
+) -> Result<(), Fail> {
     let mut err: Vec<u8> = Vec::new(files.alloc);
-    let answered = run_to(rt, &words, files, &mut Closed, &mut err);
-    hold(rt, &(files.case, line), &err.as_slice(), &said.as_bytes());
-    hold(rt, &(files.case, line), &answered, &status);
-    Ok(())
+    let answered = match said {
+        Some(_) => run_to(rt, words, files, &mut Closed, &mut err),
+        None => run_to(rt, words, files, &mut Closed, &mut Closed),
+    };
+    let ran = Ran {
+        status: answered,
+        out: Vec::new(files.alloc),
+        err,
+    };
+    ran.hold(
+        &(files.case, words),
+        status,
+        b"",
+        said.unwrap_or("").as_bytes(),
+    )
 }
 
-fn expect_both_closed(
-    rt: &impl Abort,
-    files: &mut MemoryFiles,
-    line: &str,
-    status: u8,
-) -> Result<(), AllocError> {
-    let words = words_of(files.alloc, line)?;
-    let answered = run_to(rt, &words, files, &mut Closed, &mut Closed);
-    hold(rt, &(files.case, line), &answered, &status);
-    Ok(())
-}
-
-fn expect_stored(
-    rt: &impl Abort,
-    files: &MemoryFiles,
-    count: usize,
-    path: &str,
-    done: bool,
-) -> Result<(), Fail> {
-    hold(rt, &(files.case, path), &files.stored.len(), &count);
+fn expect_stored(files: &MemoryFiles, count: usize, path: &str, done: bool) -> Result<(), Fail> {
+    hold_same(&(files.case, path), &files.stored.len(), &count)?;
     let last = files.stored.last().ok_or("nothing was stored")?;
-    hold(rt, &(files.case, path), &last.path.as_str(), &path);
-    hold(rt, &(files.case, path), &last.done, &done);
-    Ok(())
+    hold_same(&(files.case, path), &last.path.as_str(), &path)?;
+    hold_same(&(files.case, path), &last.done, &done)
 }
 
-fn expect_contents(
-    rt: &impl Abort,
-    files: &MemoryFiles,
-    path: &str,
-    from: usize,
-    bytes: &[u8],
-) -> Result<(), Fail> {
+fn expect_contents(files: &MemoryFiles, path: &str, from: usize, bytes: &[u8]) -> Result<(), Fail> {
     let found = files.contents(path).ok_or("no such file")?;
-    hold(rt, &(files.case, path), &found.len(), &bytes.len());
-    hold(
-        rt,
-        &(files.case, path),
-        &found.get(from..),
-        &bytes.get(from..),
-    );
-    Ok(())
+    hold_same(&(files.case, path), &found.len(), &bytes.len())?;
+    hold_same(&(files.case, path), &found.get(from..), &bytes.get(from..))
 }
 
 fn expect_part(
-    rt: &impl Abort,
     files: &MemoryFiles,
     path: &str,
     from: usize,
@@ -199,101 +141,103 @@ fn expect_part(
     bytes: &[u8],
 ) -> Result<(), Fail> {
     let found = files.contents(path).ok_or("no such file")?;
-    hold(rt, &(files.case, path), &found.get(from..to), &Some(bytes));
-    Ok(())
+    hold_same(&(files.case, path), &found.get(from..to), &Some(bytes))
 }
 
 fn take(rt: &impl Abort, files: &mut MemoryFiles, step: &Step) -> Result<(), Fail> {
+    let alloc = files.alloc;
     match step {
-        Step::Run(line, status, said) => expect_line(rt, files, line, *status, said)?,
-        Step::Words(words, status, said) => expect_words(rt, files, words, *status, said),
-        Step::Unstored(line, said) => expect_unstored(rt, files, line, said)?,
-        Step::Closed(line, status, said) => {
-            expect_closed(rt, files, line, *status, said)?;
+        Step::Run(line, status, said) => {
+            expect_words(rt, files, &words_of(alloc, line)?, *status, said)
         }
-        Step::BothClosed(line, status) => expect_both_closed(rt, files, line, *status)?,
-        Step::Stored(count, path, done) => expect_stored(rt, files, *count, path, *done)?,
+        Step::Words(words, status, said) => expect_words(rt, files, words, *status, said),
+        Step::Unstored(line, said) => {
+            let ran = run_words(rt, &words_of(alloc, line)?, files);
+            ran.hold_said(&(files.case, line), 3, said)
+        }
+        Step::Closed(line, status, said) => {
+            expect_closed(rt, files, &words_of(alloc, line)?, *status, Some(said))
+        }
+        Step::BothClosed(line, status) => {
+            expect_closed(rt, files, &words_of(alloc, line)?, *status, None)
+        }
+        Step::Stored(count, path, done) => expect_stored(files, *count, path, *done),
         Step::Holds(path, bytes) => {
-            expect_contents(rt, files, path, 0, &bytes_of(rt, files.alloc, bytes)?)?;
+            expect_contents(files, path, 0, &bytes_of(rt, alloc, bytes)?)
         }
         Step::HoldsFrom(path, from, bytes) => {
-            expect_contents(rt, files, path, *from, &bytes_of(rt, files.alloc, bytes)?)?;
+            expect_contents(files, path, *from, &bytes_of(rt, alloc, bytes)?)
         }
-        Step::HoldsPart(path, from, to, bytes) => {
-            expect_part(rt, files, path, *from, *to, bytes)?;
+        Step::HoldsPart(path, from, to, bytes) => expect_part(files, path, *from, *to, bytes),
+        Step::RefuseMemory => {
+            files.refuses = true;
+            Ok(())
         }
-        Step::RefuseMemory => files.refuses = true,
         Step::Serve(line, input, status, out, err) => {
-            expect_served(
-                rt,
-                files,
-                line,
-                &mut Requests::of(input, false),
-                *status,
-                out,
-                err,
-            )?;
+            let requests = Requests::of(input, false);
+            expect_served(files, &words_of(alloc, line)?, requests, *status, out, err)
         }
         Step::ServeCut(line, input, status, out, err) => {
-            expect_served(
-                rt,
-                files,
-                line,
-                &mut Requests::of(input, true),
-                *status,
-                out,
-                err,
-            )?;
+            let requests = Requests::of(input, true);
+            expect_served(files, &words_of(alloc, line)?, requests, *status, out, err)
         }
         Step::ServeClosed(line, input, status, err) => {
-            expect_served_closed(rt, files, line, input, *status, err)?;
+            expect_served_closed(files, &words_of(alloc, line)?, input, *status, err)
         }
     }
-    Ok(())
 }
 
-// Runs a command line over requests.
+// Runs the words over requests.
 fn expect_served(
-    rt: &impl Abort,
     files: &mut MemoryFiles,
-    line: &str,
-    input: &mut Requests,
+    words: &[&str],
+    mut input: Requests,
     status: u8,
     out: &[u8],
     err: &str,
-) -> Result<(), AllocError> {
-    let words = words_of(files.alloc, line)?;
-    let mut answered: Vec<u8> = Vec::new(files.alloc);
+) -> Result<(), Fail> {
+    let mut replies: Vec<u8> = Vec::new(files.alloc);
     let mut told: Vec<u8> = Vec::new(files.alloc);
-    let found = run(files.alloc, &words, files, input, &mut answered, &mut told);
-    hold(rt, &(files.case, line), &told.as_slice(), &err.as_bytes());
-    hold(rt, &(files.case, line), &answered.as_slice(), &out);
-    hold(rt, &(files.case, line), &found, &status);
-    Ok(())
+    let answered = run(
+        files.alloc,
+        words,
+        files,
+        &mut input,
+        &mut replies,
+        &mut told,
+    );
+    let ran = Ran {
+        status: answered,
+        out: replies,
+        err: told,
+    };
+    ran.hold(&(files.case, words), status, out, err.as_bytes())
 }
 
+// The same over a standard output that is closed.
 fn expect_served_closed(
-    rt: &impl Abort,
     files: &mut MemoryFiles,
-    line: &str,
+    words: &[&str],
     input: &'static [u8],
     status: u8,
     err: &str,
-) -> Result<(), AllocError> {
-    let words = words_of(files.alloc, line)?;
-    let mut told: Vec<u8> = Vec::new(files.alloc);
+) -> Result<(), Fail> {
     let mut requests = Requests::of(input, false);
-    let found = run(
+    let mut told: Vec<u8> = Vec::new(files.alloc);
+    let answered = run(
         files.alloc,
-        &words,
+        words,
         files,
         &mut requests,
         &mut Closed,
         &mut told,
     );
-    hold(rt, &(files.case, line), &told.as_slice(), &err.as_bytes());
-    hold(rt, &(files.case, line), &found, &status);
-    Ok(())
+    let ran = Ran {
+        status: answered,
+        out: Vec::new(files.alloc),
+        err: told,
+    };
+    ran.hold(&(files.case, words), status, b"", err.as_bytes())
 }
 
 // The files of a case as they are before its first step.
@@ -305,19 +249,13 @@ fn files_of(rt: &impl Abort, alloc: Global, case: &Case) -> Result<MemoryFiles, 
     Ok(files)
 }
 
-// Takes the steps of a case in their order.
-fn expect_case(rt: &impl Abort, alloc: Global, case: &Case) -> Result<(), Fail> {
-    let mut files = files_of(rt, alloc, case)?;
-    for step in case.steps {
-        take(rt, &mut files, step)?;
+impl<R: Abort> TestCase<R> for Case {
+    // Takes its steps in their order.
+    fn hold(&self, rt: &R, alloc: Global) -> Result<(), Fail> {
+        let mut files = files_of(rt, alloc, self)?;
+        for step in self.steps {
+            take(rt, &mut files, step)?;
+        }
+        Ok(())
     }
-    Ok(())
-}
-
-/// Holds each case of a table to what it says.
-pub fn expect_cases(rt: &impl Abort, alloc: Global, cases: &[Case]) -> Result<(), Fail> {
-    for case in cases {
-        expect_case(rt, alloc, case)?;
-    }
-    Ok(())
 }

@@ -1,6 +1,6 @@
 //! What `sector` prints: the plain recovery of a sector, and where several faults hold the first of them.
 use super::images::{IMAGE_BYTES, Made};
-use super::runs::{Case, Step, expect_cases};
+use super::runs::{Case, Step, hold_cases};
 use std::test::Fail;
 use test_images::{Written, page};
 
@@ -194,5 +194,5 @@ const CASES: [Case; 12] = [
 
 #[test]
 fn sector_rows(rt: HostRuntime) -> Result<(), Fail> {
-    expect_cases(&rt, rt.alloc(), &CASES)
+    hold_cases(&rt, rt.alloc(), &CASES)
 }

@@ -1,6 +1,6 @@
 //! What `serve` writes, stores and answers.
-use super::images::Made;
-use super::runs::{Case, Step, expect_cases};
+use super::images::{DISAGREEING_FILES, FORMATTED_FILES, Made};
+use super::runs::{Case, Step, hold_cases};
 use std::test::Fail;
 use test_images::META;
 
@@ -38,11 +38,7 @@ const SECTOR: Step = Step::Run("nandctl sector 64,32,8,32,32 out.bin 5", 0, ELEV
 const SERVED: [Case; 6] = [
     Case {
         name: "a write, and its certificate",
-        files: &[
-            ("image.bin", Made::Formatted(&[])),
-            ("cert.bin", Made::Certificate((4, 3, &[META], &[]))),
-            ("out.bin", Made::Formatted(&[])),
-        ],
+        files: FORMATTED_FILES,
         steps: &[
             Step::Serve(SERVE, WRITE, 0, WRITTEN, ""),
             Step::Stored(1, "out.bin", true),
@@ -56,11 +52,7 @@ const SERVED: [Case; 6] = [
     },
     Case {
         name: "a request that is cut short",
-        files: &[
-            ("image.bin", Made::Formatted(&[])),
-            ("cert.bin", Made::Certificate((4, 3, &[META], &[]))),
-            ("out.bin", Made::Formatted(&[])),
-        ],
+        files: FORMATTED_FILES,
         steps: &[
             Step::Serve(SERVE, CUT, 0, CUT_REPLIES, ""),
             Step::Holds("out.bin", Made::Formatted(&[])),
@@ -73,11 +65,7 @@ const SERVED: [Case; 6] = [
     },
     Case {
         name: "a bad header",
-        files: &[
-            ("image.bin", Made::Formatted(&[])),
-            ("cert.bin", Made::Certificate((4, 3, &[META], &[]))),
-            ("out.bin", Made::Formatted(&[])),
-        ],
+        files: FORMATTED_FILES,
         steps: &[
             Step::Serve(SERVE, BAD, 1, BAD_REPLIES, "refused serve 7 BadFrame\n"),
             Step::Stored(1, "out.bin", true),
@@ -103,11 +91,7 @@ const SERVED: [Case; 6] = [
     },
     Case {
         name: "a certificate that does not agree",
-        files: &[
-            ("image.bin", Made::Formatted(&[])),
-            ("cert.bin", Made::Certificate((4, 2, &[META], &[]))),
-            ("out.bin", Made::Formatted(&[])),
-        ],
+        files: DISAGREEING_FILES,
         steps: &[
             Step::Serve(SERVE, WRITE, 1, b"", "refused check 11 NextSequence\n"),
             Step::Serve(
@@ -169,5 +153,5 @@ const SERVED: [Case; 6] = [
 
 #[test]
 fn requests_are_served(rt: HostRuntime) -> Result<(), Fail> {
-    expect_cases(&rt, rt.alloc(), &SERVED)
+    hold_cases(&rt, rt.alloc(), &SERVED)
 }

@@ -1,6 +1,6 @@
 //! What `show` prints of a page.
 use super::images::{IMAGE_BYTES, Made};
-use super::runs::{Case, Step, expect_cases};
+use super::runs::{Case, Step, hold_cases};
 use std::test::Fail;
 use test_images::{Layout, Old, Written, page};
 
@@ -87,5 +87,5 @@ const CASES: [Case; 4] = [
 
 #[test]
 fn show_rows(rt: HostRuntime) -> Result<(), Fail> {
-    expect_cases(&rt, rt.alloc(), &CASES)
+    hold_cases(&rt, rt.alloc(), &CASES)
 }

@@ -1,6 +1,6 @@
 //! Words that are no command, or no number.
 use super::images::{IMAGE_BYTES, Made};
-use super::runs::{Case, Step, expect_cases};
+use super::runs::{Case, Step, hold_cases};
 use std::test::Fail;
 use test_images::META;
 
@@ -71,5 +71,5 @@ const CASES: [Case; 5] = [
 
 #[test]
 fn word_rows(rt: HostRuntime) -> Result<(), Fail> {
-    expect_cases(&rt, rt.alloc(), &CASES)
+    hold_cases(&rt, rt.alloc(), &CASES)
 }

@@ -3,7 +3,7 @@ ghost use Rattle.std.specs.Prelude.{◌≡◌, ◌≤◌, true, IfErr};
 ghost use Rattle.onfi_cycles.specs.Cycles.{IsCounted};
 
 use super::operations::{Operation, after};
-use super::recorder::{Recorder, Seen, after_cycles};
+use super::recorder::{ERASE, PROGRAM, READ, Recorder, STATUS_PASSED, Seen, after_cycles};
 use super::small;
 use onfi_cycles::{Bus, BusFault, Driver, Outcome};
 use page_layout::geometry::Geometry;
@@ -372,39 +372,17 @@ fn a_fault_of_a_program_or_an_erase_stays(rt: HostRuntime) {
 }
 
 // What a program, an erase and a page read are spelled as, behind the Reset of a new driver.
-const SPELLING: &[Seen] = &[
-    Seen::Command(0xFF),
-    Seen::Command(0x80),
-    Seen::Address(0),
-    Seen::Address(0),
-    Seen::Address(8),
-    Seen::Address(0),
-    Seen::Address(0),
-    Seen::In(64, 1),
-    Seen::In(32, 2),
-    Seen::Command(0x10),
-    Seen::Command(0x70),
-    Seen::Out(1, 0xE0),
-    Seen::Command(0x60),
-    Seen::Address(8),
-    Seen::Address(0),
-    Seen::Address(0),
-    Seen::Command(0xD0),
-    Seen::Command(0x70),
-    Seen::Out(1, 0xE0),
-    Seen::Command(0x00),
-    Seen::Address(0),
-    Seen::Address(0),
-    Seen::Address(8),
-    Seen::Address(0),
-    Seen::Address(0),
-    Seen::Command(0x30),
-    Seen::Out(64, 0xE0),
-    Seen::Out(32, 0xE0),
+const SPELLING: [&[Seen]; 6] = [
+    PROGRAM,
+    STATUS_PASSED,
+    ERASE,
+    STATUS_PASSED,
+    READ,
+    &[Seen::Out(64, 0xE0), Seen::Out(32, 0xE0)],
 ];
 
 const SPELLED: &[Operation] = &[
-    Operation::Program(8, 1, 2, PASSED),
+    Operation::Program(8, 0x11, 0x22, PASSED),
     Operation::Erase(1, PASSED),
     Operation::Read(8, 0xE0, 0xE0),
     Operation::Failures(0),
@@ -415,7 +393,7 @@ fn operations_are_spelled_cycle_by_cycle(rt: HostRuntime) {
     let geometry = small(&rt);
     let recorder = Recorder::new(rt.alloc(), new_parrot(geometry, 0xE0, None));
     let recorder = after(&rt, recorder, geometry, "spelled", SPELLED);
-    after_cycles(&rt, rt.alloc(), recorder, "spelled", &[SPELLING]);
+    after_cycles(&rt, rt.alloc(), recorder, "spelled", &SPELLING);
 }
 
 // An honest bus whose device fails at every cycle, and says so each time.

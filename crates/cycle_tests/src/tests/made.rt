@@ -8,6 +8,7 @@ use nand_die::{Die, DieFault, Mark};
 use std::alloc::Global;
 use std::process::Abort;
 use std::test::Fail;
+use test_images::TWO_MARKS;
 
 const RESET: Step = Step::Open(0xFF, &[]);
 
@@ -21,16 +22,7 @@ const MARKED: Page = &[(0, 0xFF), (64, 0x00), (65, 0xFF)];
 const MADE: [Row; 2] = [
     Row {
         name: "marks are spare bytes of bad blocks",
-        marks: &[
-            Mark {
-                block: 3,
-                last: false,
-            },
-            Mark {
-                block: 9,
-                last: true,
-            },
-        ],
+        marks: &TWO_MARKS,
         steps: &[
             RESET,
             Step::ReadEach(0, 23, ERASED),

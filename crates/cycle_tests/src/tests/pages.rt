@@ -2,7 +2,9 @@
 ghost use Rattle.std.specs.Prelude.{◌≡◌};
 
 use super::operations::{Operation, after};
-use super::recorder::{Recorder, Seen, after_cycles};
+use super::recorder::{
+    ERASE, PROGRAM, READ, Recorder, STATUS_FAILED, STATUS_PASSED, Seen, after_cycles,
+};
 use super::steps::{Cycle, ERASED, Left, Order, Page, Row, Step, faults_of, walk, walk_rows};
 use super::{new_die, small};
 use nand_die::{Die, DieFault};
@@ -237,47 +239,6 @@ struct Spelled {
     abuse: u64,
 }
 
-const START: &[Seen] = &[Seen::Command(0xFF)];
-
-// A program of row 8 up to its status.
-const PROGRAM: &[Seen] = &[
-    Seen::Command(0x80),
-    Seen::Address(0),
-    Seen::Address(0),
-    Seen::Address(8),
-    Seen::Address(0),
-    Seen::Address(0),
-    Seen::In(64, 0x11),
-    Seen::In(32, 0x22),
-    Seen::Command(0x10),
-    Seen::Command(0x70),
-];
-
-// An erase of the block of row 8 up to its status.
-const ERASE: &[Seen] = &[
-    Seen::Command(0x60),
-    Seen::Address(8),
-    Seen::Address(0),
-    Seen::Address(0),
-    Seen::Command(0xD0),
-    Seen::Command(0x70),
-];
-
-// A page read of row 8 up to its data.
-const READ: &[Seen] = &[
-    Seen::Command(0x00),
-    Seen::Address(0),
-    Seen::Address(0),
-    Seen::Address(8),
-    Seen::Address(0),
-    Seen::Address(0),
-    Seen::Command(0x30),
-];
-
-const STATUS_PASSED: &[Seen] = &[Seen::Out(1, 0xE0)];
-
-const STATUS_FAILED: &[Seen] = &[Seen::Out(1, 0xE1)];
-
 const PAGE_OUT: &[Seen] = &[Seen::Out(64, 0x11), Seen::Out(32, 0x22)];
 
 const ERASED_OUT: &[Seen] = &[Seen::Out(64, 0xFF), Seen::Out(32, 0xFF)];
@@ -292,7 +253,6 @@ const SPELLED: [Spelled; 2] = [
             Operation::Read(8, 0x11, 0x22),
         ],
         cycles: &[
-            START,
             PROGRAM,
             STATUS_PASSED,
             READ,
@@ -313,7 +273,6 @@ const SPELLED: [Spelled; 2] = [
             Operation::Program(8, 0x11, 0x22, PASSED),
         ],
         cycles: &[
-            START,
             PROGRAM,
             STATUS_PASSED,
             ERASE,

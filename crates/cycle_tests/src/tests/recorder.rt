@@ -17,6 +17,46 @@ pub enum Seen {
     Mixed,
 }
 
+/// A program of row 8, with bytes 11h and 22h in its areas, up to its status.
+pub const PROGRAM: &[Seen] = &[
+    Seen::Command(0x80),
+    Seen::Address(0),
+    Seen::Address(0),
+    Seen::Address(8),
+    Seen::Address(0),
+    Seen::Address(0),
+    Seen::In(64, 0x11),
+    Seen::In(32, 0x22),
+    Seen::Command(0x10),
+    Seen::Command(0x70),
+];
+
+/// An erase of the block of row 8 up to its status.
+pub const ERASE: &[Seen] = &[
+    Seen::Command(0x60),
+    Seen::Address(8),
+    Seen::Address(0),
+    Seen::Address(0),
+    Seen::Command(0xD0),
+    Seen::Command(0x70),
+];
+
+/// A page read of row 8 up to its data.
+pub const READ: &[Seen] = &[
+    Seen::Command(0x00),
+    Seen::Address(0),
+    Seen::Address(0),
+    Seen::Address(8),
+    Seen::Address(0),
+    Seen::Address(0),
+    Seen::Command(0x30),
+];
+
+/// The status that says that it passed, and the one that says that it failed.
+pub const STATUS_PASSED: &[Seen] = &[Seen::Out(1, 0xE0)];
+
+pub const STATUS_FAILED: &[Seen] = &[Seen::Out(1, 0xE1)];
+
 /// A bus that writes down the cycles of another.
 #[derive(Drop)]
 pub struct Recorder<B: Bus> {
@@ -109,16 +149,16 @@ pub fn recorder_laws<B: Bus>()
     ensures tells { TellsLaw (λ recorder. recorder.bus) ⟦<Recorder<B> as Bus>⟧.recorded B.recorded }
 {}
 
-// The cycles of all parts.
+// The Reset of a new driver, and the cycles of all parts.
 fn all_of(rt: &impl Abort, alloc: Global, parts: &[&[Seen]]) -> Vec<Seen> {
-    let mut all = Vec::new(alloc);
+    let mut all = vec![in alloc; Seen::Command(0xFF); 1].expect(rt, "a list");
     for part in parts {
         all.extend_from_slice(part).expect(rt, "a list");
     }
     all
 }
 
-/// Gives the bus back, after just these cycles.
+/// Gives the bus back, after the Reset of a new driver and then just these cycles.
 pub fn after_cycles<B: Bus>(
     rt: &impl Abort,
     alloc: Global,

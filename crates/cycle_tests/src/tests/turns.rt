@@ -1,5 +1,5 @@
 //! Every cycle in every phase, against the rules of turns as a table of their own.
-use super::steps::{Cycle, Row, Step, is_answered, walk, walk_rows};
+use super::steps::{Cycle, Step, is_answered, walk};
 use super::{new_die, small};
 use nand_die::Die;
 use onfi_cycles::BusFault;
@@ -438,144 +438,122 @@ fn addresses_of_a_name(rt: HostRuntime) {
     }
 }
 
-const DATA_AT_THE_END: [Row; 13] = [
-    Row {
-        name: "bytes in: 0 and then 96",
-        marks: &[],
-        steps: &[
-            RESET,
-            PROGRAM,
-            Step::Taken(Cycle::In(&[])),
-            Step::Taken(Cycle::In(&[0x5A; 96])),
-        ],
-    },
-    Row {
-        name: "bytes in: 96 and then 0",
-        marks: &[],
-        steps: &[
-            RESET,
-            PROGRAM,
-            Step::Taken(Cycle::In(&[0x5A; 96])),
-            Step::Taken(Cycle::In(&[])),
-        ],
-    },
-    Row {
-        name: "bytes of a page: 0 and then 96",
-        marks: &[],
-        steps: &[
-            RESET,
-            READ,
-            PUT_OUT,
-            Step::Taken(Cycle::Out(0)),
-            Step::Taken(Cycle::Out(96)),
-        ],
-    },
-    Row {
-        name: "bytes of a page: 96 and then 0",
-        marks: &[],
-        steps: &[
-            RESET,
-            READ,
-            PUT_OUT,
-            Step::Taken(Cycle::Out(96)),
-            Step::Taken(Cycle::Out(0)),
-        ],
-    },
-    Row {
-        name: "bytes of a name: 1 and then 3",
-        marks: &[],
-        steps: &[
-            RESET,
-            Step::Open(0x90, &[0x20]),
-            Step::Taken(Cycle::Out(1)),
-            Step::Taken(Cycle::Out(3)),
-        ],
-    },
-    Row {
-        name: "bytes of zeros: 2 and then 0",
-        marks: &[],
-        steps: &[
-            RESET,
-            Step::Open(0x90, &[0x00]),
-            Step::Taken(Cycle::Out(2)),
-            Step::Taken(Cycle::Out(0)),
-        ],
-    },
-    Row {
-        name: "bytes of status: 255 and then 255",
-        marks: &[],
-        steps: &[
-            RESET,
-            Step::Open(0x70, &[]),
-            Step::Taken(Cycle::Out(255)),
-            Step::Taken(Cycle::Out(255)),
-        ],
-    },
-    Row {
-        name: "bytes in: 0 and then 97",
-        marks: &[],
-        steps: &[
-            RESET,
-            PROGRAM,
-            Step::Taken(Cycle::In(&[])),
-            Step::Refused(Cycle::In(&[0x5A; 97]), BusFault::ColumnRange),
-        ],
-    },
-    Row {
-        name: "bytes in: 96 and then 1",
-        marks: &[],
-        steps: &[
-            RESET,
-            PROGRAM,
-            Step::Taken(Cycle::In(&[0x5A; 96])),
-            Step::Refused(Cycle::In(&[0x5A]), BusFault::ColumnRange),
-        ],
-    },
-    Row {
-        name: "bytes of a page: 0 and then 97",
-        marks: &[],
-        steps: &[
-            RESET,
-            READ,
-            PUT_OUT,
-            Step::Taken(Cycle::Out(0)),
-            Step::Refused(Cycle::Out(97), BusFault::ColumnRange),
-        ],
-    },
-    Row {
-        name: "bytes of a page: 96 and then 1",
-        marks: &[],
-        steps: &[
-            RESET,
-            READ,
-            PUT_OUT,
-            Step::Taken(Cycle::Out(96)),
-            Step::Refused(Cycle::Out(1), BusFault::ColumnRange),
-        ],
-    },
-    Row {
-        name: "bytes of a name: 1 and then 4",
-        marks: &[],
-        steps: &[
-            RESET,
-            Step::Open(0x90, &[0x20]),
-            Step::Taken(Cycle::Out(1)),
-            Step::Refused(Cycle::Out(4), BusFault::ColumnRange),
-        ],
-    },
-    Row {
-        name: "bytes of zeros: 2 and then 1",
-        marks: &[],
-        steps: &[
-            RESET,
-            Step::Open(0x90, &[0x00]),
-            Step::Taken(Cycle::Out(2)),
-            Step::Refused(Cycle::Out(1), BusFault::ColumnRange),
-        ],
-    },
+// The steps up to where a page is put in, where one is put out, and where the status is.
+const PUT_IN: &[Step] = &[RESET, PROGRAM];
+
+const PAGE_OUT: &[Step] = &[RESET, READ, PUT_OUT];
+
+const STATUS: &[Step] = &[RESET, Step::Open(0x70, &[])];
+
+// Those up to where a name is put out, and where zeros are.
+const NAMED: &[Step] = &[RESET, Step::Open(0x90, &[0x20])];
+
+const ZEROS: &[Step] = &[RESET, Step::Open(0x90, &[0x00])];
+
+// A page of bytes in one cycle.
+const WHOLE_IN: Cycle = Cycle::In(&[0x5A; 96]);
+
+const WHOLE_OUT: Cycle = Cycle::Out(96);
+
+const PAST_THE_END: Result<(), BusFault> = Err(BusFault::ColumnRange);
+
+// Where bytes are put in or out, a cycle that is taken there, the one behind it, and what that is answered.
+type SecondCycle = (
+    &'static str,
+    &'static [Step],
+    Cycle,
+    Cycle,
+    Result<(), BusFault>,
+);
+
+const DATA_AT_THE_END: [SecondCycle; 13] = [
+    ("bytes in", PUT_IN, Cycle::In(&[]), WHOLE_IN, Ok(())),
+    ("bytes in", PUT_IN, WHOLE_IN, Cycle::In(&[]), Ok(())),
+    (
+        "bytes of a page",
+        PAGE_OUT,
+        Cycle::Out(0),
+        WHOLE_OUT,
+        Ok(()),
+    ),
+    (
+        "bytes of a page",
+        PAGE_OUT,
+        WHOLE_OUT,
+        Cycle::Out(0),
+        Ok(()),
+    ),
+    (
+        "bytes of a name",
+        NAMED,
+        Cycle::Out(1),
+        Cycle::Out(3),
+        Ok(()),
+    ),
+    (
+        "bytes of zeros",
+        ZEROS,
+        Cycle::Out(2),
+        Cycle::Out(0),
+        Ok(()),
+    ),
+    (
+        "bytes of status",
+        STATUS,
+        Cycle::Out(255),
+        Cycle::Out(255),
+        Ok(()),
+    ),
+    (
+        "bytes in",
+        PUT_IN,
+        Cycle::In(&[]),
+        Cycle::In(&[0x5A; 97]),
+        PAST_THE_END,
+    ),
+    (
+        "bytes in",
+        PUT_IN,
+        WHOLE_IN,
+        Cycle::In(&[0x5A]),
+        PAST_THE_END,
+    ),
+    (
+        "bytes of a page",
+        PAGE_OUT,
+        Cycle::Out(0),
+        Cycle::Out(97),
+        PAST_THE_END,
+    ),
+    (
+        "bytes of a page",
+        PAGE_OUT,
+        WHOLE_OUT,
+        Cycle::Out(1),
+        PAST_THE_END,
+    ),
+    (
+        "bytes of a name",
+        NAMED,
+        Cycle::Out(1),
+        Cycle::Out(4),
+        PAST_THE_END,
+    ),
+    (
+        "bytes of zeros",
+        ZEROS,
+        Cycle::Out(2),
+        Cycle::Out(1),
+        PAST_THE_END,
+    ),
 ];
 
 #[test]
 fn data_at_the_end(rt: HostRuntime) {
-    walk_rows(&rt, rt.alloc(), &DATA_AT_THE_END);
+    for (name, steps, first, second, want) in &DATA_AT_THE_END {
+        let mut die = new_die(&rt, rt.alloc(), small(&rt), &[]);
+        walk(&rt, rt.alloc(), &mut die, name, steps);
+        expect(&rt, &mut die, *first, Ok(()), name);
+        expect(&rt, &mut die, *second, *want, name);
+    }
 }

@@ -5,24 +5,10 @@ ghost use Rattle.collection.specs.Left.{IsCalm};
 ghost use Rattle.ftl_device.specs.Device.{IsDevice};
 
 use collection::{Engine, EngineFault};
-use device_fixtures::calls::Call::{self, Trim, Write};
 use ftl_device::Device;
 use onfi_cycles::Nand;
 use page_layout::geometry::Geometry;
 use std::test::Fail;
-
-/// Calls of a device with a cache of four on a formatted die, by which block 1 is closed with seven live pages. Nine pages are
-/// programmed: rows 8 to 15, and row 2 for a translation page.
-pub const CLOSING: [Call; 8] = [
-    Write(7, 0x77),
-    Trim(7),
-    Write(0, 0x10),
-    Write(1, 0x11),
-    Write(2, 0x12),
-    Write(3, 0x13),
-    Write(4, 0x14),
-    Write(5, 0x15),
-];
 
 // Whether the die stopped.
 fn is_stopped(answer: Result<(), EngineFault>) -> Result<bool, Fail> {

@@ -2,12 +2,12 @@
 ghost use Rattle.std.specs.Prelude.{◌≡◌, IfOk};
 ghost use Rattle.ftl_device.specs.Device.{IsDevice};
 
-use super::collecting::{CLOSING, collected};
+use super::collecting::collected;
 use super::fault_scripts::nth_call;
 use super::noise::{noisy, quiet};
 use super::script::Script;
 use device_fixtures::bench::{driver_on, formatted_die, given_up, started};
-use device_fixtures::calls::{Answer, Call, make};
+use device_fixtures::calls::{Answer, CLOSING, Call, make};
 use device_fixtures::dies::image_of;
 use ftl_device::{Device, DeviceFault};
 use nand_die::{Die, Stop};

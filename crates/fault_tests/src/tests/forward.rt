@@ -257,15 +257,13 @@ fn bring_all<N: Nand + Drop>(
 // A device finds none, and flushes. No newest page is of version 1 then.
 fn flushed<N: Nand + Drop>(
     alloc: Global,
-    nand: N,
-    geometry: &Geometry,
+    mut device: Device<N>,
     row: &Row,
     came: &mut Came,
 ) -> Result<(N, Geometry), Fail>
-    requires { (N.view.flash nand).geometry ≡ geometry.now }
+    requires { IsDevice N.view.flash device }
     ensures { IfOk result (λ pair. (N.view.flash pair.0).geometry ≡ pair.1) }
 {
-    let mut device = started(alloc, nand, geometry, 4)?;
     let count = bring(&mut device, 1, &came.script)?;
     give(&mut device, row, &mut came.script, Call::Flush)?;
     let (mut nand, geometry) = given_up(device);
@@ -318,7 +316,8 @@ fn brought_forward<N: Nand + Drop>(
     let (nand, geometry) = begun(alloc, nand, geometry, row, &mut came)?;
     let (nand, geometry) = bring_all(alloc, nand, geometry, row, &mut came)?;
     hold_brought(row, &came)?;
-    let (nand, geometry) = flushed(alloc, nand, &geometry, row, &mut came)?;
+    let last = started(alloc, nand, &geometry, 4)?;
+    let (nand, geometry) = flushed(alloc, last, row, &mut came)?;
     compared(alloc, nand, &geometry, &came.script)
 }
 

@@ -1,11 +1,9 @@
 //! Sixty calls on the one sector of the least geometry, of which every two programs and erases fail.
 ghost use Rattle.std.specs.Prelude.{◌≡◌};
-ghost use Rattle.ftl_device.specs.Device.{IsDevice};
 
 use super::script::{Script, change, compare};
 use device_fixtures::bench::{formatted_die, given_up, started};
 use device_fixtures::calls::Call;
-use ftl_device::Device;
 use onfi_cycles::Nand;
 use page_layout::geometry::Geometry;
 use std::alloc::Global;
@@ -22,24 +20,8 @@ fn call_of_sixty(i: u8) -> Call {
     }
 }
 
-// Makes the sixty. The sector is compared after each.
-fn change_sixty<N: Nand>(
-    rt: &impl Abort,
-    device: &mut Device<N>,
-    script: &mut Script,
-) -> Result<(), Fail>
-    requires { IsDevice N.view.flash device.old }
-    ensures { IsDevice N.view.flash device.new }
-{
-    for i in 0..60 {
-        change(rt, device, script, call_of_sixty(i))?;
-        compare(device, script)?;
-    }
-    Ok(())
-}
-
-// The sixty calls of a device on a die, which is mounted anew then. All are done, the six flushes and turns
-// among them.
+// The sixty calls of a device on a die, which is mounted anew then. The sector is compared after each. All are done, the six flushes and
+// turns among them.
 fn give_sixty<N: Nand + Drop>(
     rt: &impl Abort,
     alloc: Global,
@@ -51,12 +33,15 @@ fn give_sixty<N: Nand + Drop>(
 {
     let mut script = Script::new();
     let mut device = started(alloc, nand, geometry, 1)?;
-    change_sixty(rt, &mut device, &mut script)?;
+    for i in 0..60 {
+        change(rt, &mut device, &mut script, call_of_sixty(i))?;
+        compare(&mut device, &script)?;
+    }
     assert_eq!(rt; script.done(), 54, "{failing:?}");
     let (nand, geometry) = given_up(device);
-    let mut device = started(alloc, nand, &geometry, 5)?;
-    compare(&mut device, &script)?;
-    Ok(device.into_nand())
+    let mut last = started(alloc, nand, &geometry, 5)?;
+    compare(&mut last, &script)?;
+    Ok(last.into_nand())
 }
 
 // They are given on a new die of the least geometry. Its changes, that of the format left out; none of them

@@ -2,11 +2,11 @@
 ghost use Rattle.std.specs.Prelude.{◌≡◌, IfOk};
 ghost use Rattle.ftl_device.specs.Device.{IsDevice};
 
-use super::collecting::{CLOSING, collected};
+use super::collecting::collected;
 use device_fixtures::again::{Mounted, hold_mounted};
 use device_fixtures::bench::{driver_on, formatted_die, given_up, mounted, small, started};
 use device_fixtures::calls::Call::{self, Flush, Read, Trim, Turn, Write};
-use device_fixtures::calls::{Answer, hold_call, hold_calls};
+use device_fixtures::calls::{Answer, CLOSING, CLOSING_READ, hold_call, hold_calls};
 use device_fixtures::dies::{image_of, loaded};
 use device_fixtures::hold::hold_same;
 use device_fixtures::pages::{NO, PageAt, hold_pages};
@@ -101,19 +101,10 @@ const COLLECTION: [Row; 1] = [Row {
         PageAt::Translation(3, 0, 19, &[17, 18, 19, 20, 21, 22, NO, 16]),
         PageAt::Torn(8),
         PageAt::Trim(9, 7, 4),
-        PageAt::Sector(10, 0, 5, 0x10),
-        PageAt::Sector(11, 1, 6, 0x11),
-        PageAt::Sector(12, 2, 7, 0x12),
-        PageAt::Sector(13, 3, 9, 0x13),
-        PageAt::Sector(14, 4, 10, 0x14),
-        PageAt::Sector(15, 5, 11, 0x15),
+        PageAt::Sectors(3, 10, 0, 5, 0x10),
+        PageAt::Sectors(3, 13, 3, 9, 0x13),
         PageAt::Trim(16, 7, 12),
-        PageAt::Sector(17, 0, 13, 0x10),
-        PageAt::Sector(18, 1, 14, 0x11),
-        PageAt::Sector(19, 2, 15, 0x12),
-        PageAt::Sector(20, 3, 16, 0x13),
-        PageAt::Sector(21, 4, 17, 0x14),
-        PageAt::Sector(22, 5, 18, 0x15),
+        PageAt::Sectors(6, 17, 0, 13, 0x10),
     ],
     good: 31,
     mounted: Mounted {
@@ -121,15 +112,7 @@ const COLLECTION: [Row; 1] = [Row {
         next: 20,
         stale: 0,
         states: &[(0, 2, 4, 3, 0), (1, 5, 0, 0, 0), (2, 1, 7, 7, 0)],
-        calls: &[
-            Read(7, 0),
-            Read(0, 0x10),
-            Read(1, 0x11),
-            Read(2, 0x12),
-            Read(3, 0x13),
-            Read(4, 0x14),
-            Read(5, 0x15),
-        ],
+        calls: &CLOSING_READ,
     },
 }];
 

@@ -1,7 +1,6 @@
 //! Formatting new dies, dies whose programs fail, and a die that is in use.
 ghost use Rattle.std.specs.Prelude.{◌≡◌, true, IfOk};
 
-use super::said::TWO_MARKS;
 use mount::{FormatFault, format};
 use nand_die::{Die, Fault, Mark};
 use onfi_cycles::{Bus, Driver, Nand};
@@ -11,6 +10,7 @@ use page_layout::source::PageSource;
 use std::alloc::{AllocError, Global};
 use std::process::Abort;
 use std::test::Fail;
+use test_images::TWO_MARKS;
 
 // A page: its row, the number and the sequence of its record of a table page, if it has one, the byte that fills its data
 // area, and the bytes there that differ.
@@ -180,7 +180,8 @@ fn image_of(
     Ok(bytes)
 }
 
-fn driver_of<B: Bus + Drop>(bus: B, geometry: Geometry) -> Result<Driver<B>, Fail>
+// A driver on a bus that answers.
+pub fn driver_of<B: Bus + Drop>(bus: B, geometry: Geometry) -> Result<Driver<B>, Fail>
     requires { B.honest bus ≡ true → (B.die bus).flash.geometry ≡ geometry }
     ensures { IfOk result (λ driver. driver.geometry ≡ geometry) }
 {
@@ -351,12 +352,13 @@ fn hold_calls<N: Nand>(
     alloc: Global,
     nand: &mut N,
     geometry: &Geometry,
-    case: &Case,
+    name: &str,
+    calls: &[Call],
 ) -> Result<(), Fail>
     requires { (N.view.flash nand.old).geometry ≡ geometry.now }
 {
-    for call in case.calls {
-        hold_call(rt, alloc, nand, geometry, case.name, call)?;
+    for call in calls {
+        hold_call(rt, alloc, nand, geometry, name, call)?;
     }
     Ok(())
 }
@@ -368,7 +370,7 @@ fn hold_case(rt: &impl Abort, alloc: Global, case: &Case, spare_bytes: u32) -> R
     } else {
         new_die(alloc, geometry, case)?
     };
-    hold_calls(rt, alloc, &mut driver, &geometry, case)?;
+    hold_calls(rt, alloc, &mut driver, &geometry, case.name, case.calls)?;
     assert!(rt; driver.into_bus().abuse() == 0, "{}", case.name);
     Ok(())
 }

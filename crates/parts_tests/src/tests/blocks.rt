@@ -7,6 +7,7 @@ use page_layout::record::Kind;
 use std::alloc::Global;
 use std::process::Abort;
 use std::test::*;
+use test_images::{TestCase, hold_cases};
 
 // A call on the blocks, or what is to be seen of them.
 #[derive(Clone, Copy)]
@@ -284,18 +285,18 @@ fn closed(blocks: &Blocks, block: u32) -> Option<bool> {
     }
 }
 
-fn run(rt: &impl Abort, alloc: Global, script: &Script) -> Result<(), Fail> {
-    let mut blocks = begin(rt, alloc, script)?;
-    for (at, step) in script.steps.iter().enumerate() {
-        assert!(rt; passes(&mut blocks, *step), "{}: step {at}", script.name);
+impl<R: Abort> TestCase<R> for Script {
+    // Each step passes.
+    fn hold(&self, rt: &R, alloc: Global) -> Result<(), Fail> {
+        let mut blocks = begin(rt, alloc, self)?;
+        for (at, step) in self.steps.iter().enumerate() {
+            assert!(rt; passes(&mut blocks, *step), "{}: step {at}", self.name);
+        }
+        Ok(())
     }
-    Ok(())
 }
 
 #[test]
 fn scripts_pass(rt: HostRuntime) -> Result<(), Fail> {
-    for script in &SCRIPTS {
-        run(&rt, rt.alloc(), script)?;
-    }
-    Ok(())
+    hold_cases(&rt, rt.alloc(), &SCRIPTS)
 }

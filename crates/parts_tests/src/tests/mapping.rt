@@ -7,6 +7,7 @@ use page_layout::geometry::Geometry;
 use std::alloc::Global;
 use std::process::Abort;
 use std::test::*;
+use test_images::{TestCase, hold_cases};
 use translation_pages::entry;
 
 // A call on a mapping, or what is to be seen in it.
@@ -281,18 +282,18 @@ fn passes(mapping: &mut Mapping, step: Step) -> bool {
     }
 }
 
-fn run(rt: &impl Abort, alloc: Global, script: &Script) -> Result<(), Fail> {
-    let mut mapping = small(alloc)?;
-    for (at, step) in script.steps.iter().enumerate() {
-        assert!(rt; passes(&mut mapping, *step), "{}: step {at}", script.name);
+impl<R: Abort> TestCase<R> for Script {
+    // Each step passes.
+    fn hold(&self, rt: &R, alloc: Global) -> Result<(), Fail> {
+        let mut mapping = small(alloc)?;
+        for (at, step) in self.steps.iter().enumerate() {
+            assert!(rt; passes(&mut mapping, *step), "{}: step {at}", self.name);
+        }
+        Ok(())
     }
-    Ok(())
 }
 
 #[test]
 fn scripts_pass(rt: HostRuntime) -> Result<(), Fail> {
-    for script in &SCRIPTS {
-        run(&rt, rt.alloc(), script)?;
-    }
-    Ok(())
+    hold_cases(&rt, rt.alloc(), &SCRIPTS)
 }

@@ -4,11 +4,11 @@ ghost use Rattle.std.specs.Prelude.{◌≡◌};
 use super::hold;
 use image_check::{SectorFault, sector, sector_in};
 use page_layout::geometry::Geometry;
-use page_layout::source::{ImageSlice, PageSource, SourceFault};
+use page_layout::source::{ImageSlice, PageSource};
 use std::alloc::{AllocError, Global};
 use std::process::Abort;
 use std::test::Fail;
-use test_images::{Written, image_of, page};
+use test_images::{FaultySource, SourceTrouble, Written, image_of, page};
 
 // What the scan answers, with what it left of a sector of AAh bytes.
 fn copied<S: PageSource>(
@@ -99,44 +99,6 @@ fn scanned_images(rt: HostRuntime) -> Result<(), Fail> {
     Ok(())
 }
 
-// A source whose every read fails.
-#[derive(Drop)]
-struct Unreadable {
-    geometry: Geometry,
-    reads: u64,
-}
-
-impl PageSource for Unreadable {
-    ghost use Rattle.std.specs.Prelude.{false, [], None};
-    ghost use Rattle.page_layout.specs.Raw.{still};
-
-    ghost view = { record {
-      flash = λ s. still s.geometry [];
-      recorded = λ _. None;
-      honest = λ _. false;
-      calm = λ _. false;
-      reads = λ s. s.reads;
-      programs = λ _. 0;
-      erases = λ _. 0;
-      failed = λ s. s.reads;
-    } };
-
-    fn read_page(
-        &mut self,
-        _row: u32,
-        body: &mut [u8],
-        _spare: &mut [u8],
-    ) -> Result<(), SourceFault> {
-        self.reads = self.reads.saturating_add(1);
-        body.fill(0x55);
-        Err(SourceFault(6))
-    }
-
-    fn failures(&self) -> u64 {
-        self.reads
-    }
-}
-
 // A sector, what the scan answers for it, and the reads that failed since the first row.
 const REFUSED: [(u32, SectorFault, u64); 2] = [
     (32, SectorFault::OutOfRange, 0),
@@ -146,11 +108,11 @@ const REFUSED: [(u32, SectorFault, u64); 2] = [
 fn hold_refusal(
     rt: &impl Abort,
     alloc: Global,
-    source: &mut Unreadable,
+    source: &mut FaultySource,
     number: u32,
     fault: SectorFault,
 ) -> Result<(), AllocError> {
-    let geometry = source.geometry;
+    let geometry = source.image.geometry();
     let (answer, out) = copied(alloc, source, &geometry, number)?;
     hold(rt, &fault, &answer, &Err(fault));
     hold(rt, &fault, &out.as_slice(), &[0; 64].as_slice());
@@ -160,7 +122,9 @@ fn hold_refusal(
 #[test]
 fn failed_read_leaves_zeros(rt: HostRuntime) -> Result<(), Fail> {
     let geometry = Geometry::new(64, 32, 8, 32, 32)?;
-    let mut source = Unreadable { geometry, reads: 0 };
+    let bytes = image_of(rt.alloc(), &geometry, &[])?;
+    let trouble = SourceTrouble::Fails(1, u64::MAX);
+    let mut source = FaultySource::new(ImageSlice::new(&geometry, &bytes)?, trouble);
     for (number, fault, failures) in REFUSED {
         hold_refusal(&rt, rt.alloc(), &mut source, number, fault)?;
         hold(&rt, &fault, &source.failures(), &failures);
