@@ -1,29 +1,13 @@
 -- What the command `arrange` comes to where it isn't done.
-use Rattle.std.proofs.Common.{◌≡◌, ◌⊎◌, inl, inr, ℕ, Bool, List, Option, Some, None, IfSome, refl}
+use Rattle.std.proofs.Common.{◌≡◌, inl, inr, ℕ, List, Option, refl}
 use Rattle.std.specs.Borrow.{Bor}
 use Rattle.page_layout.specs.declared.geometry.Geometry.{Geometry}
 use Rattle.lab_arrange.specs.declared.arrangement.Arrangement.{Arrangement}
 use Rattle.lab_arrange.specs.declared.arrange.ArrangeFault.{ArrangeFault}
 use Rattle.lab_arrange.specs.declared.arrange.ArrangeFault.TheVariants as arrange
 use Rattle.lab_arrange.specs.Arranged.{IsUnarranged}
-use Rattle.lab_commands.specs.declared.arrange_words.ArrangeWords.{ArrangeWords}
-use Rattle.lab_commands.specs.declared.text.LabFault.{LabFault}
-use Rattle.lab_commands.specs.Files.{IsFileOpened, Store, StoreAnswers}
-use Rattle.lab_commands.specs.Undone.{IsUnplaced, IsUnroomed, MayNotWrite, MayWrite}
-use Rattle.lab_commands.specs.Arrange.{AreSaid, AreUnsaid, IsArrangeFault, IsUnordered, unordered_as}
-use Rattle.lab_commands.proofs.UndoneLemmas.{left_all}
-
-pub not_said : (s : StoreAnswers) (words : ArrangeWords) (k : Option Store) (opens opened : Option ℕ) (broke : Bool) (out : Option (List ℕ)) (told : LabFault) → AreUnsaid words told → IsArrangeFault s words k k opens opened broke out out told
-not_said s words k opens opened broke out told h = inl (left_all k k out refl, inl h)
-
-pub not_allowed : (s : StoreAnswers) (words : ArrangeWords) (g : Geometry) (a : Arrangement) (k after : Option Store) (opens opened : Option ℕ) (broke : Bool) (out : Option (List ℕ)) (told : LabFault) → AreSaid words g a
-    → after ≡ k → MayNotWrite s words.dump.now words.out.now words.force told → IsArrangeFault s words k after opens opened broke out out told
-not_allowed s words g a k after opens opened broke out told said same h = inl (left_all k after out same, inr (g, a, said, inl h))
-
-pub not_put : (s : StoreAnswers) (words : ArrangeWords) (g : Geometry) (a : Arrangement) (k after : Option Store) (opens opened : Option ℕ) (broke : Bool) (out : Option (List ℕ)) (told : LabFault) → AreSaid words g a
-    → MayWrite s words.dump.now words.out.now words.force → after ≡ k
-    → IsUnroomed opens opened told ⊎ IsUnordered s g a words.dump.now words.out.now told ⊎ IsUnplaced s words.out.now words.force told → IsArrangeFault s words k after opens opened broke out out told
-not_put s words g a k after opens opened broke out told said allowed same h = inl (left_all k after out same, inr (g, a, said, inr (allowed, h)))
+use Rattle.lab_commands.specs.Files.{IsFileOpened, StoreAnswers}
+use Rattle.lab_commands.specs.Arrange.{IsUnordered, unordered_as}
 
 -- no dump in order was made of one that was opened
 pub unordered : (s : StoreAnswers) (dump out : Bor (List ℕ)) (g : Geometry) (a : Arrangement) (known : Option (List ℕ)) (f : ArrangeFault) → IsFileOpened s dump.now known → IsUnarranged g a known f

@@ -1,5 +1,5 @@
 -- A geometry that fits in another arrangement, piece by piece.
-use Rattle.std.proofs.Common.{◌≡◌, ℕ, zero, suc, ◌+◌, ◌/◌, ◌%◌, ◌<◌, Bool, true, false, cond, List, [], ◌∷◌, ◌++◌, Option, Some, None, refl, sym, ap, ◌∙◌, append_assoc, arith}
+use Rattle.std.proofs.Common.{◌≡◌, ℕ, zero, suc, ◌+◌, ◌/◌, ◌%◌, ◌<◌, Bool, true, false, cond, List, [], ◌∷◌, ◌++◌, Option, Some, None, refl, sym, ap, ◌∙◌, arith}
 use Rattle.std.specs.Prelude.{◌||◌, codes, is_some, nat_eq}
 use Rattle.std.specs.Fmt.{decimal, digit_glyph, digits_onto, digits}
 use Rattle.std.proofs.lemmas.Bool.{lt-ltb}
@@ -8,31 +8,15 @@ use Rattle.std.proofs.lemmas.Grind.{flat_map-append}
 use Rattle.json.specs.Print.{escape, escape_byte}
 use Rattle.serde_json.specs.Data.{member}
 use Rattle.serde_json.specs.Written.{compact_text, members_text}
-use Rattle.lab_dump.specs.declared.fit.Fit.{Fit}
 use Rattle.lab_arrange.specs.declared.arrangement.Arrangement.{Arrangement}
 use Rattle.lab_arrange.specs.declared.arrangement.Spares.{Spares}
 use Rattle.lab_arrange.specs.declared.arrangement.Spares.TheVariants.{Block, Die}
 use Rattle.lab_shapes.specs.declared.find.ArrangedFit.{ArrangedFit}
 use Rattle.lab_shapes.specs.Words.{around_words, arrangement_words, cut_words, flag_words, order_words, spares_words}
-use Rattle.lab_commands.specs.Lines.{arrange_words, says_words}
 use Rattle.lab_commands.specs.Values.{arranged_fit_data, arranged_rest, count, fit_members}
-use Rattle.lab_commands.proofs.JsonLemmas.{fit_rest, quoted_in}
+use Rattle.lab_commands.proofs.JsonLemmas.{quoted_in}
 
 -- ---- plain text
-
-arrange_flat : (f : Fit)
-    → codes " arranged: first nandlab arrange " ++
-    (decimal f.data_bytes
-    ++ (codes ","
-    ++ (decimal f.spare_bytes
-    ++ (codes ","
-    ++ (decimal f.pages ++ (codes "," ++ (decimal f.blocks ++ (codes "," ++ (decimal f.sectors ++ codes " DUMP OUT --from ")))))))))
-    ≡ arrange_words f
-arrange_flat f = simp append_assoc
-
-pub arrange_pieces : (f : Fit) (r1 r2 r3 r4 r5 : ℕ) → r1 ≡ f.data_bytes → r2 ≡ f.spare_bytes → r3 ≡ f.pages → r4 ≡ f.blocks → r5 ≡ f.sectors
-    → codes " arranged: first nandlab arrange " ++ (decimal r1 ++ (codes "," ++ (decimal r2 ++ (codes "," ++ (decimal r3 ++ (codes "," ++ (decimal r4 ++ (codes "," ++ (decimal r5 ++ codes " DUMP OUT --from "))))))))) ≡ arrange_words f
-arrange_pieces f r1 r2 r3 r4 r5 e1 e2 e3 e4 e5 = rw (e1, e2, e3, e4, e5) (arrange_flat f)
 
 pub order_pieces : (before : Bool) (a : Arrangement) (b1 b2 b3 b4 : Bool) (w1 w2 w3 w4 w5 : List ℕ) → b1 ≡ (before || is_some a.spares) → b2 ≡ (before || is_some a.spares || a.spare_first) → b3 ≡ (before || is_some a.spares || a.spare_first || a.swapped)
     → b4 ≡ (before || is_some a.spares || a.spare_first || a.swapped || a.inverted) → w1 ≡ spares_words before a.spares → w2 ≡ flag_words b1 a.spare_first (codes "spare-first") → w3 ≡ flag_words b2 a.swapped (codes "swapped")
@@ -119,31 +103,6 @@ plain_arrangement a =
     plain_both (around_words a.header a.tail) _ (plain_around a.header a.tail) (plain_both (cut_words around a.cut) _ (plain_cut around a.cut) (plain_order _ a))
 
 -- ---- the object
-
-pub rest_json : (fit : Fit) (r1 r2 r3 r4 r5 r6 r7 : ℕ) (w : List ℕ) (r8 : ℕ) → r1 ≡ fit.data_bytes → r2 ≡ fit.spare_bytes → r3 ≡ fit.pages → r4 ≡ fit.blocks → r5 ≡ fit.sectors → r6 ≡ fit.looked → r7 ≡ fit.sound.0 → w ≡ says_words fit.table → r8 ≡ fit.unsound
-    → codes "\",\"blocks_told\":" ++
-    (decimal fit.blocks_told
-    ++ (codes ",\"geometry\":["
-    ++ (decimal r1
-    ++ (codes ","
-    ++ (decimal r2
-    ++ (codes ","
-    ++ (decimal r3
-    ++ (codes ","
-    ++ (decimal r4
-    ++ (codes ","
-    ++ (decimal r5
-    ++ (codes "],\"line\":\"geometry\",\"looked\":"
-    ++ (decimal r6
-    ++ (codes ",\"sectors_told\":"
-    ++ (decimal fit.sectors_told
-    ++ (codes ",\"sound\":"
-    ++ (decimal r7
-    ++ (codes ",\"table\":\""
-    ++ (w ++ (codes "\",\"unsound\":" ++ (decimal r8 ++ codes "}")))))))))))))))))))))
-    ≡ arranged_rest fit
-unfolding escape_byte
-rest_json fit r1 r2 r3 r4 r5 r6 r7 w r8 e1 e2 e3 e4 e5 e6 e7 ew e8 = rw (e1, e2, e3, e4, e5, e6, e7, ew, e8) (ap (λ t. codes "\",\"blocks_told\":" ++ (decimal fit.blocks_told ++ t)) (fit_rest fit))
 
 pub arranged_json : (found : ArrangedFit) → codes "{\"arrange\":\"" ++ (arrangement_words found.arrangement ++ arranged_rest found.fit) ≡ compact_text (arranged_fit_data found)
 unfolding escape_byte

@@ -1,19 +1,16 @@
 -- What the command `array` comes to where it isn't done.
-use Rattle.std.proofs.Common.{◌≡◌, ◌≢◌, inl, inr, ℕ, Bool, false, subst, List, Option, Some, None, refl}
+use Rattle.std.proofs.Common.{◌≢◌, inl, inr, ℕ, false, subst, List, Option, Some, None}
 use Rattle.std.specs.Prelude.{IsSomeAnd}
 use Rattle.std.specs.Borrow.{Bor}
-use Rattle.page_layout.specs.declared.geometry.Geometry.{Geometry}
 use Rattle.lab_commands.specs.declared.words.ArrayWords.{ArrayWords}
-use Rattle.lab_commands.specs.declared.words.UntilWords.{UntilWords}
 use Rattle.lab_commands.specs.declared.files.Standing.{Standing}
 use Rattle.lab_commands.specs.declared.files.Standing.TheVariants as standing
 use Rattle.lab_commands.specs.declared.text.LabFault.{LabFault}
 use Rattle.lab_commands.specs.declared.text.LabFault.TheVariants as fault
-use Rattle.lab_commands.specs.Files.{AnswersNoMore, Store, StoreAnswers}
-use Rattle.lab_commands.specs.Numbers.{IsLastAt, IsNoLast}
-use Rattle.lab_commands.specs.Undone.{IsGeometryAt, IsNoGeometry, IsKeptThere, IsMapUnplaced, IsUnread, IsUnwritten}
-use Rattle.lab_commands.specs.Array.{AreAllowed, AreNotAllowed, IsArrayFault, IsMapNotAllowed, IsUnmapped, IsUnput, as_map}
-use Rattle.lab_commands.proofs.UndoneLemmas.{left_all, map_unplaced_before}
+use Rattle.lab_commands.specs.Files.{AnswersNoMore, StoreAnswers}
+use Rattle.lab_commands.specs.Undone.{IsKeptThere, IsMapUnplaced, IsUnread, IsUnwritten}
+use Rattle.lab_commands.specs.Array.{IsMapNotAllowed, IsUnmapped, as_map}
+use Rattle.lab_commands.proofs.UndoneLemmas.{map_unplaced_before}
 
 -- ---- whether FILE may be written
 
@@ -47,25 +44,3 @@ pub map_kept_there : (a : StoreAnswers) (words : ArrayWords) (file : List ℕ) (
 map_kept_there a words file what fault.Exists said some other k = ((what, some, said), other, k)
 map_kept_there a words file what fault.NoFile said some other k = (subst (λ w. a.says file w) k.0 said, other, k.1)
 map_kept_there a words file what _ said some other k = absurd k
-
--- ---- the command
-
-pub no_geometry : (a : StoreAnswers) (words : UntilWords) (k : Option Store) (opens opened : Option ℕ) (broke : Bool) (out : Option (List ℕ)) (told : LabFault) → IsNoGeometry words.array.geometry.now told → IsArrayFault a words k k opens opened broke out out told
-no_geometry a words k opens opened broke out told h = inl (left_all k k out refl, inl h)
-
-pub no_last : (a : StoreAnswers) (words : UntilWords) (g : Geometry) (k : Option Store) (opens opened : Option ℕ) (broke : Bool) (out : Option (List ℕ)) (told : LabFault) → IsGeometryAt words.array.geometry.now g → IsNoLast words.until told
-    → IsArrayFault a words k k opens opened broke out out told
-no_last a words g k opens opened broke out told is h = inl (left_all k k out refl, inr (g, is, inl h))
-
-pub not_allowed : (a : StoreAnswers) (words : UntilWords) (g : Geometry) (last : Option ℕ) (k after : Option Store) (opens opened : Option ℕ)
-    (broke : Bool) (out : Option (List ℕ)) (told : LabFault) → IsGeometryAt words.array.geometry.now g → IsLastAt words.until last → after ≡ k
-    → AreNotAllowed a words.array told
-    → IsArrayFault a words k after opens opened broke out out told
-not_allowed a words g last k after opens opened broke out told is at same h = inl (left_all k after out same, inr (g, is, inr (last, at, inl h)))
-
-pub not_put : (a : StoreAnswers) (words : UntilWords) (g : Geometry) (last : Option ℕ) (k after : Option Store) (opens opened : Option ℕ)
-    (broke : Bool) (out : Option (List ℕ)) (told : LabFault) → IsGeometryAt words.array.geometry.now g → IsLastAt words.until last
-    → AreAllowed a words.array → after ≡ k
-    → IsUnput a g words.array opens opened told
-    → IsArrayFault a words k after opens opened broke out out told
-not_put a words g last k after opens opened broke out told is at allowed same h = inl (left_all k after out same, inr (g, is, inr (last, at, inr (allowed, h))))

@@ -1,20 +1,18 @@
 -- What the command `compare` comes to where it isn't done.
-use Rattle.std.proofs.Common.{◌≡◌, ◌≢◌, ◌⊎◌, inl, inr, ℕ, suc, Bool, List, Option, Some, None, IfSome, option_map, refl, ap, subst, ◌∙◌}
+use Rattle.std.proofs.Common.{◌≡◌, ◌≢◌, inl, inr, ℕ, List, Option, Some, None, IfSome, ap, subst, ◌∙◌}
 use Rattle.std.proofs.lemmas.Bool.{cases_eq}
 use Rattle.page_layout.specs.declared.geometry.Geometry.{Geometry}
 use Rattle.certificate.specs.declared.fault.CertFault.{CertFault}
 use Rattle.certificate.specs.Claim.{Claim, Sizes}
 use Rattle.certificate.specs.Faults.{IsFirstFault}
 use Rattle.certificate.specs.Spelling.{certificate_bytes}
-use Rattle.lab_commands.specs.declared.words.CompareWords.{CompareWords}
 use Rattle.lab_commands.specs.declared.text.LabFault.{LabFault}
 use Rattle.lab_commands.specs.declared.text.LabFault.TheVariants as fault
-use Rattle.lab_commands.specs.Files.{AnswersNoMore, Store, StoreAnswers}
-use Rattle.lab_commands.specs.Undone.{IsGeometryAt, IsNoGeometry, IsUnroomed}
-use Rattle.lab_commands.specs.Compare.{HasNone, IsBroken, IsCertificateAt, IsCompareFault, IsDumpUnheld, looked_at}
+use Rattle.lab_commands.specs.Files.{AnswersNoMore, StoreAnswers}
+use Rattle.lab_commands.specs.Compare.{IsBroken, IsDumpUnheld, looked_at}
 use Rattle.lab_dump.specs.declared.compare.Compared.{Compared}
 use Rattle.lab_commands.specs.Compare.{IsCompared}
-use Rattle.lab_commands.proofs.UndoneLemmas.{left_all, opened_before, opens_before, unread_before, untaken_before}
+use Rattle.lab_commands.proofs.UndoneLemmas.{opened_before, opens_before, unread_before, untaken_before}
 
 -- ---- the certificate
 
@@ -50,22 +48,6 @@ spelled_by (Some bytes) c items read is = is ∙ read
 pub broken_by : (known : Option (List ℕ)) (f : CertFault) (items : List ℕ) → IfSome known (λ xs. items ≡ looked_at xs) → IsFirstFault items f → IfSome known (λ bytes. IsBroken bytes (fault.Certificate f))
 broken_by None f items read is = tt
 broken_by (Some bytes) f items read is = subst (λ xs. IsFirstFault xs f) read is
-
-pub no_geometry : (a : StoreAnswers) (words : CompareWords) (k : Option Store) (opens opened : Option ℕ) (broke : Bool) (out : Option (List ℕ)) (told : LabFault) → IsNoGeometry words.geometry.now told → IsCompareFault a words k k opens opened broke out out told
-no_geometry a words k opens opened broke out told h = inl (left_all k k out refl, inl h)
-
-pub no_certificate : (a : StoreAnswers) (words : CompareWords) (g : Geometry) (k after : Option Store) (opens opened : Option ℕ) (broke : Bool)
-    (out : Option (List ℕ)) (told : LabFault) → IsGeometryAt words.geometry.now g → after ≡ k
-    → IsUnroomed opens opened told ⊎ (HasNone a words.certificate.now told × (opened ≡ option_map suc opens))
-    → IsCompareFault a words k after opens opened broke out out told
-no_certificate a words g k after opens opened broke out told is same (inl unroomed) = inl (left_all k after out same, inr (g, is, inl unroomed))
-no_certificate a words g k after opens opened broke out told is same (inr none) = inl (left_all k after out same, inr (g, is, inr (inl none)))
-
-pub not_held : (a : StoreAnswers) (words : CompareWords) (g : Geometry) (c : Claim) (k after : Option Store) (opens opened : Option ℕ) (broke : Bool)
-    (out : Option (List ℕ)) (told : LabFault) → IsGeometryAt words.geometry.now g → IsCertificateAt a words.certificate.now c → after ≡ k
-    → IsDumpUnheld a g c words.dump.now told
-    → IsCompareFault a words k after opens opened broke out out told
-not_held a words g c k after opens opened broke out told is has same h = inl (left_all k after out same, inr (g, is, inr (inr (c, has, h))))
 
 -- ---- the files between
 

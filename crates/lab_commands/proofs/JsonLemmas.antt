@@ -2,7 +2,7 @@
 use Rattle.std.proofs.Common.{◌≡◌, ℕ, List, [], ◌∷◌, ◌++◌, Bool, true, false, refl, sym, ap, ◌∙◌, append_assoc}
 use Rattle.std.specs.Fmt.{decimal}
 use Rattle.certificate.specs.declared.block_state.BlockState.{BlockState}
-use Rattle.serde_json.specs.Written.{compact_text, members_text}
+use Rattle.serde_json.specs.Written.{compact_text}
 use Rattle.lab_dump.specs.declared.fit.Fit.{Fit}
 use Rattle.lab_correct.specs.declared.found.FoundFit.{FoundFit}
 use Rattle.lab_correct.specs.Coded.{found_as}
@@ -18,7 +18,7 @@ use Rattle.lab_dump.specs.declared.said.SaidPage.{SaidPage}
 use Rattle.lab_dump.specs.Doubts.{most_older}
 use Rattle.lab_mend.specs.declared.merging.RowTally.{RowTally}
 use Rattle.lab_mend.specs.declared.pairs.BitPair.{BitPair}
-use Rattle.lab_commands.specs.Values.{age_data, age_until_data, arranged_data, block_data, corrected_data, damaged_data, doubt_data, fit_members, found_data, front_words, head_data, history_data, key_data, legible_data, lost_data, lost_row_data}
+use Rattle.lab_commands.specs.Values.{age_data, age_until_data, arranged_data, block_data, corrected_data, counts_words, damaged_data, doubt_data, found_data, front_words, head_data, history_data, key_data, legible_data, lost_data, lost_row_data}
 use
     Rattle.lab_commands.specs.Values.{
       mended_count_data,
@@ -32,6 +32,7 @@ use
       reason_pages_data,
       reason_table_data,
       repeated_data,
+      rest_words,
       row_data,
       rows_age_data,
       rows_data,
@@ -53,7 +54,7 @@ use Rattle.lab_commands.specs.declared.lines.Sort.TheVariants as sort
 use Rattle.lab_commands.specs.declared.document.Report.{Report}
 use Rattle.lab_commands.specs.declared.document.Report.TheVariants as report
 use Rattle.lab_commands.specs.Document.{report_words}
-use Rattle.lab_commands.specs.Lines.{class_words, kind_words, label_words, made_words, says_words, sort_words, wrote_words}
+use Rattle.lab_commands.specs.Lines.{class_words, kind_words, label_words, made_words, says_words, shape_words, sort_words, wrote_words}
 
 -- what stands between the quotes, and what follows
 pub quoted_in : (w rest : List ℕ) → escape w ≡ w → quoted w ++ rest ≡ 34 ∷ (w ++ 34 ∷ rest)
@@ -199,109 +200,40 @@ unfolding escape_byte
 lost_json sector r1 e1 = rw (e1) (refl)
 
 -- the members of a geometry that fits, behind its first one and that of codes
-pub fit_rest : (fit : Fit)
-    → codes ",\"geometry\":[" ++
-    (decimal fit.data_bytes
-    ++ (codes ","
-    ++ (decimal fit.spare_bytes
-    ++ (codes ","
-    ++ (decimal fit.pages
-    ++ (codes ","
-    ++ (decimal fit.blocks
-    ++ (codes ","
-    ++ (decimal fit.sectors
-    ++ (codes "],\"line\":\"geometry\",\"looked\":"
-    ++ (decimal fit.looked
-    ++ (codes ",\"sectors_told\":"
-    ++ (decimal fit.sectors_told
-    ++ (codes ",\"sound\":"
-    ++ (decimal fit.sound.0
-    ++ (codes ",\"table\":\""
-    ++ (says_words fit.table
-    ++ (codes "\",\"unsound\":" ++ (decimal fit.unsound ++ codes "}")))))))))))))))))))
-    ≡ members_text true (fit_members fit)
+fit_rest : (f : Fit)
+    → codes ",\"geometry\":[" ++ (decimal f.data_bytes ++ (codes "," ++ (decimal f.spare_bytes ++ (codes "," ++ (decimal f.pages ++ (codes "," ++ (decimal f.blocks ++ (codes "," ++ (decimal f.sectors
+    ++ (codes "],\"line\":\"geometry\",\"looked\":" ++ counts_words f)))))))))) ≡ rest_words f
 unfolding escape_byte
-fit_rest fit = ap
-    (λ t. codes ",\"geometry\":[" ++
-    (decimal fit.data_bytes
-    ++ (codes ","
-    ++ (decimal fit.spare_bytes
-    ++ (codes ","
-    ++ (decimal fit.pages
-    ++ (codes ","
-    ++ (decimal fit.blocks
-    ++ (codes ","
-    ++ (decimal fit.sectors
-    ++ (codes "],\"line\":\"geometry\",\"looked\":"
-    ++ (decimal fit.looked
-    ++ (codes ",\"sectors_told\":"
-    ++ (decimal fit.sectors_told
-    ++ (codes ",\"sound\":" ++ (decimal fit.sound.0 ++ (codes ",\"table\":" ++ t)))))))))))))))))
-    (sym (quoted_in (says_words fit.table) (codes ",\"unsound\":" ++ (decimal fit.unsound ++ codes "}")) (plain_says fit.table)))
+fit_rest f = ap
+    (λ t. codes ",\"geometry\":[" ++ (decimal f.data_bytes ++ (codes "," ++ (decimal f.spare_bytes ++ (codes "," ++ (decimal f.pages ++ (codes "," ++ (decimal f.blocks ++ (codes "," ++ (decimal f.sectors
+    ++ (codes "],\"line\":\"geometry\",\"looked\":" ++ (decimal f.looked ++ (codes ",\"sectors_told\":" ++ (decimal f.sectors_told ++ (codes ",\"sound\":" ++ (decimal f.sound.0 ++ (codes ",\"table\":" ++ t)))))))))))))))))
+    (sym (quoted_in (says_words f.table) (codes ",\"unsound\":" ++ (decimal f.unsound ++ codes "}")) (plain_says f.table)))
     ∙ ap (λ t. codes ",\"geometry\":[" ++ t)
-    (sym (list_of_five (decimal fit.data_bytes) (decimal fit.spare_bytes) (decimal fit.pages) (decimal fit.blocks) (decimal fit.sectors)
-    (codes ",\"line\":\"geometry\",\"looked\":"
-    ++ (decimal fit.looked
-    ++ (codes ",\"sectors_told\":"
-    ++ (decimal fit.sectors_told
-    ++ (codes ",\"sound\":"
-    ++ (decimal fit.sound.0
-    ++ (codes ",\"table\":"
-    ++ (quoted (says_words fit.table) ++ (codes ",\"unsound\":" ++ (decimal fit.unsound ++ codes "}"))))))))))))
+    (sym (list_of_five (decimal f.data_bytes) (decimal f.spare_bytes) (decimal f.pages) (decimal f.blocks) (decimal f.sectors)
+    (codes ",\"line\":\"geometry\",\"looked\":" ++ (decimal f.looked ++ (codes ",\"sectors_told\":" ++ (decimal f.sectors_told ++ (codes ",\"sound\":" ++ (decimal f.sound.0
+    ++ (codes ",\"table\":" ++ (quoted (says_words f.table) ++ (codes ",\"unsound\":" ++ (decimal f.unsound ++ codes "}"))))))))))))
 
--- with the one of codes, and without it
-fit_by : (coded : Bool) (fit : Fit)
-    → codes "{\"blocks_told\":" ++
-    (decimal fit.blocks_told
-    ++ (front_words coded
-    ++ (decimal fit.data_bytes
-    ++ (codes ","
-    ++ (decimal fit.spare_bytes
-    ++ (codes ","
-    ++ (decimal fit.pages
-    ++ (codes ","
-    ++ (decimal fit.blocks
-    ++ (codes ","
-    ++ (decimal fit.sectors
-    ++ (codes "],\"line\":\"geometry\",\"looked\":"
-    ++ (decimal fit.looked
-    ++ (codes ",\"sectors_told\":"
-    ++ (decimal fit.sectors_told
-    ++ (codes ",\"sound\":"
-    ++ (decimal fit.sound.0
-    ++ (codes ",\"table\":\""
-    ++ (says_words fit.table
-    ++ (codes "\",\"unsound\":" ++ (decimal fit.unsound ++ codes "}")))))))))))))))))))))
-    ≡ compact_text (found_data (found_as coded fit))
+-- in two parts
+rest_flat : (f : Fit) (behind rest : List ℕ)
+    → (codes ",\"geometry\":[" ++ (shape_words f ++ behind)) ++ rest
+    ≡ codes ",\"geometry\":[" ++ (decimal f.data_bytes ++ (codes "," ++ (decimal f.spare_bytes ++ (codes "," ++ (decimal f.pages ++ (codes "," ++ (decimal f.blocks ++ (codes "," ++ (decimal f.sectors ++ (behind ++ rest))))))))))
+rest_flat f behind rest = simp append_assoc
+
+pub rest_parts : (f : Fit) → (codes ",\"geometry\":[" ++ (shape_words f ++ codes "],\"line\":\"geometry\",\"looked\":")) ++ counts_words f ≡ rest_words f
+rest_parts f = rest_flat f (codes "],\"line\":\"geometry\",\"looked\":") (counts_words f) ∙ fit_rest f
+
+pub counts_pieces : (f : Fit) (r1 r2 r3 : ℕ) (w : List ℕ) → r1 ≡ f.looked → r2 ≡ f.sound.0 → w ≡ says_words f.table → r3 ≡ f.unsound
+    → decimal r1 ++ (codes ",\"sectors_told\":" ++ (decimal f.sectors_told ++ (codes ",\"sound\":" ++ (decimal r2 ++ (codes ",\"table\":\"" ++ (w ++ (codes "\",\"unsound\":" ++ (decimal r3 ++ codes "}")))))))) ≡ counts_words f
+counts_pieces f r1 r2 r3 w e1 e2 ew e3 = rw (e1, e2, ew, e3) refl
+
+-- with the member of codes before it, and without
+fit_by : (coded : Bool) (f : Fit) → (codes "{\"blocks_told\":" ++ (decimal f.blocks_told ++ front_words coded)) ++ rest_words f ≡ compact_text (found_data (found_as coded f))
 unfolding escape_byte
-fit_by true fit = ap (λ t. codes "{\"blocks_told\":" ++ (decimal fit.blocks_told ++ (codes ",\"codes\":\"hamming\"" ++ t))) (fit_rest fit)
-fit_by false fit = ap (λ t. codes "{\"blocks_told\":" ++ (decimal fit.blocks_told ++ t)) (fit_rest fit)
+fit_by true f = ap (λ t. codes "{\"blocks_told\":" ++ t) (append_assoc (decimal f.blocks_told) (codes ",\"codes\":\"hamming\"") (rest_words f))
+fit_by false f = ap (λ t. codes "{\"blocks_told\":" ++ t) (append_assoc (decimal f.blocks_told) [] (rest_words f))
 
-pub fit_json : (found : FoundFit) (v : List ℕ) (r1 : ℕ) (r2 : ℕ) (r3 : ℕ) (r4 : ℕ) (r5 : ℕ) (r6 : ℕ) (r7 : ℕ) (w : List ℕ) (r8 : ℕ)
-    → v ≡ front_words found.coded → r1 ≡ found.fit.data_bytes → r2 ≡ found.fit.spare_bytes → r3 ≡ found.fit.pages → r4 ≡ found.fit.blocks
-    → r5 ≡ found.fit.sectors → r6 ≡ found.fit.looked → r7 ≡ found.fit.sound.0 → w ≡ says_words found.fit.table → r8 ≡ found.fit.unsound
-    → codes "{\"blocks_told\":" ++
-    (decimal found.fit.blocks_told
-    ++ (v
-    ++ (decimal r1
-    ++ (codes ","
-    ++ (decimal r2
-    ++ (codes ","
-    ++ (decimal r3
-    ++ (codes ","
-    ++ (decimal r4
-    ++ (codes ","
-    ++ (decimal r5
-    ++ (codes "],\"line\":\"geometry\",\"looked\":"
-    ++ (decimal r6
-    ++ (codes ",\"sectors_told\":"
-    ++ (decimal found.fit.sectors_told
-    ++ (codes ",\"sound\":"
-    ++ (decimal r7
-    ++ (codes ",\"table\":\""
-    ++ (w ++ (codes "\",\"unsound\":" ++ (decimal r8 ++ codes "}")))))))))))))))))))))
-    ≡ compact_text (found_data found)
-fit_json found v r1 r2 r3 r4 r5 r6 r7 w r8 ev e1 e2 e3 e4 e5 e6 e7 ew e8 = rw (ev, e1, e2, e3, e4, e5, e6, e7, ew, e8) (fit_by found.coded found.fit)
+pub fit_json : (found : FoundFit) (v : List ℕ) → v ≡ front_words found.coded → (codes "{\"blocks_told\":" ++ (decimal found.fit.blocks_told ++ v)) ++ rest_words found.fit ≡ compact_text (found_data found)
+fit_json found v ev = rw ev (fit_by found.coded found.fit)
 
 pub mended_json : (made : Made) (row : ℕ) (bit : ℕ) (r1 : ℕ) (w : List ℕ) (r2 : ℕ) → r1 ≡ bit → w ≡ made_words made → r2 ≡ row
     → codes "{\"bit\":" ++ (decimal r1 ++ (codes ",\"line\":\"" ++ (w ++ (codes "\",\"row\":" ++ (decimal r2 ++ codes "}"))))) ≡ compact_text

@@ -7,14 +7,10 @@ pub mod TextLemmas
 pub mod UndoneLemmas
 pub mod ArrayLemmas
 pub mod RowLemmas
-pub mod SurveyLemmas
 pub mod CompareLemmas
 pub mod GeometryLemmas
-pub mod RepairLemmas
-pub mod CorrectLemmas
 pub mod ArrangeLemmas
 pub mod MergeLemmas
 pub mod NameLemmas
 pub mod NameLaws
 pub mod OriginLemmas
-mod HistoryLemmas

@@ -1,5 +1,5 @@
 -- What the command `merge` comes to.
-use Rattle.std.proofs.Common.{◌≡◌, ◌≢◌, ◌⊎◌, inl, inr, ℕ, zero, suc, ◌+◌, ◌<◌, Bool, true, false, List, [], ◌∷◌, ◌++◌, length, get_or, map, Option, None, refl, ap, sym, subst, ◌∙◌, arith}
+use Rattle.std.proofs.Common.{◌≡◌, ◌≢◌, inl, inr, ℕ, zero, suc, ◌+◌, ◌<◌, Bool, true, false, List, [], ◌∷◌, ◌++◌, length, get_or, map, Option, None, refl, ap, sym, subst, ◌∙◌, arith}
 use Rattle.std.proofs.lemmas.Bool.{cases_eq}
 use Rattle.std.proofs.lemmas.List.{get_or-map, get_or_append_left, get_or_push, length-map, length_push, map-append}
 use Rattle.std.specs.Borrow.{Bor}
@@ -15,9 +15,9 @@ use Rattle.lab_commands.specs.declared.files.Standing.TheVariants as standing
 use Rattle.lab_commands.specs.declared.text.LabFault.{LabFault}
 use Rattle.lab_commands.specs.declared.text.LabFault.TheVariants as fault
 use Rattle.lab_commands.specs.Files.{AnswersNoMore, IsFileOpened, StandsAtPath, Store, StoreAnswers}
-use Rattle.lab_commands.specs.Undone.{IsGeometryAt, IsKeptThere, IsNoGeometry, IsUnplaced, IsUnread, IsUnroomed, IsUnwritten}
-use Rattle.lab_commands.specs.Merge.{AreOpened, AreOpenedBelow, AreOthersBelow, HasSame, IsMergeFault, IsSomeUnread, IsUnjoined, IsUnmergedTo, MayMerge, MayNotMerge, TellsFault, dumps_of}
-use Rattle.lab_commands.proofs.UndoneLemmas.{left_all, opened_before, unread_before}
+use Rattle.lab_commands.specs.Undone.{IsKeptThere, IsUnread, IsUnwritten}
+use Rattle.lab_commands.specs.Merge.{AreOpened, AreOpenedBelow, AreOthersBelow, HasSame, IsSomeUnread, IsUnmergedTo, MayNotMerge, TellsFault, dumps_of}
+use Rattle.lab_commands.proofs.UndoneLemmas.{no_more_then, opened_before, unread_before}
 
 -- ---- the paths
 
@@ -51,6 +51,24 @@ pub unopened_at : (a b : StoreAnswers) (ds : List (Bor (List ℕ))) (n : ℕ) (d
 unopened_at a b ds n d told l more k =
     let before : IsUnread a (get_or (texts ds) n []) told = subst (λ (path : List ℕ). IsUnread a path told) (sym (path_at ds n d l)) (unread_before a b (get_or ds n d).now told more k) in
     (n, (let count = paths_count ds in omega arith), before)
+
+-- what holds once the first files of these paths were opened: of the files as they were and as they are, of the readers, and of the room for them
+pub record AreOpenSoFar (a b : StoreAnswers) (before after : Option Store) (paths : List (List ℕ)) (known : List (Option (List ℕ))) (n had has : ℕ) : Type 0 where
+  pub no_more : AnswersNoMore a b
+  pub kept : after ≡ before
+  pub opened : AreOpenedBelow a paths known n
+  pub places : has ≡ had
+
+-- and one more
+pub opened_next : {R : Type 0} (f : R → Option (List ℕ)) (a b d : StoreAnswers) (before after later : Option Store) (ds : List (Bor (List ℕ))) (rs more : List R) (r : R) (n : ℕ) (w : Bor (List ℕ)) (had has room : ℕ) → n < length ds
+    → AreOpenSoFar a b before after (texts ds) (map f rs) n had has → AnswersNoMore b d → later ≡ after → IsFileOpened b (get_or ds n w).now (f r) → more ≡ rs ++ r ∷ [] → room ≡ has
+    → AreOpenSoFar a d before later (texts ds) (map f more) (n + 1) had room
+opened_next f a b d before after later ds rs more r n w had has room l h next same opened are wide = record {
+  no_more = no_more_then a b d h.no_more next;
+  kept = same ∙ h.kept;
+  opened = opened_more f a b ds rs more r n w l h.no_more h.opened opened are;
+  places = wide ∙ h.places;
+}
 
 -- each reader that has failed says that a read did
 abbrev pub TellsFailing : {R : Type 0} → (R → Bool) → Type 0 → Type 0
@@ -96,17 +114,3 @@ unmerged_as a paths g out known (merge.WrongLength i) (fault.DumpLength word) op
 unmerged_as a paths g out known (merge.Source i) (fault.Read word) opened of h reads writes is = ((i, of, sym is), (known, opened), reads i refl)
 unmerged_as a paths g out known merge.Target (fault.Write word) opened of h reads writes is = (is, (known, opened), writes refl)
 unmerged_as a paths g out known _ _ opened of h reads writes is = absurd is
-
--- ---- the command
-
-pub no_geometry : (a : StoreAnswers) (words : MergeWords) (k : Option Store) (opens opened : Option ℕ) (broke : Bool) (out : Option (List ℕ)) (told : LabFault) → IsNoGeometry words.geometry.now told → IsMergeFault a words k k opens opened broke out out told
-no_geometry a words k opens opened broke out told h = inl (left_all k k out refl, inl h)
-
-pub not_allowed : (a : StoreAnswers) (words : MergeWords) (g : Geometry) (k after : Option Store) (opens opened : Option ℕ) (broke : Bool)
-    (out : Option (List ℕ)) (told : LabFault) → IsGeometryAt words.geometry.now g → after ≡ k → MayNotMerge a words told
-    → IsMergeFault a words k after opens opened broke out out told
-not_allowed a words g k after opens opened broke out told is same h = inl (left_all k after out same, inr (g, is, inl h))
-
-pub not_put : (a : StoreAnswers) (words : MergeWords) (g : Geometry) (k after : Option Store) (opens opened : Option ℕ) (broke : Bool) (out : Option (List ℕ)) (told : LabFault) → IsGeometryAt words.geometry.now g → MayMerge a words → after ≡ k
-    → IsUnroomed opens opened told ⊎ IsUnjoined a (dumps_of words) g words.out.now told ⊎ IsUnplaced a words.out.now words.force told → IsMergeFault a words k after opens opened broke out out told
-not_put a words g k after opens opened broke out told is allowed same h = inl (left_all k after out same, inr (g, is, inr (allowed, h)))

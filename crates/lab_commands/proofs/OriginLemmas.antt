@@ -1,5 +1,5 @@
 -- What the command `origin` comes to where it isn't done.
-use Rattle.std.proofs.Common.{◌≡◌, ◌≢◌, ◌⊎◌, inl, inr, ℕ, ◌<◌, Bool, false, List, [], length, get_or, Option, Some, None, refl, sym, ap, subst, ◌∙◌}
+use Rattle.std.proofs.Common.{◌≡◌, ◌≢◌, inl, inr, ℕ, Bool, false, List, [], length, get_or, Option, None, refl, sym, subst}
 use Rattle.page_layout.specs.declared.geometry.Geometry.{Geometry}
 use Rattle.lab_origin.specs.declared.readings.ReadingFault.TheVariants as reading
 use Rattle.lab_origin.specs.declared.trace.OriginFault.{OriginFault}
@@ -10,12 +10,11 @@ use Rattle.lab_commands.specs.declared.files.Standing.{Standing}
 use Rattle.lab_commands.specs.declared.files.Standing.TheVariants as standing
 use Rattle.lab_commands.specs.declared.text.LabFault.{LabFault}
 use Rattle.lab_commands.specs.declared.text.LabFault.TheVariants as fault
-use Rattle.lab_commands.specs.Files.{AnswersNoMore, IsFileOpened, StandsAtPath, Store, StoreAnswers}
+use Rattle.lab_commands.specs.Files.{AnswersNoMore, IsFileOpened, StandsAtPath, StoreAnswers}
 use Rattle.lab_commands.specs.Merge.{AreOpened, HasSame, IsSomeUnread}
-use Rattle.lab_commands.specs.Numbers.{IsLastAt, IsNoLast}
-use Rattle.lab_commands.specs.Undone.{IsGeometryAt, IsKeptThere, IsMapUnplaced, IsNoGeometry, IsUnplaced, IsUnread, IsUnwritten}
-use Rattle.lab_commands.specs.Origin.{IsFollowed, IsOriginFault, IsUnput, IsUntracedTo, MayMap, MayNotMap, TellsOrigin, readings_of}
-use Rattle.lab_commands.proofs.UndoneLemmas.{left_all, opened_before, unread_before}
+use Rattle.lab_commands.specs.Undone.{IsKeptThere, IsMapUnplaced, IsUnplaced, IsUnread, IsUnwritten}
+use Rattle.lab_commands.specs.Origin.{IsUntracedTo, MayNotMap, TellsOrigin, readings_of}
+use Rattle.lab_commands.proofs.UndoneLemmas.{opened_before, unread_before}
 
 -- ---- whether OUT may be written
 
@@ -68,20 +67,3 @@ as_out a path force _ k ne = absurd k
 
 pub as_taken : (a : StoreAnswers) (path : List ℕ) (force : Bool) → IsMapUnplaced a path force fault.MapExists → IsUnplaced a path force fault.Exists
 as_taken a path force k = k
-
--- ---- the command
-
-pub origin_no_geometry : (a : StoreAnswers) (words : OriginWords) (k : Option Store) (opens opened : Option ℕ) (broke : Bool) (out : Option (List ℕ)) (told : LabFault) → IsNoGeometry words.geometry.now told → IsOriginFault a words k k opens opened broke out out told
-origin_no_geometry a words k opens opened broke out told h = inl (left_all k k out refl, inl h)
-
-pub origin_no_last : (a : StoreAnswers) (words : OriginWords) (g : Geometry) (k : Option Store) (opens opened : Option ℕ) (broke : Bool) (out : Option (List ℕ)) (told : LabFault) → IsGeometryAt words.geometry.now g → IsNoLast words.until told
-    → IsOriginFault a words k k opens opened broke out out told
-origin_no_last a words g k opens opened broke out told is h = inl (left_all k k out refl, inr (g, is, inl h))
-
-pub origin_not_allowed : (a : StoreAnswers) (words : OriginWords) (g : Geometry) (last : Option ℕ) (k after : Option Store) (opens opened : Option ℕ) (broke : Bool) (out : Option (List ℕ)) (told : LabFault) → IsGeometryAt words.geometry.now g
-    → IsLastAt words.until last → after ≡ k → MayNotMap a words told → IsOriginFault a words k after opens opened broke out out told
-origin_not_allowed a words g last k after opens opened broke out told is at same h = inl (left_all k after out same, inr (g, is, inr (last, at, inl h)))
-
-pub origin_not_put : (a : StoreAnswers) (words : OriginWords) (g : Geometry) (last : Option ℕ) (k after : Option Store) (opens opened : Option ℕ) (broke : Bool) (out : Option (List ℕ)) (told : LabFault) → IsGeometryAt words.geometry.now g
-    → IsLastAt words.until last → MayMap a words → after ≡ k → IsUnput a words g opens opened told → IsOriginFault a words k after opens opened broke out out told
-origin_not_put a words g last k after opens opened broke out told is at allowed same h = inl (left_all k after out same, inr (g, is, inr (last, at, inr (allowed, h))))

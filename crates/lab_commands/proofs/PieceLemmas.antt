@@ -1,78 +1,66 @@
--- Pieces of a text, one after another.
+-- Pieces of a text and parts of a document, one after another.
 use Rattle.std.proofs.Common.{◌≡◌, ◌+◌, ◌<◌, ℕ, zero, suc, List, [], ◌∷◌, ◌++◌, length, take, drop, get_or, Option, refl, sym, ap, subst, ◌∙◌, append_assoc, append-nil, arith}
 use Rattle.std.proofs.Math.Seq.{take-suc}
 use Rattle.std.specs.Io.KnownBytes.{Appends}
-use Rattle.std.proofs.KnownBytes.{Appends-nil, Appends-trans}
+use Rattle.std.proofs.KnownBytes.{Appends-trans}
 use Rattle.std.specs.Prelude.{Bool, true, false, ◌==◌, if◌then◌else◌, codes}
 use Rattle.std.specs.Fmt.{decimal}
 use Rattle.lab_dump.specs.declared.fit.Fit.{Fit}
 use Rattle.lab_dump.specs.declared.doubts.Doubts.{Doubts}
 use Rattle.lab_correct.specs.declared.found.FoundFit.{FoundFit}
 use Rattle.lab_dump.specs.Doubts.{most_older}
-use Rattle.lab_commands.specs.Lines.{age_words, first_words, fit_words, found_words, moved_words, says_words, whole_words}
+use Rattle.lab_commands.specs.Lines.{age_words, counted_words, first_words, fit_words, found_words, moved_words, says_words, shape_words, whole_words}
 use Rattle.lab_commands.specs.declared.output.OutputFault.{OutputFault}
-use Rattle.lab_commands.specs.declared.pieces.Piece.{Piece}
 use Rattle.lab_commands.specs.Document.{StopsPrinting}
-use Rattle.lab_commands.specs.Pieces.{piece_text, pieces_text}
+use Rattle.lab_commands.specs.Pieces.{joined}
 use Rattle.lab_commands.proofs.PrintLemmas.{stops_after, stops_more}
 
-pieces_cons : (p : Piece) (rest : List Piece) → pieces_text (p ∷ rest) ≡ piece_text p ++ pieces_text rest
-pieces_cons p [] = sym (append-nil (piece_text p))
-pieces_cons p (q ∷ rest) = refl
+joined_cons : {A : Type 0} (f : A → List ℕ) (p : A) (rest : List A) → joined f (p ∷ rest) ≡ f p ++ joined f rest
+joined_cons f p [] = sym (append-nil (f p))
+joined_cons f p (q ∷ rest) = refl
 
-pieces_both : (xs ys : List Piece) → pieces_text (xs ++ ys) ≡ pieces_text xs ++ pieces_text ys
-pieces_both [] ys = refl
-pieces_both (p ∷ rest) ys =
-    pieces_cons p (rest ++ ys) ∙ (ap (λ t. piece_text p ++ t) (pieces_both rest ys) ∙ (sym (append_assoc (piece_text p) (pieces_text rest) (pieces_text ys)) ∙ ap (λ t. t ++ pieces_text ys) (sym (pieces_cons p rest))))
+joined_both : {A : Type 0} (f : A → List ℕ) (xs ys : List A) → joined f (xs ++ ys) ≡ joined f xs ++ joined f ys
+joined_both f [] ys = refl
+joined_both f (p ∷ rest) ys =
+    joined_cons f p (rest ++ ys) ∙ (ap (λ t. f p ++ t) (joined_both f rest ys) ∙ (sym (append_assoc (f p) (joined f rest) (joined f ys)) ∙ ap (λ t. t ++ joined f ys) (sym (joined_cons f p rest))))
 
 -- one more
-next_piece : (ps : List Piece) (n : ℕ) (d : Piece) → n < length ps → pieces_text (take (n + 1) ps) ≡ pieces_text (take n ps) ++ piece_text (get_or ps n d)
-next_piece ps n d l =
+next_joined : {A : Type 0} (f : A → List ℕ) (ps : List A) (n : ℕ) (d : A) → n < length ps → joined f (take (n + 1) ps) ≡ joined f (take n ps) ++ f (get_or ps n d)
+next_joined f ps n d l =
     let next : n + 1 ≡ suc n = omega arith in
-    ap (λ m. pieces_text (take m ps)) next ∙ (ap pieces_text (take-suc ps n d l) ∙ pieces_both (take n ps) (get_or ps n d ∷ []))
+    ap (λ m. joined f (take m ps)) next ∙ (ap (joined f) (take-suc ps n d l) ∙ joined_both f (take n ps) (get_or ps n d ∷ []))
 
-pub none_put : (ps : List Piece) (a : Option (List ℕ)) → Appends a a (pieces_text (take 0 ps))
-none_put ps a = Appends-nil a
+pub one_put : {A : Type 0} (f : A → List ℕ) (ps : List A) (n : ℕ) (d : A) (a b e : Option (List ℕ)) → n < length ps → Appends a b (joined f (take n ps)) → Appends b e (f (get_or ps n d)) → Appends a e (joined f (take (n + 1) ps))
+one_put f ps n d a b e l first last = subst (λ t. Appends a e t) (sym (next_joined f ps n d l)) (Appends-trans a b e (joined f (take n ps)) (f (get_or ps n d)) first last)
 
-pub one_put : (ps : List Piece) (n : ℕ) (d : Piece) (a b e : Option (List ℕ)) → n < length ps → Appends a b (pieces_text (take n ps)) → Appends b e (piece_text (get_or ps n d)) → Appends a e (pieces_text (take (n + 1) ps))
-one_put ps n d a b e l first last = subst (λ t. Appends a e t) (sym (next_piece ps n d l)) (Appends-trans a b e (pieces_text (take n ps)) (piece_text (get_or ps n d)) first last)
-
-whole : (ps : List Piece) (n : ℕ) → pieces_text ps ≡ pieces_text (take n ps) ++ pieces_text (drop n ps)
-whole ps n = ap pieces_text (sym (Rattle.std.proofs.Common.take-append-drop n ps)) ∙ pieces_both (take n ps) (drop n ps)
+whole : {A : Type 0} (f : A → List ℕ) (ps : List A) (n : ℕ) → joined f ps ≡ joined f (take n ps) ++ joined f (drop n ps)
+whole f ps n = ap (joined f) (sym (Rattle.std.proofs.Common.take-append-drop n ps)) ∙ joined_both f (take n ps) (drop n ps)
 
 -- where it stopped in one of them, behind those before it
-pub stopped_put : (f : OutputFault) (broke : Bool) (ps : List Piece) (n : ℕ) (d : Piece) (a b e : Option (List ℕ)) → n < length ps → Appends a b (pieces_text (take n ps)) → StopsPrinting f broke b e (piece_text (get_or ps n d)) → StopsPrinting f broke a e (pieces_text ps)
-stopped_put f broke ps n d a b e l first last =
-    let front = stops_after f broke a b e (pieces_text (take n ps)) (piece_text (get_or ps n d)) first last in
-    subst (λ t. StopsPrinting f broke a e t) (sym (whole ps (n + 1)))
-    (stops_more f broke a e (pieces_text (take (n + 1) ps)) (pieces_text (drop (n + 1) ps)) (subst (λ t. StopsPrinting f broke a e t) (sym (next_piece ps n d l)) front))
+pub stopped_put : {A : Type 0} (f : A → List ℕ) (o : OutputFault) (broke : Bool) (ps : List A) (n : ℕ) (d : A) (a b e : Option (List ℕ)) → n < length ps → Appends a b (joined f (take n ps)) → StopsPrinting o broke b e (f (get_or ps n d)) → StopsPrinting o broke a e (joined f ps)
+stopped_put f o broke ps n d a b e l first last =
+    let front = stops_after o broke a b e (joined f (take n ps)) (f (get_or ps n d)) first last in
+    subst (λ t. StopsPrinting o broke a e t) (sym (whole f ps (n + 1)))
+    (stops_more o broke a e (joined f (take (n + 1) ps)) (joined f (drop (n + 1) ps)) (subst (λ t. StopsPrinting o broke a e t) (sym (next_joined f ps n d l)) front))
 
 -- ---- lines that are told of in parts
 
--- a geometry that fits, piece by piece
-pub fit_flat : (f : Fit) → codes "geometry " ++ (decimal f.data_bytes ++ (codes "," ++ (decimal f.spare_bytes ++ (codes "," ++ (decimal f.pages ++ (codes "," ++ (decimal f.blocks ++ (codes "," ++ (decimal f.sectors
-    ++ (codes " looked " ++ (decimal f.looked ++ (codes " sound " ++ (decimal f.sound.0 ++ (codes " unsound " ++ (decimal f.unsound
-    ++ (codes " table " ++ (says_words f.table ++ (codes " blocks " ++ (decimal f.blocks_told ++ (codes " sectors " ++ decimal f.sectors_told)))))))))))))))))))) ≡ fit_words f
-fit_flat f = simp append_assoc
+-- the five numbers of a geometry, between other words
+shaped_flat : (f : Fit) (before behind : List ℕ)
+    → before ++ (decimal f.data_bytes ++ (codes "," ++ (decimal f.spare_bytes ++ (codes "," ++ (decimal f.pages ++ (codes "," ++ (decimal f.blocks ++ (codes "," ++ (decimal f.sectors ++ behind))))))))) ≡ before ++ (shape_words f ++ behind)
+shaped_flat f before behind = simp append_assoc
 
-pub fit_pieces : (f : Fit) (r1 r2 r3 r4 r5 r6 r7 r8 : ℕ) (w : List ℕ) → r1 ≡ f.data_bytes → r2 ≡ f.spare_bytes → r3 ≡ f.pages → r4 ≡ f.blocks → r5 ≡ f.sectors → r6 ≡ f.looked → r7 ≡ f.sound.0 → r8 ≡ f.unsound → w ≡ says_words f.table
-    → codes "geometry " ++ (decimal r1 ++ (codes "," ++ (decimal r2 ++ (codes "," ++ (decimal r3 ++ (codes "," ++ (decimal r4 ++ (codes "," ++ (decimal r5 ++ (codes " looked " ++ (decimal r6 ++ (codes " sound " ++ (decimal r7 ++ (codes " unsound " ++ (decimal r8
-    ++ (codes " table " ++ (w ++ (codes " blocks " ++ (decimal f.blocks_told ++ (codes " sectors " ++ decimal f.sectors_told)))))))))))))))))))) ≡ fit_words f
-fit_pieces f r1 r2 r3 r4 r5 r6 r7 r8 w e1 e2 e3 e4 e5 e6 e7 e8 ew = rw (e1, e2, e3, e4, e5, e6, e7, e8, ew) (fit_flat f)
+pub shaped_pieces : (f : Fit) (before behind : List ℕ) (r1 r2 r3 r4 r5 : ℕ) → r1 ≡ f.data_bytes → r2 ≡ f.spare_bytes → r3 ≡ f.pages → r4 ≡ f.blocks → r5 ≡ f.sectors
+    → before ++ (decimal r1 ++ (codes "," ++ (decimal r2 ++ (codes "," ++ (decimal r3 ++ (codes "," ++ (decimal r4 ++ (codes "," ++ (decimal r5 ++ behind))))))))) ≡ before ++ (shape_words f ++ behind)
+shaped_pieces f before behind r1 r2 r3 r4 r5 e1 e2 e3 e4 e5 = rw (e1, e2, e3, e4, e5) (shaped_flat f before behind)
 
--- what comes first of a dump with codes
-first_flat : (f : Fit)
-    → codes " codes hamming: first nandlab correct " ++
-    (decimal f.data_bytes
-    ++ (codes ","
-    ++ (decimal f.spare_bytes
-    ++ (codes "," ++ (decimal f.pages ++ (codes "," ++ (decimal f.blocks ++ (codes "," ++ (decimal f.sectors ++ codes " DUMP OUT")))))))))
-    ≡ first_words f
-first_flat f = simp append_assoc
+-- a geometry that fits, in two parts
+pub fit_parts : (f : Fit) → (codes "geometry " ++ (shape_words f ++ codes " looked ")) ++ counted_words f ≡ fit_words f
+fit_parts f = simp append_assoc
 
-pub first_pieces : (f : Fit) (r1 r2 r3 r4 r5 : ℕ) → r1 ≡ f.data_bytes → r2 ≡ f.spare_bytes → r3 ≡ f.pages → r4 ≡ f.blocks → r5 ≡ f.sectors
-    → codes " codes hamming: first nandlab correct " ++ (decimal r1 ++ (codes "," ++ (decimal r2 ++ (codes "," ++ (decimal r3 ++ (codes "," ++ (decimal r4 ++ (codes "," ++ (decimal r5 ++ codes " DUMP OUT"))))))))) ≡ first_words f
-first_pieces f r1 r2 r3 r4 r5 e1 e2 e3 e4 e5 = rw (e1, e2, e3, e4, e5) (first_flat f)
+pub counted_pieces : (f : Fit) (r1 r2 r3 : ℕ) (w : List ℕ) → r1 ≡ f.looked → r2 ≡ f.sound.0 → r3 ≡ f.unsound → w ≡ says_words f.table
+    → decimal r1 ++ (codes " sound " ++ (decimal r2 ++ (codes " unsound " ++ (decimal r3 ++ (codes " table " ++ (w ++ (codes " blocks " ++ (decimal f.blocks_told ++ (codes " sectors " ++ decimal f.sectors_told))))))))) ≡ counted_words f
+counted_pieces f r1 r2 r3 w e1 e2 e3 ew = rw (e1, e2, e3, ew) refl
 
 -- a geometry with codes is told in both parts
 pub coded_found : (found : FoundFit) → found.coded ≡ true → fit_words found.fit ++ first_words found.fit ≡ found_words found

@@ -5,10 +5,10 @@ use Rattle.std.specs.Result.{IsErrAnd}
 use Rattle.std.specs.Io.KnownBytes.{Appends}
 use Rattle.std.proofs.KnownBytes.{Appends-nil, Appends-trans}
 use Rattle.request_stream.proofs.Writing.{part_more, part_stop}
-use Rattle.std.specs.Prelude.{Bool}
+use Rattle.std.specs.Prelude.{Bool, IfErr, OnOk}
 use Rattle.lab_commands.specs.declared.text.LabFault.{LabFault}
 use Rattle.lab_commands.specs.declared.text.LabFault.TheVariants as fault
-use Rattle.lab_commands.specs.Undone.{IsHalfPrinted, TellsPrint}
+use Rattle.lab_commands.specs.Undone.{EndsAs, IsHalfPrinted, TellsPrint}
 use Rattle.lab_commands.specs.declared.lines.Line.{Line}
 use Rattle.lab_commands.specs.declared.document.ReportForm.{ReportForm}
 use Rattle.lab_commands.specs.declared.output.OutputFault.{OutputFault}
@@ -27,10 +27,30 @@ pub prints_after : {T : Type 0} (broke : Bool) (a b d : Option (List ℕ)) (xs y
 prints_after broke a b d xs ys (Ok x) first last = Appends-trans a b d xs ys first last
 prints_after broke a b d xs ys (Err e) first last = stops_after e broke a b d xs ys first last
 
+-- two parts of what is due, and where it stopped in the first
+pub both_parts : {T : Type 0} (broke : Bool) (a b d : Option (List ℕ)) (xs ys due : List ℕ) (r : Result T OutputFault) → xs ++ ys ≡ due → Appends a b xs → Prints broke b d ys r → Prints broke a d due r
+both_parts broke a b d xs ys due r are first last = subst (λ t. Prints broke a d t r) are (prints_after broke a b d xs ys r first last)
+
+pub first_part : {T : Type 0} (e : OutputFault) (broke : Bool) (a b : Option (List ℕ)) (xs ys due : List ℕ) (r : Result T OutputFault) → xs ++ ys ≡ due → IsErrAnd r (λ x. x ≡ e) → StopsPrinting e broke a b xs → Prints broke a b due r
+first_part e broke a b xs ys due (Ok x) are is stops = absurd is
+first_part e broke a b xs ys due (Err x) are is stops = subst (λ y. StopsPrinting y broke a b due) (sym is) (subst (λ t. StopsPrinting e broke a b t) are (stops_more e broke a b xs ys stops))
+
 -- how it is told that not all was printed
 pub half_printed : (e : OutputFault) (told : LabFault) (broke : Bool) (a b : Option (List ℕ)) (due : List ℕ) → TellsPrint e told → StopsPrinting e broke a b due → IsHalfPrinted broke a b due told
 half_printed e (fault.Write word) broke a b due tells (is, part) = (tells, is, part)
 half_printed e _ broke a b due tells stops = absurd tells
+
+-- what a command that ends with its report has done, and why it has not
+pub done_by : {T S : Type 0} (P : Type 0) (broke : Bool) (a b : Option (List ℕ)) (due : List ℕ) (printed : Result T OutputFault) (r : Result S LabFault) → Prints broke a b due printed → EndsAs printed r → (Appends a b due → P) → OnOk r P
+done_by P broke a b due (Ok x) (Ok done) told ends made = made told
+done_by P broke a b due (Err e) (Ok done) stops ends made = absurd ends
+done_by P broke a b due printed (Err told) stops ends made = tt
+
+pub undone_by : {T S : Type 0} (P : LabFault → Type 0) (broke : Bool) (a b : Option (List ℕ)) (due : List ℕ) (printed : Result T OutputFault) (r : Result S LabFault) → Prints broke a b due printed → EndsAs printed r
+    → ((told : LabFault) → IsHalfPrinted broke a b due told → P told) → IfErr r P
+undone_by P broke a b due (Ok x) (Err told) done ends made = absurd ends
+undone_by P broke a b due (Err e) (Err told) stops ends made = made told (half_printed e told broke a b due ends stops)
+undone_by P broke a b due printed (Ok done) told ends made = tt
 
 -- ---- the lines of a list
 

@@ -49,6 +49,12 @@ pub record MadeArray (a : StoreAnswers) (words : UntilWords) (g : Geometry) (las
 abbrev pub with_map : Option Store → ArrayWords → List ℕ → Option Store
 with_map kept words text = option_map_or (λ file. with_kept kept file.now (Some (text ∷ [])) words.force) words.map kept
 
+-- it was put in the place of OUT
+pub record PlacedArray (a : StoreAnswers) (words : UntilWords) (before after : Option Store) (g : Geometry) (last : Option ℕ) (held : List Held) (left : Unsettled) : Type 0 where
+  pub pieces : Option (List (List ℕ))
+  pub made : MadeArray a words g last pieces held left
+  pub put : after ≡ with_kept before words.array.out.now pieces words.array.force
+
 -- it was put in the place of OUT, and its map in that of FILE, where one is wanted
 pub record PutArray (a : StoreAnswers) (words : UntilWords) (before after : Option Store) (g : Geometry) (last : Option ℕ) (held : List Held) (left : Unsettled) : Type 0 where
   pub pieces : Option (List (List ℕ))

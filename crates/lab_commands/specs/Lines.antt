@@ -95,6 +95,10 @@ looked_words f = codes " looked " ++ (decimal f.looked ++ (codes " sound " ++ (d
 abbrev pub told_words : Fit → List ℕ
 told_words f = codes " table " ++ (says_words f.table ++ (codes " blocks " ++ (decimal f.blocks_told ++ (codes " sectors " ++ decimal f.sectors_told))))
 
+-- both behind the number of those that were looked at
+abbrev pub counted_words : Fit → List ℕ
+counted_words f = decimal f.looked ++ (codes " sound " ++ (decimal f.sound.0 ++ (codes " unsound " ++ (decimal f.unsound ++ told_words f))))
+
 -- a geometry that fits, with all that is told of it
 abbrev pub fit_words : Fit → List ℕ
 fit_words f = codes "geometry " ++ (shape_words f ++ (looked_words f ++ told_words f))

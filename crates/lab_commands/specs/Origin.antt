@@ -61,6 +61,12 @@ pub record PutOrigin (a : StoreAnswers) (words : OriginWords) (before after : Op
   pub followed : IsFollowed a words g last marks
   pub put : after ≡ with_kept before words.out.now (Some (map_text remark.Readings g marks ∷ [])) words.force
 
+-- of some geometry, and as of some sequence or all
+pub record HasPutOrigin (a : StoreAnswers) (words : OriginWords) (before after : Option Store) (marks : List MapMark) : Type 0 where
+  pub g : Geometry
+  pub last : Option ℕ
+  pub put : PutOrigin a words before after g last marks
+
 -- and it was printed how many sectors no reading has the page of
 pub record WroteOrigin (a : StoreAnswers) (words : OriginWords) (before after : Option Store) (out printed : Option (List ℕ)) : Type 0 where
   pub g : Geometry

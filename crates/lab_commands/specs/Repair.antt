@@ -47,6 +47,11 @@ pub record PutRepair (a : StoreAnswers) (words : RepairWords) (before after : Op
   pub made : IsMended a words.dump.now g (asked_of rows bits) pieces mends
   pub put : after ≡ with_kept before words.out.now pieces words.force
 
+-- and so many pages are told to have been tried
+pub record HasPutRepair (a : StoreAnswers) (words : RepairWords) (before after : Option Store) (tries : ℕ) (mends : List Mend) : Type 0 where
+  pub put : PutRepair a words before after mends
+  pub tried : tries ≡ told_tries put.bits put.g mends
+
 -- and what was mended was printed
 pub record WroteRepair (a : StoreAnswers) (words : RepairWords) (before after : Option Store) (out printed : Option (List ℕ)) : Type 0 where
   pub mends : List Mend

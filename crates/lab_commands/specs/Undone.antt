@@ -1,5 +1,5 @@
 -- What the words of a command say of its geometry, and why a command ended before it was done.
-use Rattle.std.specs.Prelude.{◌≡◌, ◌⊎◌, ℕ, Bool, true, false, if◌then◌else◌, List, codes, length, Option, IfSome}
+use Rattle.std.specs.Prelude.{◌≡◌, ◌⊎◌, ℕ, Bool, true, false, if◌then◌else◌, List, codes, length, Option, IfSome, Result, Ok, Err}
 use Rattle.std.specs.Borrow.{Bor}
 use Rattle.std.specs.Io.KnownBytes.{Keeps}
 use Rattle.page_layout.specs.declared.geometry.Geometry.{Geometry}
@@ -128,6 +128,12 @@ pub record LeavesAll (before after : Option Store) (out printed : Option (List �
 abbrev pub TellsPrint : OutputFault → LabFault → Type 0
 TellsPrint unwritten (fault.Write told) = told.now ≡ codes "-"
 TellsPrint _ _ = ⊥
+
+-- how a command ends, by whether its document was printed
+abbrev pub EndsAs : {T S : Type 0} → Result T OutputFault → Result S LabFault → Type 0
+EndsAs (Ok printed) (Ok done) = Unit {0}
+EndsAs (Err unwritten) (Err told) = TellsPrint unwritten told
+EndsAs _ _ = ⊥
 
 -- standard output failed, so that of what was due a part stands there and never all
 abbrev pub IsHalfPrinted : (broke : Bool) → Option (List ℕ) → Option (List ℕ) → List ℕ → LabFault → Type 0

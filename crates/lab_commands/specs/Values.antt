@@ -1,5 +1,6 @@
 -- The lines of the reports, as JSON values: objects, each with its members by rising name. `line` says which line it is.
-use Rattle.std.specs.Prelude.{ℕ, List, ◌∷◌, codes, Bool, true, if◌then◌else◌}
+use Rattle.std.specs.Prelude.{ℕ, List, [], ◌∷◌, ◌++◌, codes, Bool, true, if◌then◌else◌}
+use Rattle.std.specs.Fmt.{decimal}
 use Rattle.serde_json.specs.Data.{Data, Members, boolean, number, unsigned, string, array, object, item, no_items, member, no_members}
 use Rattle.certificate.specs.declared.block_state.BlockState.{BlockState}
 use Rattle.lab_dump.specs.declared.fit.Fit.{Fit}
@@ -102,9 +103,19 @@ arranged_fit_data found =
 abbrev pub arranged_rest : Fit → List ℕ
 arranged_rest f = 34 ∷ members_text true (member (codes "blocks_told") (count f.blocks_told) (fit_members f))
 
--- how its text goes on behind the first member, up to the five numbers
+-- how its text goes on behind the first member, up to the one of the five numbers
 abbrev pub front_words : Bool → List ℕ
-front_words coded = if coded then codes ",\"codes\":\"hamming\",\"geometry\":[" else codes ",\"geometry\":["
+front_words coded = if coded then codes ",\"codes\":\"hamming\"" else []
+
+-- and from that one on
+abbrev pub rest_words : Fit → List ℕ
+rest_words f = members_text true (fit_members f)
+
+-- what stands behind the name of the number of pages that were looked at
+abbrev pub counts_words : Fit → List ℕ
+counts_words f =
+    decimal f.looked ++ (codes ",\"sectors_told\":" ++ (decimal f.sectors_told ++ (codes ",\"sound\":" ++ (decimal f.sound.0 ++ (
+    codes ",\"table\":\"" ++ (says_words f.table ++ (codes "\",\"unsound\":" ++ (decimal f.unsound ++ codes "}"))))))))
 
 abbrev pub mended_data : Made → ℕ → ℕ → Data
 mended_data how row bit = object (member (codes "bit") (count bit) (member (codes "line") (text (made_words how)) (member (codes "row") (count row) no_members)))

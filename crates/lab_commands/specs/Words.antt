@@ -9,12 +9,14 @@ use Rattle.program_words.specs.Met as met
 use Rattle.lab_commands.specs.declared.arrange_words.ArrangeWords.{ArrangeWords}
 use Rattle.lab_commands.specs.declared.words.ArrayWords.{ArrayWords}
 use Rattle.lab_commands.specs.declared.words.CompareWords.{CompareWords}
+use Rattle.lab_commands.specs.declared.words.OutWords.{OutWords}
 use Rattle.lab_commands.specs.declared.words.GeometryWords.{GeometryWords}
 use Rattle.lab_commands.specs.declared.words.HistoryWords.{HistoryWords}
 use Rattle.lab_commands.specs.declared.words.MergeWords.{MergeWords}
 use Rattle.lab_commands.specs.declared.origin_words.OriginWords.{OriginWords}
 use Rattle.lab_commands.specs.declared.words.RepairWords.{RepairWords}
 use Rattle.lab_commands.specs.declared.words.Showing.{Showing}
+use Rattle.lab_commands.specs.declared.words.SourceWords.{SourceWords}
 use Rattle.lab_commands.specs.declared.words.SurveyWords.{SurveyWords}
 use Rattle.lab_commands.specs.declared.words.UntilWords.{UntilWords}
 use Rattle.lab_commands.specs.declared.words.Asked.{Asked}
@@ -75,14 +77,22 @@ pub record IsGeometryAt (rows : List Row) (read : GeometryWords) : Type 0 where
   pub dump_is : first_of (codes "DUMP") rows ≡ Some read.dump.now
   pub showing : IsShowingAt rows read.showing
 
--- the entries of the words of `correct`, which `array` has too, are these
-pub record IsArrayAt (rows : List Row) (read : ArrayWords) : Type 0 where
+-- the entries of the words that commands on one dump have are these
+pub record IsSourceAt (rows : List Row) (read : SourceWords) : Type 0 where
   pub geometry_is : first_of (codes "GEOM") rows ≡ Some read.geometry.now
   pub dump_is : first_of (codes "DUMP") rows ≡ Some read.dump.now
+  pub showing : IsShowingAt rows read.showing
+
+-- those of the words that commands have which make a file of a dump
+pub record IsOutAt (rows : List Row) (read : OutWords) : Type 0 where
+  pub source : IsSourceAt rows (record { geometry = read.geometry; dump = read.dump; showing = read.showing })
   pub out_is : first_of (codes "OUT") rows ≡ Some read.out.now
   pub forced : stood (count_of (codes "force") rows) ≡ read.force
+
+-- the entries of the words of `correct`, which `array` has too, are these
+pub record IsArrayAt (rows : List Row) (read : ArrayWords) : Type 0 where
+  pub file : IsOutAt rows (record { geometry = read.geometry; dump = read.dump; out = read.out; force = read.force; showing = read.showing })
   pub map_is : first_of (codes "map") rows ≡ option_map (λ word. word.now) read.map
-  pub showing : IsShowingAt rows read.showing
 
 -- those of the words of `array` are these
 pub record IsUntilAt (rows : List Row) (read : UntilWords) : Type 0 where
@@ -92,24 +102,18 @@ pub record IsUntilAt (rows : List Row) (read : UntilWords) : Type 0 where
 
 -- those of the words of `history` are these
 pub record IsHistoryAt (rows : List Row) (read : HistoryWords) : Type 0 where
-  pub geometry_is : first_of (codes "GEOM") rows ≡ Some read.geometry.now
-  pub dump_is : first_of (codes "DUMP") rows ≡ Some read.dump.now
+  pub source : IsSourceAt rows (record { geometry = read.geometry; dump = read.dump; showing = read.showing })
   pub sector_is : first_of (codes "SECTOR") rows ≡ Some read.sector.now
-  pub showing : IsShowingAt rows read.showing
 
 -- those of the words of `survey` are these
 pub record IsSurveyAt (rows : List Row) (read : SurveyWords) : Type 0 where
-  pub geometry_is : first_of (codes "GEOM") rows ≡ Some read.geometry.now
-  pub dump_is : first_of (codes "DUMP") rows ≡ Some read.dump.now
+  pub source : IsSourceAt rows (record { geometry = read.geometry; dump = read.dump; showing = read.showing })
   pub rows_are : first_of (codes "rows") rows ≡ option_map (λ word. word.now) read.rows
-  pub showing : IsShowingAt rows read.showing
 
 -- those of the words of `compare` are these
 pub record IsCompareAt (rows : List Row) (read : CompareWords) : Type 0 where
-  pub geometry_is : first_of (codes "GEOM") rows ≡ Some read.geometry.now
+  pub source : IsSourceAt rows (record { geometry = read.geometry; dump = read.dump; showing = read.showing })
   pub certificate_is : first_of (codes "CERT") rows ≡ Some read.certificate.now
-  pub dump_is : first_of (codes "DUMP") rows ≡ Some read.dump.now
-  pub showing : IsShowingAt rows read.showing
 
 -- the dumps of the words of `merge` are these, two or more
 pub record AreDumpsAt (rows : List Row) (dumps : List (Bor (List ℕ))) : Type 0 where
@@ -126,32 +130,22 @@ pub record IsMergeAt (rows : List Row) (read : MergeWords) : Type 0 where
 
 -- those of the words of `repair` are these
 pub record IsRepairAt (rows : List Row) (read : RepairWords) : Type 0 where
-  pub geometry_is : first_of (codes "GEOM") rows ≡ Some read.geometry.now
-  pub dump_is : first_of (codes "DUMP") rows ≡ Some read.dump.now
-  pub out_is : first_of (codes "OUT") rows ≡ Some read.out.now
-  pub forced : stood (count_of (codes "force") rows) ≡ read.force
+  pub file : IsOutAt rows (record { geometry = read.geometry; dump = read.dump; out = read.out; force = read.force; showing = read.showing })
   pub rows_are : first_of (codes "rows") rows ≡ option_map (λ word. word.now) read.rows
   pub bits_are : first_of (codes "bits") rows ≡ option_map (λ word. word.now) read.bits
-  pub showing : IsShowingAt rows read.showing
 
 -- those of the words of `arrange` are these
 pub record IsArrangeAt (rows : List Row) (read : ArrangeWords) : Type 0 where
-  pub geometry_is : first_of (codes "GEOM") rows ≡ Some read.geometry.now
-  pub dump_is : first_of (codes "DUMP") rows ≡ Some read.dump.now
-  pub out_is : first_of (codes "OUT") rows ≡ Some read.out.now
-  pub forced : stood (count_of (codes "force") rows) ≡ read.force
+  pub file : IsOutAt rows (record { geometry = read.geometry; dump = read.dump; out = read.out; force = read.force; showing = read.showing })
   pub from_is : first_of (codes "from") rows ≡ option_map (λ word. word.now) read.from
-  pub showing : IsShowingAt rows read.showing
 
 -- those of the words of `origin` are these
 pub record IsOriginAt (rows : List Row) (read : OriginWords) : Type 0 where
-  pub geometry_is : first_of (codes "GEOM") rows ≡ Some read.geometry.now
+  pub source : IsSourceAt rows (record { geometry = read.geometry; dump = read.dump; showing = read.showing })
   pub out_is : first_of (codes "OUT") rows ≡ Some read.out.now
-  pub dump_is : first_of (codes "DUMP") rows ≡ Some read.dump.now
   pub readings_are : all_of (codes "READING") rows ≡ Some (texts read.readings.items)
   pub forced : stood (count_of (codes "force") rows) ≡ read.force
   pub until_is : first_of (codes "until") rows ≡ option_map (λ word. word.now) read.until
-  pub showing : IsShowingAt rows read.showing
 
 -- the command of this name with these entries asks for that
 abbrev pub IsAt : List ℕ → List Row → Asked → Type 0

@@ -3,13 +3,13 @@ ghost use Rattle.std.specs.Prelude.{◌≡◌, OnOk, OnErr, IfOk, IfErr};
 ghost use Rattle.lab_arrange.specs.Place.{IsFitting};
 ghost use Rattle.lab_arrange.specs.Rooms.{IsArrangeRoom};
 ghost use Rattle.lab_commands.specs.Files.{AnswersNoMore, without_part};
-ghost use Rattle.lab_commands.specs.Arrange.{AreSaid, AreUnsaid, IsArrangeFault, IsInOrder, IsSaid, IsUnordered, IsUnsaid, WroteArranged, unordered_as};
+ghost use Rattle.lab_commands.specs.Arrange.{AreSaid, AreUnsaid, IsArrangeFault, IsInOrder, IsSaid, IsUnarrangedBy, IsUnordered, IsUnsaid, PutArranged, WroteArranged, unordered_as};
 
 use crate::arrange_words::ArrangeWords;
 use crate::files::LabFiles;
 use crate::opening::{allow, create_beside, geometry_at, keep, open_dump, progress_of};
 use crate::output::Output;
-use crate::printing::{printer, unprinted};
+use crate::printing::{ended, printer};
 use crate::reports::print_arranged;
 use crate::text::LabFault;
 use lab_arrange::{
@@ -84,6 +84,24 @@ fn put_in_order<'a, F: LabFiles>(
     }
 }
 
+// Puts the dump in order in the place of OUT. Its geometry is told.
+fn place<'a, F: LabFiles>(
+    alloc: Global,
+    words: &ArrangeWords<'a>,
+    files: &mut F,
+) -> Result<Geometry, LabFault<'a>>
+    ensures placed { IfOk result (PutArranged (F.answers files.old) words.now (F.kept files.old) (F.kept files.new)) }
+    ensures fault { IfErr result (IsUnarrangedBy (F.answers files.old) words.now (F.opened files.old) (F.opened files.new)) }
+    ensures kept { OnErr result (F.kept files.new ≡ F.kept files.old) }
+{
+    let said = shape_of(words)?;
+    allow(files, words.dump, words.out, words.force)?;
+    let room = ArrangeRoom::new(alloc, &said.0)?;
+    let target = put_in_order(room, words, &said.0, &said.1, files)?;
+    keep(files, words.out, target, words.force)?;
+    Ok(said.0)
+}
+
 /// The command `arrange`: writes the dump DUMP, which stands as WORDS say, to the file OUT as pages in row order, each its data area and then its spare
 /// area, and prints how many. Of GEOM the sectors play no part.
 ///
@@ -107,14 +125,6 @@ pub(crate) fn arrange_command<'a, F: LabFiles, W: Output>(
     ensures ok { OnOk result (WroteArranged (F.answers files.old) words.entry (F.kept files.old) (F.kept files.new) (W.contents out.old) (W.contents out.new)) }
     ensures fault { IfErr result (IsArrangeFault (F.answers files.old) words.entry (F.kept files.old) (F.kept files.new) (F.opened files.old) (F.opened files.new) (W.failed out.new) (W.contents out.old) (W.contents out.new)) }
 {
-    let said = shape_of(&words)?;
-    allow(files, words.dump, words.out, words.force)?;
-    let room = ArrangeRoom::new(alloc, &said.0)?;
-    let target = put_in_order(room, &words, &said.0, &said.1, files)?;
-    keep(files, words.out, target, words.force)?;
-    let printer = printer(alloc, words.showing);
-    match print_arranged(printer, out, said.0.rows()) {
-        Ok(()) => Ok(()),
-        Err(fault) => Err(unprinted(fault)),
-    }
+    let geometry = place(alloc, &words, files)?;
+    ended(print_arranged(printer(alloc, words.showing), out, geometry.rows()))
 }

@@ -4,7 +4,7 @@ ghost use Rattle.program_words.specs.Met.{entries_of};
 ghost use Rattle.lab_commands.specs.declared.arrange_words.ArrangeWords.{ArrangeWords};
 ghost use Rattle.lab_commands.specs.Words.{IsArrangeAt};
 
-use crate::words::{Showing, showing_words};
+use crate::words::{Showing, out_words};
 use program_words::CommandWords;
 
 /// The words of `arrange GEOM DUMP OUT [--from WORDS]`.
@@ -25,12 +25,13 @@ pub(crate) fn arrange_words<'a>(found: &CommandWords<'a>) -> Option<ArrangeWords
     ensures some { IfSome result (IsArrangeAt (entries_of found.now)) }
     ensures none { result ≡ None → (read : ArrangeWords) → ¬ IsArrangeAt (entries_of found.now) read }
 {
+    let file = out_words(found)?;
     Some(ArrangeWords {
-        geometry: found.word("GEOM")?,
-        dump: found.word("DUMP")?,
-        out: found.word("OUT")?,
-        force: found.stands("force"),
+        geometry: file.geometry,
+        dump: file.dump,
+        out: file.out,
+        force: file.force,
         from: found.word("from"),
-        showing: showing_words(found),
+        showing: file.showing,
     })
 }

@@ -6,10 +6,11 @@ ghost use Rattle.lab_commands.specs.Document.{Prints};
 ghost use Rattle.lab_commands.specs.Lines.{arranged_fit_words, arrange_words, fit_words};
 ghost use Rattle.lab_commands.specs.Values.{arranged_fit_data, arranged_rest};
 
-use crate::lines::{put_fit, says_text};
+use crate::lines::{put_fit, put_shaped};
 use crate::output::{Output, OutputFault};
 use crate::pieces::Piece::{Number, Words};
 use crate::pieces::{put, put_pieces};
+use crate::values::put_fit_rest;
 use lab_arrange::{Arrangement, Spares};
 use lab_dump::Fit;
 use lab_shapes::ArrangedFit;
@@ -158,21 +159,11 @@ fn put_arrangement<W: Output>(out: &mut W, arrangement: &Arrangement) -> Result<
 fn put_arrange<W: Output>(out: &mut W, fit: Fit) -> Result<(), OutputFault>
     ensures { Prints (W.failed out.new) (W.contents out.old) (W.contents out.new) (arrange_words fit) result }
 {
-    put_pieces(
+    put_shaped(
         out,
-        &[
-            Words(" arranged: first nandlab arrange "),
-            Number(u64::from(fit.data_bytes)),
-            Words(","),
-            Number(u64::from(fit.spare_bytes)),
-            Words(","),
-            Number(u64::from(fit.pages)),
-            Words(","),
-            Number(u64::from(fit.blocks)),
-            Words(","),
-            Number(u64::from(fit.sectors)),
-            Words(" DUMP OUT --from "),
-        ],
+        " arranged: first nandlab arrange ",
+        fit,
+        " DUMP OUT --from ",
     )
 }
 
@@ -189,38 +180,14 @@ pub(crate) fn put_arranged_fit<W: Output>(
 }
 
 // What stands behind the words in the object of such a geometry.
-#[tactic(auto, unfolding(json::specs::Print::escape_byte))]
 fn put_rest<W: Output>(out: &mut W, fit: Fit) -> Result<(), OutputFault>
     ensures { Prints (W.failed out.new) (W.contents out.old) (W.contents out.new) (arranged_rest fit) result }
 {
     put_pieces(
         out,
-        &[
-            Words("\",\"blocks_told\":"),
-            Number(fit.blocks_told),
-            Words(",\"geometry\":["),
-            Number(u64::from(fit.data_bytes)),
-            Words(","),
-            Number(u64::from(fit.spare_bytes)),
-            Words(","),
-            Number(u64::from(fit.pages)),
-            Words(","),
-            Number(u64::from(fit.blocks)),
-            Words(","),
-            Number(u64::from(fit.sectors)),
-            Words("],\"line\":\"geometry\",\"looked\":"),
-            Number(u64::from(fit.looked)),
-            Words(",\"sectors_told\":"),
-            Number(fit.sectors_told),
-            Words(",\"sound\":"),
-            Number(u64::from(fit.sound.0)),
-            Words(",\"table\":\""),
-            Words(says_text(fit.table)),
-            Words("\",\"unsound\":"),
-            Number(u64::from(fit.unsound)),
-            Words("}"),
-        ],
-    )
+        &[Words("\",\"blocks_told\":"), Number(fit.blocks_told)],
+    )?;
+    put_fit_rest(out, fit)
 }
 
 /// Prints a geometry that fits in an arrangement as an object.

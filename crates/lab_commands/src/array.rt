@@ -9,7 +9,7 @@ ghost use Rattle.lab_dump.specs.Unmade as made;
 ghost use Rattle.lab_dump.specs.Written.{IsWritten};
 ghost use Rattle.lab_commands.specs.Files.{AnswersNoMore, without_part};
 ghost use Rattle.lab_commands.specs.Undone.{IsFileUnmade, MayWrite};
-ghost use Rattle.lab_commands.specs.Array.{AreAllowed, AreNotAllowed, IsArrayFault, IsArrayMade, IsMapNotAllowed, IsUnmapped, WroteArray, as_map, with_map};
+ghost use Rattle.lab_commands.specs.Array.{AreAllowed, AreNotAllowed, IsArrayFault, IsArrayMade, IsMapNotAllowed, IsUndone, IsUnmapped, PlacedArray, WroteArray, as_map, with_map};
 
 use crate::files::{LabFiles, Standing};
 use crate::maps::ArrayMap;
@@ -19,13 +19,13 @@ use crate::opening::{
     standing, store_map, unmade_as,
 };
 use crate::output::Output;
-use crate::printing::{printer, unprinted};
+use crate::printing::{ended, printer};
 use crate::reports::print_array;
 use crate::text::LabFault;
 use crate::words::{ArrayWords, UntilWords};
 use lab_dump::{
-    ArrayRoom, ArrayWritten, DamagedTarget, DumpReader, Held, MakeFault, Unwritten, write_array,
-    write_damaged,
+    ArrayRoom, ArrayWritten, DamagedTarget, DumpReader, Held, MakeFault, Unsettled, Unwritten,
+    write_array, write_damaged,
 };
 use page_layout::geometry::Geometry;
 use std::alloc::Global;
@@ -151,6 +151,46 @@ fn make<'a, F: LabFiles>(
     }
 }
 
+// An array that stands in its place, and what is told of it.
+#[derive(Drop)]
+struct ArrayPlaced {
+    geometry: Geometry,
+    last: Option<u64>,
+    held: Vec<Held>,
+    left: Unsettled,
+}
+
+// Puts the array in the place of OUT.
+fn place<'a, F: LabFiles>(
+    alloc: Global,
+    words: UntilWords<'a>,
+    files: &mut F,
+) -> Result<ArrayPlaced, LabFault<'a>>
+    ensures placed { IfOk result (λ told. PlacedArray (F.answers files.old) words.entry (F.kept files.old) (F.kept files.new) told.geometry told.last told.held.items told.left) }
+    ensures sized { IfOk result (λ told. length told.held.items ≡ told.geometry.sectors) }
+    ensures fault { IfErr result (IsUndone (F.answers files.old) words.entry (F.opened files.old) (F.opened files.new)) }
+    ensures no_more { OnOk result (AnswersNoMore (F.answers files.old) (F.answers files.new)) }
+    ensures kept { OnErr result (F.kept files.new ≡ F.kept files.old) }
+{
+    let UntilWords {
+        array: words,
+        until,
+        damaged,
+    } = words;
+    let geometry = geometry_at(words.geometry)?;
+    let last = last_at(until)?;
+    allow_both(files, &words)?;
+    let room = ArrayRoom::new(alloc, &geometry)?;
+    let written = make(room, &words, &geometry, last, damaged, files)?;
+    keep(files, words.out, written.target, words.force)?;
+    Ok(ArrayPlaced {
+        geometry,
+        last,
+        held: written.held,
+        left: written.left,
+    })
+}
+
 /// The command `array`: writes every sector of the dump DUMP, of the geometry GEOM, to the file OUT, as of the sequence SEQUENCE where that is said:
 /// just the pages of this sequence or an earlier one count then. Where `--damaged` stands, pages are shown that are not sound, of sectors of which
 /// they say something newer than each sound page. It writes the map of OUT, where that is wanted, to FILE, and prints which sectors are tied, and how
@@ -177,21 +217,14 @@ pub(crate) fn array_command<'a, F: LabFiles, W: Output>(
     ensures ok { OnOk result (WroteArray (F.answers files.old) words.entry (F.kept files.old) (F.kept files.new) (W.contents out.old) (W.contents out.new)) }
     ensures fault { IfErr result (IsArrayFault (F.answers files.old) words.entry (F.kept files.old) (F.kept files.new) (F.opened files.old) (F.opened files.new) (W.failed out.new) (W.contents out.old) (W.contents out.new)) }
 {
-    let UntilWords {
-        array: words,
-        until,
-        damaged,
-    } = words;
-    let geometry = geometry_at(words.geometry)?;
-    let last = last_at(until)?;
-    allow_both(files, &words)?;
-    let room = ArrayRoom::new(alloc, &geometry)?;
-    let written = make(room, &words, &geometry, last, damaged, files)?;
-    keep(files, words.out, written.target, words.force)?;
-    put_map(&words, &geometry, &written.held, files)?;
-    let printer = printer(alloc, words.showing);
-    match print_array(printer, out, &geometry, last, &written.held, &written.left) {
-        Ok(()) => Ok(()),
-        Err(fault) => Err(unprinted(fault)),
-    }
+    let told = place(alloc, words, files)?;
+    put_map(&words.array, &told.geometry, &told.held, files)?;
+    ended(print_array(
+        printer(alloc, words.array.showing),
+        out,
+        &told.geometry,
+        told.last,
+        &told.held,
+        &told.left,
+    ))
 }

@@ -3,12 +3,12 @@ ghost use Rattle.std.specs.Prelude.{◌≡◌, suc, option_map, OnOk, IfOk, IfEr
 ghost use Rattle.certificate.specs.Claim.{sizes_of};
 ghost use Rattle.lab_dump.specs.Rooms.{IsCompareRoom};
 ghost use Rattle.lab_commands.specs.Files.{AnswersNoMore};
-ghost use Rattle.lab_commands.specs.Compare.{HasNone, IsCertificateAt, IsCompareFault, IsCompared, IsDumpUnheld, ToldCompared};
+ghost use Rattle.lab_commands.specs.Compare.{HasCompared, HasNone, IsCertificateAt, IsCompareFault, IsCompared, IsDumpUnheld, IsUncompared, ToldCompared};
 
 use crate::files::{LabFileFault, LabFiles};
 use crate::opening::{geometry_at, open_file, progress_of};
 use crate::output::Output;
-use crate::printing::{printer, unprinted};
+use crate::printing::{ended, printer};
 use crate::reports::print_compared;
 use crate::text::LabFault;
 use crate::words::{CompareWords, Showing};
@@ -67,6 +67,37 @@ fn compare_with<'a, F: LabFiles>(
     }
 }
 
+// What a dump comes to, and its geometry.
+#[derive(Drop)]
+struct Comparison {
+    geometry: Geometry,
+    compared: Compared,
+}
+
+// What the dump that the words name comes to beside their certificate.
+fn hold<'a, F: LabFiles>(
+    alloc: Global,
+    words: &CompareWords<'a>,
+    files: &mut F,
+) -> Result<Comparison, LabFault<'a>>
+    ensures ok { IfOk result (λ held. HasCompared (F.answers files.old) words.now held.geometry held.compared) }
+    ensures fault { IfErr result (IsUncompared (F.answers files.old) words.now (F.opened files.old) (F.opened files.new)) }
+    ensures kept { F.kept files.new ≡ F.kept files.old }
+{
+    let geometry = geometry_at(words.geometry)?;
+    let room = CompareRoom::new(alloc, &geometry)?;
+    let certificate = load_certificate(alloc, words.certificate, files)?;
+    let compared = compare_with(
+        room,
+        words.dump,
+        &geometry,
+        &certificate,
+        words.showing,
+        files,
+    )?;
+    Ok(Comparison { geometry, compared })
+}
+
 /// The command `compare`: prints which sectors of the dump DUMP, of the geometry GEOM, have lost a page since the certificate CERT was made of
 /// its die, and how far the array may be from the last write.
 ///
@@ -89,19 +120,11 @@ pub(crate) fn compare_command<'a, F: LabFiles, W: Output>(
     ensures kept { F.kept files.new ≡ F.kept files.old }
     ensures fault { IfErr result (IsCompareFault (F.answers files.old) words.entry (F.kept files.old) (F.kept files.new) (F.opened files.old) (F.opened files.new) (W.failed out.new) (W.contents out.old) (W.contents out.new)) }
 {
-    let geometry = geometry_at(words.geometry)?;
-    let room = CompareRoom::new(alloc, &geometry)?;
-    let certificate = load_certificate(alloc, words.certificate, files)?;
-    let told = compare_with(
-        room,
-        words.dump,
-        &geometry,
-        &certificate,
-        words.showing,
-        files,
-    )?;
-    match print_compared(printer(alloc, words.showing), out, &geometry, &told) {
-        Ok(()) => Ok(()),
-        Err(fault) => Err(unprinted(fault)),
-    }
+    let held = hold(alloc, &words, files)?;
+    ended(print_compared(
+        printer(alloc, words.showing),
+        out,
+        &held.geometry,
+        &held.compared,
+    ))
 }

@@ -6,7 +6,7 @@ ghost use Rattle.lab_correct.specs.Rooms.{IsCorrectRoom};
 ghost use Rattle.lab_commands.specs.Files.{AnswersNoMore, without_part};
 ghost use Rattle.lab_commands.specs.Undone.{IsFileUnmade};
 ghost use Rattle.lab_commands.specs.Array.{IsUnmapped, with_map};
-ghost use Rattle.lab_commands.specs.Correct.{IsCorrectFault, IsNoChip, IsPutRight, WroteCorrected};
+ghost use Rattle.lab_commands.specs.Correct.{IsCorrectFault, IsNoChip, IsPutRight, IsUncorrectedBy, PlacedCorrected, WroteCorrected};
 
 use crate::array::allow_both;
 use crate::files::LabFiles;
@@ -15,7 +15,7 @@ use crate::opening::{
     create_beside, geometry_at, keep, open_file, progress_of, store_map, unmade_as,
 };
 use crate::output::Output;
-use crate::printing::{printer, unprinted};
+use crate::printing::{ended, printer};
 use crate::reports::print_corrected;
 use crate::text::LabFault;
 use crate::words::ArrayWords;
@@ -80,6 +80,40 @@ fn put_right<'a, F: LabFiles>(
     }
 }
 
+// A dump without codes that stands in its place, and what is told of it.
+#[derive(Drop)]
+struct CorrectedPlaced {
+    geometry: Geometry,
+    turned: u64,
+    touched: u32,
+    losses: Vec<Loss>,
+}
+
+// Puts the dump without codes in the place of OUT.
+fn place<'a, F: LabFiles>(
+    alloc: Global,
+    words: &ArrayWords<'a>,
+    files: &mut F,
+) -> Result<CorrectedPlaced, LabFault<'a>>
+    ensures placed { IfOk result (λ told. PlacedCorrected (F.answers files.old) words.now (F.kept files.old) (F.kept files.new) told.geometry (record { turned = told.turned; touched = told.touched; losses = told.losses.items })) }
+    ensures fault { IfErr result (IsUncorrectedBy (F.answers files.old) words.now (F.opened files.old) (F.opened files.new)) }
+    ensures no_more { OnOk result (AnswersNoMore (F.answers files.old) (F.answers files.new)) }
+    ensures kept { OnErr result (F.kept files.new ≡ F.kept files.old) }
+{
+    let geometry = geometry_at(words.geometry)?;
+    let chip = chip_of(&geometry)?;
+    allow_both(files, words)?;
+    let room = CorrectRoom::new(alloc, &geometry, &chip)?;
+    let told = put_right(room, words, &geometry, &chip, files)?;
+    keep(files, words.out, told.target, words.force)?;
+    Ok(CorrectedPlaced {
+        geometry,
+        turned: told.turned,
+        touched: told.touched,
+        losses: told.losses,
+    })
+}
+
 /// The command `correct`: writes the dump DUMP of a chip, whose pages stand with their codes, to the file OUT without them, with GEOM the geometry of
 /// OUT, and where that is wanted the map of it to FILE, and prints which rows have lost chunks, and how many bits were turned back.
 ///
@@ -104,16 +138,13 @@ pub(crate) fn correct_command<'a, F: LabFiles, W: Output>(
     ensures ok { OnOk result (WroteCorrected (F.answers files.old) words.entry (F.kept files.old) (F.kept files.new) (W.contents out.old) (W.contents out.new)) }
     ensures fault { IfErr result (IsCorrectFault (F.answers files.old) words.entry (F.kept files.old) (F.kept files.new) (F.opened files.old) (F.opened files.new) (W.failed out.new) (W.contents out.old) (W.contents out.new)) }
 {
-    let geometry = geometry_at(words.geometry)?;
-    let chip = chip_of(&geometry)?;
-    allow_both(files, &words)?;
-    let room = CorrectRoom::new(alloc, &geometry, &chip)?;
-    let told = put_right(room, &words, &geometry, &chip, files)?;
-    keep(files, words.out, told.target, words.force)?;
-    put_map(&words, &geometry, &told.losses, files)?;
-    let printer = printer(alloc, words.showing);
-    match print_corrected(printer, out, told.turned, told.touched, &told.losses) {
-        Ok(()) => Ok(()),
-        Err(fault) => Err(unprinted(fault)),
-    }
+    let told = place(alloc, &words, files)?;
+    put_map(&words, &told.geometry, &told.losses, files)?;
+    ended(print_corrected(
+        printer(alloc, words.showing),
+        out,
+        told.turned,
+        told.touched,
+        &told.losses,
+    ))
 }

@@ -9,7 +9,7 @@ use crate::document::Printer;
 use crate::files::LabFiles;
 use crate::opening::{open_dump, progress_of};
 use crate::output::{Output, OutputFault};
-use crate::printing::{printer, unprinted};
+use crate::printing::{ended, printer};
 use crate::reports::{print_arranged_fit, print_fits};
 use crate::text::LabFault;
 use crate::words::{GeometryWords, Showing};
@@ -151,8 +151,5 @@ pub(crate) fn geometry_command<'a, F: LabFiles, W: Output>(
 {
     let rooms = GeometryRooms::new(alloc)?;
     let fitting = find_fits(rooms, words.dump, words.showing, files)?;
-    match print_fitting(printer(alloc, words.showing), out, &fitting) {
-        Ok(()) => Ok(()),
-        Err(fault) => Err(unprinted(fault)),
-    }
+    ended(print_fitting(printer(alloc, words.showing), out, &fitting))
 }

@@ -1,14 +1,14 @@
 //! The command `history GEOM DUMP SECTOR`.
 ghost use Rattle.std.specs.Prelude.{◌≡◌, OnOk, IfOk, IfErr};
 ghost use Rattle.lab_dump.specs.Rooms.{IsHistoryRoom};
-ghost use Rattle.lab_commands.specs.History.{IsHistoryFault, IsRecalled, ToldHistory};
+ghost use Rattle.lab_commands.specs.History.{HasHistory, IsHistoryFault, IsHistoryUntold, IsRecalled, ToldHistory};
 ghost use Rattle.lab_commands.specs.Survey.{IsUnsurveyed};
 
 use crate::files::LabFiles;
 use crate::numbers::sector_at;
 use crate::opening::{geometry_at, open_file, progress_of};
 use crate::output::Output;
-use crate::printing::{printer, unprinted};
+use crate::printing::{ended, printer};
 use crate::reports::print_history;
 use crate::text::LabFault;
 use crate::words::{HistoryWords, Showing};
@@ -38,6 +38,30 @@ fn history_of<'a, F: LabFiles>(
     }
 }
 
+// The history of a sector, and the geometry of its dump.
+#[derive(Drop)]
+struct Recalled {
+    geometry: Geometry,
+    history: History,
+}
+
+// The history that the words ask for.
+fn recall<'a, F: LabFiles>(
+    alloc: Global,
+    words: &HistoryWords<'a>,
+    files: &mut F,
+) -> Result<Recalled, LabFault<'a>>
+    ensures recalled { IfOk result (λ found. HasHistory (F.answers files.old) words.now found.geometry found.history) }
+    ensures fault { IfErr result (IsHistoryUntold (F.answers files.old) words.now (F.opened files.old) (F.opened files.new)) }
+    ensures kept { F.kept files.new ≡ F.kept files.old }
+{
+    let geometry = geometry_at(words.geometry)?;
+    let sector = sector_at(words.sector, &geometry)?;
+    let room = HistoryRoom::new(alloc, &geometry)?;
+    let history = history_of(room, words.dump, &geometry, sector, words.showing, files)?;
+    Ok(Recalled { geometry, history })
+}
+
 /// The command `history`: prints each sound page of the sector SECTOR that the dump DUMP, of the geometry GEOM, still has, newest first. What a trim
 /// hid stands behind it.
 ///
@@ -59,18 +83,12 @@ pub(crate) fn history_command<'a, F: LabFiles, W: Output>(
     ensures kept { F.kept files.new ≡ F.kept files.old }
     ensures fault { IfErr result (IsHistoryFault (F.answers files.old) words.entry (F.kept files.old) (F.kept files.new) (F.opened files.old) (F.opened files.new) (W.failed out.new) (W.contents out.old) (W.contents out.new)) }
 {
-    let geometry = geometry_at(words.geometry)?;
-    let sector = sector_at(words.sector, &geometry)?;
-    let room = HistoryRoom::new(alloc, &geometry)?;
-    let history = history_of(room, words.dump, &geometry, sector, words.showing, files)?;
-    match print_history(
+    let found = recall(alloc, &words, files)?;
+    ended(print_history(
         printer(alloc, words.showing),
         out,
-        &geometry,
-        &history.pages,
-        history.unsound,
-    ) {
-        Ok(()) => Ok(()),
-        Err(fault) => Err(unprinted(fault)),
-    }
+        &found.geometry,
+        &found.history.pages,
+        found.history.unsound,
+    ))
 }

@@ -25,6 +25,7 @@ mod origin;
 mod origin_lines;
 mod origin_words;
 mod output;
+mod parts;
 mod pieces;
 mod printing;
 mod program;
@@ -40,7 +41,7 @@ mod words;
 
 pub use document::ReportForm;
 pub use files::{KeepFault, LabFileFault, LabFiles, MapText, Progress, Standing};
-pub use names::{name_laws, put_name};
+pub use names::{digit, name_laws, put_name};
 pub use output::{Output, OutputFault, OutputStream};
 pub use pieces::{Piece, put, put_pieces};
 pub use program::{commands_grammar, run};

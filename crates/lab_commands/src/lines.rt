@@ -3,7 +3,7 @@ ghost use Rattle.std.specs.Prelude.{◌≡◌, ◌++◌, codes};
 ghost use Rattle.std.specs.Fmt.{decimal};
 ghost use Rattle.lab_commands.specs.Document.{Prints};
 ghost use Rattle.lab_commands.specs.Lines.{class_words, label_words, made_words};
-ghost use Rattle.lab_commands.specs.Lines.{says_words, sort_words};
+ghost use Rattle.lab_commands.specs.Lines.{counted_words, says_words, shape_words, sort_words};
 ghost use Rattle.lab_commands.specs.Lines.{age_words, block_words, corrected_words, first_words, fit_words, found_words, history_words, kind_words};
 ghost use Rattle.lab_commands.specs.Lines.{damaged_words, legible_words, line_words, moved_words, newer_words, page_words, said_words, tally_words};
 ghost use Rattle.lab_commands.specs.Lines.{until_words, whole_words, wrote_words, tries_words, trial_words, turned_words};
@@ -267,14 +267,19 @@ fn put_named<'x, W: Output>(
     )
 }
 
-/// A geometry that fits, with all that is told of it.
-pub(crate) fn put_fit<W: Output>(out: &mut W, fit: Fit) -> Result<(), OutputFault>
-    ensures { Prints (W.failed out.new) (W.contents out.old) (W.contents out.new) (fit_words fit) result }
+/// The five numbers of a geometry, as the words of a command write them, between other words.
+pub(crate) fn put_shaped<'x, W: Output>(
+    out: &mut W,
+    before: &'x str,
+    fit: Fit,
+    behind: &'x str,
+) -> Result<(), OutputFault>
+    ensures { Prints (W.failed out.new) (W.contents out.old) (W.contents out.new) (before.now ++ (shape_words fit ++ behind.now)) result }
 {
     put_pieces(
         out,
         &[
-            Words("geometry "),
+            Words(before),
             Number(u64::from(fit.data_bytes)),
             Words(","),
             Number(u64::from(fit.spare_bytes)),
@@ -284,7 +289,18 @@ pub(crate) fn put_fit<W: Output>(out: &mut W, fit: Fit) -> Result<(), OutputFaul
             Number(u64::from(fit.blocks)),
             Words(","),
             Number(u64::from(fit.sectors)),
-            Words(" looked "),
+            Words(behind),
+        ],
+    )
+}
+
+// What is told of a geometry behind its numbers.
+fn put_counted<W: Output>(out: &mut W, fit: Fit) -> Result<(), OutputFault>
+    ensures { Prints (W.failed out.new) (W.contents out.old) (W.contents out.new) (counted_words fit) result }
+{
+    put_pieces(
+        out,
+        &[
             Number(u64::from(fit.looked)),
             Words(" sound "),
             Number(u64::from(fit.sound.0)),
@@ -300,25 +316,23 @@ pub(crate) fn put_fit<W: Output>(out: &mut W, fit: Fit) -> Result<(), OutputFaul
     )
 }
 
+/// A geometry that fits, with all that is told of it.
+pub(crate) fn put_fit<W: Output>(out: &mut W, fit: Fit) -> Result<(), OutputFault>
+    ensures { Prints (W.failed out.new) (W.contents out.old) (W.contents out.new) (fit_words fit) result }
+{
+    put_shaped(out, "geometry ", fit, " looked ")?;
+    put_counted(out, fit)
+}
+
 // What comes first where the pages stand with their codes.
 fn put_first<W: Output>(out: &mut W, fit: Fit) -> Result<(), OutputFault>
     ensures { Prints (W.failed out.new) (W.contents out.old) (W.contents out.new) (first_words fit) result }
 {
-    put_pieces(
+    put_shaped(
         out,
-        &[
-            Words(" codes hamming: first nandlab correct "),
-            Number(u64::from(fit.data_bytes)),
-            Words(","),
-            Number(u64::from(fit.spare_bytes)),
-            Words(","),
-            Number(u64::from(fit.pages)),
-            Words(","),
-            Number(u64::from(fit.blocks)),
-            Words(","),
-            Number(u64::from(fit.sectors)),
-            Words(" DUMP OUT"),
-        ],
+        " codes hamming: first nandlab correct ",
+        fit,
+        " DUMP OUT",
     )
 }
 

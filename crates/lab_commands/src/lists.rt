@@ -16,7 +16,7 @@ use lab_mend::{Mend, TriedRow};
 use page_layout::geometry::Geometry;
 
 /// Lines, one for each number below their count, or none for a number that has nothing to say.
-#[derive(Drop)]
+#[derive(Clone, Copy)]
 pub(crate) enum Lines<'a> {
     /// These, of which some may be left out.
     Fixed(&'a [Option<Line>]),

@@ -4,7 +4,7 @@ ghost use Rattle.lab_mend.specs.Merged.{IsOfReading};
 ghost use Rattle.lab_mend.specs.Rooms.{IsMergeRoom};
 ghost use Rattle.program_words.specs.Met.{texts};
 ghost use Rattle.lab_commands.specs.Files.{AnswersNoMore, without_part};
-ghost use Rattle.lab_commands.specs.Merge.{AreOpened, HasSame, IsJoined, IsMergeFault, IsSomeUnread, IsUnjoined, MayMerge, MayNotMerge, TellsFault, WroteMerge};
+ghost use Rattle.lab_commands.specs.Merge.{AreOpened, HasSame, IsJoined, IsMergeFault, IsSomeUnread, IsUnjoined, IsUnmergedBy, MayMerge, MayNotMerge, PutMerge, TellsFault, WroteMerge};
 ghost use Rattle.lab_commands.specs.Merge.{dumps_of};
 
 use crate::files::{LabFiles, Progress, Standing};
@@ -12,12 +12,12 @@ use crate::opening::{
     create_beside, geometry_at, is_dump, keep, may_replace, open_file, progress_of, standing,
 };
 use crate::output::Output;
-use crate::printing::{printer, unprinted};
+use crate::printing::{ended, printer};
 use crate::reports::print_merged;
 use crate::text::LabFault;
 use crate::words::MergeWords;
 use lab_dump::DumpReader;
-use lab_mend::{MergeFault, MergeRoom, Merged, merge_dumps};
+use lab_mend::{MergeFault, MergeRoom, Merged, RowTally, TriedRow, merge_dumps};
 use page_layout::geometry::Geometry;
 use std::alloc::{AllocError, Global};
 
@@ -168,6 +168,39 @@ fn join<'a, F: LabFiles>(
     join_by(room.merge, words, geometry, files, &mut readers)
 }
 
+// What is told of a merge whose dump stands in its place.
+#[derive(Drop)]
+struct MergePlaced {
+    conflicts: Vec<u32>,
+    unsound: Vec<u32>,
+    tried: Vec<TriedRow>,
+    tally: RowTally,
+}
+
+// Puts the one dump in the place of OUT.
+fn place<'a, F: LabFiles>(
+    alloc: Global,
+    words: &MergeWords<'a>,
+    files: &mut F,
+) -> Result<MergePlaced, LabFault<'a>>
+    requires { 0 < length words.now.dumps.items }
+    ensures placed { IfOk result (λ told. PutMerge (F.answers files.old) words.now (F.kept files.old) (F.kept files.new) told.conflicts.items told.unsound.items told.tried.items told.tally) }
+    ensures fault { IfErr result (IsUnmergedBy (F.answers files.old) words.now (F.opened files.old) (F.opened files.new)) }
+    ensures kept { OnErr result (F.kept files.new ≡ F.kept files.old) }
+{
+    let geometry = geometry_at(words.geometry)?;
+    allow_merge(files, words)?;
+    let room = take_room(alloc, &geometry, words.dumps.len())?;
+    let merged = join(room, words, &geometry, files)?;
+    keep(files, words.out, merged.target, words.force)?;
+    Ok(MergePlaced {
+        conflicts: merged.conflicts,
+        unsound: merged.unsound,
+        tried: merged.tried,
+        tally: merged.tally,
+    })
+}
+
 /// The command `merge`: writes one dump of the dumps DUMP, each a reading of one die of the geometry GEOM, to the file OUT, row by row, and prints
 /// of which rows two sound pages differ, of which no page is sound nor the majority and not all are erased, of which pages were tried, and how many
 /// rows there are of each kind.
@@ -192,21 +225,13 @@ pub(crate) fn merge_command<'a, F: LabFiles, W: Output>(
     ensures ok { OnOk result (WroteMerge (F.answers files.old) words.entry (F.kept files.old) (F.kept files.new) (W.contents out.old) (W.contents out.new)) }
     ensures fault { IfErr result (IsMergeFault (F.answers files.old) words.entry (F.kept files.old) (F.kept files.new) (F.opened files.old) (F.opened files.new) (W.failed out.new) (W.contents out.old) (W.contents out.new)) }
 {
-    let geometry = geometry_at(words.geometry)?;
-    allow_merge(files, &words)?;
-    let room = take_room(alloc, &geometry, words.dumps.len())?;
-    let merged = join(room, &words, &geometry, files)?;
-    keep(files, words.out, merged.target, words.force)?;
-    let printer = printer(alloc, words.showing);
-    match print_merged(
-        printer,
+    let told = place(alloc, &words, files)?;
+    ended(print_merged(
+        printer(alloc, words.showing),
         out,
-        &merged.conflicts,
-        &merged.unsound,
-        &merged.tried,
-        merged.tally,
-    ) {
-        Ok(()) => Ok(()),
-        Err(fault) => Err(unprinted(fault)),
-    }
+        &told.conflicts,
+        &told.unsound,
+        &told.tried,
+        told.tally,
+    ))
 }

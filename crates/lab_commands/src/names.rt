@@ -35,8 +35,8 @@ fn is_hidden(before: u8, byte: u8, behind: u8) -> bool
         || is_control_pair(before, byte)
 }
 
-// A hexadecimal digit.
-fn digit(value: u8) -> u8
+/// The hexadecimal digit of a value.
+pub fn digit(value: u8) -> u8
     requires { value < 16 }
     ensures { result ≡ digit_char value }
 {

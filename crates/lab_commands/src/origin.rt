@@ -8,7 +8,7 @@ ghost use Rattle.lab_origin.specs.Tracing.{IsOriginRoom};
 ghost use Rattle.lab_commands.specs.Files.{AnswersNoMore, with_kept};
 ghost use Rattle.lab_commands.specs.Merge.{AreOpened, IsSomeUnread};
 ghost use Rattle.lab_commands.specs.Undone.{IsUnplaced};
-ghost use Rattle.lab_commands.specs.Origin.{IsFollowed, IsOriginFault, IsUnfollowed, MayMap, MayNotMap, TellsOrigin, TellsReading, WroteOrigin};
+ghost use Rattle.lab_commands.specs.Origin.{IsFollowed, HasPutOrigin, IsOriginFault, IsUndone, IsUnfollowed, MayMap, MayNotMap, TellsOrigin, TellsReading, WroteOrigin};
 
 use crate::files::{LabFiles, Progress, Standing};
 use crate::maps::OriginMap;
@@ -19,7 +19,7 @@ use crate::opening::{
 };
 use crate::origin_words::OriginWords;
 use crate::output::Output;
-use crate::printing::{printer, unprinted};
+use crate::printing::{ended, printer};
 use crate::reports::print_origin;
 use crate::text::LabFault;
 use lab_dump::{Dump, MapMark};
@@ -178,6 +178,25 @@ fn put_origin<'a, F: LabFiles>(
     }
 }
 
+// Puts the map in the place of OUT. How each sector is marked is told.
+fn place<'a, F: LabFiles>(
+    alloc: Global,
+    words: &OriginWords<'a>,
+    files: &mut F,
+) -> Result<Vec<MapMark>, LabFault<'a>>
+    ensures placed { IfOk result (λ marks. HasPutOrigin (F.answers files.old) words.now (F.kept files.old) (F.kept files.new) marks.items) }
+    ensures fault { IfErr result (IsUndone (F.answers files.old) words.now (F.opened files.old) (F.opened files.new)) }
+    ensures kept { OnErr result (F.kept files.new ≡ F.kept files.old) }
+{
+    let geometry = geometry_at(words.geometry)?;
+    let last = last_at(words.until)?;
+    allow_origin(files, words)?;
+    let room = take_room(alloc, &geometry, words.readings.len())?;
+    let marks = follow(room, words, &geometry, last, files)?;
+    put_origin(words, &geometry, &marks, files)?;
+    Ok(marks)
+}
+
 /// The command `origin`: writes the map of the array of the dump DUMP, of the geometry GEOM, to the file OUT, in which each sector has a mark of its own that is shown of a page that none
 /// of the readings READING has as it stands, in the same row: it was mended, or put together of several. As of the sequence SEQUENCE where that is said, as of `array`. It prints how many such sectors
 /// there are.
@@ -200,14 +219,6 @@ pub(crate) fn origin_command<'a, F: LabFiles, W: Output>(
     ensures ok { OnOk result (WroteOrigin (F.answers files.old) words.entry (F.kept files.old) (F.kept files.new) (W.contents out.old) (W.contents out.new)) }
     ensures fault { IfErr result (IsOriginFault (F.answers files.old) words.entry (F.kept files.old) (F.kept files.new) (F.opened files.old) (F.opened files.new) (W.failed out.new) (W.contents out.old) (W.contents out.new)) }
 {
-    let geometry = geometry_at(words.geometry)?;
-    let last = last_at(words.until)?;
-    allow_origin(files, &words)?;
-    let room = take_room(alloc, &geometry, words.readings.len())?;
-    let marks = follow(room, &words, &geometry, last, files)?;
-    put_origin(&words, &geometry, &marks, files)?;
-    match print_origin(printer(alloc, words.showing), out, &marks) {
-        Ok(()) => Ok(()),
-        Err(fault) => Err(unprinted(fault)),
-    }
+    let marks = place(alloc, &words, files)?;
+    ended(print_origin(printer(alloc, words.showing), out, &marks))
 }

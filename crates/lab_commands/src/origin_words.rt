@@ -7,7 +7,7 @@ ghost use Rattle.lab_commands.specs.declared.origin_words.OriginWords.{OriginWor
 ghost use Rattle.lab_commands.specs.declared.words.Asked.{Asked};
 ghost use Rattle.lab_commands.specs.Words.{IsAt, IsOriginAt};
 
-use crate::words::{Asked, Showing, showing_words};
+use crate::words::{Asked, Showing, source_words};
 use program_words::{CommandWords, GrammarFault};
 use std::alloc::Global;
 
@@ -40,13 +40,14 @@ fn origin_others<'a>(found: &CommandWords<'a>, readings: Vec<&'a str>) -> Option
     ensures some { IfSome result (IsOriginAt (entries_of found.now)) }
     ensures none { result ≡ None → (read : OriginWords) → ¬ IsOriginAt (entries_of found.now) read }
 {
+    let source = source_words(found)?;
     Some(OriginWords {
-        geometry: found.word("GEOM")?,
+        geometry: source.geometry,
         out: found.word("OUT")?,
-        dump: found.word("DUMP")?,
+        dump: source.dump,
         force: found.stands("force"),
         until: found.word("until"),
-        showing: showing_words(found),
+        showing: source.showing,
         readings,
     })
 }

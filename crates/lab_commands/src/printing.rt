@@ -1,6 +1,6 @@
 //! How a command prints what it has to say.
 ghost use Rattle.std.specs.Prelude.{◌≡◌};
-ghost use Rattle.lab_commands.specs.Undone.{TellsPrint, form_of};
+ghost use Rattle.lab_commands.specs.Undone.{EndsAs, form_of};
 
 use crate::document::{Printer, ReportForm};
 use crate::output::OutputFault;
@@ -22,10 +22,12 @@ pub(crate) fn printer(alloc: Global, showing: Showing) -> Printer
     )
 }
 
-/// How it is told that standard output did not take all.
-pub(crate) fn unprinted<'a>(fault: OutputFault) -> LabFault<'a>
-    ensures { TellsPrint fault result }
+/// How a command ends once its report was due: it was printed, or standard output did not take all of it.
+pub(crate) fn ended<'a>(printed: Result<(), OutputFault>) -> Result<(), LabFault<'a>>
+    ensures { EndsAs printed result }
 {
-    let OutputFault = fault;
-    LabFault::Write("-")
+    match printed {
+        Ok(()) => Ok(()),
+        Err(OutputFault) => Err(LabFault::Write("-")),
+    }
 }

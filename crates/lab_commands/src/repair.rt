@@ -3,13 +3,13 @@ ghost use Rattle.std.specs.Prelude.{◌≡◌, OnOk, OnErr, IfOk, IfErr};
 ghost use Rattle.lab_mend.specs.Rooms.{IsRepairRoom};
 ghost use Rattle.lab_commands.specs.Files.{AnswersNoMore, without_part};
 ghost use Rattle.lab_commands.specs.Undone.{IsFileUnmade};
-ghost use Rattle.lab_commands.specs.Repair.{IsMended, IsRepairFault, WroteRepair, told_tries};
+ghost use Rattle.lab_commands.specs.Repair.{HasPutRepair, IsMended, IsRepairFault, IsUnrepairedBy, WroteRepair, told_tries};
 
 use crate::bits::bits_at;
 use crate::files::LabFiles;
 use crate::opening::{allow, create_beside, geometry_at, keep, open_file, progress_of, unmade_as};
 use crate::output::Output;
-use crate::printing::{printer, unprinted};
+use crate::printing::{ended, printer};
 use crate::reports::print_repaired;
 use crate::rows::rows_at;
 use crate::text::LabFault;
@@ -57,6 +57,38 @@ fn tries_told(geometry: &Geometry, bits: u32, mends: &[Mend]) -> u64
     }
 }
 
+// What was mended, and how many pages are told to have been tried.
+#[derive(Drop)]
+struct MendsTold {
+    tries: u64,
+    mends: Vec<Mend>,
+}
+
+// Puts the mended dump in the place of OUT.
+fn put_mended<'a, F: LabFiles>(
+    alloc: Global,
+    words: &RepairWords<'a>,
+    files: &mut F,
+) -> Result<MendsTold, LabFault<'a>>
+    ensures put { IfOk result (λ told. HasPutRepair (F.answers files.old) words.now (F.kept files.old) (F.kept files.new) told.tries told.mends.items) }
+    ensures fault { IfErr result (IsUnrepairedBy (F.answers files.old) words.now (F.opened files.old) (F.opened files.new)) }
+    ensures kept { OnErr result (F.kept files.new ≡ F.kept files.old) }
+{
+    let geometry = geometry_at(words.geometry)?;
+    let rows = rows_at(words.rows, &geometry)?;
+    let bits = bits_at(words.bits, &geometry)?;
+    allow(files, words.dump, words.out, words.force)?;
+    let room = RepairRoom::new(alloc, &geometry)?;
+    let asked = RepairAsked { rows, bits };
+    let repaired = mend(room, words, &geometry, asked, files)?;
+    keep(files, words.out, repaired.target, words.force)?;
+    let tries = tries_told(&geometry, bits, &repaired.mends);
+    Ok(MendsTold {
+        tries,
+        mends: repaired.mends,
+    })
+}
+
 /// The command `repair`: writes the dump DUMP, of the geometry GEOM, to the file OUT, with each page mended that is neither erased nor sound and
 /// that one bit turned makes sound, or else erased, and prints which pages were mended, and how many. Where it may turn two bits, a page that none mends is
 /// written with the two bits turned that make it sound, if no other two do, and how many pages were tried is printed too. Where it has the word A..B, pages of
@@ -82,17 +114,6 @@ pub(crate) fn repair_command<'a, F: LabFiles, W: Output>(
     ensures ok { OnOk result (WroteRepair (F.answers files.old) words.entry (F.kept files.old) (F.kept files.new) (W.contents out.old) (W.contents out.new)) }
     ensures fault { IfErr result (IsRepairFault (F.answers files.old) words.entry (F.kept files.old) (F.kept files.new) (F.opened files.old) (F.opened files.new) (W.failed out.new) (W.contents out.old) (W.contents out.new)) }
 {
-    let geometry = geometry_at(words.geometry)?;
-    let rows = rows_at(words.rows, &geometry)?;
-    let bits = bits_at(words.bits, &geometry)?;
-    allow(files, words.dump, words.out, words.force)?;
-    let room = RepairRoom::new(alloc, &geometry)?;
-    let asked = RepairAsked { rows, bits };
-    let repaired = mend(room, &words, &geometry, asked, files)?;
-    keep(files, words.out, repaired.target, words.force)?;
-    let tries = tries_told(&geometry, bits, &repaired.mends);
-    match print_repaired(printer(alloc, words.showing), out, tries, &repaired.mends) {
-        Ok(()) => Ok(()),
-        Err(fault) => Err(unprinted(fault)),
-    }
+    let told = put_mended(alloc, &words, files)?;
+    ended(print_repaired(printer(alloc, words.showing), out, told.tries, &told.mends))
 }

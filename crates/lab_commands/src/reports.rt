@@ -14,6 +14,7 @@ use crate::document::{Printer, Report};
 use crate::lines::{Label, Line, Sort};
 use crate::lists::Lines;
 use crate::output::{Output, OutputFault};
+use crate::parts::{Part, print_parts};
 use crate::told_lines::{
     age_line, damaged_line, factory_line, hole_line, last_line, legible_line, outside_line,
     past_line, repeated_line, rewritten_line, rows_line, tries_line,
@@ -52,57 +53,28 @@ fn print_counts<W: Output>(
     )
 }
 
-// The table pages that are a reason against a mount, by how those stand from a place on.
-fn print_tables<W: Output>(
-    printer: Printer,
-    out: &mut W,
-    states: &[KeyState],
-    formed: &[bool],
-    from: u32,
-    count: u32,
-) -> Result<(), OutputFault>
-    ensures { Prints (W.failed out.new) (W.contents out.old) (W.contents out.new) (text_below printer.form (table_at states.now from formed.now) count) result }
-{
-    printer.list(out, &Lines::Tables(states, from, formed, count))
-}
-
 // The table pages that are a reason against a mount, and the keys that are tied or missing.
-fn print_keys<W: Output>(
+fn print_keys<'x, W: Output>(
     printer: Printer,
     out: &mut W,
     geometry: &Geometry,
-    states: &[KeyState],
-    formed: &[bool],
+    states: &'x [KeyState],
+    formed: &'x [bool],
 ) -> Result<(), OutputFault>
     ensures { Prints (W.failed out.new) (W.contents out.old) (W.contents out.new) (keys_text printer.form geometry.now states.now formed.now) result }
 {
     let (sectors, translations) = (geometry.sectors(), geometry.translation_pages());
     let (first, tables) = (sectors + translations, geometry.table_pages());
-    print_tables(printer, out, states, formed, first, tables)?;
-    print_kind(printer, out, states, Label::Sector, 0, sectors)?;
-    print_kind(
+    print_parts(
         printer,
         out,
-        states,
-        Label::Translation,
-        sectors,
-        translations,
-    )?;
-    print_kind(printer, out, states, Label::Table, first, tables)
-}
-
-// The keys of one kind that are tied or missing, by how those stand from a place on.
-fn print_kind<W: Output>(
-    printer: Printer,
-    out: &mut W,
-    states: &[KeyState],
-    of: Label,
-    from: u32,
-    count: u32,
-) -> Result<(), OutputFault>
-    ensures { Prints (W.failed out.new) (W.contents out.old) (W.contents out.new) (text_below printer.form (key_at of states.now from) count) result }
-{
-    printer.list(out, &Lines::Keys(of, states, from, count))
+        &[
+            Part::List(Lines::Tables(states, first, formed, tables)),
+            Part::List(Lines::Keys(Label::Sector, states, 0, sectors)),
+            Part::List(Lines::Keys(Label::Translation, states, sectors, translations)),
+            Part::List(Lines::Keys(Label::Table, states, first, tables)),
+        ],
+    )
 }
 
 // The blocks.
@@ -291,30 +263,32 @@ pub fn print_array<W: Output>(
 /// # Errors
 ///
 /// As of `print_survey`. (This project's.)
-pub fn print_history<W: Output>(
+pub fn print_history<'x, W: Output>(
     printer: Printer,
     out: &mut W,
-    geometry: &Geometry,
-    pages: &[SectorPage],
+    geometry: &'x Geometry,
+    pages: &'x [SectorPage],
     unsound: u32,
 ) -> Result<(), OutputFault>
     ensures { Prints (W.failed out.new) (W.contents out.old) (W.contents out.new) (history_text printer.form geometry.now pages.now unsound) result }
 {
-    printer.begin(out, Report::History)?;
-    printer.list(out, &Lines::Pages(geometry, pages))?;
-    printer.line(out, Some(Line::History(pages.len() as u64, unsound)))?;
-    printer.end(out)
+    print_parts(
+        printer,
+        out,
+        &[
+            Part::Begin(Report::History),
+            Part::List(Lines::Pages(geometry, pages)),
+            Part::One(Some(Line::History(pages.len() as u64, unsound))),
+            Part::End,
+        ],
+    )
 }
 
-// The best geometry with the pages of two planes in turns, where it is told.
-fn print_turned<W: Output>(
-    printer: Printer,
-    out: &mut W,
-    turned: Option<ArrangedFit>,
-) -> Result<(), OutputFault>
-    ensures { Prints (W.failed out.new) (W.contents out.old) (W.contents out.new) (if_text printer.form (option_map said.ArrangedFit turned)) result }
+// The line of the best geometry with the pages of two planes in turns, where it is told.
+fn turned_line(turned: Option<ArrangedFit>) -> Option<Line>
+    ensures { result ≡ option_map said.ArrangedFit turned }
 {
-    printer.line(out, turned.map(Line::ArrangedFit))
+    turned.map(Line::ArrangedFit)
 }
 
 /// Prints which geometries fit, in their order, and the one with the pages of two planes in turns, where one is told.
@@ -330,10 +304,16 @@ pub fn print_fits<W: Output>(
 ) -> Result<(), OutputFault>
     ensures { Prints (W.failed out.new) (W.contents out.old) (W.contents out.new) (fits_text printer.form fits.now turned) result }
 {
-    printer.begin(out, Report::Geometry)?;
-    printer.list(out, &Lines::Fits(fits))?;
-    print_turned(printer, out, turned)?;
-    printer.end(out)
+    print_parts(
+        printer,
+        out,
+        &[
+            Part::Begin(Report::Geometry),
+            Part::List(Lines::Fits(fits)),
+            Part::One(turned_line(turned)),
+            Part::End,
+        ],
+    )
 }
 
 /// Prints the geometry that fits best in another arrangement, and the words of that.
@@ -348,31 +328,22 @@ pub fn print_arranged_fit<W: Output>(
 ) -> Result<(), OutputFault>
     ensures { Prints (W.failed out.new) (W.contents out.old) (W.contents out.new) (arranged_fit_text printer.form found.now) result }
 {
-    printer.begin(out, Report::Geometry)?;
-    printer.line(out, Some(Line::ArrangedFit(*found)))?;
-    printer.end(out)
+    print_parts(
+        printer,
+        out,
+        &[
+            Part::Begin(Report::Geometry),
+            Part::One(Some(Line::ArrangedFit(*found))),
+            Part::End,
+        ],
+    )
 }
 
-// How many pages were tried, where that is told.
-fn print_tried_count<W: Output>(
-    printer: Printer,
-    out: &mut W,
-    tries: u64,
-) -> Result<(), OutputFault>
-    ensures { Prints (W.failed out.new) (W.contents out.old) (W.contents out.new) (if_text printer.form (tries_line tries)) result }
+// The line of how many pages were mended.
+fn mended_line(mends: &[Mend]) -> Line
+    ensures { result ≡ Line.MendedCount (mended_count mends.now) }
 {
-    printer.line(out, tries_line(tries))
-}
-
-// How many pages were mended.
-fn print_mended_count<W: Output>(
-    printer: Printer,
-    out: &mut W,
-    mends: &[Mend],
-) -> Result<(), OutputFault>
-    ensures { Prints (W.failed out.new) (W.contents out.old) (W.contents out.new) (line_text printer.form (Line.MendedCount (mended_count mends.now))) result }
-{
-    printer.line(out, Some(Line::MendedCount(count_mended(mends) as u64)))
+    Line::MendedCount(count_mended(mends) as u64)
 }
 
 /// Prints what came of the pages that were to be mended, in their order, how many pages were tried, where that is told, and how many were mended.
@@ -388,11 +359,17 @@ pub fn print_repaired<W: Output>(
 ) -> Result<(), OutputFault>
     ensures { Prints (W.failed out.new) (W.contents out.old) (W.contents out.new) (repair_text printer.form tries mends.now) result }
 {
-    printer.begin(out, Report::Repair)?;
-    printer.list(out, &Lines::Mends(mends))?;
-    print_tried_count(printer, out, tries)?;
-    print_mended_count(printer, out, mends)?;
-    printer.end(out)
+    print_parts(
+        printer,
+        out,
+        &[
+            Part::Begin(Report::Repair),
+            Part::List(Lines::Mends(mends)),
+            Part::One(tries_line(tries)),
+            Part::One(Some(mended_line(mends))),
+            Part::End,
+        ],
+    )
 }
 
 /// Prints which rows have lost chunks, in their order, and how many bits were turned back, in how many rows.
@@ -409,13 +386,16 @@ pub fn print_corrected<W: Output>(
 ) -> Result<(), OutputFault>
     ensures { Prints (W.failed out.new) (W.contents out.old) (W.contents out.new) (correct_text printer.form turned touched losses.now) result }
 {
-    printer.begin(out, Report::Correct)?;
-    printer.list(out, &Lines::LostRows(losses))?;
-    printer.line(
+    print_parts(
+        printer,
         out,
-        Some(Line::Corrected(turned, touched, losses.len() as u64)),
-    )?;
-    printer.end(out)
+        &[
+            Part::Begin(Report::Correct),
+            Part::List(Lines::LostRows(losses)),
+            Part::One(Some(Line::Corrected(turned, touched, losses.len() as u64))),
+            Part::End,
+        ],
+    )
 }
 
 /// Prints how many pages were put in order.
@@ -430,20 +410,22 @@ pub fn print_arranged<W: Output>(
 ) -> Result<(), OutputFault>
     ensures { Prints (W.failed out.new) (W.contents out.old) (W.contents out.new) (arrange_text printer.form rows) result }
 {
-    printer.begin(out, Report::Arrange)?;
-    printer.line(out, Some(Line::Arranged(rows)))?;
-    printer.end(out)
+    print_parts(
+        printer,
+        out,
+        &[
+            Part::Begin(Report::Arrange),
+            Part::One(Some(Line::Arranged(rows))),
+            Part::End,
+        ],
+    )
 }
 
-// How many sectors are shown of a page that no reading has.
-fn print_origin_count<W: Output>(
-    printer: Printer,
-    out: &mut W,
-    marks: &[MapMark],
-) -> Result<(), OutputFault>
-    ensures { Prints (W.failed out.new) (W.contents out.old) (W.contents out.new) (line_text printer.form (Line.Origin (count_by is_mended marks.now))) result }
+// The line of how many sectors are shown of a page that no reading has.
+fn origin_line(marks: &[MapMark]) -> Line
+    ensures { result ≡ Line.Origin (count_by is_mended marks.now) }
 {
-    printer.line(out, Some(Line::Origin(mended_count(marks))))
+    Line::Origin(mended_count(marks))
 }
 
 /// Prints how many sectors are shown of a page that no reading has, by the mark of each.
@@ -458,20 +440,22 @@ pub fn print_origin<W: Output>(
 ) -> Result<(), OutputFault>
     ensures { Prints (W.failed out.new) (W.contents out.old) (W.contents out.new) (origin_text printer.form marks.now) result }
 {
-    printer.begin(out, Report::Origin)?;
-    print_origin_count(printer, out, marks)?;
-    printer.end(out)
+    print_parts(
+        printer,
+        out,
+        &[
+            Part::Begin(Report::Origin),
+            Part::One(Some(origin_line(marks))),
+            Part::End,
+        ],
+    )
 }
 
-// How many pages were tried, if some were.
-fn print_tries<W: Output>(
-    printer: Printer,
-    out: &mut W,
-    tried: &[TriedRow],
-) -> Result<(), OutputFault>
-    ensures { Prints (W.failed out.new) (W.contents out.old) (W.contents out.new) (if_text printer.form (tries_line (tries_in tried.now))) result }
+// The line of how many pages were tried, if some were.
+fn tried_line(tried: &[TriedRow]) -> Option<Line>
+    ensures { result ≡ tries_line (tries_in tried.now) }
 {
-    printer.line(out, tries_line(count_tries(tried)))
+    tries_line(count_tries(tried))
 }
 
 /// Prints of which rows two sound pages differ, of which no page is sound or erased nor the majority sound, of which pages were tried and what came
@@ -480,21 +464,27 @@ fn print_tries<W: Output>(
 /// # Errors
 ///
 /// As of `print_survey`. (This project's.)
-pub fn print_merged<W: Output>(
+pub fn print_merged<'x, W: Output>(
     printer: Printer,
     out: &mut W,
-    conflicts: &[u32],
-    unsound: &[u32],
-    tried: &[TriedRow],
+    conflicts: &'x [u32],
+    unsound: &'x [u32],
+    tried: &'x [TriedRow],
     tally: RowTally,
 ) -> Result<(), OutputFault>
     ensures { Prints (W.failed out.new) (W.contents out.old) (W.contents out.new) (merge_text printer.form conflicts.now unsound.now tried.now tally) result }
 {
-    printer.begin(out, Report::Merge)?;
-    printer.list(out, &Lines::Conflicts(conflicts))?;
-    printer.list(out, &Lines::Unsound(unsound))?;
-    printer.list(out, &Lines::Tried(tried))?;
-    print_tries(printer, out, tried)?;
-    printer.line(out, Some(Line::Merged(conflicts.len() as u64, tally)))?;
-    printer.end(out)
+    print_parts(
+        printer,
+        out,
+        &[
+            Part::Begin(Report::Merge),
+            Part::List(Lines::Conflicts(conflicts)),
+            Part::List(Lines::Unsound(unsound)),
+            Part::List(Lines::Tried(tried)),
+            Part::One(tried_line(tried)),
+            Part::One(Some(Line::Merged(conflicts.len() as u64, tally))),
+            Part::End,
+        ],
+    )
 }

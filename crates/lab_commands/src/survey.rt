@@ -1,12 +1,12 @@
 //! The command `survey GEOM DUMP`.
 ghost use Rattle.std.specs.Prelude.{◌≡◌, OnOk, IfOk, IfErr};
 ghost use Rattle.lab_dump.specs.Rooms.{IsSurveyRoom};
-ghost use Rattle.lab_commands.specs.Survey.{IsSeen, IsSurveyFault, IsUnsurveyed, ToldSurvey};
+ghost use Rattle.lab_commands.specs.Survey.{HasSurvey, IsSeen, IsSurveyFault, IsUnseen, IsUnsurveyed, ToldSurvey};
 
 use crate::files::LabFiles;
 use crate::opening::{geometry_at, open_file, progress_of};
 use crate::output::Output;
-use crate::printing::{printer, unprinted};
+use crate::printing::{ended, printer};
 use crate::reports::print_survey;
 use crate::rows::rows_at;
 use crate::text::LabFault;
@@ -37,6 +37,35 @@ fn survey_of<'a, F: LabFiles>(
     }
 }
 
+// A survey, and of what it is one.
+#[derive(Drop)]
+struct SurveySeen {
+    geometry: Geometry,
+    rows: Option<Rows>,
+    survey: DieSurvey,
+}
+
+// The survey that the words ask for.
+fn see<'a, F: LabFiles>(
+    alloc: Global,
+    words: &SurveyWords<'a>,
+    files: &mut F,
+) -> Result<SurveySeen, LabFault<'a>>
+    ensures seen { IfOk result (λ seen. HasSurvey (F.answers files.old) words.now seen.geometry seen.rows seen.survey) }
+    ensures fault { IfErr result (IsUnseen (F.answers files.old) words.now (F.opened files.old) (F.opened files.new)) }
+    ensures kept { F.kept files.new ≡ F.kept files.old }
+{
+    let geometry = geometry_at(words.geometry)?;
+    let rows = rows_at(words.rows, &geometry)?;
+    let room = SurveyRoom::new(alloc, &geometry)?;
+    let survey = survey_of(room, words.dump, &geometry, rows, words.showing, files)?;
+    Ok(SurveySeen {
+        geometry,
+        rows,
+        survey,
+    })
+}
+
 /// The command `survey`: prints what the dump DUMP, of the geometry GEOM, tells of its die. Where it has the word A..B, every page of another row
 /// than A to B - 1 counts as erased.
 ///
@@ -57,12 +86,12 @@ pub(crate) fn survey_command<'a, F: LabFiles, W: Output>(
     ensures kept { F.kept files.new ≡ F.kept files.old }
     ensures fault { IfErr result (IsSurveyFault (F.answers files.old) words.entry (F.kept files.old) (F.kept files.new) (F.opened files.old) (F.opened files.new) (W.failed out.new) (W.contents out.old) (W.contents out.new)) }
 {
-    let geometry = geometry_at(words.geometry)?;
-    let rows = rows_at(words.rows, &geometry)?;
-    let room = SurveyRoom::new(alloc, &geometry)?;
-    let survey = survey_of(room, words.dump, &geometry, rows, words.showing, files)?;
-    match print_survey(printer(alloc, words.showing), out, &geometry, rows, &survey) {
-        Ok(()) => Ok(()),
-        Err(fault) => Err(unprinted(fault)),
-    }
+    let seen = see(alloc, &words, files)?;
+    ended(print_survey(
+        printer(alloc, words.showing),
+        out,
+        &seen.geometry,
+        seen.rows,
+        &seen.survey,
+    ))
 }

@@ -3,11 +3,13 @@ ghost use Rattle.std.specs.Prelude.{◌≡◌, codes};
 ghost use Rattle.serde_json.specs.Written.{compact_text};
 ghost use Rattle.lab_commands.specs.Document.{Prints};
 ghost use Rattle.lab_commands.specs.Lines.{label_words};
-ghost use Rattle.lab_commands.specs.Values.{age_data, age_until_data, arranged_data, block_data, corrected_data, damaged_data, doubt_data, found_data, front_words, head_data, history_data, key_data, legible_data, line_data, lost_data, lost_row_data};
-ghost use Rattle.lab_commands.specs.Values.{mended_count_data, mended_data, merged_data, nothing_data, page_data, pages_data, plain_block_data, reason_pages_data, reason_table_data, repeated_data, row_data, rows_age_data, rows_data, said_data, tried_data, tries_data, truth_words, turned_data};
+ghost use Rattle.lab_commands.specs.Values.{age_data, age_until_data, arranged_data, block_data, corrected_data, counts_words, damaged_data, doubt_data, found_data, front_words, head_data, history_data, key_data, legible_data, line_data, lost_data, lost_row_data};
+ghost use Rattle.lab_commands.specs.Values.{mended_count_data, mended_data, merged_data, nothing_data, page_data, pages_data, plain_block_data, reason_pages_data, reason_table_data, repeated_data, rest_words, row_data, rows_age_data, rows_data, said_data, tried_data, tries_data, truth_words, turned_data};
 
 use crate::arranged_lines::put_arranged_object;
-use crate::lines::{Label, Line, Sort, class_text, kind_text, made_text, says_text, wrote_text};
+use crate::lines::{
+    Label, Line, Sort, class_text, kind_text, made_text, put_shaped, says_text, wrote_text,
+};
 use crate::origin_lines::put_origin_data;
 use crate::output::{Output, OutputFault};
 use crate::pieces::Piece::{Number, Words};
@@ -15,7 +17,7 @@ use crate::pieces::put_pieces;
 use crate::turn_lines::put_turn_data;
 use certificate::BlockState;
 use lab_correct::FoundFit;
-use lab_dump::{Doubts, Rows, SaidPage, SectorPage};
+use lab_dump::{Doubts, Fit, Rows, SaidPage, SectorPage};
 use lab_mend::{RowTally, Trial};
 
 // So many pages are of a sort.
@@ -212,35 +214,16 @@ fn put_lost<W: Output>(out: &mut W, sector: u32) -> Result<(), OutputFault>
 fn front_text(coded: bool) -> &'static str
     ensures { result.now ≡ front_words coded }
 {
-    if coded {
-        ",\"codes\":\"hamming\",\"geometry\":["
-    } else {
-        ",\"geometry\":["
-    }
+    if coded { ",\"codes\":\"hamming\"" } else { "" }
 }
 
-// A geometry that fits, as the dump stands or with codes.
-#[tactic(auto, unfolding(json::specs::Print::escape_byte))]
-fn put_fit<W: Output>(out: &mut W, found: FoundFit) -> Result<(), OutputFault>
-    ensures { Prints (W.failed out.new) (W.contents out.old) (W.contents out.new) (compact_text (found_data found)) result }
+// What is told of a geometry behind its numbers.
+fn put_counts<W: Output>(out: &mut W, fit: Fit) -> Result<(), OutputFault>
+    ensures { Prints (W.failed out.new) (W.contents out.old) (W.contents out.new) (counts_words fit) result }
 {
-    let fit = found.fit;
     put_pieces(
         out,
         &[
-            Words("{\"blocks_told\":"),
-            Number(fit.blocks_told),
-            Words(front_text(found.coded)),
-            Number(u64::from(fit.data_bytes)),
-            Words(","),
-            Number(u64::from(fit.spare_bytes)),
-            Words(","),
-            Number(u64::from(fit.pages)),
-            Words(","),
-            Number(u64::from(fit.blocks)),
-            Words(","),
-            Number(u64::from(fit.sectors)),
-            Words("],\"line\":\"geometry\",\"looked\":"),
             Number(u64::from(fit.looked)),
             Words(",\"sectors_told\":"),
             Number(fit.sectors_told),
@@ -253,6 +236,34 @@ fn put_fit<W: Output>(out: &mut W, found: FoundFit) -> Result<(), OutputFault>
             Words("}"),
         ],
     )
+}
+
+/// The members of a geometry that fits, from that of its five numbers on.
+pub(crate) fn put_fit_rest<W: Output>(out: &mut W, fit: Fit) -> Result<(), OutputFault>
+    ensures { Prints (W.failed out.new) (W.contents out.old) (W.contents out.new) (rest_words fit) result }
+{
+    put_shaped(
+        out,
+        ",\"geometry\":[",
+        fit,
+        "],\"line\":\"geometry\",\"looked\":",
+    )?;
+    put_counts(out, fit)
+}
+
+// A geometry that fits, as the dump stands or with codes.
+fn put_fit<W: Output>(out: &mut W, found: FoundFit) -> Result<(), OutputFault>
+    ensures { Prints (W.failed out.new) (W.contents out.old) (W.contents out.new) (compact_text (found_data found)) result }
+{
+    put_pieces(
+        out,
+        &[
+            Words("{\"blocks_told\":"),
+            Number(found.fit.blocks_told),
+            Words(front_text(found.coded)),
+        ],
+    )?;
+    put_fit_rest(out, found.fit)
 }
 
 // How many were.

@@ -9,10 +9,12 @@ ghost use Rattle.lab_commands.specs.declared.words.HistoryWords.{HistoryWords};
 ghost use Rattle.lab_commands.specs.declared.words.MergeWords.{MergeWords};
 ghost use Rattle.lab_commands.specs.declared.words.RepairWords.{RepairWords};
 ghost use Rattle.lab_commands.specs.declared.words.Showing.{Showing};
+ghost use Rattle.lab_commands.specs.declared.words.OutWords.{OutWords};
+ghost use Rattle.lab_commands.specs.declared.words.SourceWords.{SourceWords};
 ghost use Rattle.lab_commands.specs.declared.words.SurveyWords.{SurveyWords};
 ghost use Rattle.lab_commands.specs.declared.words.UntilWords.{UntilWords};
 ghost use Rattle.lab_commands.specs.declared.words.Asked.{Asked};
-ghost use Rattle.lab_commands.specs.Words.{AreDumpsAt, IsArrayAt, IsAsked, IsAt, IsCompareAt, IsGeometryAt, IsHistoryAt, IsMergeAt, IsNoCommand, IsRepairAt, IsShowingAt, IsSurveyAt, IsUntilAt};
+ghost use Rattle.lab_commands.specs.Words.{AreDumpsAt, IsArrayAt, IsAsked, IsAt, IsCompareAt, IsOutAt, IsGeometryAt, IsHistoryAt, IsMergeAt, IsNoCommand, IsRepairAt, IsShowingAt, IsSourceAt, IsSurveyAt, IsUntilAt};
 
 use crate::arrange_words::{ArrangeWords, arrange_words};
 use crate::grammar::grammar;
@@ -27,6 +29,24 @@ pub struct Showing {
     pub json: bool,
     /// Whether it shows on standard error how far it is.
     pub progress: bool,
+}
+
+/// The words GEOM and DUMP, which commands on one dump have, and how they tell what they do.
+#[derive(Clone, Copy)]
+pub(crate) struct SourceWords<'a> {
+    pub(crate) geometry: &'a str,
+    pub(crate) dump: &'a str,
+    pub(crate) showing: Showing,
+}
+
+/// The same with OUT and `--force`, which commands have that make a file of a dump.
+#[derive(Clone, Copy)]
+pub(crate) struct OutWords<'a> {
+    pub(crate) geometry: &'a str,
+    pub(crate) dump: &'a str,
+    pub(crate) out: &'a str,
+    pub(crate) force: bool,
+    pub(crate) showing: Showing,
 }
 
 /// The words of `geometry DUMP`.
@@ -163,18 +183,46 @@ fn geometry_words<'a>(found: &CommandWords<'a>) -> Option<GeometryWords<'a>>
     })
 }
 
+/// The words GEOM and DUMP, where they are given.
+pub(crate) fn source_words<'a>(found: &CommandWords<'a>) -> Option<SourceWords<'a>>
+    ensures some { IfSome result (IsSourceAt (entries_of found.now)) }
+    ensures none { result ≡ None → (read : SourceWords) → ¬ IsSourceAt (entries_of found.now) read }
+{
+    Some(SourceWords {
+        geometry: found.word("GEOM")?,
+        dump: found.word("DUMP")?,
+        showing: showing_words(found),
+    })
+}
+
+/// The words of a command that makes a file of a dump, where they are given.
+pub(crate) fn out_words<'a>(found: &CommandWords<'a>) -> Option<OutWords<'a>>
+    ensures some { IfSome result (IsOutAt (entries_of found.now)) }
+    ensures none { result ≡ None → (read : OutWords) → ¬ IsOutAt (entries_of found.now) read }
+{
+    let source = source_words(found)?;
+    Some(OutWords {
+        geometry: source.geometry,
+        dump: source.dump,
+        out: found.word("OUT")?,
+        force: found.stands("force"),
+        showing: source.showing,
+    })
+}
+
 // The words of the command `correct`, where they are given.
 fn array_words<'a>(found: &CommandWords<'a>) -> Option<ArrayWords<'a>>
     ensures some { IfSome result (IsArrayAt (entries_of found.now)) }
     ensures none { result ≡ None → (read : ArrayWords) → ¬ IsArrayAt (entries_of found.now) read }
 {
+    let file = out_words(found)?;
     Some(ArrayWords {
-        geometry: found.word("GEOM")?,
-        dump: found.word("DUMP")?,
-        out: found.word("OUT")?,
-        force: found.stands("force"),
+        geometry: file.geometry,
+        dump: file.dump,
+        out: file.out,
+        force: file.force,
         map: found.word("map"),
-        showing: showing_words(found),
+        showing: file.showing,
     })
 }
 
@@ -195,11 +243,12 @@ fn history_words<'a>(found: &CommandWords<'a>) -> Option<HistoryWords<'a>>
     ensures some { IfSome result (IsHistoryAt (entries_of found.now)) }
     ensures none { result ≡ None → (read : HistoryWords) → ¬ IsHistoryAt (entries_of found.now) read }
 {
+    let source = source_words(found)?;
     Some(HistoryWords {
-        geometry: found.word("GEOM")?,
-        dump: found.word("DUMP")?,
+        geometry: source.geometry,
+        dump: source.dump,
         sector: found.word("SECTOR")?,
-        showing: showing_words(found),
+        showing: source.showing,
     })
 }
 
@@ -208,11 +257,12 @@ fn survey_words<'a>(found: &CommandWords<'a>) -> Option<SurveyWords<'a>>
     ensures some { IfSome result (IsSurveyAt (entries_of found.now)) }
     ensures none { result ≡ None → (read : SurveyWords) → ¬ IsSurveyAt (entries_of found.now) read }
 {
+    let source = source_words(found)?;
     Some(SurveyWords {
-        geometry: found.word("GEOM")?,
-        dump: found.word("DUMP")?,
+        geometry: source.geometry,
+        dump: source.dump,
         rows: found.word("rows"),
-        showing: showing_words(found),
+        showing: source.showing,
     })
 }
 
@@ -221,11 +271,12 @@ fn compare_words<'a>(found: &CommandWords<'a>) -> Option<CompareWords<'a>>
     ensures some { IfSome result (IsCompareAt (entries_of found.now)) }
     ensures none { result ≡ None → (read : CompareWords) → ¬ IsCompareAt (entries_of found.now) read }
 {
+    let source = source_words(found)?;
     Some(CompareWords {
-        geometry: found.word("GEOM")?,
+        geometry: source.geometry,
+        dump: source.dump,
         certificate: found.word("CERT")?,
-        dump: found.word("DUMP")?,
-        showing: showing_words(found),
+        showing: source.showing,
     })
 }
 
@@ -234,14 +285,15 @@ fn repair_words<'a>(found: &CommandWords<'a>) -> Option<RepairWords<'a>>
     ensures some { IfSome result (IsRepairAt (entries_of found.now)) }
     ensures none { result ≡ None → (read : RepairWords) → ¬ IsRepairAt (entries_of found.now) read }
 {
+    let file = out_words(found)?;
     Some(RepairWords {
-        geometry: found.word("GEOM")?,
-        dump: found.word("DUMP")?,
-        out: found.word("OUT")?,
-        force: found.stands("force"),
+        geometry: file.geometry,
+        dump: file.dump,
+        out: file.out,
+        force: file.force,
         rows: found.word("rows"),
         bits: found.word("bits"),
-        showing: showing_words(found),
+        showing: file.showing,
     })
 }
 

@@ -1,5 +1,5 @@
 -- What is said of files, one after another.
-use Rattle.std.proofs.Common.{◌≡◌, ◌⊎◌, inl, inr, ℕ, ◌+◌, ◌<◌, List, [], ◌∷◌, ◌++◌, length, map, take, get_or, ◌^◌, Option, Some, None, IfSome, refl, sym, ap, subst, ◌∙◌, append_assoc, append-nil}
+use Rattle.std.proofs.Common.{◌≡◌, inl, inr, ℕ, ◌+◌, ◌<◌, List, [], ◌∷◌, ◌++◌, length, map, take, get_or, ◌^◌, Option, Some, None, IfSome, refl, sym, ap, subst, ◌∙◌, append_assoc, append-nil}
 use Rattle.std.specs.Prelude.{All}
 use Rattle.std.proofs.lemmas.List.{map-append, take_more}
 use Rattle.std.proofs.lemmas.List.Elements.{All-append, All-cons, All-nil, All-weaker}
@@ -14,7 +14,8 @@ use Rattle.lab_custody.specs.Lines.{verify_text}
 use Rattle.lab_custody.specs.declared.checks.Checked.{Checked}
 use Rattle.lab_custody.specs.declared.checks.Verdict.{Verdict}
 use Rattle.lab_custody.specs.declared.checks.Verdict.TheVariants as verdict
-use Rattle.lab_custody.specs.Verified.{AreAllChecked, OpensNone, looked_at}
+use Rattle.lab_custody.specs.declared.words.VerifyWords.{VerifyWords}
+use Rattle.lab_custody.specs.Verified.{AreAllChecked, HasVerified, IsReportAt, OpensNone, looked_at}
 use Rattle.lab_custody.specs.Verify.{AreChecked, IsChecked, IsUnread, IsVerdict, ReadsNot, noted_in}
 
 not_read_before : (a b : StoreAnswers) (path : List ℕ) → AnswersNoMore a b → ReadsNot b path → ReadsNot a path
@@ -68,6 +69,10 @@ all_before a b told checks h k = record {
   each = All-weaker (IsChecked b) (IsChecked a) (λ check s. verdict_before a b (noted_in check) check.verdict h s) checks k.each;
   noted = k.noted;
 }
+
+-- the files of a report that was read before they were
+pub has_verified : (a b : StoreAnswers) (words : VerifyWords) (told : Told) (checks : List Checked) → IsReportAt a words.report.now told → AnswersNoMore a b → AreAllChecked b told checks → HasVerified a words checks
+has_verified a b words told checks is h k = record { report = told; report_is = is; checked = all_before a b told checks h k }
 
 -- a file that was looked at is no report
 pub opens_none : (a : StoreAnswers) (path bytes given : List ℕ) → IsLoaded a path (2 ^ 26) bytes → given ≡ bytes → IsNoReport given → OpensNone a path

@@ -1,7 +1,5 @@
 //! The lines of `verify`, printed without memory.
 ghost use Rattle.std.specs.Prelude.{◌≡◌};
-ghost use Rattle.std.specs.Prelude.{◌<◌};
-ghost use Rattle.std.specs.Char.{digit_char};
 ghost use Rattle.json.specs.Print.{escape, escape_byte};
 ghost use Rattle.lab_commands.specs.Document.{Prints};
 ghost use Rattle.lab_commands.specs.Names.{shown_name};
@@ -9,7 +7,7 @@ ghost use Rattle.lab_custody.specs.Lines as told;
 ghost use Rattle.lab_custody.specs.Verify.{changed_count};
 
 use crate::checks::{Checked, Verdict};
-use lab_commands::{Output, OutputFault, Piece, ReportForm, put, put_name, put_pieces};
+use lab_commands::{Output, OutputFault, Piece, ReportForm, digit, put, put_name, put_pieces};
 
 // What the line of a file begins with.
 fn front(form: ReportForm, verdict: Verdict) -> &'static str
@@ -24,18 +22,6 @@ fn front(form: ReportForm, verdict: Verdict) -> &'static str
         (ReportForm::Json, Verdict::Differs) => ",\n{\"line\":\"differs\",\"name\":\"",
         (ReportForm::Json, Verdict::Missing) => ",\n{\"line\":\"missing\",\"name\":\"",
         (ReportForm::Json, Verdict::Unread) => ",\n{\"line\":\"unread\",\"name\":\"",
-    }
-}
-
-// A hexadecimal digit.
-fn digit(value: u8) -> u8
-    requires { value < 16 }
-    ensures { result ≡ digit_char value }
-{
-    if value < 10 {
-        b'0' + value
-    } else {
-        b'a' + (value - 10)
     }
 }
 

@@ -1,13 +1,16 @@
-use Rattle.std.proofs.Common.{List, ℕ, subst}
-use Rattle.lab_commands.specs.Document.{Prints}
-use Rattle.lab_commands.proofs.ArrangedLemmas.{rest_json}
+use Rattle.std.proofs.Common.{◌++◌, refl}
+use Rattle.std.specs.Prelude.{codes}
+use Rattle.std.specs.Fmt.{decimal}
+use Rattle.lab_commands.specs.Values.{arranged_rest, rest_words}
+use Rattle.lab_commands.proofs.PrintLemmas.{both_parts, first_part}
 use Rattle.lab_commands.proofs.arranged_lines.put_rest.Goals as goal
+
+pub returns-in_err-put_pieces : goal.returns-in_err-put_pieces
+returns-in_err-put_pieces g c =
+    first_part c.in_err-put_pieces.field-0.0 (g.W.Output.failed c.put_pieces.new.out) (g.W.Output.contents c.args.out.now) (g.W.Output.contents c.put_pieces.new.out) (codes "\",\"blocks_told\":" ++ decimal c.args.fit.blocks_told) (rest_words c.args.fit) (arranged_rest c.args.fit) c.from_residual.result
+    refl c.from_residual.ensures.1 c.in_err-put_pieces.ensures
 
 pub returns : goal.returns
 returns g c =
-    subst
-    (λ (t : List ℕ). Prints (g.W.Output.failed c.put_pieces.new.out) (g.W.Output.contents c.args.out.now)
-    (g.W.Output.contents c.put_pieces.new.out) t c.put_pieces.result)
-    (rest_json c.args.fit c.from.result c.from-2.result c.from-3.result c.from-4.result c.from-5.result c.from-6.result c.from-7.result
-    c.says_text.result.now c.from-8.result c.from.ensures c.from-2.ensures c.from-3.ensures c.from-4.ensures c.from-5.ensures c.from-6.ensures
-    c.from-7.ensures c.says_text.ensures c.from-8.ensures) c.put_pieces.ensures
+    both_parts (g.W.Output.failed c.put_fit_rest.new.out) (g.W.Output.contents c.args.out.now) (g.W.Output.contents c.put_pieces.new.out) (g.W.Output.contents c.put_fit_rest.new.out) (codes "\",\"blocks_told\":" ++ decimal c.args.fit.blocks_told) (rest_words c.args.fit) (arranged_rest c.args.fit) c.put_fit_rest.result
+    refl c.in_ok-put_pieces.ensures c.put_fit_rest.ensures

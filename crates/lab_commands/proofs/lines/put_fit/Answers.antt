@@ -1,10 +1,14 @@
-use Rattle.std.proofs.Common.{List, ℕ, subst}
-use Rattle.lab_commands.specs.Document.{Prints}
-use Rattle.lab_commands.proofs.PieceLemmas.{fit_pieces}
+use Rattle.lab_commands.specs.Lines.{counted_words, fit_words}
+use Rattle.lab_commands.proofs.PieceLemmas.{fit_parts}
+use Rattle.lab_commands.proofs.PrintLemmas.{both_parts, first_part}
 use Rattle.lab_commands.proofs.lines.put_fit.Goals as goal
+
+pub returns-in_err-put_shaped : goal.returns-in_err-put_shaped
+returns-in_err-put_shaped g c =
+    first_part c.in_err-put_shaped.field-0.0 (g.W.Output.failed c.put_shaped.new.out) (g.W.Output.contents c.args.out.now) (g.W.Output.contents c.put_shaped.new.out) _ (counted_words c.args.fit) (fit_words c.args.fit) c.from_residual.result
+    (fit_parts c.args.fit) c.from_residual.ensures.1 c.in_err-put_shaped.ensures
 
 pub returns : goal.returns
 returns g c =
-    subst (λ (t : List ℕ). Prints (g.W.Output.failed c.put_pieces.new.out) (g.W.Output.contents c.args.out.now) (g.W.Output.contents c.put_pieces.new.out) t c.put_pieces.result)
-    (fit_pieces c.args.fit c.from.result c.from-2.result c.from-3.result c.from-4.result c.from-5.result c.from-6.result c.from-7.result c.from-8.result c.says_text.result.now
-    c.from.ensures c.from-2.ensures c.from-3.ensures c.from-4.ensures c.from-5.ensures c.from-6.ensures c.from-7.ensures c.from-8.ensures c.says_text.ensures) c.put_pieces.ensures
+    both_parts (g.W.Output.failed c.put_counted.new.out) (g.W.Output.contents c.args.out.now) (g.W.Output.contents c.put_shaped.new.out) (g.W.Output.contents c.put_counted.new.out) _ (counted_words c.args.fit) (fit_words c.args.fit) c.put_counted.result
+    (fit_parts c.args.fit) c.in_ok-put_shaped.ensures c.put_counted.ensures

@@ -1,16 +1,11 @@
-use Rattle.std.proofs.Common.{◌≡◌, ◌<◌, map}
+use Rattle.std.proofs.Common.{◌<◌, map}
 use Rattle.std.specs.Prelude.{vec_capacity}
 use Rattle.program_words.specs.Met.{texts}
-use Rattle.lab_commands.specs.Files.{AnswersNoMore}
-use Rattle.lab_commands.specs.Merge.{AreOpenedBelow}
-use Rattle.lab_commands.proofs.MergeLemmas.{TellsFailing}
+use Rattle.lab_commands.proofs.MergeLemmas.{AreOpenSoFar, TellsFailing}
 use Rattle.lab_commands.proofs.merge.open_all.Given as goal
 
 abbrev pub invariant-loop-place : goal.invariant-loop-place
 invariant-loop-place g l = record {
-  no_more : AnswersNoMore (g.F.LabFiles.answers l.fn.files) (g.F.LabFiles.answers l.files);
-  kept : g.F.LabFiles.kept l.files ≡ g.F.LabFiles.kept l.fn.files;
-  opened : AreOpenedBelow (g.F.LabFiles.answers l.fn.files) (texts l.dumps) (map g.F.Reader.DumpReader.remaining l.readers.items) l.place;
-  places : vec_capacity l.readers ≡ vec_capacity l.fn.readers;
+  so_far : AreOpenSoFar (g.F.LabFiles.answers l.fn.files) (g.F.LabFiles.answers l.files) (g.F.LabFiles.kept l.fn.files) (g.F.LabFiles.kept l.files) (texts l.dumps) (map g.F.Reader.DumpReader.remaining l.readers.items) l.place (vec_capacity l.fn.readers) (vec_capacity l.readers);
   fails : 0 < l.place → TellsFailing g.F.Reader.DumpReader.failed (g.F.LabFiles.answers l.fn.files).reads_fail;
 }

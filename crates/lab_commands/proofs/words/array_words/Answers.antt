@@ -1,25 +1,8 @@
 use Rattle.std.proofs.Common.{sym}
-use Rattle.std.specs.Borrow.{Bor}
-use Rattle.clap.specs.Walk.{Text}
-use Rattle.program_words.proofs.WordLemmas.{entry_of, lacks}
 use Rattle.lab_commands.proofs.words.array_words.Goals as goal
 
-pub returns-in_err-word-clause-none : goal.returns-in_err-word-clause-none
-returns-in_err-word-clause-none c = λ none read is. lacks (λ (w : Bor Text). w.now) _ _ _ c.word.ensures c.in_err-word.was is.geometry_is
-
-pub returns-in_err-word-2-clause-none : goal.returns-in_err-word-2-clause-none
-returns-in_err-word-2-clause-none c = λ none read is. lacks (λ (w : Bor Text). w.now) _ _ _ c.word-2.ensures c.in_err-word-2.was is.dump_is
-
-pub returns-in_err-word-3-clause-none : goal.returns-in_err-word-3-clause-none
-returns-in_err-word-3-clause-none c = λ none read is. lacks (λ (w : Bor Text). w.now) _ _ _ c.word-3.ensures c.in_err-word-3.was is.out_is
+pub returns-in_err-file-clause-none : goal.returns-in_err-file-clause-none
+returns-in_err-file-clause-none c = λ none read is. c.out_words.ensures.none c.in_err-file.was _ is.file
 
 pub returns-clause-some : goal.returns-clause-some
-returns-clause-some c =
-    record {
-      geometry_is = entry_of (λ (w : Bor Text). w.now) _ _ _ c.word.ensures c.in_ok-word.was;
-      dump_is = entry_of (λ (w : Bor Text). w.now) _ _ _ c.word-2.ensures c.in_ok-word-2.was;
-      out_is = entry_of (λ (w : Bor Text). w.now) _ _ _ c.word-3.ensures c.in_ok-word-3.was;
-      forced = sym c.stands.ensures;
-      map_is = sym c.word-4.ensures;
-      showing = c.showing_words.ensures;
-    }
+returns-clause-some c = record { file = c.in_ok-file.ensures.some; map_is = sym c.word.ensures }

@@ -3,20 +3,11 @@ use Rattle.clap.specs.Walk.{Text}
 use Rattle.program_words.proofs.WordLemmas.{entry_of, lacks}
 use Rattle.lab_commands.proofs.words.history_words.Goals as goal
 
+pub returns-in_err-source-clause-none : goal.returns-in_err-source-clause-none
+returns-in_err-source-clause-none c = λ none read is. c.source_words.ensures.none c.in_err-source.was _ is.source
+
 pub returns-in_err-word-clause-none : goal.returns-in_err-word-clause-none
-returns-in_err-word-clause-none c = λ none read is. lacks (λ (w : Bor Text). w.now) _ _ _ c.word.ensures c.in_err-word.was is.geometry_is
-
-pub returns-in_err-word-2-clause-none : goal.returns-in_err-word-2-clause-none
-returns-in_err-word-2-clause-none c = λ none read is. lacks (λ (w : Bor Text). w.now) _ _ _ c.word-2.ensures c.in_err-word-2.was is.dump_is
-
-pub returns-in_err-word-3-clause-none : goal.returns-in_err-word-3-clause-none
-returns-in_err-word-3-clause-none c = λ none read is. lacks (λ (w : Bor Text). w.now) _ _ _ c.word-3.ensures c.in_err-word-3.was is.sector_is
+returns-in_err-word-clause-none c = λ none read is. lacks (λ (w : Bor Text). w.now) _ _ _ c.word.ensures c.in_err-word.was is.sector_is
 
 pub returns-clause-some : goal.returns-clause-some
-returns-clause-some c =
-    record {
-      geometry_is = entry_of (λ (w : Bor Text). w.now) _ _ _ c.word.ensures c.in_ok-word.was;
-      dump_is = entry_of (λ (w : Bor Text). w.now) _ _ _ c.word-2.ensures c.in_ok-word-2.was;
-      sector_is = entry_of (λ (w : Bor Text). w.now) _ _ _ c.word-3.ensures c.in_ok-word-3.was;
-      showing = c.showing_words.ensures;
-    }
+returns-clause-some c = record { source = c.in_ok-source.ensures.some; sector_is = entry_of (λ (w : Bor Text). w.now) _ _ _ c.word.ensures c.in_ok-word.was }

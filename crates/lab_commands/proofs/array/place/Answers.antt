@@ -1,0 +1,67 @@
+use Rattle.std.proofs.Common.{refl, inl, inr, ap, subst, ◌∙◌}
+use Rattle.lab_commands.specs.Files.{AnswersNoMore, with_kept}
+use Rattle.lab_commands.specs.Undone.{IsFileUnmade}
+use Rattle.lab_commands.specs.Array.{IsArrayMade, IsUndone}
+use Rattle.lab_commands.specs.declared.text.LabFault.TheVariants as fault
+use Rattle.lab_commands.proofs.UndoneLemmas.{handed_on, no_more_then, unplaced_before}
+use Rattle.lab_commands.proofs.array.place.Goals as goal
+
+pub returns-in_err-geometry-clause-fault : goal.returns-in_err-geometry-clause-fault
+returns-in_err-geometry-clause-fault g c =
+    handed_on (IsUndone (g.F.LabFiles.answers c.args.files.now) c.args.words (g.F.LabFiles.opened c.args.files.now) (g.F.LabFiles.opened c.args.files.now)) _ _ c.from_residual.ensures.1
+    (inl c.in_err-geometry.ensures.fault)
+
+pub returns-in_err-last-clause-fault : goal.returns-in_err-last-clause-fault
+returns-in_err-last-clause-fault g c =
+    handed_on (IsUndone (g.F.LabFiles.answers c.args.files.now) c.args.words (g.F.LabFiles.opened c.args.files.now) (g.F.LabFiles.opened c.args.files.now)) _ _ c.from_residual-in_err-last.ensures.1
+    (inr (c.in_ok-geometry.geometry, c.in_ok-geometry.ensures.ok, inl c.in_err-last.ensures.fault))
+
+pub returns-in_err-allow_both-clause-fault : goal.returns-in_err-allow_both-clause-fault
+returns-in_err-allow_both-clause-fault g c =
+    handed_on (IsUndone (g.F.LabFiles.answers c.args.files.now) c.args.words (g.F.LabFiles.opened c.args.files.now) (g.F.LabFiles.opened c.allow_both.new.files)) _ _ c.from_residual-in_err-allow_both.ensures.1
+    (inr (c.in_ok-geometry.geometry, c.in_ok-geometry.ensures.ok, inr (c.in_ok-last.last, c.in_ok-last.ensures.ok, inl c.in_err-allow_both.ensures.fault)))
+
+pub returns-in_err-room-clause-fault : goal.returns-in_err-room-clause-fault
+returns-in_err-room-clause-fault g c =
+    handed_on (IsUndone (g.F.LabFiles.answers c.args.files.now) c.args.words (g.F.LabFiles.opened c.args.files.now) (g.F.LabFiles.opened c.allow_both.new.files)) _ fault.OutOfMemory c.from_residual-in_err-room.ensures.1
+    (inr (c.in_ok-geometry.geometry, c.in_ok-geometry.ensures.ok, inr (c.in_ok-last.last, c.in_ok-last.ensures.ok, inr (c.in_ok-allow_both.ensures.ok, inl (refl, ap g.F.LabFiles.opened c.in_ok-allow_both.ensures.same)))))
+
+pub returns-in_err-written-clause-fault : goal.returns-in_err-written-clause-fault
+returns-in_err-written-clause-fault g c =
+    let words = c.args.words.array in
+    let why = subst (λ f. IsFileUnmade (g.F.LabFiles.answers f) c.in_ok-geometry.geometry words.dump.now words.out.now c.in_err-written.field-0.0) c.in_ok-allow_both.ensures.same c.in_err-written.ensures.fault in
+    handed_on (IsUndone (g.F.LabFiles.answers c.args.files.now) c.args.words (g.F.LabFiles.opened c.args.files.now) (g.F.LabFiles.opened c.make.new.files)) _ _ c.from_residual-in_err-written.ensures.1
+    (inr (c.in_ok-geometry.geometry, c.in_ok-geometry.ensures.ok, inr (c.in_ok-last.last, c.in_ok-last.ensures.ok, inr (c.in_ok-allow_both.ensures.ok, inr (inl why)))))
+
+pub returns-in_err-keep-clause-fault : goal.returns-in_err-keep-clause-fault
+returns-in_err-keep-clause-fault g c =
+    let words = c.args.words.array in
+    let b = g.F.LabFiles.answers c.make.new.files in
+    let why = unplaced_before (g.F.LabFiles.answers c.args.files.now) b words.out.now words.force c.in_err-keep.field-0.0 (subst (λ f. AnswersNoMore (g.F.LabFiles.answers f) b) c.in_ok-allow_both.ensures.same c.in_ok-written.ensures.no_more) c.in_err-keep.ensures.fault in
+    handed_on (IsUndone (g.F.LabFiles.answers c.args.files.now) c.args.words (g.F.LabFiles.opened c.args.files.now) (g.F.LabFiles.opened c.keep.new.files)) _ _ c.from_residual-in_err-keep.ensures.1
+    (inr (c.in_ok-geometry.geometry, c.in_ok-geometry.ensures.ok, inr (c.in_ok-last.last, c.in_ok-last.ensures.ok, inr (c.in_ok-allow_both.ensures.ok, inr (inr why)))))
+
+pub returns-clause-placed : goal.returns-clause-placed
+returns-clause-placed g c =
+    let same = c.in_ok-allow_both.ensures.same in
+    let words = c.args.words.array in
+    let geometry = c.in_ok-geometry.geometry in
+    let written = c.in_ok-written.written in
+    let pieces = g.F.Target.Pieces.pieces written.target in
+    record {
+      pieces = pieces;
+      made = record {
+        geometry_is = c.in_ok-geometry.ensures.ok;
+        last_is = c.in_ok-last.ensures.ok;
+        allowed = c.in_ok-allow_both.ensures.ok;
+        made = subst (λ f. IsArrayMade (g.F.LabFiles.answers f) words.dump.now geometry c.in_ok-last.last c.args.words.damaged pieces written.held.items written.left) same c.in_ok-written.ensures.made;
+      };
+      put = c.in_ok-keep.ensures.ok ∙ ap (λ x. with_kept x words.out.now pieces words.force) (c.in_ok-written.ensures.beside ∙ ap g.F.LabFiles.kept same);
+    }
+
+pub returns-clause-no_more : goal.returns-clause-no_more
+returns-clause-no_more g c =
+    let a = g.F.LabFiles.answers c.args.files.now in
+    let b = g.F.LabFiles.answers c.make.new.files in
+    let first : AnswersNoMore a b = subst (λ f. AnswersNoMore (g.F.LabFiles.answers f) b) c.in_ok-allow_both.ensures.same c.in_ok-written.ensures.no_more in
+    no_more_then a b (g.F.LabFiles.answers c.keep.new.files) first c.in_ok-keep.ensures.no_more

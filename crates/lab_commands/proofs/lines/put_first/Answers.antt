@@ -1,9 +1,0 @@
-use Rattle.std.proofs.Common.{List, ℕ, subst}
-use Rattle.lab_commands.specs.Document.{Prints}
-use Rattle.lab_commands.proofs.PieceLemmas.{first_pieces}
-use Rattle.lab_commands.proofs.lines.put_first.Goals as goal
-
-pub returns : goal.returns
-returns g c =
-    subst (λ (t : List ℕ). Prints (g.W.Output.failed c.put_pieces.new.out) (g.W.Output.contents c.args.out.now) (g.W.Output.contents c.put_pieces.new.out) t c.put_pieces.result)
-    (first_pieces c.args.fit c.from.result c.from-2.result c.from-3.result c.from-4.result c.from-5.result c.from.ensures c.from-2.ensures c.from-3.ensures c.from-4.ensures c.from-5.ensures) c.put_pieces.ensures
