@@ -72,11 +72,6 @@ pub(crate) fn driver_over<'a>(
     ensures whole { OnOk result (IsWhole claimed.now.asked.geometry claimed.now.bytes.items) }
     ensures fault { IfErr result (IsDieUnmade claimed.now.asked.geometry claimed.now.bytes.items) }
 {
-    let die = die_of(
-        alloc,
-        &claimed.asked,
-        &claimed.bytes,
-        &claimed.certificate,
-    )?;
+    let die = die_of(alloc, &claimed.asked, &claimed.bytes, &claimed.certificate)?;
     Ok(driver_of(die, claimed.asked.geometry))
 }

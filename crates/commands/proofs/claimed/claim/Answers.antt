@@ -41,8 +41,14 @@ returns-in_err-certificate-clause-fault g c =
     let files : HasFiles gives true (checked_words c.args.words.now) asked.geometry asked.capacity (Some c.in_ok-bytes.bytes.items) written =
     record { asked = c.in_ok-asked.ensures.ok; image = record { bytes = c.in_ok-bytes.ensures.ok; told = λ _. refl }; certificate = c.in_ok-bytes.ensures.same c.args.words.now.certificate.now (Ok written) c.in_ok-written.ensures.ok } in
     ends gives c.args.words.now c.from_residual-in_err-certificate.result stop (search rules)
-    (inr (inr (inr (record { geometry = asked.geometry; capacity = asked.capacity; known = _; written = written; files = files;
-      broken = subst (λ (w : List ℕ). IsNoCertificate w stop) c.deref.ensures.value c.in_err-certificate.ensures.fault }))))
+    (inr (inr (inr (record {
+      geometry = asked.geometry;
+      capacity = asked.capacity;
+      known = _;
+      written = written;
+      files = files;
+      broken = subst (λ (w : List ℕ). IsNoCertificate w stop) c.deref.ensures.value c.in_err-certificate.ensures.fault;
+    }))))
 
 pub returns-clause-ok : goal.returns-clause-ok
 returns-clause-ok g c =
