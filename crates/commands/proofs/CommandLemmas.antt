@@ -1,8 +1,14 @@
 -- From what a step of a command came to, to what the command came to.
-use Rattle.std.proofs.Common.{ℕ, Bool, List, Option, Result, Ok, Err, OnOk, IfErr, inl, inr}
+use Rattle.std.proofs.Common.{◌≡◌, ◌*◌, ◌∙◌, ℕ, Bool, List, length, Option, Some, Result, Ok, Err, OnOk, IfErr, inl, inr, ap, subst, sym}
 use Rattle.std.specs.Io.KnownBytes.{Keeps}
 use Rattle.page_layout.specs.declared.geometry.Geometry.{Geometry}
+use Rattle.page_layout.specs.Faults.{HasNumbers}
+use Rattle.page_layout.specs.Geometry.{row_count, page_bytes}
 use Rattle.page_layout.specs.Raw.{raw_image}
+use Rattle.program_words.specs.declared.numbers.GeometryNumbers.{GeometryNumbers}
+use Rattle.program_words.specs.Numbers.{SpellsGeometry, number_of}
+use Rattle.commands.specs.declared.sector.PrintFault.{PrintFault}
+use Rattle.commands.specs.declared.sector.PrintFault.TheVariants as print
 use Rattle.commands.specs.declared.text.CommandFault.{CommandFault}
 use Rattle.commands.specs.declared.text.CommandFault.TheVariants as fault
 use Rattle.command_words.specs.declared.words.Order.{Order}
@@ -12,12 +18,12 @@ use Rattle.command_words.specs.declared.words.CertificateWords.{CertificateWords
 use Rattle.command_words.specs.declared.words.ServeWords.{ServeWords}
 use Rattle.commands.specs.Check.{IsCheckFault}
 use Rattle.commands.specs.Mount.{DoesMount}
-use Rattle.commands.specs.Serve.{DoesServe, IsServeUnstarted}
+use Rattle.commands.specs.Serve.{DoesServe, IsServeUnstarted, IsUnclaimed}
 use Rattle.commands.specs.Migrate.{DoesMigrate, IsClaimUnmigrated, IsUnbegun}
 use Rattle.commands.specs.Commands.{Obeys, OrderComesTo}
 use Rattle.commands.specs.Files.{Gives, Left, LeavesUntouched}
 use Rattle.commands.specs.Inputs.{IsUnread}
-use Rattle.commands.specs.Sector.{DoesSector, AsksForNumber, HasImage}
+use Rattle.commands.specs.Sector.{DoesSector, AsksForNumber, HasImage, IsPrintFault, IsUnprinted, IsUnreadable, TellsUnprinted, sector_line}
 use Rattle.commands.specs.Show.{DoesShow, IsUnshown, Shows}
 use Rattle.command_words.specs.Words.{IsOrder}
 
@@ -27,6 +33,25 @@ pub unread_does : (gives : Gives) (words : ImageWords) (g : Geometry) (n : ℕ) 
 unread_does gives words g n before after (fault.Read path) asked keeps unread = (keeps, unread.0, unread.1, (g, n, asked))
 unread_does gives words g n before after fault.OutOfMemory asked keeps unread = (keeps, inl (g, n, asked, unread))
 unread_does gives words g n before after _ asked keeps unread = absurd unread
+
+-- so does a sector that was not printed
+pub unprinted_does : (gives : Gives) (words : ImageWords) (g : Geometry) (n : ℕ) (bytes : List ℕ) (before after : Option (List ℕ)) (why : PrintFault) (stop : CommandFault)
+    → HasImage gives words g n bytes → IsPrintFault g (raw_image g bytes) n why → IsUnprinted (sector_line g (raw_image g bytes) n) why before after → TellsUnprinted why stop
+    → DoesSector gives words before after (Err stop)
+unprinted_does gives words g n bytes before after (print.Sector refused) (fault.Sector told) image why un is =
+    (un, (g, n, bytes, image, subst (λ f. IsUnreadable g (raw_image g bytes) n f) (sym is) why))
+unprinted_does gives words g n bytes before after print.Write (fault.Write path) image why un is = (is, (g, n, bytes, image, why, un))
+unprinted_does gives words g n bytes before after print.OutOfMemory fault.OutOfMemory image why un is = (un, inr (g, n, bytes, image, why))
+unprinted_does gives words g n bytes before after _ _ image why un is = absurd is
+
+-- the words are numbers, and the file has as many bytes as the geometry says
+pub has_image : (gives : Gives) (words : ImageWords) (numbers : GeometryNumbers) (g : Geometry) (n : ℕ) (all bytes : List ℕ) → SpellsGeometry words.geometry.now numbers → number_of words.number.now ≡ Some n
+    → HasNumbers numbers.data_bytes numbers.spare_bytes numbers.pages numbers.blocks numbers.sectors g → gives words.image.now (Ok bytes) → all ≡ bytes → length all ≡ row_count g * page_bytes g → HasImage gives words g n bytes
+has_image gives words numbers g n all bytes spelled number_is valid given same whole = record {
+  asked = record { numbers = numbers; geometry = spelled; sector = number_is; valid = valid };
+  given = given;
+  whole = ap length (sym same) ∙ whole;
+}
 
 pub unread_shows : (gives : Gives) (words : ImageWords) (g : Geometry) (n : ℕ) (before after : Option (List ℕ)) (fault : CommandFault)
     → AsksForNumber words g n → Keeps before after → IsUnread gives words.image.now fault → DoesShow gives words before after (Err fault)
@@ -65,15 +90,18 @@ mount_leaves gives words before after (inl unstarted) = unstarted.0
 mount_leaves gives words before after (inr (inl unstored)) = (unstored.1, unstored.2)
 mount_leaves gives words before after (inr (inr unprinted)) = absurd unprinted.2
 
+claim_is_command : (gives : Gives) (words : ServeWords) → IsUnclaimed gives words fault.NoSuchCommand → ⊥
+claim_is_command gives words (inl unasked) = unasked
+claim_is_command gives words (inr (inl unopened)) = unopened.unread
+claim_is_command gives words (inr (inr (inl lacks))) = lacks.unread
+claim_is_command gives words (inr (inr (inr malformed))) = malformed.broken
+
 serve_is_command : (gives : Gives) (words : ServeWords) (unread left : Option (List ℕ)) (before after : Left) → DoesServe gives words unread left before after (Err fault.NoSuchCommand) → ⊥
 serve_is_command gives words unread left before after (inl none) = unstarted none.because
   where
     unstarted : IsServeUnstarted gives words fault.NoSuchCommand → ⊥
-    unstarted (inl unasked) = unasked
-    unstarted (inr (inl unopened)) = unopened.unread
-    unstarted (inr (inr (inl lacks))) = lacks.unread
-    unstarted (inr (inr (inr (inl malformed)))) = malformed.broken
-    unstarted (inr (inr (inr (inr unserved)))) = unserved.unserved
+    unstarted (inl unclaimed) = claim_is_command gives words unclaimed
+    unstarted (inr unserved) = unserved.unserved
 serve_is_command gives words unread left before after (inr ran) = ran.ends
 
 migrate_is_command : (gives : Gives) (words : ServeWords) (before after : Left) → DoesMigrate gives words before after (Err fault.NoSuchCommand) → ⊥
@@ -86,11 +114,8 @@ migrate_is_command gives words before after (inl none) = unbegun none.1
     ]
 
     unbegun : IsUnbegun gives words fault.NoSuchCommand → ⊥
-    unbegun (inl unasked) = unasked
-    unbegun (inr (inl unopened)) = unopened.unread
-    unbegun (inr (inr (inl lacks))) = lacks.unread
-    unbegun (inr (inr (inr (inl malformed)))) = malformed.broken
-    unbegun (inr (inr (inr (inr unmigrated)))) = unmade unmigrated
+    unbegun (inl unclaimed) = claim_is_command gives words unclaimed
+    unbegun (inr unmigrated) = unmade unmigrated
 migrate_is_command gives words before after (inr (inl (image, came, has, short, keeps))) = short
 migrate_is_command gives words before after (inr (inr (image, count, has, stored, unprinted))) = unprinted
 

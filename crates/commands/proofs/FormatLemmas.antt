@@ -4,6 +4,7 @@ use Rattle.std.specs.Io.KnownBytes.{Appends, Keeps}
 use lib.Seq.{take-append_seam}
 use Rattle.page_layout.specs.declared.geometry.Geometry.{Geometry}
 use Rattle.page_layout.specs.Counter.{HasRisen}
+use Rattle.page_layout.specs.Faults.{HasNumbers}
 use Rattle.page_layout.specs.Geometry.{row_count, page_bytes}
 use Rattle.page_layout.specs.Flash.{Flash}
 use Rattle.page_layout.specs.Raw.{raw_image, raw_bytes}
@@ -13,6 +14,8 @@ use Rattle.mount.specs.declared.format_fault.FormatFault.{FormatFault}
 use Rattle.mount.specs.declared.format_fault.FormatFault.TheVariants as refuse
 use Rattle.mount.specs.Formatted.{Formats, IsFormatted}
 use Rattle.mount.specs.Log.{failures}
+use Rattle.program_words.specs.declared.numbers.GeometryNumbers.{GeometryNumbers}
+use Rattle.program_words.specs.Numbers.{SpellsGeometry}
 use Rattle.commands.specs.declared.text.CommandFault.{CommandFault}
 use Rattle.commands.specs.declared.text.CommandFault.TheVariants as fault
 use Rattle.command_words.specs.declared.words.FileWords.{FileWords}
@@ -87,12 +90,12 @@ pub kept_whole : (n : ℕ) (xs ys : List ℕ) → length xs ≡ n → take n (xs
 kept_whole n xs ys e = ap (λ k. take k (xs ++ drop (length xs) ys)) (sym e) ∙ take-append_seam xs (drop (length xs) ys)
 
 -- the vector's bytes are those of the slice that was formatted
-pub has_formatted : (gives : Gives) (words : FileWords) (g : Geometry) (loaded before after stored : List ℕ) (good n : ℕ)
-    → HasInput gives words g loaded → before ≡ loaded → stored ≡ take n (after ++ drop (length after) loaded) → length after ≡ n → IsFormattedImage g before after good → HasFormatted gives words stored good
-has_formatted gives words g loaded before after stored good n input same taken whole formatted = let kept = taken ∙ kept_whole n after loaded whole in record {
+pub has_formatted : (gives : Gives) (words : FileWords) (numbers : GeometryNumbers) (g : Geometry) (loaded before after stored : List ℕ) (good n : ℕ) → SpellsGeometry words.geometry.now numbers
+    → HasNumbers numbers.data_bytes numbers.spare_bytes numbers.pages numbers.blocks numbers.sectors g → gives words.input.now (Ok loaded) → before ≡ loaded → stored ≡ take n (after ++ drop (length after) loaded) → length after ≡ n → IsFormattedImage g before after good → HasFormatted gives words stored good
+has_formatted gives words numbers g loaded before after stored good n spelled valid given same taken whole formatted = let kept = taken ∙ kept_whole n after loaded whole in record {
   geometry = g;
   before = loaded;
-  input = input;
+  input = record { asked = record { numbers = numbers; spelled = spelled; valid = valid }; given = given };
   formatted = subst (λ (bytes : List ℕ). IsFormattedImage g bytes stored good) same (subst (λ (bytes : List ℕ). IsFormattedImage g before bytes good) (sym kept) formatted);
 }
 

@@ -5,8 +5,9 @@ use Rattle.std.specs.Io.KnownBytes.{Appends}
 use Rattle.page_layout.specs.declared.geometry.Geometry.{Geometry}
 use Rattle.page_layout.specs.Flash.{Flash}
 use Rattle.page_layout.specs.Raw.{raw_image, still}
-use Rattle.image_check.specs.declared.scan.SectorFault.{SectorFault}
-use Rattle.commands.specs.Sector.{IsReadable, IsUnreadable, sector_line}
+use Rattle.commands.specs.declared.sector.PrintFault.{PrintFault}
+use Rattle.commands.specs.Sector as Sector
+use Rattle.commands.specs.Sector.{IsPrintFault, IsReadable, sector_line}
 use Rattle.commands.specs.Show.{IsUnshown, Shows, shown_line, shown_of}
 use Rattle.commands.specs.declared.show.Shown.{Shown}
 use Rattle.commands.specs.declared.text.CommandFault.TheVariants as fault
@@ -22,17 +23,16 @@ flash_is flash g all bytes is same = is ∙ ap (λ l. still g (raw_image g l)) s
 pub readable_in : (flash : Flash) (g : Geometry) (all bytes : List ℕ) (n : ℕ) → flash ≡ still g (raw_image g all) → all ≡ bytes → IsReadable flash.geometry flash.image n → IsReadable g (raw_image g bytes) n
 readable_in flash g all bytes n is same = let P : Flash → Type 0 = λ f. IsReadable f.geometry f.image n in subst P (flash_is flash g all bytes is same)
 
-pub unreadable_in : (flash : Flash) (g : Geometry) (all bytes : List ℕ) (n : ℕ) (fault : SectorFault) → flash ≡ still g (raw_image g all) → all ≡ bytes → IsUnreadable flash.geometry flash.image n fault → IsUnreadable g (raw_image g bytes) n fault
-unreadable_in flash g all bytes n fault is same = let P : Flash → Type 0 = λ f. IsUnreadable f.geometry f.image n fault in subst P (flash_is flash g all bytes is same)
-
 pub line_in : (flash : Flash) (g : Geometry) (all bytes : List ℕ) (n : ℕ) (before after : Option (List ℕ)) → flash ≡ still g (raw_image g all) → all ≡ bytes
     → Appends before after (sector_line flash.geometry flash.image n) → Appends before after (sector_line g (raw_image g bytes) n)
 line_in flash g all bytes n before after is same = let P : Flash → Type 0 = λ f. Appends before after (sector_line f.geometry f.image n) in subst P (flash_is flash g all bytes is same)
 
--- what is said of a writer that failed
-pub part_in : (flash : Flash) (g : Geometry) (all bytes : List ℕ) (n : ℕ) (before after : Option (List ℕ)) → flash ≡ still g (raw_image g all) → all ≡ bytes
-    → AppendsPart before after (sector_line flash.geometry flash.image n) → AppendsPart before after (sector_line g (raw_image g bytes) n)
-part_in flash g all bytes n before after is same = let P : Flash → Type 0 = λ f. AppendsPart before after (sector_line f.geometry f.image n) in subst P (flash_is flash g all bytes is same)
+pub print_fault_in : (flash : Flash) (g : Geometry) (all bytes : List ℕ) (n : ℕ) (why : PrintFault) → flash ≡ still g (raw_image g all) → all ≡ bytes → IsPrintFault flash.geometry flash.image n why → IsPrintFault g (raw_image g bytes) n why
+print_fault_in flash g all bytes n why is same = let P : Flash → Type 0 = λ f. IsPrintFault f.geometry f.image n why in subst P (flash_is flash g all bytes is same)
+
+pub unprinted_in : (flash : Flash) (g : Geometry) (all bytes : List ℕ) (n : ℕ) (why : PrintFault) (before after : Option (List ℕ)) → flash ≡ still g (raw_image g all) → all ≡ bytes
+    → Sector.IsUnprinted (sector_line flash.geometry flash.image n) why before after → Sector.IsUnprinted (sector_line g (raw_image g bytes) n) why before after
+unprinted_in flash g all bytes n why before after is same = let P : Flash → Type 0 = λ f. Sector.IsUnprinted (sector_line f.geometry f.image n) why before after in subst P (flash_is flash g all bytes is same)
 
 pub shows_in : (flash : Flash) (g : Geometry) (all bytes : List ℕ) (n : ℕ) (before after : Option (List ℕ)) (r : Result (Unit {0}) CommandFault) → flash ≡ still g (raw_image g all) → all ≡ bytes
     → OnOk r (Shows flash.geometry flash.image n before after) → OnOk r (Shows g (raw_image g bytes) n before after)

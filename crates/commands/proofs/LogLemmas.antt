@@ -46,6 +46,24 @@ due_program s accounts row page left passed agree due =
 pub due_erase : (s : Flash) (accounts : List Account) (block : ℕ) (passed : Bool) (left : List Page) → Agree s accounts → IsDue s.geometry.pages accounts (Erase block passed left) → may_erase s block ≡ true
 due_erase s accounts block passed left agree due = ap not (agree block due.good).0
 
+-- the account of the block of an operation that was due has it noted
+pub noted_there : (pages : ℕ) (op : Operation) (accounts : List Account) (b : ℕ) → IsDue pages accounts op → b ≡ block_of pages op
+    → account_at (accounted pages accounts op) b ≡ noted (account_at accounts (block_of pages op)) op
+noted_there pages op accounts b asked e =
+    let at = block_of pages op in
+    subst (λ k. account_at (accounted pages accounts op) k ≡ noted (account_at accounts at) op) (sym e) (accounted-same pages accounts op at refl (within accounts at (due_good pages accounts op asked)))
+
+-- beside the block of an operation they agree as before
+pub agrees_beside : (old new : Flash) (op : Operation) (accounts : List Account) (next : ℕ) (due passed : Bool) (b : ℕ) → MovesTurn old new (block_of old.geometry.pages op) next due passed
+    → Agree old accounts → (b ≡ block_of old.geometry.pages op → ⊥) → (account_at (accounted old.geometry.pages accounts op) b).barred ≡ false
+    → ((turn_at new b).barred ≡ false) × ((turn_at new b).next ≡ (account_at (accounted old.geometry.pages accounts op) b).next)
+agrees_beside old new op accounts next due passed b moved agree ne good =
+    let pages = old.geometry.pages in
+    let same : account_at (accounted pages accounts op) b ≡ account_at accounts b = accounted-other pages accounts op b (λ e. ne (sym e)) in
+    let turn : turn_at new b ≡ turn_at old b = moved.others b ne in
+    let was = agree b (ap (λ (a : Account). a.barred) (sym same) ∙ good) in
+    (ap (λ (t : TurnState). t.barred) turn ∙ was.0, ap (λ (t : TurnState). t.next) turn ∙ (was.1 ∙ ap (λ (a : Account). a.next) (sym same)))
+
 -- after an operation that was due and passed they agree again
 pub agrees : (old new : Flash) (op : Operation) (accounts : List Account) (next : ℕ) (due passed : Bool) → MovesTurn old new (block_of old.geometry.pages op) next due passed → due ≡ true → passed ≡ true
     → Agree old accounts → IsDue old.geometry.pages accounts op → (noted (account_at accounts (block_of old.geometry.pages op)) op).next ≡ next → Agree new (accounted old.geometry.pages accounts op)
@@ -54,17 +72,12 @@ agrees old new op accounts next due passed moved is_due is_passed agree asked ne
     let at = block_of pages op in
     elim (cases_eq b at) [
       | inl e ↦
-          let noted_is : account_at (accounted pages accounts op) b ≡ noted (account_at accounts at) op =
-          subst (λ k. account_at (accounted pages accounts op) k ≡ noted (account_at accounts at) op) (sym e) (accounted-same pages accounts op at refl (within accounts at (due_good pages accounts op asked))) in
+          let noted_is = noted_there old.geometry.pages op accounts b asked e in
           let here : turn_at new b ≡ turn_at new at = ap (turn_at new) e in (
             ap (λ (t : TurnState). t.barred) here ∙ moved.passes_good is_due is_passed,
             ap (λ (t : TurnState). t.next) here ∙ (moved.passes_next is_due is_passed ∙ (sym next_is ∙ ap (λ (a : Account). a.next) (sym noted_is))),
           )
-      | inr ne ↦
-          let same : account_at (accounted pages accounts op) b ≡ account_at accounts b = accounted-other pages accounts op b (λ e. ne (sym e)) in
-          let turn : turn_at new b ≡ turn_at old b = moved.others b ne in
-          let was = agree b (ap (λ (a : Account). a.barred) (sym same) ∙ good) in
-          (ap (λ (t : TurnState). t.barred) turn ∙ was.0, ap (λ (t : TurnState). t.next) turn ∙ (was.1 ∙ ap (λ (a : Account). a.next) (sym same)))
+      | inr ne ↦ agrees_beside old new op accounts next due passed b moved agree ne good
     ]
 
 -- a barred block stays so

@@ -1,5 +1,5 @@
 -- From what the steps of `migrate` came to, to what the command came to.
-use Rattle.std.proofs.Common.{true, ◌≡◌, ◌≢◌, inl, inr, ℕ, ◌+◌, ◌≤◌, List, Option, None, Result, Ok, Err, OnOk, IfErr, refl, sym, ap, subst, ◌∙◌}
+use Rattle.std.proofs.Common.{true, ◌≡◌, ◌≢◌, ◌⊎◌, inl, inr, ℕ, ◌+◌, ◌≤◌, List, Option, None, Result, Ok, Err, OnOk, IfErr, refl, sym, ap, subst, ◌∙◌}
 use Rattle.std.specs.Io.KnownBytes.{Appends, Keeps}
 use Rattle.page_layout.specs.declared.geometry.Geometry.{Geometry}
 use Rattle.page_layout.specs.Array.{array_of}
@@ -27,12 +27,12 @@ use Rattle.ftl_device.specs.declared.fault.DeviceFault.TheVariants.{BusFault}
 use Rattle.page_layout.specs.Counter.{HasRisen}
 use Rattle.command_words.specs.declared.words.ServeWords.{ServeWords}
 use Rattle.commands.specs.declared.text.CommandFault.{CommandFault}
-use Rattle.commands.specs.Check.{AsksForCapacity, IsSpelled}
+use Rattle.commands.specs.Check.{IsWhole}
 use Rattle.commands.specs.Files.{Gives, Left, LeavesUntouched, with_store, written_file}
 use Rattle.commands.specs.Lines.{IsUnprinted}
 use Rattle.commands.specs.Steady.{has_spared}
-use Rattle.commands.specs.Serve.{Driver, HasClaim, bad_in, checked_words, failures_of, flash_behind, recorded_of, driver_view}
-use Rattle.commands.specs.Migrate.{DoesMigrate, EndsShort, HasMigrated, IsSettled, IsUnbegun, KeepsAll, MigratesDie, RenewsThenFlushes, StartsOver, migrated_line}
+use Rattle.commands.specs.Serve.{Driver, HasClaim, IsDieUnmade, bad_in, failures_of, flash_behind, recorded_of, driver_view}
+use Rattle.commands.specs.Migrate.{DoesMigrate, EndsShort, HasMigrated, IsSettled, IsUnbegun, IsUnmigratedDie, KeepsAll, MigratesDie, RenewsThenFlushes, StartsOver, migrated_line}
 use Rattle.ftl_device.proofs.CallLemmas.{mountable_kept}
 use Rattle.block_server.proofs.Checking.{accepted_for, closed_as, geometry_is, is_begun, well}
 use Rattle.commands.proofs.BadLemmas.{named_bad}
@@ -66,13 +66,21 @@ prints gives words before after result image count came is has stored ok failed 
     go (Ok _) told told_not = (image, count, done, stored, told)
     go (Err stop) told told_not = inr (inr (image, count, done, stored, told_not))
 
--- both files were read, and these are the certificate's bytes
-pub has_claim : (gives : Gives) (words : ServeWords) (g : Geometry) (capacity : ℕ) (bytes spelled read : List ℕ) (c : Claim) → AsksForCapacity (checked_words words) g capacity
-    → gives words.image.now (Ok bytes) → gives words.certificate.now (Ok spelled) → read ≡ spelled → IsSpelled c read → HasClaim gives words g capacity bytes c
-has_claim gives words g capacity bytes spelled read c asked image certificate same is = record {
-  written = spelled;
-  files = record { asked = asked; image = record { bytes = image; told = λ _. refl }; certificate = certificate };
-  spelled = subst (λ (w : List ℕ). IsSpelled c w) same is;
+-- an image of which no die was made, or none that was accepted and started
+pub no_device : {gives : Gives} {words : ServeWords} {g : Geometry} {capacity : ℕ} {bytes : List ℕ} {c : Claim} (stop : CommandFault) → HasClaim gives words g capacity bytes c
+    → IsDieUnmade g bytes stop ⊎ (IsWhole g bytes × IsUnmigratedDie g capacity c (loaded_flash g bytes (bad_in g c)) stop) → IsUnbegun gives words stop
+no_device {gives} {words} {g} {capacity} {bytes} {c} stop has why = inr (record { geometry = g; capacity = capacity; bytes = bytes; claim = c; has = has; unmigrated = why })
+
+-- one that was, and this is its image then
+pub has_migrated : {gives : Gives} {words : ServeWords} {g : Geometry} {capacity : ℕ} {bytes after : List ℕ} {c : Claim} {s : Flash} (image : List ℕ) (came : Result ℕ DeviceFault)
+    → HasClaim gives words g capacity bytes c → s ≡ loaded_flash g bytes (bad_in g c) → image ≡ after → MigratesDie g capacity c s after came → HasMigrated gives words image came
+has_migrated {gives} {words} {g} {capacity} {bytes} {after} {c} {s} image came has held kept migrates = record {
+  geometry = g;
+  capacity = capacity;
+  bytes = bytes;
+  claim = c;
+  has = has;
+  migrates = subst (λ (f : Flash). MigratesDie g capacity c f image came) held (subst (λ (i : List ℕ). MigratesDie g capacity c s i came) (sym kept) migrates);
 }
 
 -- ---- a die in memory

@@ -1,5 +1,5 @@
 -- Calls of `migrate_one` one after another: the array stays, and each leaves fewer pages of version 1.
-use Rattle.std.proofs.Common.{◌≡◌, ◌≢◌, inr, ℕ, suc, ◌+◌, ◌<◌, ◌≤◌, Bool, true, false, Result, Ok, Err, refl, sym, ap, subst, ◌∙◌, arith}
+use Rattle.std.proofs.Common.{◌≡◌, ◌≢◌, inl, inr, ℕ, suc, ◌+◌, ◌<◌, ◌≤◌, Bool, true, false, Result, Ok, Err, refl, sym, ap, subst, ◌∙◌, arith}
 use Rattle.std.specs.Prelude.{OnOk, IfOk, nat_le, if◌then◌else◌}
 use Rattle.page_layout.specs.View.{View}
 use Rattle.page_layout.specs.Counter.{HasRisen}
@@ -27,7 +27,7 @@ use Rattle.ftl_device.specs.Changes.{Upkeeps}
 use Rattle.ftl_device.specs.Brings.{HasBrought, BringsOne}
 use Rattle.ftl_device.specs.Migrate.{ended, HasMovedOn, Migrates}
 use Rattle.ftl_device.specs.Renewed.{Finishes, HasOldTablesOnly}
-use Rattle.commands.specs.Migrate.{CallsMigrate, Renews, RenewsAll, RenewsThenFlushes, IsSettled, KeepsAll}
+use Rattle.commands.specs.Migrate.{CallsMigrate, HasRenewed, IsRenewedThenFlushed, IsSettled, KeepsAll, Renews}
 
 -- ---- how many calls there are
 
@@ -146,17 +146,11 @@ module _ {N : Type 0} (view : View N) where
       }
 
   -- the one that answered false, or that was refused
-  pub record HasEnded (g : Geometry) (old : Device N) (result : Result ℕ DeviceFault) (new : Device N) : Type 0 where
-    pub began : old.engine.geometry ≡ g
-    pub still : view.honest new.engine.nand ≡ true
-    pub le : view.failed old.engine.nand ≤ view.failed new.engine.nand
-    pub renews : RenewsAll view old result new
-    pub keeps : result ≢ Err BusFault → KeepsAll view old new
-    pub rose : result ≡ Err BusFault → HasRisen (view.failed old.engine.nand) (view.failed new.engine.nand)
-    pub none : OnOk result (HasOldTablesOnly (image_in view.flash new.engine))
-
-  pub ends_done : (g : Geometry) (old mid new : Device N) (count : ℕ) → IsGoing g old count mid → CallsMigrate view mid (Ok false) new → HasEnded g old (Ok count) new
-  ends_done g old mid new count going its = record {
+  pub ends_done : (g : Geometry) (old mid new : Device N) (count : ℕ) → IsGoing g old count mid → CallsMigrate view mid (Ok false) new → IsDevice view.flash new → new.engine.geometry ≡ mid.engine.geometry
+      → HasRenewed view g old (Ok count) new
+  ends_done g old mid new count going its device sized = record {
+    device = device;
+    sized = sized ∙ going.sized;
     began = going.began;
     still = its.upkeeps.stays.honest_is ∙ going.still;
     le = omega (arith, going.le, its.upkeeps.stays.failed_is);
@@ -169,8 +163,11 @@ module _ {N : Type 0} (view : View N) where
   err_ne : (fault : DeviceFault) → fault ≢ BusFault → refused_as fault ≢ refused_as BusFault
   err_ne fault ne is = ne (let same : fault ≡ BusFault = cc in same)
 
-  pub ends_refused : (g : Geometry) (old mid new : Device N) (count : ℕ) (fault : DeviceFault) → IsGoing g old count mid → CallsMigrate view mid (Err fault) new → HasEnded g old (Err fault) new
-  ends_refused g old mid new count fault going its = record {
+  pub ends_refused : (g : Geometry) (old mid new : Device N) (count : ℕ) (fault : DeviceFault) → IsGoing g old count mid → CallsMigrate view mid (Err fault) new → IsDevice view.flash new
+      → new.engine.geometry ≡ mid.engine.geometry → HasRenewed view g old (Err fault) new
+  ends_refused g old mid new count fault going its device sized = record {
+    device = device;
+    sized = sized ∙ going.sized;
     began = going.began;
     still = its.upkeeps.stays.honest_is ∙ going.still;
     le = omega (arith, going.le, its.upkeeps.stays.failed_is);
@@ -179,14 +176,6 @@ module _ {N : Type 0} (view : View N) where
     rose = λ is. rose_by old mid new (Err fault) going.le going.keeps.well its.upkeeps (let same : fault ≡ BusFault = cc in ap Err same);
     none = tt;
   }
-
-  -- and then the flush, which was done or refused
-  pub record HasFlushed (g : Geometry) (old : Device N) (result : Result ℕ DeviceFault) (new : Device N) : Type 0 where
-    pub le : view.failed old.engine.nand ≤ view.failed new.engine.nand
-    pub renews : RenewsThenFlushes view old result new
-    pub keeps : result ≢ Err BusFault → KeepsAll view old new
-    pub rose : result ≡ Err BusFault → HasRisen (view.failed old.engine.nand) (view.failed new.engine.nand)
-    pub settled : OnOk result (IsSettled g (image_in view.flash new.engine))
 
   -- what a flush is worth that was done
   settles : (g : Geometry) (mid new : Device N) → view.honest mid.engine.nand ≡ true → IsWell view.flash mid → mid.engine.geometry ≡ g
@@ -200,28 +189,44 @@ module _ {N : Type 0} (view : View N) where
         none = finishes (subst (λ (k : Geometry). version_for k ≡ 2) (sym sized) (has_room g roomy)) tables;
       })
 
-  pub flush_done : (g : Geometry) (old mid new : Device N) (count : ℕ) → HasEnded g old (Ok count) mid → mid.engine.geometry ≡ g → 40 ≤ g.spare_bytes
-      → Upkeeps view Flush mid (Ok tt) new
+  pub flush_done : (g : Geometry) (old mid new : Device N) (count : ℕ) → HasRenewed view g old (Ok count) mid → 40 ≤ g.spare_bytes
+      → IsDevice view.flash new → new.engine.geometry ≡ mid.engine.geometry → Upkeeps view Flush mid (Ok tt) new
       → (view.honest mid.engine.nand ≡ true → IsWell view.flash mid → Finishes mid.engine.geometry (image_in view.flash mid.engine) (image_in view.flash new.engine))
-      → HasFlushed g old (Ok count) new
-  flush_done g old mid new count ended sized roomy its finishes =
+      → IsRenewedThenFlushed view g old (Ok count) new
+  flush_done g old mid new count ended roomy device sized its finishes =
       let kept : KeepsAll view old mid = ended.keeps (λ is. (let never : ⊥ = cc in never)) in
       record {
+        device = device;
+        sized = sized ∙ ended.sized;
         le = omega (arith, ended.le, its.stays.failed_is);
         renews = (mid, ended.renews, its);
-        keeps = λ _. keeps_then old mid new (sized ∙ sym ended.began) kept (flush_keeps mid new (Ok tt) ended.still kept.well (λ is. (let never : ⊥ = cc in never)) its);
+        keeps = λ _. keeps_then old mid new (ended.sized ∙ sym ended.began) kept (flush_keeps mid new (Ok tt) ended.still kept.well (λ is. (let never : ⊥ = cc in never)) its);
         rose = λ is. absurd (let never : ⊥ = cc in never);
-        settled = settles g mid new ended.still kept.well sized its roomy ended.none (finishes ended.still kept.well);
+        settled = settles g mid new ended.still kept.well ended.sized its roomy ended.none (finishes ended.still kept.well);
       }
 
-  pub flush_refused : (g : Geometry) (old mid new : Device N) (count : ℕ) (fault : DeviceFault) → HasEnded g old (Ok count) mid → mid.engine.geometry ≡ g
-      → Upkeeps view Flush mid (Err fault) new → HasFlushed g old (Err fault) new
-  flush_refused g old mid new count fault ended sized its =
+  pub flush_refused : (g : Geometry) (old mid new : Device N) (count : ℕ) (fault : DeviceFault) → HasRenewed view g old (Ok count) mid
+      → IsDevice view.flash new → new.engine.geometry ≡ mid.engine.geometry → Upkeeps view Flush mid (Err fault) new → IsRenewedThenFlushed view g old (Err fault) new
+  flush_refused g old mid new count fault ended device sized its =
       let kept : KeepsAll view old mid = ended.keeps (λ is. (let never : ⊥ = cc in never)) in
       record {
+        device = device;
+        sized = sized ∙ ended.sized;
         le = omega (arith, ended.le, its.stays.failed_is);
         renews = inr (count, mid, ended.renews, its);
-        keeps = λ ne. keeps_then old mid new (sized ∙ sym ended.began) kept (flush_keeps mid new (Err fault) ended.still kept.well (err_ne fault (λ is. ne (ap Err is))) its);
+        keeps = λ ne. keeps_then old mid new (ended.sized ∙ sym ended.began) kept (flush_keeps mid new (Err fault) ended.still kept.well (err_ne fault (λ is. ne (ap Err is))) its);
         rose = λ is. rose_by old mid new (Err fault) ended.le kept.well its (let same : fault ≡ BusFault = cc in ap Err same);
         settled = tt;
       }
+
+  -- nothing was flushed after a call that was refused
+  pub none_flushed : (g : Geometry) (old new : Device N) (fault : DeviceFault) → HasRenewed view g old (Err fault) new → IsRenewedThenFlushed view g old (Err fault) new
+  none_flushed g old new fault ended = record {
+    device = ended.device;
+    sized = ended.sized;
+    le = ended.le;
+    renews = inl ended.renews;
+    keeps = ended.keeps;
+    rose = ended.rose;
+    settled = tt;
+  }

@@ -25,7 +25,7 @@ use Rattle.nand_die.specs.Made.{first_turn, is_named, loaded_flash, next_in}
 use Rattle.nand_die.proofs.StopLemmas.{calm_stops}
 use Rattle.mount.specs.Log.{failures}
 use Rattle.commands.specs.Steady.{is_spared, has_spared, is_steady}
-use Rattle.commands.proofs.LogLemmas.{within, Agree, due_program, due_erase, agrees, barred_step, stays}
+use Rattle.commands.proofs.LogLemmas.{within, Agree, due_program, due_erase, agrees, agrees_beside, barred_step, noted_there, stays}
 use Rattle.commands.proofs.SteadyLemmas.{bars_none, passes, not_stopped}
 
 -- ---- after an operation
@@ -162,15 +162,10 @@ agrees_failed old new op accounts next due passed moved agree asked shut b good 
     let at = block_of pages op in
     elim (cases_eq b at) [
       | inl e ↦
-          let noted_is : account_at (accounted pages accounts op) b ≡ noted (account_at accounts at) op =
-          subst (λ k. account_at (accounted pages accounts op) k ≡ noted (account_at accounts at) op) (sym e) (accounted-same pages accounts op at refl (within accounts at (due_good pages accounts op asked))) in
+          let noted_is = noted_there old.geometry.pages op accounts b asked e in
           let no : true ≡ false = sym shut ∙ (ap (λ (a : Account). a.barred) (sym noted_is) ∙ good) in
           absurd (let never : ⊥ = cc in never)
-      | inr ne ↦
-          let same : account_at (accounted pages accounts op) b ≡ account_at accounts b = accounted-other pages accounts op b (λ e. ne (sym e)) in
-          let turn : turn_at new b ≡ turn_at old b = moved.others b ne in
-          let was = agree b (ap (λ (a : Account). a.barred) (sym same) ∙ good) in
-          (ap (λ (t : TurnState). t.barred) turn ∙ was.0, ap (λ (t : TurnState). t.next) turn ∙ (was.1 ∙ ap (λ (a : Account). a.next) (sym same)))
+      | inr ne ↦ agrees_beside old new op accounts next due passed b moved agree ne good
     ]
 
 agree_on : (s mid : Flash) (accounts : List Account) (op : Operation) → Agree s accounts → IsDue s.geometry.pages accounts op → Steps s op mid → Agree mid (accounted s.geometry.pages accounts op)

@@ -108,6 +108,11 @@ unserved g capacity bytes c s (fault.Check refusal) whole same (inr wrong) = (wh
 unserved g capacity bytes c s fault.Start whole same agrees = (whole, subst (λ (f : Flash). Agrees g capacity f.image c) same agrees)
 unserved g capacity bytes c s _ whole same h = absurd h
 
+-- so what is claimed of it was not served
+pub not_served : {gives : Gives} {words : ServeWords} {g : Geometry} {capacity : ℕ} {bytes : List ℕ} {c : Claim} (stop : CommandFault) → HasClaim gives words g capacity bytes c
+    → IsUnserved g capacity bytes c stop → IsServeUnstarted gives words stop
+not_served {gives} {words} {g} {capacity} {bytes} {c} stop has why = inr (record { geometry = g; capacity = capacity; bytes = bytes; claim = c; has = has; unserved = why })
+
 -- one that was, and then the image was stored, or not
 pub served_does : (gives : Gives) (words : ServeWords) (unread left : Option (List ℕ)) (before after : Left) (result : Result (Unit {0}) CommandFault)
     (g : Geometry) (capacity : ℕ) (bytes image : List ℕ) (c : Claim) (s : Flash) (how : Option ServeStop)

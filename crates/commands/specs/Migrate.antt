@@ -5,6 +5,7 @@ use Rattle.std.specs.Fmt.{decimal}
 use Rattle.page_layout.specs.View.{View}
 use Rattle.page_layout.specs.declared.geometry.Geometry.{Geometry}
 use Rattle.page_layout.specs.Array.{array_of}
+use Rattle.page_layout.specs.Counter.{HasRisen}
 use Rattle.page_layout.specs.Flash.{Flash}
 use Rattle.page_layout.specs.OnlyReads.{OnlyReads}
 use Rattle.page_layout.specs.Raw.{raw_image, raw_bytes}
@@ -24,20 +25,22 @@ use Rattle.collection.specs.Log.{IsAccounted, Went}
 use Rattle.collection.specs.Safe.{image_in, ram}
 use Rattle.ftl_device.specs.declared.device.Device.{Device}
 use Rattle.ftl_device.specs.declared.fault.DeviceFault.{DeviceFault}
+use Rattle.ftl_device.specs.declared.fault.DeviceFault.TheVariants.{BusFault}
+use Rattle.ftl_device.specs.Device.{IsDevice}
 use Rattle.ftl_device.specs.Begin.{free_in, is_bad_in, is_scarce}
 use Rattle.ftl_device.specs.Calls.{IsWell, array_in}
 use Rattle.ftl_device.specs.Changes.{Upkeeps}
 use Rattle.ftl_device.specs.Migrate.{ended, HasMovedOn, Migrates}
 use Rattle.ftl_device.specs.Brings.{HasBrought, BringsOne}
-use Rattle.ftl_device.specs.Renewed.{HasNoneOld}
+use Rattle.ftl_device.specs.Renewed.{HasNoneOld, HasOldTablesOnly}
 use Rattle.block_server.specs.Checked.{IsBegun}
 use Rattle.command_words.specs.declared.words.ServeWords.{ServeWords}
 use Rattle.commands.specs.declared.text.CommandFault.{CommandFault}
 use Rattle.commands.specs.declared.text.CommandFault.TheVariants as fault
-use Rattle.commands.specs.Check.{HasNoCertificate, IsImageUnopened, IsUnasked, IsWhole, LacksCertificate}
+use Rattle.commands.specs.Check.{IsWhole}
 use Rattle.commands.specs.Files.{Gives, Left, LeavesUntouched, Stored, with_store, written_file, unwritten_file}
 use Rattle.commands.specs.Lines.{IsUnprinted}
-use Rattle.commands.specs.Serve.{Driver, HasClaim, IsDieUnmade, bad_in, checked_words}
+use Rattle.commands.specs.Serve.{Driver, HasClaim, IsDieUnmade, IsUnclaimed, bad_in}
 use Rattle.commands.specs.Serve.{flash_behind, recorded_of, driver_view}
 
 -- ---- one call after another, of a device on an honest die whose pages have room for version 2
@@ -92,11 +95,41 @@ pub record KeepsAll {N : Type 0} (view : View N) (old new : Device N) : Type 0 w
   pub capacity : new.engine.mapping.capacity ≡ old.engine.mapping.capacity
   pub went : Went (ram old.engine) (view.flash old.engine.nand) (view.recorded old.engine.nand) (ram new.engine) (view.flash new.engine.nand) (view.recorded new.engine.nand)
 
+-- WHERE THE CALLS BEGIN: a device that goes on, on an honest die of this geometry whose pages have room for version 2
+pub record IsRenewable {N : Type 0} (view : View N) (g : Geometry) (d : Device N) : Type 0 where
+  pub device : IsDevice view.flash d
+  pub honest : view.honest d.engine.nand ≡ true
+  pub well : IsWell view.flash d
+  pub sized : d.engine.geometry ≡ g
+  pub roomy : 40 ≤ g.spare_bytes
+
+-- WHAT THE CALLS COME TO, of which the last answered false or was refused
+pub record HasRenewed {N : Type 0} (view : View N) (g : Geometry) (old : Device N) (result : Result ℕ DeviceFault) (new : Device N) : Type 0 where
+  pub device : IsDevice view.flash new
+  pub sized : new.engine.geometry ≡ g
+  pub began : old.engine.geometry ≡ g
+  pub still : view.honest new.engine.nand ≡ true
+  pub le : view.failed old.engine.nand ≤ view.failed new.engine.nand
+  pub renews : RenewsAll view old result new
+  pub keeps : result ≢ Err BusFault → KeepsAll view old new
+  pub rose : result ≡ Err BusFault → HasRisen (view.failed old.engine.nand) (view.failed new.engine.nand)
+  pub none : OnOk result (HasOldTablesOnly (image_in view.flash new.engine))
+
 -- WHAT AN IMAGE IS WORTH after all calls and the flush: it has a certificate at every capacity, no entry is stale, and no newest page is of version 1
 pub record IsSettled (g : Geometry) (image : Image) : Type 0 where
   pub anywhere : (capacity : ℕ) → 1 ≤ capacity → capacity ≤ 65536 → IsMountable g capacity image
   pub fresh : stale_sectors g image ≡ []
   pub none : HasNoneOld image
+
+-- and then the flush, where none was refused
+pub record IsRenewedThenFlushed {N : Type 0} (view : View N) (g : Geometry) (old : Device N) (result : Result ℕ DeviceFault) (new : Device N) : Type 0 where
+  pub device : IsDevice view.flash new
+  pub sized : new.engine.geometry ≡ g
+  pub le : view.failed old.engine.nand ≤ view.failed new.engine.nand
+  pub renews : RenewsThenFlushes view old result new
+  pub keeps : result ≢ Err BusFault → KeepsAll view old new
+  pub rose : result ≡ Err BusFault → HasRisen (view.failed old.engine.nand) (view.failed new.engine.nand)
+  pub settled : OnOk result (IsSettled g (image_in view.flash new.engine))
 
 -- ---- an image in place
 
@@ -150,14 +183,9 @@ pub record IsClaimUnmigrated (gives : Gives) (words : ServeWords) (stopped : Com
   pub unmigrated : IsDieUnmade geometry bytes stopped
       ⊎ (IsWhole geometry bytes × IsUnmigratedDie geometry capacity claim (loaded_flash geometry bytes (bad_in geometry claim)) stopped)
 
--- Why the command ended before a device was started. Each case says that none before it in the order held.
+-- Why the command ended before a device was started.
 abbrev pub IsUnbegun : Gives → ServeWords → CommandFault → Type 0
-IsUnbegun gives words stopped =
-    IsUnasked (checked_words words) stopped
-    ⊎ IsImageUnopened gives (checked_words words) stopped
-    ⊎ LacksCertificate gives true (checked_words words) stopped
-    ⊎ HasNoCertificate gives true (checked_words words) stopped
-    ⊎ IsClaimUnmigrated gives words stopped
+IsUnbegun gives words stopped = IsUnclaimed gives words stopped ⊎ IsClaimUnmigrated gives words stopped
 
 -- it ran: this is the image then
 pub record HasMigrated (gives : Gives) (words : ServeWords) (image : List ℕ) (came : Result ℕ DeviceFault) : Type 0 where

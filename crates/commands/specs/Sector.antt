@@ -51,6 +51,13 @@ IsUnprinted line print.OutOfMemory before after = Keeps before after
 
 -- ---- the command
 
+-- how a fault of printing is told
+abbrev pub TellsUnprinted : PrintFault → CommandFault → Type 0
+TellsUnprinted (print.Sector why) (fault.Sector told) = told ≡ why
+TellsUnprinted print.Write (fault.Write path) = path.now ≡ codes "-"
+TellsUnprinted print.OutOfMemory fault.OutOfMemory = Unit {0}
+TellsUnprinted _ _ = ⊥
+
 -- the words are numbers, those of a geometry
 pub record AsksForNumber (words : ImageWords) (g : Geometry) (n : ℕ) : Type 0 where
   pub numbers : GeometryNumbers

@@ -162,15 +162,17 @@ pub record IsClaimUnserved (gives : Gives) (words : ServeWords) (stopped : Comma
   pub has : HasClaim gives words geometry capacity bytes claim
   pub unserved : IsUnserved geometry capacity bytes claim stopped
 
--- Why the command ended before anything was read from standard input. Each case says that none before it in the order held. The image's
--- file was loaded whole, so its bytes are known.
-abbrev pub IsServeUnstarted : Gives → ServeWords → CommandFault → Type 0
-IsServeUnstarted gives words stopped =
+-- Why nothing is claimed of an image. Each case says that none before it in the order held. The image's file was loaded whole, so its bytes are known.
+abbrev pub IsUnclaimed : Gives → ServeWords → CommandFault → Type 0
+IsUnclaimed gives words stopped =
     IsUnasked (checked_words words) stopped
     ⊎ IsImageUnopened gives (checked_words words) stopped
     ⊎ LacksCertificate gives true (checked_words words) stopped
     ⊎ HasNoCertificate gives true (checked_words words) stopped
-    ⊎ IsClaimUnserved gives words stopped
+
+-- Why the command ended before anything was read from standard input.
+abbrev pub IsServeUnstarted : Gives → ServeWords → CommandFault → Type 0
+IsServeUnstarted gives words stopped = IsUnclaimed gives words stopped ⊎ IsClaimUnserved gives words stopped
 
 -- How it ended after the run: the image was stored, and what stopped the server is told; or it could not be stored, and that is told, after
 -- what stopped the server.

@@ -4,6 +4,7 @@
 #![tactic(auto)]
 
 mod check;
+mod claimed;
 mod files;
 mod format;
 mod inputs;

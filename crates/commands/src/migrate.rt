@@ -7,17 +7,15 @@ ghost use Rattle.commands.specs.Files.{left_behind, with_store, written_file};
 ghost use Rattle.commands.specs.Lines.{IsUnprinted};
 ghost use Rattle.commands.specs.Migrate.{DoesMigrate, EndsShort, IsUnmigratedDie, MigratesDie, StartsOver, migrated_line};
 
-use crate::check::certificate_in;
+use crate::claimed::{claim, driver_over};
 use crate::files::{FileFault, FileStore};
-use crate::format::driver_of;
-use crate::inputs::{CacheAsked, cache_asked, load};
+use crate::inputs::CacheAsked;
 use crate::lines::print;
 use crate::migrate_all::renew_and_flush;
-use crate::serve::die_of;
 use crate::steady::SteadyDie;
 use crate::text::CommandFault;
 use certificate::Certificate;
-use command_words::{CertificateWords, ServeWords};
+use command_words::ServeWords;
 use ftl_device::{Device, DeviceFault};
 use image_check::check;
 use itoa::Buffer;
@@ -134,18 +132,15 @@ pub fn migrate_command<'a, F: FileStore, W: Write>(
 ) -> Result<(), CommandFault<'a>>
     ensures { DoesMigrate (F.gives files.old) words.entry (left_behind (F.stores files.old) (W.contents out.old)) (left_behind (F.stores files.new) (W.contents out.new)) result }
 {
-    let asked = cache_asked(&CertificateWords {
-        geometry: words.geometry,
-        capacity: words.capacity,
-        image: words.image,
-        certificate: words.certificate,
-    })?;
-    let mut bytes = load(files, words.image)?;
-    let written = load(files, words.certificate)?;
-    let certificate = certificate_in(alloc, &written)?;
-    let die = die_of(alloc, &asked, &bytes, &certificate)?;
-    let driver = driver_of(die, asked.geometry);
-    let came = migrate_die(alloc, &asked, driver, &certificate, &mut bytes)?;
-    let count = finish(files, words.output, &bytes, came)?;
+    let mut claimed = claim(alloc, &words, files)?;
+    let driver = driver_over(alloc, &claimed)?;
+    let came = migrate_die(
+        alloc,
+        &claimed.asked,
+        driver,
+        &claimed.certificate,
+        &mut claimed.bytes,
+    )?;
+    let count = finish(files, words.output, &claimed.bytes, came)?;
     print_migrated(count, out)
 }

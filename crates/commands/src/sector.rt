@@ -2,7 +2,7 @@
 ghost use Rattle.std.specs.Prelude.{◌≡◌, ◌≢◌, ◌∷◌, [], ◌++◌, OnOk, IfOk, IfErr, string_bytes};
 ghost use Rattle.std.specs.Io.KnownBytes.{Appends};
 ghost use Rattle.hex.specs.Hex.{encode_lower};
-ghost use Rattle.commands.specs.Sector.{DoesSector, IsPrintFault, IsReadable, IsUnprinted};
+ghost use Rattle.commands.specs.Sector.{DoesSector, IsPrintFault, IsReadable, IsUnprinted, TellsUnprinted};
 
 use crate::files::FileStore;
 use crate::inputs::{geometry_of, load, number_at, numbers_at};
@@ -104,6 +104,17 @@ pub fn print_sector<W: Write>(
     }
 }
 
+// How it is told that a sector was not printed.
+fn told<'a>(fault: PrintFault) -> CommandFault<'a>
+    ensures { TellsUnprinted fault result }
+{
+    match fault {
+        PrintFault::Sector(fault) => CommandFault::Sector(fault),
+        PrintFault::Write => CommandFault::Write("-"),
+        PrintFault::OutOfMemory => CommandFault::OutOfMemory,
+    }
+}
+
 /// The command `sector`: prints sector N of the raw image IMAGE, of the geometry GEOM.
 ///
 /// # Errors
@@ -133,8 +144,6 @@ pub fn sector_command<'a, F: FileStore, W: Write>(
     };
     match print_sector(alloc, &image, sector, out) {
         Ok(()) => Ok(()),
-        Err(PrintFault::Sector(fault)) => Err(CommandFault::Sector(fault)),
-        Err(PrintFault::Write) => Err(CommandFault::Write("-")),
-        Err(PrintFault::OutOfMemory) => Err(CommandFault::OutOfMemory),
+        Err(fault) => Err(told(fault)),
     }
 }

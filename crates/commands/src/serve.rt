@@ -11,15 +11,14 @@ ghost use Rattle.commands.specs.Files.{left_behind};
 ghost use Rattle.commands.specs.Steady.{is_steady};
 ghost use Rattle.commands.specs.Serve.{bad_in, stop_in, EndsServing, HasServed, IsDieUnmade, IsUnservedDie, DoesServe};
 
-use crate::check::certificate_in;
+use crate::claimed::{claim, driver_over};
 use crate::files::{FileFault, FileStore};
-use crate::format::driver_of;
-use crate::inputs::{CacheAsked, cache_asked, load};
+use crate::inputs::CacheAsked;
 use crate::steady::SteadyDie;
 use crate::text::{CommandFault, ServeStop};
 use block_server::{RunFault, Served, serve_checked};
 use certificate::Certificate;
-use command_words::{CertificateWords, ServeWords};
+use command_words::ServeWords;
 use nand_die::{Die, DieFault};
 use onfi_cycles::Driver;
 use page_layout::source::ImageSlice;
@@ -168,17 +167,16 @@ pub fn serve_command<'a, F: FileStore, R: Read, W: Write>(
     ensures { DoesServe (F.gives files.old) words.entry (R.remaining input.old) (R.remaining input.new)
         (left_behind (F.stores files.old) (W.contents out.old)) (left_behind (F.stores files.new) (W.contents out.new)) result }
 {
-    let asked = cache_asked(&CertificateWords {
-        geometry: words.geometry,
-        capacity: words.capacity,
-        image: words.image,
-        certificate: words.certificate,
-    })?;
-    let mut bytes = load(files, words.image)?;
-    let written = load(files, words.certificate)?;
-    let certificate = certificate_in(alloc, &written)?;
-    let die = die_of(alloc, &asked, &bytes, &certificate)?;
-    let driver = driver_of(die, asked.geometry);
-    let stop = serve_die(alloc, &asked, driver, &certificate, &mut bytes, input, out)?;
-    finish(files, words.output, &bytes, stop)
+    let mut claimed = claim(alloc, &words, files)?;
+    let driver = driver_over(alloc, &claimed)?;
+    let stop = serve_die(
+        alloc,
+        &claimed.asked,
+        driver,
+        &claimed.certificate,
+        &mut claimed.bytes,
+        input,
+        out,
+    )?;
+    finish(files, words.output, &claimed.bytes, stop)
 }

@@ -1,7 +1,7 @@
 use Rattle.std.proofs.Common.{◌≡◌, ◌∙◌, ℕ, List, Option, Err, Result, ap, rules, subst, sym}
 use Rattle.commands.specs.declared.text.CommandFault.{CommandFault}
 use Rattle.commands.specs.Files.{IsUnstored, Stored, left_behind, with_store, written_file}
-use Rattle.commands.specs.Format.{DoesFormat, HasFormatted, HasInput, IsGeometry, IsUnformatted}
+use Rattle.commands.specs.Format.{DoesFormat, HasInput, IsGeometry, IsUnformatted}
 use Rattle.commands.proofs.FormatLemmas.{has_formatted, printed_formats, refused_formats, unread_formats, unstored_formats}
 use Rattle.commands.proofs.format.format_command.Goals as goal
 
@@ -32,13 +32,9 @@ returns-in_err-good g c =
 pub returns-in_err-store : goal.returns-in_err-store
 returns-in_err-store g c =
     let words = c.args.words in
-    let geometry = c.in_ok-geometry.geometry in
     let gives = g.F.FileStore.gives c.args.files.now in
-    let asked : IsGeometry words geometry = record { numbers = c.in_ok-numbers.numbers; spelled = c.in_ok-numbers.ensures.ok; valid = c.in_ok-geometry.ensures.ok } in
-    let input : HasInput gives words geometry c.in_ok-bytes.bytes.items = record { asked = asked; given = c.in_ok-bytes.ensures.ok } in
-    let has : HasFormatted gives words c.deref.result.now c.in_ok-good.good =
-    has_formatted gives words geometry _ c.deref_mut.result.now c.format_image.new.image c.deref.result.now c.in_ok-good.good c.in_ok-bytes.bytes.len input c.deref_mut.ensures.value c.deref.ensures.value
-    (c.format_image.auto.image ∙ c.deref_mut.ensures.len) c.in_ok-good.ensures.ok in
+    let has = has_formatted gives words c.in_ok-numbers.numbers c.in_ok-geometry.geometry _ c.deref_mut.result.now c.format_image.new.image c.deref.result.now c.in_ok-good.good c.in_ok-bytes.bytes.len c.in_ok-numbers.ensures.ok c.in_ok-geometry.ensures.ok
+    c.in_ok-bytes.ensures.ok c.deref_mut.ensures.value c.deref.ensures.value (c.format_image.auto.image ∙ c.deref_mut.ensures.len) c.in_ok-good.ensures.ok in
     let before = left_behind (g.F.FileStore.stores c.args.files.now) (g.W.Write.contents c.args.out.now) in
     let after = left_behind (g.F.FileStore.stores c.store.new.files) (g.W.Write.contents c.args.out.now) in
     let is : c.from_residual-in_err-store.result ≡ Err c.in_err-store.field-0.0 = search rules in
@@ -49,12 +45,8 @@ returns-in_err-store g c =
 pub returns : goal.returns
 returns g c =
     let words = c.args.words in
-    let geometry = c.in_ok-geometry.geometry in
     let gives = g.F.FileStore.gives c.args.files.now in
-    let asked : IsGeometry words geometry = record { numbers = c.in_ok-numbers.numbers; spelled = c.in_ok-numbers.ensures.ok; valid = c.in_ok-geometry.ensures.ok } in
-    let input : HasInput gives words geometry c.in_ok-bytes.bytes.items = record { asked = asked; given = c.in_ok-bytes.ensures.ok } in
-    let has : HasFormatted gives words c.deref.result.now c.in_ok-good.good =
-    has_formatted gives words geometry _ c.deref_mut.result.now c.format_image.new.image c.deref.result.now c.in_ok-good.good c.in_ok-bytes.bytes.len input c.deref_mut.ensures.value c.deref.ensures.value
-    (c.format_image.auto.image ∙ c.deref_mut.ensures.len) c.in_ok-good.ensures.ok in
+    let has = has_formatted gives words c.in_ok-numbers.numbers c.in_ok-geometry.geometry _ c.deref_mut.result.now c.format_image.new.image c.deref.result.now c.in_ok-good.good c.in_ok-bytes.bytes.len c.in_ok-numbers.ensures.ok c.in_ok-geometry.ensures.ok
+    c.in_ok-bytes.ensures.ok c.deref_mut.ensures.value c.deref.ensures.value (c.format_image.auto.image ∙ c.deref_mut.ensures.len) c.in_ok-good.ensures.ok in
     let stored = c.in_ok-store.ensures.ok ∙ ap (λ (s : Option (List Stored)). with_store s (written_file words.output.now c.deref.result.now)) c.in_ok-bytes.ensures.stores in
     printed_formats gives words c.deref.result.now c.in_ok-good.good _ _ c.print_good.result has stored c.print_good.ensures.ok c.print_good.ensures.fault

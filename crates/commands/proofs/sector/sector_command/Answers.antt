@@ -1,9 +1,8 @@
-use Rattle.std.proofs.Common.{true, false, ◌≡◌, inr, Err, Result, refl, rules, subst, sym, ap, ◌∙◌, length}
+use Rattle.std.proofs.Common.{true, false, ◌≡◌, Err, Result, refl, rules, subst, sym, ap, ◌∙◌, length}
 use Rattle.commands.specs.declared.text.CommandFault.{CommandFault}
-use Rattle.commands.specs.declared.sector.PrintFault.{PrintFault}
-use Rattle.commands.specs.Sector.{DoesSector, HasImage, AsksForNumber, IsPrintFault, IsUnprinted, sector_line}
-use Rattle.commands.proofs.CommandLemmas.{unread_does}
-use Rattle.commands.proofs.ImageLemmas.{part_in, line_in, readable_in, unreadable_in}
+use Rattle.commands.specs.Sector.{DoesSector, AsksForNumber}
+use Rattle.commands.proofs.CommandLemmas.{has_image, unprinted_does, unread_does}
+use Rattle.commands.proofs.ImageLemmas.{line_in, print_fault_in, readable_in, unprinted_in}
 use Rattle.commands.proofs.sector.sector_command.Goals as goal
 
 pub returns-in_err-bytes-clause-does : goal.returns-in_err-bytes-clause-does
@@ -24,11 +23,8 @@ pub returns-in-Ok-print_sector-clause-does : goal.returns-in-Ok-print_sector-cla
 returns-in-Ok-print_sector-clause-does g c =
     let geometry = c.in_ok-geometry.geometry in
     let bytes = c.in_ok-bytes.bytes.items in
-    let image : HasImage (g.F.FileStore.gives c.args.files.now) c.args.words geometry c.in_ok-sector.sector bytes = record {
-      asked = record { numbers = c.in_ok-numbers.numbers; geometry = c.in_ok-numbers.ensures.ok; sector = c.in_ok-sector.ensures.ok; valid = c.in_ok-geometry.ensures.ok };
-      given = c.in_ok-bytes.ensures.ok;
-      whole = ap length (sym c.deref.ensures.value) ∙ c.in-Ok.ensures.accepted.0 refl;
-    } in (
+    let image = has_image (g.F.FileStore.gives c.args.files.now) c.args.words c.in_ok-numbers.numbers geometry c.in_ok-sector.sector _ bytes c.in_ok-numbers.ensures.ok c.in_ok-sector.ensures.ok c.in_ok-geometry.ensures.ok c.in_ok-bytes.ensures.ok
+    c.deref.ensures.value (c.in-Ok.ensures.accepted.0 refl) in (
       geometry,
       c.in_ok-sector.sector,
       bytes,
@@ -37,68 +33,13 @@ returns-in-Ok-print_sector-clause-does g c =
       line_in c.in-Ok.image.flash geometry c.deref.result.now bytes c.in_ok-sector.sector _ _ c.in-Ok.ensures.image c.deref.ensures.value c.in-Ok-print_sector.ensures.ok,
     )
 
-pub returns-in-Err-Sector-clause-does : goal.returns-in-Err-Sector-clause-does
-returns-in-Err-Sector-clause-does g c =
-    let geometry = c.in_ok-geometry.geometry in
-    let bytes = c.in_ok-bytes.bytes.items in
-    let image : HasImage (g.F.FileStore.gives c.args.files.now) c.args.words geometry c.in_ok-sector.sector bytes = record {
-      asked = record { numbers = c.in_ok-numbers.numbers; geometry = c.in_ok-numbers.ensures.ok; sector = c.in_ok-sector.ensures.ok; valid = c.in_ok-geometry.ensures.ok };
-      given = c.in_ok-bytes.ensures.ok;
-      whole = ap length (sym c.deref.ensures.value) ∙ c.in-Ok.ensures.accepted.0 refl;
-    } in
-    let P : PrintFault → Type 0 = λ f. IsUnprinted (sector_line c.in-Ok.image.flash.geometry c.in-Ok.image.flash.image c.in_ok-sector.sector) f (g.W.Write.contents c.args.out.now) (g.W.Write.contents c.print_sector.new.out) in
-    let Q : PrintFault → Type 0 = λ f. IsPrintFault c.in-Ok.image.flash.geometry c.in-Ok.image.flash.image c.in_ok-sector.sector f in (
-      subst P c.in-Err-Sector.field-0-is c.in-Err-Sector.ensures.unprinted,
-      (
-        geometry,
-        c.in_ok-sector.sector,
-        bytes,
-        image,
-        unreadable_in c.in-Ok.image.flash geometry c.deref.result.now bytes c.in_ok-sector.sector
-            c.in-Err-Sector.fault c.in-Ok.ensures.image c.deref.ensures.value (subst Q c.in-Err-Sector.field-0-is c.in-Err-Sector.ensures.fault),
-      ),
-    )
-
-pub returns-in-Err-Write-clause-does : goal.returns-in-Err-Write-clause-does
-returns-in-Err-Write-clause-does g c =
-    let geometry = c.in_ok-geometry.geometry in
-    let bytes = c.in_ok-bytes.bytes.items in
-    let image : HasImage (g.F.FileStore.gives c.args.files.now) c.args.words geometry c.in_ok-sector.sector bytes = record {
-      asked = record { numbers = c.in_ok-numbers.numbers; geometry = c.in_ok-numbers.ensures.ok; sector = c.in_ok-sector.ensures.ok; valid = c.in_ok-geometry.ensures.ok };
-      given = c.in_ok-bytes.ensures.ok;
-      whole = ap length (sym c.deref.ensures.value) ∙ c.in-Ok.ensures.accepted.0 refl;
-    } in
-    let P : PrintFault → Type 0 = λ f. IsUnprinted (sector_line c.in-Ok.image.flash.geometry c.in-Ok.image.flash.image c.in_ok-sector.sector) f (g.W.Write.contents c.args.out.now) (g.W.Write.contents c.print_sector.new.out) in
-    let Q : PrintFault → Type 0 = λ f. IsPrintFault c.in-Ok.image.flash.geometry c.in-Ok.image.flash.image c.in_ok-sector.sector f in (
-      refl,
-      (
-        geometry,
-        c.in_ok-sector.sector,
-        bytes,
-        image,
-        readable_in c.in-Ok.image.flash geometry c.deref.result.now bytes c.in_ok-sector.sector c.in-Ok.ensures.image c.deref.ensures.value (subst Q c.in-Err-Write.field-0-is c.in-Err-Write.ensures.fault),
-        part_in c.in-Ok.image.flash geometry c.deref.result.now bytes c.in_ok-sector.sector _ _ c.in-Ok.ensures.image c.deref.ensures.value (subst P c.in-Err-Write.field-0-is c.in-Err-Write.ensures.unprinted),
-      ),
-    )
-
 pub returns-clause-does : goal.returns-clause-does
 returns-clause-does g c =
     let geometry = c.in_ok-geometry.geometry in
     let bytes = c.in_ok-bytes.bytes.items in
-    let image : HasImage (g.F.FileStore.gives c.args.files.now) c.args.words geometry c.in_ok-sector.sector bytes = record {
-      asked = record { numbers = c.in_ok-numbers.numbers; geometry = c.in_ok-numbers.ensures.ok; sector = c.in_ok-sector.ensures.ok; valid = c.in_ok-geometry.ensures.ok };
-      given = c.in_ok-bytes.ensures.ok;
-      whole = ap length (sym c.deref.ensures.value) ∙ c.in-Ok.ensures.accepted.0 refl;
-    } in
-    let P : PrintFault → Type 0 = λ f. IsUnprinted (sector_line c.in-Ok.image.flash.geometry c.in-Ok.image.flash.image c.in_ok-sector.sector) f (g.W.Write.contents c.args.out.now) (g.W.Write.contents c.print_sector.new.out) in
-    let Q : PrintFault → Type 0 = λ f. IsPrintFault c.in-Ok.image.flash.geometry c.in-Ok.image.flash.image c.in_ok-sector.sector f in (
-      subst P c.in-Err-OutOfMemory.field-0-is c.in-Err-OutOfMemory.ensures.unprinted,
-      inr (
-        geometry,
-        c.in_ok-sector.sector,
-        bytes,
-        image,
-        readable_in c.in-Ok.image.flash geometry c.deref.result.now bytes c.in_ok-sector.sector
-            c.in-Ok.ensures.image c.deref.ensures.value (subst Q c.in-Err-OutOfMemory.field-0-is c.in-Err-OutOfMemory.ensures.fault),
-      ),
-    )
+    let image = has_image (g.F.FileStore.gives c.args.files.now) c.args.words c.in_ok-numbers.numbers geometry c.in_ok-sector.sector _ bytes c.in_ok-numbers.ensures.ok c.in_ok-sector.ensures.ok c.in_ok-geometry.ensures.ok c.in_ok-bytes.ensures.ok
+    c.deref.ensures.value (c.in-Ok.ensures.accepted.0 refl) in
+    let flash = c.in-Ok.image.flash in
+    unprinted_does _ c.args.words geometry c.in_ok-sector.sector bytes _ _ c.in-Err-print_sector.fault c.told.result image
+    (print_fault_in flash geometry c.deref.result.now bytes c.in_ok-sector.sector _ c.in-Ok.ensures.image c.deref.ensures.value c.in-Err-print_sector.ensures.fault)
+    (unprinted_in flash geometry c.deref.result.now bytes c.in_ok-sector.sector _ _ _ c.in-Ok.ensures.image c.deref.ensures.value c.in-Err-print_sector.ensures.unprinted) c.told.ensures

@@ -1,8 +1,8 @@
 use Rattle.std.proofs.Common.{true, false, ◌≡◌, Err, Result, refl, rules, subst, sym, ap, ◌∙◌, length}
 use Rattle.commands.specs.declared.text.CommandFault.{CommandFault}
-use Rattle.commands.specs.Sector.{HasImage, AsksForNumber}
+use Rattle.commands.specs.Sector.{AsksForNumber}
 use Rattle.commands.specs.Show.{DoesShow}
-use Rattle.commands.proofs.CommandLemmas.{shown_does, unread_shows}
+use Rattle.commands.proofs.CommandLemmas.{has_image, shown_does, unread_shows}
 use Rattle.commands.proofs.ImageLemmas.{shows_in, unshown_in}
 use Rattle.commands.proofs.show.show_command.Goals as goal
 
@@ -25,11 +25,8 @@ returns-clause-does g c =
     let geometry = c.in_ok-geometry.geometry in
     let row = c.in_ok-row.row in
     let bytes = c.in_ok-bytes.bytes.items in
-    let image : HasImage (g.F.FileStore.gives c.args.files.now) c.args.words geometry row bytes = record {
-      asked = record { numbers = c.in_ok-numbers.numbers; geometry = c.in_ok-numbers.ensures.ok; sector = c.in_ok-row.ensures.ok; valid = c.in_ok-geometry.ensures.ok };
-      given = c.in_ok-bytes.ensures.ok;
-      whole = ap length (sym c.deref.ensures.value) ∙ c.in-Ok.ensures.accepted.0 refl;
-    } in
+    let image = has_image (g.F.FileStore.gives c.args.files.now) c.args.words c.in_ok-numbers.numbers geometry row _ bytes c.in_ok-numbers.ensures.ok c.in_ok-row.ensures.ok c.in_ok-geometry.ensures.ok c.in_ok-bytes.ensures.ok c.deref.ensures.value
+    (c.in-Ok.ensures.accepted.0 refl) in
     let shown = shows_in c.in-Ok.image.flash geometry c.deref.result.now bytes row _ _ c.print_page.result c.in-Ok.ensures.image c.deref.ensures.value c.print_page.ensures.ok in
     let unshown = unshown_in c.in-Ok.image.flash geometry c.deref.result.now bytes row _ _ c.print_page.result c.in-Ok.ensures.image c.deref.ensures.value c.print_page.ensures.fault in
     shown_does _ c.args.words geometry row bytes _ _ c.print_page.result image shown unshown
