@@ -63,7 +63,7 @@ module _ {S : Type 0} (held : S → Held) (honest : S → Bool) (failed : S → 
         confirms_program (store_behind held old).geometry row (0 + length body + length spare) body spare
         (subst (λ (g : Geometry). length body ≡ g.data_bytes) (sym asks.stands.geometry) asks.body_whole)
 
-    took_program : (outcome : Outcome) → honest old.bus.store ≡ true → result ≡ Ok outcome → Took held honest failed (Programs row (page body spare)) old.bus new.bus
+    pub took_program : (outcome : Outcome) → honest old.bus.store ≡ true → result ≡ Ok outcome → Took held honest failed (Programs row (page body spare)) old.bus new.bus
     unfolding program_cycles
     took_program outcome h is = elim asks.sends [
       | inl sent ↦
@@ -72,7 +72,7 @@ module _ {S : Type 0} (held : S → Held) (honest : S → Bool) (failed : S → 
       | inr refused ↦ absurd (no_ok outcome refused.0 (sym is ∙ refused.1))
     ]
 
-    stopped_program : honest old.bus.store ≡ true
+    pub stopped_program : honest old.bus.store ≡ true
         → ((store_behind held new).geometry ≡ (store_behind held old).geometry)
         × ((store_behind held new ≡ store_behind held old) ⊎ ((done : Bool) × Leaves (Programs row (page body spare)) (shown held old.bus).flash old.bus.sync_when (store_behind held old) done (store_behind held new)))
     unfolding program_cycles
@@ -102,7 +102,7 @@ module _ {S : Type 0} (held : S → Held) (honest : S → Bool) (failed : S → 
     erase_is_due : command_due (shown held old.bus).flash.geometry (Confirming ForErase its_row 0) 0xD0 ≡ Erases block
     erase_is_due = ap (λ g. command_due g (Confirming ForErase its_row 0) 0xD0) asks.stands.geometry ∙ erase_due old.geometry block
 
-    took_erase : (outcome : Outcome) → honest old.bus.store ≡ true → result ≡ Ok outcome → Took held honest failed (Erases block) old.bus new.bus
+    pub took_erase : (outcome : Outcome) → honest old.bus.store ≡ true → result ≡ Ok outcome → Took held honest failed (Erases block) old.bus new.bus
     unfolding erase_cycles
     took_erase outcome h is = elim asks.sends [
       | inl sent ↦
@@ -110,7 +110,7 @@ module _ {S : Type 0} (held : S → Held) (honest : S → Bool) (failed : S → 
       | inr refused ↦ absurd (no_ok outcome refused.0 (sym is ∙ refused.1))
     ]
 
-    stopped_erase : honest old.bus.store ≡ true
+    pub stopped_erase : honest old.bus.store ≡ true
         → ((store_behind held new).geometry ≡ (store_behind held old).geometry)
         × ((store_behind held new ≡ store_behind held old) ⊎ ((done : Bool) × Leaves (Erases block) (shown held old.bus).flash old.bus.sync_when (store_behind held old) done (store_behind held new)))
     unfolding erase_cycles
@@ -125,10 +125,10 @@ module _ {S : Type 0} (held : S → Held) (honest : S → Bool) (failed : S → 
     ]
 
   -- where a read of a page leads
-  abbrev read_to : ℕ → DriverState (FileState S) → Phase
+  abbrev pub read_to : ℕ → DriverState (FileState S) → Phase
   read_to row old = Ready (PageOut row (0 + old.geometry.data_bytes + old.geometry.spare_bytes))
 
-  read_leads : (row : ℕ) (old : DriverState (FileState S)) → StandsReady held old → row < row_count old.geometry
+  pub read_leads : (row : ℕ) (old : DriverState (FileState S)) → StandsReady held old → row < row_count old.geometry
       → LeadTo (shown held old.bus).flash.geometry (shown held old.bus).phase (read_cycles row old.geometry.data_bytes old.geometry.spare_bytes) (read_to row old)
   read_leads row old stands lt =
       let same : old.geometry ≡ (store_behind held old).geometry = sym stands.geometry in
@@ -136,7 +136,7 @@ module _ {S : Type 0} (held : S → Held) (honest : S → Bool) (failed : S → 
       (whole_read (store_behind held old).geometry stands.ready.0 row old.geometry.data_bytes old.geometry.spare_bytes (subst (λ (g : Geometry). row < row_count g) same lt)
       (ap (λ (g : Geometry). g.data_bytes) same) (ap (λ (g : Geometry). g.spare_bytes) same))
 
-  took_page : (row : ℕ) (out : List ℕ) (old new : DriverState (FileState S)) → honest old.bus.store ≡ true → AsksPage held honest failed row out old (Ok tt) new → Quiet held honest failed old.bus new.bus (read_to row old)
+  pub took_page : (row : ℕ) (out : List ℕ) (old new : DriverState (FileState S)) → honest old.bus.store ≡ true → AsksPage held honest failed row out old (Ok tt) new → Quiet held honest failed old.bus new.bus (read_to row old)
   took_page row out old new h asks =
       quiet held honest failed old.bus new.bus (read_cycles row old.geometry.data_bytes old.geometry.spare_bytes) out (read_to row old) h (read_leads row old asks.stands asks.in_range) asks.sends
 

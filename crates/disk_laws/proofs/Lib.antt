@@ -3,6 +3,7 @@ mod GrowLemmas
 mod LogLemmas
 mod LossLemmas
 mod RunLemmas
+mod RunOfLemmas
 mod SessionLemmas
 mod KilledLemmas
 mod StoreLemmas
@@ -11,4 +12,5 @@ mod StoreLostLemmas
 mod SentLemmas
 mod RefusedLemmas
 mod DrivenLemmas
+mod CallLemmas
 mod StoreRunLemmas

@@ -1,30 +1,25 @@
 -- What a server asks of its device of sectors.
-use Rattle.std.proofs.Common.{◌≡◌, inl, inr, ℕ, suc, zero, Bool, true, false, List, [], ◌∷◌, Option, Some, None, Result, Ok, Err, ap}
+use Rattle.std.proofs.Common.{◌≡◌, inl, inr, ◌≢◌, ◌⊎◌, ℕ, Bool, true, false, List, [], ◌∷◌, ◌++◌, Option, Some, None, Result, Ok, Err, refl, ap}
 use Rattle.std.proofs.lemmas.Bool.{cases_Bool, cases_eq}
 use Rattle.nbd_stream.specs.declared.export.Export.{Export}
 use Rattle.nbd_stream.specs.declared.fault.DiskFault.{DiskFault}
 use Rattle.nbd_stream.specs.declared.reply.RequestError.{RequestError}
 use Rattle.nbd_stream.specs.declared.task.Task.{Task}
 use Rattle.nbd_stream.specs.declared.task.Task.TheVariants.{Read, Write, Flush, Trim, WriteZeroes}
-use Rattle.nbd_stream.specs.Disk.{Contents}
+use Rattle.nbd_stream.specs.Disk.{Contents, asked_as}
 use Rattle.nbd_stream.specs.Exchanges.{Exchange, RestsBy, Round, TellsBy, ToldEachRound, task_of}
-use Rattle.nbd_stream.specs.Through.{Through, Times}
-use Rattle.nbd_stream.proofs.ThroughLemmas.{joined, none, once}
+use Rattle.nbd_stream.specs.Through.{Through}
 use Rattle.disk_server.specs.declared.mark.SyncMark.{SyncMark}
 use Rattle.disk_server.specs.declared.synced.SyncedDisk.{SyncedDisk}
 use Rattle.disk_server.specs.Asked.{AsksCall, AsksSectors}
-use Rattle.disk_server.specs.Synced.{Asks, ClearsPart, EndsTask, FlushesBy, RestsSynced, SyncsTask}
+use Rattle.disk_server.specs.Synced.{ClearsPart, EndsTask, FlushesBy, IsKnownFlushed, RestsSynced, SyncsTask}
+use Rattle.disk_laws.specs.CallsMade.{IsRunOf, this_call}
 use Rattle.disk_laws.specs.Runs.{AsksOneOf}
-use Rattle.disk_laws.specs.Sessions.{ClosedSessionLaw, ServedSessionLaw}
+use Rattle.disk_laws.specs.Served.{ClosedSessionLaw, ServedSessionLaw, calls_asked, closing_asked, closing_flush, ends_asked, flush_asked, part_asked, parts_asked, reads_made, rest_asked, rounds_asked, syncs_asked, task_asked, tells_asked}
+use Rattle.disk_laws.proofs.RunOfLemmas.{run_below, run_joined, run_none, run_once, run_unless}
 
--- steps of another kind, each of which is such steps
-mapped : {D : Type 0} (P R : D → D → Type 0) → ((a b : D) → P a b → Through R a b) → (n : ℕ) (old new : D) → Times P n old new → Through R old new
-unfolding Times
-mapped P R so zero old new same = none R old new same
-mapped P R so (suc n) old new (mid, before, last) = joined R old mid new (mapped P R so n old mid before) (so mid new last)
-
-through_all : {D : Type 0} (P R : D → D → Type 0) → ((a b : D) → P a b → Through R a b) → (old new : D) → Through P old new → Through R old new
-through_all P R so old new (n, times) = mapped P R so n old new times
+untrue : false ≡ true → ⊥
+untrue e = cc
 
 module _ {S Y : Type 0} (contents : S → Contents) (honest : S → Bool) (reads changes : S → S → Type 0) (flushes rests : S → Result (Unit {0}) DiskFault → S → Type 0)
     (synced failed : Y → ℕ) (marked : Y → SyncMark) (next : S → ℕ) where
@@ -34,86 +29,96 @@ module _ {S Y : Type 0} (contents : S → Contents) (honest : S → Bool) (reads
   abbrev Does : S → Task → Result (Unit {0}) DiskFault → S → Type 0
   Does = AsksSectors contents honest reads changes flushes
 
-  reads_on : (old new : S) → Through reads old new → Through One old new
+  -- ---- a task
+
+  run_reads : (old new : S) (is : Through reads old new) → IsRunOf One (reads_made contents honest reads changes flushes rests synced failed marked next old new is) old new
   unfolding AsksCall
-  reads_on = through_all reads One (λ a b is. once One a b (inl (inl is)))
+  run_reads = run_below reads One (λ s. s) (λ a b read. this_call One a b (inl (inl read))) (λ a b read. run_once One a b (inl (inl read)))
 
-  calls_on : (old new : S) → Through (AsksCall reads changes flushes) old new → Through One old new
-  calls_on = through_all (AsksCall reads changes flushes) One (λ a b is. once One a b (inl is))
+  run_calls : (old new : S) (is : Through (AsksCall reads changes flushes) old new) → IsRunOf One (calls_asked contents honest reads changes flushes rests synced failed marked next old new is) old new
+  run_calls = run_below (AsksCall reads changes flushes) One (λ s. s) (λ a b call. this_call One a b (inl call)) (λ a b call. run_once One a b (inl call))
 
-  a_flush : (old new : S) (result : Result (Unit {0}) DiskFault) → flushes old result new → Through One old new
+  run_flush : (old new : S) (result : Result (Unit {0}) DiskFault) (is : flushes old result new) → IsRunOf One (flush_asked contents honest reads changes flushes rests synced failed marked next old new result is) old new
   unfolding AsksCall
-  a_flush old new result is = once One old new (inl (inr (inr (result, is))))
+  run_flush old new result is = run_once One old new (inl (inr (inr (result, is))))
 
-  task_asks : (old new : S) (task : Task) (result : Result (Unit {0}) DiskFault) → Does old task result new → Through One old new
-  task_asks old new (Read offset count) result is = reads_on old new is
-  task_asks old new (Write offset count durable) result is = calls_on old new is
-  task_asks old new Flush result is = a_flush old new result is
-  task_asks old new (Trim offset count durable) result is = calls_on old new is.calls
-  task_asks old new (WriteZeroes offset count durable) result is = calls_on old new is.calls
+  run_task : (old new : S) (task : Task) (result : Result (Unit {0}) DiskFault) (is : Does old task result new) → IsRunOf One (task_asked contents honest reads changes flushes rests synced failed marked next old new task result is) old new
+  run_task old new (Read offset count) result is = run_reads old new is
+  run_task old new (Write offset count durable) result is = run_calls old new is
+  run_task old new Flush result is = run_flush old new result is
+  run_task old new (Trim offset count durable) result is = run_calls old new is.calls
+  run_task old new (WriteZeroes offset count durable) result is = run_calls old new is.calls
 
-  asks : (old new : S) (task : Task) → Asks Does task old new → Through One old new
-  asks old new task (answer, is) = task_asks old new task answer is
+  run_part : (offset count : ℕ) (old new : S) (is : ClearsPart Does offset count old new) → IsRunOf One (part_asked contents honest reads changes flushes rests synced failed marked next offset count old new is) old new
+  run_part offset count old new (place, taken, low, high, (answer, is)) = run_task old new (Trim place taken false) answer is
 
-  cleared : (offset count : ℕ) (old new : S) → ClearsPart Does offset count old new → Through One old new
-  cleared offset count old new (place, taken, low, high, (answer, is)) = task_asks old new (Trim place taken false) answer is
+  run_parts : (offset count : ℕ) (old new : S) (is : Through (ClearsPart Does offset count) old new) → IsRunOf One (parts_asked contents honest reads changes flushes rests synced failed marked next offset count old new is) old new
+  run_parts offset count = run_below (ClearsPart Does offset count) One (λ s. s) (part_asked contents honest reads changes flushes rests synced failed marked next offset count) (run_part offset count)
 
-  ends : (old new : SyncedDisk S Y) (task : Task) (result : Result (Unit {0}) DiskFault) → EndsTask Does synced marked next old task result new → Through One old.disk new.disk
-  ends old new (Read offset count) result is = task_asks old.disk new.disk (Read offset count) result is.0
-  ends old new (Write offset count durable) result is = asks old.disk new.disk (Write offset count false) is.0
-  ends old new Flush result is = none One old.disk new.disk is.0
-  ends old new (Trim offset count durable) result is = through_all (ClearsPart Does offset count) One (cleared offset count) old.disk new.disk is.parts
-  ends old new (WriteZeroes offset count durable) result is = through_all (ClearsPart Does offset count) One (cleared offset count) old.disk new.disk is.parts
+  -- ---- a task of the synced disk
 
-  same_disk : (old new : SyncedDisk S Y) → new ≡ old → Through One old.disk new.disk
-  same_disk old new same = none One old.disk new.disk (ap (λ (d : SyncedDisk S Y). d.disk) same)
+  same_disk : (old new : SyncedDisk S Y) → new ≡ old → new.disk ≡ old.disk
+  same_disk old new same = ap (λ (d : SyncedDisk S Y). d.disk) same
 
-  syncs_task : (old new : SyncedDisk S Y) (task : Task) (result : Result (Unit {0}) DiskFault) → SyncsTask Does synced failed marked next old task result new → Through One old.disk new.disk
-  syncs_task old new task result is = elim (cases_Bool old.failed) [
-    | inl over ↦ same_disk old new (is.over over).1
-    | inr going ↦ ends old new task result (is.ends going)
-  ]
+  run_ends : (old new : SyncedDisk S Y) (task : Task) (result : Result (Unit {0}) DiskFault) (is : EndsTask Does synced marked next old task result new) → IsRunOf One (ends_asked contents honest reads changes flushes rests synced failed marked next old new task result is) old.disk new.disk
+  run_ends old new (Read offset count) result is = run_task old.disk new.disk (Read offset count) result is.0
+  run_ends old new (Write offset count durable) result is = run_task old.disk new.disk (Write offset count false) is.0.0 is.0.1
+  run_ends old new Flush result is = run_none One old.disk new.disk is.0
+  run_ends old new (Trim offset count durable) result is = run_parts offset count old.disk new.disk is.parts
+  run_ends old new (WriteZeroes offset count durable) result is = run_parts offset count old.disk new.disk is.parts
 
-  tells : (asked : Result Task RequestError) (old new : SyncedDisk S Y) (x : Exchange)
-      → TellsBy (λ s. contents s.disk) (λ s. honest s.disk) (λ _. false) (SyncsTask Does synced failed marked next) asked old x new → Through One old.disk new.disk
-  tells (Err e) old new x is = same_disk old new is.1
-  tells (Ok task) old new x is = syncs_task old new _ is.1.done is.1.does_so
+  run_syncs : (old new : SyncedDisk S Y) (task : Task) (result : Result (Unit {0}) DiskFault) (is : SyncsTask Does synced failed marked next old task result new)
+      → IsRunOf One (syncs_asked contents honest reads changes flushes rests synced failed marked next old new task result is) old.disk new.disk
+  run_syncs old new task result is =
+      run_unless One old.failed (λ going. ends_asked contents honest reads changes flushes rests synced failed marked next old new task result (is.ends going)) old.disk new.disk (λ over. same_disk old new (is.over over).1) (λ going. run_ends old new task result (is.ends going))
 
-  rested : (asked : Result Task RequestError) (o : Option (Result (Unit {0}) DiskFault)) (old new : SyncedDisk S Y)
-      → RestsBy (λ s. contents s.disk) (λ s. honest s.disk) (λ _. false) (RestsSynced rests) asked old o new → Through One old.disk new.disk
-  rested asked None old new same = same_disk old new same
-  rested asked (Some result) old new (change, idles, inl over) = same_disk old new over.1.1
-  rested asked (Some result) old new (change, idles, inr on) = once One old.disk new.disk (inr (result, on.1))
+  -- ---- rounds
 
-  rounds : (e : Export) (old new : SyncedDisk S Y) (xs : List Round)
-      → ToldEachRound (λ s. contents s.disk) (λ s. honest s.disk) (λ _. false) (SyncsTask Does synced failed marked next) (RestsSynced rests) e old xs new → Through One old.disk new.disk
-  rounds e old new [] same = same_disk old new same
-  rounds e old new (x ∷ xs) (at, one, more) =
-      joined One old.disk at.disk new.disk
-      (joined One old.disk one.mid.disk at.disk (tells (task_of e x.exchange.request) old one.mid x.exchange one.tells) (rested (task_of e x.exchange.request) x.rested one.mid at one.rest))
-      (rounds e at new xs more)
+  run_tells : (asked : Result Task RequestError) (old new : SyncedDisk S Y) (x : Exchange)
+      (is : TellsBy (λ s. contents s.disk) (λ s. honest s.disk) (λ _. false) (SyncsTask Does synced failed marked next) asked old x new) → IsRunOf One (tells_asked contents honest reads changes flushes rests synced failed marked next asked old new x is) old.disk new.disk
+  run_tells (Err e) old new x is = run_none One old.disk new.disk (same_disk old new is.1)
+  run_tells (Ok task) old new x is = run_syncs old new (asked_as task) is.1.done is.1.does_so
+
+  run_rest : (asked : Result Task RequestError) (rested : Option (Result (Unit {0}) DiskFault)) (old new : SyncedDisk S Y)
+      (is : RestsBy (λ s. contents s.disk) (λ s. honest s.disk) (λ _. false) (RestsSynced rests) asked old rested new) → IsRunOf One (rest_asked contents honest reads changes flushes rests synced failed marked next asked rested old new is) old.disk new.disk
+  run_rest asked None old new same = run_none One old.disk new.disk (same_disk old new same)
+  run_rest asked (Some result) old new (change, idles, inl over) = run_none One old.disk new.disk (same_disk old new over.1.1)
+  run_rest asked (Some result) old new (change, idles, inr on) = run_once One old.disk new.disk (inr (result, on.1))
+
+  run_rounds : (e : Export) (old new : SyncedDisk S Y) (xs : List Round)
+      (is : ToldEachRound (λ s. contents s.disk) (λ s. honest s.disk) (λ _. false) (SyncsTask Does synced failed marked next) (RestsSynced rests) e old xs new)
+      → IsRunOf One (rounds_asked contents honest reads changes flushes rests synced failed marked next e old new xs is) old.disk new.disk
+  run_rounds e old new [] same = run_none One old.disk new.disk (same_disk old new same)
+  run_rounds e old new (x ∷ xs) (at, one, more) =
+      let told = run_tells (task_of e x.exchange.request) old one.mid x.exchange one.tells in
+      let rested = run_rest (task_of e x.exchange.request) x.rested one.mid at one.rest in
+      let calls = tells_asked contents honest reads changes flushes rests synced failed marked next (task_of e x.exchange.request) old one.mid x.exchange one.tells in
+      let rest = rest_asked contents honest reads changes flushes rests synced failed marked next (task_of e x.exchange.request) x.rested one.mid at one.rest in
+      run_joined One old.disk at.disk new.disk (calls ++ rest) (rounds_asked contents honest reads changes flushes rests synced failed marked next e at new xs more)
+      (run_joined One old.disk one.mid.disk at.disk calls rest told rested)
+      (run_rounds e at new xs more)
 
   pub served_session : ServedSessionLaw contents honest reads changes flushes rests synced failed marked next
-  served_session e limit old new unread left before after result (inl ended) = same_disk old new ended.0
-  served_session e limit old new unread left before after result (inr begins) = rounds e old new begins.transmits.rounds begins.transmits.each
+  served_session e limit old new unread left before after result (inl ended) = run_none One old.disk new.disk (same_disk old new ended.0)
+  served_session e limit old new unread left before after result (inr begins) = run_rounds e old new begins.transmits.rounds begins.transmits.each
 
   module _ (takes : S → Bool) where
-    flushed : (old new : SyncedDisk S Y) (result : Result (Unit {0}) DiskFault) → FlushesBy Does synced marked next takes old result new → Through One old.disk new.disk
-    flushed old new (Ok done) is = a_flush old.disk new.disk (Ok tt) is.flushed
-    flushed old new (Err e) is = a_flush old.disk new.disk is.answer is.asked
+    run_closing : (old new : SyncedDisk S Y) (result : Result (Unit {0}) DiskFault) (is : FlushesBy Does synced marked next takes old result new) → IsRunOf One (closing_flush contents honest reads changes flushes rests synced failed marked next takes old new result is) old.disk new.disk
+    run_closing old new (Ok done) is = run_flush old.disk new.disk (Ok tt) is.flushed
+    run_closing old new (Err e) is = run_flush old.disk new.disk is.answer is.asked
+
+    known_or_not : (counts : Bool) (s : SyncedDisk S Y) → IsKnownFlushed marked next counts s ⊎ (¬ IsKnownFlushed marked next counts s)
+    known_or_not false s = inr (λ known. untrue known.0)
+    known_or_not true s = elim (cases_eq (marked s.syncs).flushed (next s.disk)) [
+      | inl known ↦ inl (refl, known)
+      | inr apart ↦ inr (λ known. apart known.1)
+    ]
 
     pub closed_session : ClosedSessionLaw contents honest reads changes flushes rests synced failed marked next takes
-    closed_session counts old new result closes = elim (cases_Bool old.failed) [
-      | inl over ↦ same_disk old new (closes.over over).1
-      | inr going ↦ elim (cases_Bool counts) [
-        | inr not_counted ↦ flushed old new result (closes.flushes going (λ known. no_truth counts known.0 not_counted))
-        | inl counted ↦ elim (cases_eq (marked old.syncs).flushed (next old.disk)) [
-          | inl known ↦ same_disk old new (closes.known going (counted, known)).1
-          | inr apart ↦ flushed old new result (closes.flushes going (λ known. apart known.1))
-        ]
-      ]
-    ]
+    closed_session counts old new result closes = (known_or_not counts old, by (known_or_not counts old))
       where
-        no_truth : (b : Bool) → b ≡ true → b ≡ false → ⊥
-        no_truth true e f = cc
-        no_truth false e f = cc
+        by : (known : IsKnownFlushed marked next counts old ⊎ (¬ IsKnownFlushed marked next counts old)) → IsRunOf One (closing_asked contents honest reads changes flushes rests synced failed marked next takes counts old new result closes known) old.disk new.disk
+        by (inl known) = run_none One old.disk new.disk (same_disk old new (elim (cases_Bool old.failed) [ inl over ↦ (closes.over over).1 | inr going ↦ (closes.known going known).1 ]))
+        by (inr unknown) =
+            run_unless One old.failed (λ going. closing_flush contents honest reads changes flushes rests synced failed marked next takes old new result (closes.flushes going unknown)) old.disk new.disk (λ over. same_disk old new (closes.over over).1)
+            (λ going. run_closing old new result (closes.flushes going unknown))

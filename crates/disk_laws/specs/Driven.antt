@@ -1,5 +1,5 @@
 -- WHAT A DRIVER ASKS OF A DIE IN A STORE, by its contract, and what its record gains: so the record tells what a loss of power, or a call that the file refused, may leave of the store.
-use Rattle.std.specs.Prelude.{◌≡◌, ◌<◌, ℕ, Bool, true, List, [], ◌∷◌, ◌++◌, length, replicate, Some, None, Result, Ok, Err, IfOk, MatchResult}
+use Rattle.std.specs.Prelude.{◌≡◌, ◌<◌, ◌⊎◌, ℕ, Bool, true, List, [], ◌∷◌, ◌++◌, length, replicate, Some, None, Result, Ok, Err, IfOk, MatchResult}
 use Rattle.page_layout.specs.Geometry.{row_count}
 use Rattle.page_layout.specs.Page.{Image, page}
 use Rattle.page_layout.specs.declared.source.SourceFault.{SourceFault}
@@ -9,13 +9,13 @@ use Rattle.page_layout.specs.Flash.{Operation, Program, Erase, Steps, block_at, 
 use Rattle.page_layout.specs.Recording.{Records, image_after}
 use Rattle.onfi_cycles.specs.declared.nand.BusFault.{BusFault}
 use Rattle.onfi_cycles.specs.declared.nand.Outcome.{Outcome}
-use Rattle.onfi_cycles.specs.Cycles.{Cycle, due_of}
+use Rattle.onfi_cycles.specs.Cycles.{Cycle, Due, due_of}
 use Rattle.onfi_cycles.specs.Driver.{DriverState, IsReady, flash_by, gained}
 use Rattle.onfi_cycles.specs.Outcomes.{is_passed}
 use Rattle.onfi_cycles.specs.Sent.{Operates, SendsRead}
 use Rattle.onfi_cycles.specs.Spelling.{erase_cycles, program_cycles, read_cycles}
 use Rattle.promises.specs.Stop.{MayLeave}
-use Rattle.file_die.specs.Die.{ActsOverStore, FileState, shown}
+use Rattle.file_die.specs.Die.{ActsOverStore, FileState, Leaves, shown}
 use Rattle.file_die.specs.Store.{Held, AreImages, page_in}
 use Rattle.disk_laws.specs.Lost.{MayLose}
 
@@ -56,6 +56,12 @@ pub record AsksPage {S : Type 0} (held : S → Held) (honest : S → Bool) (fail
   pub in_range : row < row_count old.geometry
   pub sends : SendsRead (Acts held honest failed) old.bus (read_cycles row old.geometry.data_bytes old.geometry.spare_bytes) out result new.bus
   pub told : new.told ≡ old.told
+
+-- WHAT A PROGRAM OR AN ERASE DID IN THE STORE: answered `Ok` it was done there, where its block's turn allows it; with a fault it was not begun, or was, and was done or failed
+abbrev pub LeavesStore : {S : Type 0} → (held : S → Held) → Due → (old : DriverState (FileState S)) → Result Outcome BusFault → (new : DriverState (FileState S)) → Type 0
+LeavesStore held due old (Ok outcome) new = Leaves due (shown held old.bus).flash old.bus.sync_when (store_behind held old) true (store_behind held new)
+LeavesStore held due old (Err fault) new =
+    (store_behind held new ≡ store_behind held old) ⊎ ((done : Bool) × Leaves due (shown held old.bus).flash old.bus.sync_when (store_behind held old) done (store_behind held new))
 
 -- CALLS ONE AFTER ANOTHER, each answered `Ok`, with the operations that the driver's record gained in them
 pub data DriverCalls {S : Type 0} (held : S → Held) (honest : S → Bool) (failed : S → ℕ) : DriverState (FileState S) → List Operation → DriverState (FileState S) → Type 0 where

@@ -1,7 +1,9 @@
+pub mod CallsMade
 pub mod Driven
 pub mod Killed
 pub mod Lost
 pub mod Runs
+pub mod Served
 pub mod Sessions
 pub mod StoreLost
 pub mod StoreRuns

@@ -7,8 +7,13 @@ ghost use Rattle.disk_laws.specs.Driven.{DriverLosesLaw, DriverStopsLaw, DriverT
 ghost use Rattle.disk_laws.specs.StoreLost.{StoreLosesLaw};
 ghost use Rattle.disk_laws.specs.StoreRuns.{StoreRunLaw};
 ghost use Rattle.disk_laws.specs.Runs.{CutLeavesLaw, KilledRunLaw, LostRunLaw, OneCallLaw, SessionLaw};
-ghost use Rattle.disk_laws.specs.Sessions.{ClosedSessionLaw, ReopenedSessionLaw, ServedSessionLaw, StoreSessionLaw};
+ghost use Rattle.disk_laws.specs.Served.{ClosedSessionLaw, ServedSessionLaw};
+ghost use Rattle.disk_laws.specs.Sessions.{ReopenedSessionLaw, StoreSessionLaw};
 ghost use Rattle.disk_laws.specs.Killed.{FoundAsItWasLaw, FoundTornLaw, KilledChangeLaw, KilledFlushLaw, KilledTurnLaw, StoreTellsLaw};
+
+mod driver_calls;
+
+pub use driver_calls::{erase_stored, program_stored, read_stored, start_stored};
 
 use disk_server::{KeepsLost, Sectors, Syncs};
 use file_die::{FileDie, Store, TellsFull};

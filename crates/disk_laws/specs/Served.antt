@@ -1,0 +1,118 @@
+-- WHAT A SERVER ASKS OF ITS DEVICE OF SECTORS, read off what it was asked: in a session with one client, and as it closes the disk behind that.
+use Rattle.std.specs.Prelude.{◌≡◌, ◌⊎◌, ℕ, Bool, false, List, [], ◌∷◌, ◌++◌, Option, Some, None, Result, Ok, Err}
+use mathlib.Core.Logic.{inl, inr}
+use Rattle.nbd_stream.specs.declared.export.Export.{Export}
+use Rattle.nbd_stream.specs.declared.fault.DiskFault.{DiskFault}
+use Rattle.nbd_stream.specs.declared.reply.RequestError.{RequestError}
+use Rattle.nbd_stream.specs.declared.request.StreamEnd.{StreamEnd}
+use Rattle.nbd_stream.specs.declared.task.Task.{Task}
+use Rattle.nbd_stream.specs.declared.task.Task.TheVariants.{Read, Write, Flush, Trim, WriteZeroes}
+use Rattle.nbd_stream.specs.Disk.{Contents, asked_as}
+use Rattle.nbd_stream.specs.Exchanges.{Exchange, RestsBy, Round, TellsBy, ToldEachRound, task_of}
+use Rattle.nbd_stream.specs.Through.{Through}
+use Rattle.nbd_stream.specs.Transmission.{Serves}
+use Rattle.request_stream.specs.declared.reply.ServeFault.{ServeFault}
+use Rattle.disk_server.specs.declared.mark.SyncMark.{SyncMark}
+use Rattle.disk_server.specs.declared.synced.SyncedDisk.{SyncedDisk}
+use Rattle.disk_server.specs.Asked.{AsksCall, AsksSectors}
+use Rattle.disk_server.specs.Synced.{ClearsPart, Closes, EndsTask, FlushesBy, IsKnownFlushed, RestsSynced, SyncsTask}
+use Rattle.disk_laws.specs.CallsMade.{CallMade, IsRunOf, asked_unless, calls_made, each_asked, this_call}
+use Rattle.disk_laws.specs.Runs.{AsksOneOf}
+
+module _ {S Y : Type 0} (contents : S → Contents) (honest : S → Bool) (reads changes : S → S → Type 0) (flushes rests : S → Result (Unit {0}) DiskFault → S → Type 0)
+    (synced failed : Y → ℕ) (marked : Y → SyncMark) (next : S → ℕ) where
+  -- one call of the device of sectors, and what a task asks
+  abbrev pub IsSectorCall : S → S → Type 0
+  IsSectorCall = AsksOneOf reads changes flushes rests
+
+  abbrev pub DoesTask : S → Task → Result (Unit {0}) DiskFault → S → Type 0
+  DoesTask = AsksSectors contents honest reads changes flushes
+
+  -- A TASK'S CALLS: its reads, its calls, or its one flush
+  abbrev pub reads_made : (old new : S) → Through reads old new → List (CallMade IsSectorCall)
+  unfolding AsksCall
+  reads_made old new is = each_asked reads IsSectorCall (λ a b read. this_call IsSectorCall a b (inl (inl read))) (calls_made reads old new is)
+
+  abbrev pub calls_asked : (old new : S) → Through (AsksCall reads changes flushes) old new → List (CallMade IsSectorCall)
+  calls_asked old new is = each_asked (AsksCall reads changes flushes) IsSectorCall (λ a b call. this_call IsSectorCall a b (inl call)) (calls_made (AsksCall reads changes flushes) old new is)
+
+  abbrev pub flush_asked : (old new : S) (result : Result (Unit {0}) DiskFault) → flushes old result new → List (CallMade IsSectorCall)
+  unfolding AsksCall
+  flush_asked old new result is = this_call IsSectorCall old new (inl (inr (inr (result, is))))
+
+  abbrev pub task_asked : (old new : S) (task : Task) (result : Result (Unit {0}) DiskFault) → DoesTask old task result new → List (CallMade IsSectorCall)
+  task_asked old new (Read offset count) result is = reads_made old new is
+  task_asked old new (Write offset count durable) result is = calls_asked old new is
+  task_asked old new Flush result is = flush_asked old new result is
+  task_asked old new (Trim offset count durable) result is = calls_asked old new is.calls
+  task_asked old new (WriteZeroes offset count durable) result is = calls_asked old new is.calls
+
+  -- so does each part of a range that is cleared
+  abbrev pub part_asked : (offset count : ℕ) (old new : S) → ClearsPart DoesTask offset count old new → List (CallMade IsSectorCall)
+  part_asked offset count old new (place, taken, low, high, (answer, is)) = task_asked old new (Trim place taken false) answer is
+
+  abbrev pub parts_asked : (offset count : ℕ) (old new : S) → Through (ClearsPart DoesTask offset count) old new → List (CallMade IsSectorCall)
+  parts_asked offset count old new parts = each_asked (ClearsPart DoesTask offset count) IsSectorCall (part_asked offset count) (calls_made (ClearsPart DoesTask offset count) old new parts)
+
+  -- WHAT A TASK OF THE SYNCED DISK ASKS of it: a flush nothing; and none asks anything after a sync that failed
+  abbrev pub ends_asked : (old new : SyncedDisk S Y) (task : Task) (result : Result (Unit {0}) DiskFault) → EndsTask DoesTask synced marked next old task result new → List (CallMade IsSectorCall)
+  ends_asked old new (Read offset count) result is = task_asked old.disk new.disk (Read offset count) result is.0
+  ends_asked old new (Write offset count durable) result is = task_asked old.disk new.disk (Write offset count false) is.0.0 is.0.1
+  ends_asked old new Flush result is = []
+  ends_asked old new (Trim offset count durable) result is = parts_asked offset count old.disk new.disk is.parts
+  ends_asked old new (WriteZeroes offset count durable) result is = parts_asked offset count old.disk new.disk is.parts
+
+  abbrev pub syncs_asked : (old new : SyncedDisk S Y) (task : Task) (result : Result (Unit {0}) DiskFault) → SyncsTask DoesTask synced failed marked next old task result new → List (CallMade IsSectorCall)
+  syncs_asked old new task result is = asked_unless old.failed (λ going. ends_asked old new task result (is.ends going))
+
+  -- A ROUND'S: those of its task, where it was not refused, and its rest, where there was one
+  abbrev pub tells_asked : (asked : Result Task RequestError) (old new : SyncedDisk S Y) (x : Exchange)
+      → TellsBy (λ s. contents s.disk) (λ s. honest s.disk) (λ _. false) (SyncsTask DoesTask synced failed marked next) asked old x new → List (CallMade IsSectorCall)
+  tells_asked (Err e) old new x is = []
+  tells_asked (Ok task) old new x is = syncs_asked old new (asked_as task) is.1.done is.1.does_so
+
+  abbrev pub rest_asked : (asked : Result Task RequestError) (rested : Option (Result (Unit {0}) DiskFault)) (old new : SyncedDisk S Y)
+      → RestsBy (λ s. contents s.disk) (λ s. honest s.disk) (λ _. false) (RestsSynced rests) asked old rested new → List (CallMade IsSectorCall)
+  rest_asked asked None old new same = []
+  rest_asked asked (Some result) old new (change, idles, inl over) = []
+  rest_asked asked (Some result) old new (change, idles, inr on) = this_call IsSectorCall old.disk new.disk (inr (result, on.1))
+
+  abbrev pub rounds_asked : (e : Export) (old new : SyncedDisk S Y) (rounds : List Round)
+      → ToldEachRound (λ s. contents s.disk) (λ s. honest s.disk) (λ _. false) (SyncsTask DoesTask synced failed marked next) (RestsSynced rests) e old rounds new → List (CallMade IsSectorCall)
+  rounds_asked e old new [] same = []
+  rounds_asked e old new (x ∷ xs) (at, one, more) =
+      tells_asked (task_of e x.exchange.request) old one.mid x.exchange one.tells ++ rest_asked (task_of e x.exchange.request) x.rested one.mid at one.rest ++ rounds_asked e at new xs more
+
+  -- A SESSION'S: those of its rounds, and none where the negotiation came to no transmission
+  abbrev pub session_asked : (e : Export) (limit : ℕ) (old new : SyncedDisk S Y) (unread left before after : Option (List ℕ)) (result : Result StreamEnd ServeFault)
+      → Serves (λ s. contents s.disk) (λ s. honest s.disk) (λ _. false) (SyncsTask DoesTask synced failed marked next) (RestsSynced rests) e limit old new unread left before after result → List (CallMade IsSectorCall)
+  session_asked e limit old new unread left before after result (inl ended) = []
+  session_asked e limit old new unread left before after result (inr begins) = rounds_asked e old new begins.transmits.rounds begins.transmits.each
+
+  -- AS A DISK IS CLOSED: one flush, unless it is known to be flushed, or a sync failed before
+  module _ (takes : S → Bool) where
+    abbrev pub closing_flush : (old new : SyncedDisk S Y) (result : Result (Unit {0}) DiskFault) → FlushesBy DoesTask synced marked next takes old result new → List (CallMade IsSectorCall)
+    closing_flush old new (Ok done) is = flush_asked old.disk new.disk (Ok tt) is.flushed
+    closing_flush old new (Err e) is = flush_asked old.disk new.disk is.answer is.asked
+
+    abbrev pub closing_asked : (counts : Bool) (old new : SyncedDisk S Y) (result : Result (Unit {0}) DiskFault) → Closes DoesTask synced failed marked next takes counts old result new
+        → IsKnownFlushed marked next counts old ⊎ (¬ IsKnownFlushed marked next counts old) → List (CallMade IsSectorCall)
+    closing_asked counts old new result closes (inl known) = []
+    closing_asked counts old new result closes (inr unknown) = asked_unless old.failed (λ going. closing_flush old new result (closes.flushes going unknown))
+
+-- ---- laws
+
+-- ALL THAT A SERVER ASKS of its device of sectors, in a session with one client, is the calls that its requests and rests are, one after another, and no other change of it
+abbrev pub ServedSessionLaw : {S Y : Type 0} → (S → Contents) → (honest : S → Bool) → (reads changes : S → S → Type 0) → (flushes rests : S → Result (Unit {0}) DiskFault → S → Type 0)
+    → (synced failed : Y → ℕ) → (marked : Y → SyncMark) → (next : S → ℕ) → Type 0
+ServedSessionLaw {S} {Y} contents honest reads changes flushes rests synced failed marked next = (e : Export) (limit : ℕ) (old new : SyncedDisk S Y) (unread left before after : Option (List ℕ)) (result : Result StreamEnd ServeFault)
+    (is : Serves (λ s. contents s.disk) (λ s. honest s.disk) (λ _. false) (SyncsTask (AsksSectors contents honest reads changes flushes) synced failed marked next) (RestsSynced rests) e limit old new unread left before after result)
+    → IsRunOf (AsksOneOf reads changes flushes rests) (session_asked contents honest reads changes flushes rests synced failed marked next e limit old new unread left before after result is) old.disk new.disk
+
+-- and as it closes the disk behind that one flush, or nothing
+abbrev pub ClosedSessionLaw : {S Y : Type 0} → (S → Contents) → (honest : S → Bool) → (reads changes : S → S → Type 0) → (flushes rests : S → Result (Unit {0}) DiskFault → S → Type 0)
+    → (synced failed : Y → ℕ) → (marked : Y → SyncMark) → (next : S → ℕ) → (takes : S → Bool) → Type 0
+ClosedSessionLaw {S} {Y} contents honest reads changes flushes rests synced failed marked next takes = (counts : Bool) (old new : SyncedDisk S Y) (result : Result (Unit {0}) DiskFault)
+    (closes : Closes (AsksSectors contents honest reads changes flushes) synced failed marked next takes counts old result new)
+    → (known : IsKnownFlushed marked next counts old ⊎ (¬ IsKnownFlushed marked next counts old))
+    × IsRunOf (AsksOneOf reads changes flushes rests) (closing_asked contents honest reads changes flushes rests synced failed marked next takes counts old new result closes known) old.disk new.disk
