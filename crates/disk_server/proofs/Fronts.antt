@@ -7,6 +7,7 @@ use borrow.Rule.Slice.PartMut.{put_mid}
 use Rattle.nbd_stream.specs.declared.reply.RequestError.{RequestError}
 use Rattle.nbd_stream.specs.declared.task.Task.TheVariants.{Read, Write, Trim}
 use Rattle.nbd_stream.specs.Disk.{Contents, PerformsTask}
+use Rattle.disk_server.proofs.ReadingLemmas.{done_as_is}
 use Rattle.disk_server.proofs.Joining.{range_long, read_more, trim_writes, write_then}
 
 -- the piece of so many from a place on, as a slice of it is lent
@@ -44,22 +45,13 @@ module _ {D : Type 0} (contents : D → Contents) (honest calm : D → Bool) whe
 
   -- no byte is set
   pub nothing_set : (o : ℕ) (d : D) → PerformsTask contents honest calm (Write o 0 false) (replicate 0 0) d (Ok []) d
-  nothing_set o d = record {
-    sized = refl;
-    kept = refl;
-    back = λ h. h;
-    calm_is = refl;
-    fault = tt;
-    given = refl;
-    calmly = λ h. refl;
-    steps = λ h. record {
-      done = sym (ap (λ (k : ℕ). take o (contents d).bytes ++ drop k (contents d).bytes) (add-zero o) ∙ take-append-drop o (contents d).bytes);
-      gave = refl;
-      torn = tt;
-      stays = λ p. inl refl;
-      lasts = λ p no. (let never : ⊥ = cc in absurd never);
-    };
-  }
+  nothing_set o d = done_as_is contents honest calm (Write o 0 false) (replicate 0 0) d refl (λ h. record {
+    done = sym (ap (λ (k : ℕ). take o (contents d).bytes ++ drop k (contents d).bytes) (add-zero o) ∙ take-append-drop o (contents d).bytes);
+    gave = refl;
+    torn = tt;
+    stays = λ p. inl refl;
+    lasts = λ p no. (let never : ⊥ = cc in absurd never);
+  })
 
   module _ (n o k m : ℕ) (old mid new : D) (within : k + m ≤ n) (fits : o + n ≤ length (contents old).bytes)
       (one : PerformsTask contents honest calm (Write o k false) (replicate k 0) old (Ok []) mid) where

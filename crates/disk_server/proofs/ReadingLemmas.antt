@@ -5,7 +5,7 @@ use Rattle.nbd_stream.specs.declared.reply.RequestError.{RequestError}
 use Rattle.nbd_stream.specs.declared.task.Task.{Task}
 use Rattle.nbd_stream.specs.declared.fault.DiskFault.{DiskFault}
 use Rattle.nbd_stream.specs.declared.task.Task.TheVariants.{Read, Write, Flush, Trim, WriteZeroes}
-use Rattle.nbd_stream.specs.Disk.{Contents, IsEither, MayAnswer, PerformsTask, TaskSteps}
+use Rattle.nbd_stream.specs.Disk.{Contents, IsEither, MayAnswer, PerformsTask, TaskSteps, count_given}
 use Rattle.nbd_stream.specs.Through.{Times, Through}
 use Rattle.nbd_stream.proofs.ThroughLemmas.{joined, none}
 use Rattle.disk_server.specs.Reading.{AllLasts, OnlyAsksReads, OnlyReadsLaw}
@@ -33,25 +33,25 @@ unasked contents honest task body d e may = record {
   };
 }
 
--- a flush of what lasts already
-pub flushed : {D : Type 0} (contents : D → Contents) (honest : D → Bool) (d : D) → (honest d ≡ true → AllLasts (contents d))
-    → PerformsTask contents honest (λ _. false) Flush [] d (Ok []) d
-flushed contents honest d all = record {
+-- one that was done, gave nothing, and left all as it is
+pub done_as_is : {D : Type 0} (contents : D → Contents) (honest calm : D → Bool) (task : Task) (body : List ℕ) (d : D) → 0 ≡ count_given task
+    → (honest d ≡ true → TaskSteps task body (contents d) (Ok []) (contents d)) → PerformsTask contents honest calm task body d (Ok []) d
+done_as_is contents honest calm task body d counted steps = record {
   sized = refl;
   kept = refl;
   back = λ h. h;
   calm_is = refl;
   fault = tt;
-  given = refl;
-  calmly = λ c. absurd (not c);
-  steps = λ h. record {
-    done = refl;
-    gave = refl;
-    torn = tt;
-    stays = λ place. inl refl;
-    lasts = λ place is. all h place;
-  };
+  given = counted;
+  calmly = λ h. refl;
+  steps = steps;
 }
+
+-- a flush of what lasts already
+pub flushed : {D : Type 0} (contents : D → Contents) (honest : D → Bool) (d : D) → (honest d ≡ true → AllLasts (contents d))
+    → PerformsTask contents honest (λ _. false) Flush [] d (Ok []) d
+flushed contents honest d all =
+    done_as_is contents honest (λ _. false) Flush [] d refl (λ h. record { done = refl; gave = refl; torn = tt; stays = λ place. inl refl; lasts = λ place is. all h place })
 
 -- ---- what lasts, lasts after a read
 

@@ -198,16 +198,15 @@ fn open_mark<R: Files<File = File> + AllocGlobal>(
     }
 }
 
-// A store of erased pages over an empty file.
-fn new_store<'a, R: Files<File = File>>(
-    system: &System<'a, R>,
-    alloc: Global,
+// A store that was made, with its pages erased.
+fn erased<'a>(
     shape: &DiskShape,
-    file: File,
+    made: Result<DieStore<'a>, DiskFileFault>,
 ) -> Result<DieStore<'a>, DiskFileFault>
+    requires { IfOk made (IsStoreOf shape.now.geometry) }
     ensures { IfOk result (IsStoreOf shape.now.geometry) }
 {
-    let mut store = store_in(system, alloc, shape, file)?;
+    let mut store = made?;
     match erase_all(&mut store) {
         Ok(()) => Ok(store),
         Err(_) => Err(DiskFileFault::Write),
@@ -336,8 +335,8 @@ impl<'a, R: Files<File = File> + AllocGlobal + Clock> DiskFiles for SystemFiles<
         let names = path_names(alloc, path)?;
         let file = new_die(&self.system, &pair_of(path, &names))?;
         let own = second_handle(&self.system, &file);
-        let made = new_store(&self.system, alloc, shape, file);
-        self.keep_part(&names, own, made)
+        let made = store_in(&self.system, alloc, shape, file);
+        self.keep_part(&names, own, erased(shape, made))
     }
 
     #[tactic(auto, unfolding(file_die::specs::Rows::is_kept))]

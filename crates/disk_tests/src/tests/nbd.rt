@@ -1,6 +1,8 @@
 //! Byte lists in pieces of several lengths.
 mod negotiations;
+mod noting_disk;
 pub mod pieces;
+mod plain_sectors;
 mod replies;
 mod requests;
 mod rests;
