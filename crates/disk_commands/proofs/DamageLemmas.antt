@@ -21,7 +21,7 @@ use Rattle.disk_commands.specs.declared.mark.FoundMark.{FoundMark}
 use Rattle.disk_commands.specs.declared.shape_text.DiskText.{DiskText}
 use Rattle.disk_commands.specs.declared.text.DiskCommandFault.{DiskCommandFault}
 use Rattle.disk_commands.specs.declared.text.DiskCommandFault.TheVariants as fault
-use Rattle.disk_commands.specs.Damage.{HasLooked, IsListAt, IsListBy, IsLookedAt, IsNoListAt, IsUnlookedAt}
+use Rattle.disk_commands.specs.Damage.{IsListAt, IsListBy, IsLookedAt, IsNoListAt, IsUnlookedAt}
 use Rattle.disk_commands.specs.declared.files.DiskFileFault.{DiskFileFault}
 use Rattle.disk_commands.specs.Files.{AnswersNoMore, DiskFileAnswers, SaysNoMore}
 use Rattle.disk_commands.specs.Opening.{file_bytes, IsFaultAt, IsMarkAt, IsNotAt, IsShapeFault, IsStoreAt, IsTextAt, told_at}
@@ -143,16 +143,12 @@ looked_at held honest a b c path told found first store certificate list lost le
       kept = kept;
     }
 
-abbrev pub look_of : {S : Type 0} {held : S → Held} {honest : S → Bool} {a : DiskFileAnswers} {path : List ℕ} {told : DiskText} {found : FoundMark} {store : S} {certificate : Claim} {list : List Bool}
-    → IsLookedAt held honest a path told found store certificate list → HasLooked held honest a path
-look_of {S} {held} {honest} {a} {path} {told} {found} {store} {certificate} {list} looked = record { told = told; found = found; store = store; certificate = certificate; list = list; looked = looked }
-
 -- its pages were not looked at
 pub unseen_at : {S : Type 0} (held : S → Held) (honest : S → Bool) (failed : S → ℕ) (a : DiskFileAnswers) (path : Bor (List ℕ)) (told : DiskText) (found : FoundMark) (store : S) (certificate : Claim) (list : List Bool) (left : S) (why : LostFault)
     → IsLookedAt held honest a path.now told found store certificate list → (why ≡ lost.Store → HasRisen (failed store) (failed left)) → IsUncheckedAt held honest failed a path.now (unseen why path)
 unseen_at held honest failed a path told found store certificate list left lost.OutOfMemory looked rose = inr tt
 unseen_at held honest failed a path told found store certificate list left lost.Store looked rose =
-    inr (refl, record { look = look_of looked; left = left; rose = rose refl })
+    inr (refl, record { told = told; found = found; store = store; certificate = certificate; list = list; looked = looked; left = left; rose = rose refl })
 
 pub three : (a b c x y z : List ℕ) → a ≡ x → b ≡ y → c ≡ z → a ++ (b ++ c) ≡ x ++ (y ++ z)
 three a b c x y z p q r = ap (λ l. l ++ (b ++ c)) p ∙ ap (λ l. x ++ l) (ap (λ l. l ++ c) q ∙ ap (λ l. y ++ l) r)

@@ -3,18 +3,21 @@ use Rattle.std.specs.Prelude.{◌≡◌, ◌⊎◌, ◌<◌, ℕ, Bool, true, Li
 use Rattle.std.specs.Borrow.{Bor}
 use Rattle.std.specs.Io.KnownBytes.{Appends, Keeps}
 use Rattle.page_layout.specs.Counter.{HasRisen}
+use Rattle.certificate.specs.Claim.{Claim}
 use Rattle.file_die.specs.Store.{Held}
 use Rattle.lost_sectors.specs.declared.fault.LostFault.{LostFault}
 use Rattle.lost_sectors.specs.declared.fault.LostFault.TheVariants as lost
 use Rattle.disk_damage.specs.Look.{bad_numbers, unsound_numbers}
 use Rattle.disk_damage.specs.Numbers.{counted_lines, listed_sectors, with_commas}
 use Rattle.disk_server.specs.declared.opened.OpenStoreFault.TheVariants as why
+use Rattle.disk_commands.specs.declared.mark.FoundMark.{FoundMark}
 use Rattle.disk_commands.specs.declared.printed.Form.{Form}
 use Rattle.disk_commands.specs.declared.printed.Form.TheVariants.{Text, Json}
+use Rattle.disk_commands.specs.declared.shape_text.DiskText.{DiskText}
 use Rattle.disk_commands.specs.declared.text.DiskCommandFault.{DiskCommandFault}
 use Rattle.disk_commands.specs.declared.text.DiskCommandFault.TheVariants as fault
 use Rattle.disk_commands.specs.declared.words.InfoWords.{InfoWords}
-use Rattle.disk_commands.specs.Damage.{HasLooked, IsUnlookedAt}
+use Rattle.disk_commands.specs.Damage.{IsLookedAt, IsUnlookedAt}
 use Rattle.disk_commands.specs.Files.{DiskFileAnswers}
 use Rattle.disk_commands.specs.Info.{lost_lines}
 use Rattle.disk_commands.specs.Told.{IsPrintedInPart, form_of}
@@ -23,10 +26,15 @@ use Rattle.disk_commands.specs.Told.{IsPrintedInPart, form_of}
 
 -- OF THE DISK AT A PATH: its lost sectors, its bad blocks by the certificate, and of an honest store the rows of its pages that are neither erased nor sound
 pub record IsDamageAt {S : Type 0} (held : S → Held) (honest : S → Bool) (a : DiskFileAnswers) (path : List ℕ) (missing bad unsound : List ℕ) : Type 0 where
-  pub look : HasLooked held honest a path
-  pub lost_are : missing ≡ listed_sectors look.list
-  pub bad_are : bad ≡ bad_numbers look.certificate.blocks
-  pub unsound_are : honest look.store ≡ true → unsound ≡ unsound_numbers (held look.store).geometry (held look.store).pages look.certificate.blocks
+  pub told : DiskText
+  pub found : FoundMark
+  pub store : S
+  pub certificate : Claim
+  pub list : List Bool
+  pub looked : IsLookedAt held honest a path told found store certificate list
+  pub lost_are : missing ≡ listed_sectors list
+  pub bad_are : bad ≡ bad_numbers certificate.blocks
+  pub unsound_are : honest store ≡ true → unsound ≡ unsound_numbers (held store).geometry (held store).pages certificate.blocks
 
 -- how it is told that the pages were not looked at
 abbrev pub unseen : LostFault → Bor (List ℕ) → DiskCommandFault
@@ -35,9 +43,14 @@ unseen lost.Store path = fault.Open path why.Device
 
 -- a page of a disk that was looked at was not loaded, which was counted
 pub record FailsCheck {S : Type 0} (held : S → Held) (honest : S → Bool) (failed : S → ℕ) (a : DiskFileAnswers) (path : List ℕ) : Type 0 where
-  pub look : HasLooked held honest a path
+  pub told : DiskText
+  pub found : FoundMark
+  pub store : S
+  pub certificate : Claim
+  pub list : List Bool
+  pub looked : IsLookedAt held honest a path told found store certificate list
   pub left : S
-  pub rose : HasRisen (failed look.store) (failed left)
+  pub rose : HasRisen (failed store) (failed left)
 
 abbrev pub IsUnseen : {S : Type 0} → (S → Held) → (honest : S → Bool) → (failed : S → ℕ) → DiskFileAnswers → (path : List ℕ) → DiskCommandFault → Type 0
 IsUnseen held honest failed a path (fault.Open at why.Device) = (at.now ≡ path) × FailsCheck held honest failed a path

@@ -64,15 +64,6 @@ pub record IsLookedAt {S : Type 0} (held : S → Held) (honest : S → Bool) (a 
   pub lost_are : honest first ≡ true → Adds (is_lost (held first).geometry (held first).pages found.mark.flushed) 0 (held first).geometry.sectors list lost
   pub kept : DropsNone list lost
 
--- one that was, and what was found of it
-pub record HasLooked {S : Type 0} (held : S → Held) (honest : S → Bool) (a : DiskFileAnswers) (path : List ℕ) : Type 0 where
-  pub told : DiskText
-  pub found : FoundMark
-  pub store : S
-  pub certificate : Claim
-  pub list : List Bool
-  pub looked : IsLookedAt held honest a path told found store certificate list
-
 -- the store at the path was not mounted, or its lost sectors were not found
 abbrev pub IsNoneFound : {S : Type 0} → (S → Held) → (honest : S → Bool) → (failed : S → ℕ) → DiskFileAnswers → (path : List ℕ) → DiskCommandFault → Type 0
 IsNoneFound {S} held honest failed a path (fault.Open at why) = (at.now ≡ path) × ((told : DiskText) × (store : S) × IsStoreAt held honest a path told store × IsUnfound held honest failed store why)

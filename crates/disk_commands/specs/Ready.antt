@@ -25,7 +25,7 @@ use Rattle.disk_commands.specs.declared.text.DiskCommandFault.{DiskCommandFault}
 use Rattle.disk_commands.specs.declared.words.DiskServeWords.{DiskServeWords}
 use Rattle.disk_commands.specs.declared.text.DiskCommandFault.TheVariants as fault
 use Rattle.disk_commands.specs.Anew.{most_stale}
-use Rattle.disk_commands.specs.Damage.{HasLooked, IsLookedAt, IsUnlookedAt}
+use Rattle.disk_commands.specs.Damage.{IsLookedAt, IsUnlookedAt}
 use Rattle.disk_commands.specs.Files.{DiskFileAnswers, Opened, with_mark}
 use Rattle.disk_commands.specs.Guard.{IsUnlistedAt}
 use Rattle.disk_commands.specs.Opening.{IsUnkeptAt}
@@ -110,11 +110,16 @@ pub record IsReadyAt {S Y K : Type 0} (held : S → Held) (honest : S → Bool) 
 -- a disk that was looked at was not opened, or its mark not kept
 pub record IsNotOpened {S Y K : Type 0} (held : S → Held) (honest : S → Bool) (failed : S → ℕ) (missed : Y → ℕ) (kept : K → List Bool) (unlisted : K → ℕ) (a : DiskFileAnswers) (path : List ℕ) (read_only : Bool) (why : DiskCommandFault)
     : Type 0 where
-  pub look : HasLooked held honest a path
+  pub told : DiskText
+  pub found : FoundMark
+  pub store : S
+  pub certificate : Claim
+  pub lost : List Bool
+  pub looked : IsLookedAt held honest a path told found store certificate lost
   pub place : K
   pub none_kept : kept place ≡ []
   pub left : K
-  pub unopened : IsNoneOf held honest failed kept unlisted path read_only look.told look.found look.store look.list place left why ⊎ IsUnkeptBy read_only missed a path why
+  pub unopened : IsNoneOf held honest failed kept unlisted path read_only told found store lost place left why ⊎ IsUnkeptBy read_only missed a path why
 
 -- why it is not ready: it was not looked at, there is no place for the list of its lost sectors, it was not opened, or they were not named
 abbrev pub IsUnreadyAt : {S Y K : Type 0} → (S → Held) → (honest : S → Bool) → (failed : S → ℕ) → (missed : Y → ℕ) → (kept : K → List Bool) → (unlisted : K → ℕ) → DiskFileAnswers → (path : List ℕ) → (read_only : Bool) → DiskCommandFault

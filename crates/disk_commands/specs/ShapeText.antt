@@ -1,6 +1,5 @@
 -- The file beside a disk: one JSON object with the members of its version, and a line feed.
 use Rattle.std.specs.Prelude.{◌≡◌, ◌≢◌, ◌⊎◌, ℕ, ◌≤◌, ◌==◌, Bool, true, false, if◌then◌else◌, List, [], ◌∷◌, ◌++◌, codes, Option, Some, None, option_map, IsUtf8, decimal}
-use Rattle.std.specs.Io.BufRead.{strip_last}
 use Rattle.std.specs.Option.{option_and_then}
 use Rattle.serde_json.specs.Data.{Data, boolean, no_members, member, number, object, string, unsigned}
 use Rattle.serde_json.specs.Events.{members_len}
@@ -49,8 +48,10 @@ listed_text s = compact_text (shape_data s true) ++ (10 ∷ [])
 -- ---- what is read
 
 -- the text without the line feed that it ends with, if it does
-unfoldable pub without_feed : List ℕ → List ℕ
-without_feed text = strip_last 10 text
+abbrev pub without_feed : List ℕ → List ℕ
+without_feed [] = []
+without_feed (c ∷ []) = if c == 10 then [] else (c ∷ [])
+without_feed (c ∷ d ∷ cs) = c ∷ without_feed (d ∷ cs)
 
 abbrev pub member_words : declared.Member → List ℕ
 member_words name.Cache = codes "cache"

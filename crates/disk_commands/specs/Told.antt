@@ -2,9 +2,12 @@
 use Rattle.std.specs.Prelude.{◌≡◌, ◌⊎◌, Bool, ℕ, List, codes, Option, if◌then◌else◌}
 use Rattle.std.specs.Io.KnownBytes.{Appends, Keeps}
 use Rattle.request_stream.specs.Frames.{AppendsPart}
+use Rattle.certificate.specs.Claim.{Claim}
 use Rattle.file_die.specs.Store.{Held}
 use Rattle.coded_store.specs.declared.coded.Mended.{Mended}
 use Rattle.disk_damage.specs.Numbers.{listed_sectors}
+use Rattle.disk_commands.specs.declared.mark.FoundMark.{FoundMark}
+use Rattle.disk_commands.specs.declared.shape_text.DiskText.{DiskText}
 use Rattle.disk_commands.specs.declared.words.InfoWords.{InfoWords}
 use Rattle.disk_commands.specs.declared.printed.Form.{Form}
 use Rattle.disk_commands.specs.declared.printed.Form.TheVariants.{Text, Json}
@@ -13,7 +16,7 @@ use Rattle.disk_commands.specs.declared.text.DiskCommandFault.{DiskCommandFault}
 use Rattle.disk_commands.specs.declared.text.DiskCommandFault.TheVariants as fault
 use Rattle.disk_commands.specs.Files.{DiskFileAnswers}
 use Rattle.disk_commands.specs.Info.{info_of, info_text}
-use Rattle.disk_commands.specs.Damage.{HasLooked, IsUnlookedAt}
+use Rattle.disk_commands.specs.Damage.{IsLookedAt, IsUnlookedAt}
 
 -- the form that was asked for
 abbrev pub form_of : (json : Bool) → Form
@@ -21,9 +24,14 @@ form_of json = if json then Json else Text
 
 -- WHAT IS TOLD OF THE DISK AT A PATH: what its shape and a certificate tell, which is one of a mount of the pages of an honest store, what that store tells was wrong with its pages, and which sectors are lost
 pub record IsInfoAt {S : Type 0} (held : S → Held) (honest : S → Bool) (mended : S → Mended) (a : DiskFileAnswers) (path : List ℕ) (info : Info) (missing : List ℕ) : Type 0 where
-  pub look : HasLooked held honest a path
-  pub is : info ≡ info_of look.told.shape look.certificate (mended look.store)
-  pub lost_are : missing ≡ listed_sectors look.list
+  pub told : DiskText
+  pub found : FoundMark
+  pub store : S
+  pub certificate : Claim
+  pub list : List Bool
+  pub looked : IsLookedAt held honest a path told found store certificate list
+  pub is : info ≡ info_of told.shape certificate (mended store)
+  pub lost_are : missing ≡ listed_sectors list
 
 -- it was printed
 pub record HasTold {S : Type 0} (held : S → Held) (honest : S → Bool) (mended : S → Mended) (a : DiskFileAnswers) (words : InfoWords) (before after : Option (List ℕ)) : Type 0 where

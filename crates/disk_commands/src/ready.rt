@@ -12,7 +12,7 @@ ghost use Rattle.disk_commands.specs.ShapeText.{IsWithin};
 ghost use Rattle.disk_commands.specs.Told.{HasPrintingFailed};
 
 use crate::anew::reopening;
-use crate::damage::{look_at, name_lost, name_mended};
+use crate::damage::{Looked, look_at, name_lost, name_mended};
 use crate::files::{Access, DiskFiles};
 use crate::guard::{guarded, keeper_at};
 use crate::mark::FoundMark;
@@ -182,35 +182,30 @@ pub(crate) fn ready<'a, F: DiskFiles, E: Write>(
     let looked = look_at(alloc, files, words.disk, access_of(words))?;
     let mended = looked.store.mended();
     let mut keeper = keeper_at(alloc, files, words.disk, &looked)?;
+    let Looked {
+        told,
+        found,
+        store,
+        syncs,
+        certificate,
+        lost,
+    } = looked;
     let disk = disk_of(
         alloc,
         words,
-        looked.store,
-        &looked.certificate,
-        &looked.told,
-        looked.found,
+        store,
+        &certificate,
+        &told,
+        found,
         &mut keeper,
-        &looked.lost,
+        &lost,
     )?;
     let next = disk.next_sequence();
-    let syncs = keep_mark_of(
-        alloc,
-        files,
-        words,
-        looked.syncs,
-        &looked.told,
-        looked.found,
-        next,
-    )?;
-    name_all(alloc, &looked.lost, looked.told.shape.code, mended, err)?;
-    let device = reopening(
-        alloc,
-        disk,
-        &looked.told.shape,
-        sync_when(words.sync_always),
-    );
-    match guarded(alloc, device, keeper, looked.lost) {
-        Ok(disk) => Ok((disk, syncs, looked.told, mended)),
+    let syncs = keep_mark_of(alloc, files, words, syncs, &told, found, next)?;
+    name_all(alloc, &lost, told.shape.code, mended, err)?;
+    let device = reopening(alloc, disk, &told.shape, sync_when(words.sync_always));
+    match guarded(alloc, device, keeper, lost) {
+        Ok(disk) => Ok((disk, syncs, told, mended)),
         Err(fault) => Err(fault),
     }
 }

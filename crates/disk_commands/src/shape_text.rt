@@ -170,14 +170,12 @@ pub fn write_listed_shape(alloc: Global, shape: &DiskShape) -> Result<String, Al
 }
 
 // A text without its line feed.
-#[tactic(auto, unfolding(crate::specs::ShapeText::without_feed))]
 fn without_line_feed(text: &[u8]) -> &[u8]
     ensures { result.now ≡ without_feed text.now }
 {
-    if !text.is_empty() && text[text.len() - 1] == b'\n' {
-        &text[..text.len() - 1]
-    } else {
-        text
+    match text.split_last() {
+        Some((last, front)) if *last == b'\n' => front,
+        _ => text,
     }
 }
 

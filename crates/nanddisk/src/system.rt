@@ -198,15 +198,16 @@ fn open_mark<R: Files<File = File> + AllocGlobal>(
     }
 }
 
-// A store that was made, with its pages erased.
-fn erased<'a>(
+// A store of erased pages over an empty file.
+fn new_store<'a, R: Files<File = File>>(
+    system: &System<'a, R>,
+    alloc: Global,
     shape: &DiskShape,
-    made: Result<DieStore<'a>, DiskFileFault>,
+    file: File,
 ) -> Result<DieStore<'a>, DiskFileFault>
-    requires { IfOk made (IsStoreOf shape.now.geometry) }
     ensures { IfOk result (IsStoreOf shape.now.geometry) }
 {
-    let mut store = made?;
+    let mut store = store_in(system, alloc, shape, file)?;
     match erase_all(&mut store) {
         Ok(()) => Ok(store),
         Err(_) => Err(DiskFileFault::Write),
@@ -335,8 +336,8 @@ impl<'a, R: Files<File = File> + AllocGlobal + Clock> DiskFiles for SystemFiles<
         let names = path_names(alloc, path)?;
         let file = new_die(&self.system, &pair_of(path, &names))?;
         let own = second_handle(&self.system, &file);
-        let made = store_in(&self.system, alloc, shape, file);
-        self.keep_part(&names, own, erased(shape, made))
+        let made = new_store(&self.system, alloc, shape, file);
+        self.keep_part(&names, own, made)
     }
 
     #[tactic(auto, unfolding(file_die::specs::Rows::is_kept))]

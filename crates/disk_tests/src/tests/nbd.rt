@@ -1,8 +1,6 @@
 //! Byte lists in pieces of several lengths.
 mod negotiations;
-mod noting_disk;
 pub mod pieces;
-mod plain_sectors;
 mod replies;
 mod requests;
 mod rests;

@@ -1,13 +1,18 @@
 use Rattle.std.proofs.Common.{◌∙◌, ap, inl, sym, subst, Err}
 use Rattle.disk_damage.specs.Numbers.{listed_sectors}
 use Rattle.disk_commands.specs.Check.{IsUncheckedAt}
-use Rattle.disk_commands.proofs.DamageLemmas.{look_of, unseen_at}
+use Rattle.disk_commands.proofs.DamageLemmas.{unseen_at}
 use Rattle.disk_server.proofs.FaultLemmas.{handed_on}
 use Rattle.disk_commands.proofs.check.damage_at.Goals as goal
 
 pub returns-in-Ok-unsound_rows-clause-ok : goal.returns-in-Ok-unsound_rows-clause-ok
 returns-in-Ok-unsound_rows-clause-ok g c = record {
-  look = look_of c.in_ok-looked.ensures.ok;
+  told = c.in_ok-looked.looked.told;
+  found = c.in_ok-looked.looked.found;
+  store = c.in_ok-looked.looked.store;
+  certificate = _;
+  list = c.in_ok-looked.looked.lost.items;
+  looked = c.in_ok-looked.ensures.ok;
   lost_are = c.in-Ok.ensures ∙ ap listed_sectors c.deref.ensures.value;
   bad_are = c.in-Ok-bad_blocks.ensures;
   unsound_are = c.in-Ok-unsound_rows.ensures.rows;

@@ -2,7 +2,6 @@ use Rattle.std.proofs.Common.{◌∙◌, ap, false, inl, inr, subst, sym}
 use Rattle.disk_server.specs.Synced.{after_sync}
 use Rattle.disk_commands.specs.Ready.{IsNoneOf, IsUnkeptBy, IsUnreadyAt, KeepsBy}
 use Rattle.disk_server.proofs.FaultLemmas.{handed_on}
-use Rattle.disk_commands.proofs.DamageLemmas.{look_of}
 use Rattle.disk_commands.proofs.ReadyLemmas.{looked_same, marks_then, unkept_by, unlisted_back}
 use Rattle.disk_commands.proofs.ready.ready.Goals as goal
 
@@ -24,7 +23,12 @@ returns-in_err-disk-clause-fault g c =
     handed_on (IsUnreadyAt g.F.Store.Store.held g.F.Store.Store.honest g.F.Store.Store.failed g.F.Syncs.Syncs.failed g.F.Lists.KeepsLost.kept g.F.Lists.KeepsLost.failed
     (g.F.DiskFiles.answers c.args.files.now) c.args.words.now.disk.now c.args.words.now.read_only) _ _ c.from_residual-in_err-disk.ensures.1
     (inr (inr (inl (record {
-      look = look_of c.in_ok-looked.ensures.ok;
+      told = c.in_ok-looked.looked.told;
+      found = c.in_ok-looked.looked.found;
+      store = c.in_ok-looked.looked.store;
+      certificate = _;
+      lost = c.in_ok-looked.looked.lost.items;
+      looked = c.in_ok-looked.ensures.ok;
       place = c.in_ok-keeper.keeper;
       none_kept = c.in_ok-keeper.ensures.none_kept;
       left = c.disk_of.new.keeper;
@@ -37,7 +41,12 @@ returns-in_err-syncs-clause-fault g c =
     handed_on (IsUnreadyAt g.F.Store.Store.held g.F.Store.Store.honest g.F.Store.Store.failed g.F.Syncs.Syncs.failed g.F.Lists.KeepsLost.kept g.F.Lists.KeepsLost.failed
     (g.F.DiskFiles.answers c.args.files.now) c.args.words.now.disk.now c.args.words.now.read_only) _ _ c.from_residual-in_err-syncs.ensures.1
     (inr (inr (inl (record {
-      look = look_of c.in_ok-looked.ensures.ok;
+      told = c.in_ok-looked.looked.told;
+      found = c.in_ok-looked.looked.found;
+      store = c.in_ok-looked.looked.store;
+      certificate = _;
+      lost = c.in_ok-looked.looked.lost.items;
+      looked = c.in_ok-looked.ensures.ok;
       place = c.in_ok-keeper.keeper;
       none_kept = c.in_ok-keeper.ensures.none_kept;
       left = c.disk_of.new.keeper;

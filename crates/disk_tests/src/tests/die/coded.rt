@@ -53,13 +53,6 @@ const ALL: &[Step] = &[
     Step::Read(256, &[0; 64], Ok(())),
 ];
 
-// The mark tells that all was flushed before sequence 9.
-const MARKED: Life = Life {
-    synced: 9,
-    flushed: 9,
-    ..QUIET
-};
-
 const ROWS: &[Row] = &[
     Row {
         name: "a bit of each chunk, twice",
@@ -67,17 +60,21 @@ const ROWS: &[Row] = &[
             (
                 Turn::OfEach,
                 Life {
+                    synced: 9,
+                    flushed: 9,
                     turned: 512,
                     steps: ALL,
-                    ..MARKED
+                    ..QUIET
                 },
             ),
             (
                 Turn::OfEach,
                 Life {
+                    synced: 9,
+                    flushed: 9,
                     turned: 0,
                     steps: ALL,
-                    ..MARKED
+                    ..QUIET
                 },
             ),
         ],
@@ -88,6 +85,8 @@ const ROWS: &[Row] = &[
             (
                 Turn::TwoIn(2),
                 Life {
+                    synced: 9,
+                    flushed: 9,
                     turned: 510,
                     unread: 1,
                     bad: 1,
@@ -99,12 +98,14 @@ const ROWS: &[Row] = &[
                         Step::Read(192, &[4; 64], Ok(())),
                         Step::Write(64, &[6; 64], false, Ok(())),
                     ],
-                    ..MARKED
+                    ..QUIET
                 },
             ),
             (
                 Turn::None,
                 Life {
+                    synced: 9,
+                    flushed: 9,
                     turned: 508,
                     unread: 1,
                     bad: 1,
@@ -113,7 +114,7 @@ const ROWS: &[Row] = &[
                         Step::Read(64, &[6; 64], Ok(())),
                         Step::Read(128, &[3; 64], Ok(())),
                     ],
-                    ..MARKED
+                    ..QUIET
                 },
             ),
         ],
@@ -123,11 +124,13 @@ const ROWS: &[Row] = &[
         lives: &[(
             Turn::TwoIn(9),
             Life {
+                synced: 9,
+                flushed: 9,
                 turned: 510,
                 unread: 1,
                 bad: 1,
                 steps: ALL,
-                ..MARKED
+                ..QUIET
             },
         )],
     },

@@ -97,53 +97,42 @@ const STILL_LOST: &[Step] = &[
     Step::Read(192, &[4; 64], Ok(())),
 ];
 
-// The mark tells that all was flushed before sequence 8, and one block is bad.
-const MARKED: Life = Life {
-    synced: 8,
-    flushed: 8,
-    bad: 1,
-    ..QUIET
-};
-
-const RECOVERED: Life = Life {
-    steps: FLUSHED,
-    ..MARKED
-};
-
-const AFTER: Life = Life {
-    steps: STAYS,
-    ..QUIET
-};
-
-const CUT_BACK: Life = Life {
-    bad: 1,
-    steps: CUT,
-    ..QUIET
-};
-
-const AFTER_CUT: Life = Life {
-    steps: ONE,
-    ..QUIET
-};
-
-// It is known that one sector is lost.
-const DAMAGED: Life = Life {
-    lost: &[1],
-    ..MARKED
-};
-
 const ROWS: &[Row] = &[
     Row {
         name: "the last page is torn",
         before: SIX,
         hurt: &[(5, Hurt::Torn), (6, Hurt::Missing)],
-        lives: &[RECOVERED, AFTER],
+        lives: &[
+            Life {
+                synced: 8,
+                flushed: 8,
+                bad: 1,
+                steps: FLUSHED,
+                ..QUIET
+            },
+            Life {
+                steps: STAYS,
+                ..QUIET
+            },
+        ],
     },
     Row {
         name: "a page before the last one is missing",
         before: SIX,
         hurt: &[(5, Hurt::Missing)],
-        lives: &[RECOVERED, AFTER],
+        lives: &[
+            Life {
+                synced: 8,
+                flushed: 8,
+                bad: 1,
+                steps: FLUSHED,
+                ..QUIET
+            },
+            Life {
+                steps: STAYS,
+                ..QUIET
+            },
+        ],
     },
     Row {
         name: "an old mark, and no damage beside what a crash left",
@@ -153,9 +142,14 @@ const ROWS: &[Row] = &[
             Life {
                 synced: 3,
                 flushed: 0,
-                ..RECOVERED
+                bad: 1,
+                steps: FLUSHED,
+                ..QUIET
             },
-            AFTER,
+            Life {
+                steps: STAYS,
+                ..QUIET
+            },
         ],
     },
     Row {
@@ -168,7 +162,10 @@ const ROWS: &[Row] = &[
                 steps: FLUSHED,
                 ..QUIET
             },
-            AFTER,
+            Life {
+                steps: STAYS,
+                ..QUIET
+            },
         ],
     },
     Row {
@@ -178,9 +175,14 @@ const ROWS: &[Row] = &[
         lives: &[
             Life {
                 synced: 3,
-                ..CUT_BACK
+                bad: 1,
+                steps: CUT,
+                ..QUIET
             },
-            AFTER_CUT,
+            Life {
+                steps: ONE,
+                ..QUIET
+            },
         ],
     },
     Row {
@@ -190,9 +192,14 @@ const ROWS: &[Row] = &[
         lives: &[
             Life {
                 synced: 5,
-                ..CUT_BACK
+                bad: 1,
+                steps: CUT,
+                ..QUIET
             },
-            AFTER_CUT,
+            Life {
+                steps: ONE,
+                ..QUIET
+            },
         ],
     },
     // the first block is full, and each of its pages has a newer one
@@ -237,37 +244,55 @@ const ROWS: &[Row] = &[
         hurt: &[(2, Hurt::Torn)],
         lives: &[
             Life {
+                synced: 8,
+                flushed: 8,
+                bad: 1,
+                lost: &[1],
                 writes: false,
                 steps: LOST,
-                ..DAMAGED
+                ..QUIET
             },
             Life {
+                synced: 8,
+                flushed: 8,
+                bad: 1,
+                lost: &[1],
                 keeps: false,
-                ..DAMAGED
+                ..QUIET
             },
             Life {
+                synced: 8,
+                flushed: 8,
+                bad: 1,
+                lost: &[1],
                 steps: STILL_LOST,
-                ..DAMAGED
+                ..QUIET
             },
             // the list alone tells it now
             Life {
+                synced: 8,
                 flushed: 0,
+                bad: 1,
+                lost: &[1],
                 steps: &[
                     Step::Read(64, &[0; 64], Err(DiskFault::Failed)),
                     Step::Write(64, &[7; 64], false, Ok(())),
                     Step::Read(64, &[7; 64], Ok(())),
                     Step::Read(256, &[5; 64], Ok(())),
                 ],
-                ..DAMAGED
+                ..QUIET
             },
             Life {
+                synced: 8,
+                flushed: 8,
+                bad: 1,
                 steps: &[
                     Step::Read(0, &[1; 64], Ok(())),
                     Step::Read(64, &[7; 64], Ok(())),
                     Step::Read(128, &[3; 64], Ok(())),
                     Step::Read(320, &[6; 64], Ok(())),
                 ],
-                ..MARKED
+                ..QUIET
             },
         ],
     },
@@ -292,15 +317,24 @@ const ROWS: &[Row] = &[
         hurt: &[(5, Hurt::Torn)],
         lives: &[
             Life {
+                synced: 8,
+                flushed: 8,
+                bad: 1,
                 writes: false,
                 steps: &[
                     Step::Read(192, &[4; 64], Ok(())),
                     Step::Read(256, &[0; 64], Ok(())),
                     Step::Read(320, &[6; 64], Ok(())),
                 ],
-                ..MARKED
+                ..QUIET
             },
-            RECOVERED,
+            Life {
+                synced: 8,
+                flushed: 8,
+                bad: 1,
+                steps: FLUSHED,
+                ..QUIET
+            },
         ],
     },
 ];

@@ -1,14 +1,91 @@
 //! When a disk rests: what it is asked and what a writer is given, in their order.
-use super::noting_disk::{EXPORT, Log, NotingDisk, note};
-use nbd_stream::{DiskFault, StreamEnd, transmit};
+use nbd_stream::{Disk, DiskFault, Export, StreamEnd, transmit};
 use request_stream::ServeFault;
 use std::cell::Cell;
 use std::io::{self, ErrorKind, Write};
 use std::process::Abort;
 use std::test::Fail;
 
-// A writer that notes what it is given: o and e for the header of a reply, without and with an error, d for its bytes, and h for what is handed on. Its call of this number
-// fails, from 1; 0 for none.
+const EXPORT: Export = Export {
+    size: 16,
+    read_only: false,
+    preferred: 8,
+    maximum: 8,
+};
+
+// So many letters, each of which stands for what was done: of the disk w for a write, c for a trim or zeroes, r for a read, f for a flush and z for a rest;
+// of the writer o and e for the header of a reply, without and with an error, d for its bytes, and h for what is handed on.
+#[derive(Clone, Copy)]
+struct Log {
+    letters: [u8; 32],
+    count: usize,
+}
+
+// Adds a letter, while there is room.
+fn note(log: &Cell<Log>, letter: u8) {
+    let mut noted = log.get();
+    let count = noted.count;
+    if count < noted.letters.len() {
+        noted.letters[count] = letter;
+        noted.count = count + 1;
+    }
+    log.set(noted);
+}
+
+// A disk of sixteen zeros that notes what it is asked. Its changes fail, or its rests do.
+#[derive(Drop)]
+struct NotingDisk<'a> {
+    log: &'a Cell<Log>,
+    changes: Result<(), DiskFault>,
+    rests: Result<(), DiskFault>,
+}
+
+impl Disk for NotingDisk<'_> {
+    ghost use Rattle.std.specs.Prelude.{◌≡◌, false, [], replicate};
+
+    ghost contents = { λ disk. record { bytes = replicate 16 0; durable = [] } };
+
+    ghost honest = { λ disk. false };
+
+    ghost calm = { λ disk. false };
+
+    ghost does = { λ old task result new. Unit {0} };
+
+    ghost rests = { λ old result new. new ≡ old };
+
+    ghost leaves = { λ old new. Unit {0} };
+
+    fn read(&mut self, _offset: u64, buffer: &mut [u8]) -> Result<(), DiskFault> {
+        note(self.log, b'r');
+        buffer.fill(0);
+        Ok(())
+    }
+
+    fn write(&mut self, _offset: u64, _bytes: &[u8], _durable: bool) -> Result<(), DiskFault> {
+        note(self.log, b'w');
+        self.changes
+    }
+
+    fn clear(&mut self, _offset: u64, _count: u32, _durable: bool) -> Result<(), DiskFault> {
+        note(self.log, b'c');
+        self.changes
+    }
+
+    fn flush(&mut self) -> Result<(), DiskFault> {
+        note(self.log, b'f');
+        Ok(())
+    }
+
+    fn rest(&mut self) -> Result<(), DiskFault> {
+        note(self.log, b'z');
+        match self.rests {
+            Ok(()) => Ok(()),
+            Err(_) => Err(DiskFault::Failed),
+        }
+    }
+}
+
+// A writer that notes what it is given. Its call of this number fails, from 1; 0 for none.
 #[derive(Drop)]
 struct NotingWriter<'a> {
     log: &'a Cell<Log>,
@@ -150,13 +227,15 @@ fn sent(rt: &impl AllocGlobal, row: &Row) -> Result<Vec<u8>, Fail> {
 
 // Whether a transmission is as its row says.
 fn holds(row: &Row, mut input: &[u8]) -> bool {
-    let log = Cell::new(Log::EMPTY);
-    let (failing, fault) = match row.changes {
-        Ok(()) => (0, DiskFault::Failed),
-        Err(fault) => (1, fault),
+    let log = Cell::new(Log {
+        letters: [0; 32],
+        count: 0,
+    });
+    let mut disk = NotingDisk {
+        log: &log,
+        changes: row.changes,
+        rests: row.rests,
     };
-    let mut disk = NotingDisk::new(&log, failing, fault);
-    disk.rests = row.rests;
     let mut writer = NotingWriter {
         log: &log,
         failing: row.failing,

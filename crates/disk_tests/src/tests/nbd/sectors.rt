@@ -1,7 +1,6 @@
 //! Disks over four sectors of four bytes, which are kept back until a flush.
-ghost use Rattle.std.specs.Prelude.{◌≡◌, IfErr, OnErr, OnOk, length};
+ghost use Rattle.std.specs.Prelude.{◌≡◌, length};
 
-use super::plain_sectors::PlainSectors;
 use crate::tests::steps::{Step, does_all};
 use disk_server::{ReadOnlyDisk, SectorDisk, Sectors};
 use nbd_stream::{Disk, DiskFault};
@@ -10,10 +9,12 @@ use std::test::Fail;
 
 const SIZE: usize = 16;
 
+const SECTOR: usize = 4;
+
 // A device that holds what it is given, and fails its call of this number, from 1; 0 for none. A sector that is to be written then is as it was.
 #[derive(Drop)]
 struct CachedSectors {
-    plain: PlainSectors,
+    bytes: [u8; SIZE],
     kept: [u8; SIZE],
     failing: usize,
     fault: DiskFault,
@@ -21,57 +22,32 @@ struct CachedSectors {
 }
 
 impl CachedSectors {
-    // One that holds the first letters, all of which last.
-    fn new(failing: usize, fault: DiskFault) -> CachedSectors {
-        CachedSectors {
-            plain: PlainSectors::new(*FIRST),
-            kept: *FIRST,
-            failing,
-            fault,
-            asked: 0,
-        }
-    }
-
     // Counts a call, and tells whether it fails.
     fn fails(&mut self) -> bool
-        ensures plain { self.new.plain ≡ self.old.plain }
+        ensures bytes { self.new.bytes ≡ self.old.bytes }
         ensures kept { self.new.kept ≡ self.old.kept }
     {
         self.asked = self.asked.saturating_add(1);
         self.failing == self.asked
-    }
-
-    // What was kept back is written out.
-    fn keep(&mut self) -> Result<(), DiskFault>
-        ensures plain { self.new.plain ≡ self.old.plain }
-        ensures not_done { OnErr result (self.new.kept ≡ self.old.kept) }
-        ensures done { OnOk result (self.new.kept ≡ self.old.plain.bytes) }
-        ensures fault { IfErr result (λ e. e ≡ DiskFault.Failed) }
-    {
-        if self.fails() {
-            return Err(DiskFault::Failed);
-        }
-        self.kept = self.plain.bytes;
-        Ok(())
     }
 }
 
 impl Sectors for CachedSectors {
     ghost use Rattle.std.specs.Prelude.{◌≡◌, true, false};
 
-    ghost contents = { λ device. record { bytes = device.plain.bytes; durable = device.kept } };
+    ghost contents = { λ device. record { bytes = device.bytes; durable = device.kept } };
 
     ghost honest = { λ device. true };
 
     ghost calm = { λ device. false };
 
-    ghost rests = { λ old result new. new.plain ≡ old.plain };
+    ghost rests = { λ old result new. new.bytes ≡ old.bytes };
 
     ghost reads = { λ old new. Unit {0} };
 
     ghost changes = { λ old new. Unit {0} };
 
-    ghost flushes = { λ old result new. new.plain ≡ old.plain };
+    ghost flushes = { λ old result new. new.bytes ≡ old.bytes };
 
     ghost size = { λ device. 4 };
 
@@ -86,21 +62,27 @@ impl Sectors for CachedSectors {
         if self.fails() {
             return Err(DiskFault::Failed);
         }
-        self.plain.read_sector(sector, buffer)
+        let start = sector as usize * SECTOR;
+        buffer.copy_from_slice(&self.bytes[start..start + SECTOR]);
+        Ok(())
     }
 
     fn write_sector(&mut self, sector: u64, bytes: &[u8]) -> Result<(), DiskFault> {
         if self.fails() {
             return Err(self.fault);
         }
-        self.plain.write_sector(sector, bytes)
+        let start = sector as usize * SECTOR;
+        self.bytes[start..start + SECTOR].copy_from_slice(bytes);
+        Ok(())
     }
 
     fn trim_sector(&mut self, sector: u64) -> Result<(), DiskFault> {
         if self.fails() {
             return Err(self.fault);
         }
-        self.plain.trim_sector(sector)
+        let start = sector as usize * SECTOR;
+        self.bytes[start..start + SECTOR].fill(0);
+        Ok(())
     }
 
     // Zeros are set to zeros too.
@@ -109,20 +91,28 @@ impl Sectors for CachedSectors {
     }
 
     fn flush(&mut self) -> Result<(), DiskFault> {
-        self.keep()
+        if self.fails() {
+            return Err(DiskFault::Failed);
+        }
+        self.kept = self.bytes;
+        Ok(())
     }
 
     // What was kept back is written out.
     fn rest(&mut self) -> Result<(), DiskFault> {
-        self.keep()
+        if self.fails() {
+            return Err(DiskFault::Failed);
+        }
+        self.kept = self.bytes;
+        Ok(())
     }
 
     fn sector_bytes(&self) -> usize {
-        self.plain.sector_bytes()
+        SECTOR
     }
 
     fn sector_count(&self) -> u64 {
-        self.plain.sector_count()
+        4
     }
 
     fn next_sequence(&self) -> u64 {
@@ -265,14 +255,20 @@ const ROWS: &[Row] = &[
 
 // Whether a disk does all of a row, and has left its device so.
 fn holds(alloc: Global, row: &Row) -> bool {
-    let device = CachedSectors::new(row.failing, row.fault);
+    let device = CachedSectors {
+        bytes: *FIRST,
+        kept: *FIRST,
+        failing: row.failing,
+        fault: row.fault,
+        asked: 0,
+    };
     let Ok(mut disk) = SectorDisk::new(alloc, device) else {
         return false;
     };
     let size = SIZE as u64;
     let all = disk.bytes() == size && does_all(&mut disk, size, row.steps);
     let left = disk.into_sectors();
-    all && left.plain.bytes == *row.bytes && left.kept == *row.kept
+    all && left.bytes == *row.bytes && left.kept == *row.kept
 }
 
 #[test]
@@ -299,7 +295,13 @@ const READING: &[Step] = &[
 
 // Whether a disk that is only read does all of that.
 fn only_reads(alloc: Global) -> bool {
-    let device = CachedSectors::new(2, DiskFault::NoSpace);
+    let device = CachedSectors {
+        bytes: *FIRST,
+        kept: *FIRST,
+        failing: 2,
+        fault: DiskFault::NoSpace,
+        asked: 0,
+    };
     let Ok(disk) = SectorDisk::new(alloc, device) else {
         return false;
     };
@@ -333,7 +335,13 @@ fn set_both<D: Disk>(disk: &mut D, plain: &mut [u8; SIZE], start: usize, bytes: 
 
 // Whether each range of a disk is set and cleared as in a list of bytes.
 fn ranges_hold(alloc: Global) -> bool {
-    let device = CachedSectors::new(0, DiskFault::Failed);
+    let device = CachedSectors {
+        bytes: *FIRST,
+        kept: *FIRST,
+        failing: 0,
+        fault: DiskFault::Failed,
+        asked: 0,
+    };
     let Ok(mut disk) = SectorDisk::new(alloc, device) else {
         return false;
     };

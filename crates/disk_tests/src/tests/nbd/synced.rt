@@ -1,13 +1,118 @@
 //! When a disk is synced: pieces of four bytes, of which two may be changed between two syncs. The calls of its device stand for sequences.
-use super::plain_sectors::PlainSectors;
+ghost use Rattle.std.specs.Prelude.{◌≡◌, length};
+
 use crate::tests::steps::{Step, does_all};
-use disk_server::{SectorDisk, SyncMark, SyncPace, SyncedDisk, Syncs};
+use disk_server::{Lasting, SectorDisk, Sectors, SyncMark, SyncPace, SyncedDisk, Syncs};
 use nbd_stream::DiskFault;
 use std::alloc::Global;
 use std::cell::Cell;
 use std::test::Fail;
 
 const SIZE: u64 = 16;
+
+const SECTOR: usize = 4;
+
+// Four sectors of four bytes, of which none is kept back. What they are asked is counted.
+#[derive(Drop)]
+struct PlainSectors {
+    bytes: [u8; 16],
+    asked: u64,
+}
+
+impl PlainSectors {
+    // Zeros.
+    fn zeros() -> PlainSectors
+        ensures { length result.bytes ≡ 16 }
+    {
+        PlainSectors {
+            bytes: [0; 16],
+            asked: 0,
+        }
+    }
+}
+
+impl Sectors for PlainSectors {
+    ghost use Rattle.std.specs.Prelude.{◌≡◌, true, false};
+
+    ghost contents = { λ device. record { bytes = device.bytes; durable = device.bytes } };
+
+    ghost honest = { λ device. true };
+
+    ghost calm = { λ device. false };
+
+    ghost rests = { λ old result new. new.bytes ≡ old.bytes };
+
+    ghost reads = { λ old new. Unit {0} };
+
+    ghost changes = { λ old new. Unit {0} };
+
+    ghost flushes = { λ old result new. new.bytes ≡ old.bytes };
+
+    ghost size = { λ device. 4 };
+
+    ghost count = { λ device. 4 };
+
+    ghost next = { λ device. device.asked };
+
+    ghost takes = { λ device. true };
+
+    fn read_sector(&mut self, sector: u64, buffer: &mut [u8]) -> Result<(), DiskFault> {
+        self.asked = self.asked.saturating_add(1);
+        let start = sector as usize * SECTOR;
+        buffer.copy_from_slice(&self.bytes[start..start + SECTOR]);
+        Ok(())
+    }
+
+    fn write_sector(&mut self, sector: u64, bytes: &[u8]) -> Result<(), DiskFault> {
+        self.asked = self.asked.saturating_add(1);
+        let start = sector as usize * SECTOR;
+        self.bytes[start..start + SECTOR].copy_from_slice(bytes);
+        Ok(())
+    }
+
+    fn trim_sector(&mut self, sector: u64) -> Result<(), DiskFault> {
+        self.asked = self.asked.saturating_add(1);
+        let start = sector as usize * SECTOR;
+        self.bytes[start..start + SECTOR].fill(0);
+        Ok(())
+    }
+
+    fn clear_sector(&mut self, sector: u64, _buffer: &mut [u8]) -> Result<(), DiskFault> {
+        self.trim_sector(sector)
+    }
+
+    fn flush(&mut self) -> Result<(), DiskFault> {
+        self.asked = self.asked.saturating_add(1);
+        Ok(())
+    }
+
+    fn rest(&mut self) -> Result<(), DiskFault> {
+        self.asked = self.asked.saturating_add(1);
+        Ok(())
+    }
+
+    fn sector_bytes(&self) -> usize {
+        SECTOR
+    }
+
+    fn sector_count(&self) -> u64 {
+        4
+    }
+
+    fn next_sequence(&self) -> u64 {
+        self.asked
+    }
+
+    fn takes_changes(&self) -> bool {
+        true
+    }
+}
+
+impl Lasting for PlainSectors {
+    ghost use Rattle.std.specs.Prelude.{refl};
+
+    ghost lasts = { λ device. refl };
+}
 
 const PACE: SyncPace = SyncPace { piece: 4, most: 2 };
 
@@ -47,50 +152,32 @@ impl Syncs for CountingSyncs<'_> {
     }
 }
 
-// What a disk of zeros is asked, how often it is closed then, by whether its mark counts, and how many syncs it asks for.
+// What a disk of zeros is asked, and how many syncs it asks for.
 struct Row {
     name: &'static str,
-    // The sync that fails, from 1; 0 for none.
     failing: u64,
     steps: &'static [Step],
-    closed: u64,
-    counts: bool,
     syncs: u64,
     // the two numbers of the last mark
     mark: (u64, u64),
 }
 
-const QUIET: Row = Row {
-    name: "",
-    failing: 0,
-    steps: &[],
-    closed: 0,
-    counts: true,
-    syncs: 0,
-    mark: (0, 0),
-};
-
-// One change that lasts: it is marked as synced.
-const WRITTEN: Row = Row {
-    steps: &[Step::Write(0, b"abcd", true, Ok(()))],
-    syncs: 1,
-    mark: (1, 0),
-    ..QUIET
-};
-
 const ROWS: &[Row] = &[
     Row {
         name: "no more than two pieces",
+        failing: 0,
         steps: &[
             Step::Write(0, b"abcd", false, Ok(())),
             Step::Write(5, b"XY", false, Ok(())),
             Step::Rest(Ok(())),
             Step::Read(0, b"abcd\0XY\0", Ok(())),
         ],
-        ..QUIET
+        syncs: 0,
+        mark: (0, 0),
     },
     Row {
         name: "a third one, which a range touches with a byte",
+        failing: 0,
         steps: &[
             Step::Write(3, b"abcdef", false, Ok(())),
             Step::Write(0, b"abcd", false, Ok(())),
@@ -98,20 +185,20 @@ const ROWS: &[Row] = &[
         ],
         syncs: 1,
         mark: (5, 0),
-        ..QUIET
     },
     Row {
         name: "three pieces that are cleared, and a fourth",
+        failing: 0,
         steps: &[
             Step::Clear(0, 12, false, Ok(())),
             Step::Clear(12, 4, false, Ok(())),
         ],
         syncs: 1,
         mark: (3, 0),
-        ..QUIET
     },
     Row {
         name: "a flush and what is to last count anew",
+        failing: 0,
         steps: &[
             Step::Write(0, b"abcdefgh", false, Ok(())),
             Step::Flush(Ok(())),
@@ -122,7 +209,6 @@ const ROWS: &[Row] = &[
         ],
         syncs: 3,
         mark: (8, 0),
-        ..QUIET
     },
     Row {
         name: "a sync that fails, after which nothing is done",
@@ -137,7 +223,7 @@ const ROWS: &[Row] = &[
             Step::Flush(Err(DiskFault::Failed)),
         ],
         syncs: 1,
-        ..QUIET
+        mark: (0, 0),
     },
     Row {
         name: "a sync that fails among parts, after one that was done",
@@ -150,34 +236,6 @@ const ROWS: &[Row] = &[
         ],
         syncs: 2,
         mark: (1, 0),
-        ..QUIET
-    },
-    Row {
-        name: "a disk that is not closed",
-        ..WRITTEN
-    },
-    // it is flushed, and marked so
-    Row {
-        name: "one that is closed",
-        closed: 1,
-        syncs: 2,
-        mark: (2, 2),
-        ..WRITTEN
-    },
-    Row {
-        name: "closed again, it is flushed once where its mark counts",
-        closed: 2,
-        syncs: 2,
-        mark: (2, 2),
-        ..WRITTEN
-    },
-    Row {
-        name: "and else each time",
-        closed: 2,
-        counts: false,
-        syncs: 3,
-        mark: (3, 3),
-        ..WRITTEN
     },
 ];
 
@@ -197,26 +255,63 @@ fn holds(alloc: Global, row: &Row) -> Result<bool, Fail> {
         failed: 0,
         failing: row.failing,
     };
-    let Ok(disk) = SectorDisk::new(alloc, PlainSectors::new([0; 16])) else {
+    let Ok(disk) = SectorDisk::new(alloc, PlainSectors::zeros()) else {
         return Err("no memory")?;
     };
     let mut disk = SyncedDisk::new(disk, syncs, PACE);
     let did = does_all(&mut disk, SIZE, row.steps);
-    for _ in 0..row.closed {
-        if disk.close(row.counts).is_err() {
-            return Err("not closed")?;
-        }
-    }
     let last = told.get();
     Ok(did && asked.get() == row.syncs && (last.synced, last.flushed) == row.mark)
 }
 
 #[test]
-fn syncs_of_a_disk(rt: HostRuntime) -> Result<(), Fail> {
+fn syncs_between_flushes(rt: HostRuntime) -> Result<(), Fail> {
     for row in ROWS {
         let holds = holds(rt.alloc(), row)?;
         let name = row.name;
         assert!(rt; holds, "{name}");
     }
+    Ok(())
+}
+
+// What a disk that was written with four bytes is marked with once it is closed so often, by whether its mark counts.
+fn closed(alloc: Global, times: u64, counts: bool) -> Result<(u64, u64, u64), Fail> {
+    let asked = Cell::new(0);
+    let mark = SyncMark {
+        synced: 0,
+        flushed: 0,
+    };
+    let told = Cell::new(mark);
+    let syncs = CountingSyncs {
+        asked: &asked,
+        told: &told,
+        mark,
+        done: 0,
+        failed: 0,
+        failing: 0,
+    };
+    let Ok(disk) = SectorDisk::new(alloc, PlainSectors::zeros()) else {
+        return Err("no memory")?;
+    };
+    let mut disk = SyncedDisk::new(disk, syncs, PACE);
+    if !does_all(&mut disk, SIZE, &[Step::Write(0, b"abcd", true, Ok(()))]) {
+        return Err("not written")?;
+    }
+    for _ in 0..times {
+        if disk.close(counts).is_err() {
+            return Err("not closed")?;
+        }
+    }
+    let last = told.get();
+    Ok((asked.get(), last.synced, last.flushed))
+}
+
+// A write is marked as synced; a disk that is closed is flushed, and marked so, once where its mark counts, and else each time.
+#[test]
+fn closes_once(rt: HostRuntime) -> Result<(), Fail> {
+    assert!(rt; closed(rt.alloc(), 0, true)? == (1, 1, 0));
+    assert!(rt; closed(rt.alloc(), 1, true)? == (2, 2, 2));
+    assert!(rt; closed(rt.alloc(), 2, true)? == (2, 2, 2));
+    assert!(rt; closed(rt.alloc(), 2, false)? == (3, 3, 3));
     Ok(())
 }

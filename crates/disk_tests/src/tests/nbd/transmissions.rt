@@ -1,11 +1,90 @@
 //! Transmissions of a disk of sixteen zeros, with room for eight bytes.
-use super::noting_disk::{EXPORT, Log, NotingDisk, SIZE};
 use super::pieces::Pieces;
-use nbd_stream::{DiskFault, StreamEnd, transmit};
+use nbd_stream::{Disk, DiskFault, Export, StreamEnd, transmit};
 use request_stream::ServeFault;
 use std::alloc::Global;
-use std::cell::Cell;
 use std::test::Fail;
+
+const SIZE: usize = 16;
+
+const EXPORT: Export = Export {
+    size: 16,
+    read_only: false,
+    preferred: 8,
+    maximum: 8,
+};
+
+// A disk that fails from its task of this number on, from 1; 0 for none. One that takes no changes, or has no room for them, goes on
+// reading, and is flushed.
+#[derive(Drop)]
+struct FailingDisk {
+    bytes: [u8; SIZE],
+    failing: usize,
+    fault: DiskFault,
+    asked: usize,
+}
+
+impl FailingDisk {
+    // Counts a task, and tells whether it fails.
+    fn fails(&mut self) -> bool {
+        self.asked = self.asked.saturating_add(1);
+        self.failing != 0 && self.asked >= self.failing
+    }
+}
+
+impl Disk for FailingDisk {
+    ghost use Rattle.std.specs.Prelude.{◌≡◌, false, [], replicate};
+
+    ghost contents = { λ disk. record { bytes = replicate 16 0; durable = [] } };
+
+    ghost honest = { λ disk. false };
+
+    ghost calm = { λ disk. false };
+
+    ghost does = { λ old task result new. Unit {0} };
+
+    ghost rests = { λ old result new. new ≡ old };
+
+    ghost leaves = { λ old new. Unit {0} };
+
+    fn read(&mut self, offset: u64, buffer: &mut [u8]) -> Result<(), DiskFault> {
+        if self.fails() && self.fault == DiskFault::Failed {
+            return Err(DiskFault::Failed);
+        }
+        let start = offset as usize;
+        buffer.copy_from_slice(&self.bytes[start..start + buffer.len()]);
+        Ok(())
+    }
+
+    fn write(&mut self, offset: u64, bytes: &[u8], _durable: bool) -> Result<(), DiskFault> {
+        if self.fails() {
+            return Err(self.fault);
+        }
+        let start = offset as usize;
+        self.bytes[start..start + bytes.len()].copy_from_slice(bytes);
+        Ok(())
+    }
+
+    fn clear(&mut self, offset: u64, count: u32, _durable: bool) -> Result<(), DiskFault> {
+        if self.fails() {
+            return Err(self.fault);
+        }
+        let start = offset as usize;
+        self.bytes[start..start + count as usize].fill(0);
+        Ok(())
+    }
+
+    fn flush(&mut self) -> Result<(), DiskFault> {
+        if self.fails() && self.fault == DiskFault::Failed {
+            return Err(DiskFault::Failed);
+        }
+        Ok(())
+    }
+
+    fn rest(&mut self) -> Result<(), DiskFault> {
+        Ok(())
+    }
+}
 
 // What a client sends, what it is answered, and what is left.
 struct Row {
@@ -181,8 +260,12 @@ const ROWS: &[Row] = &[
 // Whether a transmission is as its row says, its input in pieces of this length.
 fn holds(alloc: Global, row: &Row, piece: usize) -> bool {
     let mut buffer = [0; 8];
-    let log = Cell::new(Log::EMPTY);
-    let mut disk = NotingDisk::new(&log, row.failing, row.fault);
+    let mut disk = FailingDisk {
+        bytes: [0; SIZE],
+        failing: row.failing,
+        fault: row.fault,
+        asked: 0,
+    };
     let mut reader = Pieces::new(row.input, piece, 0);
     let mut out = Vec::new(alloc);
     let answer = transmit(&mut reader, &mut out, &mut disk, &EXPORT, &mut buffer);
