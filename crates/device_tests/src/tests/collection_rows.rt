@@ -1,7 +1,6 @@
 //! Blocks that are collected, and pages that are rescued from bad ones.
 use device_fixtures::again::Mounted;
 use device_fixtures::calls::Call::{self, Flush, Read, Trim, Turn, Write};
-use device_fixtures::calls::{CLOSING, CLOSING_READ};
 use device_fixtures::cases::Cached::{Clean, Dirty};
 use device_fixtures::cases::Step::{Done, Over, Spread};
 use device_fixtures::cases::{Case, QUIET, Told, hold_cases};
@@ -9,17 +8,46 @@ use device_fixtures::pages::{NO, PageAt};
 use device_fixtures::recorder::Operation::{Erase, Program, Programs, Read as ReadPage};
 use std::test::Fail;
 
+// Eight pages of block 1: two of sector 7, and before the sixth other sector a translation page, since
+// the cache of four is full of dirty ones.
+const EIGHT: [Call; 8] = [
+    Write(7, 0x77),
+    Trim(7),
+    Write(0, 0x10),
+    Write(1, 0x11),
+    Write(2, 0x12),
+    Write(3, 0x13),
+    Write(4, 0x14),
+    Write(5, 0x15),
+];
+
+// They are read back.
+const EIGHT_READ: [Call; 7] = [
+    Read(7, 0),
+    Read(0, 0x10),
+    Read(1, 0x11),
+    Read(2, 0x12),
+    Read(3, 0x13),
+    Read(4, 0x14),
+    Read(5, 0x15),
+];
+
 const BEFORE: &[u8] = &[10, 11, 12, NO, NO, NO, NO, 9];
 
 const AFTER: &[u8] = &[17, 18, 19, 20, 21, 22, NO, 16];
 
 // Block 1 is erased: its seven live pages stand in block 2 by rising row, the trim among them. Sectors
 // 7, 0 and 1 weren't cached, so their translation page is written.
-const COLLECTED: [PageAt; 4] = [
+const COLLECTED: [PageAt; 9] = [
     PageAt::Translation(2, 0, 8, BEFORE),
     PageAt::Translation(3, 0, 19, AFTER),
     PageAt::Trim(16, 7, 12),
-    PageAt::Sectors(6, 17, 0, 13, 0x10),
+    PageAt::Sector(17, 0, 13, 0x10),
+    PageAt::Sector(18, 1, 14, 0x11),
+    PageAt::Sector(19, 2, 15, 0x12),
+    PageAt::Sector(20, 3, 16, 0x13),
+    PageAt::Sector(21, 4, 17, 0x14),
+    PageAt::Sector(22, 5, 18, 0x15),
 ];
 
 const ERASED: Mounted = Mounted {
@@ -27,7 +55,7 @@ const ERASED: Mounted = Mounted {
     next: 20,
     stale: 0,
     states: &[(0, 2, 4, 3, 0), (1, 0, 0, 0, 0), (2, 1, 7, 7, 0)],
-    calls: &CLOSING_READ,
+    calls: &EIGHT_READ,
 };
 
 // The table on the die says nothing of the failed erase, which left no trace.
@@ -37,54 +65,67 @@ const NOT_ERASED: Mounted = Mounted {
 };
 
 // The cache as it was but for the rows: clean, since the translation page was written.
-const COLLECTION: Case = Case {
-    name: "a block is collected",
-    steps: &[Done(&CLOSING)],
-    collects: &[(1, false)],
-    worn: &[(1, 1)],
-    cached: &[2, 3, 4, 5],
-    order: &[Clean(2, 19), Clean(3, 20), Clean(4, 21), Clean(5, 22)],
-    operations: &[
-        Programs(8, 1, 5, 0xE0),
-        Program(2, 0xE0),
-        Programs(13, 1, 10, 0xE0),
-        Program(3, 0xE0),
-        Erase(8, 0xE0),
-    ],
-    told: Told::Changes,
-    pages: &COLLECTED,
-    mounted: Some(&ERASED),
-    ..QUIET
-};
-
 const SAME_ORDER: [Case; 2] = [
-    COLLECTION,
+    Case {
+        name: "a block is collected",
+        steps: &[Done(&EIGHT)],
+        collects: &[(1, false)],
+        worn: &[(1, 1)],
+        cached: &[2, 3, 4, 5],
+        order: &[Clean(2, 19), Clean(3, 20), Clean(4, 21), Clean(5, 22)],
+        operations: &[
+            Programs(8, 1, 5, 0xE0),
+            Program(2, 0xE0),
+            Programs(13, 1, 3, 0xE0),
+            Programs(16, 1, 7, 0xE0),
+            Program(3, 0xE0),
+            Erase(8, 0xE0),
+        ],
+        told: Told::Changes,
+        pages: &COLLECTED,
+        mounted: Some(&ERASED),
+        ..QUIET
+    },
     // Its pages stay, and it is bad from then on.
     Case {
         name: "the erase of a collected block fails",
         failing: &[18],
+        steps: &[Done(&EIGHT)],
+        collects: &[(1, false)],
         bad: &[1],
         free: 29,
-        worn: &[],
+        cached: &[2, 3, 4, 5],
+        order: &[Clean(2, 19), Clean(3, 20), Clean(4, 21), Clean(5, 22)],
         operations: &[
             Programs(8, 1, 5, 0xE0),
             Program(2, 0xE0),
-            Programs(13, 1, 10, 0xE0),
+            Programs(13, 1, 3, 0xE0),
+            Programs(16, 1, 7, 0xE0),
             Program(3, 0xE0),
             Erase(8, 0xE1),
         ],
+        told: Told::Changes,
         pages: &[
             PageAt::Translation(2, 0, 8, BEFORE),
             PageAt::Translation(3, 0, 19, AFTER),
             PageAt::Sector(8, 7, 3, 0x77),
             PageAt::Trim(9, 7, 4),
-            PageAt::Sectors(3, 10, 0, 5, 0x10),
-            PageAt::Sectors(3, 13, 3, 9, 0x13),
+            PageAt::Sector(10, 0, 5, 0x10),
+            PageAt::Sector(11, 1, 6, 0x11),
+            PageAt::Sector(12, 2, 7, 0x12),
+            PageAt::Sector(13, 3, 9, 0x13),
+            PageAt::Sector(14, 4, 10, 0x14),
+            PageAt::Sector(15, 5, 11, 0x15),
             PageAt::Trim(16, 7, 12),
-            PageAt::Sectors(6, 17, 0, 13, 0x10),
+            PageAt::Sector(17, 0, 13, 0x10),
+            PageAt::Sector(18, 1, 14, 0x11),
+            PageAt::Sector(19, 2, 15, 0x12),
+            PageAt::Sector(20, 3, 16, 0x13),
+            PageAt::Sector(21, 4, 17, 0x14),
+            PageAt::Sector(22, 5, 18, 0x15),
         ],
         mounted: Some(&NOT_ERASED),
-        ..COLLECTION
+        ..QUIET
     },
 ];
 
@@ -114,7 +155,16 @@ const FLUSHING: [Case; 2] = [
         order: &[Dirty(0, 16), Dirty(1, 17), Dirty(2, 18), Dirty(3, 19)],
         operations: &[Programs(8, 1, 16, 0xE0), Erase(8, 0xE0)],
         told: Told::Changes,
-        pages: &[PageAt::Sectors(8, 16, 0, 11, 0x20)],
+        pages: &[
+            PageAt::Sector(16, 0, 11, 0x20),
+            PageAt::Sector(17, 1, 12, 0x21),
+            PageAt::Sector(18, 2, 13, 0x22),
+            PageAt::Sector(19, 3, 14, 0x23),
+            PageAt::Sector(20, 4, 15, 0x24),
+            PageAt::Sector(21, 5, 16, 0x25),
+            PageAt::Sector(22, 6, 17, 0x26),
+            PageAt::Sector(23, 7, 18, 0x27),
+        ],
         ..QUIET
     },
     // In a flush it doesn't.
@@ -130,7 +180,14 @@ const FLUSHING: [Case; 2] = [
         told: Told::Changes,
         pages: &[
             PageAt::Translation(2, 0, 19, MOVED),
-            PageAt::Sectors(8, 16, 0, 11, 0x20),
+            PageAt::Sector(16, 0, 11, 0x20),
+            PageAt::Sector(17, 1, 12, 0x21),
+            PageAt::Sector(18, 2, 13, 0x22),
+            PageAt::Sector(19, 3, 14, 0x23),
+            PageAt::Sector(20, 4, 15, 0x24),
+            PageAt::Sector(21, 5, 16, 0x25),
+            PageAt::Sector(22, 6, 17, 0x26),
+            PageAt::Sector(23, 7, 18, 0x27),
         ],
         ..QUIET
     },
@@ -255,7 +312,10 @@ const EVERY_KIND: Case = Case {
         PageAt::Table(26, 1, 21, [0; 16]),
         PageAt::Translation(27, 0, 30, &[40, 41, 42, 43, 44, 45]),
         PageAt::Sector(40, 0, 23, 0x40),
-        PageAt::Sectors(4, 41, 1, 24, 0x42),
+        PageAt::Sector(41, 1, 24, 0x42),
+        PageAt::Sector(42, 2, 25, 0x43),
+        PageAt::Sector(43, 3, 26, 0x44),
+        PageAt::Sector(44, 4, 27, 0x45),
         PageAt::Trim(45, 5, 28),
         PageAt::Trim(46, 16, 29),
     ],

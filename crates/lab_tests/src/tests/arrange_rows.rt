@@ -2,7 +2,7 @@
 use super::arranged::{PLAIN, Stands};
 use super::dumps::Made;
 use super::files::Trouble;
-use super::runs::{Case, Step, hold_cases};
+use super::runs::{Case, Step, expect_cases};
 use std::test::Fail;
 use test_images::{TABLE_0, TABLE_1, Written, page};
 
@@ -260,5 +260,5 @@ const CASES: [Case; 3] = [
 
 #[test]
 fn arrange_puts_in_order(rt: HostRuntime) -> Result<(), Fail> {
-    hold_cases(&rt, rt.alloc(), &CASES)
+    expect_cases(&rt, rt.alloc(), &CASES)
 }

@@ -1,7 +1,7 @@
 //! What `array` writes and prints, and each of its refusals.
 use super::dumps::Made;
 use super::files::Trouble;
-use super::runs::{Case, Step, hold_cases};
+use super::runs::{Case, Step, expect_cases};
 use std::test::Fail;
 use test_images::{TABLE_0, TABLE_1, Written, page};
 
@@ -103,14 +103,26 @@ const TAKEN: [Step; 11] = [
 ];
 
 // A read in pieces changes nothing; each failure has its line, and leaves no file.
-const TROUBLES: [Step; 8] = [
+const TROUBLES: [Step; 20] = [
     Step::Trouble(Trouble::ReadsEnd(24575)),
     Step::Run(ARRAY, 3, "fault read dump.bin\n"),
     Step::Trouble(Trouble::ReadsEnd(0)),
     Step::Run(ARRAY, 3, "fault read dump.bin\n"),
     Step::Trouble(Trouble::Ends(24575)),
     Step::Run(ARRAY, 1, "refused image 1 WrongLength\n"),
-    Step::Unmade(ARRAY, 2),
+    Step::Trouble(Trouble::Unasked),
+    Step::Run(ARRAY, 3, "fault write out.bin\n"),
+    Step::Trouble(Trouble::Full),
+    Step::Run(ARRAY, 3, "fault write out.bin\n"),
+    Step::Trouble(Trouble::WritesEnd(2)),
+    Step::Run(ARRAY, 3, "fault write out.bin\n"),
+    Step::Trouble(Trouble::Unkept),
+    Step::Run(ARRAY, 3, "fault write out.bin\n"),
+    Step::Trouble(Trouble::NoMemory),
+    Step::Run(ARRAY, 1, "refused image 3 OutOfMemory\n"),
+    Step::Trouble(Trouble::NoMemoryBeside),
+    Step::Run(ARRAY, 1, "refused image 3 OutOfMemory\n"),
+    Step::Lacks("out.bin"),
     Step::Trouble(Trouble::Calm),
 ];
 
@@ -326,7 +338,7 @@ const CASES: [Case; 13] = [
 
 #[test]
 fn array_writes_what_the_dump_holds(rt: HostRuntime) -> Result<(), Fail> {
-    hold_cases(&rt, rt.alloc(), &CASES)
+    expect_cases(&rt, rt.alloc(), &CASES)
 }
 
 const MAPPED: &str = "nandlab array 64,32,8,32,32 dump.bin out.bin --map map";
@@ -391,5 +403,5 @@ const MAP_CASES: [Case; 1] = [Case {
 
 #[test]
 fn array_writes_its_map(rt: HostRuntime) -> Result<(), Fail> {
-    hold_cases(&rt, rt.alloc(), &MAP_CASES)
+    expect_cases(&rt, rt.alloc(), &MAP_CASES)
 }

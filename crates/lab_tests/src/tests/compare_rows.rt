@@ -1,7 +1,7 @@
 //! Which sectors `compare` tells, and each of its refusals.
 use super::dumps::Made;
 use super::files::Trouble;
-use super::runs::{Case, Step, hold_cases};
+use super::runs::{Case, Step, expect_cases};
 use std::test::Fail;
 use test_images::{META, TABLE_0, TABLE_1, Written, page};
 
@@ -114,5 +114,5 @@ const CASES: [Case; 3] = [
 
 #[test]
 fn compare_tells_what_was_lost(rt: HostRuntime) -> Result<(), Fail> {
-    hold_cases(&rt, rt.alloc(), &CASES)
+    expect_cases(&rt, rt.alloc(), &CASES)
 }

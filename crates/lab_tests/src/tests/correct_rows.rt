@@ -1,7 +1,7 @@
 //! What `correct` makes of dumps of chips, and each of its refusals.
 use super::dumps::Made;
 use super::files::Trouble;
-use super::runs::{Case, Step, hold_cases};
+use super::runs::{Case, Step, expect_cases};
 use std::test::Fail;
 use test_images::{TABLE_0, TABLE_1, Written, page};
 
@@ -57,6 +57,33 @@ const STEPS: [Step; 7] = [
     Step::Holds("dump.bin", SPOILED),
 ];
 
+const TROUBLES: [Step; 20] = [
+    Step::Trouble(Trouble::ReadsEnd(26111)),
+    Step::Run(CORRECT, 3, "fault read dump.bin\n"),
+    Step::Trouble(Trouble::Ends(102)),
+    Step::Run(CORRECT, 1, "refused image 1 WrongLength\n"),
+    Step::Trouble(Trouble::Unasked),
+    Step::Run(CORRECT, 3, "fault write out.bin\n"),
+    Step::Trouble(Trouble::Full),
+    Step::Run(CORRECT, 3, "fault write out.bin\n"),
+    Step::Trouble(Trouble::WritesEnd(255)),
+    Step::Run(CORRECT, 3, "fault write out.bin\n"),
+    Step::Trouble(Trouble::Unkept),
+    Step::Run(CORRECT, 3, "fault write out.bin\n"),
+    Step::Trouble(Trouble::NoMemory),
+    Step::Run(CORRECT, 1, "refused image 3 OutOfMemory\n"),
+    Step::Trouble(Trouble::NoMemoryBeside),
+    Step::Run(CORRECT, 1, "refused image 3 OutOfMemory\n"),
+    Step::Lacks("out.bin"),
+    Step::Trouble(Trouble::Unstored),
+    Step::Half(
+        "nandlab correct 64,32,8,32,32 dump.bin out.bin --map none",
+        3,
+        "fault write none\n",
+    ),
+    Step::Holds("out.bin", RIGHT),
+];
+
 const OTHERS: [Step; 10] = [
     Step::Run(CORRECT, 1, "refused out 2 Exists\n"),
     Step::Run(
@@ -109,20 +136,7 @@ const CASES: [Case; 3] = [
     Case {
         name: "failures",
         files: &[("dump.bin", SPOILED)],
-        steps: &[
-            Step::Trouble(Trouble::ReadsEnd(26111)),
-            Step::Run(CORRECT, 3, "fault read dump.bin\n"),
-            Step::Trouble(Trouble::Ends(102)),
-            Step::Run(CORRECT, 1, "refused image 1 WrongLength\n"),
-            Step::Unmade(CORRECT, 255),
-            Step::Trouble(Trouble::Unstored),
-            Step::Half(
-                "nandlab correct 64,32,8,32,32 dump.bin out.bin --map none",
-                3,
-                "fault write none\n",
-            ),
-            Step::Holds("out.bin", RIGHT),
-        ],
+        steps: &TROUBLES,
     },
     Case {
         name: "other files",
@@ -133,5 +147,5 @@ const CASES: [Case; 3] = [
 
 #[test]
 fn correct_turns_bits_back(rt: HostRuntime) -> Result<(), Fail> {
-    hold_cases(&rt, rt.alloc(), &CASES)
+    expect_cases(&rt, rt.alloc(), &CASES)
 }

@@ -1,6 +1,6 @@
 //! What `array --damaged` writes and prints.
 use super::dumps::Made;
-use super::runs::{Case, Step, hold_cases};
+use super::runs::{Case, Step, expect_cases};
 use std::test::Fail;
 use test_images::{TABLE_0, TABLE_1, Written, page};
 
@@ -144,5 +144,5 @@ const CASES: [Case; 1] = [Case {
 
 #[test]
 fn array_shows_unsound_pages_where_asked(rt: HostRuntime) -> Result<(), Fail> {
-    hold_cases(&rt, rt.alloc(), &CASES)
+    expect_cases(&rt, rt.alloc(), &CASES)
 }

@@ -8,6 +8,7 @@ use lab_dump::{
 };
 use lab_mend::Watch;
 use std::alloc::{AllocError, Global};
+use std::io::{self, ErrorKind, Write};
 
 /// What goes wrong with the files.
 #[derive(Clone, Copy)]
@@ -419,5 +420,19 @@ impl LabFiles for MemoryFiles {
 
     fn discard(&mut self, _target: Beside) {
         self.beside = self.beside.wrapping_sub(1);
+    }
+}
+
+/// Standard output that is closed.
+#[derive(Drop)]
+pub struct Closed;
+
+impl Write for Closed {
+    fn write(&mut self, _buf: &[u8]) -> io::Result<usize> {
+        Err(io::Error::from(ErrorKind::BrokenPipe))
+    }
+
+    fn flush(&mut self) -> io::Result<()> {
+        Ok(())
     }
 }

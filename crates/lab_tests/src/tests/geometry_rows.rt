@@ -2,7 +2,7 @@
 use super::arranged::{PLAIN, Stands};
 use super::dumps::Made;
 use super::files::Trouble;
-use super::runs::{Case, Step, hold_cases};
+use super::runs::{Case, Step, expect_cases};
 use std::test::Fail;
 use test_images::{TABLE_0, TABLE_1, Written, page};
 
@@ -351,5 +351,5 @@ const CASES: [Case; 7] = [
 
 #[test]
 fn geometry_tells_the_shapes(rt: HostRuntime) -> Result<(), Fail> {
-    hold_cases(&rt, rt.alloc(), &CASES)
+    expect_cases(&rt, rt.alloc(), &CASES)
 }

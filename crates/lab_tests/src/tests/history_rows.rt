@@ -1,7 +1,7 @@
 //! What `history` tells and `array --until` writes, and each of their refusals.
 use super::dumps::Made;
 use super::files::Trouble;
-use super::runs::{Case, Step, hold_cases};
+use super::runs::{Case, Step, expect_cases};
 use std::test::Fail;
 use test_images::{TABLE_0, TABLE_1, Written, page};
 
@@ -172,5 +172,5 @@ const CASES: [Case; 3] = [
 
 #[test]
 fn history_tells_what_is_still_there(rt: HostRuntime) -> Result<(), Fail> {
-    hold_cases(&rt, rt.alloc(), &CASES)
+    expect_cases(&rt, rt.alloc(), &CASES)
 }

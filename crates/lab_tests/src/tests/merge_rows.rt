@@ -1,7 +1,7 @@
 //! What `merge` makes of readings of one die, and each of its refusals.
 use super::dumps::Made;
 use super::files::Trouble;
-use super::runs::{Case, Step, hold_cases};
+use super::runs::{Case, Step, expect_cases};
 use std::test::Fail;
 use test_images::{TABLE_0, TABLE_1, Written, page};
 
@@ -65,12 +65,24 @@ tries 64: by a seal of 8 bytes a wrong page is taken by chance in at most 64 of 
 sound 3 differ 0 majority 0 turned 1 erased 251 unsound 1
 ";
 
-const TROUBLES: [Step; 5] = [
+const TROUBLES: [Step; 17] = [
     Step::Trouble(Trouble::ReadsEnd(24575)),
     Step::Run(TWO, 3, "fault read a.bin\n"),
     Step::Trouble(Trouble::Ends(96)),
     Step::Run(TWO, 1, "refused merge 1 DumpLength a.bin\n"),
-    Step::Unmade(TWO, 2),
+    Step::Trouble(Trouble::Unasked),
+    Step::Run(TWO, 3, "fault write out.bin\n"),
+    Step::Trouble(Trouble::Full),
+    Step::Run(TWO, 3, "fault write out.bin\n"),
+    Step::Trouble(Trouble::WritesEnd(2)),
+    Step::Run(TWO, 3, "fault write out.bin\n"),
+    Step::Trouble(Trouble::Unkept),
+    Step::Run(TWO, 3, "fault write out.bin\n"),
+    Step::Trouble(Trouble::NoMemory),
+    Step::Run(TWO, 1, "refused image 3 OutOfMemory\n"),
+    Step::Trouble(Trouble::NoMemoryBeside),
+    Step::Run(TWO, 1, "refused image 3 OutOfMemory\n"),
+    Step::Lacks("out.bin"),
 ];
 
 const WORDS: [Step; 10] = [
@@ -196,5 +208,5 @@ const CASES: [Case; 6] = [
 
 #[test]
 fn merge_joins_readings(rt: HostRuntime) -> Result<(), Fail> {
-    hold_cases(&rt, rt.alloc(), &CASES)
+    expect_cases(&rt, rt.alloc(), &CASES)
 }

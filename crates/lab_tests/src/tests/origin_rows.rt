@@ -1,32 +1,31 @@
 //! Which sectors `origin` marks as shown of a page that no reading has, and each of its refusals.
 use super::dumps::Made;
 use super::files::Trouble;
-use super::runs::{Case, Step, hold_cases};
+use super::runs::{Case, Step, expect_cases};
 use std::test::Fail;
 use test_images::{TABLE_0, TABLE_1, Written, page};
 
 const ONE: &str = "nandlab origin 64,32,8,32,32 map dump.bin a.bin";
 
-const SECTOR_3: Written = page!(9, Sector 3, sequence 5, fill 0x31);
-
-const TRIM_4: Written = page!(10, Trim 4, sequence 8, fill 0x00);
-
-// Two pages of one sector share their sequence.
-const SECTOR_5: Written = page!(11, Sector 5, sequence 9, fill 0x35);
-
-const TIED_5: Written = page!(12, Sector 5, sequence 9, fill 0x36);
-
-const SECTOR_30: Written = page!(17, Sector 30, sequence 7, fill 0x33);
-
 const PAGES: [Written; 7] = [
-    TABLE_0, TABLE_1, SECTOR_3, TRIM_4, SECTOR_5, TIED_5, SECTOR_30,
+    TABLE_0,
+    TABLE_1,
+    page!(9, Sector 3, sequence 5, fill 0x31),
+    page!(10, Trim 4, sequence 8, fill 0x00),
+    page!(11, Sector 5, sequence 9, fill 0x35),
+    page!(12, Sector 5, sequence 9, fill 0x36),
+    page!(17, Sector 30, sequence 7, fill 0x33),
 ];
 
-// Another sound page of the same sector.
-const OTHER_30: Written = page!(17, Sector 30, sequence 7, fill 0x34);
-
+// Another sound page in row 17, of the same sector.
 const OTHERS: [Written; 7] = [
-    TABLE_0, TABLE_1, SECTOR_3, TRIM_4, SECTOR_5, TIED_5, OTHER_30,
+    TABLE_0,
+    TABLE_1,
+    page!(9, Sector 3, sequence 5, fill 0x31),
+    page!(10, Trim 4, sequence 8, fill 0x00),
+    page!(11, Sector 5, sequence 9, fill 0x35),
+    page!(12, Sector 5, sequence 9, fill 0x36),
+    page!(17, Sector 30, sequence 7, fill 0x34),
 ];
 
 // One bit of the data area of row 9, and one of the spare area of the trim.
@@ -277,5 +276,5 @@ const CASES: [Case; 4] = [
 
 #[test]
 fn origin_marks_what_no_reading_has(rt: HostRuntime) -> Result<(), Fail> {
-    hold_cases(&rt, rt.alloc(), &CASES)
+    expect_cases(&rt, rt.alloc(), &CASES)
 }

@@ -1,7 +1,7 @@
 //! Which pages `repair` mends, and each of its refusals.
 use super::dumps::Made;
 use super::files::Trouble;
-use super::runs::{Case, Step, hold_cases};
+use super::runs::{Case, Step, expect_cases};
 use std::test::Fail;
 use test_images::{TABLE_0, TABLE_1, Written, page};
 
@@ -175,6 +175,26 @@ const BITS: [Step; 12] = [
     Step::Lacks("new.bin"),
 ];
 
+const TROUBLES: [Step; 17] = [
+    Step::Trouble(Trouble::ReadsEnd(24575)),
+    Step::Run(REPAIR, 3, "fault read dump.bin\n"),
+    Step::Trouble(Trouble::Ends(96)),
+    Step::Run(REPAIR, 1, "refused image 1 WrongLength\n"),
+    Step::Trouble(Trouble::Unasked),
+    Step::Run(REPAIR, 3, "fault write out.bin\n"),
+    Step::Trouble(Trouble::Full),
+    Step::Run(REPAIR, 3, "fault write out.bin\n"),
+    Step::Trouble(Trouble::WritesEnd(255)),
+    Step::Run(REPAIR, 3, "fault write out.bin\n"),
+    Step::Trouble(Trouble::Unkept),
+    Step::Run(REPAIR, 3, "fault write out.bin\n"),
+    Step::Trouble(Trouble::NoMemory),
+    Step::Run(REPAIR, 1, "refused image 3 OutOfMemory\n"),
+    Step::Trouble(Trouble::NoMemoryBeside),
+    Step::Run(REPAIR, 1, "refused image 3 OutOfMemory\n"),
+    Step::Lacks("out.bin"),
+];
+
 const OTHERS: [Step; 8] = [
     Step::Run(REPAIR, 1, "refused out 2 Exists\n"),
     Step::Run(
@@ -226,13 +246,7 @@ const CASES: [Case; 5] = [
     Case {
         name: "failures",
         files: &[("dump.bin", SPOILED)],
-        steps: &[
-            Step::Trouble(Trouble::ReadsEnd(24575)),
-            Step::Run(REPAIR, 3, "fault read dump.bin\n"),
-            Step::Trouble(Trouble::Ends(96)),
-            Step::Run(REPAIR, 1, "refused image 1 WrongLength\n"),
-            Step::Unmade(REPAIR, 255),
-        ],
+        steps: &TROUBLES,
     },
     Case {
         name: "other files",
@@ -243,5 +257,5 @@ const CASES: [Case; 5] = [
 
 #[test]
 fn repair_mends_one_bit(rt: HostRuntime) -> Result<(), Fail> {
-    hold_cases(&rt, rt.alloc(), &CASES)
+    expect_cases(&rt, rt.alloc(), &CASES)
 }

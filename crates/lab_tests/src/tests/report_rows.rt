@@ -1,7 +1,7 @@
 //! Reports of runs, and what `verify` says of their files. The digests are those of `sha256sum` over the same bytes.
 use super::dumps::Made;
 use super::files::Trouble;
-use super::runs::{Case, Step, hold_cases};
+use super::runs::{Case, Step, expect_cases};
 use std::test::Fail;
 
 // An array of a dump of erased pages, with a report.
@@ -114,5 +114,5 @@ const CASES: [Case; 3] = [
 
 #[test]
 fn reports_name_what_was_read_and_written(rt: HostRuntime) -> Result<(), Fail> {
-    hold_cases(&rt, rt.alloc(), &CASES)
+    expect_cases(&rt, rt.alloc(), &CASES)
 }

@@ -1,12 +1,12 @@
 //! Runs of the program over files in memory, and what they have to answer: cases, each a list of steps over files of its own.
 use super::dumps::{Made, bytes_of};
-use super::files::{MemoryFiles, Trouble};
+use super::files::{Closed, MemoryFiles, Trouble};
 use lab_commands::{Output, OutputStream};
 use lab_custody::run;
 use std::alloc::{AllocError, Global};
+use std::fmt::Debug;
+use std::process::Abort;
 use std::test::Fail;
-pub use test_images::hold_cases;
-use test_images::{Closed, Ran, TestCase, hold_same};
 
 /// A step of a case. After each run no file that was made stands beside its place.
 pub enum Step {
@@ -21,9 +21,6 @@ pub enum Step {
     Half(&'static str, u8, &'static str),
     /// Runs a command line that puts no file in its place: its status, and what it says on standard output and on standard error.
     Both(&'static str, u8, &'static str, &'static str),
-    /// Runs a command line again and again, as each time something else goes wrong with the file that it makes, `out.bin`: it cannot be asked
-    /// for, made, written past so many pieces, or put in its place, or no memory is found. There is no such file then.
-    Unmade(&'static str, u32),
     /// A file holds these bytes now.
     Holds(&'static str, Made),
     /// There is no such file.
@@ -35,6 +32,19 @@ pub struct Case {
     pub name: &'static str,
     pub files: &'static [(&'static str, Made)],
     pub steps: &'static [Step],
+}
+
+// What a run answered and wrote.
+#[derive(Drop)]
+struct Ran {
+    status: u8,
+    out: Vec<u8>,
+    err: Vec<u8>,
+}
+
+// Holds what was found to what is expected at a place of a table. Each caller's proof is the cheaper for it.
+fn hold<T: PartialEq + Debug>(rt: &impl Abort, place: &impl Debug, found: &T, expected: &T) {
+    assert_eq!(rt; *found, *expected, "{place:?}");
 }
 
 fn run_line<O: Output, E: Output>(
@@ -50,116 +60,132 @@ fn run_line<O: Output, E: Output>(
     Ok(run(files.alloc, &words, files, out, err))
 }
 
-// What a run has to answer and to say, on standard output and on standard error, and how many files it has to put in their places, where that is
-// told.
-#[derive(Clone, Copy)]
-struct Wanted<'a> {
+// Runs a command line and holds it to its status and to what it says.
+fn expect_said(
+    rt: &impl Abort,
+    files: &mut MemoryFiles,
+    line: &str,
     status: u8,
-    out: &'a str,
-    err: &'a str,
-    kept: Option<usize>,
-}
-
-// What stands on standard output of a run that is done, and else on standard error.
-fn said_by(status: u8, said: &str, kept: Option<usize>) -> Wanted<'_> {
-    let (out, err) = if status == 0 { (said, "") } else { ("", said) };
-    Wanted {
-        status,
+    said: &str,
+) -> Result<(), AllocError> {
+    let mut out: Vec<u8> = Vec::new(files.alloc);
+    let mut err: Vec<u8> = Vec::new(files.alloc);
+    let answered = run_line(files, line, &mut out, &mut err)?;
+    let ran = Ran {
+        status: answered,
         out,
         err,
-        kept,
-    }
+    };
+    hold_run(rt, &(files.case, line), &ran, status, said);
+    hold(rt, &(files.case, line), &files.beside, &0);
+    Ok(())
 }
 
-// No file that was made stands beside its place, and so many were put in their places, where that is told.
-fn hold_files(files: &MemoryFiles, line: &str, kept: Option<usize>) -> Result<(), Fail> {
-    hold_same(&(files.case, line), &files.beside, &0)?;
-    match kept {
-        Some(kept) => hold_same(&(files.case, line), &files.kept, &kept),
-        None => Ok(()),
-    }
+fn hold_run(rt: &impl Abort, place: &impl Debug, ran: &Ran, status: u8, said: &str) {
+    let (out, err) = if status == 0 { (said, "") } else { ("", said) };
+    hold(rt, place, &ran.err.as_slice(), &err.as_bytes());
+    hold(rt, place, &ran.out.as_slice(), &out.as_bytes());
+    hold(rt, place, &ran.status, &status);
 }
 
-// Runs a command line and holds it to what it has to answer.
-fn expect_run(files: &mut MemoryFiles, line: &str, wanted: &Wanted) -> Result<(), Fail> {
+fn expect_run(
+    rt: &impl Abort,
+    files: &mut MemoryFiles,
+    line: &str,
+    status: u8,
+    said: &str,
+) -> Result<(), AllocError> {
+    let before = files.kept;
+    expect_said(rt, files, line, status, said)?;
+    if status != 0 {
+        hold(rt, &(files.case, line), &files.kept, &before);
+    }
+    Ok(())
+}
+
+fn expect_both(
+    rt: &impl Abort,
+    files: &mut MemoryFiles,
+    line: &str,
+    status: u8,
+    said: (&str, &str),
+) -> Result<(), AllocError> {
     let before = files.kept;
     let mut out: Vec<u8> = Vec::new(files.alloc);
     let mut err: Vec<u8> = Vec::new(files.alloc);
-    let status = run_line(files, line, &mut out, &mut err)?;
-    let ran = Ran { status, out, err };
-    ran.hold(
+    let answered = run_line(files, line, &mut out, &mut err)?;
+    hold(rt, &(files.case, line), &out.as_slice(), &said.0.as_bytes());
+    hold(rt, &(files.case, line), &err.as_slice(), &said.1.as_bytes());
+    hold(rt, &(files.case, line), &answered, &status);
+    hold(rt, &(files.case, line), &files.kept, &before);
+    Ok(())
+}
+
+fn expect_half(
+    rt: &impl Abort,
+    files: &mut MemoryFiles,
+    line: &str,
+    status: u8,
+    said: &str,
+) -> Result<(), AllocError> {
+    let before = files.kept;
+    expect_said(rt, files, line, status, said)?;
+    hold(
+        rt,
         &(files.case, line),
-        wanted.status,
-        wanted.out.as_bytes(),
-        wanted.err.as_bytes(),
-    )?;
-    let kept = wanted.kept.map(|count| before.saturating_add(count));
-    hold_files(files, line, kept)
+        &files.kept,
+        &before.saturating_add(1),
+    );
+    Ok(())
 }
 
-// Runs a command line over each trouble with the file that it makes.
-fn expect_unmade(files: &mut MemoryFiles, line: &str, pieces: u32) -> Result<(), Fail> {
-    let unwritten = said_by(3, "fault write out.bin\n", Some(0));
-    let no_memory = said_by(1, "refused image 3 OutOfMemory\n", Some(0));
-    for (trouble, wanted) in [
-        (Trouble::Unasked, &unwritten),
-        (Trouble::Full, &unwritten),
-        (Trouble::WritesEnd(pieces), &unwritten),
-        (Trouble::Unkept, &unwritten),
-        (Trouble::NoMemory, &no_memory),
-        (Trouble::NoMemoryBeside, &no_memory),
-    ] {
-        files.trouble = trouble;
-        expect_run(files, line, wanted)?;
-    }
-    hold_same(&(files.case, line), &files.contents("out.bin"), &None)
-}
-
-// Runs a command line over a standard output that is closed.
-fn expect_closed(files: &mut MemoryFiles, line: &str, kept: usize) -> Result<(), Fail> {
+fn expect_closed(
+    rt: &impl Abort,
+    files: &mut MemoryFiles,
+    line: &str,
+    kept: usize,
+) -> Result<(), AllocError> {
     let before = files.kept;
     let mut err: Vec<u8> = Vec::new(files.alloc);
-    let status = run_line(files, line, &mut OutputStream::new(Closed), &mut err)?;
-    let ran = Ran {
-        status,
-        out: Vec::new(files.alloc),
-        err,
-    };
-    ran.hold_said(&(files.case, line), 3, "fault write -\n")?;
-    hold_files(files, line, Some(before.saturating_add(kept)))
+    let answered = run_line(files, line, &mut OutputStream::new(Closed), &mut err)?;
+    let said: &[u8] = b"fault write -\n";
+    hold(rt, &(files.case, line), &err.as_slice(), &said);
+    hold(rt, &(files.case, line), &answered, &3);
+    hold(rt, &(files.case, line), &files.beside, &0);
+    hold(
+        rt,
+        &(files.case, line),
+        &files.kept,
+        &before.saturating_add(kept),
+    );
+    Ok(())
 }
 
-fn expect_contents(files: &MemoryFiles, path: &str, bytes: &[u8]) -> Result<(), Fail> {
+fn expect_contents(
+    rt: &impl Abort,
+    files: &MemoryFiles,
+    path: &str,
+    bytes: &[u8],
+) -> Result<(), Fail> {
     let found = files.contents(path).ok_or("no such file")?;
-    hold_same(&(files.case, path), &found.len(), &bytes.len())?;
-    hold_same(&(files.case, path), &found, &bytes)
+    hold(rt, &(files.case, path), &found.len(), &bytes.len());
+    hold(rt, &(files.case, path), &found, &bytes);
+    Ok(())
 }
 
-fn take(files: &mut MemoryFiles, step: &Step) -> Result<(), Fail> {
+fn take(rt: &impl Abort, files: &mut MemoryFiles, step: &Step) -> Result<(), Fail> {
     match step {
         Step::Trouble(trouble) => files.trouble = *trouble,
-        Step::Run(line, status, said) => {
-            let kept = if *status == 0 { None } else { Some(0) };
-            expect_run(files, line, &said_by(*status, said, kept))?;
-        }
-        Step::Closed(line, kept) => expect_closed(files, line, *kept)?,
-        Step::Half(line, status, said) => {
-            expect_run(files, line, &said_by(*status, said, Some(1)))?;
-        }
+        Step::Run(line, status, said) => expect_run(rt, files, line, *status, said)?,
+        Step::Closed(line, kept) => expect_closed(rt, files, line, *kept)?,
+        Step::Half(line, status, said) => expect_half(rt, files, line, *status, said)?,
         Step::Both(line, status, out, err) => {
-            let wanted = Wanted {
-                status: *status,
-                out,
-                err,
-                kept: Some(0),
-            };
-            expect_run(files, line, &wanted)?;
+            expect_both(rt, files, line, *status, (*out, *err))?;
         }
-        Step::Unmade(line, pieces) => expect_unmade(files, line, *pieces)?,
         Step::Holds(path, made) => {
-            expect_contents(files, path, &bytes_of(files.alloc, made)?)?;
+            expect_contents(rt, files, path, &bytes_of(files.alloc, made)?)?;
         }
-        Step::Lacks(path) => hold_same(&(files.case, path), &files.contents(path), &None)?,
+        Step::Lacks(path) => hold(rt, &(files.case, path), &files.contents(path), &None),
     }
     Ok(())
 }
@@ -173,13 +199,19 @@ fn files_of(alloc: Global, case: &Case) -> Result<MemoryFiles, Fail> {
     Ok(files)
 }
 
-impl<R> TestCase<R> for Case {
-    // Takes its steps in their order.
-    fn hold(&self, _rt: &R, alloc: Global) -> Result<(), Fail> {
-        let mut files = files_of(alloc, self)?;
-        for step in self.steps {
-            take(&mut files, step)?;
-        }
-        Ok(())
+// Takes the steps of a case in their order.
+fn expect_case(rt: &impl Abort, alloc: Global, case: &Case) -> Result<(), Fail> {
+    let mut files = files_of(alloc, case)?;
+    for step in case.steps {
+        take(rt, &mut files, step)?;
     }
+    Ok(())
+}
+
+/// Holds each case of a table to what it says.
+pub fn expect_cases(rt: &impl Abort, alloc: Global, cases: &[Case]) -> Result<(), Fail> {
+    for case in cases {
+        expect_case(rt, alloc, case)?;
+    }
+    Ok(())
 }

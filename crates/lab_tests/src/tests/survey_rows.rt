@@ -1,7 +1,7 @@
 //! What `survey` tells, and each of its refusals.
 use super::dumps::Made;
 use super::files::Trouble;
-use super::runs::{Case, Step, hold_cases};
+use super::runs::{Case, Step, expect_cases};
 use std::test::Fail;
 use test_images::{TABLE_0, Written, page};
 
@@ -152,5 +152,5 @@ const CASES: [Case; 2] = [
 
 #[test]
 fn survey_tells_what_the_dump_holds(rt: HostRuntime) -> Result<(), Fail> {
-    hold_cases(&rt, rt.alloc(), &CASES)
+    expect_cases(&rt, rt.alloc(), &CASES)
 }

@@ -1,6 +1,6 @@
 //! Words that are no command of the program, and its version.
 use super::dumps::Made;
-use super::runs::{Case, Step, hold_cases};
+use super::runs::{Case, Step, expect_cases};
 use std::test::Fail;
 
 const NONE: &str = "usage: no such command, see nandlab --help\n";
@@ -32,5 +32,5 @@ const CASES: [Case; 1] = [Case {
 
 #[test]
 fn words_are_those_of_the_program(rt: HostRuntime) -> Result<(), Fail> {
-    hold_cases(&rt, rt.alloc(), &CASES)
+    expect_cases(&rt, rt.alloc(), &CASES)
 }

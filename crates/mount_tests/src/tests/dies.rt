@@ -1,8 +1,7 @@
 //! Dies in memory behind a driver, formatted and mounted.
 ghost use Rattle.std.specs.Prelude.{◌≡◌, IfOk};
 
-use super::format_rows::driver_of;
-use super::said::{Said, hold_said, mounted, stale_count};
+use super::said::{Said, TWO_MARKS, hold_said, mounted, stale_count};
 use certificate::{Certificate, write_certificate};
 use image_check::Refusal;
 use mount::{FormatFault, format};
@@ -12,7 +11,6 @@ use page_layout::geometry::Geometry;
 use std::alloc::{AllocError, Global};
 use std::process::Abort;
 use std::test::Fail;
-use test_images::TWO_MARKS;
 
 // The marks of a new die, how many good blocks formatting leaves, what the certificate says that mounting answers then,
 // and its bytes, as far as they are told.
@@ -112,7 +110,11 @@ fn hold_die<N: Nand>(
 fn new_die(alloc: Global, geometry: Geometry, marks: &[Mark]) -> Result<Driver<Die>, Fail>
     ensures { IfOk result (λ driver. driver.geometry ≡ geometry) }
 {
-    driver_of(Die::new(alloc, geometry, marks)?, geometry)
+    let die = Die::new(alloc, geometry, marks)?;
+    match Driver::new(die, geometry) {
+        Ok(driver) => Ok(driver),
+        Err(_) => Err("no reset")?,
+    }
 }
 
 fn hold_case(rt: &impl Abort, alloc: Global, case: &Case) -> Result<(), Fail> {

@@ -1,6 +1,7 @@
 //! Formatting new dies, dies whose programs fail, and a die that is in use.
 ghost use Rattle.std.specs.Prelude.{◌≡◌, true, IfOk};
 
+use super::said::TWO_MARKS;
 use mount::{FormatFault, format};
 use nand_die::{Die, Fault, Mark};
 use onfi_cycles::{Bus, Driver, Nand};
@@ -10,7 +11,6 @@ use page_layout::source::PageSource;
 use std::alloc::{AllocError, Global};
 use std::process::Abort;
 use std::test::Fail;
-use test_images::TWO_MARKS;
 
 // A page: its row, the number and the sequence of its record of a table page, if it has one, the byte that fills its data
 // area, and the bytes there that differ.
@@ -180,8 +180,7 @@ fn image_of(
     Ok(bytes)
 }
 
-// A driver on a bus that answers.
-pub fn driver_of<B: Bus + Drop>(bus: B, geometry: Geometry) -> Result<Driver<B>, Fail>
+fn driver_of<B: Bus + Drop>(bus: B, geometry: Geometry) -> Result<Driver<B>, Fail>
     requires { B.honest bus ≡ true → (B.die bus).flash.geometry ≡ geometry }
     ensures { IfOk result (λ driver. driver.geometry ≡ geometry) }
 {
@@ -352,13 +351,12 @@ fn hold_calls<N: Nand>(
     alloc: Global,
     nand: &mut N,
     geometry: &Geometry,
-    name: &str,
-    calls: &[Call],
+    case: &Case,
 ) -> Result<(), Fail>
     requires { (N.view.flash nand.old).geometry ≡ geometry.now }
 {
-    for call in calls {
-        hold_call(rt, alloc, nand, geometry, name, call)?;
+    for call in case.calls {
+        hold_call(rt, alloc, nand, geometry, case.name, call)?;
     }
     Ok(())
 }
@@ -370,7 +368,7 @@ fn hold_case(rt: &impl Abort, alloc: Global, case: &Case, spare_bytes: u32) -> R
     } else {
         new_die(alloc, geometry, case)?
     };
-    hold_calls(rt, alloc, &mut driver, &geometry, case.name, case.calls)?;
+    hold_calls(rt, alloc, &mut driver, &geometry, case)?;
     assert!(rt; driver.into_bus().abuse() == 0, "{}", case.name);
     Ok(())
 }

@@ -3,14 +3,11 @@ use super::said::{Said, hold_said, mounted, mounted_counted, stale_count};
 use image_check::Refusal;
 use mount::Mounted;
 use page_layout::geometry::Geometry;
-use page_layout::source::ImageSlice;
+use page_layout::source::{ImageSlice, PageSource, SourceFault};
 use std::alloc::Global;
 use std::process::Abort;
 use std::test::Fail;
-use test_images::{
-    DAMAGED_TABLE, FaultySource, LAYOUTS, Layout, SourceTrouble, TABLE_0, TABLE_1, THREE_SECTORS,
-    Written, image_of, laid_out, page,
-};
+use test_images::{LAYOUTS, Layout, TABLE_0, TABLE_1, Written, image_of, laid_out, page};
 
 // What the certificate says that mounting answers, and how many sectors a check of it finds stale.
 type Accepted = (&'static [Said], usize);
@@ -23,12 +20,24 @@ struct Case {
     answer: Result<Accepted, Refusal>,
 }
 
+// A table page whose record is sound, and whose bytes no table has.
+const DAMAGED: Written = page!(0, Table 0, sequence 1, fill 3);
+
 const LAST: Written = page!(8, Sector 5, sequence u64::MAX, fill 1);
+
+// Three sectors were written and no translation page.
+const THREE: [Written; 5] = [
+    TABLE_0,
+    TABLE_1,
+    page!(8, Sector 0, sequence 3, fill 1),
+    page!(9, Sector 1, sequence 4, fill 1),
+    page!(10, Sector 2, sequence 5, fill 1),
+];
 
 const CASES: [Case; 15] = [
     Case {
         name: "three stale sectors, and room for two",
-        pages: &THREE_SECTORS,
+        pages: &THREE,
         capacity: 2,
         answer: Err(Refusal::TooStale {
             stale: 3,
@@ -37,7 +46,7 @@ const CASES: [Case; 15] = [
     },
     Case {
         name: "three stale sectors",
-        pages: &THREE_SECTORS,
+        pages: &THREE,
         capacity: 3,
         answer: Ok((
             &[
@@ -139,13 +148,13 @@ const CASES: [Case; 15] = [
     },
     Case {
         name: "a missing table page before a damaged one",
-        pages: &[DAMAGED_TABLE],
+        pages: &[DAMAGED],
         capacity: 4,
         answer: Err(Refusal::NotFormatted),
     },
     Case {
         name: "a damaged table page before the next sequence",
-        pages: &[DAMAGED_TABLE, TABLE_1, LAST],
+        pages: &[DAMAGED, TABLE_1, LAST],
         capacity: 4,
         answer: Err(Refusal::TableDamaged { page: 0 }),
     },
@@ -189,6 +198,48 @@ fn images_are_mounted(rt: HostRuntime) -> Result<(), Fail> {
     Ok(())
 }
 
+// An image whose page read of one number fails.
+#[derive(Drop)]
+struct FailingAt<'a> {
+    image: ImageSlice<'a>,
+    nth: u64,
+    reads: u64,
+    faults: u64,
+}
+
+impl<'a> PageSource for FailingAt<'a> {
+    ghost use Rattle.std.specs.Prelude.{false, None};
+
+    ghost view = { record {
+      flash = λ s. s.image.flash;
+      recorded = λ _. None;
+      honest = λ _. false;
+      calm = λ _. false;
+      reads = λ s. s.reads;
+      programs = λ _. 0;
+      erases = λ _. 0;
+      failed = λ s. s.faults;
+    } };
+
+    fn read_page(
+        &mut self,
+        row: u32,
+        body: &mut [u8],
+        spare: &mut [u8],
+    ) -> Result<(), SourceFault> {
+        self.reads = self.reads.saturating_add(1);
+        if self.reads == self.nth {
+            self.faults = self.faults.saturating_add(1);
+            return Err(SourceFault(6));
+        }
+        self.image.read_page(row, body, spare)
+    }
+
+    fn failures(&self) -> u64 {
+        self.faults
+    }
+}
+
 const NEWEST: [Written; 3] = [
     TABLE_0,
     TABLE_1,
@@ -207,8 +258,12 @@ const FAILING: [(u64, Option<Refusal>); 4] = [
 // What mounting an image of those pages answers where the page read of this number fails.
 fn failing_at(alloc: Global, bytes: &[u8], nth: u64) -> Result<Option<Refusal>, Fail> {
     let geometry = Geometry::new(64, 32, 8, 32, 32)?;
-    let trouble = SourceTrouble::Fails(nth, nth);
-    let mut source = FaultySource::new(ImageSlice::new(&geometry, bytes)?, trouble);
+    let mut source = FailingAt {
+        image: ImageSlice::new(&geometry, bytes)?,
+        nth,
+        reads: 0,
+        faults: 0,
+    };
     Ok(mounted(alloc, &mut source, &geometry, 4).err())
 }
 

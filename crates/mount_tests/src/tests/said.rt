@@ -4,10 +4,23 @@ ghost use Rattle.std.specs.Prelude.{◌≡◌};
 use certificate::Certificate;
 use image_check::{Refusal, check};
 use mount::{Mounted, mount, mount_counted};
+use nand_die::Mark;
 use page_layout::geometry::Geometry;
 use page_layout::source::PageSource;
 use std::alloc::Global;
 use std::process::Abort;
+
+// The factory marks of two bad blocks: in the first page of one, in the last page of the other.
+pub const TWO_MARKS: [Mark; 2] = [
+    Mark {
+        block: 3,
+        last: false,
+    },
+    Mark {
+        block: 9,
+        last: true,
+    },
+];
 
 // A block's class, write pointer, live pages and erase count.
 pub type State = (u8, u16, u16, u32);

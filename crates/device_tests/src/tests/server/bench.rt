@@ -1,7 +1,7 @@
 //! A die in memory that is formatted, mounted and served.
 ghost use Rattle.std.specs.Prelude.{◌≡◌, ◌≤◌, IfOk};
 
-use super::streams::Narrow;
+use super::streams::{Narrow, Pieces};
 use block_server::{RunFault, Served, serve_checked};
 use device_fixtures::bench::{formatted_die, mounted, small};
 use device_fixtures::dies::image_of;
@@ -10,10 +10,8 @@ use onfi_cycles::Driver;
 use page_layout::geometry::Geometry;
 use request_stream::ServeFault;
 use std::alloc::Global;
-use std::io::ErrorKind;
 use std::process::Abort;
 use std::test::Fail;
-use test_images::Pieces;
 
 // A stream of requests in pieces, and what is to come of it.
 pub struct Row {
@@ -43,7 +41,12 @@ pub fn served(
     ensures { IfOk result (λ driver. driver.geometry ≡ geometry.now) }
 {
     let certificate = mounted(alloc, &mut driver, geometry, capacity)?;
-    let mut reader = Pieces::new(input, 7);
+    let mut reader = Pieces {
+        left: input,
+        piece: 7,
+        failing: 0,
+        reads: 0,
+    };
     match serve_checked(
         alloc,
         driver,
@@ -99,8 +102,8 @@ pub fn hold_row(rt: &impl Abort, alloc: Global, row: &Row, piece: usize) -> Resu
     let mut reader = Pieces {
         left: row.input,
         piece,
-        reads_left: row.failing_read.checked_sub(1),
-        fault: ErrorKind::Interrupted,
+        failing: row.failing_read,
+        reads: 0,
     };
     let mut writer = Narrow::new(alloc, piece, row.failing_write);
     let came = serve_die(alloc, driver, &geometry, &mut reader, &mut writer)?;

@@ -1,6 +1,6 @@
 //! Streams of requests, and what is written for them.
 use super::bench::{Came, Row, hold_row, serve_die};
-use super::streams::Narrow;
+use super::streams::{Narrow, Pieces};
 use block_server::Served;
 use device_fixtures::bench::{formatted_die, small};
 use promises::stream::End;
@@ -8,20 +8,6 @@ use request_stream::ServeFault;
 use std::alloc::Global;
 use std::process::Abort;
 use std::test::Fail;
-use test_images::Pieces;
-
-const BAD_HEADER: Row = Row {
-    name: "a header with the sixth operation",
-    input: b"\x44\x46\x06\x00\x01\x00\x00\x00\x01\x00\x00\x00",
-    failing_read: 0,
-    failing_write: 0,
-    answer: Ok(Served {
-        replies: 1,
-        end: End::BadFrame,
-    }),
-    output: b"\x64\x66\x00\x07\x00\x00\x00\x00",
-    left: 0,
-};
 
 const ROWS: &[Row] = &[
     Row {
@@ -42,8 +28,14 @@ const ROWS: &[Row] = &[
     Row {
         name: "a bad header, and what follows it",
         input: b"\x44\x58\x01\x00\x00\x00\x00\x00\x00\x00\x00\x00\x44\x46\x04\x00\x09\x00\x00\x00\x00\x00\x00\x00",
+        failing_read: 0,
+        failing_write: 0,
+        answer: Ok(Served {
+            replies: 1,
+            end: End::BadFrame,
+        }),
+        output: b"\x64\x66\x00\x07\x00\x00\x00\x00",
         left: 12,
-        ..BAD_HEADER
     },
     Row {
         name: "eleven bytes",
@@ -149,16 +141,41 @@ const ROWS: &[Row] = &[
             \x00\x00\x00\x00",
         left: 0,
     },
-    BAD_HEADER,
+    Row {
+        name: "a header with the sixth operation",
+        input: b"\x44\x46\x06\x00\x01\x00\x00\x00\x01\x00\x00\x00",
+        failing_read: 0,
+        failing_write: 0,
+        answer: Ok(Served {
+            replies: 1,
+            end: End::BadFrame,
+        }),
+        output: b"\x64\x66\x00\x07\x00\x00\x00\x00",
+        left: 0,
+    },
     Row {
         name: "a header with the operation 0",
         input: b"\x44\x46\x00\x00\x01\x00\x00\x00\x01\x00\x00\x00",
-        ..BAD_HEADER
+        failing_read: 0,
+        failing_write: 0,
+        answer: Ok(Served {
+            replies: 1,
+            end: End::BadFrame,
+        }),
+        output: b"\x64\x66\x00\x07\x00\x00\x00\x00",
+        left: 0,
     },
     Row {
         name: "a header whose fourth byte is not 00h",
         input: b"\x44\x46\x01\x01\x00\x00\x00\x00\x00\x00\x00\x00",
-        ..BAD_HEADER
+        failing_read: 0,
+        failing_write: 0,
+        answer: Ok(Served {
+            replies: 1,
+            end: End::BadFrame,
+        }),
+        output: b"\x64\x66\x00\x07\x00\x00\x00\x00",
+        left: 0,
     },
 ];
 
@@ -240,7 +257,12 @@ fn cut(alloc: Global, count: usize) -> Result<Came, Fail> {
     let geometry = small()?;
     let driver = formatted_die(alloc, geometry, &[], 0)?;
     let (front, _) = WRITE.split_at(count.min(WRITE.len()));
-    let mut reader = Pieces::new(front, 1000);
+    let mut reader = Pieces {
+        left: front,
+        piece: 1000,
+        failing: 0,
+        reads: 0,
+    };
     let mut writer = Narrow::new(alloc, 1000, 0);
     serve_die(alloc, driver, &geometry, &mut reader, &mut writer)
 }

@@ -3,7 +3,7 @@ ghost use Rattle.std.specs.Prelude.{◌≡◌, true, IfOk};
 ghost use Rattle.certificate.specs.Claim.{sizes_of};
 
 use super::bench::served;
-use super::streams::Narrow;
+use super::streams::{Narrow, Pieces};
 use block_server::serve;
 use certificate::Certificate;
 use device_fixtures::bench::{driver_on, formatted_die, mounted, small, start_on, with_bytes};
@@ -16,7 +16,6 @@ use request_stream::{Header, send_reply};
 use std::alloc::Global;
 use std::process::Abort;
 use std::test::Fail;
-use test_images::Pieces;
 
 // A write of sector 5.
 const WRITE: &[u8] = b"\
@@ -160,7 +159,12 @@ fn replies<B: Bus + Drop>(
 {
     let driver = driver_on(bus, geometry)?;
     let mut device = start_on(alloc, driver, accepted)?;
-    let mut reader = Pieces::new(input, 1000);
+    let mut reader = Pieces {
+        left: input,
+        piece: 1000,
+        failing: 0,
+        reads: 0,
+    };
     let mut writer = Narrow::new(alloc, 1000, 0);
     match serve(alloc, &mut reader, &mut writer, &mut device) {
         Ok(_) => Ok(writer.bytes),

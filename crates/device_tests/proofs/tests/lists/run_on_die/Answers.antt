@@ -1,17 +1,31 @@
-use Rattle.std.proofs.Common.{◌≡◌, ◌⊎◌, inl, inr, ℕ, ◌≤◌, List, refl, subst}
+use Rattle.std.proofs.Common.{◌≡◌, ◌≢◌, ◌⊎◌, inl, inr, ℕ, ◌≤◌, List, Result, Ok, Err, refl, sym, ap, subst, ◌∙◌}
+use Rattle.page_layout.specs.declared.geometry.Geometry.{Geometry}
+use Rattle.page_layout.specs.Page.{IsImage}
 use Rattle.page_layout.specs.Counter.{HasRisen}
 use Rattle.page_layout.specs.Flash.{Flash}
 use Rattle.page_layout.specs.View.{View}
 use Rattle.certificate.specs.Claim.{Claim}
+use Rattle.image_check.specs.Accepted.{Acceptance, IsAcceptance}
+use Rattle.image_check.specs.declared.refusal.Refusal.{Refusal}
 use Rattle.image_check.specs.declared.refusal.Refusal.TheVariants.{Source}
 use Rattle.collection.proofs.Costs.{risen_over}
 use Rattle.onfi_cycles.specs.Driver.{flash_by}
+use Rattle.ftl_device.specs.Device.{IsAcceptedFor}
 use Rattle.ftl_device.specs.declared.device.Device.{Device}
-use Rattle.command_queue.specs.Exchanges.{Exchange}
+use Rattle.command_queue.specs.Exchanges.{Exchange, exchanges_of}
 use Rattle.command_queue.specs.Run.{RanFrom}
 use Rattle.command_queue.proofs.ToldLemmas.{until_known}
-use Rattle.block_server.proofs.Checking.{accepted_for, not_refused}
 use Rattle.device_tests.proofs.tests.lists.run_on_die.Goals as goal
+
+-- what was accepted for the image before the reads is so for that after them
+accepted_for : (s t : Flash) (g : Geometry) (capacity : ℕ) (c : Claim) (a : Acceptance) → t ≡ s → s.geometry ≡ g → IsImage g s.image → IsAcceptance g capacity s.image c a → IsAcceptedFor t a
+accepted_for s t g capacity c a same sized whole is =
+    let cap : capacity ≡ a.claim.capacity = sym (ap (λ (x : Claim). x.capacity) is.claim_is ∙ is.agrees.asked.capacity_same) in
+    let here : IsAcceptance g a.claim.capacity s.image a.claim a = subst (λ n. IsAcceptance g n s.image a.claim a) cap (subst (λ (x : Claim). IsAcceptance g capacity s.image x a) (sym is.claim_is) is) in
+    let P : Geometry → Flash → Type 0 = λ h f. IsImage h f.image × IsAcceptance h a.claim.capacity f.image a.claim a in
+    let both : P s.geometry s = subst (λ h. P h s) (sym sized) (whole, here) in
+    let there : P t.geometry t = subst (λ (f : Flash). P f.geometry f) (sym same) both in
+    record { whole = there.0; accepted = there.1 }
 
 -- a run from the die after the reads, by what was accepted, is one from it before them, by what was given
 ran_of : {N : Type 0} {view : View N} {s t : Flash} {c d : Claim} {xs : List Exchange} {new : Device N} → s ≡ t → c ≡ d → RanFrom view s c xs new → RanFrom view t d xs new
@@ -20,6 +34,12 @@ ran_of {N} {view} {s} {t} {c} {d} {xs} {new} same claimed ran = subst (λ x. Ran
 risen_since : {A : Type 0} (a b c : ℕ) → a ≤ b → A ⊎ HasRisen b c → A ⊎ HasRisen a c
 risen_since a b c le (inl x) = inl x
 risen_since a b c le (inr risen) = inr (risen_over a b c le risen)
+
+abbrev accepted_as : Acceptance → Result Acceptance Refusal
+accepted_as a = Ok a
+
+not_refused : (a : Acceptance) (e : Refusal) → accepted_as a ≢ Err e
+not_refused a e is = (let never : ⊥ = cc in never)
 
 pub returns-in-Ok : goal.returns-in-Ok
 returns-in-Ok c =
