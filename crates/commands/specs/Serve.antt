@@ -1,5 +1,5 @@
 -- What the command `serve` comes to.
-use Rattle.std.specs.Prelude.{◌≡◌, ◌⊎◌, ℕ, Bool, true, List, map, filter, min, Option, Some, None, Result, Ok, Err}
+use Rattle.std.specs.Prelude.{⊤, ◌≡◌, ◌⊎◌, ℕ, Bool, true, List, map, filter, min, Option, Some, None, Result, Ok, Err}
 use Rattle.std.specs.List.{range_with_len}
 use Rattle.std.specs.Io.KnownBytes.{Keeps}
 use Rattle.page_layout.specs.View.{View}
@@ -8,6 +8,7 @@ use Rattle.page_layout.specs.Flash.{Flash}
 use Rattle.page_layout.specs.Recording.{Recording}
 use Rattle.page_layout.specs.Raw.{raw_image, raw_bytes}
 use Rattle.certificate.specs.Claim.{Claim}
+use Rattle.onfi_cycles.specs.Called.{driver_called}
 use Rattle.onfi_cycles.specs.Driver.{DriverState, flash_by}
 use Rattle.nand_die.specs.declared.fault.DieFault.TheVariants as die
 use Rattle.nand_die.specs.Made.{loaded_flash}
@@ -80,6 +81,7 @@ driver_view = record {
   programs = programs_of;
   erases = erases_of;
   failed = failures_of;
+  called = driver_called (λ bus. bus.die.state) (λ bus. true) (λ old cycle answer out new. ⊤);
 }
 
 -- Requests were served over a die in memory: what was read and written, the calls of the device that `start` began over it, and the image that it

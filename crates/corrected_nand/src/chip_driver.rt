@@ -123,7 +123,7 @@ impl<B: ChipBus> NoisyNand for ChipDriver<B> {
     ghost use Rattle.page_layout.specs.Flash.{Erase, IsWhole, Program, Steps, block_at, page_at};
     ghost use Rattle.page_layout.specs.Geometry.{row_count};
     ghost use Rattle.page_layout.specs.Page.{page};
-    ghost use Rattle.page_layout.specs.Recording.{Records};
+    ghost use Rattle.page_layout.specs.Recording.{Records, EndsAt, EndsIn, asked_program, asked_erase};
     ghost use Rattle.onfi_cycles.specs.Driver.{seen};
     ghost use Rattle.onfi_cycles.specs.Outcomes.{is_passed};
     ghost use Rattle.corrected_nand.specs.Told.{gained_by};
@@ -151,7 +151,7 @@ impl<B: ChipBus> NoisyNand for ChipDriver<B> {
         self.driver.read_page(row, body, outer)
     }
 
-    /// Programs the page of a row with its codes. Its record gains the operation just where that was answered.
+    /// Programs the page of a row with its codes. Its record gains the operation just where that was answered, and else has it at hand.
     fn program(&mut self, row: u32, body: &[u8], outer: &[u8]) -> Result<Outcome, BusFault>
         requires row_in { row < row_count self.old.geometry }
         requires body_whole { length body.now ≡ self.old.geometry.data_bytes }
@@ -164,6 +164,8 @@ impl<B: ChipBus> NoisyNand for ChipDriver<B> {
             (seen self.new.geometry (B.chip self.new.driver.bus))) }
         ensures recorded { IfOk result (λ outcome. B.keeps self.old.driver.bus ≡ true →
             Records (Some self.old.told) (Program row (page body.now (take self.old.geometry.spare_bytes outer.now)) (is_passed outcome) (page_at (seen self.new.geometry (B.chip self.new.driver.bus)) row) ∷ []) (Some self.new.told)) }
+        ensures cut { OnErr result (B.keeps self.old.driver.bus ≡ true →
+            EndsIn (asked_program row (page body.now (take self.old.geometry.spare_bytes outer.now))) (Some self.old.told) (Some self.new.told)) }
         ensures whole { OnOk result (B.keeps self.old.driver.bus ≡ true → IsWhole (seen self.new.geometry (B.chip self.new.driver.bus))) }
         ensures geometry { self.new.geometry ≡ self.old.geometry }
         ensures honest { B.keeps self.new.driver.bus ≡ B.keeps self.old.driver.bus }
@@ -171,7 +173,8 @@ impl<B: ChipBus> NoisyNand for ChipDriver<B> {
         ensures rose { OnErr result (HasRisen self.old.driver.failures self.new.driver.failures) }
 
         // Over any chip.
-        ensures told { self.new.told ≡ gained_by result (λ outcome. Program row (page body.now (take self.old.geometry.spare_bytes outer.now)) (is_passed outcome) (page_at (B.chip self.new.driver.bus) row)) self.old.told }
+        ensures told { self.new.told ≡ gained_by result (λ outcome. Program row (page body.now (take self.old.geometry.spare_bytes outer.now)) (is_passed outcome) (page_at (B.chip self.new.driver.bus) row))
+            (asked_program row (page body.now (take self.old.geometry.spare_bytes outer.now))) self.old.told }
     {
         let answer = self.driver.program(row, body, outer);
         self.history = DieHistory::of(&ProgrammedChip {
@@ -186,7 +189,7 @@ impl<B: ChipBus> NoisyNand for ChipDriver<B> {
         answer
     }
 
-    /// Erases a block. Its record gains the operation just where that was answered.
+    /// Erases a block. Its record gains the operation just where that was answered, and else has it at hand.
     fn erase(&mut self, block: u32) -> Result<Outcome, BusFault>
         requires block_in { block < self.old.geometry.blocks }
 
@@ -195,6 +198,7 @@ impl<B: ChipBus> NoisyNand for ChipDriver<B> {
             Steps (seen self.old.geometry (B.chip self.old.driver.bus)) (Erase block (is_passed outcome) (block_at (seen self.new.geometry (B.chip self.new.driver.bus)) block)) (seen self.new.geometry (B.chip self.new.driver.bus))) }
         ensures recorded { IfOk result (λ outcome. B.keeps self.old.driver.bus ≡ true →
             Records (Some self.old.told) (Erase block (is_passed outcome) (block_at (seen self.new.geometry (B.chip self.new.driver.bus)) block) ∷ []) (Some self.new.told)) }
+        ensures cut { OnErr result (B.keeps self.old.driver.bus ≡ true → EndsIn (asked_erase self.old.geometry block) (Some self.old.told) (Some self.new.told)) }
         ensures whole { OnOk result (B.keeps self.old.driver.bus ≡ true → IsWhole (seen self.new.geometry (B.chip self.new.driver.bus))) }
         ensures geometry { self.new.geometry ≡ self.old.geometry }
         ensures honest { B.keeps self.new.driver.bus ≡ B.keeps self.old.driver.bus }
@@ -202,7 +206,7 @@ impl<B: ChipBus> NoisyNand for ChipDriver<B> {
         ensures rose { OnErr result (HasRisen self.old.driver.failures self.new.driver.failures) }
 
         // Over any chip.
-        ensures told { self.new.told ≡ gained_by result (λ outcome. Erase block (is_passed outcome) (block_at (seen self.old.geometry (B.chip self.new.driver.bus)) block)) self.old.told }
+        ensures told { self.new.told ≡ gained_by result (λ outcome. Erase block (is_passed outcome) (block_at (seen self.old.geometry (B.chip self.new.driver.bus)) block)) (asked_erase self.old.geometry block) self.old.told }
     {
         let answer = self.driver.erase(block);
         self.history = DieHistory::of(&ErasedChip {

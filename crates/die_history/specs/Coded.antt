@@ -32,5 +32,5 @@ operation_coded = code_by Parts
     to_parts from_parts from_parts-to_parts
 
 abbrev pub recording_coded : Coded Recording
-recording_coded = code_by (List Page × List Operation) (coded× (coded_list page_coded) (coded_list operation_coded))
-    (λ (r : Recording). (r.image, r.log)) (λ t. record { image = t.0; log = t.1 }) (λ _. refl)
+recording_coded = code_by (List Page × (List Operation × List Operation)) (coded× (coded_list page_coded) (coded× (coded_list operation_coded) (coded_list operation_coded)))
+    (λ (r : Recording). (r.image, (r.log, r.at_hand))) (λ t. record { image = t.0; log = t.1.0; at_hand = t.1.1 }) (λ _. refl)

@@ -1,5 +1,5 @@
 -- A DIE OF ONE OF TWO KINDS behind a link: one whose pages read back as they were programmed, or one over a chip whose pages have codes. It is what the one that it holds is.
-use Rattle.std.specs.Prelude.{◌≡◌, ◌⊎◌, ℕ, Bool, false, true, List, [], Option, Some, None, IsSome, Result}
+use Rattle.std.specs.Prelude.{⊤, ◌≡◌, ◌⊎◌, ℕ, Bool, false, true, List, [], Option, Some, None, IsSome, Result}
 use Rattle.page_layout.specs.declared.geometry.Geometry.{Geometry}
 use Rattle.page_layout.specs.Flash.{Flash}
 use Rattle.page_layout.specs.Recording.{Recording}
@@ -65,6 +65,7 @@ either_view die chip honest keeps = record {
   programs = programs_of;
   erases = erases_of;
   failed = failed_of;
+  called = λ _ _ _. ⊤;
 }
 
 -- ---- a Reset over a link

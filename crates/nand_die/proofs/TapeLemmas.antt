@@ -103,7 +103,7 @@ tape_more g kept bytes more bytes' notes notes' n nl bl nl' bl' room nc bc nc' b
     }
 
 abbrev pub tape_value : Geometry → Image → List ℕ → ℕ → List Operation → TapeValue
-tape_value g image kept free log = record { geometry = g; recording = record { image = image; log = log }; free = free; kept = kept }
+tape_value g image kept free log = record { geometry = g; recording = record { image = image; log = log; at_hand = [] }; free = free; kept = kept }
 
 -- and what it tells then
 pub tape_told : (g : Geometry) (image : Image) (kept bytes bytes' : List ℕ) (room : ℕ) (notes notes' : List Note) (n : Note) (op : Operation)

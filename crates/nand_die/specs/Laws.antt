@@ -7,6 +7,7 @@ use Rattle.page_layout.specs.Counter.{counted}
 use Rattle.page_layout.specs.Flash.{Flash, Operation, Leads, may_program, may_erase}
 use Rattle.page_layout.specs.Recording.{Recording, IsRecordOf, image_after_all}
 use Rattle.promises.specs.Stop.{MayLeave}
+use Rattle.onfi_cycles.specs.Driver.{gained}
 use Rattle.onfi_cycles.specs.Spelling.{done, refused}
 use Rattle.onfi_cycles.specs.declared.nand.BusFault.TheVariants.{Device}
 use Rattle.onfi_cycles.specs.Cycles.{Cycle, DataOut, Phase, Due, Moves, Resets, Programs, Erases, Refuses, page_of, bytes_out}
@@ -76,7 +77,7 @@ StoppedLaw = (d : DieValue) (cycle : Cycle) → d.stopped ≡ true →
 -- A record gains a program or an erase while it has room, and ends past it.
 abbrev pub RoomLaw : Type 0
 RoomLaw = (room : ℕ) (op : Operation) (r : Recording) →
-    (room ≡ 0 → next_record room op (Some r) ≡ None) × (0 < room → next_record room op (Some r) ≡ Some (record { image = r.image; log = r.log ++ (op ∷ []) }))
+    (room ≡ 0 → next_record room op (Some r) ≡ None) × (0 < room → next_record room op (Some r) ≡ Some (gained op r))
 
 -- ---- what a stop leaves
 

@@ -197,7 +197,7 @@ impl Die {
     /// `OutOfMemory` where a growth was refused. The die then tells no record.
     pub fn record(&mut self, alloc: Global, room: u32) -> Result<(), DieFault>
         ensures ok { OnOk result (self.new ≡ die_of (chip_of self.old) self.old.stop self.old.left self.old.stopped self.old.failures
-            (Some (record { image = self.old.state.flash.image; log = [] })) room) }
+            (Some (record { image = self.old.state.flash.image; log = []; at_hand = [] })) room) }
         ensures none { OnErr result (self.new ≡ die_of (chip_of self.old) self.old.stop self.old.left self.old.stopped self.old.failures None 0) }
         ensures err { IfErr result (λ fault. fault ≡ DieFault.OutOfMemory) }
     {

@@ -32,7 +32,7 @@ pub struct Tape {
 }
 
 impl Model for Tape {
-    ghost use Rattle.std.specs.Prelude.{◌-◌, length, vec_len, vec_capacity};
+    ghost use Rattle.std.specs.Prelude.{◌-◌, [], length, vec_len, vec_capacity};
     ghost use Rattle.page_layout.specs.Raw.{raw_image};
     ghost use Rattle.nand_die.specs.Tape.{TapeValue, IsTape, noted_log};
 
@@ -40,7 +40,7 @@ impl Model for Tape {
 
     ghost view = { λ t. record {
       geometry = t.geometry;
-      recording = record { image = raw_image t.geometry t.image.items; log = noted_log t.geometry t.notes.items t.bytes.items };
+      recording = record { image = raw_image t.geometry t.image.items; log = noted_log t.geometry t.notes.items t.bytes.items; at_hand = [] };
       free = t.room - length t.notes.items;
       kept = t.kept.items;
     } };
@@ -95,11 +95,12 @@ fn reserve<T>(alloc: Global, count: usize) -> Result<Vec<T>, DieFault>
 
 impl Tape {
     ghost use Rattle.page_layout.specs.Recording.{Recording};
+    ghost use Rattle.onfi_cycles.specs.Driver.{gained};
     ghost use Rattle.nand_die.specs.Tape.{TapeValue};
 
     // A record that begins with this image, with room for so many operations.
     pub fn new(alloc: Global, geometry: Geometry, image: &[u8], room: u32) -> Result<Tape, DieFault>
-        ensures ok { IfOk result (λ tape. (tape.geometry ≡ geometry) × (tape.recording ≡ record { image = raw_image geometry image.now; log = [] }) × (tape.free ≡ room)) }
+        ensures ok { IfOk result (λ tape. (tape.geometry ≡ geometry) × (tape.recording ≡ record { image = raw_image geometry image.now; log = []; at_hand = [] }) × (tape.free ≡ room)) }
         ensures err { IfErr result (λ fault. fault ≡ DieFault.OutOfMemory) }
     {
         let total = bytes_needed(&geometry, room)?;
@@ -136,7 +137,7 @@ impl Tape {
     pub fn note_program(&mut self, row: u32, passed: bool, left: &[u8])
         requires room { 0 < self.old.free }
         requires whole { length left.now ≡ page_bytes self.old.geometry }
-        ensures { self.new ≡ record { geometry = self.old.geometry; recording = record { image = self.old.recording.image; log = self.old.recording.log ++ (Program row (page_of self.old.geometry self.old.kept) passed (page_of self.old.geometry left.now) ∷ []) }; free = self.old.free - 1; kept = self.old.kept } }
+        ensures { self.new ≡ record { geometry = self.old.geometry; recording = gained (Program row (page_of self.old.geometry self.old.kept) passed (page_of self.old.geometry left.now)) self.old.recording; free = self.old.free - 1; kept = self.old.kept } }
     {
         append(&mut self.bytes, self.kept.as_slice());
         append(&mut self.bytes, left);
@@ -147,7 +148,7 @@ impl Tape {
     pub fn note_erase(&mut self, block: u32, passed: bool, left: &[u8])
         requires room { 0 < self.old.free }
         requires whole { length left.now ≡ self.old.geometry.pages * page_bytes self.old.geometry }
-        ensures { self.new ≡ record { geometry = self.old.geometry; recording = record { image = self.old.recording.image; log = self.old.recording.log ++ (Erase block passed (pages_of self.old.geometry self.old.geometry.pages left.now) ∷ []) }; free = self.old.free - 1; kept = self.old.kept } }
+        ensures { self.new ≡ record { geometry = self.old.geometry; recording = gained (Erase block passed (pages_of self.old.geometry self.old.geometry.pages left.now)) self.old.recording; free = self.old.free - 1; kept = self.old.kept } }
     {
         append(&mut self.bytes, left);
         append_note(&mut self.notes, Note::Erase { block, passed });

@@ -4,5 +4,6 @@ pub mod StatusByte
 pub mod Leads
 pub mod Operations
 pub mod Resets
+pub mod Stepping
 pub mod TurnLaws
 pub mod Noting

@@ -3,7 +3,7 @@ use Rattle.std.specs.Prelude.{◌≡◌, ℕ, Bool, List, [], ◌∷◌, ◌++�
 use Rattle.page_layout.specs.declared.geometry.Geometry.{Geometry}
 use Rattle.page_layout.specs.Counter.{HasRisen}
 use Rattle.page_layout.specs.Flash.{Flash, Operation, Steps}
-use Rattle.page_layout.specs.Recording.{Recording}
+use Rattle.page_layout.specs.Recording.{Recording, hand_after}
 use Rattle.onfi_cycles.specs.declared.nand.BusFault.{BusFault}
 use Rattle.onfi_cycles.specs.declared.nand.BusFault.TheVariants.{Device}
 use Rattle.onfi_cycles.specs.declared.nand.Outcome.{Outcome}
@@ -23,11 +23,15 @@ pub record DriverState (B : Type 0) : Type 0 where
 
 -- the record with one operation more
 abbrev pub gained : Operation → Recording → Recording
-gained op told = record { image = told.image; log = told.log ++ op ∷ [] }
+gained op told = record { image = told.image; log = told.log ++ op ∷ []; at_hand = hand_after told.at_hand (op ∷ []) }
+
+-- the record with this operation at hand
+abbrev pub cut_in : Operation → Recording → Recording
+cut_in op told = record { image = told.image; log = told.log; at_hand = told.at_hand ++ op ∷ [] }
 
 -- the record of a die to which nothing was done yet
 abbrev pub untouched : Flash → Recording
-untouched s = record { image = s.image; log = [] }
+untouched s = record { image = s.image; log = []; at_hand = [] }
 
 -- no command is unfinished
 abbrev pub IsReady : Phase → Type 0

@@ -4,4 +4,5 @@ pub mod Spelling
 pub mod Sent
 pub mod Recorded
 pub mod Driver
+pub mod Called
 pub mod Laws

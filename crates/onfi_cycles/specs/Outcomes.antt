@@ -1,5 +1,5 @@
 -- Outcomes, faults and status bytes.
-use Rattle.std.specs.Prelude.{ℕ, Bool, true, false, ◌==◌, Result, Ok, Err, if◌then◌else◌}
+use Rattle.std.specs.Prelude.{ℕ, Bool, true, false, ◌==◌, Option, Some, None, Result, Ok, Err, if◌then◌else◌}
 use Rattle.std.specs.Int.RustNames.{bit_and}
 use Rattle.onfi_cycles.specs.declared.nand.BusFault.{BusFault}
 use Rattle.onfi_cycles.specs.declared.nand.BusFault.TheVariants.{NoReset, UnknownCommand, OutOfTurn, AddressRange, ColumnRange, Device}
@@ -10,6 +10,11 @@ use Rattle.onfi_cycles.specs.declared.nand.Outcome.TheVariants.{Passed, Failed}
 abbrev pub is_passed : Outcome → Bool
 is_passed Passed = true
 is_passed Failed = false
+
+-- what is told of a program or an erase: whether it passed, or a fault
+abbrev pub passed_in : Result Outcome BusFault → Option Bool
+passed_in (Ok outcome) = Some (is_passed outcome)
+passed_in (Err fault) = None
 
 -- the byte has all of these bits
 abbrev pub has_bits : ℕ → ℕ → Bool

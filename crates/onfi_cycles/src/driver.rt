@@ -1,18 +1,20 @@
 //! A die behind a bus.
-ghost use Rattle.std.specs.Prelude.{◌≡◌, ◌<◌, ◌≤◌, true, [], ◌∷◌, ◌++◌, length, slice_get, Some, IfOk, IfErr, OnOk, OnErr, MatchResult};
+ghost use Rattle.std.specs.Prelude.{◌≡◌, ◌<◌, ◌≤◌, true, [], ◌∷◌, ◌++◌, length, slice_get, is_ok, Some, IfOk, IfErr, OnOk, OnErr, MatchResult};
 ghost use Rattle.page_layout.specs.Geometry.{row_count};
 ghost use Rattle.page_layout.specs.Page.{page, IsImage};
 ghost use Rattle.page_layout.specs.Counter.{counted, HasRisen};
-ghost use Rattle.page_layout.specs.Recording.{Records, RecordsOrEnds};
+ghost use Rattle.page_layout.specs.Recording.{Records, RecordsOrEnds, EndsAt, EndsIn, asked_program, asked_erase};
 ghost use Rattle.page_layout.specs.Flash.{Program, Erase, Steps, page_at, block_at, IsWhole};
 ghost use Rattle.onfi_cycles.specs.Cycles.{CycleStep, Command, IsCounted};
 ghost use Rattle.onfi_cycles.specs.Spelling.{Taken, Spells, SpellsRead, program_cycles, erase_cycles, read_cycles, done, refused};
 ghost use Rattle.onfi_cycles.specs.Sent.{Operates, SendsRead};
-ghost use Rattle.onfi_cycles.specs.Outcomes.{is_passed, number_of};
-ghost use Rattle.onfi_cycles.specs.Driver.{flash_by, gained, untouched};
+ghost use Rattle.onfi_cycles.specs.Outcomes.{is_passed, number_of, passed_in};
+ghost use Rattle.onfi_cycles.specs.Called.{driver_called};
+ghost use Rattle.page_layout.specs.DieCalls.{ReadCall, ProgramCall, EraseCall};
+ghost use Rattle.onfi_cycles.specs.Driver.{flash_by, gained, cut_in, untouched};
 
 use crate::spelling::{erase_block, fetch_page, program_page};
-use crate::told::{Erased, Programmed, Untouched};
+use crate::told::{BegunErase, BegunProgram, Erased, Programmed, Untouched};
 use crate::{Bus, BusFault, Nand, Outcome};
 use die_history::DieHistory;
 use page_layout::geometry::Geometry;
@@ -21,8 +23,8 @@ use std::marker::Model;
 
 /// A die behind a bus: reads, programs and erases spelled as cycles. It counts what it was asked for, and each fault that it
 /// answered; each count stays at 2^64 - 1 once there. Its record of what it did is for proofs alone and takes no memory: it begins with
-/// the die as the driver found it, is told for good, and gains each operation that is answered `Ok`. (The cycles are those of ONFI
-/// 1.0's basic commands.)
+/// the die as the driver found it, is told for good, and gains each operation that is answered `Ok`; one that a fault ended is at hand in
+/// it. (The cycles are those of ONFI 1.0's basic commands.)
 #[derive(Drop)]
 pub struct Driver<B: Bus> {
     bus: B,
@@ -126,6 +128,7 @@ impl<B: Bus> PageSource for Driver<B> {
       programs = λ d. d.programs;
       erases = λ d. d.erases;
       failed = λ d. d.failures;
+      called = λ old call new. driver_called B.die B.honest B.called old call new;
     } };
 
     /// Reads a page: 00h, five address cycles with column 0, 30h, then `body` and `spare` out. A fault of the bus is answered by
@@ -137,10 +140,12 @@ impl<B: Bus> PageSource for Driver<B> {
         requires spare_whole { length spare.old ≡ self.old.geometry.spare_bytes }
 
         // What every source of pages promises.
+        ensures called { driver_called B.die B.honest B.called self.old (ReadCall row (is_ok result)) self.new }
         ensures page { OnOk result (B.honest self.old.bus ≡ true → slice_get (B.die self.old.bus).flash.image row ≡ Some (page body.new spare.new)) }
         ensures same { OnOk result (B.honest self.old.bus ≡ true → flash_by B.die self.new ≡ flash_by B.die self.old) }
         ensures whole { OnOk result (B.honest self.old.bus ≡ true → IsImage self.new.geometry (B.die self.new.bus).flash.image) }
         ensures recorded { OnOk result (B.honest self.old.bus ≡ true → Some self.new.told ≡ Some self.old.told) }
+        ensures cut { OnErr result (B.honest self.old.bus ≡ true → EndsAt [] (Some self.old.told) (Some self.new.told)) }
         ensures geometry { self.new.geometry ≡ self.old.geometry }
         ensures honest { B.honest self.new.bus ≡ B.honest self.old.bus }
         ensures calm { B.calm self.new.bus ≡ B.calm self.old.bus }
@@ -192,10 +197,12 @@ impl<B: Bus> Nand for Driver<B> {
         requires spare_whole { length spare.now ≡ self.old.geometry.spare_bytes }
 
         // What every die promises.
+        ensures called { driver_called B.die B.honest B.called self.old (ProgramCall row (page body.now spare.now) (passed_in result)) self.new }
         ensures step { IfOk result (λ outcome. B.honest self.old.bus ≡ true →
             Steps (flash_by B.die self.old) (Program row (page body.now spare.now) (is_passed outcome) (page_at (flash_by B.die self.new) row)) (flash_by B.die self.new)) }
         ensures recorded { IfOk result (λ outcome. B.honest self.old.bus ≡ true →
             Records (Some self.old.told) (Program row (page body.now spare.now) (is_passed outcome) (page_at (flash_by B.die self.new) row) ∷ []) (Some self.new.told)) }
+        ensures cut { OnErr result (B.honest self.old.bus ≡ true → EndsIn (asked_program row (page body.now spare.now)) (Some self.old.told) (Some self.new.told)) }
         ensures whole { OnOk result (B.honest self.old.bus ≡ true → IsWhole (flash_by B.die self.new)) }
         ensures geometry { self.new.geometry ≡ self.old.geometry }
         ensures honest { B.honest self.new.bus ≡ B.honest self.old.bus }
@@ -213,9 +220,11 @@ impl<B: Bus> Nand for Driver<B> {
         ensures kept { OnOk result (self.new.failures ≡ self.old.failures) }
         ensures counts { OnErr result (self.new.failures ≡ counted self.old.failures) }
 
-        // Its own record gains the operation just where it was answered, over any bus; what an honest bus tells gains it too, or ends.
+        // Its own record gains the operation just where it was answered, over any bus, and else has it at hand; what an honest bus tells gains it
+        // too, or ends.
         ensures told { MatchResult result
-            (λ outcome. self.new.told ≡ gained (Program row (page body.now spare.now) (is_passed outcome) (page_at (flash_by B.die self.new) row)) self.old.told) (λ fault. self.new.told ≡ self.old.told) }
+            (λ outcome. self.new.told ≡ gained (Program row (page body.now spare.now) (is_passed outcome) (page_at (flash_by B.die self.new) row)) self.old.told)
+            (λ fault. self.new.told ≡ cut_in (asked_program row (page body.now spare.now)) self.old.told) }
         ensures behind { IfOk result (λ outcome. B.honest self.old.bus ≡ true →
             RecordsOrEnds (B.recorded self.old.bus) (Program row (page body.now spare.now) (is_passed outcome) (page_at (flash_by B.die self.new) row) ∷ []) (B.recorded self.new.bus)) }
 
@@ -239,6 +248,13 @@ impl<B: Bus> Nand for Driver<B> {
             }
             Err(fault) => {
                 self.failures = self.failures.saturating_add(1);
+                let history = DieHistory::of(&BegunProgram {
+                    before: &self.history,
+                    row,
+                    body,
+                    spare,
+                });
+                self.history = history;
                 Err(fault)
             }
         }
@@ -251,10 +267,12 @@ impl<B: Bus> Nand for Driver<B> {
         requires block_in { block < self.old.geometry.blocks }
 
         // What every die promises.
+        ensures called { driver_called B.die B.honest B.called self.old (EraseCall block (passed_in result)) self.new }
         ensures step { IfOk result (λ outcome. B.honest self.old.bus ≡ true →
             Steps (flash_by B.die self.old) (Erase block (is_passed outcome) (block_at (flash_by B.die self.new) block)) (flash_by B.die self.new)) }
         ensures recorded { IfOk result (λ outcome. B.honest self.old.bus ≡ true →
             Records (Some self.old.told) (Erase block (is_passed outcome) (block_at (flash_by B.die self.new) block) ∷ []) (Some self.new.told)) }
+        ensures cut { OnErr result (B.honest self.old.bus ≡ true → EndsIn (asked_erase self.old.geometry block) (Some self.old.told) (Some self.new.told)) }
         ensures whole { OnOk result (B.honest self.old.bus ≡ true → IsWhole (flash_by B.die self.new)) }
         ensures geometry { self.new.geometry ≡ self.old.geometry }
         ensures honest { B.honest self.new.bus ≡ B.honest self.old.bus }
@@ -272,9 +290,11 @@ impl<B: Bus> Nand for Driver<B> {
         ensures kept { OnOk result (self.new.failures ≡ self.old.failures) }
         ensures counts { OnErr result (self.new.failures ≡ counted self.old.failures) }
 
-        // Its own record gains the operation just where it was answered, over any bus; what an honest bus tells gains it too, or ends.
+        // Its own record gains the operation just where it was answered, over any bus, and else has it at hand; what an honest bus tells gains it
+        // too, or ends.
         ensures told { MatchResult result
-            (λ outcome. self.new.told ≡ gained (Erase block (is_passed outcome) (block_at (flash_by B.die self.new) block)) self.old.told) (λ fault. self.new.told ≡ self.old.told) }
+            (λ outcome. self.new.told ≡ gained (Erase block (is_passed outcome) (block_at (flash_by B.die self.new) block)) self.old.told)
+            (λ fault. self.new.told ≡ cut_in (asked_erase self.old.geometry block) self.old.told) }
         ensures behind { IfOk result (λ outcome. B.honest self.old.bus ≡ true →
             RecordsOrEnds (B.recorded self.old.bus) (Erase block (is_passed outcome) (block_at (flash_by B.die self.new) block) ∷ []) (B.recorded self.new.bus)) }
 
@@ -297,6 +317,12 @@ impl<B: Bus> Nand for Driver<B> {
             }
             Err(fault) => {
                 self.failures = self.failures.saturating_add(1);
+                let history = DieHistory::of(&BegunErase {
+                    before: &self.history,
+                    geometry: self.geometry,
+                    block,
+                });
+                self.history = history;
                 Err(fault)
             }
         }

@@ -67,23 +67,27 @@ impl BusFault {
 /// `abuse` rises just where the operation was not allowed. (This project.)
 pub trait Nand: PageSource {
     ghost use Rattle.std.specs.Prelude.{◌≡◌, ◌<◌, ◌≤◌, ℕ, true, [], ◌∷◌, length, IfOk, OnOk, OnErr};
-    ghost use Rattle.page_layout.specs.Recording.{Records};
+    ghost use Rattle.page_layout.specs.Recording.{Records, EndsIn, asked_program, asked_erase};
     ghost use Rattle.page_layout.specs.Geometry.{row_count};
     ghost use Rattle.page_layout.specs.Page.{page};
     ghost use Rattle.page_layout.specs.Counter.{counted, HasRisen};
     ghost use Rattle.page_layout.specs.Flash.{page_at, block_at, IsWhole, Steps, Program, Erase};
-    ghost use Rattle.onfi_cycles.specs.Outcomes.{is_passed};
+    ghost use Rattle.page_layout.specs.DieCalls.{ProgramCall, EraseCall};
+    ghost use Rattle.onfi_cycles.specs.Outcomes.{is_passed, passed_in};
 
     /// Programs the page of a row with the bytes of its data area and its spare area. After an `Err` nothing is known of the pages,
-    /// and the count of failures has risen or stands at 2^64 - 1.
+    /// but an honest die that tells a record tells whether the program was at hand; and the count of failures has risen or stands
+    /// at 2^64 - 1.
     fn program(&mut self, row: u32, body: &[u8], spare: &[u8]) -> Result<Outcome, BusFault>
         requires row_in { row < row_count (Self.view.flash self.old).geometry }
         requires body_whole { length body.now ≡ (Self.view.flash self.old).geometry.data_bytes }
         requires spare_whole { length spare.now ≡ (Self.view.flash self.old).geometry.spare_bytes }
+        ensures called { Self.view.called self.old (ProgramCall row (page body.now spare.now) (passed_in result)) self.new }
         ensures step { IfOk result (λ outcome. Self.view.honest self.old ≡ true →
             Steps (Self.view.flash self.old) (Program row (page body.now spare.now) (is_passed outcome) (page_at (Self.view.flash self.new) row)) (Self.view.flash self.new)) }
         ensures recorded { IfOk result (λ outcome. Self.view.honest self.old ≡ true →
             Records (Self.view.recorded self.old) (Program row (page body.now spare.now) (is_passed outcome) (page_at (Self.view.flash self.new) row) ∷ []) (Self.view.recorded self.new)) }
+        ensures cut { OnErr result (Self.view.honest self.old ≡ true → EndsIn (asked_program row (page body.now spare.now)) (Self.view.recorded self.old) (Self.view.recorded self.new)) }
         ensures whole { OnOk result (Self.view.honest self.old ≡ true → IsWhole (Self.view.flash self.new)) }
         ensures geometry { (Self.view.flash self.new).geometry ≡ (Self.view.flash self.old).geometry }
         ensures honest { Self.view.honest self.new ≡ Self.view.honest self.old }
@@ -94,13 +98,15 @@ pub trait Nand: PageSource {
         ensures failed { Self.view.failed self.old ≤ Self.view.failed self.new }
         ensures rose { OnErr result (HasRisen (Self.view.failed self.old) (Self.view.failed self.new)) };
 
-    /// Erases a block. After an `Err` nothing is known of the pages, and the count of failures has risen or stands at 2^64 - 1.
+    /// Erases a block. After an `Err` it is as after that of a program.
     fn erase(&mut self, block: u32) -> Result<Outcome, BusFault>
         requires block_in { block < (Self.view.flash self.old).geometry.blocks }
+        ensures called { Self.view.called self.old (EraseCall block (passed_in result)) self.new }
         ensures step { IfOk result (λ outcome. Self.view.honest self.old ≡ true →
             Steps (Self.view.flash self.old) (Erase block (is_passed outcome) (block_at (Self.view.flash self.new) block)) (Self.view.flash self.new)) }
         ensures recorded { IfOk result (λ outcome. Self.view.honest self.old ≡ true →
             Records (Self.view.recorded self.old) (Erase block (is_passed outcome) (block_at (Self.view.flash self.new) block) ∷ []) (Self.view.recorded self.new)) }
+        ensures cut { OnErr result (Self.view.honest self.old ≡ true → EndsIn (asked_erase (Self.view.flash self.old).geometry block) (Self.view.recorded self.old) (Self.view.recorded self.new)) }
         ensures whole { OnOk result (Self.view.honest self.old ≡ true → IsWhole (Self.view.flash self.new)) }
         ensures geometry { (Self.view.flash self.new).geometry ≡ (Self.view.flash self.old).geometry }
         ensures honest { Self.view.honest self.new ≡ Self.view.honest self.old }

@@ -52,3 +52,35 @@ impl<'a, B: Bus> Moment for Erased<'a, B> {
 
     ghost recording = { λ e. gained (Erase e.block (is_passed e.outcome) (block_at (seen e.geometry (B.die e.bus.now).flash) e.block)) e.before.now.told };
 }
+
+/// A program that a fault ended.
+#[derive(Drop)]
+pub(crate) struct BegunProgram<'a> {
+    pub(crate) before: &'a DieHistory,
+    pub(crate) row: u32,
+    pub(crate) body: &'a [u8],
+    pub(crate) spare: &'a [u8],
+}
+
+impl<'a> Moment for BegunProgram<'a> {
+    ghost use Rattle.page_layout.specs.Page.{page};
+    ghost use Rattle.page_layout.specs.Recording.{asked_program};
+    ghost use Rattle.onfi_cycles.specs.Driver.{cut_in};
+
+    ghost recording = { λ p. cut_in (asked_program p.row (page p.body.now p.spare.now)) p.before.now.told };
+}
+
+/// An erase that a fault ended.
+#[derive(Drop)]
+pub(crate) struct BegunErase<'a> {
+    pub(crate) before: &'a DieHistory,
+    pub(crate) geometry: Geometry,
+    pub(crate) block: u32,
+}
+
+impl<'a> Moment for BegunErase<'a> {
+    ghost use Rattle.page_layout.specs.Recording.{asked_erase};
+    ghost use Rattle.onfi_cycles.specs.Driver.{cut_in};
+
+    ghost recording = { λ e. cut_in (asked_erase e.geometry e.block) e.before.now.told };
+}

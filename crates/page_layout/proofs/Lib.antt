@@ -17,3 +17,4 @@ pub mod TurnLemmas
 pub mod ErasedLemmas
 pub mod WordLemmas
 pub mod RecordingLemmas
+pub mod AskedLemmas

@@ -1,13 +1,13 @@
 -- Dies that stay whole, and what records tell of them.
 use Rattle.std.proofs.Common.{◌≡◌, inl, inr, ℕ, ◌/◌, Bool, List, [], ◌∷◌, ◌++◌, length, get_or, set, Option, Some, None, refl, sym, ◌∙◌, ap, subst, arith}
-use Rattle.std.specs.Prelude.{slice_get, unwrap_or, IsSome}
+use Rattle.std.specs.Prelude.{slice_get, unwrap_or, IsSome, IfSome}
 use Rattle.std.proofs.lemmas.Bool.{cases_eq}
-use Rattle.std.proofs.lemmas.List.{append-nil, length-set, append_assoc}
+use Rattle.std.proofs.lemmas.List.{append-nil, length-set, append_assoc, append_cancel_left}
 use Rattle.std.proofs.lemmas.Option.{get_or_from_slice_get}
 use Rattle.page_layout.specs.declared.geometry.Geometry.{Geometry}
 use Rattle.page_layout.specs.Page.{Page, Image, IsPage, IsImage}
 use Rattle.page_layout.specs.Flash.{Flash, Operation, Program, Erase, no_page, after, with_block, Steps, Leads, IsWhole}
-use Rattle.page_layout.specs.Recording.{Recording, Records, noted, image_after, image_after_all, IsRecordOf, RecordStaysLaw, RecordsJoinLaw, EndsJoinLaw, ToldOnLaw, RanOn, RanOnLaw}
+use Rattle.page_layout.specs.Recording.{Recording, Records, hand_after, noted, image_after, image_after_all, IsRecordOf, RecordStaysLaw, RecordsJoinLaw, EndsJoinLaw, ToldOnLaw, RanOn, RanOnLaw, cut_at, EndsAt, OneCutLaw}
 use Rattle.page_layout.specs.StepLaws.{WholeStaysLaw}
 use Rattle.page_layout.proofs.ArrayLemmas.{slice_get-set_same}
 use Rattle.page_layout.proofs.FlashLemmas.{geometry-Steps, image-program, image-erase, program_other, erase_loses, with_block-inside, inside}
@@ -106,14 +106,24 @@ pub record_stays : RecordStaysLaw
 record_stays s t log told told' leads is (inl none) = subst (IsRecordOf t) (sym none) tt
 record_stays s t log told told' leads is (inr on) = subst (IsRecordOf t) (sym on) (noted_stays s t log told leads is)
 
+hand-none : (hand : List Operation) → hand_after hand [] ≡ hand
+hand-none [] = refl
+hand-none (op ∷ ops) = ap (λ l. op ∷ l) (append-nil ops)
+
+hand-then : (hand xs ys : List Operation) → hand_after (hand_after hand xs) ys ≡ hand_after hand (xs ++ ys)
+hand-then [] xs ys = refl
+hand-then (op ∷ ops) xs ys = ap (λ l. op ∷ l) (append_assoc ops xs ys)
+
 -- nothing was done: the record gained nothing
 pub records_none : (told : Option Recording) → Records told [] told
 records_none None = refl
-records_none (Some r) = ap (λ l. Some (record { image = r.image; log = l })) (sym (append-nil r.log))
+records_none (Some r) = ap (λ l. Some (record { image = r.image; log = l; at_hand = r.at_hand })) (sym (append-nil r.log))
+    ∙ ap (λ h. Some (record { image = r.image; log = r.log ++ []; at_hand = h })) (sym (hand-none r.at_hand))
 
 noted_then : (a : Option Recording) (xs ys : List Operation) → noted ys (noted xs a) ≡ noted (xs ++ ys) a
 noted_then None xs ys = refl
-noted_then (Some r) xs ys = ap (λ l. Some (record { image = r.image; log = l })) (append_assoc r.log xs ys)
+noted_then (Some r) xs ys = ap (λ l. Some (record { image = r.image; log = l; at_hand = hand_after (hand_after r.at_hand xs) ys })) (append_assoc r.log xs ys)
+    ∙ ap (λ h. Some (record { image = r.image; log = r.log ++ (xs ++ ys); at_hand = h })) (hand-then r.at_hand xs ys)
 
 pub records_join : RecordsJoinLaw
 records_join a b c xs ys first on = on ∙ (ap (noted ys) first ∙ noted_then a xs ys)
@@ -130,9 +140,45 @@ told_on (Some r) new log is = ((λ some. subst IsSome (sym is) refl), λ some. r
 noted_ran : (old : Option Recording) (log : List Operation) (r : Recording) → noted log old ≡ Some r → RanOn old log r
 noted_ran None log r is = cc
 noted_ran (Some q) log r is =
-    let e : record { image = q.image; log = q.log ++ log } ≡ r = ap (λ o. unwrap_or o r) is in
-    record { before = q; was = refl; image_same = ap (λ (x : Recording). x.image) (sym e); gained = ap (λ (x : Recording). x.log) (sym e) }
+    let e : record { image = q.image; log = q.log ++ log; at_hand = hand_after q.at_hand log } ≡ r = ap (λ o. unwrap_or o r) is in
+    record {
+      before = q;
+      was = refl;
+      image_same = ap (λ (x : Recording). x.image) (sym e);
+      gained = ap (λ (x : Recording). x.log) (sym e);
+      hand = ap (λ (x : Recording). x.at_hand) (sym e);
+    }
 
 pub ran_on : RanOnLaw
 ran_on old new log r (inl none) is = let e : None ≡ Some r = sym none ∙ is in cc
 ran_on old new log r (inr on) is = noted_ran old log r (sym on ∙ is)
+
+-- ---- records that a fault cut
+
+-- a call that is cut after what was done
+pub cut_then : (a b c : Option Recording) (xs ys these : List Operation) → Records a xs b → EndsAt these (noted ys b) c → EndsAt these (noted (xs ++ ys) a) c
+cut_then a b c xs ys these first (inl none) = inl none
+cut_then a b c xs ys these first (inr on) = inr (on ∙ ap (cut_at these) (ap (noted ys) first ∙ noted_then a xs ys))
+
+-- the log and what was at hand, read off what is told
+cut_log : (r s : Recording) (xs these : List Operation) → Some s ≡ cut_at these (noted xs (Some r)) → s.log ≡ r.log ++ xs
+cut_log r s xs [] is = ap (λ o. (unwrap_or o s).log) is
+cut_log r s xs (op ∷ ops) is = ap (λ o. (unwrap_or o s).log) is
+
+cut_hand : (r s : Recording) (xs these : List Operation) → r.at_hand ≡ [] → Some s ≡ cut_at these (noted xs (Some r)) → s.at_hand ≡ these
+cut_hand r s xs [] none is = ap (λ o. (unwrap_or o s).at_hand) is ∙ ap (λ h. hand_after h xs) none
+cut_hand r s xs (op ∷ ops) none is = ap (λ o. (unwrap_or o s).at_hand) is ∙ ap (λ h. hand_after h xs ++ op ∷ ops) none
+
+cut_none : (xs these : List Operation) → cut_at these (noted xs None) ≡ None
+cut_none xs [] = refl
+cut_none xs (op ∷ ops) = refl
+
+pub one_cut : OneCutLaw
+one_cut told None xs ys these those some clean one two = cc
+one_cut told (Some s) xs ys these those some clean (inl never) two = cc
+one_cut told (Some s) xs ys these those some clean (inr one) (inl never) = cc
+one_cut None (Some s) xs ys these those some clean (inr one) (inr two) = (let no : Some s ≡ None = one ∙ cut_none xs these in cc)
+one_cut (Some r) (Some s) xs ys these those some clean (inr one) (inr two) = (
+  append_cancel_left r.log xs ys (sym (cut_log r s xs these one) ∙ cut_log r s ys those two),
+  sym (cut_hand r s xs these clean one) ∙ cut_hand r s ys those clean two,
+)

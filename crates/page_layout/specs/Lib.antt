@@ -25,6 +25,7 @@ pub mod Counter
 pub mod Change
 pub mod Flash
 pub mod Recording
+pub mod DieCalls
 pub mod View
 pub mod OnlyReads
 -- what the definitions come to

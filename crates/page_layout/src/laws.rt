@@ -15,7 +15,7 @@ ghost use Rattle.page_layout.specs.StepLaws.{WholeStaysLaw};
 ghost use Rattle.page_layout.specs.StepLaws.{ProgramTurnLaw, ProgramCountLaw, FairProgramLaw, EraseTurnLaw, EraseCountLaw, FairEraseLaw};
 ghost use Rattle.page_layout.specs.StepLaws.{RefusedProgramLaw, RefusedEraseLaw};
 ghost use Rattle.page_layout.specs.CounterLaws.{UnchangedLaw, FellLaw, OneMoreLaw, TopLaw};
-ghost use Rattle.page_layout.specs.Recording.{RecordStaysLaw, RecordsJoinLaw, EndsJoinLaw, ToldOnLaw, RanOnLaw};
+ghost use Rattle.page_layout.specs.Recording.{RecordStaysLaw, RecordsJoinLaw, EndsJoinLaw, ToldOnLaw, RanOnLaw, OneCutLaw};
 
 /// What the derived numbers of a geometry are for.
 pub fn geometry_laws()
@@ -138,6 +138,7 @@ pub fn record_told_laws()
     ensures ends { EndsJoinLaw }
     ensures on { ToldOnLaw }
     ensures ran_on { RanOnLaw }
+    ensures one_cut { OneCutLaw }
 {}
 
 /// What an operation makes of the turns of the blocks, of what was counted, and of the count of abuse, by whether it was due.

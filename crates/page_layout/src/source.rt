@@ -27,9 +27,11 @@ pub enum ImageFault {
 /// image and leaves it as it is. A source stays honest or not for good. Of another source nothing is
 /// known but how often it was read, and that each fault raises its count of faults.
 pub trait PageSource {
-    ghost use Rattle.std.specs.Prelude.{◌≡◌, ◌<◌, ◌≤◌, true, length, slice_get, OnOk, OnErr, Some};
+    ghost use Rattle.std.specs.Prelude.{◌≡◌, ◌<◌, ◌≤◌, true, [], length, slice_get, is_ok, OnOk, OnErr, Some};
+    ghost use Rattle.page_layout.specs.Recording.{EndsAt};
     ghost use Rattle.page_layout.specs.Page.{page, IsImage};
     ghost use Rattle.page_layout.specs.View.{View};
+    ghost use Rattle.page_layout.specs.DieCalls.{ReadCall};
     ghost use Rattle.page_layout.specs.Counter.{counted, HasRisen};
 
     /// What contracts say of it, each word by its name.
@@ -42,6 +44,8 @@ pub trait PageSource {
     ///   it; what it means stands in the contract of the type that defines it.
     /// - `reads`, `programs`, `erases`: what was asked for so far, failed ones too; `failed`: the faults so far. Each of these counts stays
     ///   at `2^64 - 1` once there.
+    /// - `called`, that it was asked so: in this state, by this call with its answer, and left in that state. A source says here of its calls
+    ///   what it likes, or nothing; what is proved of callers over any source they ask therefore by these very calls.
     ghost view: { View Self };
 
     /// Reads the page of a row: its data area into `body` and its spare area into `spare`, whose
@@ -55,10 +59,12 @@ pub trait PageSource {
         requires row_in { row < row_count (view.flash self.old).geometry }
         requires body_whole { length body.old ≡ (view.flash self.old).geometry.data_bytes }
         requires spare_whole { length spare.old ≡ (view.flash self.old).geometry.spare_bytes }
+        ensures called { view.called self.old (ReadCall row (is_ok result)) self.new }
         ensures page { OnOk result (view.honest self.old ≡ true → slice_get (view.flash self.old).image row ≡ Some (page body.new spare.new)) }
         ensures same { OnOk result (view.honest self.old ≡ true → view.flash self.new ≡ view.flash self.old) }
         ensures whole { OnOk result (view.honest self.old ≡ true → IsImage (view.flash self.new).geometry (view.flash self.new).image) }
         ensures recorded { OnOk result (view.honest self.old ≡ true → view.recorded self.new ≡ view.recorded self.old) }
+        ensures cut { OnErr result (view.honest self.old ≡ true → EndsAt [] (view.recorded self.old) (view.recorded self.new)) }
         ensures geometry { (view.flash self.new).geometry ≡ (view.flash self.old).geometry }
         ensures honest { view.honest self.new ≡ view.honest self.old }
         ensures calm { view.calm self.new ≡ view.calm self.old }
@@ -146,7 +152,7 @@ impl<'a> ImageSlice<'a> {
 }
 
 impl PageSource for ImageSlice<'_> {
-    ghost use Rattle.std.specs.Prelude.{true, ◌≡◌, ◌<◌, IsOk, length, slice_get, Some, None, false};
+    ghost use Rattle.std.specs.Prelude.{true, ⊤, ◌≡◌, ◌<◌, IsOk, length, slice_get, Some, None, false};
     ghost use Rattle.page_layout.specs.Page.{page, IsImage};
     ghost use Rattle.page_layout.specs.Counter.{counted};
 
@@ -159,6 +165,7 @@ impl PageSource for ImageSlice<'_> {
       programs = λ _. 0;
       erases = λ _. 0;
       failed = λ _. 0;
+      called = λ _ _ _. ⊤;
     } };
 
     fn read_page(&mut self, row: u32, body: &mut [u8], spare: &mut [u8]) -> Result<(), SourceFault>

@@ -64,7 +64,7 @@ impl<'a> FaultySource<'a> {
 }
 
 impl PageSource for FaultySource<'_> {
-    ghost use Rattle.std.specs.Prelude.{false, None};
+    ghost use Rattle.std.specs.Prelude.{⊤, false, None};
 
     ghost view = { record {
       flash = λ s. s.image.flash;
@@ -75,6 +75,7 @@ impl PageSource for FaultySource<'_> {
       programs = λ _. 0;
       erases = λ _. 0;
       failed = λ s. s.faults;
+      called = λ _ _ _. ⊤;
     } };
 
     fn read_page(

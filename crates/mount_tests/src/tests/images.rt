@@ -208,7 +208,7 @@ struct FailingAt<'a> {
 }
 
 impl<'a> PageSource for FailingAt<'a> {
-    ghost use Rattle.std.specs.Prelude.{false, None};
+    ghost use Rattle.std.specs.Prelude.{⊤, false, None};
 
     ghost view = { record {
       flash = λ s. s.image.flash;
@@ -219,6 +219,7 @@ impl<'a> PageSource for FailingAt<'a> {
       programs = λ _. 0;
       erases = λ _. 0;
       failed = λ s. s.faults;
+      called = λ _ _ _. ⊤;
     } };
 
     fn read_page(

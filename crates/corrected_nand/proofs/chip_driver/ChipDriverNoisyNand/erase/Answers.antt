@@ -1,13 +1,14 @@
 use Rattle.std.proofs.Common.{◌≡◌, ◌∙◌, Bool, subst, sym, true, ℕ}
 use Rattle.std.specs.Prelude.{IfOk}
 use Rattle.page_layout.specs.Flash.{Flash, Operation, Erase, block_at}
+use Rattle.page_layout.specs.Recording.{asked_erase}
 use Rattle.onfi_cycles.specs.Outcomes.{is_passed}
 use Rattle.onfi_cycles.specs.Driver.{seen}
 use Rattle.onfi_cycles.specs.Spelling.{erase_cycles}
 use Rattle.page_code.specs.Chip.{IsChipOf}
 use Rattle.corrected_nand.specs.ChipBus.{Did}
 use Rattle.corrected_nand.proofs.Sendings.{Steady, operates_steady, did, erase_law, did_seen, whole_seen, if_ok, if_on}
-use Rattle.corrected_nand.proofs.ToldLemmas.{gains}
+use Rattle.corrected_nand.proofs.ToldLemmas.{gains, at_hand_in}
 use Rattle.corrected_nand.proofs.chip_driver.ChipDriverNoisyNand.erase.Given.{Over}
 use Rattle.corrected_nand.proofs.chip_driver.ChipDriverNoisyNand.erase.Goals.{After-erase-answer}
 use Rattle.corrected_nand.proofs.chip_driver.ChipDriverNoisyNand.erase.Goals as goal
@@ -58,5 +59,13 @@ returns-clause-recorded g c =
     rw (← c.self.view_is)
     (gains (g.B.ChipBus.keeps c.self.inside.driver.bus) c.erase-answer.result
     (λ outcome. Erase c.args.block (is_passed outcome)
-    (block_at (seen c.self.inside.geometry (g.B.ChipBus.chip c.erase-answer.new.self.bus)) c.args.block)) c.self.inside.history.told
+    (block_at (seen c.self.inside.geometry (g.B.ChipBus.chip c.erase-answer.new.self.bus)) c.args.block)) (asked_erase c.self.inside.geometry c.args.block) c.self.inside.history.told
+    c.of-self-inside.result.told c.of-self-inside.ensures)
+
+pub returns-clause-cut : goal.returns-clause-cut
+returns-clause-cut g c =
+    rw (← c.self.view_is)
+    (at_hand_in (g.B.ChipBus.keeps c.self.inside.driver.bus) c.erase-answer.result
+    (λ outcome. Erase c.args.block (is_passed outcome)
+    (block_at (seen c.self.inside.geometry (g.B.ChipBus.chip c.erase-answer.new.self.bus)) c.args.block)) (asked_erase c.self.inside.geometry c.args.block) c.self.inside.history.told
     c.of-self-inside.result.told c.of-self-inside.ensures)

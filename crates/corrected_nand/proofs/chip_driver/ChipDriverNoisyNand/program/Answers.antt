@@ -2,12 +2,13 @@ use Rattle.std.proofs.Common.{◌≡◌, ◌∙◌, Bool, subst, sym, take, true
 use Rattle.std.specs.Prelude.{IfOk}
 use Rattle.page_layout.specs.Page.{Page, page}
 use Rattle.page_layout.specs.Flash.{Flash, Operation, Program, page_at}
+use Rattle.page_layout.specs.Recording.{asked_program}
 use Rattle.onfi_cycles.specs.Outcomes.{is_passed}
 use Rattle.onfi_cycles.specs.Spelling.{program_cycles}
 use Rattle.page_code.specs.Chip.{IsChipOf}
 use Rattle.corrected_nand.specs.ChipBus.{Did}
 use Rattle.corrected_nand.proofs.Sendings.{Steady, operates_steady, did, program_law, did_seen, whole_seen, if_ok, if_on, plain_length}
-use Rattle.corrected_nand.proofs.ToldLemmas.{gains}
+use Rattle.corrected_nand.proofs.ToldLemmas.{gains, at_hand_in}
 use Rattle.corrected_nand.proofs.chip_driver.ChipDriverNoisyNand.program.Given.{Over}
 use Rattle.corrected_nand.proofs.chip_driver.ChipDriverNoisyNand.program.Goals.{After-program-answer}
 use Rattle.corrected_nand.proofs.chip_driver.ChipDriverNoisyNand.program.Goals as goal
@@ -62,5 +63,13 @@ returns-clause-recorded g c =
     rw (← c.self.view_is)
     (gains (g.B.ChipBus.keeps c.self.inside.driver.bus) c.program-answer.result
     (λ outcome. Program c.args.row (page c.args.body.now (take c.self.inside.geometry.spare_bytes c.args.outer.now)) (is_passed outcome)
-    (page_at (g.B.ChipBus.chip c.program-answer.new.self.bus) c.args.row)) c.self.inside.history.told c.of-self-inside.result.told
+    (page_at (g.B.ChipBus.chip c.program-answer.new.self.bus) c.args.row)) (asked_program c.args.row (page c.args.body.now (take c.self.inside.geometry.spare_bytes c.args.outer.now))) c.self.inside.history.told c.of-self-inside.result.told
+    c.of-self-inside.ensures)
+
+pub returns-clause-cut : goal.returns-clause-cut
+returns-clause-cut g c =
+    rw (← c.self.view_is)
+    (at_hand_in (g.B.ChipBus.keeps c.self.inside.driver.bus) c.program-answer.result
+    (λ outcome. Program c.args.row (page c.args.body.now (take c.self.inside.geometry.spare_bytes c.args.outer.now)) (is_passed outcome)
+    (page_at (g.B.ChipBus.chip c.program-answer.new.self.bus) c.args.row)) (asked_program c.args.row (page c.args.body.now (take c.self.inside.geometry.spare_bytes c.args.outer.now))) c.self.inside.history.told c.of-self-inside.result.told
     c.of-self-inside.ensures)

@@ -5,6 +5,7 @@ use Rattle.page_layout.specs.Flash.{Erase}
 use Rattle.nand_die.specs.declared.tape.Note.TheVariants as note
 use Rattle.nand_die.specs.Tape.{TapeValue, noted_log, pages_of}
 use Rattle.nand_die.proofs.TapeLemmas.{one_fits, tape_more, tape_told, tape_value, noted_erase}
+use Rattle.onfi_cycles.specs.Driver.{gained}
 use Rattle.nand_die.proofs.tape.Tape.note_erase.Goals as goal
 
 pub append-requires : goal.append-requires
@@ -30,6 +31,11 @@ returns c =
     let log = ap (λ (xs : List ℕ). noted_log i.geometry (i.notes.items ++ note.Erase c.args.block c.args.passed ∷ []) xs) c.append.ensures.items
     ∙ noted_erase i.geometry i.notes.items i.bytes.items c.args.left.now c.args.block c.args.passed c.self.invariant.bytes_whole in
     subst (λ (t : TapeValue). tape_value i.geometry (raw_image i.geometry i.image.items) i.kept.items (i.room - length c.append_note.new.notes.items) (noted_log i.geometry c.append_note.new.notes.items c.append.new.bytes.items)
-    ≡ tape_value t.geometry t.recording.image t.kept (t.free - 1) (t.recording.log ++ (Erase c.args.block c.args.passed (pages_of t.geometry t.geometry.pages c.args.left.now) ∷ []))) c.self.view_is
+    ≡ record {
+      geometry = t.geometry;
+      recording = gained (Erase c.args.block c.args.passed (pages_of t.geometry t.geometry.pages c.args.left.now)) t.recording;
+      free = t.free - 1;
+      kept = t.kept;
+    }) c.self.view_is
     (tape_told i.geometry (raw_image i.geometry i.image.items) i.kept.items i.bytes.items c.append.new.bytes.items i.room i.notes.items c.append_note.new.notes.items (note.Erase c.args.block c.args.passed)
     (Erase c.args.block c.args.passed (pages_of i.geometry i.geometry.pages c.args.left.now)) c.append_note.ensures.items log)

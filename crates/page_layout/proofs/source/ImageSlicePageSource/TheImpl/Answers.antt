@@ -12,10 +12,12 @@ on_no_err (Err e) P ok = absurd (cc)
 
 pub read_page-tells : goal.read_page-tells
 read_page-tells g c = record {
+  called = tt;
   page = on_ok c.result _ (λ _. c.ensures.page);
   same = on_ok c.result _ (λ _. c.ensures.same);
   whole = on_ok c.result _ (λ _. c.ensures.whole);
   recorded = on_ok c.result _ (λ _. refl);
+  cut = on_no_err c.result _ c.ensures.never_fails;
   geometry = ap (λ f. f.geometry) c.ensures.same;
   honest = refl;
   calm = refl;
