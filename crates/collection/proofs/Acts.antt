@@ -1,12 +1,17 @@
 -- What the engine's calls say alike holds of one after another.
-use Rattle.std.proofs.Common.{◌≡◌, ◌≢◌, ℕ, Option, Some, None, Result, Ok, Err, IsOk, MatchOption, refl, ap, sym, ◌∙◌, arith}
+use Rattle.std.proofs.Common.{◌≡◌, ◌≢◌, [], true, Option, Some, None, Result, Ok, Err, IsOk, IfErr, MatchOption, refl, ap, sym, ◌∙◌, subst, arith}
 use Rattle.page_layout.specs.View.{View}
 use Rattle.page_layout.specs.OnlyReads.{OnlyReads}
+use Rattle.page_layout.specs.Recording.{EndsAt}
+use Rattle.page_layout.specs.Counter.{HasRisen}
+use Rattle.page_layout.specs.DieCalls.{AsksOnly, AskedNothing}
+use Rattle.page_layout.proofs.AskedLemmas.{asks_then}
 use Rattle.collection.specs.declared.engine.Buffer.{Buffer}
 use Rattle.collection.specs.declared.engine.Engine.{Engine}
 use Rattle.collection.specs.declared.fault.EngineFault.{EngineFault}
 use Rattle.collection.specs.declared.fault.EngineFault.TheVariants.{Bus}
-use Rattle.collection.specs.Safe.{IsSafe, ram}
+use Rattle.collection.specs.Safe.{IsSafe, IsBuffer, ram}
+use Rattle.collection.specs.Looks.{IsReadFault}
 use Rattle.collection.specs.Acts.{EngineLooks, EngineActs, Stands}
 use Rattle.collection.specs.Results.{fault_after}
 use Rattle.collection.proofs.Costs.{risen_over, err_as, not_bus}
@@ -38,6 +43,7 @@ module _ {N : Type 0} {view : View N} where
     fault = refl;
     honest_is = refl;
     calm_is = refl;
+    asked = AskedNothing;
     failed_is = omega arith;
     rose = λ is. absurd (ok_not_bus tt is);
     went = λ known ne. went_same (ram a) (view.flash a.nand) (view.recorded a.nand);
@@ -51,6 +57,7 @@ module _ {N : Type 0} {view : View N} where
     fault = q.fault ∙ p.fault;
     honest_is = q.honest_is ∙ p.honest_is;
     calm_is = q.calm_is ∙ p.calm_is;
+    asked = asks_then view.called a.nand b.nand c.nand p.asked q.asked;
     failed_is = omega (arith, p.failed_is, q.failed_is);
     rose = λ is. risen_over _ _ _ p.failed_is (q.rose is);
     went = λ known ne. went_then _ _ _ _ _ _ _ _ _ same (p.went known (ok_not_bus x)) (q.went (p.honest_is ∙ known) ne);
@@ -63,6 +70,7 @@ module _ {N : Type 0} {view : View N} where
     fault = p.fault;
     honest_is = p.honest_is;
     calm_is = p.calm_is;
+    asked = p.asked;
     failed_is = p.failed_is;
     rose = λ is. absurd (ok_not_bus y is);
     went = λ known ne. p.went known (ok_not_bus x);
@@ -74,6 +82,7 @@ module _ {N : Type 0} {view : View N} where
     fault = p.fault;
     honest_is = p.honest_is;
     calm_is = p.calm_is;
+    asked = p.asked;
     failed_is = p.failed_is;
     rose = λ is. p.rose (let same : fault ≡ Bus = cc in ap (λ f. Err f) same);
     went = λ known ne. p.went known (not_bus fault ne);
@@ -86,6 +95,7 @@ module _ {N : Type 0} {view : View N} where
     fault = p.fault;
     honest_is = p.honest_is;
     calm_is = p.calm_is;
+    asked = p.asked;
     failed_is = p.failed_is;
     rose = λ is. (let same : fault ≡ Bus = cc in absurd (other same));
     went = λ known ne. p.went known (ok_not_bus x);
@@ -98,6 +108,7 @@ module _ {N : Type 0} {view : View N} where
     fault = p.fault;
     honest_is = p.honest_is;
     calm_is = p.calm_is;
+    asked = p.asked;
     failed_is = p.failed_is;
     rose = p.rose;
     went = p.went;
@@ -113,6 +124,7 @@ module _ {N : Type 0} {view : View N} where
     fault = is;
     honest_is = refl;
     calm_is = refl;
+    asked = AskedNothing;
     failed_is = omega arith;
     rose = λ none e. (let never : ⊥ = cc in absurd never);
     went = λ known ne. went_same (ram a) (view.flash a.nand) (view.recorded a.nand);
@@ -126,6 +138,7 @@ module _ {N : Type 0} {view : View N} where
     fault = ap (λ f. fault_after f result) p.fault;
     honest_is = p.honest_is;
     calm_is = p.calm_is;
+    asked = p.asked;
     failed_is = p.failed_is;
     rose = λ same is. p.rose is;
     went = λ known ne. went_noted _ _ (ram b) _ _ _ _ (p.went known ne);
@@ -150,10 +163,46 @@ module _ {N : Type 0} {view : View N} where
     safe = safe;
     memory = refl;
     only_reads = record { geometry_is = refl; honest_is = refl; calm_is = refl; programs_are = refl; erases_are = refl; failed_is = omega arith };
+    asked = AskedNothing;
     faults = tt;
     rose = λ is. absurd (ok_not_bus tt is);
     same = λ known ne. refl;
     told = λ known ne. refl;
+    cut = λ known is. absurd (ok_not_bus tt is);
+  }
+
+  -- a page was read into the page buffer
+  pub looks_read : {A : Type 0} (a : Engine N) (nand : N) (page : Buffer) (result : Result A EngineFault) → IsSafe view.flash a → IsBuffer a.geometry page
+      → OnlyReads view a.nand nand → AsksOnly view.called a.nand nand → IfErr result IsReadFault
+      → (result ≡ Err Bus → HasRisen (view.failed a.nand) (view.failed nand))
+      → (view.honest a.nand ≡ true → result ≢ Err Bus → view.flash nand ≡ view.flash a.nand)
+      → (view.honest a.nand ≡ true → result ≢ Err Bus → view.recorded nand ≡ view.recorded a.nand)
+      → (view.honest a.nand ≡ true → result ≡ Err Bus → EndsAt [] (view.recorded a.nand) (view.recorded nand))
+      → EngineLooks view a (record a { nand = nand; page = page }) result
+  looks_read a nand page result safe buffer reads asked faults rose same told cut = record {
+    safe = record { memory = safe.memory; geometry = reads.geometry_is ∙ safe.geometry; page = buffer; scratch = safe.scratch };
+    memory = refl;
+    only_reads = reads;
+    asked = asked;
+    faults = faults;
+    rose = rose;
+    same = same;
+    told = told;
+    cut = cut;
+  }
+
+  -- nothing was read, and the page buffer filled
+  pub looks_filled : (a : Engine N) (page : Buffer) → IsSafe view.flash a → IsBuffer a.geometry page → EngineLooks {A = Unit {0}} view a (record a { page = page }) (Ok tt)
+  looks_filled a page safe buffer = record {
+    safe = record { memory = safe.memory; geometry = safe.geometry; page = buffer; scratch = safe.scratch };
+    memory = refl;
+    only_reads = record { geometry_is = refl; honest_is = refl; calm_is = refl; programs_are = refl; erases_are = refl; failed_is = omega arith };
+    asked = AskedNothing;
+    faults = tt;
+    rose = λ is. absurd (ok_not_bus tt is);
+    same = λ known ne. refl;
+    told = λ known ne. refl;
+    cut = λ known is. absurd (ok_not_bus tt is);
   }
 
   pub looks_then : {A B : Type 0} (a b c : Engine N) (x : A) (result : Result B EngineFault)
@@ -164,10 +213,12 @@ module _ {N : Type 0} {view : View N} where
     safe = q.safe;
     memory = q.memory ∙ p.memory;
     only_reads = reads_then a.nand b.nand c.nand p.only_reads q.only_reads;
+    asked = asks_then view.called a.nand b.nand c.nand p.asked q.asked;
     faults = q.faults;
     rose = λ is. risen_over _ _ _ p.only_reads.failed_is (q.rose is);
     same = λ known ne. q.same (p.only_reads.honest_is ∙ known) ne ∙ p.same known (ok_not_bus x);
     told = λ known ne. q.told (p.only_reads.honest_is ∙ known) ne ∙ p.told known (ok_not_bus x);
+    cut = λ known is. subst (λ t. EndsAt [] t (view.recorded c.nand)) (p.told known (ok_not_bus x)) (q.cut (p.only_reads.honest_is ∙ known) is);
   }
 
   pub looks_ok : {A B : Type 0} (a b : Engine N) (x : A) (y : B) → EngineLooks view a b (Ok x) → EngineLooks view a b (Ok y)
@@ -175,10 +226,12 @@ module _ {N : Type 0} {view : View N} where
     safe = p.safe;
     memory = p.memory;
     only_reads = p.only_reads;
+    asked = p.asked;
     faults = tt;
     rose = λ is. absurd (ok_not_bus y is);
     same = λ known ne. p.same known (ok_not_bus x);
     told = λ known ne. p.told known (ok_not_bus x);
+    cut = λ known is. absurd (ok_not_bus y is);
   }
 
   pub looks_err : {A B : Type 0} (a b : Engine N) (fault : EngineFault) → EngineLooks view a b (err_as A fault) → EngineLooks view a b (err_as B fault)
@@ -186,10 +239,12 @@ module _ {N : Type 0} {view : View N} where
     safe = p.safe;
     memory = p.memory;
     only_reads = p.only_reads;
+    asked = p.asked;
     faults = p.faults;
     rose = λ is. p.rose (let same : fault ≡ Bus = cc in ap (λ f. Err f) same);
     same = λ known ne. p.same known (not_bus fault ne);
     told = λ known ne. p.told known (not_bus fault ne);
+    cut = λ known is. p.cut known (let same : fault ≡ Bus = cc in ap (λ f. Err f) same);
   }
 
   -- a call that only looks acts in no other way
@@ -199,6 +254,7 @@ module _ {N : Type 0} {view : View N} where
     fault = ap (λ r. r.fault) p.memory;
     honest_is = p.only_reads.honest_is;
     calm_is = p.only_reads.calm_is;
+    asked = p.asked;
     failed_is = p.only_reads.failed_is;
     rose = p.rose;
     went = λ known ne. read_went (ram a) (ram b) _ _ _ _ p.memory (p.same known ne) (p.told known ne);

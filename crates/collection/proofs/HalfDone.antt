@@ -210,6 +210,7 @@ acts_from a b to result p = record {
   fault = p.fault;
   honest_is = p.honest_is;
   calm_is = p.calm_is;
+  asked = p.asked;
   failed_is = p.failed_is;
   rose = p.rose;
   went = λ known ne. went_from (ram a) (ram b) to _ _ _ _ (p.went known ne);

@@ -36,4 +36,6 @@ pub mod Tables
 pub mod Acts
 pub mod Mounts
 pub mod Stops
+pub mod HalfPuts
 pub mod PageReads
+pub mod Cuts

@@ -1,5 +1,5 @@
 -- What an engine knows of an image makes it mountable.
-use Rattle.std.proofs.Common.{◌≡◌, inl, inr, ℕ, ◌+◌, ◌/◌, ◌<◌, ◌≤◌, ◌∙◌, Bool, true, false, not, eqb, List, [], ◌∷◌, ◌++◌, ◌⊎◌, length-append}
+use Rattle.std.proofs.Common.{◌≡◌, ◌≢◌, inl, inr, ℕ, ◌+◌, ◌/◌, ◌<◌, ◌≤◌, ◌∙◌, Bool, true, false, not, eqb, List, [], ◌∷◌, ◌++◌, ◌⊎◌, length, length-append}
 use Rattle.std.proofs.Common.{Option, Some, None, IsSome, refl, sym, ap, subst, arith}
 use Rattle.std.specs.Prelude.{count_by}
 use Rattle.std.specs.Map.{keys_of, lookup}
@@ -8,6 +8,7 @@ use Rattle.std.proofs.lemmas.Bool.{eqb-true, eq-eqb, cond-false}
 use Rattle.std.proofs.lemmas.List.{length-map}
 use Rattle.std.proofs.lemmas.List.Sums.{length-filter}
 use Rattle.page_layout.specs.declared.geometry.Geometry.{Geometry}
+use Rattle.page_layout.specs.declared.record.Key.{Key}
 use Rattle.page_layout.specs.declared.record.Key.TheVariants.{Sector}
 use Rattle.page_layout.specs.Page.{Image}
 use Rattle.page_layout.specs.Geometry.{entries, table_pages}
@@ -28,6 +29,7 @@ use Rattle.image_check.proofs.StaleLemmas.{row_same}
 use Rattle.image_check.proofs.TablesLemmas.{table_is}
 use Rattle.collection.specs.State.{Ram}
 use Rattle.collection.specs.Safe.{IsRam}
+use Rattle.collection.specs.Maps.{Maps}
 use Rattle.collection.specs.Truth.{IsTrue, HasTable}
 use Rattle.collection.proofs.MapLemmas.{none_not}
 
@@ -40,16 +42,20 @@ right_entry g image n same = ap not (row_same (entry_of g image n) (newest (mark
 abbrev pub IsHeld : MappingState → ℕ → Type 0
 IsHeld m n = IsSome (slot_of m n) ⊎ IsSome (moved_row m n)
 
-pub stale_held : (r : Ram) (image : Image) (n : ℕ) → IsTrue None r image → n < r.geometry.sectors → is_stale r.geometry image n ≡ true → IsHeld r.mapping n
-stale_held r image n w lt old = at (slot_of r.mapping n) (moved_row r.mapping n) refl refl
+-- but for a sector of which memory may not know
+pub stale_held_but : (but : Option Key) (r : Ram) (image : Image) (n : ℕ) → Maps but r.geometry image r.directory r.mapping → but ≢ Some (Sector n) → n < r.geometry.sectors → is_stale r.geometry image n ≡ true → IsHeld r.mapping n
+stale_held_but but r image n maps ne lt old = at (slot_of r.mapping n) (moved_row r.mapping n) refl refl
   where
     at : (s : Option Slot) (m : Option ℕ) → slot_of r.mapping n ≡ s → moved_row r.mapping n ≡ m → IsHeld r.mapping n
     at (Some s) m e f = inl (rw e refl)
     at None (Some row) e f = inr (rw f refl)
     at None None e f =
         let none : pending r.mapping n ≡ None = pending-at r.mapping n None None e f in
-        let right : is_stale r.geometry image n ≡ false = right_entry r.geometry image n (w.maps.entry_is n lt (none_not (Sector n)) none) in
+        let right : is_stale r.geometry image n ≡ false = right_entry r.geometry image n (maps.entry_is n lt ne none) in
         let no : true ≡ false = sym old ∙ right in cc
+
+pub stale_held : (r : Ram) (image : Image) (n : ℕ) → IsTrue None r image → n < r.geometry.sectors → is_stale r.geometry image n ≡ true → IsHeld r.mapping n
+stale_held r image n w lt old = stale_held_but None r image n w.maps (none_not (Sector n)) lt old
 
 -- ---- so there are few
 
@@ -74,16 +80,28 @@ held_counted m t held = elim held [
   | inr moved ↦ omega (arith, count_by-append (λ n. eqb (n / 1) t) (keys_of m.cached) (keys_of m.moved), counted_key t m.moved moved)
 ]
 
-few_stale : (r : Ram) (image : Image) → IsRam r → IsTrue None r image → stale_count r.geometry image ≤ r.mapping.capacity + r.geometry.pages
+-- each is held, or is one of some more for which the moved list has room
+pub few_held : (r : Ram) (image : Image) (more : List ℕ) → IsRam r → length r.mapping.moved + length more ≤ r.geometry.pages
+    → ((n : ℕ) → n < r.geometry.sectors → is_stale r.geometry image n ≡ true → IsHeld r.mapping n ⊎ (0 < count_by (λ k. eqb (k / 1) n) more)) → stale_count r.geometry image ≤ r.mapping.capacity + r.geometry.pages
 unfolding stale_sectors
-few_stale r image s w =
-    let keys : List ℕ = keys_of r.mapping.cached ++ keys_of r.mapping.moved in
-    let most = touched_pages 1 r.geometry.sectors keys (is_stale r.geometry image) (λ t lt old. held_counted r.mapping t (stale_held r image t w lt old)) in
+few_held r image more s room each =
+    let held : List ℕ = keys_of r.mapping.cached ++ keys_of r.mapping.moved in
+    let counted : (t : ℕ) → t < r.geometry.sectors → is_stale r.geometry image t ≡ true → 0 < count_by (λ k. eqb (k / 1) t) (held ++ more) = λ t lt old. elim (each t lt old) [
+      | inl known ↦ omega (arith, count_by-append (λ k. eqb (k / 1) t) held more, held_counted r.mapping t known)
+      | inr one ↦ omega (arith, count_by-append (λ k. eqb (k / 1) t) held more, one)
+    ] in
+    let most = touched_pages 1 r.geometry.sectors (held ++ more) (is_stale r.geometry image) counted in
+    let all = length-append held more in
     let size = length-append (keys_of r.mapping.cached) (keys_of r.mapping.moved) in
     let cached = length-map r.mapping.cached (λ (e : ℕ × Slot). e.0) in
     let moved = length-map r.mapping.moved (λ (e : ℕ × ℕ). e.0) in
+    omega (arith, length-filter (is_stale r.geometry image) (range_with_len 0 r.geometry.sectors), most, all, size, cached, moved, s.mapping.within, room)
+
+few_stale : (r : Ram) (image : Image) → IsRam r → IsTrue None r image → stale_count r.geometry image ≤ r.mapping.capacity + r.geometry.pages
+few_stale r image s w =
     let pages_same : r.mapping.geometry.pages ≡ r.geometry.pages = ap (λ (g : Geometry). g.pages) s.mapping_of in
-    omega (arith, length-filter (is_stale r.geometry image) (range_with_len 0 r.geometry.sectors), most, size, cached, moved, pages_same, s.mapping.within, s.mapping.moved_within)
+    let none : length r.mapping.moved + 0 ≤ r.geometry.pages = omega (arith, pages_same, s.mapping.moved_within) in
+    few_held r image [] s none (λ n lt old. inl (stale_held r image n w lt old))
 
 -- ---- a certificate is to be had
 

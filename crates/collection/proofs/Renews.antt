@@ -1,5 +1,5 @@
 -- A page of version 1 is found and copied.
-use Rattle.std.proofs.Common.{◌≡◌, ◌≢◌, inl, inr, ℕ, ◌+◌, ◌<◌, ◌≤◌, not, Bool, true, false, ◌/◌, List, Option, Some, None, refl, ap, sym, ◌∙◌, subst, arith}
+use Rattle.std.proofs.Common.{◌≡◌, inl, inr, ℕ, ◌+◌, ◌<◌, ◌≤◌, not, Bool, true, false, ◌/◌, List, Option, Some, None, is_some, refl, ap, sym, ◌∙◌, subst, arith}
 use Rattle.std.specs.Prelude.{slice_get}
 use Rattle.std.proofs.lemmas.Bool.{cases_eq, and_parts, and_from, eqb-true, not_from_false}
 use Rattle.page_layout.specs.declared.record.Record.{Record}
@@ -75,6 +75,12 @@ none_more from row image below here q ge lt = elim (cases_eq q row) [
   | inl same ↦ subst (λ k. HasNoneDue k image) (sym same) here
   | inr ne ↦ below q ge (omega arith)
 ]
+
+-- a look at the row found none
+pub none_looked : (from row : ℕ) (x x1 : Image) (body : List ℕ) (due : Option Record) → x1 ≡ x → ((q : ℕ) → from ≤ q → q < row → HasNoneDue q x)
+    → LooksAtDue row body x1 due → is_some due ≡ false → (q : ℕ) → from ≤ q → q < row + 1 → HasNoneDue q x
+none_looked from row x x1 body None still below looks none = none_more from row x below (subst (HasNoneDue row) still looks)
+none_looked from row x x1 body (Some r) still below looks none = (let never : ⊥ = cc in absurd never)
 
 -- no row is past the last one
 pub none_past : (r : Ram) (from end : ℕ) (image : Image) → IsTrue None r image → row_count r.geometry ≤ end → ((q : ℕ) → from ≤ q → q < end → HasNoneDue q image) → (q : ℕ) → from ≤ q → HasNoneDue q image

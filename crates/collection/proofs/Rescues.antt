@@ -22,7 +22,7 @@ use Rattle.collection.specs.Cost.{HasPut}
 use Rattle.collection.specs.Looks.{IsReadFault}
 use Rattle.collection.specs.Results.{IsSame, IsWrittenBack, Goes, Refused}
 use Rattle.collection.specs.Truth.{IsTrue}
-use Rattle.collection.specs.Live.{NotAt, HoldsNoneIn, FindsFirst, IsFirstLive, IsFoundIn, IsLivePage}
+use Rattle.collection.specs.Live.{NotAt, HoldsNoneIn, LooksAt, FindsFirst, IsFirstLive, IsFoundIn, IsLivePage}
 use Rattle.collection.specs.Collect.{IsAiling, HasNoneAiling, IsFirstAiling, FindsAiling, IsMovedOut, HasCopied, HasProgrammed, StreamRunsOut}
 use Rattle.collection.specs.Collect.{StreamSpends, FaultCosts, FollowCosts, PutsBehind, HasRescuedPage, RescueCosts, IsRescued}
 use Rattle.collection.specs.Collect.{KeepsKeys, FollowsCopy, IsFollowed, IsFollowedBy, LeavesLowest}
@@ -36,7 +36,7 @@ use Rattle.std.specs.Map.{keys_of}
 use Rattle.std.specs.Prelude.{◌⊎◌, IsSome, Result, MatchResult}
 use Rattle.page_layout.specs.Key.{key_of}
 use Rattle.std.proofs.Math.Nat.{div-lt_iff_lt-mul}
-use Rattle.collection.proofs.Finds.{none_all}
+use Rattle.collection.proofs.Finds.{none_all, none_more}
 use Rattle.collection.proofs.Copies.{keys_then}
 use Rattle.collection.proofs.Follows.{follows_by, followed_beside, some_or_none}
 use Rattle.collection.proofs.Puts.{same_then}
@@ -72,6 +72,14 @@ looked_through r x block body live s w lt finds is =
 
 pub true_over : (r r1 : Ram) (x x1 : Image) → IsTrue None r x → r1 ≡ r → x1 ≡ x → IsTrue None r1 x1
 true_over r r1 x x1 w same still = rw (same, still) w
+
+-- one page more was looked at, and is the newest of no key
+pub none_further : (r r1 : Ram) (x x1 : Image) (block first page row : ℕ) (body : List ℕ) (live : Option Record) → r1 ≡ r → x1 ≡ x → row ≡ block * r1.geometry.pages + page
+    → HoldsNoneIn r.geometry.pages block first page x → LooksAt row body x1 live → live ≡ None → HoldsNoneIn r.geometry.pages block first (page + 1) x
+none_further r r1 x x1 block first page row body live same still at below looks none =
+    let gone : NotAt row x1 = subst (LooksAt row body x1) none looks in
+    let e : row ≡ block * r.geometry.pages + page = at ∙ ap (λ q. block * q.geometry.pages + page) same in
+    none_more r.geometry.pages block x first page below (subst (λ i. NotAt (block * r.geometry.pages + page) i) still (subst (λ q. NotAt q x1) e gone))
 
 -- a row of a lower block, or of the same and a lower page
 not_above : (pages b p block page row : ℕ) → 0 < pages → p < pages → page < pages → row ≡ block * pages + page → b * pages + p < row → b < block + 1

@@ -53,14 +53,14 @@ pub program_stops : (g : Geometry) (row : ℕ) (r : Record) (its : Page) (old ne
     → IfOk result (λ o. LeavesOnly old new told told' (IsKeptOr g old.image new.image))
 program_stops g row r its old new told told' H (Ok o) can step records h =
     leaves_one old new (Program row its (is_passed o) (page_at new row)) told told' (IsKeptOr g old.image new.image) (step h) (records h)
-    (λ image whole torn. inl (failed_keeps g row old.image image can.one can.unsound torn)) (inr refl)
+    (λ image whole torn. inl (failed_keeps g row old.image image can.one can.unsound torn)) (inr refl) tt
 program_stops g row r its old new told told' H (Err e) can step records h = tt
 
 -- ---- one call after another
 
 -- what is so of all that may be left is of what is more
 pub leaves_more : (old new : Flash) (told told' : Option Recording) (P Q : Image → Type 0) → ((image : Image) → P image → Q image) → LeavesOnly old new told told' P → LeavesOnly old new told told' Q
-leaves_more old new told told' P Q more l = record { log = l.log; leads = l.leads; records = l.records; left = λ image may. more image (l.left image may) }
+leaves_more old new told told' P Q more l = record { log = l.log; leads = l.leads; records = l.records; left = λ image may. more image (l.left image may); dead = l.dead }
 
 -- a call that leaves the die alone
 pub leaves_still : (old new : Flash) (told told' : Option Recording) (P : Image → Type 0) → new ≡ old → told' ≡ told → P old.image → LeavesOnly old new told told' P
@@ -100,11 +100,11 @@ sized_same a = record { geometry = refl; capacity = refl }
 pub sized_then : (a b c : Ram) → IsSized a b → IsSized b c → IsSized a c
 sized_then a b c p q = record { geometry = q.geometry ∙ p.geometry; capacity = q.capacity ∙ p.capacity }
 
-orderly_sized : (a b : Ram) (image : Image) → IsSized a b → IsOrderly b.geometry (room_of b) image → IsOrderly a.geometry (room_of a) image
+pub orderly_sized : (a b : Ram) (image : Image) → IsSized a b → IsOrderly b.geometry (room_of b) image → IsOrderly a.geometry (room_of a) image
 orderly_sized a b image s o =
     subst (λ g. IsOrderly g (a.mapping.capacity + g.pages) image) s.geometry (subst (λ c. IsOrderly b.geometry (c + b.geometry.pages) image) s.capacity o)
 
-array_sized : (a b : Ram) (x y : Image) → IsSized a b → array_of b.geometry x ≡ array_of b.geometry y → array_of a.geometry x ≡ array_of a.geometry y
+pub array_sized : (a b : Ram) (x y : Image) → IsSized a b → array_of b.geometry x ≡ array_of b.geometry y → array_of a.geometry x ≡ array_of a.geometry y
 array_sized a b x y s e = subst (λ g. array_of g x ≡ array_of g y) s.geometry e
 
 -- an image that memory knows
@@ -177,7 +177,7 @@ pub erase_stops : (a b : Ram) (block : ℕ) (passed : Bool) (left : List Page) (
 erase_stops a b block passed left x y rx ry same safe w none step records kept =
     leaves_one x y (Erase block passed left) rx ry (IsLeftByStop a x.image y.image) step records
     (λ image whole torn. kept_left a x.image y.image image safe w (lost_keeps a.geometry block x.image image w.one none (subst (λ g. LosesIn g.pages block x.image image) same torn)))
-    (kept_left a x.image y.image y.image safe w kept.keeps)
+    (kept_left a x.image y.image y.image safe w kept.keeps) (subst (λ (g : Geometry). HoldsNone g.pages block x.image) (sym same) none, tt)
 
 -- a row that is set leaves the mapping its size
 pub sets_capacity : (key : Key) (row : ℕ) (old new : MappingState) → SetsMapping key row old new → new.capacity ≡ old.capacity

@@ -8,6 +8,7 @@ pub mod LegalLemmas
 pub mod NextLemmas
 pub mod RunLemmas
 pub mod StopLemmas
+pub mod CutLemmas
 pub mod TornLemmas
 pub mod StreamOnce
 pub mod StreamSome

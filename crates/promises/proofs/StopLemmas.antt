@@ -1,12 +1,12 @@
 -- Images that a stop may leave.
-use Rattle.std.proofs.Common.{◌≡◌, ◌⊎◌, inl, inr, ℕ, List, [], ◌∷◌, ◌++◌, refl, sym, ◌∙◌, ap, subst, Option, Some, None}
+use Rattle.std.proofs.Common.{◌≡◌, ◌⊎◌, inl, inr, ℕ, Bool, List, [], ◌∷◌, ◌++◌, refl, sym, ◌∙◌, ap, subst, Option, Some, None}
 use Rattle.page_layout.specs.declared.geometry.Geometry.{Geometry}
-use Rattle.page_layout.specs.Page.{Image, IsImage}
+use Rattle.page_layout.specs.Page.{Image, IsImage, Page}
 use Rattle.page_layout.proofs.FlashLemmas.{Leads-append, geometry-Leads}
 use Rattle.page_layout.proofs.RecordingLemmas.{records_join, records_none}
 use Rattle.page_layout.specs.Flash.{Flash, Operation, Program, Erase, Steps, Leads, after}
 use Rattle.page_layout.specs.Recording.{Recording, Records, image_after, image_after_all}
-use Rattle.promises.specs.Stop.{Tears, LeftBy, StopsIn, LeavesOnly, NoOperationLaw, TornInOneLaw, BetweenLaw, StopsJoinLaw, ImageLaw}
+use Rattle.promises.specs.Stop.{Tears, LeftBy, StopsIn, LeavesOnly, ErasesDead, NoOperationLaw, TornInOneLaw, BetweenLaw, StopsJoinLaw, ImageLaw, DeadEraseLaw, DeadJoinLaw, LiveEraseLaw}
 use Rattle.promises.proofs.LogLemmas.{after_all, leads_after, after-geometry}
 
 -- nothing was torn yet
@@ -49,7 +49,7 @@ left_so pages image left log (inr s) = subst (λ l. LeftBy pages image l left) (
 pub torn_in_one_law : TornInOneLaw
 torn_in_one_law pages image left log = (torn_in_one pages image left log, left_so pages image left log)
 
-split_stops : (pages : ℕ) (image left : Image) (xs ys : List Operation) → LeftBy pages image (xs ++ ys) left → LeftBy pages image xs left ⊎ LeftBy pages (image_after_all pages image xs) ys left
+pub split_stops : (pages : ℕ) (image left : Image) (xs ys : List Operation) → LeftBy pages image (xs ++ ys) left → LeftBy pages image xs left ⊎ LeftBy pages (image_after_all pages image xs) ys left
 split_stops pages image left [] ys h = inr h
 split_stops pages image left (op ∷ xs) ys (inl t) = inl (inl t)
 split_stops pages image left (op ∷ xs) ys (inr r) =
@@ -91,6 +91,29 @@ all-image s (op ∷ log) pages same =
 pub image_law : ImageLaw
 image_law old new log h = ap (λ (s : Flash). s.image) (leads_after old new log h) ∙ all-image old log old.geometry.pages refl
 
+-- ---- which blocks are erased
+
+split_dead : (pages : ℕ) (image : Image) (xs ys : List Operation) → ErasesDead pages image (xs ++ ys) → ErasesDead pages image xs × ErasesDead pages (image_after_all pages image xs) ys
+split_dead pages image [] ys d = (tt, d)
+split_dead pages image (Program row page passed left ∷ xs) ys d = split_dead pages (image_after pages image (Program row page passed left)) xs ys d
+split_dead pages image (Erase block passed left ∷ xs) ys d =
+    let both = split_dead pages (image_after pages image (Erase block passed left)) xs ys d.1 in
+    ((d.0, both.0), both.1)
+
+pub both_dead : (pages : ℕ) (image : Image) (xs ys : List Operation) → ErasesDead pages image xs → ErasesDead pages (image_after_all pages image xs) ys → ErasesDead pages image (xs ++ ys)
+both_dead pages image [] ys first second = second
+both_dead pages image (Program row page passed left ∷ xs) ys first second = both_dead pages (image_after pages image (Program row page passed left)) xs ys first second
+both_dead pages image (Erase block passed left ∷ xs) ys first second = (first.0, both_dead pages (image_after pages image (Erase block passed left)) xs ys first.1 second)
+
+pub dead_join : DeadJoinLaw
+dead_join pages image xs ys = (split_dead pages image xs ys, λ d. both_dead pages image xs ys d.0 d.1)
+
+pub dead_erase : DeadEraseLaw
+dead_erase pages image before after block passed left d = (split_dead pages image before (Erase block passed left ∷ after) d).1.0
+
+pub live_erase : LiveEraseLaw
+live_erase pages image before after block row key passed left live here d = (dead_erase pages image before after block passed left d).none key row live here
+
 -- ---- calls and their stops
 
 -- a call that does nothing
@@ -100,15 +123,16 @@ leaves_nothing die told is_so so = record {
   leads = refl;
   records = records_none told;
   left = λ image may. subst is_so (sym may.by) so;
+  dead = tt;
 }
 
 image_one : (old new : Flash) (op : Operation) → Steps old op new → new.image ≡ image_after old.geometry.pages old.image op
 image_one old new op steps = ap (λ (s : Flash). s.image) steps.left ∙ after-image old op
 
--- one operation: what was before it, what it may leave torn, and what it left
+-- one operation: what was before it, what it may leave torn, and what it left; an erase is of a block without a newest page
 pub leaves_one : (old new : Flash) (op : Operation) (told told' : Option Recording) (is_so : Image → Type 0) → Steps old op new → Records told (op ∷ []) told'
-    → ((image : Image) → IsImage old.geometry image → Tears old.geometry.pages op old.image image → is_so image) → is_so new.image → LeavesOnly old new told told' is_so
-leaves_one old new op told told' is_so steps records torn so = record {
+    → ((image : Image) → IsImage old.geometry image → Tears old.geometry.pages op old.image image → is_so image) → is_so new.image → ErasesDead old.geometry.pages old.image (op ∷ []) → LeavesOnly old new told told' is_so
+leaves_one old new op told told' is_so steps records torn so dead = record {
   log = op ∷ [];
   leads = (new, steps, refl);
   records = records;
@@ -116,6 +140,7 @@ leaves_one old new op told told' is_so steps records torn so = record {
     | inl tears ↦ torn image may.whole tears
     | inr last ↦ subst is_so (image_one old new op steps ∙ sym last) so
   ];
+  dead = dead;
 }
 
 same_geometry : (a b : Flash) (log : List Operation) → Leads a log b → b.geometry ≡ a.geometry
@@ -136,4 +161,6 @@ leaves_join a b c ra rb rc is_so x y = record {
           by = subst (λ i. LeftBy b.geometry.pages i y.log image) (sym (image_law a b x.log x.leads)) (subst (λ (g : Geometry). LeftBy g.pages (image_after_all a.geometry.pages a.image x.log) y.log image) (sym same) later);
         })
   ];
+  dead = both_dead a.geometry.pages a.image x.log y.log x.dead
+      (subst (λ i. ErasesDead a.geometry.pages i y.log) (image_law a b x.log x.leads) (subst (λ (g : Geometry). ErasesDead g.pages b.image y.log) (same_geometry a b x.log x.leads) y.dead));
 }

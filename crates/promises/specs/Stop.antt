@@ -1,10 +1,13 @@
 -- The images that a stop in the middle of operations may leave.
-use Rattle.std.specs.Prelude.{◌≡◌, ◌⊎◌, ◌↔◌, ℕ, ◌/◌, Bool, List, [], ◌∷◌, ◌++◌, length, slice_get, slice_set, Option}
+use Rattle.std.specs.Prelude.{◌≡◌, ◌⊎◌, ◌↔◌, ◌≤◌, ℕ, ◌/◌, Bool, List, [], ◌∷◌, ◌++◌, length, slice_get, slice_set, Option, Some}
 use Rattle.page_layout.specs.declared.geometry.Geometry.{Geometry}
+use Rattle.page_layout.specs.declared.record.Key.{Key}
 use Rattle.page_layout.specs.Page.{Page, Image, IsImage}
-use Rattle.page_layout.specs.Change.{FailsAt, LosesIn, IsUnsoundAt}
+use Rattle.page_layout.specs.Array.{marks}
+use Rattle.page_layout.specs.Newest.{newest}
+use Rattle.page_layout.specs.Change.{FailsAt, HoldsNone, LosesIn, IsUnsoundAt}
 use Rattle.page_layout.specs.Flash.{Flash, Operation, Program, Erase, Leads, with_block}
-use Rattle.page_layout.specs.Recording.{Recording, Records, image_after, image_after_all}
+use Rattle.page_layout.specs.Recording.{Recording, Records, EndsAt, noted, image_after, image_after_all}
 
 -- Stopped before an operation or in it. A program: the image is as before, or its page alone has changed and has no sound record. An
 -- erase: each page of its block is as before or has no sound record.
@@ -21,6 +24,12 @@ LeftBy pages image (op ∷ log) left = Tears pages op image left ⊎ LeftBy page
 pub record MayLeave (g : Geometry) (image : Image) (log : List Operation) (left : Image) : Type 0 where
   pub whole : IsImage g left
   pub by : LeftBy g.pages image log left
+
+-- EACH ERASE IS OF A BLOCK WITHOUT A NEWEST PAGE: as it begins no key has its newest page there, so whatever an erase leaves, done or torn, no page that counts is lost
+abbrev pub ErasesDead : ℕ → Image → List Operation → Type 0
+ErasesDead pages image [] = Unit {0}
+ErasesDead pages image (Program row page passed left ∷ log) = ErasesDead pages (image_after pages image (Program row page passed left)) log
+ErasesDead pages image (Erase block passed left ∷ log) = HoldsNone pages block image × ErasesDead pages (image_after pages image (Erase block passed left)) log
 
 -- ---- laws
 
@@ -52,6 +61,20 @@ StopsJoinLaw = (pages : ℕ) (image left : Image) (xs ys : List Operation) → L
 abbrev pub ImageLaw : Type 0
 ImageLaw = (old new : Flash) (log : List Operation) → Leads old log new → new.image ≡ image_after_all old.geometry.pages old.image log
 
+-- a log whose erases are so is one in which each block that is erased held no newest page, by the image after the operations before it
+abbrev pub DeadEraseLaw : Type 0
+DeadEraseLaw = (pages : ℕ) (image : Image) (before after : List Operation) (block : ℕ) (passed : Bool) (left : List Page) → ErasesDead pages image (before ++ Erase block passed left ∷ after)
+    → HoldsNone pages block (image_after_all pages image before)
+
+-- so it is no such log where a newest page stood in one of these blocks
+abbrev pub LiveEraseLaw : Type 0
+LiveEraseLaw = (pages : ℕ) (image : Image) (before after : List Operation) (block row : ℕ) (key : Key) (passed : Bool) (left : List Page)
+    → newest (marks (image_after_all pages image before)) key ≡ Some row → row / pages ≡ block → ¬ ErasesDead pages image (before ++ Erase block passed left ∷ after)
+
+-- two logs in a row erase such blocks alone where both do
+abbrev pub DeadJoinLaw : Type 0
+DeadJoinLaw = (pages : ℕ) (image : Image) (xs ys : List Operation) → ErasesDead pages image (xs ++ ys) ↔ (ErasesDead pages image xs × ErasesDead pages (image_after_all pages image xs) ys)
+
 -- each page is as it was, or is one of these and has no sound record
 pub record IsTornIn (these : ℕ → Type 0) (image left : Image) : Type 0 where
   pub size : length left ≡ length image
@@ -73,9 +96,22 @@ StoppedEraseLaw = (g : Geometry) (image left : Image) (block : ℕ) (passed : Bo
 -- ---- calls and their stops: `StopLemmas` joins them
 
 -- A CALL, AND WHATEVER A STOP IN IT MAY LEAVE. A log leads the die from one state to the other, the record that is told has gained just
--- that log, and each image that a stop in it may leave is so.
+-- that log, each image that a stop in it may leave is so, and no block is erased in it that holds a newest page.
 pub record LeavesOnly (old new : Flash) (told told' : Option Recording) (is_so : Image → Type 0) : Type 0 where
   pub log : List Operation
   pub leads : Leads old log new
   pub records : Records told log told'
   pub left : (image : Image) → MayLeave old.geometry old.image log image → is_so image
+  pub dead : ErasesDead old.geometry.pages old.image log
+
+-- A CALL THAT A FAULT OF THE DIE ENDED, and whatever the die may be left with. Operations were done from the old state on, and one more was at hand, or none; the record that is told tells just these, each image that a stop in them may leave is
+-- so, and none of them is an erase of a block that holds a newest page.
+pub record CutShort (old : Flash) (told told' : Option Recording) (is_so : Image → Type 0) : Type 0 where
+  pub log : List Operation
+  pub at_hand : List Operation
+  pub mid : Flash
+  pub leads : Leads old log mid
+  pub one : length at_hand ≤ 1
+  pub ends : EndsAt at_hand (noted log told) told'
+  pub left : (image : Image) → MayLeave old.geometry old.image (log ++ at_hand) image → is_so image
+  pub dead : ErasesDead old.geometry.pages old.image (log ++ at_hand)

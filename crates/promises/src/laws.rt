@@ -10,6 +10,7 @@ ghost use Rattle.promises.specs.Stream.{OneWayLaw, SomeWayLaw, RepliesJoinLaw, B
 ghost use Rattle.promises.specs.Stream.{FiveLaw, FiveCommandsLaw, FiveOutLaw, RefusalsLaw};
 ghost use Rattle.promises.specs.Stop.{NoOperationLaw, TornInOneLaw, BetweenLaw, StopsJoinLaw, ImageLaw};
 ghost use Rattle.promises.specs.Stop.{StoppedProgramLaw, StoppedEraseLaw};
+ghost use Rattle.promises.specs.Stop.{DeadEraseLaw, DeadJoinLaw, LiveEraseLaw};
 
 /// The step of the array: a read has one answer, what was written is read back, a trimmed sector is zeros, a flush and a turn change no
 /// sector, nor does what isn't answered Done, and a device that is read-only stays as it is. (This project.)
@@ -146,4 +147,11 @@ pub fn stop_laws()
 pub fn torn_laws()
     ensures program { StoppedProgramLaw }
     ensures erase { StoppedEraseLaw }
+{}
+
+/// Logs in which each block that is erased holds no newest page: by the image after the operations before it; two in a row; and where a newest page stood in one of these blocks it is none. (This project.)
+pub fn dead_laws()
+    ensures erase { DeadEraseLaw }
+    ensures live { LiveEraseLaw }
+    ensures join { DeadJoinLaw }
 {}

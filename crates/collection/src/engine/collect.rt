@@ -10,7 +10,7 @@ ghost use Rattle.collection.specs.Collect.{KeepsKeys, Refreshes, GoesBut, IsRele
 ghost use Rattle.collection.specs.Whole.{next_of, step_within, work_left};
 ghost use Rattle.collection.specs.Left.{IsHalfDone, IsFew, HasPassed, PinIsFew};
 ghost use Rattle.collection.specs.Acts.{EngineActs, Stands};
-ghost use Rattle.collection.specs.Stops.{StopsSafely};
+ghost use Rattle.collection.specs.Stops.{CutsSafely, StopsSafely};
 
 use super::collect_steps::Progress;
 use super::{Engine, Pinned};
@@ -78,6 +78,9 @@ impl<N: Nand> Engine<N> {
         ensures stops { N.view.honest self.old.nand ≡ true → truth.IsTrue None (ram self.old) (image_in N.view.flash self.old) →
             HasPassed (ram self.old) (image_in N.view.flash self.old) pinned → result ≢ Err EngineFault.Bus →
             StopsSafely N.view self.old self.new }
+        ensures cut { N.view.honest self.old.nand ≡ true → truth.IsTrue None (ram self.old) (image_in N.view.flash self.old) →
+            HasPassed (ram self.old) (image_in N.view.flash self.old) pinned → result ≡ Err EngineFault.Bus →
+            CutsSafely N.view self.old self.new }
     {
         let block = pinned.block;
         let pages = self.geometry.pages();
@@ -125,6 +128,8 @@ impl<N: Nand> Engine<N> {
             live_at (ram self.old).blocks block ≤ vmax self.old.geometry → result ≢ Err EngineFault.Bus → PinIsFew 0 (ram self.new) }
         ensures stops { N.view.honest self.old.nand ≡ true → truth.IsTrue None (ram self.old) (image_in N.view.flash self.old) →
             result ≢ Err EngineFault.Bus → StopsSafely N.view self.old self.new }
+        ensures cut { N.view.honest self.old.nand ≡ true → truth.IsTrue None (ram self.old) (image_in N.view.flash self.old) →
+            result ≡ Err EngineFault.Bus → CutsSafely N.view self.old self.new }
     {
         let pinned = Pinned { block, first: 0 };
         self.pinned = Some(pinned);
@@ -188,6 +193,8 @@ impl<N: Nand> Engine<N> {
             IsThrifty (ram self.old) (ram self.new) }
         ensures stops { N.view.honest self.old.nand ≡ true → self.old.fault ≡ None → truth.IsTrue None (ram self.old) (image_in N.view.flash self.old) →
             result ≢ Err EngineFault.Bus → StopsSafely N.view self.old self.new }
+        ensures cut { N.view.honest self.old.nand ≡ true → self.old.fault ≡ None → truth.IsTrue None (ram self.old) (image_in N.view.flash self.old) →
+            result ≡ Err EngineFault.Bus → CutsSafely N.view self.old self.new }
     {
         self.standing()?;
         let answer = self.collect_block(block, flushing);

@@ -12,7 +12,7 @@ ghost use Rattle.collection.specs.Whole.{step_within, erases_after};
 ghost use Rattle.collection.specs.Left.{IsCalm, IsHalfDone, HasPassed, PinHasPassed, TouchesNoMore, pin_after, told};
 ghost use Rattle.collection.specs.Acts.{EngineActs, Stands};
 ghost use Rattle.collection.specs.Turns.{Advances};
-ghost use Rattle.collection.specs.Stops.{StopsSafely};
+ghost use Rattle.collection.specs.Stops.{CutsSafely, StopsSafely};
 
 use super::collect_steps::Progress;
 use super::{Engine, Pinned};
@@ -126,6 +126,9 @@ impl<N: Nand> Engine<N> {
         ensures stops { N.view.honest self.old.nand ≡ true → truth.IsTrue None (ram self.old) (image_in N.view.flash self.old) →
             HasPassed (ram self.old) (image_in N.view.flash self.old) pinned → result ≢ Err EngineFault.Bus →
             StopsSafely N.view self.old self.new }
+        ensures cut { N.view.honest self.old.nand ≡ true → truth.IsTrue None (ram self.old) (image_in N.view.flash self.old) →
+            HasPassed (ram self.old) (image_in N.view.flash self.old) pinned → result ≡ Err EngineFault.Bus →
+            CutsSafely N.view self.old self.new }
     {
         let progress = self.collect_step(pinned.block, pinned.first, flushing)?;
         let next = next_pin(pinned.block, self.geometry.pages(), progress);
@@ -142,6 +145,9 @@ impl<N: Nand> Engine<N> {
         ensures stops { N.view.honest self.old.nand ≡ true → truth.IsTrue None (ram self.old) (image_in N.view.flash self.old) →
             HasPassed (ram self.old) (image_in N.view.flash self.old) pinned → result ≢ Err EngineFault.Bus →
             StopsSafely N.view self.old self.new }
+        ensures cut { N.view.honest self.old.nand ≡ true → truth.IsTrue None (ram self.old) (image_in N.view.flash self.old) →
+            HasPassed (ram self.old) (image_in N.view.flash self.old) pinned → result ≡ Err EngineFault.Bus →
+            CutsSafely N.view self.old self.new }
     {
         let progress = self.step_on(pinned, flushing)?;
         Ok(told(progress))
@@ -176,6 +182,9 @@ impl<N: Nand> Engine<N> {
         ensures stops { N.view.honest self.old.nand ≡ true → self.old.fault ≡ None → truth.IsTrue None (ram self.old) (image_in N.view.flash self.old) →
             PinHasPassed (ram self.old) (image_in N.view.flash self.old) → result ≢ Err EngineFault.Bus →
             StopsSafely N.view self.old self.new }
+        ensures cut { N.view.honest self.old.nand ≡ true → self.old.fault ≡ None → truth.IsTrue None (ram self.old) (image_in N.view.flash self.old) →
+            PinHasPassed (ram self.old) (image_in N.view.flash self.old) → result ≡ Err EngineFault.Bus →
+            CutsSafely N.view self.old self.new }
     {
         self.standing()?;
         let pinned = self.pinned.unwrap();

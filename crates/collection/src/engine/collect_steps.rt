@@ -19,7 +19,7 @@ ghost use Rattle.collection.specs.Left.{TouchesNoMore};
 ghost use Rattle.collection.specs.Collect.{GoesBut, HasCopied, HasWritten, HasErased, IsReleased, FaultCosts, StepCosts, IsMovedOut, IsRenewed};
 ghost use Rattle.collection.specs.Collect.{IsCopiedOr, IsStepped};
 ghost use Rattle.collection.specs.Acts.{EngineActs, OnlyPrograms};
-ghost use Rattle.collection.specs.Stops.{StopsSafely};
+ghost use Rattle.collection.specs.Stops.{CutsSafely, StopsSafely};
 
 use super::Engine;
 use crate::fault::EngineFault;
@@ -115,6 +115,9 @@ impl<N: Nand> Engine<N> {
         ensures stops { N.view.honest self.old.nand ≡ true → truth.IsTrue None (ram self.old) (image_in N.view.flash self.old) →
             IsLivePage row self.old.page.body.items found.now (image_in N.view.flash self.old) → result ≢ Err EngineFault.Bus →
             StopsSafely N.view self.old self.new }
+        ensures cut { N.view.honest self.old.nand ≡ true → truth.IsTrue None (ram self.old) (image_in N.view.flash self.old) →
+            IsLivePage row self.old.page.body.items found.now (image_in N.view.flash self.old) → result ≡ Err EngineFault.Bus →
+            CutsSafely N.view self.old self.new }
     {
         self.replace(found.kind, found.number, Some(row))?;
         self.mark(found.key(), flushing);
@@ -156,6 +159,8 @@ impl<N: Nand> Engine<N> {
             (Refused (ram self.old) (image_in N.view.flash self.old) (ram self.new) (image_in N.view.flash self.new)) }
         ensures stops { N.view.honest self.old.nand ≡ true → truth.IsTrue None (ram self.old) (image_in N.view.flash self.old) →
             result ≢ Err EngineFault.Bus → StopsSafely N.view self.old self.new }
+        ensures cut { N.view.honest self.old.nand ≡ true → truth.IsTrue None (ram self.old) (image_in N.view.flash self.old) →
+            result ≡ Err EngineFault.Bus → CutsSafely N.view self.old self.new }
     {
         if self.blocks.live(block) == 0 {
             return Ok(None);
@@ -204,6 +209,8 @@ impl<N: Nand> Engine<N> {
             (Refused (ram self.old) (image_in N.view.flash self.old) (ram self.new) (image_in N.view.flash self.new)) }
         ensures stops { N.view.honest self.old.nand ≡ true → truth.IsTrue None (ram self.old) (image_in N.view.flash self.old) →
             result ≢ Err EngineFault.Bus → StopsSafely N.view self.old self.new }
+        ensures cut { N.view.honest self.old.nand ≡ true → truth.IsTrue None (ram self.old) (image_in N.view.flash self.old) →
+            result ≡ Err EngineFault.Bus → CutsSafely N.view self.old self.new }
     {
         let due = self.lowest_due(flushing);
         let Some(t) = due else {
@@ -236,6 +243,9 @@ impl<N: Nand> Engine<N> {
         ensures stops { N.view.honest self.old.nand ≡ true → truth.IsTrue None (ram self.old) (image_in N.view.flash self.old) →
             HoldsNone self.old.geometry.pages block (image_in N.view.flash self.old) → result ≢ Err EngineFault.Bus →
             StopsSafely N.view self.old self.new }
+        ensures cut { N.view.honest self.old.nand ≡ true → truth.IsTrue None (ram self.old) (image_in N.view.flash self.old) →
+            HoldsNone self.old.geometry.pages block (image_in N.view.flash self.old) → result ≡ Err EngineFault.Bus →
+            CutsSafely N.view self.old self.new }
     {
         match self.nand.erase(block) {
             Ok(Outcome::Passed) => {
@@ -293,6 +303,9 @@ impl<N: Nand> Engine<N> {
         ensures stops { N.view.honest self.old.nand ≡ true → truth.IsTrue None (ram self.old) (image_in N.view.flash self.old) →
             HoldsNoneIn self.old.geometry.pages block 0 first (image_in N.view.flash self.old) → result ≢ Err EngineFault.Bus →
             StopsSafely N.view self.old self.new }
+        ensures cut { N.view.honest self.old.nand ≡ true → truth.IsTrue None (ram self.old) (image_in N.view.flash self.old) →
+            HoldsNoneIn self.old.geometry.pages block 0 first (image_in N.view.flash self.old) → result ≡ Err EngineFault.Bus →
+            CutsSafely N.view self.old self.new }
     {
         let copied = self.copy_lowest(block, first, flushing)?;
         if let Some(page) = copied {

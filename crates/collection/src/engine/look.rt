@@ -1,5 +1,5 @@
 //! Where the newest page of a sector is, and what it holds.
-ghost use Rattle.std.specs.Prelude.{◌≡◌, ◌≢◌, ◌+◌, ◌*◌, ◌/◌, ◌<◌, ◌≤◌, true, length, replicate, slice_get, Some, None, Ok, Err, IsSome, IfOk};
+ghost use Rattle.std.specs.Prelude.{◌≡◌, ◌≢◌, ◌+◌, ◌*◌, ◌/◌, ◌<◌, ◌≤◌, true, [], length, replicate, slice_get, Some, None, Ok, Err, IsSome, IfOk};
 ghost use Rattle.std.specs.Prelude.{IfErr, OnOk, OnErr, MatchResult};
 ghost use Rattle.std.specs.Option.{ForSome};
 ghost use Rattle.page_layout.specs.Page.{page};
@@ -14,6 +14,8 @@ ghost use Rattle.collection.specs.Truth.{IsTrue};
 ghost use Rattle.collection.specs.Looks.{IsPageOf, IsRead, GivesRow, FindsRow, GivesSector, IsReadFault};
 ghost use Rattle.collection.specs.Acts.{EngineLooks};
 ghost use Rattle.page_layout.specs.OnlyReads.{OnlyReads};
+ghost use Rattle.page_layout.specs.DieCalls.{AsksOnly};
+ghost use Rattle.page_layout.specs.Recording.{EndsAt};
 
 use super::operations::read_sound;
 use super::{Buffer, Engine};
@@ -37,6 +39,7 @@ pub(crate) fn read_of<N: Nand>(
     requires buffer { IsBuffer geometry.now buffer.old }
     ensures buffer { IsBuffer geometry.now buffer.new }
     ensures only_reads { OnlyReads N.view nand.old nand.new }
+    ensures asked { AsksOnly N.view.called nand.old nand.new }
     ensures reads { N.view.reads nand.new ≡ counted (N.view.reads nand.old) }
     ensures faults { IfErr result IsReadFault }
     ensures rose { result ≡ Err EngineFault.Bus → HasRisen (N.view.failed nand.old) (N.view.failed nand.new) }
@@ -45,6 +48,7 @@ pub(crate) fn read_of<N: Nand>(
     ensures checked { IfOk result (λ found. IsPageOf key found (page buffer.new.body.items buffer.new.spare.items)) }
     ensures same { N.view.honest nand.old ≡ true → result ≢ Err EngineFault.Bus → N.view.flash nand.new ≡ N.view.flash nand.old }
     ensures told { N.view.honest nand.old ≡ true → result ≢ Err EngineFault.Bus → N.view.recorded nand.new ≡ N.view.recorded nand.old }
+    ensures cut { N.view.honest nand.old ≡ true → result ≡ Err EngineFault.Bus → EndsAt [] (N.view.recorded nand.old) (N.view.recorded nand.new) }
     ensures page { N.view.honest nand.old ≡ true → OnOk result
         (slice_get (N.view.flash nand.old).image row ≡ Some (page buffer.new.body.items buffer.new.spare.items)) }
     ensures undamaged { N.view.honest nand.old ≡ true → newest_row (N.view.flash nand.old).image key ≡ Some row →

@@ -16,7 +16,7 @@ ghost use Rattle.collection.specs.Settle.{IsCachedKey};
 ghost use Rattle.collection.specs.Cost.{moved_live, TryCosts, PutCosts};
 ghost use Rattle.collection.specs.Results.{MayPut, Attempted, Refused, GoesPut, IsPut, IsLastPage, array_after};
 ghost use Rattle.collection.specs.Acts.{EngineActs, Stands, OnlyPrograms};
-ghost use Rattle.collection.specs.Stops.{IsKeptOr, Stops};
+ghost use Rattle.collection.specs.Stops.{Cuts, IsKeptOr, IsKeptOrPut, Stops};
 
 use super::Engine;
 use super::operations::program_record;
@@ -70,6 +70,10 @@ impl<N: Nand> Engine<N> {
             MayPut kind number old_row self.old.page.body.items (ram self.old) (image_in N.view.flash self.old) →
             result ≢ Err EngineFault.Bus →
             Stops N.view (IsKeptOr self.old.geometry (image_in N.view.flash self.old) (image_in N.view.flash self.new)) self.old self.new }
+        ensures cut { N.view.honest self.old.nand ≡ true →
+            MayPut kind number old_row self.old.page.body.items (ram self.old) (image_in N.view.flash self.old) →
+            result ≡ Err EngineFault.Bus →
+            Cuts N.view (IsKeptOrPut kind number self.old.page.body.items self.old.geometry (image_in N.view.flash self.old)) self.old self.new }
     {
         let Some(row) = self.blocks.take_row(Stream::of(kind)) else {
             return Err(EngineFault::ReadOnly);
@@ -130,6 +134,10 @@ impl<N: Nand> Engine<N> {
             MayPut kind number old_row self.old.page.body.items (ram self.old) (image_in N.view.flash self.old) →
             result ≢ Err EngineFault.Bus →
             Stops N.view (IsKeptOr self.old.geometry (image_in N.view.flash self.old) (image_in N.view.flash self.new)) self.old self.new }
+        ensures cut { N.view.honest self.old.nand ≡ true →
+            MayPut kind number old_row self.old.page.body.items (ram self.old) (image_in N.view.flash self.old) →
+            result ≡ Err EngineFault.Bus →
+            Cuts N.view (IsKeptOrPut kind number self.old.page.body.items self.old.geometry (image_in N.view.flash self.old)) self.old self.new }
     {
         'tries: while self.next < u64::MAX {
             let tried = self.program_next(kind, number, old_row)?;
@@ -209,7 +217,11 @@ impl<N: Nand> Engine<N> {
         ensures stops { N.view.honest self.old.nand ≡ true → self.old.fault ≡ None → IsTrue None (ram self.old) (image_in N.view.flash self.old) →
             IsPageFor self.old.geometry (image_in N.view.flash self.old) self.old.mapping body.now (key_of written.now) → result ≢ Err EngineFault.Bus →
             Stops N.view (IsKeptOr self.old.geometry (image_in N.view.flash self.old) (image_in N.view.flash self.new)) self.old self.new }
+        ensures cut { N.view.honest self.old.nand ≡ true → self.old.fault ≡ None → IsTrue None (ram self.old) (image_in N.view.flash self.old) →
+            IsPageFor self.old.geometry (image_in N.view.flash self.old) self.old.mapping body.now (key_of written.now) → result ≡ Err EngineFault.Bus →
+            Cuts N.view (IsKeptOrPut written.now.kind written.now.number body.now self.old.geometry (image_in N.view.flash self.old)) self.old self.new }
     {
+        // (the stream is its caller's word for the kind, and named by the proof alone)
         let of_kind = stream == Stream::of(written.kind);
         prove!(of_kind);
         self.standing()?;

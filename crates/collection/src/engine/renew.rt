@@ -13,7 +13,7 @@ ghost use Rattle.collection.specs.Collect.{KeepsKeys, RescueCosts};
 ghost use Rattle.page_layout.specs.Version.{is_1};
 ghost use Rattle.collection.specs.Renew.{is_table, is_due_page, LooksAtDue, FindsDue, IsRenewedAt};
 ghost use Rattle.collection.specs.Acts.{EngineLooks, EngineActs, Stands};
-ghost use Rattle.collection.specs.Stops.{StopsSafely};
+ghost use Rattle.collection.specs.Stops.{CutsSafely, StopsSafely};
 
 use super::Engine;
 use crate::fault::{EngineFault, WriteFault};
@@ -116,6 +116,8 @@ impl<N: Nand> Engine<N> {
             (Refused (ram self.old) (image_in N.view.flash self.old) (ram self.new) (image_in N.view.flash self.new)) }
         ensures stops { N.view.honest self.old.nand ≡ true → truth.IsTrue None (ram self.old) (image_in N.view.flash self.old) → result ≢ Err EngineFault.Bus →
             StopsSafely N.view self.old self.new }
+        ensures cut { N.view.honest self.old.nand ≡ true → truth.IsTrue None (ram self.old) (image_in N.view.flash self.old) → result ≡ Err EngineFault.Bus →
+            CutsSafely N.view self.old self.new }
     {
         if self.mapping.moved_count() >= self.geometry.pages() {
             return Err(EngineFault::Damaged);
@@ -149,6 +151,8 @@ impl<N: Nand> Engine<N> {
             (λ fault. fault ≡ EngineFault.Bus) }
         ensures stops { N.view.honest self.old.nand ≡ true → self.old.fault ≡ None → truth.IsTrue None (ram self.old) (image_in N.view.flash self.old) → result ≢ Err EngineFault.Bus →
             StopsSafely N.view self.old self.new }
+        ensures cut { N.view.honest self.old.nand ≡ true → self.old.fault ≡ None → truth.IsTrue None (ram self.old) (image_in N.view.flash self.old) → result ≡ Err EngineFault.Bus →
+            CutsSafely N.view self.old self.new }
     {
         self.standing()?;
         let answer = self.look_for_due(from);
@@ -187,6 +191,8 @@ impl<N: Nand> Engine<N> {
             (Refused (ram self.old) (image_in N.view.flash self.old) (ram self.new) (image_in N.view.flash self.new)) }
         ensures stops { N.view.honest self.old.nand ≡ true → self.old.fault ≡ None → truth.IsTrue None (ram self.old) (image_in N.view.flash self.old) → result ≢ Err EngineFault.Bus →
             StopsSafely N.view self.old self.new }
+        ensures cut { N.view.honest self.old.nand ≡ true → self.old.fault ≡ None → truth.IsTrue None (ram self.old) (image_in N.view.flash self.old) → result ≡ Err EngineFault.Bus →
+            CutsSafely N.view self.old self.new }
     {
         self.standing()?;
         let answer = self.renew(row);

@@ -13,7 +13,7 @@ ghost use Rattle.collection.specs.Live.{IsFoundIn};
 ghost use Rattle.collection.specs.Results.{Refused, Goes};
 ghost use Rattle.collection.specs.Collect.{KeepsKeys, IsAiling, HasAiling, HasNoneAiling, FollowCosts, IsFollowed, RescueCosts, IsFollowedBy, IsRescued, FindsAiling};
 ghost use Rattle.collection.specs.Acts.{EngineLooks, EngineActs, Stands};
-ghost use Rattle.collection.specs.Stops.{StopsSafely};
+ghost use Rattle.collection.specs.Stops.{CutsSafely, StopsSafely};
 
 use super::Engine;
 use crate::fault::{EngineFault, WriteFault};
@@ -90,6 +90,8 @@ impl<N: Nand> Engine<N> {
             (Refused (ram self.old) (image_in N.view.flash self.old) (ram self.new) (image_in N.view.flash self.new)) }
         ensures stops { N.view.honest self.old.nand ≡ true → truth.IsTrue None (ram self.old) (image_in N.view.flash self.old) →
             result ≢ Err EngineFault.Bus → StopsSafely N.view self.old self.new }
+        ensures cut { N.view.honest self.old.nand ≡ true → truth.IsTrue None (ram self.old) (image_in N.view.flash self.old) →
+            result ≡ Err EngineFault.Bus → CutsSafely N.view self.old self.new }
     {
         let Key::Sector(n) = key else {
             return Ok(());
@@ -120,6 +122,8 @@ impl<N: Nand> Engine<N> {
             (Refused (ram self.old) (image_in N.view.flash self.old) (ram self.new) (image_in N.view.flash self.new)) }
         ensures stops { N.view.honest self.old.nand ≡ true → truth.IsTrue None (ram self.old) (image_in N.view.flash self.old) →
             result ≢ Err EngineFault.Bus → StopsSafely N.view self.old self.new }
+        ensures cut { N.view.honest self.old.nand ≡ true → truth.IsTrue None (ram self.old) (image_in N.view.flash self.old) →
+            result ≡ Err EngineFault.Bus → CutsSafely N.view self.old self.new }
     {
         if self.mapping.moved_count() >= self.geometry.pages() {
             return Err(EngineFault::Damaged);
@@ -166,6 +170,8 @@ impl<N: Nand> Engine<N> {
             (Refused (ram self.old) (image_in N.view.flash self.old) (ram self.new) (image_in N.view.flash self.new)) }
         ensures stops { N.view.honest self.old.nand ≡ true → self.old.fault ≡ None → truth.IsTrue None (ram self.old) (image_in N.view.flash self.old) →
             result ≢ Err EngineFault.Bus → StopsSafely N.view self.old self.new }
+        ensures cut { N.view.honest self.old.nand ≡ true → self.old.fault ≡ None → truth.IsTrue None (ram self.old) (image_in N.view.flash self.old) →
+            result ≡ Err EngineFault.Bus → CutsSafely N.view self.old self.new }
     {
         self.standing()?;
         let answer = self.rescue();

@@ -9,7 +9,7 @@ ghost use Rattle.collection.specs.Collect.{HasRoom, RoomCounts};
 ghost use Rattle.collection.specs.Room.{wanted, beyond, IsMade, IsWorth, IsFundedOn, MakesRoom};
 ghost use Rattle.collection.specs.Left.{IsCalm, PinHasPassed, PinIsFew};
 ghost use Rattle.collection.specs.Acts.{EngineActs, Stands};
-ghost use Rattle.collection.specs.Stops.{StopsSafely};
+ghost use Rattle.collection.specs.Stops.{CutsSafely, StopsSafely};
 
 use super::Engine;
 use crate::fault::{EngineFault, WriteFault};
@@ -87,6 +87,9 @@ impl<N: Nand> Engine<N> {
         ensures stops { N.view.honest self.old.nand ≡ true → truth.IsTrue None (ram self.old) (image_in N.view.flash self.old) →
             PinHasPassed (ram self.old) (image_in N.view.flash self.old) → result ≢ Err EngineFault.Bus →
             StopsSafely N.view self.old self.new }
+        ensures cut { N.view.honest self.old.nand ≡ true → truth.IsTrue None (ram self.old) (image_in N.view.flash self.old) →
+            PinHasPassed (ram self.old) (image_in N.view.flash self.old) → result ≡ Err EngineFault.Bus →
+            CutsSafely N.view self.old self.new }
     {
         let wanted = Reserve::Call.blocks();
         match self.pinned {
@@ -110,6 +113,9 @@ impl<N: Nand> Engine<N> {
         ensures stops { N.view.honest self.old.nand ≡ true → truth.IsTrue None (ram self.old) (image_in N.view.flash self.old) →
             PinHasPassed (ram self.old) (image_in N.view.flash self.old) → result ≢ Err EngineFault.Bus →
             StopsSafely N.view self.old self.new }
+        ensures cut { N.view.honest self.old.nand ≡ true → truth.IsTrue None (ram self.old) (image_in N.view.flash self.old) →
+            PinHasPassed (ram self.old) (image_in N.view.flash self.old) → result ≡ Err EngineFault.Bus →
+            CutsSafely N.view self.old self.new }
     {
         self.finish(flushing)?;
         'rounds: loop {
@@ -161,6 +167,9 @@ impl<N: Nand> Engine<N> {
         ensures stops { N.view.honest self.old.nand ≡ true → self.old.fault ≡ None → truth.IsTrue None (ram self.old) (image_in N.view.flash self.old) →
             PinHasPassed (ram self.old) (image_in N.view.flash self.old) → result ≢ Err EngineFault.Bus →
             StopsSafely N.view self.old self.new }
+        ensures cut { N.view.honest self.old.nand ≡ true → self.old.fault ≡ None → truth.IsTrue None (ram self.old) (image_in N.view.flash self.old) →
+            PinHasPassed (ram self.old) (image_in N.view.flash self.old) → result ≡ Err EngineFault.Bus →
+            CutsSafely N.view self.old self.new }
     {
         self.standing()?;
         let answer = self.regain(flushing);

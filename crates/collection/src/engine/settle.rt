@@ -14,7 +14,7 @@ ghost use Rattle.collection.specs.Cost.{PutCosts, PageCosts};
 ghost use Rattle.collection.specs.Settle.{HasPlace, SetsRow, SetsMapping, SetsDirectory, SettlesRow, HasSettled, HasNoMore};
 ghost use Rattle.collection.specs.Results.{MayPut, Goes, KeepsTable, IsReplaced, IsLastPage, IsWritten, Refused};
 ghost use Rattle.collection.specs.Acts.{EngineActs, OnlyPrograms};
-ghost use Rattle.collection.specs.Stops.{StopsSafely};
+ghost use Rattle.collection.specs.Stops.{Cuts, IsPutByStop, StopsSafely};
 
 use super::Engine;
 use crate::fault::EngineFault;
@@ -90,6 +90,8 @@ impl<N: Nand> Engine<N> {
             (Refused (ram self.old) (image_in N.view.flash self.old) (ram self.new) (image_in N.view.flash self.new)) }
         ensures stops { N.view.honest self.old.nand ≡ true → MayPut kind number old_row self.old.page.body.items (ram self.old) (image_in N.view.flash self.old) →
             result ≢ Err EngineFault.Bus → StopsSafely N.view self.old self.new }
+        ensures cut { N.view.honest self.old.nand ≡ true → MayPut kind number old_row self.old.page.body.items (ram self.old) (image_in N.view.flash self.old) →
+            result ≡ Err EngineFault.Bus → Cuts N.view (IsPutByStop kind number self.old.page.body.items (ram self.old) (image_in N.view.flash self.old)) self.old self.new }
     {
         let row = self.put_page(kind, number, old_row)?;
         self.settle(kind, number, row);
@@ -120,6 +122,8 @@ impl<N: Nand> Engine<N> {
             (Refused (ram self.old) (image_in N.view.flash self.old) (ram self.new) (image_in N.view.flash self.new)) }
         ensures stops { N.view.honest self.old.nand ≡ true → IsTrue None (ram self.old) (image_in N.view.flash self.old) →
             result ≢ Err EngineFault.Bus → StopsSafely N.view self.old self.new }
+        ensures cut { N.view.honest self.old.nand ≡ true → IsTrue None (ram self.old) (image_in N.view.flash self.old) →
+            result ≡ Err EngineFault.Bus → Cuts N.view (IsPutByStop kind sector self.old.page.body.items (ram self.old) (image_in N.view.flash self.old)) self.old self.new }
     {
         let old_row = self.row_of_key(Key::Sector(sector));
         self.replace(kind, sector, old_row)?;

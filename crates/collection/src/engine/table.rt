@@ -8,7 +8,7 @@ ghost use Rattle.collection.specs.Truth.{IsTrue};
 ghost use Rattle.collection.specs.Cost.{PageCosts};
 ghost use Rattle.collection.specs.Results.{IsLastPage, IsTabled, Refused, Goes, KeepsTable};
 ghost use Rattle.collection.specs.Acts.{EngineActs, Stands, OnlyPrograms};
-ghost use Rattle.collection.specs.Stops.{StopsSafely};
+ghost use Rattle.collection.specs.Stops.{CutsSafely, StopsSafely};
 
 use super::Engine;
 use crate::fault::{EngineFault, WriteFault};
@@ -36,6 +36,8 @@ impl<N: Nand> Engine<N> {
             (Refused (ram self.old) (image_in N.view.flash self.old) (ram self.new) (image_in N.view.flash self.new)) }
         ensures stops { N.view.honest self.old.nand ≡ true → IsTrue None (ram self.old) (image_in N.view.flash self.old) →
             result ≢ Err EngineFault.Bus → StopsSafely N.view self.old self.new }
+        ensures cut { N.view.honest self.old.nand ≡ true → IsTrue None (ram self.old) (image_in N.view.flash self.old) →
+            result ≡ Err EngineFault.Bus → CutsSafely N.view self.old self.new }
     {
         write_table_page(self.blocks.table(), u, &mut self.page.body);
         let old_row = self.row_of_key(Key::Table(u));
@@ -73,6 +75,8 @@ impl<N: Nand> Engine<N> {
             (Refused (ram self.old) (image_in N.view.flash self.old) (ram self.new) (image_in N.view.flash self.new)) }
         ensures stops { N.view.honest self.old.nand ≡ true → self.old.fault ≡ None → IsTrue None (ram self.old) (image_in N.view.flash self.old) →
             result ≢ Err EngineFault.Bus → StopsSafely N.view self.old self.new }
+        ensures cut { N.view.honest self.old.nand ≡ true → self.old.fault ≡ None → IsTrue None (ram self.old) (image_in N.view.flash self.old) →
+            result ≡ Err EngineFault.Bus → CutsSafely N.view self.old self.new }
     {
         self.standing()?;
         let answer = self.put_table(u);

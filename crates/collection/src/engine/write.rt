@@ -10,7 +10,7 @@ ghost use Rattle.collection.specs.Cost.{PageCosts};
 ghost use Rattle.collection.specs.Settle.{HasNoMore, HasSettled};
 ghost use Rattle.collection.specs.Results.{IsLastPage, IsWritten, Refused, Goes};
 ghost use Rattle.collection.specs.Acts.{Stands, OnlyPrograms};
-ghost use Rattle.collection.specs.Stops.{StopsSafely};
+ghost use Rattle.collection.specs.Stops.{Cuts, IsPutByStop, StopsSafely};
 
 use super::Engine;
 use super::look::clear;
@@ -51,6 +51,8 @@ impl<N: Nand> Engine<N> {
             (Refused (ram self.old) (image_in N.view.flash self.old) (ram self.new) (image_in N.view.flash self.new)) }
         ensures stops { N.view.honest self.old.nand ≡ true → self.old.fault ≡ None → IsTrue None (ram self.old) (image_in N.view.flash self.old) →
             result ≢ Err EngineFault.Bus → StopsSafely N.view self.old self.new }
+        ensures cut { N.view.honest self.old.nand ≡ true → self.old.fault ≡ None → IsTrue None (ram self.old) (image_in N.view.flash self.old) →
+            result ≡ Err EngineFault.Bus → Cuts N.view (IsPutByStop Kind.Sector sector body.now (ram self.old) (image_in N.view.flash self.old)) self.old self.new }
     {
         self.standing()?;
         self.page.body.copy_from_slice(body);
@@ -89,6 +91,8 @@ impl<N: Nand> Engine<N> {
             (Refused (ram self.old) (image_in N.view.flash self.old) (ram self.new) (image_in N.view.flash self.new)) }
         ensures stops { N.view.honest self.old.nand ≡ true → self.old.fault ≡ None → IsTrue None (ram self.old) (image_in N.view.flash self.old) →
             result ≢ Err EngineFault.Bus → StopsSafely N.view self.old self.new }
+        ensures cut { N.view.honest self.old.nand ≡ true → self.old.fault ≡ None → IsTrue None (ram self.old) (image_in N.view.flash self.old) →
+            result ≡ Err EngineFault.Bus → Cuts N.view (IsPutByStop Kind.Trim sector (zeros self.old.geometry) (ram self.old) (image_in N.view.flash self.old)) self.old self.new }
     {
         self.standing()?;
         clear(&mut self.page.body);

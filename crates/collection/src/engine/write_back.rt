@@ -13,7 +13,7 @@ ghost use Rattle.collection.specs.Looks.{IsLoaded, IsFilled, IsPadded, StartsFro
 ghost use Rattle.collection.specs.Settle.{Cleans, HasNoMore};
 ghost use Rattle.collection.specs.Results.{IsLastPage, IsWrittenBack, Refused, Goes};
 ghost use Rattle.collection.specs.Acts.{EngineLooks, EngineActs, Stands};
-ghost use Rattle.collection.specs.Stops.{StopsSafely};
+ghost use Rattle.collection.specs.Stops.{CutsSafely, StopsSafely};
 
 use super::Engine;
 use super::entries::{clear_entries, fill_entries};
@@ -91,6 +91,8 @@ impl<N: Nand> Engine<N> {
             (Refused (ram self.old) (image_in N.view.flash self.old) (ram self.new) (image_in N.view.flash self.new)) }
         ensures stops { N.view.honest self.old.nand ≡ true → IsTrue None (ram self.old) (image_in N.view.flash self.old) →
             result ≢ Err EngineFault.Bus → StopsSafely N.view self.old self.new }
+        ensures cut { N.view.honest self.old.nand ≡ true → IsTrue None (ram self.old) (image_in N.view.flash self.old) →
+            result ≡ Err EngineFault.Bus → CutsSafely N.view self.old self.new }
     {
         let row = self.directory.row_of(t);
         self.fill_translation(t, row)?;
@@ -144,6 +146,8 @@ impl<N: Nand> Engine<N> {
             (Refused (ram self.old) (image_in N.view.flash self.old) (ram self.new) (image_in N.view.flash self.new)) }
         ensures stops { N.view.honest self.old.nand ≡ true → self.old.fault ≡ None → IsTrue None (ram self.old) (image_in N.view.flash self.old) →
             result ≢ Err EngineFault.Bus → StopsSafely N.view self.old self.new }
+        ensures cut { N.view.honest self.old.nand ≡ true → self.old.fault ≡ None → IsTrue None (ram self.old) (image_in N.view.flash self.old) →
+            result ≡ Err EngineFault.Bus → CutsSafely N.view self.old self.new }
     {
         self.standing()?;
         let answer = self.write_page_back(t);

@@ -5,6 +5,7 @@ use Rattle.collection.proofs.Acts.{acts_ok, acts_err}
 use Rattle.collection.proofs.Turns.{ok_told, ok_erased, copied_told, told_erases, calm_on, stepped_on, steps_on}
 use Rattle.collection.proofs.Looks.{ok_not_bus}
 use Rattle.collection.proofs.Costs.{not_bus}
+use Rattle.collection.proofs.Steps.{err_same}
 use Rattle.collection.proofs.engine.Engine.advance.Goals as goal
 
 pub returns-in_err-progress-clause-acts : goal.returns-in_err-progress-clause-acts
@@ -68,3 +69,10 @@ returns-in_err-progress-clause-stops g c =
 
 pub returns-clause-stops : goal.returns-clause-stops
 returns-clause-stops g c = λ honest w passed ne. c.in_ok-progress.ensures.stops honest w passed (ok_not_bus _)
+
+-- ---- what a fault of the die leaves
+
+pub returns-in_err-progress-clause-cut : goal.returns-in_err-progress-clause-cut
+returns-in_err-progress-clause-cut g c =
+    let p = err_from_is_err_and c.from_residual.result c.from_residual.ensures.1 in
+    rw (p.1, p.2) (λ honest w passed is. c.in_err-progress.ensures.cut honest w passed (err_same _ _ is))

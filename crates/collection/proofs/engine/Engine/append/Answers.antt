@@ -1,6 +1,7 @@
 use Rattle.collection.specs.Safe.{ram}
 use Rattle.collection.proofs.Appends.{may_append, appended, has_settled, moved_still}
 use Rattle.std.proofs.lemmas.Result.{err_from_is_err_and}
+use Rattle.collection.proofs.Steps.{err_same}
 use Rattle.collection.proofs.Looks.{ok_not_bus}
 use Rattle.collection.proofs.Costs.{not_bus}
 use Rattle.collection.proofs.engine.Engine.append.Goals as goal
@@ -27,3 +28,10 @@ returns-in_err-replace-clause-stops g c =
 
 pub returns-clause-stops : goal.returns-clause-stops
 returns-clause-stops g c = λ honest w ne. c.in_ok-replace.ensures.stops honest (may_append (ram c.args.self.now) _ c.args.kind c.args.sector c.row_of_key-old_row.result _ w c.requires.kind (c.row_of_key-old_row.ensures.newest _ w)) (ok_not_bus _)
+
+-- ---- what a fault of the die leaves
+
+pub returns-in_err-replace-clause-cut : goal.returns-in_err-replace-clause-cut
+returns-in_err-replace-clause-cut g c =
+    let p = err_from_is_err_and c.from_residual.result c.from_residual.ensures.1 in
+    rw (p.1, p.2) (λ honest w e. c.in_err-replace.ensures.cut honest (may_append (ram c.args.self.now) _ c.args.kind c.args.sector c.row_of_key-old_row.result _ w c.requires.kind (c.row_of_key-old_row.ensures.newest _ w)) (err_same _ _ e))

@@ -3,6 +3,7 @@ use Rattle.collection.specs.Safe.{ram}
 use Rattle.collection.proofs.HalfDone.{true_from, but_from, refreshes_from, emptied_from, counts_from, cost_from, acts_from, idle_half, sparing_from, idle_law, passed_none, idle_few}
 use Rattle.collection.proofs.Stops.{stops_sized}
 use Rattle.std.proofs.Common.{refl}
+use Rattle.collection.proofs.Cuts.{cut_sized}
 use Rattle.collection.proofs.engine.Engine.collect_block.Goals as goal
 
 pub collect_from-requires-clause-half_done : goal.collect_from-requires-clause-half_done
@@ -61,3 +62,11 @@ returns-clause-stops g c = λ honest w ne. stops_sized (ram c.args.self.now) _ _
     (c.collect_from.ensures.stops honest
     (true_from (ram c.args.self.now) (ram c.args.self.now) (Some (record { block = c.args.block; first = 0 })) None _ w)
     (passed_none (ram c.args.self.now) _ c.args.block) ne)
+
+-- ---- what a fault of the die leaves
+
+pub returns-clause-cut : goal.returns-clause-cut
+returns-clause-cut g c = λ honest w is. cut_sized (ram c.args.self.now) _ _ _ _ (record { geometry = refl; capacity = refl })
+    (c.collect_from.ensures.cut honest
+    (true_from (ram c.args.self.now) (ram c.args.self.now) (Some (record { block = c.args.block; first = 0 })) None _ w)
+    (passed_none (ram c.args.self.now) _ c.args.block) is)

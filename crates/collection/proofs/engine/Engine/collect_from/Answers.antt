@@ -17,6 +17,8 @@ use Rattle.promises.proofs.StopLemmas.{leaves_nothing}
 use Rattle.collection.proofs.Stops.{same_left, stops_then, IsSized}
 use Rattle.collection.proofs.Looks.{ok_not_bus}
 use Rattle.collection.proofs.Costs.{not_bus}
+use Rattle.collection.proofs.Cuts.{cut_after}
+use Rattle.collection.proofs.Steps.{err_same}
 use Rattle.collection.proofs.engine.Engine.collect_from.Goals as goal
 
 pub steps-init : goal.steps-init
@@ -273,3 +275,16 @@ returns-in_default-clause-stops g c = λ honest w passed ne.
     let sized : IsSized (ram c.args.self.now) (ram c.steps.self) = record { geometry = i.goes.geometry; capacity = i.keys.limits.capacity } in
     let now = i.acts.honest_is ∙ honest in
     stops_then (ram c.args.self.now) (ram c.steps.self) _ _ _ _ _ _ sized so.same.array before (c.in_ok-step.ensures.stops now so.same.truth (let n = so.none in rw i.goes.geometry n) (ok_not_bus _))
+
+-- ---- what a fault of the die leaves
+
+pub returns-in_err-step-clause-cut : goal.returns-in_err-step-clause-cut
+returns-in_err-step-clause-cut g c =
+    let p = err_from_is_err_and c.from_residual.result c.from_residual.ensures.1 in
+    rw (p.1, p.2) (λ honest w passed is.
+    let i = c.steps.invariant in
+    let so = i.under_way.truth (honest, w, passed) in
+    let before = i.stops honest w passed in
+    let sized : IsSized (ram c.args.self.now) (ram c.steps.self) = record { geometry = i.goes.geometry; capacity = i.keys.limits.capacity } in
+    let now = i.acts.honest_is ∙ honest in
+    cut_after (ram c.args.self.now) (ram c.steps.self) _ _ _ _ _ sized so.same.array before (c.in_err-step.ensures.cut now so.same.truth (let n = so.none in rw i.goes.geometry n) (err_same _ _ is)))

@@ -13,7 +13,8 @@ use Rattle.collection.proofs.Steps.{at_start, err_same, goes_but, found_none, no
 use Rattle.collection.proofs.Stops.{stops_then, fault_not_bus, IsSized}
 use Rattle.collection.proofs.Looks.{ok_not_bus}
 use Rattle.collection.proofs.Costs.{not_bus}
-use Rattle.collection.specs.Stops.{Stops, IsLeftByStop}
+use Rattle.collection.specs.Stops.{Stops, IsLeftByStop, CutsSafely}
+use Rattle.collection.proofs.Cuts.{cut_after}
 use Rattle.collection.proofs.engine.Engine.collect_step.Goals as goal
 
 -- ---- a translation page could not be written
@@ -167,3 +168,37 @@ returns-clause-stops g c = λ honest w none_in ne.
     (λ e. Stops g.N.PageSource.view
     (IsLeftByStop (ram e) (image_in g.N.PageSource.view.flash e) (image_in g.N.PageSource.view.flash c.erase_block.new.self)) e
     c.erase_block.new.self) none.1 erased)
+
+-- ---- what a fault of the die leaves
+
+pub returns-in_err-copied-clause-cut : goal.returns-in_err-copied-clause-cut
+returns-in_err-copied-clause-cut g c =
+    let p = err_from_is_err_and c.from_residual.result c.from_residual.ensures.1 in
+    rw (p.1, p.2) (λ honest w none_in is. c.in_err-copied.ensures.cut honest w (err_same _ _ is))
+
+pub returns-in_err-written-clause-cut : goal.returns-in_err-written-clause-cut
+returns-in_err-written-clause-cut g c =
+    let p = err_from_is_err_and c.from_residual-in_err-written.result c.from_residual-in_err-written.ensures.1 in
+    rw (p.1, p.2) (λ honest w none_in is.
+    let is_none = none_from c.in_ok-copied.copied c.in_default.not-Some in
+    let first = found_none c.args.block (ram c.args.self.now) (ram c.copy_lowest.new.self) _ _ c.in_ok-copied.copied (c.in_ok-copied.ensures.truth honest w none_in) is_none in
+    let sized : IsSized (ram c.args.self.now) (ram c.copy_lowest.new.self) = record { geometry = c.copy_lowest.ensures.goes.geometry; capacity = c.copy_lowest.ensures.keys.limits.capacity } in
+    let now = c.copy_lowest.ensures.acts.honest_is ∙ honest in
+    cut_after (ram c.args.self.now) (ram c.copy_lowest.new.self) _ _ _ _ _ sized first.0.array (c.in_ok-copied.ensures.stops honest w (ok_not_bus _)) (c.in_err-written.ensures.cut now first.0.truth (err_same _ _ is)))
+
+pub returns-in_err-erase_block-clause-cut : goal.returns-in_err-erase_block-clause-cut
+returns-in_err-erase_block-clause-cut g c =
+    let p = err_from_is_err_and c.from_residual-in_err-erase_block.result c.from_residual-in_err-erase_block.ensures.1 in
+    rw (p.1, p.2) (λ honest w none_in is.
+    let same = c.in_ok-copied.ensures.none (ap Ok (none_from c.in_ok-copied.copied c.in_default.not-Some)) in
+    let none = c.in_ok-written.ensures.none (ap Ok c.if-written.false) in
+    let is_none = none_from c.in_ok-copied.copied c.in_default.not-Some in
+    let first = found_none c.args.block (ram c.args.self.now) (ram c.copy_lowest.new.self) _ _ c.in_ok-copied.copied (c.in_ok-copied.ensures.truth honest w none_in) is_none in
+    let sized : IsSized (ram c.args.self.now) (ram c.copy_lowest.new.self) = record { geometry = c.copy_lowest.ensures.goes.geometry; capacity = c.copy_lowest.ensures.keys.limits.capacity } in
+    let now = c.copy_lowest.ensures.acts.honest_is ∙ honest in
+    let held = none_now c.args.block (ram c.args.self.now) (ram c.copy_lowest.new.self) _ _ same c.copy_lowest.ensures.goes c.requires.closed c.requires.block first in
+    let erased = c.in_err-erase_block.ensures.cut (c.write_back_lowest.ensures.acts.honest_is ∙ now)
+    (subst (λ e. IsTrue None (ram e) (image_in g.N.PageSource.view.flash e)) (sym none.1) first.0.truth)
+    (subst (λ e. HoldsNone (ram e).geometry.pages c.args.block (image_in g.N.PageSource.view.flash e)) (sym none.1) held) (err_same _ _ is) in
+    cut_after (ram c.args.self.now) (ram c.copy_lowest.new.self) _ _ _ _ _ sized first.0.array (c.in_ok-copied.ensures.stops honest w (ok_not_bus _))
+    (subst (λ e. CutsSafely g.N.PageSource.view e c.erase_block.new.self) none.1 erased))

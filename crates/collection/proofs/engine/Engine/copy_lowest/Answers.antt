@@ -10,6 +10,8 @@ use Rattle.collection.proofs.Turns.{touched_from}
 use Rattle.promises.proofs.StopLemmas.{leaves_nothing}
 use Rattle.collection.proofs.Stops.{same_left, leaves_still, stops_looked, fault_not_bus, live_known}
 use Rattle.collection.proofs.Costs.{not_bus}
+use Rattle.collection.proofs.Cuts.{cut_read, cut_looking}
+use Rattle.collection.proofs.Steps.{err_same}
 use Rattle.collection.proofs.engine.Engine.copy_lowest.Goals as goal
 
 pub returns-then-live-eq0-clause-truth : goal.returns-then-live-eq0-clause-truth
@@ -96,3 +98,33 @@ returns-clause-stops g c = λ honest w ne.
 
 pub returns-then-live-eq0-clause-acts : goal.returns-then-live-eq0-clause-acts
 returns-then-live-eq0-clause-acts g c = acts_ok _ _ tt None (acts_same c.args.self.now c.requires.safe)
+
+-- ---- what a fault of the die leaves
+
+pub returns-in_err-live-clause-cut : goal.returns-in_err-live-clause-cut
+returns-in_err-live-clause-cut g c =
+    let p = err_from_is_err_and c.from_residual.result c.from_residual.ensures.1 in
+    rw (p.1, p.2) (λ honest w is. cut_read (ram c.args.self.now) _ _ _ c.requires.safe.memory w (c.in_err-live.ensures.looks.cut honest (err_same _ _ is)))
+
+pub returns-in_err-copy_page-clause-cut : goal.returns-in_err-copy_page-clause-cut
+returns-in_err-copy_page-clause-cut g c =
+    let p = err_from_is_err_and c.from_residual-in_err-copy_page.result c.from_residual-in_err-copy_page.ensures.1 in
+    rw (p.1, p.2) (λ honest w is.
+    let a = ram c.args.self.now in
+    let b = ram c.first_live.new.self in
+    let looks = c.in_ok-live.ensures.looks in
+    let still = looks.same honest (ok_not_bus _) in
+    let known = live_known a b _ _ c.args.block c.args.first c.in-Some.page c.row-row.result c.in-Some.found _ c.in_ok-live.live w looks.memory
+    (ap (λ f. f.image) still) c.row-row.ensures.is (c.in_ok-live.ensures.truth honest w) c.in-Some.is in
+    cut_looking a b _ _ _ _ _ looks.memory still (looks.told honest (ok_not_bus _)) (c.in_err-copy_page.ensures.cut (looks.only_reads.honest_is ∙ honest) known.0 known.1 (err_same _ _ is)))
+
+-- ---- copied
+
+pub returns-clause-acts : goal.returns-clause-acts
+returns-clause-acts g c = acts_then _ _ _ _ _ (ap (λ r. r.geometry) c.first_live.ensures.looks.memory) (looked _ _ _ c.in_ok-live.ensures.looks) (acts_ok _ _ _ _ c.in_ok-copy_page.ensures.acts)
+
+pub returns-clause-within : goal.returns-clause-within
+returns-clause-within g c = λ page is.
+    let same : c.in-Some.page ≡ page = cc in
+    let within = c.in_ok-live.ensures.within (c.in-Some.page, c.in-Some.found) c.in-Some.is in
+    (omega (arith, same, within.0), omega (arith, same, within.1))

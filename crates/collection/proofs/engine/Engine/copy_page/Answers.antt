@@ -8,6 +8,8 @@ use Rattle.collection.proofs.Copies.{pin_marked, followed}
 use Rattle.collection.proofs.Lefts.{copied_touches}
 use Rattle.collection.proofs.Looks.{ok_not_bus}
 use Rattle.collection.proofs.Costs.{not_bus}
+use Rattle.collection.proofs.Cuts.{cut_put, copied_array}
+use Rattle.collection.proofs.Steps.{err_same}
 use Rattle.collection.proofs.engine.Engine.copy_page.Goals as goal
 
 pub returns-in_err-replace-clause-truth : goal.returns-in_err-replace-clause-truth
@@ -79,3 +81,15 @@ returns-in_err-replace-clause-stops g c =
 
 pub returns-clause-stops : goal.returns-clause-stops
 returns-clause-stops g c = λ honest w live ne. rw c.mark.ensures.nand (c.in_ok-replace.ensures.stops honest (may_copy (ram c.args.self.now) _ c.args.row c.args.found.now _ w c.requires.key live) (ok_not_bus _))
+
+-- ---- what a fault of the die leaves
+
+pub returns-in_err-replace-clause-cut : goal.returns-in_err-replace-clause-cut
+returns-in_err-replace-clause-cut g c =
+    let p = err_from_is_err_and c.from_residual.result c.from_residual.ensures.1 in
+    rw (p.1, p.2) (λ honest w live is.
+    let r = ram c.args.self.now in
+    let old = (g.N.PageSource.view.flash c.args.self.now.nand).image in
+    let body = c.args.self.now.page.body.items in
+    cut_put c.args.found.now.kind c.args.found.now.number body r _ _ _ (copied_array r.geometry old c.args.row c.args.found.now body c.requires.key live)
+    (c.in_err-replace.ensures.cut honest (may_copy r _ c.args.row c.args.found.now _ w c.requires.key live) (err_same _ _ is)))

@@ -3,6 +3,7 @@ use Rattle.std.proofs.lemmas.List.{length-replicate}
 use Rattle.page_layout.specs.Flash.{Erase, Steps, block_at}
 use Rattle.page_layout.specs.Recording.{Records}
 use Rattle.page_layout.specs.Page.{IsImage}
+use Rattle.page_layout.proofs.AskedLemmas.{asks_one}
 use Rattle.onfi_cycles.specs.declared.nand.Outcome.TheVariants.{Passed, Failed}
 use Rattle.onfi_cycles.specs.Outcomes.{is_passed}
 use Rattle.allocation.specs.View.{state}
@@ -11,6 +12,7 @@ use Rattle.collection.proofs.Looks.{ok_not_bus}
 use Rattle.collection.proofs.Programs.{at_outcome}
 use Rattle.collection.proofs.Erases.{ended_by, cleared_ram, cleared_goes, released, went_erase, ended_kept, closed_good}
 use Rattle.collection.proofs.Stops.{erase_stops}
+use Rattle.collection.proofs.Cuts.{erase_cut}
 use Rattle.collection.proofs.engine.Engine.erase_block.Goals as goal
 
 pub retire-requires-clause-good : goal.retire-requires-clause-good
@@ -39,6 +41,7 @@ returns-in-Ok-Passed-clause-acts g c = record {
   fault = refl;
   honest_is = c.erase.ensures.honest;
   calm_is = c.erase.ensures.calm;
+  asked = asks_one g.N.PageSource.view.called c.args.self.now.nand c.erase.new.self _ c.erase.ensures.called;
   failed_is = c.erase.ensures.failed;
   rose = λ e. absurd (ok_not_bus _ e);
   went = λ honest _.
@@ -111,6 +114,7 @@ returns-in-Ok-Failed-clause-acts g c = record {
   fault = refl;
   honest_is = c.erase.ensures.honest;
   calm_is = c.erase.ensures.calm;
+  asked = asks_one g.N.PageSource.view.called c.args.self.now.nand c.erase.new.self _ c.erase.ensures.called;
   failed_is = c.erase.ensures.failed;
   rose = λ e. absurd (ok_not_bus _ e);
   went = λ honest _.
@@ -174,3 +178,20 @@ returns-in-Ok-Failed-clause-stops g c = λ honest w none ne. erase_stops (ram c.
 
 pub returns-in-Err-clause-stops : goal.returns-in-Err-clause-stops
 returns-in-Err-clause-stops g c = λ honest w none ne. absurd (ne refl)
+
+-- ---- what a fault of the die leaves
+
+pub returns-in-Err-clause-cut : goal.returns-in-Err-clause-cut
+returns-in-Err-clause-cut g c = λ honest w none is. erase_cut (ram c.args.self.now) c.args.block _ _ _ c.requires.safe.geometry c.requires.block c.requires.safe.memory w none (c.in-Err.ensures.cut honest)
+
+pub returns-in-Err-clause-acts : goal.returns-in-Err-clause-acts
+returns-in-Err-clause-acts g c = record {
+  safe = record { memory = c.requires.safe.memory; geometry = c.erase.ensures.geometry ∙ c.requires.safe.geometry; page = c.requires.safe.page; scratch = c.requires.safe.scratch };
+  fault = refl;
+  honest_is = c.erase.ensures.honest;
+  calm_is = c.erase.ensures.calm;
+  asked = asks_one g.N.PageSource.view.called c.args.self.now.nand c.erase.new.self _ c.erase.ensures.called;
+  failed_is = c.erase.ensures.failed;
+  rose = λ e. c.in-Err.ensures.rose;
+  went = λ honest ne. absurd (ne refl);
+}

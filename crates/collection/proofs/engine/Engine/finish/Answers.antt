@@ -58,3 +58,8 @@ returns-in_default-clause-stops g c = λ honest w passed ne. leaves_nothing _ _ 
 
 pub returns-in_default-2-clause-stops : goal.returns-in_default-2-clause-stops
 returns-in_default-2-clause-stops g c = λ honest w passed ne. leaves_nothing _ _ _ (same_left (ram c.args.self.now) _ _ c.requires.safe.memory w)
+
+-- ---- what a fault of the die leaves
+
+pub returns-in-Some-clause-cut : goal.returns-in-Some-clause-cut
+returns-in-Some-clause-cut g c = λ honest w passed is. c.collect_from.ensures.cut honest w (passed c.in-Some.pinned c.in-Some.is) is

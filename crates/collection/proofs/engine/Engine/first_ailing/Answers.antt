@@ -1,10 +1,11 @@
 use Rattle.std.proofs.Common.{◌∙◌, ◌+◌, ◌*◌, ap, sym, subst, arith}
+use Rattle.std.proofs.lemmas.Result.{err_from_is_err_and}
 use Rattle.collection.specs.Safe.{ram}
 use Rattle.collection.proofs.Rescues.{found_at, true_over, looked_through, ailing_more, first_by, row_found}
 use Rattle.bad_blocks.specs.Table.{is_good_at}
 use Rattle.collection.specs.Collect.{IsFirstAiling}
 use Rattle.allocation.specs.State.{live_at}
-use Rattle.collection.proofs.Acts.{looks_then, looks_ok}
+use Rattle.collection.proofs.Acts.{looks_same, looks_then, looks_ok, looks_err}
 use Rattle.collection.proofs.Looks.{ok_not_bus}
 use Rattle.collection.proofs.engine.Engine.first_ailing.Goals as goal
 
@@ -55,3 +56,16 @@ returns-in-Some-clause-truth g c = λ honest w.
     (subst
     (λ z. IsFirstAiling z.blocks c.row.result c.first_live.new.self.page.body.items c.in-Some.found
     (g.N.PageSource.view.flash c.numbers.self.nand).image) i.looks.memory first)
+
+-- ---- the looks of each block, one after another
+
+pub numbers-init : goal.numbers-init
+numbers-init g c = record { looks = looks_same c.args.self.now c.requires.safe; truth = λ honest w b lt. absurd (omega arith) }
+
+pub returns-in_err-live-clause-looks : goal.returns-in_err-live-clause-looks
+returns-in_err-live-clause-looks g c =
+    let p = err_from_is_err_and c.from_residual.result c.from_residual.ensures.1 in
+    rw (p.1, p.2) (looks_then _ _ _ tt _ c.numbers.invariant.looks (looks_err _ _ _ c.in_err-live.ensures.looks))
+
+pub returns-in-Some-clause-looks : goal.returns-in-Some-clause-looks
+returns-in-Some-clause-looks g c = looks_then _ _ _ tt _ c.numbers.invariant.looks (looks_ok _ _ _ _ c.in_ok-live.ensures.looks)

@@ -32,3 +32,8 @@ pub returns-clause-truth : goal.returns-clause-truth
 returns-clause-truth g c = λ honest w.
     followed_result c.args.key c.in-Sector.n c.entries.result (ram c.args.self.now) (ram c.write_page_back.new.self) _ _ c.write_page_back.result
     c.in-Sector.is (none_if _ (sym c.is_cached.ensures ∙ c.if-is_cached.false)) c.entries.ensures (c.write_page_back.ensures.truth honest w)
+
+-- ---- what a fault of the die leaves
+
+pub returns-clause-cut : goal.returns-clause-cut
+returns-clause-cut g c = λ honest w is. c.write_page_back.ensures.cut honest w is

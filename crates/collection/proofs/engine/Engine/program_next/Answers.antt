@@ -3,6 +3,8 @@ use Rattle.std.proofs.lemmas.List.{with_items_is}
 use Rattle.page_layout.specs.Page.{page}
 use Rattle.page_layout.specs.Sound.{record_of}
 use Rattle.page_layout.specs.Change.{Writes, ProgramMeans}
+use Rattle.page_layout.specs.DieCalls.{AskedNothing}
+use Rattle.page_layout.proofs.AskedLemmas.{asks_one}
 use Rattle.onfi_cycles.specs.declared.nand.Outcome.TheVariants.{Passed, Failed}
 use Rattle.onfi_cycles.specs.Outcomes.{is_passed}
 use Rattle.bad_blocks.specs.Table.{wear_at}
@@ -12,6 +14,7 @@ use Rattle.allocation.specs.View.{state}
 use Rattle.collection.specs.Safe.{ram}
 use Rattle.collection.specs.Results.{IsStep}
 use Rattle.collection.proofs.Programs.{at_outcome, buffer_spare}
+use Rattle.collection.proofs.HalfPuts.{try_cut}
 use Rattle.collection.proofs.Looks.{ok_not_bus}
 use Rattle.collection.proofs.Memory.{taken_outside}
 use Rattle.collection.proofs.Attempts.{taken_by, taken_good, next_record, step_others, asked_ram, asked_goes, failed_ram, failed_goes, failed_cost}
@@ -34,6 +37,7 @@ returns-in_default-clause-acts g c = record {
   fault = refl;
   honest_is = refl;
   calm_is = refl;
+  asked = AskedNothing;
   failed_is = omega arith;
   rose = λ e. (let never : ⊥ = cc in absurd never);
   went = λ honest _. read_went (ram c.args.self.now) _ _ _ _ _ (ap (λ (s : State). record (ram c.args.self.now) { blocks = s }) c.in_default.ensures.none.1) refl refl;
@@ -56,6 +60,7 @@ returns-in-Ok-Passed-clause-acts g c =
       fault = refl;
       honest_is = c.program_record.ensures.honest;
       calm_is = c.program_record.ensures.calm;
+      asked = asks_one g.N.PageSource.view.called c.args.self.now.nand c.program_record.new.nand _ c.program_record.ensures.called;
       failed_is = c.program_record.ensures.failed;
       rose = λ e. absurd (ok_not_bus _ e);
       went = λ honest _.
@@ -136,6 +141,7 @@ returns-in-Ok-Failed-clause-acts g c =
       fault = refl;
       honest_is = c.program_record.ensures.honest;
       calm_is = c.program_record.ensures.calm;
+      asked = asks_one g.N.PageSource.view.called c.args.self.now.nand c.program_record.new.nand _ c.program_record.ensures.called;
       failed_is = c.program_record.ensures.failed;
       rose = λ e. absurd (ok_not_bus _ e);
       went = λ honest _.
@@ -198,6 +204,7 @@ returns-in-Err-clause-acts g c =
       fault = refl;
       honest_is = c.program_record.ensures.honest;
       calm_is = c.program_record.ensures.calm;
+      asked = asks_one g.N.PageSource.view.called c.args.self.now.nand c.program_record.new.nand _ c.program_record.ensures.called;
       failed_is = c.program_record.ensures.failed;
       rose = λ e. c.in-Err.ensures.rose;
       went = λ honest ne. absurd (ne refl);
@@ -239,3 +246,16 @@ returns-in-Ok-Failed-clause-stops g c = λ honest may ne.
 
 pub returns-in-Err-clause-stops : goal.returns-in-Err-clause-stops
 returns-in-Err-clause-stops g c = λ honest may ne. absurd (ne refl)
+
+-- ---- what a fault of the die leaves
+
+pub returns-in-Err-clause-cut : goal.returns-in-Err-clause-cut
+returns-in-Err-clause-cut g c = λ honest may e.
+    let r = ram c.args.self.now in
+    let t = state c.take_row.new.self in
+    let before = g.N.PageSource.view.flash c.args.self.now.nand in
+    let b = c.split_row-block.result.0 in
+    let row = c.in-Some.row in
+    let is = taken_by r c.of.result row b t c.requires.safe.memory c.in-Some.ensures.some c.split_row-block.ensures.block_is in
+    let can = may_program c.of.result b row r t c.requires.safe.memory is c.args.kind c.args.number c.args.old_row c.args.self.now.page.body.items before.image may c.requires.key c.wear.result in
+    try_cut c.args.kind c.args.number row (next_record c.args.kind c.args.number c.args.self.now.next c.wear.result) c.args.self.now.page.body.items c.deref.result.now r.geometry _ _ _ refl refl c.requires.next c.deref.ensures.value (c.in-Err.ensures.cut honest can)

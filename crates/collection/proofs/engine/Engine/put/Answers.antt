@@ -1,6 +1,8 @@
 use Rattle.std.proofs.lemmas.Result.{err_from_is_err_and}
 use Rattle.std.proofs.Common.{rules}
 use Rattle.collection.specs.Safe.{ram, image_in}
+use Rattle.collection.specs.Stops.{IsKeptOrPut}
+use Rattle.collection.proofs.HalfPuts.{cut_bytes}
 use Rattle.collection.proofs.Puts.{array_result}
 use Rattle.collection.proofs.Gates.{result_noted}
 use Rattle.collection.proofs.Acts.{stands_still, is_standing, acts_noted, not_standing, acts_filled}
@@ -24,6 +26,12 @@ returns-clause-truth g c = λ honest none w fits.
 
 pub returns-clause-stops : goal.returns-clause-stops
 returns-clause-stops g c = λ honest none w fits. rw (c.noted.ensures.same, c.noted.ensures.noted) (λ ne. c.put_page-answer.ensures.stops honest (search rules) ne)
+
+-- ---- what a fault of the die leaves
+
+pub returns-clause-cut : goal.returns-clause-cut
+returns-clause-cut g c = λ honest none w fits. rw (c.noted.ensures.same, c.noted.ensures.noted) (λ e.
+    cut_bytes (λ bytes. IsKeptOrPut c.args.written.now.kind c.args.written.now.number bytes c.args.self.now.geometry (image_in g.N.PageSource.view.flash c.args.self.now)) _ _ _ _ _ c.copy_from_slice.ensures.items (c.put_page-answer.ensures.cut honest (search rules) e))
 
 -- ---- a fault stands
 

@@ -8,6 +8,8 @@ use Rattle.collection.proofs.Costs.{not_bus, not_tried, tried_again, has_put, tr
 use Rattle.collection.proofs.Puts.{kept_same, same_kept, kept_then, put_after, refused_then, outside_then, may_still, attempted_none, attempted_some}
 use Rattle.promises.proofs.StopLemmas.{leaves_nothing}
 use Rattle.collection.proofs.Looks.{ok_not_bus}
+use Rattle.collection.proofs.HalfPuts.{tries_cut}
+use Rattle.collection.proofs.Steps.{err_same}
 use Rattle.collection.proofs.Stops.{tries_then, all_kept, leaves_more}
 use Rattle.collection.proofs.engine.Engine.put_page.Goals as goal
 
@@ -112,3 +114,13 @@ returns-in-Some-clause-stops g c = λ honest may ne.
 
 pub returns-clause-stops : goal.returns-clause-stops
 returns-clause-stops g c = λ honest may ne. leaves_more _ _ _ _ _ _ (λ image k. inl k) (c.tries.invariant.stops honest may)
+
+-- ---- what a fault of the die leaves
+
+pub returns-in_err-tried-clause-cut : goal.returns-in_err-tried-clause-cut
+returns-in_err-tried-clause-cut g c =
+    let p = err_from_is_err_and c.from_residual.result c.from_residual.ensures.1 in
+    rw (p.1, p.2) (λ honest may e.
+    let kept = c.tries.invariant.truth honest may in
+    let now = may_still c.args.kind c.args.number c.args.old_row _ _ _ _ _ _ may (ap (λ v. v.items) c.tries.invariant.page) c.tries.invariant.goes kept in
+    tries_cut c.args.kind c.args.number _ _ _ _ _ _ _ _ _ (ap (λ v. v.items) c.tries.invariant.page) c.tries.invariant.goes.goes.geometry kept.keeps (c.tries.invariant.stops honest may) (c.in_err-tried.ensures.cut (c.tries.invariant.acts.honest_is ∙ honest) now (err_same _ _ e)))

@@ -6,6 +6,8 @@ use Rattle.collection.specs.Safe.{ram, image_in}
 use Rattle.collection.proofs.Tables.{spelled_by, may_table, tabled}
 use Rattle.collection.proofs.Looks.{ok_not_bus}
 use Rattle.collection.proofs.Costs.{not_bus}
+use Rattle.collection.proofs.Cuts.{cut_table}
+use Rattle.collection.proofs.Steps.{err_same}
 use Rattle.collection.proofs.engine.Engine.put_table.Goals as goal
 
 pub returns-in_err-replace-clause-truth : goal.returns-in_err-replace-clause-truth
@@ -60,3 +62,18 @@ returns-clause-stops g c = λ honest w ne. c.in_ok-replace.ensures.stops honest
     ∙ spelled_by c.deref_mut.result.now c.args.self.now.page.body.items c.args.self.now.geometry c.table.result.now
     (state c.args.self.now.blocks).table c.args.u c.deref_mut.ensures.value c.requires.safe.page.body c.table.ensures))
     (c.row_of_key-old_row.ensures.newest _ w)) (ok_not_bus _)
+
+-- ---- what a fault of the die leaves
+
+pub returns-in_err-replace-clause-cut : goal.returns-in_err-replace-clause-cut
+returns-in_err-replace-clause-cut g c =
+    let p = err_from_is_err_and c.from_residual.result c.from_residual.ensures.1 in
+    rw (p.1, p.2)
+    (λ honest w is. cut_table c.args.u _ (ram c.args.self.now) _ _ _ (c.in_err-replace.ensures.cut honest
+    (may_table (ram c.args.self.now) (image_in g.N.PageSource.view.flash c.args.self.now) c.args.u c.row_of_key-old_row.result _
+    c.requires.safe.memory w
+    (with_items_is c.args.self.now.page.body c.write_table_page.new.page (c.write_table_page.auto.page ∙ c.deref_mut.ensures.len)
+    ∙ (c.write_table_page.ensures
+    ∙ spelled_by c.deref_mut.result.now c.args.self.now.page.body.items c.args.self.now.geometry c.table.result.now
+    (state c.args.self.now.blocks).table c.args.u c.deref_mut.ensures.value c.requires.safe.page.body c.table.ensures))
+    (c.row_of_key-old_row.ensures.newest _ w)) (err_same _ _ is)))

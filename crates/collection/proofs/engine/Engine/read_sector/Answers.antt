@@ -1,7 +1,9 @@
 use Rattle.std.proofs.Common.{slice_get, Some, refl, ap, sym, subst, ◌∙◌}
+use Rattle.std.proofs.lemmas.Result.{err_from_is_err_and}
 use Rattle.page_layout.specs.Page.{page}
 use Rattle.collection.specs.Safe.{ram, page_in}
 use Rattle.collection.specs.Looks.{FindsRow}
+use Rattle.collection.proofs.Acts.{looks_read, looks_then, looks_ok, looks_err}
 use Rattle.collection.proofs.Looks.{none_from, ok_not_bus, read_none, read_some, gives_none, gives_some, finds_row}
 use Rattle.collection.proofs.engine.Engine.read_sector.Goals as goal
 
@@ -33,3 +35,17 @@ pub returns-clause-checked : goal.returns-clause-checked
 returns-clause-checked g c = gives_some c.args.self.now.geometry c.args.sector c.in-Some.row (Some c.in-Some.row) (page_in c.read_of.new.buffer)
     c.in_ok-written.written _ c.deref.result.now _ refl c.in_ok-written.ensures.checked c.deref.ensures.value c.copy_sector.ensures.sector
     c.copy_sector.ensures.others c.requires.whole
+
+-- ---- the row was found, and then its page read
+
+pub returns-in_err-written-clause-looks : goal.returns-in_err-written-clause-looks
+returns-in_err-written-clause-looks g c =
+    let p = err_from_is_err_and c.from_residual-in_err-written.result c.from_residual-in_err-written.ensures.1 in
+    rw (p.1, p.2) (looks_then _ _ _ _ _ c.in_ok-found.ensures.looks (looks_err _ _ _
+    (looks_read c.row_of_sector.new.self c.read_of.new.nand c.read_of.new.buffer _ c.row_of_sector.ensures.looks.safe c.read_of.ensures.buffer
+    c.read_of.ensures.only_reads c.read_of.ensures.asked c.in_err-written.ensures.faults c.in_err-written.ensures.rose c.in_err-written.ensures.same c.in_err-written.ensures.told c.in_err-written.ensures.cut)))
+
+pub returns-clause-looks : goal.returns-clause-looks
+returns-clause-looks g c = looks_then _ _ _ _ _ c.in_ok-found.ensures.looks (looks_ok _ _ _ _
+    (looks_read c.row_of_sector.new.self c.read_of.new.nand c.read_of.new.buffer _ c.row_of_sector.ensures.looks.safe c.read_of.ensures.buffer
+    c.read_of.ensures.only_reads c.read_of.ensures.asked c.in_ok-written.ensures.faults c.in_ok-written.ensures.rose c.in_ok-written.ensures.same c.in_ok-written.ensures.told c.in_ok-written.ensures.cut))

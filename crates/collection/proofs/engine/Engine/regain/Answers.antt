@@ -8,6 +8,7 @@ use Rattle.collection.proofs.Copies.{keys_then, refreshes_then}
 use Rattle.collection.proofs.Rooms.{room_tells, on_then, erased_more, rearranged_then, room_refused, funded_then, refused_room, made_none, made_some, final_counts}
 use Rattle.collection.proofs.Made.{not_resting, enough_made}
 use Rattle.collection.proofs.Stops.{stops_then}
+use Rattle.collection.proofs.Cuts.{cut_after}
 use Rattle.collection.proofs.engine.Engine.regain.Goals as goal
 
 pub rounds-init : goal.rounds-init
@@ -131,3 +132,18 @@ returns-in_err-collect_block-clause-stops g c =
     let i = c.rounds.invariant in
     let k = i.makes.truth honest w passed in
     stops_then (ram c.args.self.now) (ram c.rounds.self) _ _ _ _ _ _ (record { geometry = i.makes.goes.geometry; capacity = i.makes.keys.limits.capacity }) k.array (i.stops honest w passed) (c.in_err-collect_block.ensures.stops (i.acts.honest_is ∙ honest) k.truth ne))
+
+-- ---- what a fault of the die leaves
+
+pub returns-in_err-finish-clause-cut : goal.returns-in_err-finish-clause-cut
+returns-in_err-finish-clause-cut g c =
+    let p = err_from_is_err_and c.from_residual.result c.from_residual.ensures.1 in
+    rw (p.1, p.2) (λ honest w passed is. c.in_err-finish.ensures.cut honest w passed is)
+
+pub returns-in_err-collect_block-clause-cut : goal.returns-in_err-collect_block-clause-cut
+returns-in_err-collect_block-clause-cut g c =
+    let p = err_from_is_err_and c.from_residual-in_err-collect_block.result c.from_residual-in_err-collect_block.ensures.1 in
+    rw (p.1, p.2) (λ honest w passed is.
+    let i = c.rounds.invariant in
+    let k = i.makes.truth honest w passed in
+    cut_after (ram c.args.self.now) (ram c.rounds.self) _ _ _ _ _ (record { geometry = i.makes.goes.geometry; capacity = i.makes.keys.limits.capacity }) k.array (i.stops honest w passed) (c.in_err-collect_block.ensures.cut (i.acts.honest_is ∙ honest) k.truth is))

@@ -6,6 +6,8 @@ use Rattle.collection.proofs.Settles.{settled_cost, replaced_by}
 use Rattle.std.proofs.Common.{sym, ◌∙◌, subst}
 use Rattle.std.proofs.lemmas.Result.{err_from_is_err_and}
 use Rattle.collection.proofs.Stops.{put_left, refused_same, sets_capacity, fault_not_bus}
+use Rattle.collection.proofs.HalfPuts.{put_cut}
+use Rattle.collection.proofs.Steps.{err_same}
 use Rattle.collection.proofs.Looks.{ok_not_bus}
 use Rattle.collection.proofs.Costs.{not_bus}
 use Rattle.collection.specs.Safe.{ram}
@@ -53,3 +55,11 @@ returns-clause-stops g c = λ honest may ne.
       geometry = c.settle.ensures.settles.geometry ∙ c.put_page.ensures.goes.goes.geometry;
       capacity = sets_capacity (key_from c.args.kind c.args.number) c.in_ok-row.row _ _ c.settle.ensures.settles.mapping ∙ ap (λ m. m.capacity) c.put_page.ensures.goes.mapping;
     }) c.requires.safe.memory c.settle.ensures.safe.memory may.truth now.truth stops
+
+-- ---- what a fault of the die leaves
+
+pub returns-in_err-row-clause-cut : goal.returns-in_err-row-clause-cut
+returns-in_err-row-clause-cut g c =
+    let p = err_from_is_err_and c.from_residual.result c.from_residual.ensures.1 in
+    rw (p.1, p.2) (λ honest may e.
+    put_cut c.args.kind c.args.number c.args.old_row _ (ram c.args.self.now) _ _ _ c.requires.safe.memory may c.requires.key c.requires.place (c.in_err-row.ensures.cut honest may (err_same _ _ e)))

@@ -15,6 +15,8 @@ use Rattle.promises.proofs.StopLemmas.{leaves_nothing}
 use Rattle.collection.proofs.Stops.{same_left, leaves_still, stops_looked, stops_then, fault_not_bus, IsSized}
 use Rattle.collection.proofs.Costs.{not_bus}
 use Rattle.collection.specs.declared.fault.EngineFault.TheVariants.{Damaged}
+use Rattle.collection.proofs.Cuts.{cut_read, cut_looking, cut_after}
+use Rattle.collection.proofs.Steps.{err_same}
 use Rattle.collection.proofs.engine.Engine.rescue.Goals as goal
 
 -- ---- the copy
@@ -207,3 +209,41 @@ returns-then-moved_count-pages-clause-stops g c = λ honest w ne. leaves_nothing
 
 pub returns-then-moved_count-pages-clause-acts : goal.returns-then-moved_count-pages-clause-acts
 returns-then-moved_count-pages-clause-acts g c = acts_end _ _ tt Damaged (λ e. (let no : ⊥ = cc in no)) (acts_same c.args.self.now c.requires.safe)
+
+-- ---- what a fault of the die leaves
+
+pub returns-in_err-ailing-clause-cut : goal.returns-in_err-ailing-clause-cut
+returns-in_err-ailing-clause-cut g c =
+    let p = err_from_is_err_and c.from_residual.result c.from_residual.ensures.1 in
+    rw (p.1, p.2) (λ honest w is. cut_read (ram c.args.self.now) _ _ _ c.requires.safe.memory w (c.in_err-ailing.ensures.looks.cut honest (err_same _ _ is)))
+
+pub returns-in_err-copy_page-clause-cut : goal.returns-in_err-copy_page-clause-cut
+returns-in_err-copy_page-clause-cut g c =
+    let p = err_from_is_err_and c.from_residual-in_err-copy_page.result c.from_residual-in_err-copy_page.ensures.1 in
+    rw (p.1, p.2) (λ honest w is.
+    let a = ram c.args.self.now in
+    let b = ram c.first_ailing.new.self in
+    let looks = c.in_ok-ailing.ensures.looks in
+    let still = looks.same honest (ok_not_bus _) in
+    let now = looks.only_reads.honest_is ∙ honest in
+    let finds = c.in_ok-ailing.ensures.truth honest w in
+    let known = ailing_known a b _ _ c.in-Some.row c.in-Some.found _ c.in_ok-ailing.ailing c.requires.safe.memory looks.memory (ap (λ f. f.image) still) w finds c.in-Some.is in
+    cut_looking a b _ _ _ _ _ looks.memory still (looks.told honest (ok_not_bus _)) (c.in_err-copy_page.ensures.cut now known.0 known.1 (err_same _ _ is)))
+
+pub returns-in_err-follow_moved-clause-cut : goal.returns-in_err-follow_moved-clause-cut
+returns-in_err-follow_moved-clause-cut g c =
+    let p = err_from_is_err_and c.from_residual-in_err-follow_moved.result c.from_residual-in_err-follow_moved.ensures.1 in
+    rw (p.1, p.2) (λ honest w is.
+    let a = ram c.args.self.now in
+    let b = ram c.first_ailing.new.self in
+    let looks = c.in_ok-ailing.ensures.looks in
+    let still = looks.same honest (ok_not_bus _) in
+    let now = looks.only_reads.honest_is ∙ honest in
+    let finds = c.in_ok-ailing.ensures.truth honest w in
+    let known = ailing_known a b _ _ c.in-Some.row c.in-Some.found _ c.in_ok-ailing.ailing c.requires.safe.memory looks.memory (ap (λ f. f.image) still) w finds c.in-Some.is in
+    let n = ram c.copy_page.new.self in
+    let y = (g.N.PageSource.view.flash c.copy_page.new.self.nand).image in
+    let copied = stops_looked a b _ _ _ _ _ _ looks.memory still (looks.told honest (ok_not_bus _)) (c.in_ok-copy_page.ensures.stops now known.0 known.1 (ok_not_bus _)) in
+    let m = copied_as a b _ _ c.in-Some.row c.in-Some.found _ c.in_ok-ailing.ailing c.requires.safe.memory looks.memory (ap (λ f. f.image) still) w finds c.in-Some.is (λ r i. IsMovedOut c.in-Some.row r i n y) (c.in_ok-copy_page.ensures.truth now) in
+    let sized : IsSized a n = record { geometry = c.copy_page.ensures.goes.geometry ∙ ap (λ r. r.geometry) looks.memory; capacity = c.copy_page.ensures.keys.limits.capacity ∙ ap (λ r. r.mapping.capacity) looks.memory } in
+    cut_after a n _ _ _ _ _ sized m.same.array copied (c.in_err-follow_moved.ensures.cut (c.copy_page.ensures.acts.honest_is ∙ now) m.same.truth (err_same _ _ is)))

@@ -1,6 +1,7 @@
 use Rattle.std.proofs.Common.{Some, None}
 use Rattle.std.proofs.lemmas.Result.{err_from_is_err_and}
 use Rattle.page_layout.specs.Page.{page}
+use Rattle.collection.proofs.Acts.{looks_same, looks_ok}
 use Rattle.collection.proofs.Looks.{found_none, found_by, newest_at, none_from, has_place}
 use Rattle.collection.proofs.engine.Engine.row_on_page.Goals as goal
 
@@ -29,3 +30,6 @@ returns-clause-truth g c = λ honest w.
     c.requires.sector c.entries-entries.ensures c.requires.unknown c.in-Some.at
     (page c.read_of.new.buffer.body.items c.read_of.new.buffer.spare.items) c.deref.result.now c.checked_entry.result w.whole.rows at
     (c.in_ok-read_of.ensures.page honest) c.deref.ensures.value c.checked_entry.ensures.entry c.checked_entry.ensures.undamaged
+
+pub returns-in_default-clause-looks : goal.returns-in_default-clause-looks
+returns-in_default-clause-looks g c = looks_ok _ _ tt _ (looks_same c.args.self.now c.requires.safe)

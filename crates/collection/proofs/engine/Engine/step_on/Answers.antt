@@ -6,6 +6,7 @@ use Rattle.collection.proofs.Turns.{refreshes_pinned, half_on, half_pinned}
 use Rattle.std.proofs.lemmas.Result.{err_from_is_err_and}
 use Rattle.collection.proofs.Looks.{ok_not_bus}
 use Rattle.collection.proofs.Costs.{not_bus}
+use Rattle.collection.proofs.Steps.{err_same}
 use Rattle.collection.proofs.engine.Engine.step_on.Goals as goal
 
 pub returns-clause-refreshes : goal.returns-clause-refreshes
@@ -28,3 +29,10 @@ returns-in_err-progress-clause-stops g c =
 
 pub returns-clause-stops : goal.returns-clause-stops
 returns-clause-stops g c = λ honest w passed ne. c.in_ok-progress.ensures.stops honest w passed (ok_not_bus _)
+
+-- ---- what a fault of the die leaves
+
+pub returns-in_err-progress-clause-cut : goal.returns-in_err-progress-clause-cut
+returns-in_err-progress-clause-cut g c =
+    let p = err_from_is_err_and c.from_residual.result c.from_residual.ensures.1 in
+    rw (p.1, p.2) (λ honest w passed is. c.in_err-progress.ensures.cut honest w passed (err_same _ _ is))

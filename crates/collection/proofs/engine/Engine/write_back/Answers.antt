@@ -16,3 +16,8 @@ returns-in_err-standing-clause-stands g c =
 
 pub returns-clause-stands : goal.returns-clause-stands
 returns-clause-stands g c = rw (c.noted.ensures.same, c.noted.ensures.noted) (acts_noted _ _ _ (not_standing _ _ c.in_ok-standing.ensures) c.write_page_back-answer.ensures.acts)
+
+-- ---- what a fault of the die leaves
+
+pub returns-clause-cut : goal.returns-clause-cut
+returns-clause-cut g c = λ honest none w. rw (c.noted.ensures.same, c.noted.ensures.noted) (λ is. c.write_page_back-answer.ensures.cut honest w is)

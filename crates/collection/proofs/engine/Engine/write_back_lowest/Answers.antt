@@ -8,6 +8,7 @@ use Rattle.collection.proofs.Stops.{same_left}
 use Rattle.collection.proofs.Looks.{ok_not_bus}
 use Rattle.collection.proofs.Costs.{not_bus}
 use Rattle.collection.proofs.Acts.{acts_same, acts_ok}
+use Rattle.collection.proofs.Steps.{err_same}
 use Rattle.collection.proofs.engine.Engine.write_back_lowest.Goals as goal
 
 pub returns-in_err-write_page_back-clause-owed : goal.returns-in_err-write_page_back-clause-owed
@@ -61,3 +62,10 @@ returns-clause-stops g c = λ honest w ne. c.in_ok-write_page_back.ensures.stops
 
 pub returns-in_default-clause-acts : goal.returns-in_default-clause-acts
 returns-in_default-clause-acts g c = acts_ok _ _ tt false (acts_same c.args.self.now c.requires.safe)
+
+-- ---- what a fault of the die leaves
+
+pub returns-in_err-write_page_back-clause-cut : goal.returns-in_err-write_page_back-clause-cut
+returns-in_err-write_page_back-clause-cut g c =
+    let p = err_from_is_err_and c.from_residual.result c.from_residual.ensures.1 in
+    rw (p.1, p.2) (λ honest w is. c.in_err-write_page_back.ensures.cut honest w (err_same _ _ is))

@@ -4,9 +4,11 @@ use Rattle.mapping_cache.specs.Mapping.{cleaned}
 use Rattle.collection.specs.Safe.{ram}
 use Rattle.collection.proofs.Looks.{directory_row, ok_not_bus}
 use Rattle.collection.proofs.Acts.{acts_err, looked, acts_then}
-use Rattle.collection.proofs.WriteBacks.{read_costs, may_write_back, cleaned_goes, cleaned_cost, cleans_by, written_back_by}
+use Rattle.collection.proofs.WriteBacks.{read_costs, refused_after, may_write_back, cleaned_goes, cleaned_cost, cleans_by, written_back_by}
 use Rattle.collection.proofs.Stops.{stops_looked, fault_not_bus}
 use Rattle.collection.proofs.Costs.{not_bus}
+use Rattle.collection.proofs.Cuts.{cut_read, cut_looking, cut_translation}
+use Rattle.collection.proofs.Steps.{err_same}
 use Rattle.collection.proofs.engine.Engine.write_page_back.Goals as goal
 
 pub returns-in_err-fill_translation-clause-cost : goal.returns-in_err-fill_translation-clause-cost
@@ -88,7 +90,49 @@ returns-clause-acts g c =
       fault = a.fault;
       honest_is = a.honest_is;
       calm_is = a.calm_is;
+      asked = a.asked;
       failed_is = a.failed_is;
       rose = λ e. absurd (ok_not_bus _ e);
       went = λ known ne. (let w = a.went known (ok_not_bus _) in record { log = w.log; leads = w.leads; records = w.records; follows = w.follows; next = w.next; wears = w.wears; numbers = w.numbers });
     }
+
+-- ---- what a fault of the die leaves
+
+pub returns-in_err-fill_translation-clause-cut : goal.returns-in_err-fill_translation-clause-cut
+returns-in_err-fill_translation-clause-cut g c =
+    let p = err_from_is_err_and c.from_residual.result c.from_residual.ensures.1 in
+    rw (p.1, p.2) (λ honest w is. cut_read (ram c.args.self.now) _ _ _ c.requires.safe.memory w (c.in_err-fill_translation.ensures.looks.cut honest (err_same _ _ is)))
+
+pub returns-in_err-replace-clause-cut : goal.returns-in_err-replace-clause-cut
+returns-in_err-replace-clause-cut g c =
+    let p = err_from_is_err_and c.from_residual-in_err-replace.result c.from_residual-in_err-replace.ensures.1 in
+    rw (p.1, p.2) (λ honest w is.
+    let a = ram c.args.self.now in
+    let b = ram c.fill_translation.new.self in
+    let newest_is = directory_row c.args.self.now.geometry _ c.args.self.now.directory c.args.self.now.mapping c.args.t c.row_of-row.result w.maps c.requires.page c.row_of-row.ensures.value in
+    let filled = c.in_ok-fill_translation.ensures.truth honest w newest_is in
+    let looks = c.in_ok-fill_translation.ensures.looks in
+    let still = looks.same honest (ok_not_bus _) in
+    let may = may_write_back a b _ _ c.args.t c.row_of-row.result _ w looks.memory (ap (λ f. f.image) still) filled newest_is in
+    cut_looking a b _ _ _ _ _ looks.memory still (looks.told honest (ok_not_bus _))
+    (cut_translation c.args.t _ b _ _ _ (c.in_err-replace.ensures.cut (looks.only_reads.honest_is ∙ honest) may (err_same _ _ is))))
+
+-- ---- it was not programmed
+
+pub returns-in_err-replace-clause-acts : goal.returns-in_err-replace-clause-acts
+returns-in_err-replace-clause-acts g c =
+    let p = err_from_is_err_and c.from_residual-in_err-replace.result c.from_residual-in_err-replace.ensures.1 in
+    rw (p.1, p.2) (acts_then _ _ _ _ _ (ap (λ r. r.geometry) c.fill_translation.ensures.looks.memory) (looked _ _ _ c.in_ok-fill_translation.ensures.looks) (acts_err _ _ _ c.in_err-replace.ensures.acts))
+
+pub returns-in_err-replace-clause-truth : goal.returns-in_err-replace-clause-truth
+returns-in_err-replace-clause-truth g c =
+    let p = err_from_is_err_and c.from_residual-in_err-replace.result c.from_residual-in_err-replace.ensures.1 in
+    rw (p.1, p.2) (λ honest w.
+    let a = ram c.args.self.now in
+    let b = ram c.fill_translation.new.self in
+    let newest_is = directory_row c.args.self.now.geometry _ c.args.self.now.directory c.args.self.now.mapping c.args.t c.row_of-row.result w.maps c.requires.page c.row_of-row.ensures.value in
+    let filled = c.in_ok-fill_translation.ensures.truth honest w newest_is in
+    let looks = c.in_ok-fill_translation.ensures.looks in
+    let still = ap (λ f. f.image) (looks.same honest (ok_not_bus _)) in
+    let may = may_write_back a b _ _ c.args.t c.row_of-row.result _ w looks.memory still filled newest_is in
+    refused_after a b _ _ _ _ _ looks.memory still (c.in_err-replace.ensures.truth (looks.only_reads.honest_is ∙ honest) may))

@@ -13,3 +13,8 @@ pub returns-in_err-standing-clause-stands : goal.returns-in_err-standing-clause-
 returns-in_err-standing-clause-stands g c =
     let p = err_from_is_err_and c.from_residual.result c.from_residual.ensures.1 in
     rw (p.1, p.2) (stands_still _ _ c.requires.safe (is_standing _ _ c.in_err-standing.ensures))
+
+-- ---- what a fault of the die leaves
+
+pub returns-clause-cut : goal.returns-clause-cut
+returns-clause-cut g c = λ honest none w. rw (c.noted.ensures.same, c.noted.ensures.noted) (λ is. c.put_table-answer.ensures.cut honest w is)

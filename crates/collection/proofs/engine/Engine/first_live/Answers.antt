@@ -1,0 +1,37 @@
+use Rattle.std.proofs.Common.{◌∙◌, ap, arith}
+use Rattle.std.proofs.lemmas.Result.{err_from_is_err_and}
+use Rattle.collection.specs.Safe.{ram}
+use Rattle.collection.proofs.Acts.{looks_same, looks_then, looks_ok, looks_err}
+use Rattle.collection.proofs.Finds.{none_yet}
+use Rattle.collection.proofs.Looks.{ok_not_bus}
+use Rattle.collection.proofs.Rescues.{true_over, none_further}
+use Rattle.collection.proofs.engine.Engine.first_live.Goals as goal
+
+pub candidates-init : goal.candidates-init
+candidates-init g c = record {
+  looks = looks_same c.args.self.now c.requires.safe;
+  reads = omega arith;
+  truth = λ honest w. none_yet c.args.self.now.geometry.pages c.args.block (g.N.PageSource.view.flash c.args.self.now.nand).image c.args.first;
+}
+
+pub candidates-preserved : goal.candidates-preserved
+candidates-preserved g c =
+    let i = c.candidates.invariant in
+    let old = ram c.args.self.now in
+    let now = ram c.candidates.self in
+    record {
+      looks = looks_then _ _ _ tt _ i.looks (looks_ok _ _ _ _ c.in_ok-live.ensures.looks);
+      reads = omega arith;
+      truth = λ honest w.
+          let still = ap (λ f. f.image) (i.looks.same honest (ok_not_bus _)) in
+          let looked = c.in_ok-live.ensures.truth (i.looks.only_reads.honest_is ∙ honest) (true_over old now _ _ w i.looks.memory still) in
+          none_further old now _ _ c.args.block c.args.first c.candidates.page c.row-row.result _ _ i.looks.memory still c.row-row.ensures.is (i.truth honest w) looked c.in-None.is;
+    }
+
+pub returns-in_err-live-clause-looks : goal.returns-in_err-live-clause-looks
+returns-in_err-live-clause-looks g c =
+    let p = err_from_is_err_and c.from_residual.result c.from_residual.ensures.1 in
+    rw (p.1, p.2) (looks_then _ _ _ tt _ c.candidates.invariant.looks (looks_err _ _ _ c.in_err-live.ensures.looks))
+
+pub returns-in-Some-clause-looks : goal.returns-in-Some-clause-looks
+returns-in-Some-clause-looks g c = looks_then _ _ _ tt _ c.candidates.invariant.looks (looks_ok _ _ _ _ c.in_ok-live.ensures.looks)
