@@ -1,18 +1,15 @@
 -- A page that is brought forward once there is room, and the number of such calls.
-use Rattle.std.proofs.Common.{◌≡◌, ◌≢◌, ◌⊎◌, inl, inr, ℕ, zero, suc, ◌+◌, ◌/◌, ◌<◌, ◌≤◌, Bool, true, false, Option, None, Some, Result, Ok, Err, OnOk, refl, sym, ◌∙◌, ap, subst, arith}
+use Rattle.std.proofs.Common.{◌≡◌, ◌⊎◌, inl, inr, ℕ, zero, suc, ◌+◌, ◌/◌, ◌≤◌, Bool, true, false, Option, None, Some, Result, Ok, Err, OnOk, refl, sym, ◌∙◌, ap, subst, arith}
 use Rattle.std.specs.Map.{keys_of}
-use Rattle.std.proofs.lemmas.Bool.{cases_lt}
 use Rattle.page_layout.specs.View.{View}
 use Rattle.page_layout.specs.declared.record.Key.{Key}
 use Rattle.page_layout.specs.declared.record.Key.TheVariants.{Sector, Translation, Table}
-use Rattle.page_layout.specs.declared.geometry.Geometry.{Geometry}
 use Rattle.page_layout.specs.Flash.{Flash}
 use Rattle.page_layout.specs.Geometry.{entries}
 use Rattle.page_layout.specs.Page.{Image}
 use Rattle.page_layout.specs.Sound.{version_for}
-use Rattle.page_layout.specs.Newest.{newest}
 use Rattle.page_layout.specs.Array.{marks}
-use Rattle.page_layout.specs.Version.{is_old, HasOldAt, AddsNoOld}
+use Rattle.page_layout.specs.Version.{is_old, HasOldAt}
 use Rattle.page_layout.proofs.KeyLemmas.{cases_key}
 use Rattle.page_layout.proofs.NewestLemmas.{newest-record}
 use Rattle.page_layout.proofs.VersionLemmas.{old_at, old_from}
@@ -25,13 +22,13 @@ use Rattle.collection.specs.Safe.{ram, image_in}
 use Rattle.collection.specs.Log.{Went}
 use Rattle.collection.specs.Results.{Goes, KeepsPage}
 use Rattle.collection.specs.Collect.{FollowsCopy, KeepsKeys, HasAiling, HasNoneAiling, HasRescuedPage, LeavesLowest, RescueCosts, IsRearranged, IsRescued}
-use Rattle.collection.specs.Renew.{is_table, HasNoneDue, HasDue, FindsDue, IsNextDue, IsRenewedPage, IsRenewedAt}
+use Rattle.collection.specs.Renew.{HasNoneDue, HasDue, IsNextDue, IsRenewedPage, IsRenewedAt}
 use Rattle.collection.proofs.Follows.{follows_by}
 use Rattle.collection.proofs.Logs.{went_then}
 use Rattle.ftl_device.specs.declared.device.Device.{Device}
 use Rattle.ftl_device.specs.declared.fault.CallFault.{CallFault}
 use Rattle.ftl_device.specs.Calls.{HasMadeRoom}
-use Rattle.ftl_device.specs.Migrate.{FindsFrom, IsBehind}
+use Rattle.ftl_device.specs.Migrate.{FindsFrom}
 use Rattle.ftl_device.specs.Brings.{MadeRoom, RescuesLowest, HasBrought, BringsPage, BringsOne, BringsEach, LowestRowLaw, CountedLaw}
 use Rattle.ftl_device.proofs.CursorLemmas.{due_from, one_found}
 

@@ -1,11 +1,13 @@
 -- A device's call that changes a sector, from the engine's.
 use Rattle.std.proofs.Common.{◌≡◌, ◌≢◌, ◌⊎◌, inl, inr, ℕ, ◌-◌, ◌^◌, ◌<◌, ◌≤◌, ◌∙◌, Bool, true, false, None, Option, Some, List, Result, Ok, Err, OnOk, MatchResult, refl, sym, ap, subst, arith}
-use Rattle.std.specs.Prelude.{IfErr, IsSome}
+use Rattle.std.specs.Prelude.{IfErr, IsSome, slice_set}
 use Rattle.std.specs.Option.{ForSome}
 use Rattle.std.specs.Map.{keys_of}
 use Rattle.std.proofs.lemmas.Bool.{lt-ltb}
 use Rattle.page_layout.specs.View.{View}
+use Rattle.page_layout.specs.DieCalls.{AskedNothing}
 use Rattle.page_layout.specs.declared.geometry.Geometry.{Geometry}
+use Rattle.page_layout.specs.declared.record.Kind.{Kind}
 use Rattle.page_layout.specs.Page.{Image}
 use Rattle.page_layout.specs.Array.{array_of}
 use Rattle.page_layout.specs.Version.{AddsNoOld}
@@ -17,6 +19,8 @@ use Rattle.collection.specs.declared.engine.Engine.{Engine}
 use Rattle.collection.specs.declared.fault.EngineFault.TheVariants as engine_fault
 use Rattle.collection.specs.State.{Ram}
 use Rattle.collection.specs.Safe.{ram, image_in, page_in}
+use Rattle.collection.specs.Results.{array_after}
+use Rattle.collection.specs.Stops.{Cuts, IsPutByStop}
 use Rattle.collection.proofs.Logs.{went_same}
 use Rattle.ftl_device.specs.declared.device.Device.{Device}
 use Rattle.ftl_device.specs.declared.fault.CallFault.{CallFault}
@@ -29,14 +33,14 @@ use Rattle.ftl_device.specs.Device.{IsDevice}
 use Rattle.ftl_device.specs.Calls.{Knows, IsWell, state_in, reply_of, stop_of, Says, CallTells, CallRefused, HoldsSector, standing_after, answer_of, MayChange, MayNot, IsBeyond, IsShortOf, IsMostRecent, HasCost, HasPageOf, IsLastOf, order_after}
 use Rattle.ftl_device.specs.Shortage.{HasFunds, CallShort}
 use Rattle.ftl_device.specs.Stopped.{changes_sector}
-use Rattle.ftl_device.specs.Changes.{EndsCall, PinsNone, MayPin, Readies, HasLookedUp, Stays, Refuses, RefusesSector, ProgramsSector, Logs, Means, Changes}
+use Rattle.ftl_device.specs.Changes.{EndsCall, PinsNone, MayPin, Readies, HasLookedUp, Stays, Refuses, RefusesSector, ProgramsSector, Logs, Means, IsCut, Changes}
 use Rattle.ftl_device.proofs.CallLemmas.{well_ram, well_device, memory_only, mountable_after, went_after, done_too}
 use Rattle.ftl_device.proofs.PinLemmas.{knows_well, unpinned_moved}
 use Rattle.ftl_device.proofs.CostLemmas.{closed_is, spent_is, never_memory}
 use Rattle.ftl_device.proofs.MountableLemmas.{stale_law, restart_law}
 use Rattle.ftl_device.proofs.ShownLemmas.{shown_refused, shown_after, left_after, left_refused}
 use Rattle.ftl_device.proofs.SpentLemmas.{funded_begun, call_short}
-use Rattle.ftl_device.proofs.StoppedLemmas.{stopped_call, stops_same}
+use Rattle.ftl_device.proofs.StoppedLemmas.{cut_put, dead_call, stopped_call, stops_same}
 
 abbrev refusal : DeviceFault → Result (Unit {0}) DeviceFault
 refusal fault = Err fault
@@ -155,7 +159,8 @@ no_flush_is command off P its = (let no : ⊥ = cc in absurd no)
 module _ {N : Type 0} (view : View N) (n : ℕ) (bytes : List ℕ)
     (command : Command) (old new : Device N) (device : IsDevice view.flash old) (device' : IsDevice view.flash new)
     (may : MayChange (ram old.engine) old.read_only n)
-    (takes : (reply : Reply) (s : State) → WriteStep old.engine.geometry (state_in view.flash old) n bytes reply s → ArrayStep old.engine.geometry (state_in view.flash old) command reply s) (no_flush : is_flush command ≡ false) (changes : changes_sector command ≡ true) where
+    (takes : (reply : Reply) (s : State) → WriteStep old.engine.geometry (state_in view.flash old) n bytes reply s → ArrayStep old.engine.geometry (state_in view.flash old) command reply s) (no_flush : is_flush command ≡ false) (changes : changes_sector command ≡ true)
+    (kind : Kind) (body : List ℕ) (gives : (xs : List (List ℕ)) → array_after old.engine.geometry kind n body xs ≡ slice_set xs n bytes) where
   abbrev good_then : ℕ
   good_then = good_count (ram old.engine).blocks.table
 
@@ -170,7 +175,11 @@ module _ {N : Type 0} (view : View N) (n : ℕ) (bytes : List ℕ)
   abbrev Newest : Engine N → Result (Unit {0}) CallFault → Type 0
   Newest e answer = view.honest old.engine.nand ≡ true → Knows (ram old.engine) (image_in view.flash old.engine) → OnOk answer (HasPageOf old.engine.geometry command (ram e) (image_in view.flash e))
 
-  module _ (answer : Result (Unit {0}) CallFault) (ends : EndsCall view old.engine answer new.engine) (readies : Readies view n 2 old.engine answer new.engine) (cost : OnOk answer (HasCost n (ram old.engine) (ram new.engine)))
+  abbrev Cutting : Engine N → Result (Unit {0}) CallFault → Type 0
+  Cutting e answer = view.honest old.engine.nand ≡ true → Knows (ram old.engine) (image_in view.flash old.engine) → answer ≡ Err (call.Engine engine_fault.Bus)
+      → Cuts view (IsPutByStop kind n body (ram old.engine) (image_in view.flash old.engine)) old.engine e
+
+  module _ (answer : Result (Unit {0}) CallFault) (ends : EndsCall view old.engine answer new.engine) (cutting : Cutting new.engine answer) (readies : Readies view n 2 old.engine answer new.engine) (cost : OnOk answer (HasCost n (ram old.engine) (ram new.engine)))
       (checked : OnOk answer (HasLookedUp n (ram old.engine) (ram new.engine) (page_in new.engine.scratch))) (page : Pages new.engine answer) (newest : Newest new.engine answer) (truth : Holds new.engine answer) where
     abbrev replied : Result (Unit {0}) DeviceFault
     replied = answer_of (ram new.engine) good_then answer
@@ -214,7 +223,14 @@ module _ {N : Type 0} (view : View N) (n : ℕ) (bytes : List ℕ)
           flushed = λ well its done. no_flush_is command no_flush _ its;
           stopped = λ well. stopped_call view old.engine new.engine command replied w.log device.engine w.records (ends.stops is_honest (here well) (λ bus. ne (ap (answer_of (ram new.engine) good_then) bus)))
               (changed_or old.engine.geometry n bytes command changes (image_in view.flash old.engine) (image_in view.flash new.engine) (ram new.engine) (ram new.engine) good_then answer (truth is_honest (here well)) ne);
+          dead = λ well. dead_call view old.engine new.engine w.log device.engine w.records (ends.stops is_honest (here well) (λ bus. ne (ap (answer_of (ram new.engine) good_then) bus)));
         }
+
+    cut_done : view.honest old.engine.nand ≡ true → Knows (ram old.engine) (image_in view.flash old.engine) → replied ≡ Err BusFault → IsCut view command old new
+    cut_done is_honest known bus = cut_put view old.engine new.engine command device.engine kind n body bytes changes may.within gives
+        (λ s w. subst (λ ro. ArrayStep old.engine.geometry (record { array = array_of old.engine.geometry (image_in view.flash old.engine); ro = ro }) command (reply_of (Ok tt)) s) may.writable
+        (takes (reply_of (Ok tt)) s (subst (λ ro. WriteStep old.engine.geometry (record { array = array_of old.engine.geometry (image_in view.flash old.engine); ro = ro }) n bytes (reply_of (Ok tt)) s) (sym may.writable) w)))
+        (cutting is_honest known (rose_of (answer ≡ Err (call.Engine engine_fault.Bus)) answer (ram new.engine) good_then (λ e. e) bus))
 
     means_done : view.honest old.engine.nand ≡ true → Knows (ram old.engine) (image_in view.flash old.engine) → replied ≢ Err BusFault → Means view.flash command old replied new
     means_done is_honest known ne =
@@ -231,30 +247,32 @@ module _ {N : Type 0} (view : View N) (n : ℕ) (bytes : List ℕ)
 
     change_done : Changes view n command old replied new
     change_done = record {
-      stays = record { limits = ends.limits; honest_is = ends.honest_is; calm_is = ends.calm_is; failed_is = ends.failed_is };
+      stays = record { limits = ends.limits; honest_is = ends.honest_is; calm_is = ends.calm_is; asked = ends.asked; failed_is = ends.failed_is };
       refuses = refuses_made view.failed old new may.going may.writable answer ends.fault ends.tells ends.rose;
       refuses_sector = refuses_sector_done;
       programs = programs_done;
       pins = λ none some. pins_of answer old.engine new.engine (ram new.engine) good_then readies.pins none some;
       logs = logs_done;
+      cut = λ is_honest well going bus. cut_done is_honest (here well) bus;
       means = λ is_honest well ne. means_done is_honest (here well) ne;
       stale = λ is_honest well unpinned is e. readies.cached (stale_law (ram old.engine) _ n well.truth (unpinned_moved (ram old.engine) (device.calm may.going) unpinned) may.within is) (memory_only answer replied good_then (ram new.engine) refl e);
     }
 
   -- the device noted nothing else
   pub changed_by : (mid : Engine N) (good : ℕ) (answer : Result (Unit {0}) CallFault) (result : Result (Unit {0}) DeviceFault) → new.engine ≡ mid
-      → good ≡ good_then → result ≡ answer_of (ram new.engine) good answer → EndsCall view old.engine answer mid
+      → good ≡ good_then → result ≡ answer_of (ram new.engine) good answer → EndsCall view old.engine answer mid → Cutting mid answer
       → Readies view n 2 old.engine answer mid
       → OnOk answer (HasCost n (ram old.engine) (ram mid)) → OnOk answer (HasLookedUp n (ram old.engine) (ram mid) (page_in mid.scratch)) → Pages mid answer → Newest mid answer → Holds mid answer → Changes view n command old result new
-  changed_by mid good answer result same many is ends readies cost checked page newest truth =
+  changed_by mid good answer result same many is ends cutting readies cost checked page newest truth =
       let E : Engine N → Type 0 = λ e. EndsCall view old.engine answer e in
+      let U : Engine N → Type 0 = λ e. Cutting e answer in
       let R : Engine N → Type 0 = λ e. Readies view n 2 old.engine answer e in
       let C : Engine N → Type 0 = λ e. OnOk answer (HasCost n (ram old.engine) (ram e)) in
       let L : Engine N → Type 0 = λ e. OnOk answer (HasLookedUp n (ram old.engine) (ram e) (page_in e.scratch)) in
       let P : Engine N → Type 0 = λ e. Pages e answer in
       let Q : Engine N → Type 0 = λ e. Newest e answer in
       let T : Engine N → Type 0 = λ e. Holds e answer in
-      let done = change_done answer (subst E (sym same) ends) (subst R (sym same) readies) (subst C (sym same) cost) (subst L (sym same) checked) (subst P (sym same) page) (subst Q (sym same) newest) (subst T (sym same) truth) in
+      let done = change_done answer (subst E (sym same) ends) (subst U (sym same) cutting) (subst R (sym same) readies) (subst C (sym same) cost) (subst L (sym same) checked) (subst P (sym same) page) (subst Q (sym same) newest) (subst T (sym same) truth) in
       subst (λ r. Changes view n command old r new) (sym (is ∙ ap (λ k. answer_of (ram new.engine) k answer) many)) done
 
 -- ---- it was refused at once
@@ -285,7 +303,7 @@ module _ (r : Ram) where
   says_refusal Damaged not = not
   says_refusal BusFault not = not
 
-  rose_refusal : (P : Type 0) (fault : DeviceFault) → Why r fault → stop_of r.fault ≡ None → refusal fault ≡ refusal BusFault → P
+  pub rose_refusal : (P : Type 0) (fault : DeviceFault) → Why r fault → stop_of r.fault ≡ None → refusal fault ≡ refusal BusFault → P
   rose_refusal P fault not going e =
       let same : fault ≡ BusFault = cc in
       let stop : stop_of r.fault ≡ Some BusFault = subst (Why r) same not in
@@ -301,7 +319,7 @@ refuses_at_once failed old fault why = record {
 }
 
 pub stays_same : {N : Type 0} (view : View N) (d : Device N) → Stays view d d
-stays_same view d = record { limits = record { geometry = refl; capacity = refl }; honest_is = refl; calm_is = refl; failed_is = omega arith }
+stays_same view d = record { limits = record { geometry = refl; capacity = refl }; honest_is = refl; calm_is = refl; asked = AskedNothing; failed_is = omega arith }
 
 module _ (r : Ram) (ro : Bool) (n : ℕ) where
   why_not : (fault : DeviceFault) → MayNot r ro n fault → Why r fault
@@ -366,7 +384,9 @@ module _ {N : Type 0} (view : View N) (n : ℕ) (bytes : List ℕ) (command : Co
           left = λ well on. left_refused command (ram old.engine) w.log old.read_only n fault not;
           flushed = λ well its done. no_flush_is command no_flush _ its;
           stopped = λ well. stopped_call view old.engine old.engine command (Err fault) w.log device.engine w.records (stops_same view old.engine device.engine well.truth) (inl refl);
+          dead = λ well. dead_call view old.engine old.engine w.log device.engine w.records (stops_same view old.engine device.engine well.truth);
         };
+    cut = λ is_honest well going bus. rose_refusal (ram old.engine) _ fault (why_not (ram old.engine) old.read_only n fault not) going bus;
     means = λ is_honest well ne. record {
       step = takes _ _ (step_refusal (ram old.engine) old.read_only n old.engine.geometry (array_of old.engine.geometry (image_in view.flash old.engine)) bytes fault refl not well.going);
       well = well;

@@ -14,7 +14,7 @@ use Rattle.collection.specs.State.{Ram}
 use Rattle.collection.specs.Safe.{ram, image_in}
 use Rattle.collection.specs.Acts.{Stands}
 use Rattle.collection.specs.Looks.{IsReadFault}
-use Rattle.collection.specs.Stops.{StopsSafely}
+use Rattle.collection.specs.Stops.{CutsSafely, StopsSafely}
 use Rattle.collection.specs.Renew.{HasNoneDue, HasDue, FindsDue, IsNextDue}
 use Rattle.ftl_device.specs.declared.device.Device.{Device}
 use Rattle.ftl_device.specs.declared.fault.CallFault.{CallFault}
@@ -79,18 +79,21 @@ goes_on cursor row image ge due (Some next) (inr behind) = absurd (due_or_none r
 module _ {N : Type 0} (view : View N) where
   -- a look leaves the engine as a call that wants no room does
   pub leaves_look : {A : Type 0} (old new : Engine N) (result : Result A EngineFault) → old.fault ≡ None → Stands view old new result → ram new ≡ record (ram old) { fault = new.fault } → IfErr result IsReadFault
-      → (view.honest old.nand ≡ true → Knows (ram old) (image_in view.flash old) → result ≢ Err Bus → StopsSafely view old new) → EngineLeaves view old result new
-  leaves_look old new result none stands still faults stops = leaves_by view old new result none stands (ap (λ (r : Ram). r.geometry) still) (look_tells result (ram old) (ram new) (ap (λ (r : Ram). r.blocks) still) faults) stops
+      → (view.honest old.nand ≡ true → Knows (ram old) (image_in view.flash old) → result ≢ Err Bus → StopsSafely view old new)
+      → (view.honest old.nand ≡ true → Knows (ram old) (image_in view.flash old) → result ≡ Err Bus → CutsSafely view old new) → EngineLeaves view old result new
+  leaves_look old new result none stands still faults stops cut = leaves_by view old new result none stands (ap (λ (r : Ram). r.geometry) still) (look_tells result (ram old) (ram new) (ap (λ (r : Ram). r.blocks) still) faults) stops cut
 
   -- what is known of a turn, or of a page brought forward, as the part ends that asks the die
-  pub kept_ready : (old : Device N) (mid : Engine N) (answer : Result (Unit {0}) CallFault) → IsDevice view.flash old → MayFlush (ram old.engine) old.read_only → EndsCall view old.engine answer mid → answer ≢ Err call.OutOfMemory
+  pub kept_ready : (old : Device N) (mid : Engine N) (answer : Result (Unit {0}) CallFault) → IsDevice view.flash old → MayFlush (ram old.engine) old.read_only → EndsCall view old.engine answer mid
+      → (view.honest old.engine.nand ≡ true → Knows (ram old.engine) (image_in view.flash old.engine) → answer ≡ Err (call.Engine Bus) → CutsSafely view old.engine mid) → answer ≢ Err call.OutOfMemory
       → (view.honest old.engine.nand ≡ true → Knows (ram old.engine) (image_in view.flash old.engine)
       → MatchResult answer (λ _. KeepsArray old.engine.geometry (image_in view.flash old.engine) (ram mid) (image_in view.flash mid))
       (CallRefused old.engine.geometry (image_in view.flash old.engine) (ram mid) (image_in view.flash mid)))
       → (HasFunds (view.honest old.engine.nand) (ram old.engine) (image_in view.flash old.engine) → 5 ≤ free_count (ram old.engine).blocks → CallShort (ram old.engine) (ram mid) answer)
       → IsUpkept view step.Turn old answer mid
-  kept_ready old mid answer device may ends memory truth count = record {
+  kept_ready old mid answer device may ends cut memory truth count = record {
     ends = ends;
+    cut = cut;
     no_memory = memory;
     truth = truth;
     lacks = λ is_honest w fault is. short is_honest w;

@@ -1,5 +1,5 @@
 -- What a flush has programmed, step after step.
-use Rattle.std.proofs.Common.{◌≡◌, ◌≢◌, ℕ, zero, suc, ◌+◌, ◌*◌, ◌/◌, ◌<◌, ◌≤◌, ◌∙◌, true, false, List, [], ◌∷◌, get_or, Some, None, IsSome, Result, Ok, Err, OnOk, MatchResult, refl, sym, ap, subst, arith}
+use Rattle.std.proofs.Common.{◌≡◌, ℕ, zero, suc, ◌+◌, ◌*◌, ◌/◌, ◌<◌, ◌≤◌, ◌∙◌, true, false, List, [], ◌∷◌, get_or, Some, None, IsSome, Result, Ok, Err, OnOk, MatchResult, refl, sym, ap, subst, arith}
 use Rattle.page_layout.specs.View.{View}
 use Rattle.page_layout.specs.declared.geometry.Geometry.{Geometry}
 use Rattle.page_layout.specs.declared.record.Record.{Record}
@@ -31,7 +31,7 @@ use Rattle.ftl_device.specs.declared.fault.DeviceFault.{DeviceFault}
 use Rattle.ftl_device.specs.Calls.{Knows, KeepsArray, HasMadeRoom, HasPage, OneKindLaw, WriteOrTrimLaw, answer_of}
 use Rattle.ftl_device.specs.Changes.{EngineLeaves}
 use Rattle.ftl_device.specs.Flush.{IsClean}
-use Rattle.ftl_device.specs.FlushSteps.{HasCleared, WritesBack, BringsUp, FlushesPage, FlushesPages, WritesTable, WritesFirst, HasRound, Repeats, WritesRounds, HasFlushed, CleanFlushLaw, FailedFlushLaw, LackingPageLaw}
+use Rattle.ftl_device.specs.FlushSteps.{HasCleared, WritesBack, FlushesPage, FlushesPages, WritesTable, WritesFirst, HasRound, Repeats, WritesRounds, HasFlushed, CleanFlushLaw, FailedFlushLaw, LackingPageLaw}
 use Rattle.ftl_device.proofs.CallLemmas.{done_too}
 use Rattle.ftl_device.proofs.FlushLoops.{keeps_same, engine_keeps}
 

@@ -1,6 +1,8 @@
 -- Calls of the engine one after another, where no fault stood.
-use Rattle.std.proofs.Common.{◌≡◌, ◌≢◌, ◌≤◌, ◌∙◌, true, ℕ, None, Some, Result, Ok, Err, refl, ap, arith}
+use Rattle.std.proofs.Common.{◌≡◌, ◌≢◌, ◌≤◌, ◌∙◌, true, None, Some, Result, Ok, Err, refl, ap, arith}
 use Rattle.page_layout.specs.View.{View}
+use Rattle.page_layout.specs.DieCalls.{AskedNothing}
+use Rattle.page_layout.proofs.AskedLemmas.{asks_then}
 use Rattle.bad_blocks.specs.Table.{good_count}
 use Rattle.mapping_cache.specs.Mapping.{MappingState, HasLimitsOf}
 use Rattle.collection.specs.declared.engine.Engine.{Engine}
@@ -8,7 +10,7 @@ use Rattle.collection.specs.declared.fault.EngineFault.{EngineFault}
 use Rattle.collection.specs.declared.fault.EngineFault.TheVariants.{ReadOnly, SequenceSpent, Damaged, Bus}
 use Rattle.collection.specs.State.{Ram}
 use Rattle.collection.specs.Safe.{IsSafe, ram, image_in}
-use Rattle.collection.specs.Stops.{StopsSafely}
+use Rattle.collection.specs.Stops.{CutsSafely, StopsSafely}
 use Rattle.collection.specs.Left.{IsCalm}
 use Rattle.budget.specs.declared.stream.Stream.{Stream}
 use Rattle.collection.specs.Acts.{Stands}
@@ -16,11 +18,12 @@ use Rattle.collection.specs.Cost.{PageCosts, WriteBackCosts}
 use Rattle.collection.specs.Results.{fault_after}
 use Rattle.collection.proofs.Costs.{risen_over}
 use Rattle.collection.proofs.Logs.{went_same, went_then}
+use Rattle.ftl_device.specs.declared.fault.CallFault.{CallFault}
 use Rattle.ftl_device.specs.declared.fault.CallFault.TheVariants as call
 use Rattle.ftl_device.specs.Calls.{Tells, CallTells, standing_after, Knows}
 use Rattle.ftl_device.specs.Changes.{EngineLeaves, EndsCall}
 use Rattle.ftl_device.proofs.EndLemmas.{call_of}
-use Rattle.ftl_device.proofs.StoppedLemmas.{KeepsOn, stops_same, stops_on}
+use Rattle.ftl_device.proofs.StoppedLemmas.{KeepsOn, cuts_on, stops_same, stops_on}
 
 pub tells_then : {B : Type 0} (a b c : Ram) (result : Result B EngineFault) → good_count b.blocks.table ≤ good_count a.blocks.table → Tells b c result → Tells a c result
 tells_then a b c (Ok answer) fewer h = omega (arith, fewer, h)
@@ -54,21 +57,28 @@ refused_tells A B SequenceSpent a b h = h
 refused_tells A B Damaged a b h = tt
 refused_tells A B Bus a b h = tt
 
+-- a fault of the engine as the answer of a call that may want memory too
+abbrev ended : EngineFault → Result (Unit {0}) CallFault
+ended fault = Err (call.Engine fault)
+
 module _ {N : Type 0} (view : View N) where
   -- a call that the engine's standing fault would have stopped
   pub leaves_by : {A : Type 0} (old new : Engine N) (result : Result A EngineFault) → old.fault ≡ None → Stands view old new result → new.geometry ≡ old.geometry → Tells (ram old) (ram new) result
-      → (view.honest old.nand ≡ true → Knows (ram old) (image_in view.flash old) → result ≢ Err Bus → StopsSafely view old new) → EngineLeaves view old result new
-  leaves_by old new result none s same tells stops = record {
+      → (view.honest old.nand ≡ true → Knows (ram old) (image_in view.flash old) → result ≢ Err Bus → StopsSafely view old new)
+      → (view.honest old.nand ≡ true → Knows (ram old) (image_in view.flash old) → result ≡ Err Bus → CutsSafely view old new) → EngineLeaves view old result new
+  leaves_by old new result none s same tells stops cut = record {
     safe = s.safe;
     fault = fault_noted result (ram old) (ram new) none s.fault;
     geometry = same;
     honest_is = s.honest_is;
     calm_is = s.calm_is;
+    asked = s.asked;
     failed_is = s.failed_is;
     rose = s.rose none;
     tells = tells;
     went = s.went;
     stops = stops;
+    cut = cut;
   }
 
   -- nothing was asked
@@ -79,11 +89,13 @@ module _ {N : Type 0} (view : View N) where
     geometry = refl;
     honest_is = refl;
     calm_is = refl;
+    asked = AskedNothing;
     failed_is = omega arith;
     rose = λ bus. (let no : ⊥ = cc in absurd no);
     tells = omega arith;
     went = λ is_honest ne. went_same (ram e) (view.flash e.nand) (view.recorded e.nand);
     stops = λ is_honest k ne. stops_same view e safe k.truth;
+    cut = λ is_honest k bus. (let no : ⊥ = cc in absurd no);
   }
 
   -- one after another, the first done
@@ -96,6 +108,7 @@ module _ {N : Type 0} (view : View N) where
     geometry = next.geometry ∙ first.geometry;
     honest_is = next.honest_is ∙ first.honest_is;
     calm_is = next.calm_is ∙ first.calm_is;
+    asked = asks_then view.called old.nand mid.nand new.nand first.asked next.asked;
     failed_is = omega (arith, first.failed_is, next.failed_is);
     rose = λ bus. risen_over (view.failed old.nand) (view.failed mid.nand) (view.failed new.nand) first.failed_is (next.rose bus);
     tells = tells_then (ram old) (ram mid) (ram new) result first.tells next.tells;
@@ -103,6 +116,9 @@ module _ {N : Type 0} (view : View N) where
     stops = λ is_honest k ne.
         let kept = keeps is_honest k in
         stops_on view old mid new first.geometry limits kept.array (first.stops is_honest k (λ bus. (let no : ⊥ = cc in no))) (next.stops (first.honest_is ∙ is_honest) kept.truth ne);
+    cut = λ is_honest k bus.
+        let kept = keeps is_honest k in
+        cuts_on view old mid new first.geometry limits kept.array (first.stops is_honest k (λ none. (let no : ⊥ = cc in no))) (next.cut (first.honest_is ∙ is_honest) kept.truth bus);
   }
 
   -- a refusal, whatever the call would have given
@@ -113,11 +129,13 @@ module _ {N : Type 0} (view : View N) where
     geometry = l.geometry;
     honest_is = l.honest_is;
     calm_is = l.calm_is;
+    asked = l.asked;
     failed_is = l.failed_is;
     rose = λ bus. l.rose (let same : fault ≡ Bus = cc in ap Err same);
     tells = refused_tells A B fault (ram old) (ram new) l.tells;
     went = λ is_honest ne. l.went is_honest (λ bus. ne (let same : fault ≡ Bus = cc in ap Err same));
     stops = λ is_honest k ne. l.stops is_honest k (λ bus. ne (let same : fault ≡ Bus = cc in ap Err same));
+    cut = λ is_honest k bus. l.cut is_honest k (let same : fault ≡ Bus = cc in ap Err same);
   }
 
   -- and as the end of the part of a device's call that asks the die
@@ -130,6 +148,7 @@ module _ {N : Type 0} (view : View N) where
     geometry = l.geometry;
     honest_is = l.honest_is;
     calm_is = l.calm_is;
+    asked = l.asked;
     failed_is = l.failed_is;
     rose = λ bus. l.rose (call_bus result bus);
     limits = limits;
@@ -143,6 +162,10 @@ module _ {N : Type 0} (view : View N) where
   pub leaves_stuck : {A : Type 0} (old new : Engine N) (fault : EngineFault) → EngineLeaves {A = A} view old (Err fault) new → HasLimitsOf old.mapping new.mapping → EndsCall view old (Err (call.Engine fault)) new
   leaves_stuck old new fault l limits = leaves_ends old new (Err fault) (leaves_refused _ _ old new fault l) limits (λ none. (let stands : new.fault ≡ Some fault = l.fault in let no : ⊥ = cc in absurd no))
 
+  -- and where the die gave the fault
+  pub leaves_cut : {A : Type 0} (old new : Engine N) (fault : EngineFault) → EngineLeaves {A = A} view old (Err fault) new → view.honest old.nand ≡ true → Knows (ram old) (image_in view.flash old) → ended fault ≡ ended Bus → CutsSafely view old new
+  leaves_cut old new fault l is_honest k bus = l.cut is_honest k (let same : fault ≡ Bus = cc in ap Err same)
+
   -- what was done gives what it likes
   pub leaves_done : {A B : Type 0} (old new : Engine N) (a : A) (b : B) → EngineLeaves view old (Ok a) new → EngineLeaves view old (Ok b) new
   leaves_done old new a b l = record {
@@ -151,11 +174,13 @@ module _ {N : Type 0} (view : View N) where
     geometry = l.geometry;
     honest_is = l.honest_is;
     calm_is = l.calm_is;
+    asked = l.asked;
     failed_is = l.failed_is;
     rose = λ bus. (let no : ⊥ = cc in absurd no);
     tells = l.tells;
     went = λ is_honest ne. l.went is_honest (λ bus. (let no : ⊥ = cc in no));
     stops = λ is_honest k ne. l.stops is_honest k (λ bus. (let no : ⊥ = cc in no));
+    cut = λ is_honest k bus. (let no : ⊥ = cc in absurd no);
   }
 
 -- ---- what stays of the memory

@@ -2,6 +2,7 @@
 use Rattle.std.proofs.Common.{◌≡◌, inl, inr, ℕ, Bool, true, false, Some, Result, Ok, Err, ap, sym, ◌∙◌, subst, arith}
 use Rattle.std.proofs.lemmas.Bool.{cases_Bool}
 use Rattle.page_layout.specs.View.{View}
+use Rattle.page_layout.proofs.AskedLemmas.{asks_then}
 use Rattle.page_layout.specs.declared.geometry.Geometry.{Geometry}
 use Rattle.page_layout.specs.declared.record.Key.{Key}
 use Rattle.page_layout.specs.Page.{Image}
@@ -28,11 +29,12 @@ use Rattle.collection.proofs.Costs.{risen_over}
 use Rattle.collection.proofs.Logs.{went_then}
 use Rattle.ftl_device.specs.declared.fault.CallFault.{CallFault}
 use Rattle.ftl_device.specs.declared.fault.CallFault.TheVariants as call
-use Rattle.ftl_device.specs.Calls.{Tells, CallTells, KeepsArray, CallRefused}
+use Rattle.ftl_device.specs.Calls.{Knows, Tells, CallTells, KeepsArray, CallRefused}
 use Rattle.ftl_device.specs.Shortage.{CallShort}
 use Rattle.ftl_device.specs.Changes.{EngineLeaves, EndsCall}
 use Rattle.ftl_device.proofs.FlushLoops.{keeps_same, limits_then}
-use Rattle.ftl_device.proofs.StoppedLemmas.{KeepsOn, stops_on}
+use Rattle.ftl_device.proofs.StoppedLemmas.{KeepsOn, cuts_on, stops_on}
+use Rattle.collection.specs.Stops.{CutsSafely}
 use Rattle.ftl_device.specs.Migrate.{Renews, Migrates}
 use Rattle.ftl_device.proofs.RenewedLemmas.{key_within}
 
@@ -133,6 +135,7 @@ module _ {N : Type 0} (view : View N) where
     geometry = next.geometry ∙ first.geometry;
     honest_is = next.honest_is ∙ first.honest_is;
     calm_is = next.calm_is ∙ first.calm_is;
+    asked = asks_then view.called old.nand mid.nand new.nand first.asked next.asked;
     failed_is = omega (arith, first.failed_is, next.failed_is);
     rose = λ bus. risen_over (view.failed old.nand) (view.failed mid.nand) (view.failed new.nand) first.failed_is (next.rose bus);
     limits = limits_then _ _ _ limits next.limits;
@@ -146,3 +149,11 @@ module _ {N : Type 0} (view : View N) where
     where
       limits : HasLimitsOf old.mapping mid.mapping
       limits = record { geometry = ap (λ (r : Ram). r.mapping.geometry) same; capacity = ap (λ (r : Ram). r.mapping.capacity) same }
+
+  -- and where a fault of the die ends it
+  pub cut_after : {A : Type 0} (old mid new : Engine N) (x : A) → ram mid ≡ ram old → (view.honest old.nand ≡ true → view.flash mid.nand ≡ view.flash old.nand) → EngineLeaves view old (Ok x) mid
+      → view.honest old.nand ≡ true → Knows (ram old) (image_in view.flash old) → (Knows (ram mid) (image_in view.flash mid) → CutsSafely view mid new) → CutsSafely view old new
+  cut_after old mid new x same still first is_honest k next =
+      let kept = keeps_look old mid same still is_honest k in
+      cuts_on view old mid new first.geometry (record { geometry = ap (λ (r : Ram). r.mapping.geometry) same; capacity = ap (λ (r : Ram). r.mapping.capacity) same }) kept.array
+      (first.stops is_honest k (λ bus. (let no : ⊥ = cc in no))) (next kept.truth)

@@ -2,6 +2,7 @@
 use Rattle.std.proofs.Common.{◌≡◌, ◌≢◌, ◌⊎◌, ℕ, ◌+◌, ◌-◌, ◌^◌, ◌<◌, ◌≤◌, ◌==◌, ◌&&◌, ◌||◌, ◌∙◌, inl, inr, not, Bool, true, false, List, [], length, IsSome, None, Option, Some, Result, Ok, Err, OnOk, MatchResult, MatchOption, refl, sym, ap, subst, arith}
 use Rattle.std.proofs.lemmas.Bool.{cases_lt}
 use Rattle.page_layout.specs.View.{View}
+use Rattle.page_layout.specs.DieCalls.{AskedNothing}
 use Rattle.page_layout.specs.Counter.{counted, HasRisen}
 use Rattle.page_layout.specs.declared.geometry.Geometry.{Geometry}
 use Rattle.page_layout.specs.Page.{Image}
@@ -249,11 +250,13 @@ module _ {N : Type 0} (view : View N) (e f : Engine N) (block : ℕ) (is : f ≡
     geometry = refl;
     honest_is = refl;
     calm_is = refl;
+    asked = AskedNothing;
     failed_is = omega arith;
     rose = λ bus. (let no : ⊥ = cc in absurd no);
     tells = omega arith;
     went = λ is_honest ne. (let w = went_same (ram e) (view.flash e.nand) (view.recorded e.nand) in record { log = w.log; leads = w.leads; records = w.records; follows = w.follows; next = w.next; wears = w.wears; numbers = w.numbers });
     stops = λ is_honest k ne. stops_same view e was k.truth;
+    cut = λ is_honest k bus. (let no : ⊥ = cc in absurd no);
   }) safe)
 
   -- the step after it is one of the engine before

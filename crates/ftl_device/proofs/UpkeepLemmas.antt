@@ -16,6 +16,7 @@ use Rattle.collection.specs.declared.fault.EngineFault.TheVariants as engine_fau
 use Rattle.collection.specs.State.{Ram}
 use Rattle.collection.specs.Safe.{ram, image_in}
 use Rattle.collection.specs.Log.{Went}
+use Rattle.collection.specs.Stops.{CutsSafely}
 use Rattle.collection.proofs.Logs.{went_same}
 use Rattle.ftl_device.specs.declared.device.Device.{Device}
 use Rattle.ftl_device.specs.declared.fault.CallFault.{CallFault}
@@ -30,11 +31,11 @@ use Rattle.ftl_device.specs.Flush.{MayFlush, MayNotFlush, first_of, IsFlushedOut
 use Rattle.ftl_device.specs.Shortage.{CallShort}
 use Rattle.ftl_device.specs.Changes.{EndsCall, PinsNone, MayPin, Logs, Means, Upkeeps}
 use Rattle.ftl_device.proofs.CallLemmas.{well_device, memory_only, mountable_after, went_after}
-use Rattle.ftl_device.proofs.ChangeLemmas.{pins_of, Why, refuses_made, refuses_at_once, stays_same, not_past}
+use Rattle.ftl_device.proofs.ChangeLemmas.{pins_of, Why, refuses_made, refuses_at_once, rose_of, rose_refusal, stays_same, not_past}
 use Rattle.ftl_device.proofs.PinLemmas.{knows_well}
 use Rattle.ftl_device.proofs.FlushCalls.{flush_well, flush_shown, flush_refused, flush_left_refused}
 use Rattle.ftl_device.proofs.MountableLemmas.{restart_law}
-use Rattle.ftl_device.proofs.StoppedLemmas.{stopped_call, stops_same}
+use Rattle.ftl_device.proofs.StoppedLemmas.{cut_kept, dead_call, stopped_call, stops_same}
 
 -- ---- a step of the array that changes no sector
 
@@ -97,6 +98,7 @@ module _ {N : Type 0} (view : View N) (command : Command) (old : Device N) where
   -- what the image is worth
   pub record IsUpkept (answer : Result (Unit {0}) CallFault) (e : Engine N) : Type 0 where
     pub ends : EndsCall view old.engine answer e
+    pub cut : view.honest old.engine.nand ≡ true → Knows (ram old.engine) (image_in view.flash old.engine) → answer ≡ Err (call.Engine engine_fault.Bus) → CutsSafely view old.engine e
     pub no_memory : answer ≢ Err call.OutOfMemory
     pub truth : view.honest old.engine.nand ≡ true → Knows (ram old.engine) (image_in view.flash old.engine)
         → MatchResult answer (λ _. KeepsArray old.engine.geometry (image_in view.flash old.engine) (ram e) (image_in view.flash e))
@@ -129,6 +131,7 @@ module _ {N : Type 0} (view : View N) (command : Command) (old : Device N) where
             flushed = λ well its done. done_only _ answer good_then (ram new.engine) (k.worth is_honest (here well) w its) done;
             stopped = λ well. stopped_call view old.engine new.engine command replied w.log device.engine w.records (k.ends.stops is_honest (here well) (λ bus. ne (ap (answer_of (ram new.engine) good_then) bus)))
                 (inl (kept_array old.engine.geometry (image_in view.flash old.engine) (image_in view.flash new.engine) (ram new.engine) (ram new.engine) good_then answer (k.truth is_honest (here well)) ne));
+            dead = λ well. dead_call view old.engine new.engine w.log device.engine w.records (k.ends.stops is_honest (here well) (λ bus. ne (ap (answer_of (ram new.engine) good_then) bus)));
           }
 
       means_done : view.honest old.engine.nand ≡ true → Knows (ram old.engine) (image_in view.flash old.engine) → replied ≢ Err BusFault → Means view.flash command old replied new
@@ -146,7 +149,7 @@ module _ {N : Type 0} (view : View N) (command : Command) (old : Device N) where
 
       upkeep_done : Upkeeps view command old replied new
       upkeep_done = record {
-        stays = record { limits = k.ends.limits; honest_is = k.ends.honest_is; calm_is = k.ends.calm_is; failed_is = k.ends.failed_is };
+        stays = record { limits = k.ends.limits; honest_is = k.ends.honest_is; calm_is = k.ends.calm_is; asked = k.ends.asked; failed_is = k.ends.failed_is };
         refuses = refuses_made view.failed old new may.going may.writable answer k.ends.fault k.ends.tells k.ends.rose;
         refuses_upkeep = record {
           read_only = λ going on. (let off : old.read_only ≡ false = may.writable in let no : ⊥ = cc in absurd no);
@@ -155,6 +158,7 @@ module _ {N : Type 0} (view : View N) (command : Command) (old : Device N) where
           memory = λ e. k.no_memory (memory_only answer replied good_then (ram new.engine) refl e);
         };
         logs = logs_done;
+        cut = λ is_honest well going bus. cut_kept view old.engine new.engine command device.engine (k.cut is_honest (here well) (rose_of (answer ≡ Err (call.Engine engine_fault.Bus)) answer (ram new.engine) good_then (λ e. e) bus));
         means = λ is_honest well ne. means_done is_honest (here well) ne;
       }
 
@@ -245,7 +249,9 @@ module _ {N : Type 0} (view : View N) (command : Command) (old : Device N) (devi
           left = λ well on. flush_left_refused command (ram old.engine) w.log old.read_only fault not;
           flushed = λ well its done. (let no : ⊥ = cc in absurd no);
           stopped = λ well. stopped_call view old.engine old.engine command (Err fault) w.log device.engine w.records (stops_same view old.engine device.engine well.truth) (inl refl);
+          dead = λ well. dead_call view old.engine old.engine w.log device.engine w.records (stops_same view old.engine device.engine well.truth);
         };
+    cut = λ is_honest well going bus. rose_refusal (ram old.engine) _ fault (why_not (ram old.engine) old.read_only fault not) going bus;
     means = λ is_honest well ne. record {
       step = takes _ _ (quiet_refusal (ram old.engine) old.read_only (state_in view.flash old) fault refl not well.going);
       well = well;

@@ -3,6 +3,7 @@ use Rattle.std.specs.Prelude.{◌≡◌, ◌≢◌, ◌↔◌, ℕ, ◌+◌, ◌
 use Rattle.std.specs.Option.{ForSome}
 use Rattle.std.specs.Map.{keys_of}
 use Rattle.page_layout.specs.View.{View}
+use Rattle.page_layout.specs.DieCalls.{AsksOnly}
 use Rattle.page_layout.specs.Counter.{HasRisen}
 use Rattle.page_layout.specs.Flash.{Flash}
 use Rattle.page_layout.specs.Geometry.{need}
@@ -12,6 +13,7 @@ use Rattle.bad_blocks.specs.Table.{good_count}
 use Rattle.budget.specs.declared.stream.Stream.TheVariants.{Data}
 use Rattle.mapping_cache.specs.Mapping.{HasLimitsOf, slot_of}
 use Rattle.promises.specs.Step.{Command, ArrayStep}
+use Rattle.promises.specs.Stop.{CutShort, ErasesDead}
 use Rattle.image_check.specs.Stale.{is_stale}
 use Rattle.image_check.specs.Mountable.{IsMountable}
 use Rattle.collection.specs.declared.engine.Engine.{Engine}
@@ -25,7 +27,7 @@ use Rattle.collection.specs.Cost.{HasPut}
 use Rattle.collection.specs.Settle.{HasSettled}
 use Rattle.collection.specs.Log.{Went}
 use Rattle.collection.specs.Results.{fault_after}
-use Rattle.collection.specs.Stops.{StopsSafely}
+use Rattle.collection.specs.Stops.{CutsSafely, StopsSafely}
 use Rattle.ftl_device.specs.declared.device.Device.{Device}
 use Rattle.ftl_device.specs.declared.fault.CallFault.{CallFault}
 use Rattle.ftl_device.specs.declared.fault.CallFault.TheVariants as call
@@ -36,7 +38,7 @@ use Rattle.ftl_device.specs.Counts.{is_bad_by, is_flush, IsShown, IsLeftReadOnly
 use Rattle.ftl_device.specs.Read.{IsLookedUp}
 use Rattle.ftl_device.specs.Flush.{first_of, IsFlushedOut}
 use Rattle.ftl_device.specs.Shortage.{HasFunds, CallRoomCosts, StepCounts}
-use Rattle.ftl_device.specs.Stopped.{SurvivesStops}
+use Rattle.ftl_device.specs.Stopped.{SurvivesCut, SurvivesStops}
 
 -- ---- inside the device
 
@@ -48,11 +50,13 @@ pub record EngineLeaves {A N : Type 0} (view : View N) (old : Engine N)
   pub geometry : new.geometry ≡ old.geometry
   pub honest_is : view.honest new.nand ≡ view.honest old.nand
   pub calm_is : view.calm new.nand ≡ view.calm old.nand
+  pub asked : AsksOnly view.called old.nand new.nand
   pub failed_is : view.failed old.nand ≤ view.failed new.nand
   pub rose : result ≡ Err Bus → HasRisen (view.failed old.nand) (view.failed new.nand)
   pub tells : Tells (ram old) (ram new) result
   pub went : view.honest old.nand ≡ true → result ≢ Err Bus → Went (ram old) (view.flash old.nand) (view.recorded old.nand) (ram new) (view.flash new.nand) (view.recorded new.nand)
   pub stops : view.honest old.nand ≡ true → Knows (ram old) (image_in view.flash old) → result ≢ Err Bus → StopsSafely view old new
+  pub cut : view.honest old.nand ≡ true → Knows (ram old) (image_in view.flash old) → result ≡ Err Bus → CutsSafely view old new
 
 -- AND WHERE THE CALL MAY WANT MEMORY TOO: how the part of a device's call ends that asks the die
 pub record EndsCall {N : Type 0} (view : View N) (old : Engine N)
@@ -62,6 +66,7 @@ pub record EndsCall {N : Type 0} (view : View N) (old : Engine N)
   pub geometry : new.geometry ≡ old.geometry
   pub honest_is : view.honest new.nand ≡ view.honest old.nand
   pub calm_is : view.calm new.nand ≡ view.calm old.nand
+  pub asked : AsksOnly view.called old.nand new.nand
   pub failed_is : view.failed old.nand ≤ view.failed new.nand
   pub rose : result ≡ Err (call.Engine Bus) → HasRisen (view.failed old.nand) (view.failed new.nand)
   pub limits : HasLimitsOf old.mapping new.mapping
@@ -112,11 +117,12 @@ pub record HasLookedUp (n : ℕ) (old new : Ram) (entries_page : Page) : Type 0 
 
 -- ---- whatever the die does
 
--- what every call leaves alone
+-- what every call leaves alone, and that it asks its die by calls of it alone
 pub record Stays {N : Type 0} (view : View N) (old new : Device N) : Type 0 where
   pub limits : HasLimitsOf old.engine.mapping new.engine.mapping
   pub honest_is : view.honest new.engine.nand ≡ view.honest old.engine.nand
   pub calm_is : view.calm new.engine.nand ≡ view.calm old.engine.nand
+  pub asked : AsksOnly view.called old.engine.nand new.engine.nand
   pub failed_is : view.failed old.engine.nand ≤ view.failed new.engine.nand
 
 -- what a refusal tells of the memory, and what a device that was stopped or is read-only answers
@@ -180,6 +186,7 @@ pub record Logs {N : Type 0} (view : View N) (command : Command) (old : Device N
   pub flushed : IsWell view.flash old → is_flush command ≡ true → result ≡ Ok tt → IsFlushedOut (first_of (ram old.engine)) went.log (image_in view.flash new.engine)
   pub stopped : IsWell view.flash old
       → SurvivesStops old.engine.geometry old.engine.mapping.capacity command result (image_in view.flash old.engine) (image_in view.flash new.engine) (view.recorded new.engine.nand) went.log
+  pub dead : IsWell view.flash old → IsSome (view.recorded new.engine.nand) → ErasesDead old.engine.geometry.pages (image_in view.flash old.engine) went.log
 
 -- what is true of the image after it: where the die has version 2, no newest page of version 1 is added
 pub record Means {N : Type 0} (flash : N → Flash) (command : Command) (old : Device N) (result : Result (Unit {0}) DeviceFault) (new : Device N) : Type 0 where
@@ -188,6 +195,11 @@ pub record Means {N : Type 0} (flash : N → Flash) (command : Command) (old : D
   pub versions : AddsNoOld old.engine.geometry (image_in flash old.engine) (image_in flash new.engine)
   pub mountable : old.engine.mapping.capacity + old.engine.geometry.pages ≤ 65536
       → IsMountable old.engine.geometry (old.engine.mapping.capacity + old.engine.geometry.pages) (image_in flash new.engine)
+
+-- A CALL THAT A FAULT OF THE DIE ENDED, where it had not stopped before: whatever the die is left with, as its record tells, holds the array from before, or of a write or a trim the one that it would have left
+abbrev pub IsCut : {N : Type 0} → View N → Command → (old new : Device N) → Type 0
+IsCut view command old new = CutShort (view.flash old.engine.nand) (view.recorded old.engine.nand) (view.recorded new.engine.nand)
+    (SurvivesCut old.engine.geometry old.engine.mapping.capacity command (image_in view.flash old.engine))
 
 -- ---- the whole
 
@@ -199,6 +211,7 @@ pub record Changes {N : Type 0} (view : View N) (n : ℕ) (command : Command) (o
   pub programs : ProgramsSector view n command old result new
   pub pins : LeavesUnpinned old result new
   pub logs : view.honest old.engine.nand ≡ true → result ≢ Err BusFault → Logs view command old result new
+  pub cut : view.honest old.engine.nand ≡ true → IsWell view.flash old → stop_of old.engine.fault ≡ None → result ≡ Err BusFault → IsCut view command old new
   pub means : view.honest old.engine.nand ≡ true → IsWell view.flash old → result ≢ Err BusFault → Means view.flash command old result new
   pub stale : view.honest old.engine.nand ≡ true → IsWell view.flash old → old.engine.pinned ≡ None → is_stale old.engine.geometry (image_in view.flash old.engine) n ≡ true → result ≢ Err OutOfMemory
 
@@ -208,4 +221,5 @@ pub record Upkeeps {N : Type 0} (view : View N) (command : Command) (old : Devic
   pub refuses : Refuses view.failed old result new
   pub refuses_upkeep : RefusesUpkeep old result new
   pub logs : view.honest old.engine.nand ≡ true → result ≢ Err BusFault → Logs view command old result new
+  pub cut : view.honest old.engine.nand ≡ true → IsWell view.flash old → stop_of old.engine.fault ≡ None → result ≡ Err BusFault → IsCut view command old new
   pub means : view.honest old.engine.nand ≡ true → IsWell view.flash old → result ≢ Err BusFault → Means view.flash command old result new

@@ -1,5 +1,5 @@
 -- What a flush that is done has programmed, one step after another: a chain of engines, from the one before it to the one after it.
-use Rattle.std.specs.Prelude.{◌≡◌, ◌≢◌, ℕ, ◌+◌, ◌*◌, ◌<◌, ◌≤◌, true, suc, zero, List, [], ◌∷◌}
+use Rattle.std.specs.Prelude.{◌≡◌, ℕ, ◌+◌, ◌*◌, ◌<◌, ◌≤◌, true, suc, zero, List, [], ◌∷◌}
 use Rattle.page_layout.specs.View.{View}
 use Rattle.page_layout.specs.Geometry.{entries, translation_pages, table_pages}
 use Rattle.page_layout.specs.declared.record.Kind.TheVariants as kind

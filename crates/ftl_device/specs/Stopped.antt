@@ -34,7 +34,20 @@ pub record Survives (g : Geometry) (capacity : ℕ) (command : Command) (result 
 abbrev pub SurvivesStops : Geometry → ℕ → Command → Result (Unit {0}) DeviceFault → (before after : Image) → Option Recording → List Operation → Type 0
 SurvivesStops g capacity command result before after told log = IsSome told → (left : Image) → MayLeave g before log left → Survives g capacity command result before after left
 
+-- AN IMAGE THAT IS LEFT OF A CALL that a fault of the die ended: it holds the array from before the call, or of a write or a trim the one after it, were it done; and it mounts
+pub record SurvivesCut (g : Geometry) (capacity : ℕ) (command : Command) (before left : Image) : Type 0 where
+  pub array : (array_of g left ≡ array_of g before)
+      ⊎ ((changes_sector command ≡ true) × ArrayStep g (record { array = array_of g before; ro = false }) command (reply_of (Ok tt)) (record { array = array_of g left; ro = false }))
+  pub mountable : capacity + g.pages ≤ 65536 → IsMountable g (capacity + g.pages) left
+
 -- ---- laws
+
+-- of a call that a fault ended too: a read, a flush and a turn change nothing, and a write no sector but its own
+abbrev pub QuietCutLaw : Type 0
+QuietCutLaw = (g : Geometry) (capacity : ℕ) (command : Command) (before left : Image) → changes_sector command ≡ false → SurvivesCut g capacity command before left → array_of g left ≡ array_of g before
+
+abbrev pub OtherSectorCutLaw : Type 0
+OtherSectorCutLaw = (g : Geometry) (capacity n m : ℕ) (body : List ℕ) (before left : Image) → m ≢ n → SurvivesCut g capacity (Write m body) before left → slice_get (array_of g left) n ≡ slice_get (array_of g before) n
 
 -- a read, a flush and a turn lose nothing and change nothing, whatever they are answered
 abbrev pub QuietStopLaw : Type 0

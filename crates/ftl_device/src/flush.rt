@@ -7,6 +7,7 @@ ghost use Rattle.allocation.specs.Counts.{counts_of};
 ghost use Rattle.collection.specs.Safe.{IsSafe, ram, image_in};
 ghost use Rattle.collection.specs.Left.{IsCalm, LeavesPin};
 ghost use Rattle.collection.specs.Results.{KeepsTable};
+ghost use Rattle.collection.specs.Stops.{CutsSafely};
 ghost use Rattle.ftl_device.specs.Calls.{IsWell, Knows, KeepsArray, CallRefused};
 ghost use Rattle.ftl_device.specs.Renewed.{Finishes};
 ghost use Rattle.ftl_device.specs.Flush.{IsClean, KeepsClean, HasNewTables, SpellsAll, KeepsTables, AddsPages, FailsAmong, RunsOut, IsFlushed, WritesTables, MayFlush};
@@ -131,6 +132,8 @@ pub(crate) fn flush_ready<N: Nand>(engine: &mut Engine<N>) -> Result<(), CallFau
     requires going { engine.old.fault ≡ None }
     requires calm { IsCalm (ram engine.old) }
     ensures ends { EndsCall N.view engine.old result engine.new }
+    ensures cut { N.view.honest engine.old.nand ≡ true → Knows (ram engine.old) (image_in N.view.flash engine.old) →
+        result ≡ Err (CallFault.Engine EngineFault.Bus) → CutsSafely N.view engine.old engine.new }
     ensures memory { result ≢ Err CallFault.OutOfMemory }
     ensures pins { OnOk result (engine.old.pinned ≡ None → engine.new.pinned ≡ None) }
     ensures keys { keys_of engine.new.mapping.cached ≡ keys_of engine.old.mapping.cached }

@@ -5,7 +5,7 @@ ghost use Rattle.ftl_device.specs.FlushSteps.{CleanFlushLaw, FailedFlushLaw, Lac
 ghost use Rattle.ftl_device.specs.Counts.{FreeNowLaw, GoodNowLaw, BadNowLaw, ShortLaw};
 ghost use Rattle.ftl_device.specs.Shortage.{LeavesFiveLaw, TablesLeaveLaw};
 ghost use Rattle.ftl_device.specs.Renewed.{NoneOldLaw, StaysNewLaw, BroughtForwardLaw};
-ghost use Rattle.ftl_device.specs.Stopped.{QuietStopLaw, RefusedStopLaw, MountsStopLaw, AnsweredStaysLaw};
+ghost use Rattle.ftl_device.specs.Stopped.{QuietStopLaw, RefusedStopLaw, MountsStopLaw, AnsweredStaysLaw, QuietCutLaw, OtherSectorCutLaw};
 ghost use Rattle.ftl_device.specs.Migrate.{OneFoundLaw, GoesOnLaw};
 ghost use Rattle.ftl_device.specs.Brings.{CountedLaw, LowestRowLaw};
 ghost use Rattle.ftl_device.specs.Flush.{FreshLaw, AnywhereLaw, ShownBadLaw, ShownWearLaw};
@@ -96,13 +96,16 @@ pub fn brought_laws<N: Nand>()
 
 /// What a stop inside a call leaves: a read, a flush and a turn change no sector, nor does a command
 /// that is refused; the image mounts for as many stale sectors as the cache holds and a block has pages;
-/// and what a write was answered Done for stays, where a later write of another sector is stopped. (This
-/// project.)
+/// and what a write was answered Done for stays, where a later write of another sector is stopped. And what
+/// a fault of the die leaves that ends a call: a read, a flush and a turn change no sector, and a write none
+/// but its own. (This project.)
 pub fn stopped_laws()
     ensures quiet { QuietStopLaw }
     ensures refused { RefusedStopLaw }
     ensures mounts { MountsStopLaw }
     ensures stays { AnsweredStaysLaw }
+    ensures quiet_cut { QuietCutLaw }
+    ensures other_cut { OtherSectorCutLaw }
 {}
 
 /// After `migrate_one` answered `false` no newest page is of version 1, but table pages; and after a later

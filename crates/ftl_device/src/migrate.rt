@@ -5,6 +5,7 @@ ghost use Rattle.promises.specs.Step.{Turn};
 ghost use Rattle.page_layout.specs.Geometry.{row_count};
 ghost use Rattle.page_layout.specs.OnlyReads.{OnlyReads};
 ghost use Rattle.collection.specs.Safe.{IsSafe, ram, image_in};
+ghost use Rattle.collection.specs.Stops.{CutsSafely};
 ghost use Rattle.collection.specs.Left.{IsCalm};
 ghost use Rattle.collection.specs.Looks.{IsReadFault};
 ghost use Rattle.allocation.specs.State.{free_count};
@@ -31,6 +32,8 @@ fn renew_ready<N: Nand>(engine: &mut Engine<N>, row: u32) -> Result<(), CallFaul
     requires calm { IsCalm (ram engine.old) }
     requires row { row < row_count engine.old.geometry }
     ensures ends { EndsCall N.view engine.old result engine.new }
+    ensures cut { N.view.honest engine.old.nand ≡ true → Knows (ram engine.old) (image_in N.view.flash engine.old) →
+        result ≡ Err (CallFault.Engine EngineFault.Bus) → CutsSafely N.view engine.old engine.new }
     ensures memory { result ≢ Err CallFault.OutOfMemory }
     ensures count { HasFunds (N.view.honest engine.old.nand) (ram engine.old) (image_in N.view.flash engine.old) →
         5 ≤ free_count (ram engine.old).blocks → CallShort (ram engine.old) (ram engine.new) result }
@@ -83,6 +86,8 @@ fn migrate_ready<N: Nand>(
     requires going { engine.old.fault ≡ None }
     requires calm { IsCalm (ram engine.old) }
     ensures ends { EndsCall N.view engine.old result engine.new }
+    ensures cut { N.view.honest engine.old.nand ≡ true → Knows (ram engine.old) (image_in N.view.flash engine.old) →
+        result ≡ Err (CallFault.Engine EngineFault.Bus) → CutsSafely N.view engine.old engine.new }
     ensures memory { result ≢ Err CallFault.OutOfMemory }
     ensures count { HasFunds (N.view.honest engine.old.nand) (ram engine.old) (image_in N.view.flash engine.old) →
         5 ≤ free_count (ram engine.old).blocks → CallShort (ram engine.old) (ram engine.new) result }

@@ -6,6 +6,8 @@ ghost use Rattle.page_layout.specs.Counter.{HasRisen};
 ghost use Rattle.page_layout.specs.Geometry.{row_count};
 ghost use Rattle.page_layout.specs.declared.record.Key.TheVariants.{Sector};
 ghost use Rattle.page_layout.specs.OnlyReads.{OnlyReads};
+ghost use Rattle.page_layout.specs.Recording.{EndsAt};
+ghost use Rattle.page_layout.specs.DieCalls.{AsksOnly};
 ghost use Rattle.promises.specs.Step.{ArrayStep, Read};
 ghost use Rattle.image_check.specs.Mountable.{IsMountable};
 ghost use Rattle.mapping_cache.specs.Mapping.{HasLimitsOf, known};
@@ -101,6 +103,7 @@ impl<N: Nand> Device<N> {
         ensures read_only { self.new.read_only ≡ self.old.read_only }
         ensures cursor { self.new.cursor ≡ self.old.cursor }
         ensures only_reads { OnlyReads N.view self.old.engine.nand self.new.engine.nand }
+        ensures asked { AsksOnly N.view.called self.old.engine.nand self.new.engine.nand }
         ensures reads { N.view.reads self.new.engine.nand ≤ N.view.reads self.old.engine.nand + 2 }
         ensures hit { IsSome (known self.old.engine.mapping sector) → N.view.reads self.new.engine.nand ≤ N.view.reads self.old.engine.nand + 1 }
         ensures rose { stop_of self.old.engine.fault ≡ None → result ≡ Err DeviceFault.BusFault →
@@ -115,6 +118,8 @@ impl<N: Nand> Device<N> {
             N.view.flash self.new.engine.nand ≡ N.view.flash self.old.engine.nand }
         ensures told { N.view.honest self.old.engine.nand ≡ true → result ≢ Err DeviceFault.BusFault →
             N.view.recorded self.new.engine.nand ≡ N.view.recorded self.old.engine.nand }
+        ensures cut { N.view.honest self.old.engine.nand ≡ true → stop_of self.old.engine.fault ≡ None → result ≡ Err DeviceFault.BusFault →
+            EndsAt [] (N.view.recorded self.old.engine.nand) (N.view.recorded self.new.engine.nand) }
         ensures survives { N.view.honest self.old.engine.nand ≡ true → IsWell N.view.flash self.old → result ≢ Err DeviceFault.BusFault →
             SurvivesStops self.old.engine.geometry self.old.engine.mapping.capacity (Read sector) result
             (image_in N.view.flash self.old.engine) (image_in N.view.flash self.new.engine) (N.view.recorded self.new.engine.nand) [] }

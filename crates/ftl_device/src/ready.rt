@@ -1,10 +1,13 @@
 //! A sector is made ready: its entry is cached before anything of it is programmed.
-ghost use Rattle.std.specs.Prelude.{◌≡◌, ◌≢◌, ℕ, ◌<◌, ◌≤◌, true, length, Some, None, Ok, Err, IsOk, IfOk, IfErr, IsSome, OnOk, MatchResult};
+ghost use Rattle.std.specs.Prelude.{◌≡◌, ◌≢◌, ℕ, ◌<◌, ◌≤◌, true, [], length, Some, None, Ok, Err, IsOk, IfOk, IfErr, IsSome, OnOk, MatchResult};
 ghost use Rattle.std.specs.Option.{ForSome};
 ghost use Rattle.std.specs.Map.{keys_of};
 ghost use Rattle.page_layout.specs.Counter.{HasRisen};
+ghost use Rattle.page_layout.specs.Recording.{EndsAt};
+ghost use Rattle.page_layout.specs.DieCalls.{AsksOnly};
 ghost use Rattle.page_layout.specs.Geometry.{row_count};
 ghost use Rattle.page_layout.specs.declared.record.Key.TheVariants.{Sector};
+ghost use Rattle.page_layout.specs.declared.record.Kind.TheVariants as kind;
 ghost use Rattle.page_layout.specs.Array.{zeros};
 ghost use Rattle.mapping_cache.specs.Mapping.{CanLoad, HasLimitsOf, slot_of};
 ghost use Rattle.collection.specs.Pages.{newest_row};
@@ -16,6 +19,7 @@ ghost use Rattle.collection.specs.Settle.{HasNoMore};
 ghost use Rattle.collection.specs.Looks.{FindsRow, IsReadFault};
 ghost use Rattle.collection.specs.Results.{IsSame, Refused, fault_after};
 ghost use Rattle.collection.specs.Collect.{KeepsKeys, IsRearranged, RoomRefused, RoomCounts};
+ghost use Rattle.collection.specs.Stops.{Cuts, CutsSafely, IsPutByStop};
 ghost use Rattle.ftl_device.specs.Calls.{Knows, IsFound, KeepsArray, HoldsSector, CallRefused, HasMadeRoom};
 ghost use Rattle.ftl_device.specs.Calls.{HasMadePlace, IsReady, HasCost, HasPageOf, IsLastOf};
 ghost use Rattle.promises.specs.Step.{Write, Trim};
@@ -97,6 +101,7 @@ fn find_row<N: Nand>(engine: &mut Engine<N>, sector: u32) -> Result<Option<u32>,
     ensures memory { ram engine.new ≡ record (ram engine.old) { fault = fault_after None result } }
     ensures honest { N.view.honest engine.new.nand ≡ N.view.honest engine.old.nand }
     ensures calm { N.view.calm engine.new.nand ≡ N.view.calm engine.old.nand }
+    ensures asked { AsksOnly N.view.called engine.old.nand engine.new.nand }
     ensures failed { N.view.failed engine.old.nand ≤ N.view.failed engine.new.nand }
     ensures rose { result ≡ Err EngineFault.Bus → HasRisen (N.view.failed engine.old.nand) (N.view.failed engine.new.nand) }
     ensures faults { IfErr result IsReadFault }
@@ -104,6 +109,7 @@ fn find_row<N: Nand>(engine: &mut Engine<N>, sector: u32) -> Result<Option<u32>,
     ensures row { IfOk result (λ row. ForSome row (λ r. r < row_count engine.old.geometry)) }
     ensures same { N.view.honest engine.old.nand ≡ true → result ≢ Err EngineFault.Bus → N.view.flash engine.new.nand ≡ N.view.flash engine.old.nand }
     ensures told { N.view.honest engine.old.nand ≡ true → result ≢ Err EngineFault.Bus → N.view.recorded engine.new.nand ≡ N.view.recorded engine.old.nand }
+    ensures cut { N.view.honest engine.old.nand ≡ true → result ≡ Err EngineFault.Bus → EndsAt [] (N.view.recorded engine.old.nand) (N.view.recorded engine.new.nand) }
     ensures truth { N.view.honest engine.old.nand ≡ true → IsTrue None (ram engine.old) (image_in N.view.flash engine.old) →
         MatchResult result
         (λ row. row ≡ newest_row (image_in N.view.flash engine.old) (Sector sector))
@@ -154,6 +160,8 @@ fn make_ready<N: Nand>(engine: &mut Engine<N>, sector: u32) -> Result<(), CallFa
     requires calm { IsCalm (ram engine.old) }
     requires sector { sector < engine.old.geometry.sectors }
     ensures ends { EndsCall N.view engine.old result engine.new }
+    ensures cut { N.view.honest engine.old.nand ≡ true → Knows (ram engine.old) (image_in N.view.flash engine.old) →
+        result ≡ Err (CallFault.Engine EngineFault.Bus) → CutsSafely N.view engine.old engine.new }
     ensures readies { Readies N.view sector 1 engine.old result engine.new }
     ensures holds { OnOk result (IsSome (slot_of engine.new.mapping sector)) }
     ensures checked { OnOk result (IsLookedUp sector (ram engine.old) (ram engine.new) (page_in engine.new.scratch)) }
@@ -180,6 +188,9 @@ pub(crate) fn write_ready<N: Nand>(
     requires sector { sector < engine.old.geometry.sectors }
     requires body { length body.now ≡ engine.old.geometry.data_bytes }
     ensures ends { EndsCall N.view engine.old result engine.new }
+    ensures cut { N.view.honest engine.old.nand ≡ true → Knows (ram engine.old) (image_in N.view.flash engine.old) →
+        result ≡ Err (CallFault.Engine EngineFault.Bus) →
+        Cuts N.view (IsPutByStop kind.Sector sector body.now (ram engine.old) (image_in N.view.flash engine.old)) engine.old engine.new }
     ensures readies { Readies N.view sector 2 engine.old result engine.new }
     ensures cost { OnOk result (HasCost sector (ram engine.old) (ram engine.new)) }
     ensures checked { OnOk result (HasLookedUp sector (ram engine.old) (ram engine.new) (page_in engine.new.scratch)) }
@@ -203,6 +214,9 @@ pub(crate) fn trim_ready<N: Nand>(engine: &mut Engine<N>, sector: u32) -> Result
     requires calm { IsCalm (ram engine.old) }
     requires sector { sector < engine.old.geometry.sectors }
     ensures ends { EndsCall N.view engine.old result engine.new }
+    ensures cut { N.view.honest engine.old.nand ≡ true → Knows (ram engine.old) (image_in N.view.flash engine.old) →
+        result ≡ Err (CallFault.Engine EngineFault.Bus) →
+        Cuts N.view (IsPutByStop kind.Trim sector (zeros engine.old.geometry) (ram engine.old) (image_in N.view.flash engine.old)) engine.old engine.new }
     ensures readies { Readies N.view sector 2 engine.old result engine.new }
     ensures cost { OnOk result (HasCost sector (ram engine.old) (ram engine.new)) }
     ensures checked { OnOk result (HasLookedUp sector (ram engine.old) (ram engine.new) (page_in engine.new.scratch)) }

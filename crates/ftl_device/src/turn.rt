@@ -3,6 +3,7 @@ ghost use Rattle.std.specs.Prelude.{◌≡◌, ◌≢◌, ◌⊎◌, ◌-◌, �
 ghost use Rattle.promises.specs.Step.{Turn};
 ghost use Rattle.bad_blocks.specs.Table.{good_count};
 ghost use Rattle.collection.specs.Safe.{IsSafe, ram, image_in};
+ghost use Rattle.collection.specs.Stops.{CutsSafely};
 ghost use Rattle.collection.specs.Left.{IsCalm};
 ghost use Rattle.collection.specs.Collect.{HasAiling, HasNoneAiling};
 ghost use Rattle.ftl_device.specs.Device.{IsDevice};
@@ -68,6 +69,8 @@ fn turn_ready<N: Nand>(engine: &mut Engine<N>) -> Result<(), CallFault>
     requires going { engine.old.fault ≡ None }
     requires calm { IsCalm (ram engine.old) }
     ensures ends { EndsCall N.view engine.old result engine.new }
+    ensures cut { N.view.honest engine.old.nand ≡ true → Knows (ram engine.old) (image_in N.view.flash engine.old) →
+        result ≡ Err (CallFault.Engine EngineFault.Bus) → CutsSafely N.view engine.old engine.new }
     ensures memory { result ≢ Err CallFault.OutOfMemory }
     ensures turned { OnOk result (HasTurned (ram engine.old) (ram engine.new)) }
     ensures count { HasFunds (N.view.honest engine.old.nand) (ram engine.old) (image_in N.view.flash engine.old) →

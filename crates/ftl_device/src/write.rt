@@ -132,7 +132,8 @@ impl<N: Nand> Device<N> {
     /// - `Damaged`: a translation page isn't sound or not of its key, or names a row that the die
     ///   doesn't have, which never comes of an honest die. The device is stopped.
     /// - `BusFault`: the die answered no page or no outcome, and its count of failures has risen or
-    ///   stands at 2^64 - 1. The device is stopped, and what the die holds isn't known.
+    ///   stands at 2^64 - 1. The device is stopped. What an honest die that tells a record may be left with
+    ///   has the array from before, or this sector with these bytes; else nothing is known of it.
     ///
     /// Source: the DFTL paper, for the eviction; the rest is this project's.
     pub fn write(&mut self, sector: u32, body: &[u8]) -> Result<(), DeviceFault>

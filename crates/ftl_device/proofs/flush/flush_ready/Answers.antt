@@ -7,7 +7,7 @@ use Rattle.ftl_device.proofs.FlushLoops.{limits_then, keeps_then, keeps_refused,
 use Rattle.ftl_device.proofs.FlushStepLemmas.{cleared_by}
 use Rattle.ftl_device.proofs.RoomLemmas.{keeps_room, refused_room, room_pins}
 use Rattle.ftl_device.proofs.SpentLemmas.{flush_first, flush_room, flush_done, flush_stuck, flush_tables}
-use Rattle.ftl_device.proofs.LeaveLemmas.{leaves_then, leaves_ends, leaves_stuck, limits_same}
+use Rattle.ftl_device.proofs.LeaveLemmas.{leaves_cut, leaves_then, leaves_ends, leaves_stuck, limits_same}
 use Rattle.collection.proofs.Lefts.{calm_law}
 use Rattle.ftl_device.proofs.flush.flush_ready.Goals as goal
 
@@ -90,6 +90,34 @@ returns-in_err-write_tables-clause-ends g c =
     (λ honest k. keeps_room (ram c.flush_translations.new.engine) (ram c.make_room.new.engine) _ _ (c.in_ok-make_room.ensures.truth honest k) (c.in_ok-make_room.ensures.pinned honest k)) c.make_room.ensures.keys.limits
     c.in_ok-make_room.ensures.leaves c.in_err-write_tables.ensures.leaves))
     (limits_then _ _ _ (limits_then _ _ _ c.flush_translations.ensures.limits c.make_room.ensures.keys.limits) (limits_same _ _ c.write_tables.ensures.mapping)))
+
+-- ---- where a fault of the die ended it
+
+pub returns-in_err-flush_translations-clause-cut : goal.returns-in_err-flush_translations-clause-cut
+returns-in_err-flush_translations-clause-cut g c =
+    let p = err_from_is_err_and c.from_residual.result c.from_residual.ensures.1 in
+    rw (p.1, p.2) (leaves_cut g.N.PageSource.view c.args.engine.now c.flush_translations.new.engine _ c.in_err-flush_translations.ensures.leaves)
+
+pub returns-in_err-make_room-clause-cut : goal.returns-in_err-make_room-clause-cut
+returns-in_err-make_room-clause-cut g c =
+    let p = err_from_is_err_and c.from_residual-in_err-make_room.result c.from_residual-in_err-make_room.ensures.1 in
+    rw (p.1, p.2)
+    (leaves_cut g.N.PageSource.view c.args.engine.now c.make_room.new.engine _
+    (leaves_then g.N.PageSource.view c.args.engine.now c.flush_translations.new.engine c.make_room.new.engine _ _
+    (λ honest k. c.in_ok-flush_translations.ensures.truth honest k) c.flush_translations.ensures.limits
+    c.in_ok-flush_translations.ensures.leaves c.in_err-make_room.ensures.leaves))
+
+pub returns-in_err-write_tables-clause-cut : goal.returns-in_err-write_tables-clause-cut
+returns-in_err-write_tables-clause-cut g c =
+    let p = err_from_is_err_and c.from_residual-in_err-write_tables.result c.from_residual-in_err-write_tables.ensures.1 in
+    rw (p.1, p.2)
+    (leaves_cut g.N.PageSource.view c.args.engine.now c.write_tables.new.engine _
+    (leaves_then g.N.PageSource.view c.args.engine.now c.flush_translations.new.engine c.write_tables.new.engine _ _
+    (λ honest k. c.in_ok-flush_translations.ensures.truth honest k) c.flush_translations.ensures.limits
+    c.in_ok-flush_translations.ensures.leaves
+    (leaves_then g.N.PageSource.view c.flush_translations.new.engine c.make_room.new.engine c.write_tables.new.engine _ _
+    (λ honest k. keeps_room (ram c.flush_translations.new.engine) (ram c.make_room.new.engine) _ _ (c.in_ok-make_room.ensures.truth honest k) (c.in_ok-make_room.ensures.pinned honest k)) c.make_room.ensures.keys.limits
+    c.in_ok-make_room.ensures.leaves c.in_err-write_tables.ensures.leaves)))
 
 pub returns-clause-ends : goal.returns-clause-ends
 returns-clause-ends g c = leaves_ends g.N.PageSource.view

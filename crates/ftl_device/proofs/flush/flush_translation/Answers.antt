@@ -65,7 +65,8 @@ returns-clause-leaves g c = leaves_then g.N.PageSource.view c.args.engine.now c.
     c.write_back.ensures.goes.geometry
     (back_told c.write_back.result (ram c.make_room.new.engine) (ram c.write_back.new.self)
     (c.write_back.ensures.cost c.in_ok-make_room.ensures.leaves.fault))
-    (λ honest k ne. c.write_back.ensures.stops honest c.in_ok-make_room.ensures.leaves.fault k.truth ne))
+    (λ honest k ne. c.write_back.ensures.stops honest c.in_ok-make_room.ensures.leaves.fault k.truth ne)
+    (λ honest k bus. c.write_back.ensures.cut honest c.in_ok-make_room.ensures.leaves.fault k.truth bus))
 
 pub returns-clause-pins : goal.returns-clause-pins
 returns-clause-pins g c = ok_any c.write_back.result (λ none. ap (λ p. p.block) c.write_back.ensures.pin ∙ room_pins g.N.PageSource.view.erases c.args.engine.now c.make_room.new.engine c.in_ok-make_room.ensures.erases none)

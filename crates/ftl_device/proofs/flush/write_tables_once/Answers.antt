@@ -32,7 +32,8 @@ pages-preserved g c = record {
       (leaves_by g.N.PageSource.view c.pages.engine
       c.write_table.new.self (Ok tt) c.pages.invariant.leaves.fault c.in_ok-write_table.ensures.stands c.write_table.ensures.goes.geometry
       (page_told Meta (Ok tt) (ram c.pages.engine) (ram c.write_table.new.self) (c.in_ok-write_table.ensures.cost c.pages.invariant.leaves.fault))
-      (λ honest k ne. c.in_ok-write_table.ensures.stops honest c.pages.invariant.leaves.fault k.truth ne));
+      (λ honest k ne. c.in_ok-write_table.ensures.stops honest c.pages.invariant.leaves.fault k.truth ne)
+      (λ honest k bus. (let no : ⊥ = cc in absurd no)));
   mapping = c.write_table.ensures.mapping ∙ c.pages.invariant.mapping;
   beside = beside_then _ _ _ c.pages.invariant.beside (beside_mapping (ram c.pages.engine) (ram c.write_table.new.self) c.write_table.ensures.pin c.write_table.ensures.goes c.write_table.ensures.mapping);
   table = table_then _ _ _ c.pages.invariant.table c.write_table.ensures.table;
@@ -82,7 +83,8 @@ returns-in_err-write_table-clause-leaves g c =
     (leaves_by g.N.PageSource.view c.pages.engine
     c.write_table.new.self (Err _) c.pages.invariant.leaves.fault c.in_err-write_table.ensures.stands c.write_table.ensures.goes.geometry
     (page_told Meta (Err _) (ram c.pages.engine) (ram c.write_table.new.self) (c.in_err-write_table.ensures.cost c.pages.invariant.leaves.fault))
-    (λ honest k ne. c.in_err-write_table.ensures.stops honest c.pages.invariant.leaves.fault k.truth ne)))
+    (λ honest k ne. c.in_err-write_table.ensures.stops honest c.pages.invariant.leaves.fault k.truth ne)
+    (λ honest k bus. c.in_err-write_table.ensures.cut honest c.pages.invariant.leaves.fault k.truth bus)))
 
 pub returns-in_err-write_table-clause-beside : goal.returns-in_err-write_table-clause-beside
 returns-in_err-write_table-clause-beside g c = beside_then _ _ _ c.pages.invariant.beside (beside_mapping (ram c.pages.engine) (ram c.write_table.new.self) c.write_table.ensures.pin c.write_table.ensures.goes c.write_table.ensures.mapping)

@@ -7,7 +7,7 @@ use Rattle.ftl_device.specs.Calls.{Knows}
 use Rattle.ftl_device.specs.Shortage.{HasFunds, CallShort}
 use Rattle.ftl_device.specs.Migrate.{Renews, FindsFrom}
 use Rattle.ftl_device.proofs.CursorLemmas.{due_from}
-use Rattle.ftl_device.proofs.MigrateLemmas.{over, ends_after, none_old, ok_fewer, ok_some, still_ok}
+use Rattle.ftl_device.proofs.MigrateLemmas.{over, cut_after, ends_after, none_old, ok_fewer, ok_some, still_ok}
 use Rattle.ftl_device.specs.Brings.{HasBrought, BringsPage}
 use Rattle.ftl_device.proofs.BringLemmas.{ok_brings}
 use Rattle.ftl_device.proofs.migrate.migrate_ready.Goals as goal
@@ -30,6 +30,14 @@ returns-clause-ends g c =
     let same = still_ok (ram old) (ram mid) c.next_from.ensures.still (c.in_ok-next.ensures.leaves.fault ∙ sym c.requires.going) in
     ends_after g.N.PageSource.view old mid c.renew_ready.new.engine _ c.renew_ready.result same c.in_ok-next.ensures.same
     c.in_ok-next.ensures.leaves c.renew_ready.ensures.ends
+
+pub returns-clause-cut : goal.returns-clause-cut
+returns-clause-cut g c = λ honest k bus.
+    let old = c.args.engine.now in
+    let mid = c.next_from.new.engine in
+    let same = still_ok (ram old) (ram mid) c.next_from.ensures.still (c.in_ok-next.ensures.leaves.fault ∙ sym c.requires.going) in
+    cut_after g.N.PageSource.view old mid c.renew_ready.new.engine _ same c.in_ok-next.ensures.same c.in_ok-next.ensures.leaves honest k
+    (λ known. c.renew_ready.ensures.cut (c.in_ok-next.ensures.leaves.honest_is ∙ honest) known bus)
 
 pub returns-clause-count : goal.returns-clause-count
 returns-clause-count g c = λ known five.

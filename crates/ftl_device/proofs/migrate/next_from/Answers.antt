@@ -18,7 +18,9 @@ returns-clause-leaves g c =
     (record { geometry = ap (λ (r : Ram). r.mapping.geometry) same; capacity = ap (λ (r : Ram). r.mapping.capacity) same })
     (leaves_look g.N.PageSource.view old mid
     (Ok c.in_ok-ahead.ahead) c.requires.going stands c.next_old.ensures.still tt
-    (λ honest k ne. c.in_ok-ahead.ensures.stops honest c.requires.going k.truth ne))
+    (λ honest k ne. c.in_ok-ahead.ensures.stops honest c.requires.going k.truth ne)
+    (λ honest k bus. (let no : ⊥ = cc in absurd no)))
     (leaves_look g.N.PageSource.view mid
     c.next_old-2.new.self c.next_old-2.result going c.next_old-2.ensures.stands c.next_old-2.ensures.still (c.next_old-2.ensures.faults going)
-    (λ honest k ne. c.next_old-2.ensures.stops honest going k.truth ne))
+    (λ honest k ne. c.next_old-2.ensures.stops honest going k.truth ne)
+    (λ honest k bus. c.next_old-2.ensures.cut honest going k.truth bus))

@@ -5,7 +5,8 @@ use Rattle.collection.proofs.Lefts.{calm_law}
 use Rattle.ftl_device.proofs.FlushLoops.{limits_then, engine_keeps, keeps_refused}
 use Rattle.ftl_device.proofs.RoomLemmas.{rescue_told, keeps_room, refused_room}
 use Rattle.ftl_device.proofs.SpentLemmas.{rescue_short, rescue_stuck, unroomed_short}
-use Rattle.ftl_device.proofs.LeaveLemmas.{leaves_by, leaves_then, leaves_done, leaves_ends, leaves_stuck}
+use Rattle.ftl_device.proofs.LeaveLemmas.{leaves_by, leaves_cut, leaves_then, leaves_done, leaves_ends, leaves_stuck}
+use Rattle.ftl_device.proofs.StoppedLemmas.{cuts_on}
 use Rattle.ftl_device.proofs.StepLemmas.{moved_less, rescue_refused}
 use Rattle.ftl_device.proofs.MigrateLemmas.{renews_by, renewed_same}
 use Rattle.ftl_device.proofs.BringLemmas.{brought_by, brings_by, made_room}
@@ -20,6 +21,11 @@ pub returns-in_err-make_room-clause-count : goal.returns-in_err-make_room-clause
 returns-in_err-make_room-clause-count g c =
     let p = err_from_is_err_and c.from_residual.result c.from_residual.ensures.1 in
     rw (p.1, p.2) (λ known five. unroomed_short _ (ram c.args.engine.now) (ram c.make_room.new.engine) (c.in_err-make_room.ensures.count known.0 known.1 0 known.2))
+
+pub returns-in_err-make_room-clause-cut : goal.returns-in_err-make_room-clause-cut
+returns-in_err-make_room-clause-cut g c =
+    let p = err_from_is_err_and c.from_residual.result c.from_residual.ensures.1 in
+    rw (p.1, p.2) (leaves_cut g.N.PageSource.view c.args.engine.now c.make_room.new.engine _ c.in_err-make_room.ensures.leaves)
 
 pub returns-in_err-make_room-clause-ends : goal.returns-in_err-make_room-clause-ends
 returns-in_err-make_room-clause-ends g c =
@@ -47,6 +53,15 @@ returns-in_err-renew_at-clause-count g c =
     c.make_room.ensures.leaves.safe.memory c.renew_at.ensures.stands.safe.memory c.in_ok-make_room.ensures.made c.renew_at.ensures.goes
     (c.in_ok-make_room.ensures.count known.0 known.1 0 known.2) _ (c.in_err-renew_at.ensures.cost c.in_ok-make_room.ensures.leaves.fault))
 
+pub returns-in_err-renew_at-clause-cut : goal.returns-in_err-renew_at-clause-cut
+returns-in_err-renew_at-clause-cut g c =
+    let p = err_from_is_err_and c.from_residual-in_err-renew_at.result c.from_residual-in_err-renew_at.ensures.1 in
+    rw (p.1, p.2) (λ honest k bus.
+    let knows = c.in_ok-make_room.ensures.pinned honest k in
+    cuts_on g.N.PageSource.view c.args.engine.now c.make_room.new.engine c.renew_at.new.self c.make_room.ensures.leaves.geometry c.make_room.ensures.keys.limits (c.in_ok-make_room.ensures.truth honest k).array
+    (c.in_ok-make_room.ensures.leaves.stops honest k (λ e. (let no : ⊥ = cc in no)))
+    (c.in_err-renew_at.ensures.cut (c.make_room.ensures.leaves.honest_is ∙ honest) c.in_ok-make_room.ensures.leaves.fault knows.truth (cc)))
+
 pub returns-in_err-renew_at-clause-ends : goal.returns-in_err-renew_at-clause-ends
 returns-in_err-renew_at-clause-ends g c =
     let p = err_from_is_err_and c.from_residual-in_err-renew_at.result c.from_residual-in_err-renew_at.ensures.1 in
@@ -60,7 +75,8 @@ returns-in_err-renew_at-clause-ends g c =
     (leaves_by g.N.PageSource.view c.make_room.new.engine
     c.renew_at.new.self (Err _) c.in_ok-make_room.ensures.leaves.fault c.in_err-renew_at.ensures.stands c.renew_at.ensures.goes.geometry
     (rescue_told (Err _) (ram c.make_room.new.engine) (ram c.renew_at.new.self) c.make_room.ensures.leaves.safe.memory c.renew_at.ensures.stands.safe.memory c.renew_at.ensures.goes (c.in_err-renew_at.ensures.cost c.in_ok-make_room.ensures.leaves.fault))
-    (λ honest k ne. c.in_err-renew_at.ensures.stops honest c.in_ok-make_room.ensures.leaves.fault k.truth ne))) (limits_then _ _ _ c.make_room.ensures.keys.limits c.renew_at.ensures.keys.limits))
+    (λ honest k ne. c.in_err-renew_at.ensures.stops honest c.in_ok-make_room.ensures.leaves.fault k.truth ne)
+    (λ honest k bus. c.in_err-renew_at.ensures.cut honest c.in_ok-make_room.ensures.leaves.fault k.truth bus))) (limits_then _ _ _ c.make_room.ensures.keys.limits c.renew_at.ensures.keys.limits))
 
 pub returns-clause-truth : goal.returns-clause-truth
 returns-clause-truth g c = λ honest w.
@@ -89,7 +105,8 @@ returns-clause-ends g c = leaves_ends g.N.PageSource.view
     c.in_ok-make_room.ensures.leaves
     (leaves_by g.N.PageSource.view c.make_room.new.engine c.renew_at.new.self (Ok _) c.in_ok-make_room.ensures.leaves.fault c.in_ok-renew_at.ensures.stands c.renew_at.ensures.goes.geometry
     (rescue_told (Ok _) (ram c.make_room.new.engine) (ram c.renew_at.new.self) c.make_room.ensures.leaves.safe.memory c.renew_at.ensures.stands.safe.memory c.renew_at.ensures.goes (c.in_ok-renew_at.ensures.cost c.in_ok-make_room.ensures.leaves.fault))
-    (λ honest k ne. c.in_ok-renew_at.ensures.stops honest c.in_ok-make_room.ensures.leaves.fault k.truth ne))))
+    (λ honest k ne. c.in_ok-renew_at.ensures.stops honest c.in_ok-make_room.ensures.leaves.fault k.truth ne)
+    (λ honest k bus. (let no : ⊥ = cc in absurd no)))))
     (limits_then _ _ _ c.make_room.ensures.keys.limits c.renew_at.ensures.keys.limits) (λ none. calm_law (ram c.make_room.new.engine) (ram c.renew_at.new.self) c.in_ok-renew_at.ensures.beside c.in_ok-make_room.ensures.made.calm)
 
 pub returns-clause-renews : goal.returns-clause-renews

@@ -42,6 +42,7 @@ returns-in-Some-clause-leaves g c = leaves_by g.N.PageSource.view c.args.engine.
     c.write_back.ensures.goes.geometry
     (back_told c.write_back.result (ram c.args.engine.now) (ram c.write_back.new.self) (c.write_back.ensures.cost c.requires.going))
     (λ honest k ne. c.write_back.ensures.stops honest c.requires.going k.truth ne)
+    (λ honest k bus. c.write_back.ensures.cut honest c.requires.going k.truth bus)
 
 pub returns-then-can_load-clause-beside : goal.returns-then-can_load-clause-beside
 returns-then-can_load-clause-beside g c = beside_here (ram c.args.engine.now)

@@ -7,6 +7,7 @@ use Rattle.collection.specs.Safe.{ram, image_in}
 use Rattle.ftl_device.proofs.ReadyLemmas.{same_slots, most_recent}
 use Rattle.ftl_device.proofs.CostLemmas.{order_ready, ready_then}
 use Rattle.ftl_device.proofs.EndLemmas.{ends_refused, ends_memory, ends_loaded}
+use Rattle.ftl_device.proofs.LeaveLemmas.{leaves_cut}
 use Rattle.ftl_device.proofs.ReadLemmas.{is_looked_up}
 use Rattle.ftl_device.specs.Calls.{KeepsArray}
 use Rattle.ftl_device.specs.Shortage.{HasFunds}
@@ -22,8 +23,13 @@ returns-in_err-row-clause-ends g c =
     rw (p.1, p.2)
     (ends_refused g.N.PageSource.view c.args.engine.now
     c.prepare.new.engine _ c.prepare.ensures.leaves.safe c.in_err-row.ensures.leaves.fault c.prepare.ensures.leaves.geometry
-    c.prepare.ensures.leaves.honest_is c.prepare.ensures.leaves.calm_is c.prepare.ensures.leaves.failed_is
+    c.prepare.ensures.leaves.honest_is c.prepare.ensures.leaves.calm_is c.prepare.ensures.leaves.asked c.prepare.ensures.leaves.failed_is
     (λ is. c.in_err-row.ensures.leaves.rose (ap Err is)) c.prepare.ensures.limits c.in_err-row.ensures.leaves.tells (λ honest ne. c.in_err-row.ensures.leaves.went honest (λ e. ne (cc))) (λ honest k ne. c.in_err-row.ensures.leaves.stops honest k (λ e. ne (cc))))
+
+pub returns-in_err-row-clause-cut : goal.returns-in_err-row-clause-cut
+returns-in_err-row-clause-cut g c =
+    let p = err_from_is_err_and c.from_residual.result c.from_residual.ensures.1 in
+    rw (p.1, p.2) (leaves_cut g.N.PageSource.view c.args.engine.now c.prepare.new.engine _ c.in_err-row.ensures.leaves)
 
 pub returns-in_err-row-clause-readies : goal.returns-in_err-row-clause-readies
 returns-in_err-row-clause-readies g c =
@@ -56,11 +62,16 @@ returns-in_err-cache_sector-clause-ends g c =
     rw (p.1, p.2)
     (ends_memory g.N.PageSource.view c.args.engine.now
     c.prepare.new.engine c.prepare.ensures.leaves.safe c.in_ok-row.ensures.leaves.fault c.prepare.ensures.leaves.geometry
-    c.prepare.ensures.leaves.honest_is c.prepare.ensures.leaves.calm_is c.prepare.ensures.leaves.failed_is
+    c.prepare.ensures.leaves.honest_is c.prepare.ensures.leaves.calm_is c.prepare.ensures.leaves.asked c.prepare.ensures.leaves.failed_is
     c.prepare.ensures.limits c.in_ok-row.ensures.calm c.in_ok-row.ensures.leaves.tells
     (λ honest. c.in_ok-row.ensures.leaves.went honest (λ e. (let no : ⊥ = cc in no)))
     (λ honest k. c.in_ok-row.ensures.leaves.stops honest k (λ e. (let no : ⊥ = cc in no))) c.cache_sector.new.self
     c.in_err-cache_sector.ensures.refused)
+
+pub returns-in_err-cache_sector-clause-cut : goal.returns-in_err-cache_sector-clause-cut
+returns-in_err-cache_sector-clause-cut g c =
+    let p = err_from_is_err_and c.from_residual-in_err-cache_sector.result c.from_residual-in_err-cache_sector.ensures.1 in
+    rw (p.1, p.2) (λ honest k bus. (let no : ⊥ = cc in absurd no))
 
 pub returns-in_err-cache_sector-clause-readies : goal.returns-in_err-cache_sector-clause-readies
 returns-in_err-cache_sector-clause-readies g c =
@@ -91,7 +102,7 @@ pub returns-clause-ends : goal.returns-clause-ends
 returns-clause-ends g c =
     ends_loaded g.N.PageSource.view c.args.engine.now
     c.prepare.new.engine c.prepare.ensures.leaves.safe c.in_ok-row.ensures.leaves.fault c.prepare.ensures.leaves.geometry
-    c.prepare.ensures.leaves.honest_is c.prepare.ensures.leaves.calm_is c.prepare.ensures.leaves.failed_is
+    c.prepare.ensures.leaves.honest_is c.prepare.ensures.leaves.calm_is c.prepare.ensures.leaves.asked c.prepare.ensures.leaves.failed_is
     c.prepare.ensures.limits c.in_ok-row.ensures.calm c.in_ok-row.ensures.leaves.tells
     (λ honest. c.in_ok-row.ensures.leaves.went honest (λ e. (let no : ⊥ = cc in no)))
     (λ honest k. c.in_ok-row.ensures.leaves.stops honest k (λ e. (let no : ⊥ = cc in no))) c.cache_sector.new.self c.args.sector _

@@ -20,6 +20,7 @@ returns-clause-leaves g c = leaves_by g.N.PageSource.view
     (c.make_room.ensures.makes c.requires.going).goes.geometry
     (room_tells c.make_room.result (ram c.args.engine.now) (ram c.make_room.new.self) c.requires.safe.memory c.make_room.ensures.stands.safe.memory (c.make_room.ensures.makes c.requires.going).goes ((c.make_room.ensures.makes c.requires.going).tells))
     (λ honest k ne. c.make_room.ensures.stops honest c.requires.going k.truth k.passed ne)
+    (λ honest k bus. c.make_room.ensures.cut honest c.requires.going k.truth k.passed bus)
 
 pub returns-clause-truth : goal.returns-clause-truth
 returns-clause-truth g c = λ honest k. (c.make_room.ensures.makes c.requires.going).truth honest k.truth k.passed

@@ -1,9 +1,10 @@
 use Rattle.std.proofs.Common.{◌∙◌, ap, arith}
 use Rattle.std.proofs.lemmas.Result.{err_from_is_err_and}
+use Rattle.page_layout.proofs.AskedLemmas.{asks_then}
 use Rattle.collection.specs.Safe.{ram, image_in}
 use Rattle.collection.proofs.Costs.{risen_over}
 use Rattle.ftl_device.proofs.RoomLemmas.{keeps_room, refused_room, room_pins, ok_any}
-use Rattle.ftl_device.proofs.FlushLoops.{engine_keeps, engine_refused}
+use Rattle.ftl_device.proofs.FlushLoops.{limits_then, engine_keeps, engine_refused}
 use Rattle.ftl_device.proofs.ReadyLemmas.{place_stays}
 use Rattle.ftl_device.proofs.CostLemmas.{ready_found}
 use Rattle.ftl_device.proofs.PrepareLemmas.{tells_found, went_found, found_after, calm_after}
@@ -11,7 +12,7 @@ use Rattle.ftl_device.proofs.ReadLemmas.{finds_noted, prepared_by}
 use Rattle.ftl_device.specs.Shortage.{HasFunds}
 use Rattle.ftl_device.proofs.SpentLemmas.{after_room, room_refused, place_refused, found_costs}
 use Rattle.ftl_device.proofs.LeaveLemmas.{leaves_then, leaves_refused}
-use Rattle.ftl_device.proofs.StoppedLemmas.{stops_still}
+use Rattle.ftl_device.proofs.StoppedLemmas.{cuts_looked, cuts_on, stops_still}
 use Rattle.ftl_device.proofs.ready.prepare.Goals as goal
 
 pub returns-clause-place : goal.returns-clause-place
@@ -108,6 +109,7 @@ returns-clause-leaves g c = (
       geometry = ap (λ r. r.geometry) c.find_row.ensures.memory ∙ placed.geometry;
       honest_is = c.find_row.ensures.honest ∙ placed.honest_is;
       calm_is = c.find_row.ensures.calm ∙ placed.calm_is;
+      asked = asks_then g.N.PageSource.view.called c.args.engine.now.nand c.make_place.new.engine.nand c.find_row.new.engine.nand placed.asked c.find_row.ensures.asked;
       failed_is = omega (arith, placed.failed_is, c.find_row.ensures.failed);
       rose = λ bus. risen_over _ _ _ placed.failed_is (c.find_row.ensures.rose bus);
       tells = tells_found c.find_row.result (ram c.args.engine.now) (ram c.make_room.new.engine) (ram c.make_place.new.engine)
@@ -119,6 +121,17 @@ returns-clause-leaves g c = (
       stops = λ honest k ne. stops_still g.N.PageSource.view c.args.engine.now c.make_place.new.engine c.find_row.new.engine
           (c.find_row.ensures.same (placed.honest_is ∙ honest) ne) (c.find_row.ensures.told (placed.honest_is ∙ honest) ne)
           (placed.stops honest k (λ e. (let no : ⊥ = cc in no)));
+      cut = λ honest k bus.
+          let room = c.in_ok-make_room.ensures.truth honest k in
+          let place = c.in_ok-make_place.ensures.truth (c.make_room.ensures.leaves.honest_is ∙ honest) room.truth in
+          let keeps = engine_keeps c.args.engine.now.geometry (ram c.make_room.new.engine) (ram c.make_place.new.engine)
+          (image_in g.N.PageSource.view.flash c.args.engine.now) _ _ c.make_room.ensures.leaves.geometry c.make_room.ensures.leaves.safe.memory
+          c.make_place.ensures.leaves.safe.memory c.make_place.ensures.beside
+          (keeps_room (ram c.args.engine.now) (ram c.make_room.new.engine) _ _ room (c.in_ok-make_room.ensures.pinned honest k)) place in
+          cuts_on g.N.PageSource.view c.args.engine.now c.make_place.new.engine c.find_row.new.engine placed.geometry
+          (limits_then _ _ _ c.make_room.ensures.keys.limits c.make_place.ensures.no_more.limits) keeps.array (placed.stops honest k (λ e. (let no : ⊥ = cc in no)))
+          (cuts_looked g.N.PageSource.view c.make_place.new.engine c.find_row.new.engine c.make_place.ensures.leaves.safe place.truth
+          (c.find_row.ensures.cut (placed.honest_is ∙ honest) bus));
     })
 
 pub returns-clause-pins : goal.returns-clause-pins

@@ -3,6 +3,7 @@ use Rattle.std.proofs.lemmas.Result.{err_from_is_err_and}
 use Rattle.page_layout.specs.declared.record.Kind.TheVariants.{Trim}
 use Rattle.page_layout.specs.Array.{zeros}
 use Rattle.collection.specs.Safe.{ram, image_in}
+use Rattle.collection.specs.Stops.{Cuts, IsPutByStop}
 use Rattle.collection.proofs.Beside.{beside_same}
 use Rattle.ftl_device.proofs.ReadyLemmas.{written_ready}
 use Rattle.ftl_device.proofs.CostLemmas.{cost_of}
@@ -10,6 +11,7 @@ use Rattle.ftl_device.proofs.EndLemmas.{ends_page, readies_kept, readies_page, l
 use Rattle.ftl_device.proofs.FlushLoops.{engine_refused}
 use Rattle.ftl_device.specs.Calls.{HasPage}
 use Rattle.ftl_device.proofs.FlushStepLemmas.{page_held}
+use Rattle.ftl_device.proofs.StoppedLemmas.{puts_none, puts_on}
 use Rattle.ftl_device.proofs.ready.trim_ready.Goals as goal
 
 -- ---- it was not made ready
@@ -18,6 +20,11 @@ pub returns-in_err-make_ready-clause-ends : goal.returns-in_err-make_ready-claus
 returns-in_err-make_ready-clause-ends g c =
     let p = err_from_is_err_and c.from_residual.result c.from_residual.ensures.1 in
     rw (p.1, p.2) c.in_err-make_ready.ensures.ends
+
+pub returns-in_err-make_ready-clause-cut : goal.returns-in_err-make_ready-clause-cut
+returns-in_err-make_ready-clause-cut g c =
+    let p = err_from_is_err_and c.from_residual.result c.from_residual.ensures.1 in
+    rw (p.1, p.2) (λ honest k bus. puts_none g.N.PageSource.view Trim c.args.sector (zeros c.args.engine.now.geometry) c.args.engine.now c.make_ready.new.engine (c.in_err-make_ready.ensures.cut honest k bus))
 
 pub returns-in_err-make_ready-clause-readies : goal.returns-in_err-make_ready-clause-readies
 returns-in_err-make_ready-clause-readies g c =
@@ -33,11 +40,22 @@ returns-in_err-trim_sector-clause-ends g c =
     (ends_page g.N.PageSource.view c.args.engine.now
     c.make_ready.new.engine c.trim_sector.new.self _ c.in_ok-make_ready.ensures.ends c.trim_sector.ensures.stands.safe
     c.trim_sector.ensures.goes c.trim_sector.ensures.stands.honest_is c.trim_sector.ensures.stands.calm_is
-    c.trim_sector.ensures.stands.failed_is
+    c.trim_sector.ensures.stands.asked c.trim_sector.ensures.stands.failed_is
     (beside_same (ram c.make_ready.new.engine) (ram c.trim_sector.new.self) c.trim_sector.ensures.pin c.trim_sector.ensures.goes
     c.trim_sector.ensures.moved c.trim_sector.ensures.no_more.limits) c.trim_sector.ensures.no_more (Err _)
     c.in_err-trim_sector.ensures.stands.fault c.in_err-trim_sector.ensures.stands.rose c.in_err-trim_sector.ensures.cost
     c.in_err-trim_sector.ensures.stands.went (λ honest k. c.in_ok-make_ready.ensures.truth honest k) c.in_err-trim_sector.ensures.stops)
+
+pub returns-in_err-trim_sector-clause-cut : goal.returns-in_err-trim_sector-clause-cut
+returns-in_err-trim_sector-clause-cut g c =
+    let p = err_from_is_err_and c.from_residual-in_err-trim_sector.result c.from_residual-in_err-trim_sector.ensures.1 in
+    rw (p.1, p.2) (λ honest k bus.
+    let kept = c.in_ok-make_ready.ensures.truth honest k in
+    let put = puts_on g.N.PageSource.view c.args.engine.now c.make_ready.new.engine c.trim_sector.new.self c.in_ok-make_ready.ensures.ends.geometry c.in_ok-make_ready.ensures.ends.limits kept.array
+    (c.in_ok-make_ready.ensures.ends.stops honest k (λ e. (let no : ⊥ = cc in no))) Trim c.args.sector (zeros c.make_ready.new.engine.geometry)
+    (c.in_err-trim_sector.ensures.cut (c.in_ok-make_ready.ensures.ends.honest_is ∙ honest) c.in_ok-make_ready.ensures.ends.fault kept.truth.truth (cc)) in
+    subst (λ h. Cuts g.N.PageSource.view (IsPutByStop Trim c.args.sector (zeros h) (ram c.args.engine.now) (image_in g.N.PageSource.view.flash c.args.engine.now)) c.args.engine.now c.trim_sector.new.self)
+    c.in_ok-make_ready.ensures.ends.geometry put)
 
 pub returns-in_err-trim_sector-clause-readies : goal.returns-in_err-trim_sector-clause-readies
 returns-in_err-trim_sector-clause-readies g c =
@@ -67,7 +85,7 @@ returns-clause-ends g c =
     ends_page g.N.PageSource.view c.args.engine.now
     c.make_ready.new.engine c.trim_sector.new.self _ c.in_ok-make_ready.ensures.ends c.trim_sector.ensures.stands.safe c.trim_sector.ensures.goes
     c.trim_sector.ensures.stands.honest_is c.trim_sector.ensures.stands.calm_is
-    c.trim_sector.ensures.stands.failed_is
+    c.trim_sector.ensures.stands.asked c.trim_sector.ensures.stands.failed_is
     (beside_same (ram c.make_ready.new.engine) (ram c.trim_sector.new.self) c.trim_sector.ensures.pin c.trim_sector.ensures.goes
     c.trim_sector.ensures.moved c.trim_sector.ensures.no_more.limits) c.trim_sector.ensures.no_more (Ok _)
     c.in_ok-trim_sector.ensures.stands.fault c.in_ok-trim_sector.ensures.stands.rose c.in_ok-trim_sector.ensures.cost

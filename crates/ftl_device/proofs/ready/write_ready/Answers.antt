@@ -8,6 +8,7 @@ use Rattle.ftl_device.proofs.CostLemmas.{cost_of}
 use Rattle.ftl_device.proofs.EndLemmas.{ends_page, readies_kept, readies_page, looked_up_before}
 use Rattle.ftl_device.proofs.FlushLoops.{engine_refused}
 use Rattle.ftl_device.proofs.FlushStepLemmas.{page_held}
+use Rattle.ftl_device.proofs.StoppedLemmas.{puts_none, puts_on}
 use Rattle.ftl_device.proofs.ready.write_ready.Goals as goal
 
 -- ---- it was not made ready
@@ -16,6 +17,11 @@ pub returns-in_err-make_ready-clause-ends : goal.returns-in_err-make_ready-claus
 returns-in_err-make_ready-clause-ends g c =
     let p = err_from_is_err_and c.from_residual.result c.from_residual.ensures.1 in
     rw (p.1, p.2) c.in_err-make_ready.ensures.ends
+
+pub returns-in_err-make_ready-clause-cut : goal.returns-in_err-make_ready-clause-cut
+returns-in_err-make_ready-clause-cut g c =
+    let p = err_from_is_err_and c.from_residual.result c.from_residual.ensures.1 in
+    rw (p.1, p.2) (λ honest k bus. puts_none g.N.PageSource.view Sector c.args.sector c.args.body.now c.args.engine.now c.make_ready.new.engine (c.in_err-make_ready.ensures.cut honest k bus))
 
 pub returns-in_err-make_ready-clause-readies : goal.returns-in_err-make_ready-clause-readies
 returns-in_err-make_ready-clause-readies g c =
@@ -31,11 +37,20 @@ returns-in_err-write_sector-clause-ends g c =
     (ends_page g.N.PageSource.view c.args.engine.now
     c.make_ready.new.engine c.write_sector.new.self _ c.in_ok-make_ready.ensures.ends c.write_sector.ensures.stands.safe
     c.write_sector.ensures.goes c.write_sector.ensures.stands.honest_is c.write_sector.ensures.stands.calm_is
-    c.write_sector.ensures.stands.failed_is
+    c.write_sector.ensures.stands.asked c.write_sector.ensures.stands.failed_is
     (beside_same (ram c.make_ready.new.engine) (ram c.write_sector.new.self) c.write_sector.ensures.pin c.write_sector.ensures.goes
     c.write_sector.ensures.moved c.write_sector.ensures.no_more.limits) c.write_sector.ensures.no_more (Err _)
     c.in_err-write_sector.ensures.stands.fault c.in_err-write_sector.ensures.stands.rose c.in_err-write_sector.ensures.cost
     c.in_err-write_sector.ensures.stands.went (λ honest k. c.in_ok-make_ready.ensures.truth honest k) c.in_err-write_sector.ensures.stops)
+
+pub returns-in_err-write_sector-clause-cut : goal.returns-in_err-write_sector-clause-cut
+returns-in_err-write_sector-clause-cut g c =
+    let p = err_from_is_err_and c.from_residual-in_err-write_sector.result c.from_residual-in_err-write_sector.ensures.1 in
+    rw (p.1, p.2) (λ honest k bus.
+    let kept = c.in_ok-make_ready.ensures.truth honest k in
+    puts_on g.N.PageSource.view c.args.engine.now c.make_ready.new.engine c.write_sector.new.self c.in_ok-make_ready.ensures.ends.geometry c.in_ok-make_ready.ensures.ends.limits kept.array
+    (c.in_ok-make_ready.ensures.ends.stops honest k (λ e. (let no : ⊥ = cc in no))) Sector c.args.sector c.args.body.now
+    (c.in_err-write_sector.ensures.cut (c.in_ok-make_ready.ensures.ends.honest_is ∙ honest) c.in_ok-make_ready.ensures.ends.fault kept.truth.truth (cc)))
 
 pub returns-in_err-write_sector-clause-readies : goal.returns-in_err-write_sector-clause-readies
 returns-in_err-write_sector-clause-readies g c =
@@ -65,7 +80,7 @@ returns-clause-ends g c =
     ends_page g.N.PageSource.view c.args.engine.now
     c.make_ready.new.engine c.write_sector.new.self _ c.in_ok-make_ready.ensures.ends c.write_sector.ensures.stands.safe
     c.write_sector.ensures.goes c.write_sector.ensures.stands.honest_is c.write_sector.ensures.stands.calm_is
-    c.write_sector.ensures.stands.failed_is
+    c.write_sector.ensures.stands.asked c.write_sector.ensures.stands.failed_is
     (beside_same (ram c.make_ready.new.engine) (ram c.write_sector.new.self) c.write_sector.ensures.pin c.write_sector.ensures.goes
     c.write_sector.ensures.moved c.write_sector.ensures.no_more.limits) c.write_sector.ensures.no_more (Ok _)
     c.in_ok-write_sector.ensures.stands.fault c.in_ok-write_sector.ensures.stands.rose c.in_ok-write_sector.ensures.cost

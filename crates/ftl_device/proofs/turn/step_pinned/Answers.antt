@@ -21,7 +21,8 @@ returns-in_err-step-clause-collects g c =
     let leaves = leaves_refused g.N.PageSource.view _ _ c.args.engine.now c.step.new.self _
     (leaves_by g.N.PageSource.view c.args.engine.now
     c.step.new.self (Err _) c.requires.going t a.goes.geometry told
-    (λ honest k ne. c.in_err-step.ensures.stops honest c.requires.going k.truth k.passed ne)) in
+    (λ honest k ne. c.in_err-step.ensures.stops honest c.requires.going k.truth k.passed ne)
+    (λ honest k bus. c.in_err-step.ensures.cut honest c.requires.going k.truth k.passed bus)) in
     rw (p.1, p.2) (record {
       leaves = leaves;
       limits = a.keys.limits;
@@ -47,7 +48,8 @@ returns-clause-collects g c =
       leaves = leaves_done g.N.PageSource.view c.args.engine.now c.step.new.self _ tt
           (leaves_by g.N.PageSource.view c.args.engine.now
           c.step.new.self (Ok _) c.requires.going t a.goes.geometry (good_fewer old new c.requires.safe.memory t.safe.memory goes)
-          (λ honest k ne. c.in_ok-step.ensures.stops honest c.requires.going k.truth k.passed ne));
+          (λ honest k ne. c.in_ok-step.ensures.stops honest c.requires.going k.truth k.passed ne)
+          (λ honest k bus. (let no : ⊥ = cc in absurd no)));
       limits = a.keys.limits;
       calm_memory = λ none. calm;
       goes = goes;

@@ -5,7 +5,8 @@ use Rattle.collection.proofs.Lefts.{calm_law}
 use Rattle.ftl_device.proofs.FlushLoops.{limits_then, engine_keeps, keeps_then, keeps_refused}
 use Rattle.ftl_device.proofs.RoomLemmas.{rescued_by, rescue_told, keeps_room, refused_room, rescue_worked}
 use Rattle.ftl_device.proofs.SpentLemmas.{rescue_short, rescue_stuck, unroomed_short}
-use Rattle.ftl_device.proofs.LeaveLemmas.{leaves_by, leaves_then, leaves_done, leaves_ends, leaves_stuck}
+use Rattle.ftl_device.proofs.LeaveLemmas.{leaves_by, leaves_cut, leaves_then, leaves_done, leaves_ends, leaves_stuck}
+use Rattle.ftl_device.proofs.StoppedLemmas.{cuts_on}
 use Rattle.ftl_device.proofs.StepLemmas.{no_rescue, resting, moved_less, rescue_refused, step_short, step_short_of, quiet_then, fallen_then, none_worked, rescue_falls, collected_rescued, rescue_works}
 use Rattle.ftl_device.proofs.TurnedLemmas.{rescue_turned, collect_turned}
 use Rattle.ftl_device.proofs.BringLemmas.{made_room, lowest_by, lowest_none}
@@ -22,6 +23,11 @@ pub returns-in_err-make_room-clause-count : goal.returns-in_err-make_room-clause
 returns-in_err-make_room-clause-count g c =
     let p = err_from_is_err_and c.from_residual.result c.from_residual.ensures.1 in
     rw (p.1, p.2) (λ known five. unroomed_short _ (ram c.args.engine.now) (ram c.make_room.new.engine) (c.in_err-make_room.ensures.count known.0 known.1 0 known.2))
+
+pub returns-in_err-make_room-clause-cut : goal.returns-in_err-make_room-clause-cut
+returns-in_err-make_room-clause-cut g c =
+    let p = err_from_is_err_and c.from_residual.result c.from_residual.ensures.1 in
+    rw (p.1, p.2) (leaves_cut g.N.PageSource.view c.args.engine.now c.make_room.new.engine _ c.in_err-make_room.ensures.leaves)
 
 pub returns-in_err-make_room-clause-ends : goal.returns-in_err-make_room-clause-ends
 returns-in_err-make_room-clause-ends g c =
@@ -51,6 +57,15 @@ returns-in_err-rescue_one-clause-count g c =
     c.make_room.ensures.leaves.safe.memory c.rescue_one.ensures.stands.safe.memory c.in_ok-make_room.ensures.made c.rescue_one.ensures.goes
     (c.in_ok-make_room.ensures.count known.0 known.1 0 known.2) _ (c.in_err-rescue_one.ensures.cost c.in_ok-make_room.ensures.leaves.fault))
 
+pub returns-in_err-rescue_one-clause-cut : goal.returns-in_err-rescue_one-clause-cut
+returns-in_err-rescue_one-clause-cut g c =
+    let p = err_from_is_err_and c.from_residual-in_err-rescue_one.result c.from_residual-in_err-rescue_one.ensures.1 in
+    rw (p.1, p.2) (λ honest k bus.
+    let knows = c.in_ok-make_room.ensures.pinned honest k in
+    cuts_on g.N.PageSource.view c.args.engine.now c.make_room.new.engine c.rescue_one.new.self c.make_room.ensures.leaves.geometry c.make_room.ensures.keys.limits (c.in_ok-make_room.ensures.truth honest k).array
+    (c.in_ok-make_room.ensures.leaves.stops honest k (λ e. (let no : ⊥ = cc in no)))
+    (c.in_err-rescue_one.ensures.cut (c.make_room.ensures.leaves.honest_is ∙ honest) c.in_ok-make_room.ensures.leaves.fault knows.truth (cc)))
+
 pub returns-in_err-rescue_one-clause-ends : goal.returns-in_err-rescue_one-clause-ends
 returns-in_err-rescue_one-clause-ends g c =
     let p = err_from_is_err_and c.from_residual-in_err-rescue_one.result c.from_residual-in_err-rescue_one.ensures.1 in
@@ -64,7 +79,8 @@ returns-in_err-rescue_one-clause-ends g c =
     (leaves_by g.N.PageSource.view c.make_room.new.engine
     c.rescue_one.new.self (Err _) c.in_ok-make_room.ensures.leaves.fault c.in_err-rescue_one.ensures.stands c.rescue_one.ensures.goes.geometry
     (rescue_told (Err _) (ram c.make_room.new.engine) (ram c.rescue_one.new.self) c.make_room.ensures.leaves.safe.memory c.rescue_one.ensures.stands.safe.memory c.rescue_one.ensures.goes (c.in_err-rescue_one.ensures.cost c.in_ok-make_room.ensures.leaves.fault))
-    (λ honest k ne. c.in_err-rescue_one.ensures.stops honest c.in_ok-make_room.ensures.leaves.fault k.truth ne))) (limits_then _ _ _ c.make_room.ensures.keys.limits c.rescue_one.ensures.keys.limits))
+    (λ honest k ne. c.in_err-rescue_one.ensures.stops honest c.in_ok-make_room.ensures.leaves.fault k.truth ne)
+    (λ honest k bus. c.in_err-rescue_one.ensures.cut honest c.in_ok-make_room.ensures.leaves.fault k.truth bus))) (limits_then _ _ _ c.make_room.ensures.keys.limits c.rescue_one.ensures.keys.limits))
 
 -- ---- a page was rescued
 
@@ -133,7 +149,8 @@ returns-then-needs_rescue-clause-ends g c = leaves_ends g.N.PageSource.view c.ar
     (leaves_by g.N.PageSource.view c.make_room.new.engine
     c.rescue_one.new.self (Ok _) c.in_ok-make_room.ensures.leaves.fault c.in_ok-rescue_one.ensures.stands c.rescue_one.ensures.goes.geometry
     (rescue_told (Ok _) (ram c.make_room.new.engine) (ram c.rescue_one.new.self) c.make_room.ensures.leaves.safe.memory c.rescue_one.ensures.stands.safe.memory c.rescue_one.ensures.goes (c.in_ok-rescue_one.ensures.cost c.in_ok-make_room.ensures.leaves.fault))
-    (λ honest k ne. c.in_ok-rescue_one.ensures.stops honest c.in_ok-make_room.ensures.leaves.fault k.truth ne))))
+    (λ honest k ne. c.in_ok-rescue_one.ensures.stops honest c.in_ok-make_room.ensures.leaves.fault k.truth ne)
+    (λ honest k bus. (let no : ⊥ = cc in absurd no)))))
     (limits_then _ _ _ c.make_room.ensures.keys.limits c.rescue_one.ensures.keys.limits) (λ none. calm_law (ram c.make_room.new.engine) (ram c.rescue_one.new.self) c.in_ok-rescue_one.ensures.beside c.in_ok-make_room.ensures.made.calm)
 
 -- ---- a step was refused
@@ -156,6 +173,15 @@ returns-in_err-collect_on-clause-count g c =
     c.make_room.ensures.leaves.safe.memory c.collect_on.ensures.collects.leaves.safe.memory c.in_ok-make_room.ensures.made
     c.collect_on.ensures.collects.goes (c.in_ok-make_room.ensures.count known.0 known.1 0 known.2) _
     c.in_err-collect_on.ensures.collects.counts)
+
+pub returns-in_err-collect_on-clause-cut : goal.returns-in_err-collect_on-clause-cut
+returns-in_err-collect_on-clause-cut g c =
+    let p = err_from_is_err_and c.from_residual-in_err-collect_on.result c.from_residual-in_err-collect_on.ensures.1 in
+    rw (p.1, p.2) (λ honest k bus.
+    let knows = c.in_ok-make_room.ensures.pinned honest k in
+    cuts_on g.N.PageSource.view c.args.engine.now c.make_room.new.engine c.collect_on.new.engine c.make_room.ensures.leaves.geometry c.make_room.ensures.keys.limits (c.in_ok-make_room.ensures.truth honest k).array
+    (c.in_ok-make_room.ensures.leaves.stops honest k (λ e. (let no : ⊥ = cc in no)))
+    (leaves_cut g.N.PageSource.view c.make_room.new.engine c.collect_on.new.engine _ c.in_err-collect_on.ensures.collects.leaves (c.make_room.ensures.leaves.honest_is ∙ honest) knows bus))
 
 pub returns-in_err-collect_on-clause-ends : goal.returns-in_err-collect_on-clause-ends
 returns-in_err-collect_on-clause-ends g c =

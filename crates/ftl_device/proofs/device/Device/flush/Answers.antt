@@ -21,6 +21,7 @@ returns-clause-upkeeps g c = upkept_by g.N.PageSource.view
     step.Flush c.args.self.now c.finish.new.self c.requires.device c.finish.ensures.device c.in_ok-may_flush.ensures.may (λ reply s h. h)
     c.flush_ready-answer.new.engine c.good-good.result c.flush_ready-answer.result c.finish.result c.finish.ensures.engine c.good-good.ensures c.finish.ensures.answer (record {
       ends = c.flush_ready-answer.ensures.ends;
+      cut = c.flush_ready-answer.ensures.cut;
       no_memory = c.flush_ready-answer.ensures.memory;
       truth = c.flush_ready-answer.ensures.truth;
       lacks = λ honest w. flush_lacks c.flush_ready-answer.result (ram c.args.self.now.engine) (ram c.flush_ready-answer.new.engine)

@@ -32,6 +32,7 @@ returns-then-spare_bytes-lt-SPARE_FOR_VERSION_2-clause-upkeeps g c =
           d.engine (Ok tt)
           (leaves_same g.N.PageSource.view d.engine
           c.requires.device.engine may.going) (record { geometry = refl; capacity = refl }) c.requires.device.calm;
+      cut = λ honest w bus. (let no : ⊥ = cc in absurd no);
       no_memory = λ e. (let no : ⊥ = cc in no);
       truth = λ honest w. keeps_same (ram d.engine) (image_in g.N.PageSource.view.flash d.engine) w;
       lacks = λ honest w fault e. (let no : ⊥ = cc in absurd no);
@@ -47,14 +48,14 @@ returns-in_err-finish-clause-upkeeps g c =
     rw (p.1, p.2) (upkept_by g.N.PageSource.view step.Turn c.args.self.now c.finish.new.self c.requires.device c.finish.ensures.device c.in_ok-may_flush.ensures.may (λ reply s h. h)
     c.migrate_ready-answer.new.engine c.good-good.result c.migrate_ready-answer.result (Err _) c.finish.ensures.engine c.good-good.ensures c.in_err-finish.ensures.answer
     (kept_ready g.N.PageSource.view c.args.self.now c.migrate_ready-answer.new.engine c.migrate_ready-answer.result c.requires.device c.in_ok-may_flush.ensures.may
-    c.migrate_ready-answer.ensures.ends c.migrate_ready-answer.ensures.memory c.migrate_ready-answer.ensures.truth c.migrate_ready-answer.ensures.count))
+    c.migrate_ready-answer.ensures.ends c.migrate_ready-answer.ensures.cut c.migrate_ready-answer.ensures.memory c.migrate_ready-answer.ensures.truth c.migrate_ready-answer.ensures.count))
 
 pub returns-in_default-clause-upkeeps : goal.returns-in_default-clause-upkeeps
 returns-in_default-clause-upkeeps g c = upkept_by g.N.PageSource.view step.Turn c.args.self.now c.finish.new.self c.requires.device c.finish.ensures.device c.in_ok-may_flush.ensures.may
     (λ reply s h. h)
     c.migrate_ready-answer.new.engine c.good-good.result c.migrate_ready-answer.result (Ok tt) c.finish.ensures.engine c.good-good.ensures c.in_ok-finish.ensures.answer
     (kept_ready g.N.PageSource.view c.args.self.now c.migrate_ready-answer.new.engine c.migrate_ready-answer.result c.requires.device c.in_ok-may_flush.ensures.may
-    c.migrate_ready-answer.ensures.ends c.migrate_ready-answer.ensures.memory c.migrate_ready-answer.ensures.truth c.migrate_ready-answer.ensures.count)
+    c.migrate_ready-answer.ensures.ends c.migrate_ready-answer.ensures.cut c.migrate_ready-answer.ensures.memory c.migrate_ready-answer.ensures.truth c.migrate_ready-answer.ensures.count)
 
 -- ---- and the cursor moves on
 
@@ -67,7 +68,7 @@ returns-clause-upkeeps g c = upkept_by g.N.PageSource.view
     (device_at g.N.PageSource.view.flash c.finish.new.self (c.in-Some.row + 1) c.finish.ensures.device) c.in_ok-may_flush.ensures.may (λ reply s h. h)
     c.migrate_ready-answer.new.engine c.good-good.result c.migrate_ready-answer.result (Ok tt) c.finish.ensures.engine c.good-good.ensures c.in_ok-finish.ensures.answer
     (kept_ready g.N.PageSource.view c.args.self.now c.migrate_ready-answer.new.engine c.migrate_ready-answer.result c.requires.device c.in_ok-may_flush.ensures.may
-    c.migrate_ready-answer.ensures.ends c.migrate_ready-answer.ensures.memory c.migrate_ready-answer.ensures.truth c.migrate_ready-answer.ensures.count)
+    c.migrate_ready-answer.ensures.ends c.migrate_ready-answer.ensures.cut c.migrate_ready-answer.ensures.memory c.migrate_ready-answer.ensures.truth c.migrate_ready-answer.ensures.count)
 
 -- ---- what it brought
 

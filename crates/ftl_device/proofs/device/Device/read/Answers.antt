@@ -1,4 +1,5 @@
 use Rattle.std.proofs.Common.{arith, ap, sym, subst, None, ◌∙◌}
+use Rattle.page_layout.specs.DieCalls.{AskedNothing}
 use Rattle.collection.specs.Safe.{ram, image_in}
 use Rattle.collection.specs.Truth.{IsTrue}
 use Rattle.collection.proofs.Looks.{ok_not_bus}
@@ -45,3 +46,11 @@ pub returns-in-Ok-clause-survives : goal.returns-in-Ok-clause-survives
 returns-in-Ok-clause-survives g c = λ honest well ne. stopped_none c.args.self.now.engine.geometry c.args.self.now.engine.mapping.capacity
     (step.Read c.args.sector) _ (image_in g.N.PageSource.view.flash c.args.self.now.engine) _ _
     (restart_law (ram c.args.self.now.engine) _ c.requires.device.engine.memory well.truth)
+
+-- ---- where it is refused at once, nothing was asked
+
+pub returns-in_err-going-clause-asked : goal.returns-in_err-going-clause-asked
+returns-in_err-going-clause-asked g c = AskedNothing
+
+pub returns-then-sector-sectors-clause-asked : goal.returns-then-sector-sectors-clause-asked
+returns-then-sector-sectors-clause-asked g c = AskedNothing

@@ -21,6 +21,7 @@ pub returns-clause-upkeeps : goal.returns-clause-upkeeps
 returns-clause-upkeeps g c = upkept_by g.N.PageSource.view step.Turn c.args.self.now c.finish.new.self c.requires.device c.finish.ensures.device c.in_ok-may_flush.ensures.may (λ reply s h. h)
     c.turn_ready-answer.new.engine c.good-good.result c.turn_ready-answer.result c.finish.result c.finish.ensures.engine c.good-good.ensures c.finish.ensures.answer (record {
       ends = c.turn_ready-answer.ensures.ends;
+      cut = c.turn_ready-answer.ensures.cut;
       no_memory = c.turn_ready-answer.ensures.memory;
       truth = c.turn_ready-answer.ensures.truth;
       lacks = λ honest w. λ fault is. c.turn_ready-answer.ensures.count (

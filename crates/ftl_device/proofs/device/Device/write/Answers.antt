@@ -1,5 +1,6 @@
 use Rattle.std.proofs.Common.{refl}
 use Rattle.std.proofs.lemmas.Result.{err_from_is_err_and}
+use Rattle.page_layout.specs.declared.record.Kind.TheVariants.{Sector}
 use Rattle.promises.specs.Step as step
 use Rattle.ftl_device.proofs.ChangeLemmas.{changed_by, not_changed}
 use Rattle.ftl_device.proofs.device.Device.write.Goals as goal
@@ -15,7 +16,7 @@ returns-in_err-may_change-clause-changes g c =
 pub returns-clause-changes : goal.returns-clause-changes
 returns-clause-changes g c = changed_by g.N.PageSource.view
     c.args.sector c.args.body.now (step.Write c.args.sector c.args.body.now) c.args.self.now c.finish.new.self c.requires.device
-    c.finish.ensures.device c.in_ok-may_change.ensures.may (λ reply s h. h) refl refl
+    c.finish.ensures.device c.in_ok-may_change.ensures.may (λ reply s h. h) refl refl Sector c.args.body.now (λ xs. refl)
     c.write_ready-answer.new.engine c.good-good.result c.write_ready-answer.result c.finish.result c.finish.ensures.engine c.good-good.ensures
-    c.finish.ensures.answer c.write_ready-answer.ensures.ends c.write_ready-answer.ensures.readies c.write_ready-answer.ensures.cost
+    c.finish.ensures.answer c.write_ready-answer.ensures.ends c.write_ready-answer.ensures.cut c.write_ready-answer.ensures.readies c.write_ready-answer.ensures.cost
     c.write_ready-answer.ensures.checked c.write_ready-answer.ensures.page c.write_ready-answer.ensures.newest c.write_ready-answer.ensures.truth
