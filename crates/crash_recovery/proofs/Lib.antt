@@ -1,7 +1,7 @@
-mod Rows
-mod TakesLemmas
+pub mod Rows
+pub mod TakesLemmas
 mod CutLemmas
 mod LookLemmas
 mod BlockLemmas
 mod OrderLemmas
-mod TakenLemmas
+pub mod TakenLemmas

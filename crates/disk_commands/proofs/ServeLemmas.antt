@@ -66,8 +66,8 @@ pub served_at : {S Y K : Type 0} (held : S → Held) (honest full : S → Bool) 
     (marked : Y → SyncMark) (kept : K → List Bool) (unlisted : K → ℕ) (a : DiskFileAnswers) (words : DiskServeWords) (told : DiskText)
     (mended : Mended)
     (disk : GuardedSectors (Reopened S) K) (syncs : Y) (terms : Terms) (unread left before after telling told_after : Option (List ℕ)) (result : Result (Unit {0}) DiskCommandFault)
-    → IsReadyAt held honest mended_in marked kept a words.disk.now words.read_only words.sync_always told mended disk syncs → NamesAll disk.lost.items told.shape.code mended telling told_after → terms ≡ terms_of told words.read_only
-    → HasServedOn (shown_in held honest) (λ d. holds_in honest d.sectors) (does_in held honest full failed) (PassesOn (rests_in held honest full failed)) (ReadsGuarded (reads_in held honest))
+    → IsReadyAt held honest failed mended_in marked kept a words.disk.now words.read_only words.sync_always told mended disk syncs → NamesAll disk.lost.items told.shape.code mended telling told_after → terms ≡ terms_of told words.read_only
+    → HasServedOn (shown_in held honest failed) (λ d. holds_in honest d.sectors) (does_in held honest full failed) (PassesOn (rests_in held honest full failed)) (ReadsGuarded (reads_in held honest failed))
     (λ d. next_in d.sectors) (λ d. takes_in d.sectors) synced missed marked terms words.disk disk syncs unread left before after result
     ⊎ ((result ≡ Err fault.OutOfMemory) × Keeps before after)
     → HasServedAt held honest full mended_in failed synced missed marked kept a words unread left before after telling told_after result ⊎ HasNotServed held honest failed missed kept unlisted a words before after telling told_after result
@@ -79,7 +79,7 @@ served_at held honest full mended_in failed synced missed marked kept unlisted a
       mended = mended;
       at = at;
       named = named;
-      served = subst (λ t. HasServedOn (shown_in held honest) (λ d. holds_in honest d.sectors) (does_in held honest full failed) (PassesOn (rests_in held honest full failed)) (ReadsGuarded (reads_in held honest))
+      served = subst (λ t. HasServedOn (shown_in held honest failed) (λ d. holds_in honest d.sectors) (does_in held honest full failed) (PassesOn (rests_in held honest full failed)) (ReadsGuarded (reads_in held honest failed))
           (λ d. next_in d.sectors) (λ d. takes_in d.sectors) synced missed marked t words.disk disk syncs unread left before after result) is h;
     })
 served_at held honest full mended_in failed synced missed marked kept unlisted a words told mended disk syncs terms unread left before after telling told_after result at named is (inr h) =

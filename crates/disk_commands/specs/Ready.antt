@@ -50,10 +50,10 @@ HoldsPages true mark honest s bytes = honest → bytes ≡ bytes_of s
 HoldsPages false mark honest s bytes = honest → HoldsRecovered mark s bytes
 
 -- THE DISK OF A STORE: of one that is honest it holds its array. Its die syncs the store as was asked. Where it is to be written and a mark counts, that is kept from then on, and all that the disk had programmed was synced
-pub record IsDiskOf {S Y : Type 0} (held : S → Held) (honest : S → Bool) (marked : Y → SyncMark) (read_only always : Bool) (told : DiskText) (found : FoundMark) (store : S)
+pub record IsDiskOf {S Y : Type 0} (held : S → Held) (honest : S → Bool) (failed : S → ℕ) (marked : Y → SyncMark) (read_only always : Bool) (told : DiskText) (found : FoundMark) (store : S)
     (d : Device (DriverState (FileState S))) (syncs : Y) : Type 0 where
   pub held_array : honest store ≡ true → holds (is_honest_in honest) d ≡ true
-  pub bytes : HoldsPages read_only found.mark.synced (honest store ≡ true) (held store) (contents_of (view_in held honest) d).bytes
+  pub bytes : HoldsPages read_only found.mark.synced (honest store ≡ true) (held store) (contents_of (view_in held honest failed) d).bytes
   pub syncs_when : SyncsWhen (sync_when always) d.engine.nand
   pub keeps : read_only ≡ false → told.marked ≡ true → marked syncs ≡ after_sync d.engine.next false found.mark
 
@@ -89,8 +89,8 @@ MarksBy false path before after = after ≡ before
 
 -- THE DISK AT A PATH, whose lost sectors are guarded: those of the list beside it and of the pages of its store, as it was looked at; that store tells what was wrong with its pages. Where it is to be written, and any is lost, their list lasts;
 -- else none was kept, for at the place of the list none was before. The device of the store is there, and is opened anew with a cache that has room for all that may be stale
-pub record IsReadyAt {S Y K : Type 0} (held : S → Held) (honest : S → Bool) (mended_in : S → Mended) (marked : Y → SyncMark) (kept : K → List Bool) (a : DiskFileAnswers) (path : List ℕ) (read_only always : Bool) (told : DiskText) (mended : Mended)
-    (disk : GuardedSectors (Reopened S) K) (syncs : Y) : Type 0 where
+pub record IsReadyAt {S Y K : Type 0} (held : S → Held) (honest : S → Bool) (failed : S → ℕ) (mended_in : S → Mended) (marked : Y → SyncMark) (kept : K → List Bool) (a : DiskFileAnswers) (path : List ℕ)
+    (read_only always : Bool) (told : DiskText) (mended : Mended) (disk : GuardedSectors (Reopened S) K) (syncs : Y) : Type 0 where
   pub found : FoundMark
   pub store : S
   pub certificate : Claim
@@ -100,7 +100,7 @@ pub record IsReadyAt {S Y K : Type 0} (held : S → Held) (honest : S → Bool) 
   pub not_reopened : disk.sectors.reopened ≡ false
   pub room : disk.sectors.capacity ≡ most_stale told.shape
   pub again : disk.sectors.sync_when ≡ sync_when always
-  pub of : IsDiskOf held honest marked read_only always told found store device syncs
+  pub of : IsDiskOf held honest failed marked read_only always told found store device syncs
   pub mended_is : mended ≡ mended_in store
   pub none_failed : disk.failed ≡ false
   pub place : K

@@ -128,22 +128,22 @@ HasServedOn contents honest does rests reads next takes synced failed marked ter
 
 -- what a rest of such a disk is
 abbrev pub rests_in : {S : Type 0} → (S → Held) → (honest full : S → Bool) → (failed : S → ℕ) → Reopened S → Result (Unit {0}) NbdFault → Reopened S → Type 0
-rests_in held honest full failed = AsksDevice held honest full failed (rests_of held honest) nbd.Failed
+rests_in held honest full failed = AsksDevice held honest full failed (rests_of held honest failed) nbd.Failed
 
 -- what a read of it leaves: its die is asked for reads, and programs and erases nothing
-abbrev pub reads_in : {S : Type 0} → (S → Held) → (honest : S → Bool) → Reopened S → Reopened S → Type 0
-reads_in held honest = ReadsDevice (reads_of held honest)
+abbrev pub reads_in : {S : Type 0} → (S → Held) → (honest : S → Bool) → (failed : S → ℕ) → Reopened S → Reopened S → Type 0
+reads_in held honest failed = ReadsDevice (reads_of held honest failed)
 
 -- what a flush of it is
 abbrev pub flushes_in : {S : Type 0} → (S → Held) → (honest full : S → Bool) → (failed : S → ℕ) → Reopened S → Result (Unit {0}) NbdFault → Reopened S → Type 0
-flushes_in held honest full failed = AsksDevice held honest full failed (flushes_of held honest) nbd.Failed
+flushes_in held honest full failed = AsksDevice held honest full failed (flushes_of held honest failed) nbd.Failed
 
 -- what it shows, once its lost sectors are guarded, and what a task asks of it
-abbrev pub shown_in : {S K : Type 0} → (S → Held) → (honest : S → Bool) → GuardedSectors (Reopened S) K → Contents
-shown_in held honest = guarded_contents (contents_in held honest) (λ d. d.size)
+abbrev pub shown_in : {S K : Type 0} → (S → Held) → (honest : S → Bool) → (failed : S → ℕ) → GuardedSectors (Reopened S) K → Contents
+shown_in held honest failed = guarded_contents (contents_in held honest failed) (λ d. d.size)
 
 abbrev pub does_in : {S K : Type 0} → (S → Held) → (honest full : S → Bool) → (failed : S → ℕ) → GuardedSectors (Reopened S) K → Task → Result (Unit {0}) NbdFault → GuardedSectors (Reopened S) K → Type 0
-does_in held honest full failed = AsksSectors (shown_in held honest) (λ d. holds_in honest d.sectors) (ReadsGuarded (reads_in held honest)) (ChangesGuarded (changes_in held honest full failed)) (PassesOn (flushes_in held honest full failed))
+does_in held honest full failed = AsksSectors (shown_in held honest failed) (λ d. holds_in honest d.sectors) (ReadsGuarded (reads_in held honest failed)) (ChangesGuarded (changes_in held honest full failed)) (PassesOn (flushes_in held honest full failed))
 
 -- ---- the command
 
@@ -155,9 +155,9 @@ pub record HasServedAt {S Y K : Type 0} (held : S → Held) (honest full : S →
   pub disk : GuardedSectors (Reopened S) K
   pub syncs : Y
   pub mended : Mended
-  pub at : IsReadyAt held honest mended_in marked kept a words.disk.now words.read_only words.sync_always told mended disk syncs
+  pub at : IsReadyAt held honest failed mended_in marked kept a words.disk.now words.read_only words.sync_always told mended disk syncs
   pub named : NamesAll disk.lost.items told.shape.code mended telling told_after
-  pub served : HasServedOn (shown_in held honest) (λ d. holds_in honest d.sectors) (does_in held honest full failed) (PassesOn (rests_in held honest full failed)) (ReadsGuarded (reads_in held honest))
+  pub served : HasServedOn (shown_in held honest failed) (λ d. holds_in honest d.sectors) (does_in held honest full failed) (PassesOn (rests_in held honest full failed)) (ReadsGuarded (reads_in held honest failed))
       (λ d. next_in d.sectors) (λ d. takes_in d.sectors) synced missed marked (terms_of told words.read_only) words.disk disk syncs unread left before after result
 
 -- or it did not, and nothing was sent: the disk was not ready. Lost sectors may have been named where that is told, or where a growth was refused

@@ -31,10 +31,10 @@ use Rattle.disk_laws.specs.Lost.{LostBy}
 use Rattle.disk_laws.proofs.LossLemmas.{lost_then}
 use Rattle.disk_laws.proofs.LogLemmas.{after_erase, after_program}
 use Rattle.disk_laws.proofs.RefusedLemmas.{erase_left, erase_lost, erase_spared, program_left, program_spared}
-use Rattle.disk_laws.proofs.SentLemmas.{Quiet, Took, operated, quiet, quiet_until, until_operated, until_sized}
+use Rattle.disk_laws.proofs.SentLemmas.{Took, operated, quiet, quiet_until, until_kept, until_operated, until_sized}
 use Rattle.disk_laws.proofs.StoreLostLemmas.{Since, adding_more, begin, stays}
 
-no_ok : {A E : Type 0} (x : A) (e : E) → Ok x ≡ Err e → ⊥
+pub no_ok : {A E : Type 0} (x : A) (e : E) → Ok x ≡ Err e → ⊥
 no_ok x e is = cc
 
 no_err : {A E : Type 0} (x : A) (e : E) → Err e ≡ Ok x → ⊥
@@ -136,19 +136,42 @@ module _ {S : Type 0} (held : S → Held) (honest : S → Bool) (failed : S → 
       (whole_read (store_behind held old).geometry stands.ready.0 row old.geometry.data_bytes old.geometry.spare_bytes (subst (λ (g : Geometry). row < row_count g) same lt)
       (ap (λ (g : Geometry). g.data_bytes) same) (ap (λ (g : Geometry). g.spare_bytes) same))
 
-  pub took_page : (row : ℕ) (out : List ℕ) (old new : DriverState (FileState S)) → honest old.bus.store ≡ true → AsksPage held honest failed row out old (Ok tt) new → Quiet held honest failed old.bus new.bus (read_to row old)
-  took_page row out old new h asks =
-      quiet held honest failed old.bus new.bus (read_cycles row old.geometry.data_bytes old.geometry.spare_bytes) out (read_to row old) h (read_leads row old asks.stands asks.in_range) asks.sends
+  -- a read, whatever its answer, leaves the store
+  pub record Spared (a b : FileState S) : Type 0 where
+    pub store : held b.store ≡ held a.store
+    pub still : honest b.store ≡ true
+    pub syncs : b.sync_when ≡ a.sync_when
+
+  pub page_spared : (row : ℕ) (out : List ℕ) (result : Result (Unit {0}) SourceFault) (old new : DriverState (FileState S)) → honest old.bus.store ≡ true → AsksPage held honest failed row out old result new
+      → Spared old.bus new.bus
+  page_spared row out (Ok done) old new h asks =
+      let calm = quiet held honest failed old.bus new.bus (read_cycles row old.geometry.data_bytes old.geometry.spare_bytes) out (read_to row old) h (read_leads row old asks.stands asks.in_range) asks.sends in
+      record { store = calm.store; still = calm.still; syncs = calm.syncs }
+  page_spared row out (Err fault) old new h asks =
+      let cycles = read_cycles row old.geometry.data_bytes old.geometry.spare_bytes in
+      let kept = until_kept held honest failed old.bus new.bus cycles asks.sends.0 asks.sends.2 in
+      record {
+        store = quiet_until held honest failed old.bus new.bus cycles (read_to row old) asks.sends.0 h (read_leads row old asks.stands asks.in_range) asks.sends.2;
+        still = kept.0 ∙ h;
+        syncs = kept.1;
+      }
 
   -- ---- calls one after another
 
   pub tells : DriverTellsLaw held honest failed
   tells old new log (NothingAsked d) = records_none (Some d.told)
-  tells old new log (PageRead row out first mid last more asks calls) = subst (λ t. Records (Some t) more (Some last.told)) asks.told (tells mid last more calls)
+  tells old new log (PageRead row out result first mid last more asks calls) = subst (λ t. Records (Some t) more (Some last.told)) asks.told (tells mid last more calls)
   tells old new log (PageProgrammed row body spare outcome first mid last more asks calls) =
       records_join (Some first.told) (Some mid.told) (Some last.told) (Program row (page body spare) (is_passed outcome) (page_at (flash_by (shown held) mid) row) ∷ []) more (ap Some asks.told) (tells mid last more calls)
   tells old new log (BlockErased block outcome first mid last more asks calls) =
       records_join (Some first.told) (Some mid.told) (Some last.told) (Erase block (is_passed outcome) (block_at (flash_by (shown held) mid) block) ∷ []) more (ap Some asks.told) (tells mid last more calls)
+
+  pub calls_then : (a b c : DriverState (FileState S)) (xs ys : List Operation) → DriverCalls held honest failed a xs b → DriverCalls held honest failed b ys c → DriverCalls held honest failed a (xs ++ ys) c
+  calls_then a b c xs ys (NothingAsked d) more = more
+  calls_then a b c xs ys (PageRead row out result first mid last log asks calls) more = PageRead row out result first mid c (log ++ ys) asks (calls_then mid last c log ys calls more)
+  calls_then a b c xs ys (PageProgrammed row body spare outcome first mid last log asks calls) more =
+      PageProgrammed row body spare outcome first mid c (log ++ ys) asks (calls_then mid last c log ys calls more)
+  calls_then a b c xs ys (BlockErased block outcome first mid last log asks calls) more = BlockErased block outcome first mid c (log ++ ys) asks (calls_then mid last c log ys calls more)
 
   -- the turn of the die that a call was
   abbrev turn_of : DriverState (FileState S) → Due → Turn
@@ -172,8 +195,8 @@ module _ {S : Type 0} (held : S → Held) (honest : S → Bool) (failed : S → 
         → ((s : Held) → Since sync_when found g s (store_behind held new) → new.bus.sync_when ≡ sync_when → LostBy g.pages s.pages (store_behind held new).pages hand found) → Since sync_when found g start (store_behind held old) → AddsOrErases g.pages (store_behind held old).pages log
         → LostBy g.pages start.pages (store_behind held old).pages (log ++ hand) found
     lose sync_when g start old new log (NothingAsked d) h same ends since adds = ends start since same
-    lose sync_when g start old new log (PageRead row out first mid last more asks calls) h same ends since adds =
-        let calm = took_page row out first mid h asks in
+    lose sync_when g start old new log (PageRead row out result first mid last more asks calls) h same ends since adds =
+        let calm = page_spared row out result first mid h asks in
         subst (λ (s : Held). LostBy g.pages start.pages s.pages (more ++ hand) found) calm.store
         (lose sync_when g start mid last more calls calm.still (calm.syncs ∙ same) ends (subst (Since sync_when found g start) (sym calm.store) since)
         (subst (λ (s : Held). AddsOrErases g.pages s.pages more) (sym calm.store) adds))
@@ -206,16 +229,16 @@ module _ {S : Type 0} (held : S → Held) (honest : S → Bool) (failed : S → 
         (lose sync_when g (store_behind held mid) mid last more calls took.still (took.syncs ∙ same) ends again (subst (λ i. AddsOrErases g.pages i more) (sym image) adds.1))))
 
   -- the store after them
-  record Came (old new : DriverState (FileState S)) (log : List Operation) : Type 0 where
+  pub record Came (old new : DriverState (FileState S)) (log : List Operation) : Type 0 where
     pub image : (store_behind held new).pages ≡ image_after_all (store_behind held old).geometry.pages (store_behind held old).pages log
     pub sized : (store_behind held new).geometry ≡ (store_behind held old).geometry
     pub whole : AreImages (store_behind held new)
     pub still : honest new.bus.store ≡ true
 
-  came : (old new : DriverState (FileState S)) (log : List Operation) → DriverCalls held honest failed old log new → honest old.bus.store ≡ true → AreImages (store_behind held old) → Came old new log
+  pub came : (old new : DriverState (FileState S)) (log : List Operation) → DriverCalls held honest failed old log new → honest old.bus.store ≡ true → AreImages (store_behind held old) → Came old new log
   came old new log (NothingAsked d) h w = record { image = refl; sized = refl; whole = w; still = h }
-  came old new log (PageRead row out first mid last more asks calls) h w =
-      let calm = took_page row out first mid h asks in
+  came old new log (PageRead row out result first mid last more asks calls) h w =
+      let calm = page_spared row out result first mid h asks in
       let rest = came mid last more calls calm.still (subst AreImages (sym calm.store) w) in
       record {
         image = rest.image ∙ ap (λ (s : Held). image_after_all s.geometry.pages s.pages more) calm.store;
@@ -280,8 +303,7 @@ module _ {S : Type 0} (held : S → Held) (honest : S → Bool) (failed : S → 
   read_refused : (row : ℕ) (out : List ℕ) (fault : SourceFault) (old new : DriverState (FileState S)) → honest old.bus.store ≡ true → AreImages (store_behind held old)
       → AsksPage held honest failed row out old (Err fault) new → Refused old new []
   read_refused row out fault old new h w asks =
-      let same : store_behind held new ≡ store_behind held old =
-      quiet_until held honest failed old.bus new.bus (read_cycles row old.geometry.data_bytes old.geometry.spare_bytes) (read_to row old) asks.sends.0 h (read_leads row old asks.stands asks.in_range) asks.sends.2 in
+      let same : store_behind held new ≡ store_behind held old = (page_spared row out (Err fault) old new h asks).store in
       record { left = ap (λ (s : Held). s.pages) same; sized = ap (λ (s : Held). s.geometry) same; whole = subst AreImages (sym same) w }
 
   refused : (old new : DriverState (FileState S)) (hand : List Operation) → DriverFails held honest failed old hand new → honest old.bus.store ≡ true → AreImages (store_behind held old) → Refused old new hand
@@ -372,8 +394,7 @@ module _ {S : Type 0} (held : S → Held) (honest : S → Bool) (failed : S → 
       → (store_behind held new).durable ≡ found → Since sync_when found g start (store_behind held old) → old.bus.sync_when ≡ sync_when → AddsOrErases g.pages (store_behind held old).pages hand
       → LostBy g.pages start.pages (store_behind held old).pages hand found
   refused_lost sync_when found g start old new hand (ReadFails row out fault last asks) h is since same adds =
-      let as_was : store_behind held last ≡ store_behind held old =
-      quiet_until held honest failed old.bus last.bus (read_cycles row old.geometry.data_bytes old.geometry.spare_bytes) (read_to row old) asks.sends.0 h (read_leads row old asks.stands asks.in_range) asks.sends.2 in
+      let as_was : store_behind held last ≡ store_behind held old = (page_spared row out (Err fault) old last h asks).store in
       subst (LosesSince start.pages (store_behind held old).pages) (ap (λ (s : Held). s.durable) (sym as_was) ∙ is) (lasting sync_when found g start (store_behind held old) since)
   refused_lost sync_when found g start old new hand (ProgramFails row body spare fault last asks) h is since same adds =
       subst (LostBy g.pages start.pages (store_behind held old).pages (Program row (page body spare) true (page body spare) ∷ [])) is

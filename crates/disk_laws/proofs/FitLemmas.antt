@@ -46,13 +46,13 @@ module _ (s t : Flash) (row : ℕ) (page left : Page) (passed : Bool) (accounts 
   pub unsound : IsUnsoundAt s.image row
   unsound = subst (IsUnsoundAt s.image) (div-add-mod' row s.geometry.pages) (fits.free (row / s.geometry.pages) (row % s.geometry.pages) due.good (omega (arith, due.next)) (omega (arith, some)))
 
-  its : (r : Record) × (record_of page ≡ Some r) × (r.sequence ≡ next)
+  pub its : (r : Record) × (record_of page ≡ Some r) × (r.sequence ≡ next)
   its = some_and (record_of page) numbered
 
   below_its : AreBelow (marks s.image) its.0.sequence
   below_its = subst (AreBelow (marks s.image)) (sym its.2) fits.below
 
-  newest_now : passed ≡ true → newest (marks t.image) (key_of its.0) ≡ Some row
+  pub newest_now : passed ≡ true → newest (marks t.image) (key_of its.0) ≡ Some row
   newest_now e =
       let newer : IsNewer s.image its.0 = record {
         above = λ q n at.
@@ -77,7 +77,7 @@ module _ (s t : Flash) (row : ℕ) (page left : Page) (passed : Bool) (accounts 
   ]
 
   -- the accounts after it
-  after_block : (b : ℕ) → b ≡ row / s.geometry.pages → account_at (accounted s.geometry.pages accounts (Program row page passed left)) b ≡ noted (account_at accounts b) (Program row page passed left)
+  pub after_block : (b : ℕ) → b ≡ row / s.geometry.pages → account_at (accounted s.geometry.pages accounts (Program row page passed left)) b ≡ noted (account_at accounts b) (Program row page passed left)
   after_block b is =
       accounted-same s.geometry.pages accounts (Program row page passed left) b (sym is) (in_range accounts b (subst (λ k. (account_at accounts k).barred ≡ false) (sym is) due.good))
 

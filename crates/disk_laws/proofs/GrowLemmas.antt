@@ -45,7 +45,7 @@ pub record GrewSince (g : Geometry) (is_so : ℕ → List ℕ → Type 0) (store
 
 -- ---- one image
 
-one_of : (g : Geometry) (capacity : ℕ) (image : Image) → IsMountable g capacity image → HasOneArray g image
+pub one_of : (g : Geometry) (capacity : ℕ) (image : Image) → IsMountable g capacity image → HasOneArray g image
 one_of g capacity image m = (let o = orderly_of g capacity image m in record { distinct = o.sequences; in_range = o.numbers.in_range })
 
 unsound_set : (image : Image) (row : ℕ) (p : Page) → IsUnsoundAt image row → record_of p ≡ None → marks (set image row p) ≡ marks image
@@ -87,7 +87,7 @@ module _ (g : Geometry) (capacity : ℕ) (is_so : ℕ → List ℕ → Type 0) w
   }
 
   -- a row that has no record now had none then
-  none_then : (stored image : Image) (row : ℕ) → Grows stored image → IsUnsoundAt image row → IsUnsoundAt stored row
+  pub none_then : (stored image : Image) (row : ℕ) → Grows stored image → IsUnsoundAt image row → IsUnsoundAt stored row
   none_then stored image row grows none = elim (which (get_or (marks stored) row None)) [
     | inl then ↦ then
     | inr some ↦ absurd (both _ some.0 none (mark-same image stored row (grows.kept row some.0 some.1) ∙ some.1))

@@ -1,4 +1,9 @@
 mod FitLemmas
+mod InOrderLemmas
+mod SparedLemmas
+mod SparedRuns
+mod LostCutLemmas
+mod LostOpenedLemmas
 mod GrowLemmas
 mod LogLemmas
 mod LossLemmas
@@ -13,4 +18,7 @@ mod SentLemmas
 mod RefusedLemmas
 mod DrivenLemmas
 mod CallLemmas
+mod AskedRunLemmas
+mod HandLemmas
 mod StoreRunLemmas
+mod CutCallLemmas

@@ -1,12 +1,12 @@
 -- What is found of a disk where calls of its device are cut short.
-use Rattle.std.proofs.Common.{◌≡◌, ◌≢◌, ◌⊎◌, inl, inr, ℕ, ◌+◌, ◌*◌, ◌<◌, ◌≤◌, Bool, true, false, not, List, [], ◌∷◌, ◌++◌, length, None, Result, Err, refl, sym, ap, subst, ◌∙◌, arith}
+use Rattle.std.proofs.Common.{◌≡◌, ◌≢◌, ◌⊎◌, inl, inr, ℕ, ◌+◌, ◌*◌, ◌<◌, ◌≤◌, Bool, true, false, not, List, [], ◌∷◌, ◌++◌, length, None, IsSome, Result, Err, refl, sym, ap, subst, ◌∙◌, arith}
 use Rattle.std.specs.List.{range_with_len}
 use Rattle.std.specs.Prelude.{get_or, map}
 use Rattle.std.proofs.lemmas.List.FromFn.{get_or-map-range_with_len, length-map-range_with_len}
 use Rattle.page_layout.specs.View.{View}
 use Rattle.page_layout.specs.declared.geometry.Geometry.{Geometry}
 use Rattle.page_layout.specs.Page.{Image, IsImage}
-use Rattle.page_layout.specs.Array.{array_of, sector_of}
+use Rattle.page_layout.specs.Array.{array_of, marks, sector_of}
 use Rattle.page_layout.specs.Change.{IsErasedAt, IsUnsoundAt}
 use Rattle.page_layout.specs.Flash.{Flash, Operation, Program, Erase, Leads}
 use Rattle.page_layout.specs.Recording.{Records, image_after, image_after_all}
@@ -16,7 +16,7 @@ use Rattle.page_layout.proofs.RecordingLemmas.{records_none}
 use Rattle.bad_blocks.specs.Table.{is_good_at}
 use Rattle.allocation.specs.State.{State, pointer_at}
 use Rattle.promises.specs.Step.{Command, Trim}
-use Rattle.promises.specs.Stop.{LeftBy, MayLeave}
+use Rattle.promises.specs.Stop.{ErasesDead, LeftBy, MayLeave}
 use Rattle.promises.specs.Legal.{Account, account_at, no_account, LegalFrom}
 use Rattle.promises.proofs.LegalLemmas.{in_range}
 use Rattle.promises.proofs.StopLemmas.{between, image_law, no_operation, stops_join}
@@ -38,6 +38,7 @@ use Rattle.disk_server.proofs.Holding.{back, parts}
 use Rattle.disk_laws.specs.Lost.{LostBy, MayLose}
 use Rattle.disk_laws.specs.Runs.{CutInCall, CutLeavesLaw, DeviceCalls, Does, HasOnTheWay, IsCutIn, IsDiskCall, IsFoundAfterLoss, KilledRunLaw, LostRunLaw, NoCall, OneCallLaw, OneMore, image_on}
 use Rattle.disk_laws.proofs.FitLemmas.{Fits}
+use Rattle.disk_laws.proofs.InOrderLemmas.{Filled}
 use Rattle.disk_laws.proofs.GrowLemmas.{GrewSince, Stands, since_begin}
 use Rattle.disk_laws.proofs.LogLemmas.{Goes, grew, lasts_after, lost, lost_apart}
 
@@ -51,7 +52,7 @@ sector_in : (g : Geometry) (image : Image) (n : ℕ) → n < g.sectors → get_o
 unfolding array_of
 sector_in g image n within = get_or-map-range_with_len (sector_of g image) 0 g.sectors n n [] within (omega arith)
 
-same_sector : (g : Geometry) (a b : Image) (n : ℕ) → n < g.sectors → array_of g a ≡ array_of g b → sector_of g a n ≡ sector_of g b n
+pub same_sector : (g : Geometry) (a b : Image) (n : ℕ) → n < g.sectors → array_of g a ≡ array_of g b → sector_of g a n ≡ sector_of g b n
 same_sector g a b n within same = sym (sector_in g a n within) ∙ (ap (λ l. get_or l n []) same ∙ sector_in g b n within)
 
 -- ---- the accounts of blocks, as the memory has them
@@ -72,6 +73,7 @@ pub record Begun (pages next : ℕ) (image : Image) (s : State) : Type 0 where
   pub accounts : List Account
   pub accounted : IsAccounted accounts s
   pub fits : Fits pages image accounts next
+  pub filled : Filled pages image accounts
 
 good_by : (b : Bool) → not b ≡ false → b ≡ true
 good_by true e = refl
@@ -101,6 +103,13 @@ module _ {N : Type 0} (flash : N → Flash) (d : Device N) where
               truth.filled.erased b p here good (subst (λ (a : Account). a.next ≤ p) now from) (omega (arith, within, ap (λ (g : Geometry). g.pages) of)) in
               subst (λ (g : Geometry). IsUnsoundAt image (b * g.pages + p)) of (erased_at_unsound d.engine.geometry image (b * s.geometry.pages + p) truth.whole erased);
         };
+        filled = record {
+          sound = λ b p free below within.
+              let here : b < s.geometry.blocks = omega (arith, in_range (accounts_now s) b free, size) in
+              let now = account_now s b here in
+              let good : is_good_at s.table b ≡ true = good_by (is_good_at s.table b) (sym (ap (λ (a : Account). a.barred) now) ∙ free) in
+              subst (λ (g : Geometry). IsSome (get_or (marks image) (b * g.pages + p) None)) of (truth.filled.sound b p here good (subst (λ (a : Account). p < a.next) now below));
+        };
       }
 
 -- ---- one call
@@ -114,9 +123,11 @@ pub record Called {N : Type 0} (g : Geometry) (capacity : ℕ) (die : View N) (b
   pub accounts : List Account
   pub next : ℕ
   pub fits : Fits g.pages before.image accounts next
+  pub filled : Filled g.pages before.image accounts
   pub leads : Leads before log (die.flash new.engine.nand)
   pub legal : LegalFrom g.pages accounts log
   pub numbers : NumbersFrom next log
+  pub dead : ErasesDead g.pages before.image log
   pub survives : (left : Image) → MayLeave g before.image log left → (capacity + g.pages ≤ 65536 → IsMountable g (capacity + g.pages) left)
       × ((array_of g left ≡ array_of g before.image) ⊎ (array_of g left ≡ array_of g (image_on die new)))
 
@@ -147,9 +158,11 @@ module _ {N : Type 0} (die : View N) (old : Device N) (log : List Operation) (ne
         accounts = begins.accounts;
         next = (ram old.engine).next;
         fits = begins.fits;
+        filled = begins.filled;
         leads = logs.went.leads;
         legal = logs.went.follows.legal begins.accounts begins.accounted;
         numbers = logs.went.numbers;
+        dead = logs.dead was does.told;
         survives = λ left m. (let s = logs.stopped was does.told left m in (s.mountable, elim s.array [ inl before ↦ inl before | inr after ↦ inr after.2 ]));
       })
 
@@ -175,9 +188,11 @@ module _ {N : Type 0} (die : View N) (old : Device N) (log : List Operation) (ne
         accounts = begins.accounts;
         next = (ram old.engine).next;
         fits = begins.fits;
+        filled = begins.filled;
         leads = same;
         legal = tt;
         numbers = tt;
+        dead = tt;
         survives = λ left m.
             let here : left ≡ image_on die old = no_operation old.engine.geometry (image_on die old) left m in (
               λ few. subst (IsMountable old.engine.geometry (old.engine.mapping.capacity + old.engine.geometry.pages)) (image_same ∙ sym here) (leaves.mountable few),
@@ -334,13 +349,13 @@ module _ {N : Type 0} (die : View N) (old : Device N) where
         since = grew_on stored (image_on die mid) since;
       }
 
-  lasts_join : (pages : ℕ) (stored image : Image) (xs ys : List Operation) → lasts_after pages stored image (xs ++ ys) ≡ lasts_after pages (lasts_after pages stored image xs) (image_after_all pages image xs) ys
+  pub lasts_join : (pages : ℕ) (stored image : Image) (xs ys : List Operation) → lasts_after pages stored image (xs ++ ys) ≡ lasts_after pages (lasts_after pages stored image xs) (image_after_all pages image xs) ys
   lasts_join pages stored image [] ys = refl
   lasts_join pages stored image (Program row page passed left ∷ xs) ys = lasts_join pages stored (image_after pages image (Program row page passed left)) xs ys
   lasts_join pages stored image (Erase block passed left ∷ xs) ys = lasts_join pages (image_after pages image (Erase block passed left)) (image_after pages image (Erase block passed left)) xs ys
 
   -- the pages that last after these calls
-  abbrev lasting : List Operation → Image
+  abbrev pub lasting : List Operation → Image
   lasting before = lasts_after old.engine.geometry.pages (image_on die old) (image_on die old) before
 
   module _ (few : old.engine.mapping.capacity + old.engine.geometry.pages ≤ 65536) where

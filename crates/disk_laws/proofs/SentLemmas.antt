@@ -1,9 +1,10 @@
 -- What the cycles of a driver come to in the store of its die.
 use Rattle.std.proofs.Common.{◌≡◌, ◌⊎◌, inl, inr, ℕ, Bool, true, false, List, [], ◌∷◌, ◌++◌, Ok, Err, refl, sym, ap, subst, ◌∙◌, Result}
 use Rattle.onfi_cycles.specs.declared.nand.BusFault.{BusFault}
+use Rattle.onfi_cycles.specs.declared.nand.Outcome.{Outcome}
 use Rattle.onfi_cycles.specs.Cycles.{Command, Cycle, DataOut, DieState, Does, Due, NoOutput, Phase, Ready, StatusOut, command_due, due_of, to_phase}
-use Rattle.onfi_cycles.specs.Sent.{Sent, SentUntil}
-use Rattle.onfi_cycles.specs.Spelling.{confirm_cycles}
+use Rattle.onfi_cycles.specs.Sent.{Operates, Sent, SentUntil}
+use Rattle.onfi_cycles.specs.Spelling.{FailsIn, Taken, confirm_cycles}
 use Rattle.onfi_cycles.proofs.Leads.{LeadTo, moved}
 use Rattle.onfi_cycles.proofs.Noting.{sent_split}
 use Rattle.onfi_cycles.proofs.Operations.{IsConfirm, confirm_ready, status_leads}
@@ -64,6 +65,30 @@ module _ {S : Type 0} (held : S → Held) (honest : S → Bool) (failed : S → 
   until_sized a b [] fault s = absurd s
   until_sized a b (x ∷ xs) fault (inl s) = s.1.geometry
   until_sized a b (x ∷ xs) fault (inr s) = until_sized s.0 b xs fault s.3 ∙ s.2.geometry
+
+  pub until_kept : (a b : FileState S) (xs : List Cycle) (fault : BusFault) → SentUntil (Acts held honest failed) a xs fault b → (honest b.store ≡ honest a.store) × (b.sync_when ≡ a.sync_when)
+  until_kept a b [] fault s = absurd s
+  until_kept a b (x ∷ xs) fault (inl s) = (s.1.as_honest, s.1.sync_when)
+  until_kept a b (x ∷ xs) fault (inr s) = (let rest = until_kept s.0 b xs fault s.3 in (rest.0 ∙ s.2.as_honest, rest.1 ∙ s.2.sync_when))
+
+  pub sent_kept : (a b : FileState S) (xs : List Cycle) (out : List ℕ) → Sent (Acts held honest failed) a xs out b → honest b.store ≡ honest a.store
+  sent_kept a b [] out s = ap (λ (d : FileState S). honest d.store) s.1
+  sent_kept a b (x ∷ xs) out s = sent_kept s.0 b xs s.2 s.5 ∙ s.4.as_honest
+
+  -- a program or an erase, whatever its answer, leaves the store honest
+  pub operates_kept : (a b : FileState S) (xs : List Cycle) (result : Result Outcome BusFault) → Operates (Acts held honest failed) a xs result b → honest b.store ≡ honest a.store
+  operates_kept a b xs result (inl sent) = sent_kept a b xs (sent.0 ∷ []) sent.2
+  operates_kept a b xs result (inr refused) = (until_kept a b xs refused.0 refused.2).0
+
+  -- over an honest store each cycle is a step of the protocol
+  pub sent_taken : (a b : FileState S) (xs : List Cycle) (out : List ℕ) → honest a.store ≡ true → Sent (Acts held honest failed) a xs out b → Taken (shown held a) xs (shown held b)
+  sent_taken a b [] out h s = ap (shown held) s.1
+  sent_taken a b (x ∷ xs) out h s = (shown held s.0, s.4.follows h, sent_taken s.0 b xs s.2 (s.4.as_honest ∙ h) s.5)
+
+  pub until_fails : (a b : FileState S) (xs : List Cycle) (fault : BusFault) → honest a.store ≡ true → SentUntil (Acts held honest failed) a xs fault b → FailsIn (shown held a) xs fault (shown held b)
+  until_fails a b [] fault h s = absurd s
+  until_fails a b (x ∷ xs) fault h (inl s) = inl (s.1.follows h)
+  until_fails a b (x ∷ xs) fault h (inr s) = inr (shown held s.0, s.2.follows h, until_fails s.0 b xs fault (s.2.as_honest ∙ h) s.3)
 
   -- what an operation left in the store
   pub record Took (due : Due) (a b : FileState S) : Type 0 where

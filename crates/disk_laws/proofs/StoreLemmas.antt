@@ -52,7 +52,7 @@ none_there x e = cc
 
 module _ {S : Type 0} (held : S → Held) (honest full : S → Bool) (failed : S → ℕ) where
   abbrev DeviceCall : Device (DriverState (FileState S)) → Device (DriverState (FileState S)) → Type 0
-  DeviceCall = IsDiskCall (view_in held honest)
+  DeviceCall = IsDiskCall (view_in held honest failed)
 
   -- the device before calls, and that it was asked these
   record WasAsked (calls : List (CallMade DeviceCall)) (old : Reopened S) (last : Device (DriverState (FileState S))) : Type 0 where
@@ -98,10 +98,10 @@ module _ {S : Type 0} (held : S → Held) (honest full : S → Bool) (failed : S
     one_reopened (inl (inl (inl gone))) = absurd (none_there last (sym gone.1.device_is ∙ there))
     one_reopened (inl (inl (inr is))) = led is.device is.left (inl (inl is.asked)) is.was (left_there (terms_of old) old.next is.left is.there)
     one_reopened (inl (inr (inl (n, result, inl (command, is))))) =
-        asked_one (changes_of held honest n command) (λ d left answer asks. inl (inr (inl (n, answer, inl (command, asks))))) fault.NoSpace result is
-    one_reopened (inl (inr (inl (n, result, inr is)))) = asked_one (clears_of held honest n) (λ d left answer asks. inl (inr (inl (n, answer, inr asks)))) fault.NoSpace result is
-    one_reopened (inl (inr (inr (result, is)))) = asked_one (flushes_of held honest) (λ d left answer asks. inl (inr (inr (answer, asks)))) fault.Failed result is
-    one_reopened (inr (result, is)) = asked_one (rests_of held honest) (λ d left answer asks. inr (answer, asks)) fault.Failed result is
+        asked_one (changes_of held honest failed n command) (λ d left answer asks. inl (inr (inl (n, answer, inl (command, asks))))) fault.NoSpace result is
+    one_reopened (inl (inr (inl (n, result, inr is)))) = asked_one (clears_of held honest failed n) (λ d left answer asks. inl (inr (inl (n, answer, inr asks)))) fault.NoSpace result is
+    one_reopened (inl (inr (inr (result, is)))) = asked_one (flushes_of held honest failed) (λ d left answer asks. inl (inr (inr (answer, asks)))) fault.Failed result is
+    one_reopened (inr (result, is)) = asked_one (rests_of held honest failed) (λ d left answer asks. inr (answer, asks)) fault.Failed result is
 
   -- calls, and one more
   reopened_more : (old mid : Reopened S) (last : Device (DriverState (FileState S))) (calls more : List (CallMade DeviceCall)) (one : WasAsked more mid last)
@@ -133,13 +133,13 @@ module _ {S : Type 0} (held : S → Held) (honest full : S → Bool) (failed : S
   reopened_session old new (n, times) plain last there = (let all = all_reopened n old new times plain last there in (all.first, all.was, all.asked))
 
   -- calls that are just these are calls of a device that holds its array
-  these : (first last : Device (DriverState (FileState S))) (calls asked : List (CallMade DeviceCall)) → IsRunOf DeviceCall calls first last → IsDisk (view_in held honest) first → holds (is_honest_in honest) last ≡ true → calls ≡ asked
-      → (log : List Operation) × (run : DeviceCalls (view_in held honest) first log last) × (calls_made DeviceCall first last (calls_of (view_in held honest) first log last run) ≡ asked)
-  these first last calls asked is was on same = (let s = session (view_in held honest) first last is.0 was on refl in (s.0, s.1, ap (calls_made DeviceCall first last) s.2 ∙ (is.1 ∙ same)))
+  these : (first last : Device (DriverState (FileState S))) (calls asked : List (CallMade DeviceCall)) → IsRunOf DeviceCall calls first last → IsDisk (view_in held honest failed) first → holds (is_honest_in honest) last ≡ true → calls ≡ asked
+      → (log : List Operation) × (run : DeviceCalls (view_in held honest failed) first log last) × (calls_made DeviceCall first last (calls_of (view_in held honest failed) first log last run) ≡ asked)
+  these first last calls asked is was on same = (let s = session (view_in held honest failed) first last is.0 was on refl in (s.0, s.1, ap (calls_made DeviceCall first last) s.2 ∙ (is.1 ∙ same)))
 
   pub store_session : (K : Type 0) → StoreSessionLaw K held honest full failed
   store_session K old new asked plain last there on =
-      let below = guarded_session (ReadsDevice (reads_of held honest)) (changes_in held honest full failed) (AsksDevice held honest full failed (flushes_of held honest) fault.Failed)
-      (AsksDevice held honest full failed (rests_of held honest) fault.Failed) old new asked in
+      let below = guarded_session (ReadsDevice (reads_of held honest failed)) (changes_in held honest full failed) (AsksDevice held honest full failed (flushes_of held honest failed) fault.Failed)
+      (AsksDevice held honest full failed (rests_of held honest failed) fault.Failed) old new asked in
       let device = reopened_session old.sectors new.sectors below.0 plain last there in
       (device.0, device.1, λ was. these device.0 last _ _ device.2 was on (ap (devices_asked held honest full failed) below.1))

@@ -6,11 +6,11 @@ use Rattle.page_layout.specs.declared.source.SourceFault.{SourceFault}
 use Rattle.page_layout.specs.Sound.{record_of}
 use Rattle.page_layout.specs.Change.{erased_page}
 use Rattle.page_layout.specs.Flash.{Operation, Program, Erase, Steps, block_at, page_at}
-use Rattle.page_layout.specs.Recording.{Records, image_after}
+use Rattle.page_layout.specs.Recording.{Records, asked_erase, asked_program, image_after}
 use Rattle.onfi_cycles.specs.declared.nand.BusFault.{BusFault}
 use Rattle.onfi_cycles.specs.declared.nand.Outcome.{Outcome}
 use Rattle.onfi_cycles.specs.Cycles.{Cycle, Due, due_of}
-use Rattle.onfi_cycles.specs.Driver.{DriverState, IsReady, flash_by, gained}
+use Rattle.onfi_cycles.specs.Driver.{DriverState, IsReady, cut_in, flash_by, gained}
 use Rattle.onfi_cycles.specs.Outcomes.{is_passed}
 use Rattle.onfi_cycles.specs.Sent.{Operates, SendsRead}
 use Rattle.onfi_cycles.specs.Spelling.{erase_cycles, program_cycles, read_cycles}
@@ -32,7 +32,7 @@ pub record StandsReady {S : Type 0} (held : S → Held) (d : DriverState (FileSt
   pub geometry : (store_behind held d).geometry ≡ d.geometry
   pub ready : IsReady d.bus.phase
 
--- A PROGRAM OF A PAGE, AN ERASE AND A READ, each by what a driver's contract says: which cycles it sent; where it was done the step of the die; and the operation that its record gained, or none
+-- A PROGRAM OF A PAGE, AN ERASE AND A READ, each by what a driver's contract says: which cycles it sent; where it was done the step of the die; and the operation that its record gained, or that a fault left at hand in it, or none
 pub record AsksProgram {S : Type 0} (held : S → Held) (honest : S → Bool) (failed : S → ℕ) (row : ℕ) (body spare : List ℕ) (old : DriverState (FileState S)) (result : Result Outcome BusFault)
     (new : DriverState (FileState S)) : Type 0 where
   pub stands : StandsReady held old
@@ -41,14 +41,16 @@ pub record AsksProgram {S : Type 0} (held : S → Held) (honest : S → Bool) (f
   pub spare_whole : length spare ≡ old.geometry.spare_bytes
   pub sends : Operates (Acts held honest failed) old.bus (program_cycles row body spare) result new.bus
   pub step : IfOk result (λ outcome. Steps (flash_by (shown held) old) (Program row (page body spare) (is_passed outcome) (page_at (flash_by (shown held) new) row)) (flash_by (shown held) new))
-  pub told : MatchResult result (λ outcome. new.told ≡ gained (Program row (page body spare) (is_passed outcome) (page_at (flash_by (shown held) new) row)) old.told) (λ fault. new.told ≡ old.told)
+  pub told : MatchResult result (λ outcome. new.told ≡ gained (Program row (page body spare) (is_passed outcome) (page_at (flash_by (shown held) new) row)) old.told)
+      (λ fault. new.told ≡ cut_in (asked_program row (page body spare)) old.told)
 
 pub record AsksErase {S : Type 0} (held : S → Held) (honest : S → Bool) (failed : S → ℕ) (block : ℕ) (old : DriverState (FileState S)) (result : Result Outcome BusFault) (new : DriverState (FileState S)) : Type 0 where
   pub stands : StandsReady held old
   pub in_range : block < old.geometry.blocks
   pub sends : Operates (Acts held honest failed) old.bus (erase_cycles old.geometry block) result new.bus
   pub step : IfOk result (λ outcome. Steps (flash_by (shown held) old) (Erase block (is_passed outcome) (block_at (flash_by (shown held) new) block)) (flash_by (shown held) new))
-  pub told : MatchResult result (λ outcome. new.told ≡ gained (Erase block (is_passed outcome) (block_at (flash_by (shown held) new) block)) old.told) (λ fault. new.told ≡ old.told)
+  pub told : MatchResult result (λ outcome. new.told ≡ gained (Erase block (is_passed outcome) (block_at (flash_by (shown held) new) block)) old.told)
+      (λ fault. new.told ≡ cut_in (asked_erase old.geometry block) old.told)
 
 pub record AsksPage {S : Type 0} (held : S → Held) (honest : S → Bool) (failed : S → ℕ) (row : ℕ) (out : List ℕ) (old : DriverState (FileState S)) (result : Result (Unit {0}) SourceFault)
     (new : DriverState (FileState S)) : Type 0 where
@@ -63,10 +65,10 @@ LeavesStore held due old (Ok outcome) new = Leaves due (shown held old.bus).flas
 LeavesStore held due old (Err fault) new =
     (store_behind held new ≡ store_behind held old) ⊎ ((done : Bool) × Leaves due (shown held old.bus).flash old.bus.sync_when (store_behind held old) done (store_behind held new))
 
--- CALLS ONE AFTER ANOTHER, each answered `Ok`, with the operations that the driver's record gained in them
+-- CALLS ONE AFTER ANOTHER, each program and erase answered `Ok`, and a read with any answer, with the operations that the driver's record gained in them
 pub data DriverCalls {S : Type 0} (held : S → Held) (honest : S → Bool) (failed : S → ℕ) : DriverState (FileState S) → List Operation → DriverState (FileState S) → Type 0 where
   NothingAsked : (d : DriverState (FileState S)) → DriverCalls held honest failed d [] d
-  PageRead : (row : ℕ) (out : List ℕ) (old mid new : DriverState (FileState S)) (log : List Operation) → AsksPage held honest failed row out old (Ok tt) mid
+  PageRead : (row : ℕ) (out : List ℕ) (result : Result (Unit {0}) SourceFault) (old mid new : DriverState (FileState S)) (log : List Operation) → AsksPage held honest failed row out old result mid
       → DriverCalls held honest failed mid log new → DriverCalls held honest failed old log new
   PageProgrammed : (row : ℕ) (body spare : List ℕ) (outcome : Outcome) (old mid new : DriverState (FileState S)) (log : List Operation) → AsksProgram held honest failed row body spare old (Ok outcome) mid
       → DriverCalls held honest failed mid log new
@@ -74,7 +76,7 @@ pub data DriverCalls {S : Type 0} (held : S → Held) (honest : S → Bool) (fai
   BlockErased : (block : ℕ) (outcome : Outcome) (old mid new : DriverState (FileState S)) (log : List Operation) → AsksErase held honest failed block old (Ok outcome) mid
       → DriverCalls held honest failed mid log new → DriverCalls held honest failed old (Erase block (is_passed outcome) (block_at (flash_by (shown held) mid) block) ∷ log) new
 
--- ONE MORE THAT THE FILE REFUSED, with the operation at hand as it was asked for: the call has a fault, and the record gains nothing
+-- ONE MORE THAT THE FILE REFUSED, with the operation at hand as it was asked for: the call has a fault, and the record gains nothing, and has it at hand
 pub data DriverFails {S : Type 0} (held : S → Held) (honest : S → Bool) (failed : S → ℕ) (old : DriverState (FileState S)) : List Operation → DriverState (FileState S) → Type 0 where
   ReadFails : (row : ℕ) (out : List ℕ) (fault : SourceFault) (new : DriverState (FileState S)) → AsksPage held honest failed row out old (Err fault) new → DriverFails held honest failed old [] new
   ProgramFails : (row : ℕ) (body spare : List ℕ) (fault : BusFault) (new : DriverState (FileState S)) → AsksProgram held honest failed row body spare old (Err fault) new

@@ -1,4 +1,6 @@
+pub mod AskedRuns
 pub mod CallsMade
+pub mod Cut
 pub mod Driven
 pub mod Killed
 pub mod Lost
@@ -7,3 +9,4 @@ pub mod Served
 pub mod Sessions
 pub mod StoreLost
 pub mod StoreRuns
+pub mod Spared

@@ -23,13 +23,13 @@ abbrev pub AsksGuarded : {S K : Type 0} → (reads changes : S → S → Type 0)
 AsksGuarded reads changes flushes rests = AsksOneOf (ReadsGuarded reads) (ChangesGuarded changes) (PassesOn flushes) (PassesOn rests)
 
 abbrev pub AsksReopened : {S : Type 0} → (S → Held) → (honest full : S → Bool) → (failed : S → ℕ) → (old new : Reopened S) → Type 0
-AsksReopened held honest full failed = AsksOneOf (ReadsDevice (reads_of held honest)) (changes_in held honest full failed)
-    (AsksDevice held honest full failed (flushes_of held honest) fault.Failed) (AsksDevice held honest full failed (rests_of held honest) fault.Failed)
+AsksReopened held honest full failed = AsksOneOf (ReadsDevice (reads_of held honest failed)) (changes_in held honest full failed)
+    (AsksDevice held honest full failed (flushes_of held honest failed) fault.Failed) (AsksDevice held honest full failed (rests_of held honest failed) fault.Failed)
 
 -- both
 abbrev pub AsksStored : {S K : Type 0} → (S → Held) → (honest full : S → Bool) → (failed : S → ℕ) → (old new : GuardedSectors (Reopened S) K) → Type 0
-AsksStored held honest full failed = AsksGuarded (ReadsDevice (reads_of held honest)) (changes_in held honest full failed)
-    (AsksDevice held honest full failed (flushes_of held honest) fault.Failed) (AsksDevice held honest full failed (rests_of held honest) fault.Failed)
+AsksStored held honest full failed = AsksGuarded (ReadsDevice (reads_of held honest failed)) (changes_in held honest full failed)
+    (AsksDevice held honest full failed (flushes_of held honest failed) fault.Failed) (AsksDevice held honest full failed (rests_of held honest failed) fault.Failed)
 
 -- ---- what is asked below
 
@@ -48,28 +48,28 @@ sectors_asked reads changes flushes rests old new (inr (result, inr asked)) = th
 
 -- WHAT A CALL ASKS OF THE DEVICE THAT IS THERE: one call, from it to what that left, or nothing where it is gone; by what a call of it is
 abbrev pub one_asked : {S : Type 0} → (held : S → Held) → (honest full : S → Bool) → (failed : S → ℕ) → (asks : Device (DriverState (FileState S)) → Result (Unit {0}) DiskFault → Device (DriverState (FileState S)) → Type 0)
-    → ((d left : Device (DriverState (FileState S))) (answer : Result (Unit {0}) DiskFault) → asks d answer left → IsDiskCall (view_in held honest) d left) → (told : DiskFault) → (old : Reopened S)
-    → (result : Result (Unit {0}) DiskFault) → (new : Reopened S) → AsksDevice held honest full failed asks told old result new → List (CallMade (IsDiskCall (view_in held honest)))
+    → ((d left : Device (DriverState (FileState S))) (answer : Result (Unit {0}) DiskFault) → asks d answer left → IsDiskCall (view_in held honest failed) d left) → (told : DiskFault) → (old : Reopened S)
+    → (result : Result (Unit {0}) DiskFault) → (new : Reopened S) → AsksDevice held honest full failed asks told old result new → List (CallMade (IsDiskCall (view_in held honest failed)))
 one_asked held honest full failed asks so told old result new (inl gone) = []
-one_asked held honest full failed asks so told old result new (inr is) = this_call (IsDiskCall (view_in held honest)) is.device is.left (so is.device is.left is.answer is.asked)
+one_asked held honest full failed asks so told old result new (inr is) = this_call (IsDiskCall (view_in held honest failed)) is.device is.left (so is.device is.left is.answer is.asked)
 
 unfoldable pub device_asked : {S : Type 0} → (held : S → Held) → (honest full : S → Bool) → (failed : S → ℕ) → (old new : Reopened S) → AsksReopened held honest full failed old new
-    → List (CallMade (IsDiskCall (view_in held honest)))
+    → List (CallMade (IsDiskCall (view_in held honest failed)))
 unfolding AsksCall changes_in ChangesOne
 device_asked held honest full failed old new (inl (inl (inl gone))) = []
-device_asked held honest full failed old new (inl (inl (inr is))) = this_call (IsDiskCall (view_in held honest)) is.device is.left (inl (inl is.asked))
+device_asked held honest full failed old new (inl (inl (inr is))) = this_call (IsDiskCall (view_in held honest failed)) is.device is.left (inl (inl is.asked))
 device_asked held honest full failed old new (inl (inr (inl (n, result, inl (command, is))))) =
-    one_asked held honest full failed (changes_of held honest n command) (λ d left answer asks. inl (inr (inl (n, answer, inl (command, asks))))) fault.NoSpace old result new is
+    one_asked held honest full failed (changes_of held honest failed n command) (λ d left answer asks. inl (inr (inl (n, answer, inl (command, asks))))) fault.NoSpace old result new is
 device_asked held honest full failed old new (inl (inr (inl (n, result, inr is)))) =
-    one_asked held honest full failed (clears_of held honest n) (λ d left answer asks. inl (inr (inl (n, answer, inr asks)))) fault.NoSpace old result new is
+    one_asked held honest full failed (clears_of held honest failed n) (λ d left answer asks. inl (inr (inl (n, answer, inr asks)))) fault.NoSpace old result new is
 device_asked held honest full failed old new (inl (inr (inr (result, is)))) =
-    one_asked held honest full failed (flushes_of held honest) (λ d left answer asks. inl (inr (inr (answer, asks)))) fault.Failed old result new is
+    one_asked held honest full failed (flushes_of held honest failed) (λ d left answer asks. inl (inr (inr (answer, asks)))) fault.Failed old result new is
 device_asked held honest full failed old new (inr (result, is)) =
-    one_asked held honest full failed (rests_of held honest) (λ d left answer asks. inr (answer, asks)) fault.Failed old result new is
+    one_asked held honest full failed (rests_of held honest failed) (λ d left answer asks. inr (answer, asks)) fault.Failed old result new is
 
 -- what calls ask of the device of a store, one after another; and what those ask of it that are made through what guards its lost sectors
-abbrev pub devices_asked : {S : Type 0} → (held : S → Held) → (honest full : S → Bool) → (failed : S → ℕ) → List (CallMade (AsksReopened held honest full failed)) → List (CallMade (IsDiskCall (view_in held honest)))
-devices_asked held honest full failed calls = each_asked (AsksReopened held honest full failed) (IsDiskCall (view_in held honest)) (device_asked held honest full failed) calls
+abbrev pub devices_asked : {S : Type 0} → (held : S → Held) → (honest full : S → Bool) → (failed : S → ℕ) → List (CallMade (AsksReopened held honest full failed)) → List (CallMade (IsDiskCall (view_in held honest failed)))
+devices_asked held honest full failed calls = each_asked (AsksReopened held honest full failed) (IsDiskCall (view_in held honest failed)) (device_asked held honest full failed) calls
 
 abbrev pub guarded_asked : {S K : Type 0} → (reads changes : S → S → Type 0) → (flushes rests : S → Result (Unit {0}) DiskFault → S → Type 0) → (old new : GuardedSectors S K)
     → Through (AsksGuarded reads changes flushes rests) old new → List (CallMade (AsksOneOf reads changes flushes rests))
@@ -77,10 +77,10 @@ guarded_asked reads changes flushes rests old new asked =
     each_asked (AsksGuarded reads changes flushes rests) (AsksOneOf reads changes flushes rests) (sectors_asked reads changes flushes rests) (calls_made (AsksGuarded reads changes flushes rests) old new asked)
 
 abbrev pub stored_asked : {S K : Type 0} → (held : S → Held) → (honest full : S → Bool) → (failed : S → ℕ) → (old new : GuardedSectors (Reopened S) K) → Through (AsksStored held honest full failed) old new
-    → List (CallMade (IsDiskCall (view_in held honest)))
+    → List (CallMade (IsDiskCall (view_in held honest failed)))
 stored_asked held honest full failed old new asked =
-    devices_asked held honest full failed (guarded_asked (ReadsDevice (reads_of held honest)) (changes_in held honest full failed) (AsksDevice held honest full failed (flushes_of held honest) fault.Failed)
-    (AsksDevice held honest full failed (rests_of held honest) fault.Failed) old new asked)
+    devices_asked held honest full failed (guarded_asked (ReadsDevice (reads_of held honest failed)) (changes_in held honest full failed) (AsksDevice held honest full failed (flushes_of held honest failed) fault.Failed)
+    (AsksDevice held honest full failed (rests_of held honest failed) fault.Failed) old new asked)
 
 -- ---- laws
 
@@ -94,12 +94,12 @@ abbrev pub ReopenedSessionLaw : {S : Type 0} → (S → Held) → (honest full :
 ReopenedSessionLaw {S} held honest full failed = (old new : Reopened S) (asked : Through (AsksReopened held honest full failed) old new) → new.reopened ≡ false
     → (last : Device (DriverState (FileState S))) → new.device ≡ Some last
     → (first : Device (DriverState (FileState S))) × (old.device ≡ Some first)
-    × IsRunOf (IsDiskCall (view_in held honest)) (devices_asked held honest full failed (calls_made (AsksReopened held honest full failed) old new asked)) first last
+    × IsRunOf (IsDiskCall (view_in held honest failed)) (devices_asked held honest full failed (calls_made (AsksReopened held honest full failed) old new asked)) first last
 
 -- SO ALL THAT A SESSION ASKS of the disk in a store, guarded, and not opened anew, is calls of its device one after another, these very ones, as long as that holds its array
 abbrev pub StoreSessionLaw : {S : Type 0} → (K : Type 0) → (S → Held) → (honest full : S → Bool) → (failed : S → ℕ) → Type 0
 StoreSessionLaw {S} K held honest full failed = (old new : GuardedSectors (Reopened S) K) (asked : Through (AsksStored held honest full failed) old new) → new.sectors.reopened ≡ false
     → (last : Device (DriverState (FileState S))) → new.sectors.device ≡ Some last → holds (is_honest_in honest) last ≡ true
     → (first : Device (DriverState (FileState S))) × (old.sectors.device ≡ Some first)
-    × (IsDisk (view_in held honest) first → (log : List Operation) × (run : DeviceCalls (view_in held honest) first log last)
-    × (calls_made (IsDiskCall (view_in held honest)) first last (calls_of (view_in held honest) first log last run) ≡ stored_asked held honest full failed old new asked))
+    × (IsDisk (view_in held honest failed) first → (log : List Operation) × (run : DeviceCalls (view_in held honest failed) first log last)
+    × (calls_made (IsDiskCall (view_in held honest failed)) first last (calls_of (view_in held honest failed) first log last run) ≡ stored_asked held honest full failed old new asked))

@@ -2,6 +2,8 @@
 //! has nothing proved again. Each function does nothing: its contract is the law.
 #![tactic(auto)]
 
+ghost use Rattle.disk_laws.specs.AskedRuns.{AsksDriverLaw, RunAsksLaw};
+ghost use Rattle.disk_laws.specs.Cut.{CutCallLaw, CutCallLeavesLaw, DiskFaultLaw, FaultIsCutLaw, StoreCutLaw, StoreCutLosesLaw, ToldCutLaw};
 ghost use Rattle.disk_laws.specs.Lost.{AfterEraseLaw, AllGoneLaw, AllThereLaw};
 ghost use Rattle.disk_laws.specs.Driven.{DriverLosesLaw, DriverStopsLaw, DriverTellsLaw, StopLosesLaw};
 ghost use Rattle.disk_laws.specs.StoreLost.{StoreLosesLaw};
@@ -10,6 +12,8 @@ ghost use Rattle.disk_laws.specs.Runs.{CutLeavesLaw, KilledRunLaw, LostRunLaw, O
 ghost use Rattle.disk_laws.specs.Served.{ClosedSessionLaw, ServedSessionLaw};
 ghost use Rattle.disk_laws.specs.Sessions.{ReopenedSessionLaw, StoreSessionLaw};
 ghost use Rattle.disk_laws.specs.Killed.{FoundAsItWasLaw, FoundTornLaw, KilledChangeLaw, KilledFlushLaw, KilledTurnLaw, StoreTellsLaw};
+ghost use Rattle.disk_laws.specs.Spared.{AllMarkedLaw, CutSparesLaw, LaterMarkLaw, OpeningSparesLaw, UnmarkedLaw};
+ghost use Rattle.disk_laws.specs.Spared.{KilledOpenedLaw, KilledSparesLaw, LostCutLaw, LostOpenedLaw, OwnMarkLaw};
 
 mod driver_calls;
 
@@ -45,13 +49,35 @@ pub fn loss_laws()
 
 /// What is found of a disk where calls of its device, one after another, are cut short at any moment: all that a session asks is such calls. Killed, or stopped: it mounts, and each call that had ended is in it, and the one at hand whole or not at all. After a
 /// loss of power, since all pages lasted: it is one array, each sector has the bytes that it had then or after one of the calls since, and it mounts with each cache that has room for what is stale. It is said of a device
-/// that holds its array through each call, by what the record of its die gained. (This project.)
+/// that holds its array through each call, by what the record of its die gained. And in all of these calls its die is asked by calls of it alone, whatever it does: each says which, one after another. (This project.)
 pub fn run_laws<N: Nand>()
     ensures one { OneCallLaw N.view }
     ensures session { SessionLaw N.view }
     ensures killed { KilledRunLaw N.view }
     ensures cut { CutLeavesLaw N.view }
     ensures lost { LostRunLaw N.view }
+    ensures asks { RunAsksLaw N.view }
+{}
+
+/// Of which images a cut spares each newest page, whatever their blocks show: of one all of whose pages are marked; and of none in which a newest page that is not marked stands behind one without a record. What an opening takes
+/// away of such an image, whole or as far as it came, however often it is killed: none that counts, and what is left is such an image. (This project.)
+pub fn spared_laws()
+    ensures marked { AllMarkedLaw }
+    ensures later { LaterMarkLaw }
+    ensures cut { CutSparesLaw }
+    ensures unmarked { UnmarkedLaw }
+    ensures opening { OpeningSparesLaw }
+{}
+
+/// What a disk is once it is opened again, where calls of its device were cut short: what is torn is cut back or erased again, by a mark that was told as the calls began or earlier. Killed: the pages that are left stand for those
+/// that were found, so each call that had ended is in them, and the one at hand whole or not at all, also where openings are killed. After a loss of power, since all pages lasted: they are as `run_laws` says of what was found. It is said of a
+/// device that holds its array through each call. (This project.)
+pub fn opened_laws<N: Nand>()
+    ensures own { OwnMarkLaw N.view }
+    ensures spares { KilledSparesLaw N.view }
+    ensures killed { KilledOpenedLaw N.view }
+    ensures lost_cut { LostCutLaw N.view }
+    ensures lost { LostOpenedLaw N.view }
 {}
 
 /// What a session asks of the disk in a store, whose lost sectors are guarded, and which is opened anew where its store was full: as long as it was not opened anew and its device is there, that was there from the first, and
@@ -68,13 +94,33 @@ pub fn served_laws<S: Sectors, Y: Syncs>()
     ensures closed { ClosedSessionLaw S.contents S.honest S.reads S.changes S.flushes S.rests Y.synced Y.failed Y.marked S.next S.takes }
 {}
 
-/// What the record of a driver tells of the store of its die, where its calls, one after another, are answered `Ok`, by what its contract says of them: it gains just the operations of these calls; and what lasts of an honest
-/// store, since all of its pages did, is what a loss of power may leave by these operations, as long as each page is programmed where none has a record, and no erase fails. A call behind them that the store
-/// refused leaves pages that a stop in it may leave, and of what lasts what a loss of power may. So where the power goes in calls of a device since all pages lasted, what lasts of its store is what `run_laws` says of the disk. (This project.)
+/// What the record of a driver tells of the store of its die, where its programs and erases, one after another, are answered `Ok`, and its reads with any answer, by what its contract says of them: it gains just the operations of these
+/// calls; and what lasts of an honest store, since all of its pages did, is what a loss of power may leave by these operations, as long as each page is programmed where none has a record, and no erase fails. A call behind them that the
+/// store refused leaves pages that a stop in it may leave, and of what lasts what a loss of power may. All that the die in an honest store is asked, call by call, is such calls of its driver, where nothing
+/// is at hand in the record behind them. So where the power goes between two of these, in calls of a device since all pages lasted, what lasts of its store is what `run_laws` says of the disk. (This project.)
 pub fn driver_laws<S: Store>()
     ensures tells { DriverTellsLaw S.held S.honest S.failed }
     ensures loses { DriverLosesLaw S.held S.honest S.failed }
     ensures stops { DriverStopsLaw S.held S.honest S.failed }
     ensures stop_loses { StopLosesLaw S.held S.honest S.failed }
+    ensures asks { AsksDriverLaw S.held S.honest S.failed }
     ensures run { StoreRunLaw S.held S.honest S.failed }
+{}
+
+/// What is found of a disk where a fault of its die ended a call of its device, behind other calls: a write, a trim, a flush, a turn, a migration or a read. What that did, and what it had at hand, the record of the die tells, and that nothing was
+/// programmed or erased behind it; whatever the die is left with by this mounts, and each call that had ended is in it, and the one at hand whole or not at all. (This project.)
+pub fn cut_laws<N: Nand>()
+    ensures disk { DiskFaultLaw N.view }
+    ensures fault { FaultIsCutLaw N.view }
+    ensures call { CutCallLaw N.view }
+    ensures leaves { CutCallLeavesLaw N.view }
+{}
+
+/// The same of a disk in a store: what the record tells is just what the driver did and what the file refused it, and behind that the driver only read. So the store's pages, as the device answers with the fault, are such an image: it mounts, and has
+/// the array from before the call, or the one after it. What lasts of them, where the power goes then, is what a loss of power may leave by the same operations, as long as each of those programs a page without a record, and no erase fails. Nothing
+/// is taken for granted of what the device asked its driver in that call: its contract says it. (This project.)
+pub fn store_cut_laws<S: Store>()
+    ensures told { ToldCutLaw S.held S.honest S.failed }
+    ensures store { StoreCutLaw S.held S.honest S.failed }
+    ensures loses { StoreCutLosesLaw S.held S.honest S.failed }
 {}

@@ -63,7 +63,7 @@ pub(crate) fn recover_mounted<S: Store + Drop>(
     requires most { capacity ≤ 65536 }
     ensures syncs { IfOk result (λ d. SyncsWhen sync_when d.engine.nand) }
     ensures honest { IfOk result (λ d. S.honest store ≡ true → holds (is_honest_in S.honest) d ≡ true) }
-    ensures bytes { IfOk result (λ d. S.honest store ≡ true → HoldsRecovered mark (S.held store) (contents_of (view_in S.held S.honest) d).bytes) }
+    ensures bytes { IfOk result (λ d. S.honest store ≡ true → HoldsRecovered mark (S.held store) (contents_of (view_in S.held S.honest S.failed) d).bytes) }
     ensures fault { IfErr result (IsUnrecovered S.held S.honest S.failed store capacity mark) }
 {
     let mut store = store;

@@ -24,11 +24,11 @@ module _ {N : Type 0} (view : View N) (old new : Device N) (n : ℕ) (result : R
   clears_one asks = (n, result, inr asks)
 
 module _ {S : Type 0} (held : S → Held) (honest full : S → Bool) (failed : S → ℕ) (old new : Reopened S) (n : ℕ) (result : Result (Unit {0}) DiskFault) where
-  pub sets_in : (command : Command) → AsksDevice held honest full failed (changes_of held honest n command) fault.NoSpace old result new → changes_in held honest full failed old new
+  pub sets_in : (command : Command) → AsksDevice held honest full failed (changes_of held honest failed n command) fault.NoSpace old result new → changes_in held honest full failed old new
   unfolding changes_in
   sets_in command asks = (n, result, inl (command, asks))
 
-  pub clears_in : AsksDevice held honest full failed (clears_of held honest n) fault.NoSpace old result new → changes_in held honest full failed old new
+  pub clears_in : AsksDevice held honest full failed (clears_of held honest failed n) fault.NoSpace old result new → changes_in held honest full failed old new
   unfolding changes_in
   clears_in asks = (n, result, inr asks)
 

@@ -69,11 +69,11 @@ comes held honest store d e given fault over behind same = record {
 }
 
 -- the bytes of a disk that was started over it
-pub opened_bytes : {S : Type 0} (held : S → Held) (honest : S → Bool) (store : S) (driver : DriverState (FileState S)) (g : Geometry) (d : Device (DriverState (FileState S)))
+pub opened_bytes : {S : Type 0} (held : S → Held) (honest : S → Bool) (failed : S → ℕ) (store : S) (driver : DriverState (FileState S)) (g : Geometry) (d : Device (DriverState (FileState S)))
     → IsOver held honest store driver → g ≡ (held store).geometry → holds (is_honest_in honest) d ≡ is_honest_in honest driver
     → (is_honest_in honest driver ≡ true → array_in (flash_in held) d ≡ array_of g (flash_in held driver).image)
-    → honest store ≡ true → (contents_of (view_in held honest) d).bytes ≡ bytes_of (held store)
-opened_bytes held honest store driver g d over same held_is array is =
+    → honest store ≡ true → (contents_of (view_in held honest failed) d).bytes ≡ bytes_of (held store)
+opened_bytes held honest failed store driver g d over same held_is array is =
     let begun = over.as_honest ∙ is in
     ap (λ (b : Bool). flat (if b then array_in (flash_in held) d else replicate d.engine.geometry.sectors (zeros d.engine.geometry))) (held_is ∙ begun)
     ∙ ap flat (array begun)
@@ -81,15 +81,15 @@ opened_bytes held honest store driver g d over same held_is array is =
     ∙ ap (λ (image : Image). flat (array_of (held store).geometry image)) (over.pages is)
 
 -- the store of a die that was not mounted, or on which no device was started
-pub unopened_come : {S : Type 0} (held : S → Held) (honest : S → Bool) (store : S) (d : DriverState (FileState S)) (g : Geometry) (capacity : ℕ) (fault : OpenFault (DriverState (FileState S))) (given : S)
-    → IsOver held honest store d → IsBehind held honest d (nand_of fault) given → IsUnmounted (view_in held honest) d g capacity fault → ComesBack held honest store (why_of fault) given
-unopened_come held honest store d g capacity (Refused refusal e) given over behind unmounted =
+pub unopened_come : {S : Type 0} (held : S → Held) (honest : S → Bool) (failed : S → ℕ) (store : S) (d : DriverState (FileState S)) (g : Geometry) (capacity : ℕ) (fault : OpenFault (DriverState (FileState S))) (given : S)
+    → IsOver held honest store d → IsBehind held honest d (nand_of fault) given → IsUnmounted (view_in held honest failed) d g capacity fault → ComesBack held honest store (why_of fault) given
+unopened_come held honest failed store d g capacity (Refused refusal e) given over behind unmounted =
     comes held honest store d e given (why.Mount refusal) over behind (λ other is. unmounted.same (λ source. other (ap why.Mount source)) is)
-unopened_come held honest store d g capacity (Start e) given over behind unmounted =
+unopened_come held honest failed store d g capacity (Start e) given over behind unmounted =
     comes held honest store d e given why.OutOfMemory over behind (λ other is. unmounted.same is)
 
 pub unopened_so : {S : Type 0} (held : S → Held) (honest : S → Bool) (failed : S → ℕ) (store : S) (d : DriverState (FileState S)) (capacity : ℕ) (fault : OpenFault (DriverState (FileState S))) (given : S)
-    → IsOver held honest store d → IsUnmounted (view_in held honest) d (held store).geometry capacity fault → IsUnopened held honest failed store capacity given (why_of fault)
+    → IsOver held honest store d → IsUnmounted (view_in held honest failed) d (held store).geometry capacity fault → IsUnopened held honest failed store capacity given (why_of fault)
 unopened_so held honest failed store d capacity (Refused refusal e) given over unmounted = λ is.
     subst (λ image. Refuses (held store).geometry capacity image refusal) (over.pages is) (unmounted.refuses (over.as_honest ∙ is))
 unopened_so held honest failed store d capacity (Start e) given over unmounted = tt

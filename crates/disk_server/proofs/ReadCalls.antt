@@ -7,6 +7,7 @@ use Rattle.page_layout.specs.View.{View}
 use Rattle.page_layout.specs.declared.geometry.Geometry.{Geometry}
 use Rattle.page_layout.specs.Array.{zeros}
 use Rattle.page_layout.specs.Page.{Page}
+use Rattle.page_layout.specs.DieCalls.{AsksOnly}
 use Rattle.page_layout.specs.OnlyReads.{OnlyReads}
 use Rattle.promises.specs.Step as step
 use Rattle.promises.specs.Step.{State, ReadStep, ArrayStep}
@@ -108,15 +109,16 @@ module _ {N : Type 0} (view : View N) (n : ℕ) (old new : Device N) (result : R
   }
 
   -- it asked its die for reads, and left it as it was
-  pub read_asks : OnlyReads view old.engine.nand new.engine.nand
+  pub read_asks : OnlyReads view old.engine.nand new.engine.nand → AsksOnly view.called old.engine.nand new.engine.nand
       → HasLimitsOf old.engine.mapping new.engine.mapping → IsDisk view new
       → (view.honest old.engine.nand ≡ true → result ≢ Err BusFault → view.flash new.engine.nand ≡ view.flash old.engine.nand)
       → (view.honest old.engine.nand ≡ true → result ≢ Err BusFault → view.recorded new.engine.nand ≡ view.recorded old.engine.nand)
       → (view.honest old.engine.nand ≡ true → IsWell view.flash old → result ≢ Err BusFault → old.engine.mapping.capacity + old.engine.geometry.pages ≤ 65536
       → IsMountable old.engine.geometry (old.engine.mapping.capacity + old.engine.geometry.pages) (view.flash new.engine.nand).image)
       → AsksRead view old new
-  read_asks only limits disk same told mounts = record {
+  read_asks only asked limits disk same told mounts = record {
     only_reads = only;
+    asked = asked;
     limits = limits;
     disk = disk;
     back = back_here;

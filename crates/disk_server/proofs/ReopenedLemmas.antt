@@ -36,24 +36,24 @@ on_ok : {X E A B : Type 0} → (answer : Result X E) → (A → B) → OnOk answ
 on_ok (Ok x) f h = f h
 on_ok (Err e) f h = tt
 
-module _ {S : Type 0} (held : S → Held) (honest : S → Bool) where
+module _ {S : Type 0} (held : S → Held) (honest : S → Bool) (failed : S → ℕ) where
   abbrev pub at : Device (DriverState (FileState S)) → Contents
-  at d = contents_of (view_in held honest) d
+  at d = contents_of (view_in held honest failed) d
 
   abbrev pub going : Device (DriverState (FileState S)) → Bool
   going d = holds (is_honest_in honest) d
 
-  shown_as : (r : Reopened S) (d : Device (DriverState (FileState S))) → r.device ≡ Some d → contents_in held honest r ≡ at d
-  shown_as r d is = ap (λ (o : Option (Device (DriverState (FileState S)))). record { bytes = bytes_by held honest r.size r.count o; durable = bytes_by held honest r.size r.count o }) is
+  shown_as : (r : Reopened S) (d : Device (DriverState (FileState S))) → r.device ≡ Some d → contents_in held honest failed r ≡ at d
+  shown_as r d is = ap (λ (o : Option (Device (DriverState (FileState S)))). record { bytes = bytes_by held honest failed r.size r.count o; durable = bytes_by held honest failed r.size r.count o }) is
 
   holds_as : (r : Reopened S) (d : Device (DriverState (FileState S))) → r.device ≡ Some d → holds_in honest r ≡ (not r.reopened && going d)
   holds_as r d is = ap (holds_by honest r.reopened) is
 
-  long_as : (r : Reopened S) (d : Device (DriverState (FileState S))) → r.device ≡ Some d → length (at d).bytes ≡ r.count * r.size → length (contents_in held honest r).bytes ≡ r.count * r.size
+  long_as : (r : Reopened S) (d : Device (DriverState (FileState S))) → r.device ≡ Some d → length (at d).bytes ≡ r.count * r.size → length (contents_in held honest failed r).bytes ≡ r.count * r.size
   long_as r d is long = ap (λ (c : Contents). length c.bytes) (shown_as r d is) ∙ long
 
-  long_none : (r : Reopened S) → r.device ≡ None → length (contents_in held honest r).bytes ≡ r.count * r.size
-  long_none r is = ap (λ (o : Option (Device (DriverState (FileState S)))). length (bytes_by held honest r.size r.count o)) is ∙ length-replicate {A = ℕ} (r.count * r.size) 0
+  long_none : (r : Reopened S) → r.device ≡ None → length (contents_in held honest failed r).bytes ≡ r.count * r.size
+  long_none r is = ap (λ (o : Option (Device (DriverState (FileState S)))). length (bytes_by held honest failed r.size r.count o)) is ∙ length-replicate {A = ℕ} (r.count * r.size) 0
 
   -- THE DEVICE GOES ON
   module _ (old new : Reopened S) (d left : Device (DriverState (FileState S))) (was : old.device ≡ Some d) (there : HasDevice (terms_of old) old.reopened old.next (Some left) new) where
@@ -68,11 +68,11 @@ module _ {S : Type 0} (held : S → Held) (honest : S → Bool) where
         let parts = both (not new.reopened) (going left) (sym (holds_as new left there.device_is) ∙ h) in
         holds_as old d was ∙ joined (not old.reopened) (going d) (ap not (sym there.reopened_is) ∙ parts.0) (back parts.1)
 
-    same_long : length (at left).bytes ≡ length (at d).bytes → length (contents_in held honest new).bytes ≡ length (contents_in held honest old).bytes
+    same_long : length (at left).bytes ≡ length (at d).bytes → length (contents_in held honest failed new).bytes ≡ length (contents_in held honest failed old).bytes
     same_long same = ap (λ (c : Contents). length c.bytes) (shown_as new left there.device_is) ∙ same ∙ sym (ap (λ (c : Contents). length c.bytes) (shown_as old d was))
 
     pub goes_on : (task : Task) (body : List ℕ) (answer : Result (List ℕ) RequestError) → PerformsTask at going (λ x. false) task body d answer left
-        → PerformsTask (contents_in held honest) (holds_in honest) (λ x. false) task body old answer new
+        → PerformsTask (contents_in held honest failed) (holds_in honest) (λ x. false) task body old answer new
     goes_on task body answer p = record {
       sized = same_long p.sized;
       kept = on_ok answer as_held p.kept;
@@ -81,13 +81,13 @@ module _ {S : Type 0} (held : S → Held) (honest : S → Bool) where
       fault = p.fault;
       given = p.given;
       calmly = λ calm. (let no : ⊥ = cc in absurd no);
-      steps = λ h. subst (λ (c : Contents). TaskSteps task body c answer (contents_in held honest new)) (sym (shown_as old d was))
+      steps = λ h. subst (λ (c : Contents). TaskSteps task body c answer (contents_in held honest failed new)) (sym (shown_as old d was))
           (subst (λ (c : Contents). TaskSteps task body (at d) answer c) (sym (shown_as new left there.device_is)) (p.steps (left_holds h)));
     }
 
-    pub idles_on : (answer : Result (Unit {0}) DiskFault) → Idles at going (λ x. false) d answer left → Idles (contents_in held honest) (holds_in honest) (λ x. false) old answer new
+    pub idles_on : (answer : Result (Unit {0}) DiskFault) → Idles at going (λ x. false) d answer left → Idles (contents_in held honest failed) (holds_in honest) (λ x. false) old answer new
     idles_on answer p =
-        let same : holds_in honest new ≡ true → (contents_in held honest new).bytes ≡ (contents_in held honest old).bytes =
+        let same : holds_in honest new ≡ true → (contents_in held honest failed new).bytes ≡ (contents_in held honest failed old).bytes =
         λ h. (ap (λ (c : Contents). c.bytes) (shown_as new left there.device_is) ∙ p.bytes (left_holds h) ∙ sym (ap (λ (c : Contents). c.bytes) (shown_as old d was))) in
         record {
           sized = same_long p.sized;
@@ -101,8 +101,8 @@ module _ {S : Type 0} (held : S → Held) (honest : S → Bool) where
         }
 
   -- IT HOLDS NO MORE
-  pub ends : (task : Task) (body : List ℕ) (old new : Reopened S) (e : RequestError) → holds_in honest new ≡ false → length (contents_in held honest new).bytes ≡ length (contents_in held honest old).bytes → MayAnswer task e
-      → PerformsTask (contents_in held honest) (holds_in honest) (λ x. false) task body old (Err e) new
+  pub ends : (task : Task) (body : List ℕ) (old new : Reopened S) (e : RequestError) → holds_in honest new ≡ false → length (contents_in held honest failed new).bytes ≡ length (contents_in held honest failed old).bytes → MayAnswer task e
+      → PerformsTask (contents_in held honest failed) (holds_in honest) (λ x. false) task body old (Err e) new
   ends task body old new e over same may = record {
     sized = same;
     kept = tt;
@@ -114,8 +114,8 @@ module _ {S : Type 0} (held : S → Held) (honest : S → Bool) where
     steps = λ h. absurd (never (holds_in honest new) over h);
   }
 
-  pub idle_ends : (old new : Reopened S) → holds_in honest new ≡ false → length (contents_in held honest new).bytes ≡ length (contents_in held honest old).bytes
-      → Idles (contents_in held honest) (holds_in honest) (λ x. false) old (Err fault.Failed) new
+  pub idle_ends : (old new : Reopened S) → holds_in honest new ≡ false → length (contents_in held honest failed new).bytes ≡ length (contents_in held honest failed old).bytes
+      → Idles (contents_in held honest failed) (holds_in honest) (λ x. false) old (Err fault.Failed) new
   idle_ends old new over same = record {
     sized = same;
     kept = tt;
@@ -127,46 +127,46 @@ module _ {S : Type 0} (held : S → Held) (honest : S → Bool) where
     stays = λ h place. absurd (never (holds_in honest new) over h);
   }
 
-  module _ (full : S → Bool) (failed : S → ℕ) (old new : Reopened S) (d left : Device (DriverState (FileState S))) (was : old.device ≡ Some d) (long : length (at d).bytes ≡ old.count * old.size) where
-    anew_no : Reopens held honest full (terms_of old) left new → holds_in honest new ≡ false
+  module _ (full : S → Bool) (old new : Reopened S) (d left : Device (DriverState (FileState S))) (was : old.device ≡ Some d) (long : length (at d).bytes ≡ old.count * old.size) where
+    anew_no : Reopens held honest full failed (terms_of old) left new → holds_in honest new ≡ false
     anew_no r = holds_as new r.device r.there.device_is ∙ ap (λ (b : Bool). not b && going r.device) r.there.reopened_is
 
-    anew_long : Reopens held honest full (terms_of old) left new → length (contents_in held honest new).bytes ≡ length (contents_in held honest old).bytes
+    anew_long : Reopens held honest full failed (terms_of old) left new → length (contents_in held honest failed new).bytes ≡ length (contents_in held honest failed old).bytes
     anew_long r = ap (λ (c : Contents). length c.bytes) (shown_as new r.device r.there.device_is) ∙ r.long ∙ sym (long_as old d was long)
 
     gone_no : IsGone held honest full failed (terms_of old) old.reopened left new → holds_in honest new ≡ false
     gone_no r = ap (holds_by honest new.reopened) r.none.device_is
 
-    gone_long : IsGone held honest full failed (terms_of old) old.reopened left new → length (contents_in held honest new).bytes ≡ length (contents_in held honest old).bytes
+    gone_long : IsGone held honest full failed (terms_of old) old.reopened left new → length (contents_in held honest failed new).bytes ≡ length (contents_in held honest failed old).bytes
     gone_long r = long_none new r.none.device_is ∙ ap (λ t. t.count * t.size) r.none.terms_are ∙ sym (long_as old d was long)
 
     -- A CALL AND WHAT IT COMES TO, as a task
     pub performs : (told : DiskFault) (task : Task) (body : List ℕ) (answer result : Result (Unit {0}) DiskFault) → MayAnswer task (error_for told) → MayAnswer task InputOutput
         → PerformsTask at going (λ x. false) task body d (answer_from answer []) left → SettlesCall held honest full failed told (terms_of old) old.reopened old.next left answer result new
-        → PerformsTask (contents_in held honest) (holds_in honest) (λ x. false) task body old (answer_from result []) new
+        → PerformsTask (contents_in held honest failed) (holds_in honest) (λ x. false) task body old (answer_from result []) new
     performs told task body (Ok done) result may input p s =
-        subst (λ r. PerformsTask (contents_in held honest) (holds_in honest) (λ x. false) task body old (answer_from r []) new) (sym s.0) (goes_on old new d left was s.1 task body (Ok []) p)
+        subst (λ r. PerformsTask (contents_in held honest failed) (holds_in honest) (λ x. false) task body old (answer_from r []) new) (sym s.0) (goes_on old new d left was s.1 task body (Ok []) p)
     performs told task body (Err fault.ReadOnly) result may input p s =
-        subst (λ r. PerformsTask (contents_in held honest) (holds_in honest) (λ x. false) task body old (answer_from r []) new) (sym s.0) (goes_on old new d left was s.1 task body (Err (error_for fault.ReadOnly)) p)
+        subst (λ r. PerformsTask (contents_in held honest failed) (holds_in honest) (λ x. false) task body old (answer_from r []) new) (sym s.0) (goes_on old new d left was s.1 task body (Err (error_for fault.ReadOnly)) p)
     performs told task body (Err fault.NoSpace) result may input p s =
-        subst (λ r. PerformsTask (contents_in held honest) (holds_in honest) (λ x. false) task body old (answer_from r []) new) (sym s.0) (goes_on old new d left was s.1 task body (Err (error_for fault.NoSpace)) p)
+        subst (λ r. PerformsTask (contents_in held honest failed) (holds_in honest) (λ x. false) task body old (answer_from r []) new) (sym s.0) (goes_on old new d left was s.1 task body (Err (error_for fault.NoSpace)) p)
     performs told task body (Err fault.Failed) result may input p (inl s) =
-        subst (λ r. PerformsTask (contents_in held honest) (holds_in honest) (λ x. false) task body old (answer_from r []) new) (sym s.0) (ends task body old new (error_for told) (anew_no s.1) (anew_long s.1) may)
+        subst (λ r. PerformsTask (contents_in held honest failed) (holds_in honest) (λ x. false) task body old (answer_from r []) new) (sym s.0) (ends task body old new (error_for told) (anew_no s.1) (anew_long s.1) may)
     performs told task body (Err fault.Failed) result may input p (inr s) =
-        subst (λ r. PerformsTask (contents_in held honest) (holds_in honest) (λ x. false) task body old (answer_from r []) new) (sym s.0) (ends task body old new InputOutput (gone_no s.1) (gone_long s.1) input)
+        subst (λ r. PerformsTask (contents_in held honest failed) (holds_in honest) (λ x. false) task body old (answer_from r []) new) (sym s.0) (ends task body old new InputOutput (gone_no s.1) (gone_long s.1) input)
 
     -- as a rest
     pub idles : (answer result : Result (Unit {0}) DiskFault) → Idles at going (λ x. false) d answer left → SettlesCall held honest full failed fault.Failed (terms_of old) old.reopened old.next left answer result new
-        → Idles (contents_in held honest) (holds_in honest) (λ x. false) old result new
-    idles (Ok done) result p s = subst (λ r. Idles (contents_in held honest) (holds_in honest) (λ x. false) old r new) (sym s.0) (idles_on old new d left was s.1 (Ok done) p)
-    idles (Err fault.ReadOnly) result p s = subst (λ r. Idles (contents_in held honest) (holds_in honest) (λ x. false) old r new) (sym s.0) (idles_on old new d left was s.1 (Err fault.ReadOnly) p)
-    idles (Err fault.NoSpace) result p s = subst (λ r. Idles (contents_in held honest) (holds_in honest) (λ x. false) old r new) (sym s.0) (idles_on old new d left was s.1 (Err fault.NoSpace) p)
-    idles (Err fault.Failed) result p (inl s) = subst (λ r. Idles (contents_in held honest) (holds_in honest) (λ x. false) old r new) (sym s.0) (idle_ends old new (anew_no s.1) (anew_long s.1))
-    idles (Err fault.Failed) result p (inr s) = subst (λ r. Idles (contents_in held honest) (holds_in honest) (λ x. false) old r new) (sym s.0) (idle_ends old new (gone_no s.1) (gone_long s.1))
+        → Idles (contents_in held honest failed) (holds_in honest) (λ x. false) old result new
+    idles (Ok done) result p s = subst (λ r. Idles (contents_in held honest failed) (holds_in honest) (λ x. false) old r new) (sym s.0) (idles_on old new d left was s.1 (Ok done) p)
+    idles (Err fault.ReadOnly) result p s = subst (λ r. Idles (contents_in held honest failed) (holds_in honest) (λ x. false) old r new) (sym s.0) (idles_on old new d left was s.1 (Err fault.ReadOnly) p)
+    idles (Err fault.NoSpace) result p s = subst (λ r. Idles (contents_in held honest failed) (holds_in honest) (λ x. false) old r new) (sym s.0) (idles_on old new d left was s.1 (Err fault.NoSpace) p)
+    idles (Err fault.Failed) result p (inl s) = subst (λ r. Idles (contents_in held honest failed) (holds_in honest) (λ x. false) old r new) (sym s.0) (idle_ends old new (anew_no s.1) (anew_long s.1))
+    idles (Err fault.Failed) result p (inr s) = subst (λ r. Idles (contents_in held honest failed) (holds_in honest) (λ x. false) old r new) (sym s.0) (idle_ends old new (gone_no s.1) (gone_long s.1))
 
     -- a sector that is cleared
-    spared_on : (offset count : ℕ) → SparesZeros at going (reads_of held honest) offset count d left → HasDevice (terms_of old) old.reopened old.next (Some left) new
-        → SparesZeros (contents_in held honest) (holds_in honest) (ReadsDevice (reads_of held honest)) offset count old new
+    spared_on : (offset count : ℕ) → SparesZeros at going (reads_of held honest failed) offset count d left → HasDevice (terms_of old) old.reopened old.next (Some left) new
+        → SparesZeros (contents_in held honest failed) (holds_in honest) (ReadsDevice (reads_of held honest failed)) offset count old new
     spared_on offset count spares there h zeros = inr (record {
       device = d;
       was = was;
@@ -175,9 +175,9 @@ module _ {S : Type 0} (held : S → Held) (honest : S → Bool) where
       there = there;
     })
 
-    pub spared : (told : DiskFault) (offset count : ℕ) (answer result : Result (Unit {0}) DiskFault) → SparesZeros at going (reads_of held honest) offset count d left
+    pub spared : (told : DiskFault) (offset count : ℕ) (answer result : Result (Unit {0}) DiskFault) → SparesZeros at going (reads_of held honest failed) offset count d left
         → SettlesCall held honest full failed told (terms_of old) old.reopened old.next left answer result new
-        → SparesZeros (contents_in held honest) (holds_in honest) (ReadsDevice (reads_of held honest)) offset count old new
+        → SparesZeros (contents_in held honest failed) (holds_in honest) (ReadsDevice (reads_of held honest failed)) offset count old new
     spared told offset count (Ok done) result spares s = spared_on offset count spares s.1
     spared told offset count (Err fault.ReadOnly) result spares s = spared_on offset count spares s.1
     spared told offset count (Err fault.NoSpace) result spares s = spared_on offset count spares s.1
@@ -189,14 +189,14 @@ pub long_before : (size count size' count' n : ℕ) → size' ≡ size → count
 long_before size count size' count' n sized counted long = long ∙ (ap (λ k. k * size') counted ∙ ap (λ k. count * k) sized)
 
 -- the store of a device that has stopped was full, and was opened
-pub reopens : {S : Type 0} (held : S → Held) (honest full : S → Bool) (terms : Terms) (left : Device (DriverState (FileState S))) (new : Reopened S) (store : S) → store ≡ left.engine.nand.bus.store → full store ≡ true
+pub reopens : {S : Type 0} (held : S → Held) (honest full : S → Bool) (failed : S → ℕ) (terms : Terms) (left : Device (DriverState (FileState S))) (new : Reopened S) (store : S) → store ≡ left.engine.nand.bus.store → full store ≡ true
     → (next : ℕ) → next ≡ left.engine.next
-    → ((d : Device (DriverState (FileState S))) × IsOpenedFrom held honest terms store d × HasDevice terms true next (Some d) new × (length (contents_of (view_in held honest) d).bytes ≡ terms.count * terms.size))
-    → Reopens held honest full terms left new
-reopens held honest full terms left new store same is next last opened = record {
+    → ((d : Device (DriverState (FileState S))) × IsOpenedFrom held honest failed terms store d × HasDevice terms true next (Some d) new × (length (contents_of (view_in held honest failed) d).bytes ≡ terms.count * terms.size))
+    → Reopens held honest full failed terms left new
+reopens held honest full failed terms left new store same is next last opened = record {
   was_full = ap full (sym same) ∙ is;
   device = opened.0;
-  opened = subst (λ s. IsOpenedFrom held honest terms s opened.0) same opened.1;
+  opened = subst (λ s. IsOpenedFrom held honest failed terms s opened.0) same opened.1;
   long = opened.3;
   there = subst (λ n. HasDevice terms true n (Some opened.0) new) last opened.2;
 }
@@ -217,14 +217,14 @@ parts_on size count capacity device d left was parts sizes counts = record {
 }
 
 -- what was given of a sector, by the device that was there
-pub given_of : {S : Type 0} (held : S → Held) (honest : S → Bool) (n size : ℕ) (before after : Option (Device (DriverState (FileState S)))) (d left : Device (DriverState (FileState S))) (answer : Result (List ℕ) RequestError) → before ≡ Some d → after ≡ Some left
-    → PerformsTask (contents_of (view_in held honest)) (holds (is_honest_in honest)) (λ x. false) (Read (n * size) size) [] d answer left
-    → (x : Device (DriverState (FileState S))) → before ≡ Some x → (y : Device (DriverState (FileState S))) × (after ≡ Some y) × PerformsTask (contents_of (view_in held honest)) (holds (is_honest_in honest)) (λ z. false) (Read (n * size) size) [] x answer y
-given_of held honest n size before after d left answer was is p = λ x there. (
+pub given_of : {S : Type 0} (held : S → Held) (honest : S → Bool) (failed : S → ℕ) (n size : ℕ) (before after : Option (Device (DriverState (FileState S)))) (d left : Device (DriverState (FileState S))) (answer : Result (List ℕ) RequestError) → before ≡ Some d → after ≡ Some left
+    → PerformsTask (contents_of (view_in held honest failed)) (holds (is_honest_in honest)) (λ x. false) (Read (n * size) size) [] d answer left
+    → (x : Device (DriverState (FileState S))) → before ≡ Some x → (y : Device (DriverState (FileState S))) × (after ≡ Some y) × PerformsTask (contents_of (view_in held honest failed)) (holds (is_honest_in honest)) (λ z. false) (Read (n * size) size) [] x answer y
+given_of held honest failed n size before after d left answer was is p = λ x there. (
   left,
   is,
   subst
-      (λ y. PerformsTask (contents_of (view_in held honest)) (holds (is_honest_in honest)) (λ z. false) (Read (n * size) size) [] y
+      (λ y. PerformsTask (contents_of (view_in held honest failed)) (holds (is_honest_in honest)) (λ z. false) (Read (n * size) size) [] y
       answer left) (some_same d x (sym was ∙ there)) p,
 )
 
@@ -253,7 +253,7 @@ module _ {S : Type 0} (held : S → Held) (honest full : S → Bool) (failed : S
   not_anew before new has was is = never before was (sym has.reopened_is ∙ is)
 
   settled_anew : (told : DiskFault) (terms : Terms) (before : Bool) (next : ℕ) (left : Device (DriverState (FileState S))) (answer result : Result (Unit {0}) DiskFault) (new : Reopened S)
-      → SettlesCall held honest full failed told terms before next left answer result new → before ≡ false → new.reopened ≡ true → IsAnew held honest full told result new
+      → SettlesCall held honest full failed told terms before next left answer result new → before ≡ false → new.reopened ≡ true → IsAnew held honest full failed told result new
   settled_anew told terms before next left (Ok done) result new s was is = absurd (not_anew before new s.1 was is)
   settled_anew told terms before next left (Err fault.ReadOnly) result new s was is = absurd (not_anew before new s.1 was is)
   settled_anew told terms before next left (Err fault.NoSpace) result new s was is = absurd (not_anew before new s.1 was is)
@@ -261,8 +261,8 @@ module _ {S : Type 0} (held : S → Held) (honest full : S → Bool) (failed : S
     left = left.engine.nand.bus.store;
     was_full = s.1.was_full;
     answered = s.0;
-    unclaimed = holds_as held honest new s.1.device s.1.there.device_is ∙ ap (λ (b : Bool). not b && going held honest s.1.device) s.1.there.reopened_is;
-    bytes = λ h. ap (λ (c : Contents). c.bytes) (shown_as held honest new s.1.device s.1.there.device_is) ∙ s.1.opened.bytes h;
+    unclaimed = holds_as held honest failed new s.1.device s.1.there.device_is ∙ ap (λ (b : Bool). not b && going held honest failed s.1.device) s.1.there.reopened_is;
+    bytes = λ h. ap (λ (c : Contents). c.bytes) (shown_as held honest failed new s.1.device s.1.there.device_is) ∙ s.1.opened.bytes h;
   }
   settled_anew told terms before next left (Err fault.Failed) result new (inr s) was is = absurd (not_anew before new s.1.none was is)
 

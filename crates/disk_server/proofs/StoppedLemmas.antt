@@ -50,8 +50,8 @@ was_stale held honest failed store given capacity stale fault room is back = rec
 -- ---- one that was flushed
 
 module _ {S A : Type 0} (held : S → Held) (honest : S → Bool) (failed : S → ℕ) (entries : A → ℕ) (capacity stale : ℕ) (left : Device (DriverState (FileState S)))
-    (asks : AsksToFlush held honest stale (Ok tt) left) (given : S) (is : given ≡ left.engine.nand.bus.store) where
-  pub then_opened : (result : Result A OpenStoreFault) → IfOk result (λ d. IsOpenedEither held honest given capacity stale (entries d)) → IfOk result (λ d. IsOpenedFlushed held honest capacity stale (entries d))
+    (asks : AsksToFlush held honest failed stale (Ok tt) left) (given : S) (is : given ≡ left.engine.nand.bus.store) where
+  pub then_opened : (result : Result A OpenStoreFault) → IfOk result (λ d. IsOpenedEither held honest given capacity stale (entries d)) → IfOk result (λ d. IsOpenedFlushed held honest failed capacity stale (entries d))
   then_opened (Ok d) either = (left, asks, subst (λ s. IsOpenedEither held honest s capacity stale (entries d)) is either)
   then_opened (Err e) either = tt
 
@@ -72,21 +72,21 @@ either held honest entries store given capacity again stale (Err e) was is = tt
 
 -- ---- what a later attempt comes to
 
-pub opened_later : {S A : Type 0} (held : S → Held) (honest : S → Bool) (entries : A → ℕ) (writes : Bool) (store given : S) (capacity stale : ℕ) (result : Result A OpenStoreFault)
-    → IsStale held honest store capacity stale given → IfOk result (λ d. IsOpenedBy held honest writes capacity stale (entries d))
-    → IfOk result (λ d. IsOpenedWith held honest writes store capacity (entries d))
-opened_later held honest entries writes store given capacity stale (Ok d) was is = inr (stale, given, was, is)
-opened_later held honest entries writes store given capacity stale (Err e) was is = tt
+pub opened_later : {S A : Type 0} (held : S → Held) (honest : S → Bool) (failed : S → ℕ) (entries : A → ℕ) (writes : Bool) (store given : S) (capacity stale : ℕ) (result : Result A OpenStoreFault)
+    → IsStale held honest store capacity stale given → IfOk result (λ d. IsOpenedBy held honest failed writes capacity stale (entries d))
+    → IfOk result (λ d. IsOpenedWith held honest failed writes store capacity (entries d))
+opened_later held honest failed entries writes store given capacity stale (Ok d) was is = inr (stale, given, was, is)
+opened_later held honest failed entries writes store given capacity stale (Err e) was is = tt
 
-pub by_writes : {S A : Type 0} (held : S → Held) (honest : S → Bool) (entries : A → ℕ) (writes : Bool) (capacity stale : ℕ) (result : Result A OpenStoreFault) → writes ≡ true
-    → IfOk result (λ d. IsOpenedFlushed held honest capacity stale (entries d)) → IfOk result (λ d. IsOpenedBy held honest writes capacity stale (entries d))
-by_writes held honest entries writes capacity stale (Ok d) write is = subst (λ b. IsOpenedBy held honest b capacity stale (entries d)) (sym write) is
-by_writes held honest entries writes capacity stale (Err e) write is = tt
+pub by_writes : {S A : Type 0} (held : S → Held) (honest : S → Bool) (failed : S → ℕ) (entries : A → ℕ) (writes : Bool) (capacity stale : ℕ) (result : Result A OpenStoreFault) → writes ≡ true
+    → IfOk result (λ d. IsOpenedFlushed held honest failed capacity stale (entries d)) → IfOk result (λ d. IsOpenedBy held honest failed writes capacity stale (entries d))
+by_writes held honest failed entries writes capacity stale (Ok d) write is = subst (λ b. IsOpenedBy held honest failed b capacity stale (entries d)) (sym write) is
+by_writes held honest failed entries writes capacity stale (Err e) write is = tt
 
-pub by_reads : {S A : Type 0} (held : S → Held) (honest : S → Bool) (entries : A → ℕ) (writes : Bool) (capacity stale : ℕ) (result : Result A OpenStoreFault) → writes ≡ false
-    → IfOk result (λ d. entries d ≡ stale) → IfOk result (λ d. IsOpenedBy held honest writes capacity stale (entries d))
-by_reads held honest entries writes capacity stale (Ok d) read is = subst (λ b. IsOpenedBy held honest b capacity stale (entries d)) (sym read) is
-by_reads held honest entries writes capacity stale (Err e) read is = tt
+pub by_reads : {S A : Type 0} (held : S → Held) (honest : S → Bool) (failed : S → ℕ) (entries : A → ℕ) (writes : Bool) (capacity stale : ℕ) (result : Result A OpenStoreFault) → writes ≡ false
+    → IfOk result (λ d. entries d ≡ stale) → IfOk result (λ d. IsOpenedBy held honest failed writes capacity stale (entries d))
+by_reads held honest failed entries writes capacity stale (Ok d) read is = subst (λ b. IsOpenedBy held honest failed b capacity stale (entries d)) (sym read) is
+by_reads held honest failed entries writes capacity stale (Err e) read is = tt
 
 pub later : {S A : Type 0} (held : S → Held) (honest : S → Bool) (failed : S → ℕ) (store given : S) (capacity stale : ℕ) (result : Result A OpenStoreFault)
     → IsStale held honest store capacity stale given → IfErr result (IsUnopenedStale held honest failed given capacity stale) → IfErr result (IsUnopenedLater held honest failed store capacity)
@@ -105,11 +105,11 @@ unwritten P Q writes (Err e) write = tt
 
 -- ---- laws
 
-pub own_cache : {S : Type 0} (held : S → Held) (honest : S → Bool) → OwnCacheLaw held honest
-own_cache held honest writes store capacity entries h room (inl own) = own
-own_cache held honest writes store capacity entries h room (inr larger) = absurd (room larger.0 larger.2.asked (larger.2.refuses h))
+pub own_cache : {S : Type 0} (held : S → Held) (honest : S → Bool) (failed : S → ℕ) → OwnCacheLaw held honest failed
+own_cache held honest failed writes store capacity entries h room (inl own) = own
+own_cache held honest failed writes store capacity entries h room (inr larger) = absurd (room larger.0 larger.2.asked (larger.2.refuses h))
 
-pub unwritten_cache : {S : Type 0} (held : S → Held) (honest : S → Bool) → UnwrittenCacheLaw held honest
-unwritten_cache held honest store capacity entries h (inl own) = inl own
-unwritten_cache held honest store capacity entries h (inr larger) =
+pub unwritten_cache : {S : Type 0} (held : S → Held) (honest : S → Bool) (failed : S → ℕ) → UnwrittenCacheLaw held honest failed
+unwritten_cache held honest failed store capacity entries h (inl own) = inl own
+unwritten_cache held honest failed store capacity entries h (inr larger) =
     inr (larger.2.asked, subst (λ n. Refuses (held store).geometry capacity (held store).pages (TooStale n larger.2.asked)) (sym larger.3) (larger.2.refuses h))

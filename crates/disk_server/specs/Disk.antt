@@ -3,6 +3,7 @@ use Rattle.std.specs.Prelude.{◌≡◌, ◌≢◌, ◌⊎◌, ◌≤◌, ◌+�
 use Rattle.std.specs.Option.{is_none}
 use Rattle.page_layout.specs.View.{View}
 use Rattle.page_layout.specs.Array.{zeros}
+use Rattle.page_layout.specs.DieCalls.{AsksOnly}
 use Rattle.page_layout.specs.OnlyReads.{OnlyReads}
 use Rattle.promises.specs.Step as step
 use Rattle.promises.specs.Step.{Command, Flush, Turn}
@@ -106,9 +107,10 @@ pub record LeavesDie {N : Type 0} (view : View N) (old new : Device N) : Type 0 
   pub mountable : old.engine.mapping.capacity + old.engine.geometry.pages ≤ 65536
       → IsMountable old.engine.geometry (old.engine.mapping.capacity + old.engine.geometry.pages) (view.flash new.engine.nand).image
 
--- or a read: its die is asked for reads, and programs and erases nothing; where the device holds its array before it and after it, the die is left as it was
+-- or a read: its die is asked for reads, by calls of it alone, and programs and erases nothing; where the device holds its array before it and after it, the die is left as it was
 pub record AsksRead {N : Type 0} (view : View N) (old new : Device N) : Type 0 where
   pub only_reads : OnlyReads view old.engine.nand new.engine.nand
+  pub asked : AsksOnly view.called old.engine.nand new.engine.nand
   pub limits : HasLimitsOf old.engine.mapping new.engine.mapping
   pub disk : IsDisk view new
   pub back : holds view.honest new ≡ true → holds view.honest old ≡ true

@@ -6,11 +6,13 @@ use Rattle.page_layout.specs.Array.{array_of}
 use Rattle.page_layout.specs.Counter.{HasRisen}
 use Rattle.page_layout.specs.Flash.{Flash}
 use Rattle.page_layout.specs.Recording.{Recording}
+use Rattle.onfi_cycles.specs.Called.{driver_called}
+use Rattle.onfi_cycles.specs.Cycles.{due_of}
 use Rattle.onfi_cycles.specs.Driver.{DriverState, flash_by}
 use Rattle.file_die.specs.Store.{Held}
 use Rattle.nand_die.specs.Made.{first_turns, next_in}
 use Rattle.file_die.specs.declared.die.SyncWhen.{SyncWhen}
-use Rattle.file_die.specs.Die.{FileState, flash_over, shown, syncs_always}
+use Rattle.file_die.specs.Die.{ActsOverStore, FileState, flash_over, shown, syncs_always}
 use Rattle.disk_server.specs.Flat.{flat}
 use Rattle.certificate.specs.Claim.{Claim}
 use Rattle.image_check.specs.declared.refusal.Refusal.{Refusal}
@@ -58,9 +60,9 @@ told_in d = Some d.told
 abbrev pub always_in : {S : Type 0} → DriverState (FileState S) → Bool
 always_in d = syncs_always d.bus.sync_when
 
--- all of that, with what it counts
-abbrev pub view_in : {S : Type 0} → (S → Held) → (honest : S → Bool) → View (DriverState (FileState S))
-view_in held honest = record {
+-- all of that, with what it counts, and a call of it: the cycles that it sends, each as its die answers it
+abbrev pub view_in : {S : Type 0} → (S → Held) → (honest : S → Bool) → (failed : S → ℕ) → View (DriverState (FileState S))
+view_in held honest failed = record {
   flash = flash_in held;
   recorded = told_in;
   honest = is_honest_in honest;
@@ -69,6 +71,7 @@ view_in held honest = record {
   programs = λ d. d.programs;
   erases = λ d. d.erases;
   failed = λ d. d.failures;
+  called = driver_called (shown held) (λ d. honest d.store) (λ old cycle answer out new. ActsOverStore held honest failed (due_of (held old.store).geometry old.phase cycle) old new answer);
 }
 
 -- it syncs as it was to

@@ -37,13 +37,13 @@ pub record AreParts {S : Type 0} (size count capacity : ℕ) (device : Option (D
 -- ---- what it shows
 
 -- the bytes of the device that is there; where it is gone as many zeros stand for them
-abbrev pub bytes_by : {S : Type 0} → (S → Held) → (honest : S → Bool) → (size count : ℕ) → Option (Device (DriverState (FileState S))) → List ℕ
-bytes_by held honest size count None = replicate (count * size) 0
-bytes_by held honest size count (Some d) = (contents_of (view_in held honest) d).bytes
+abbrev pub bytes_by : {S : Type 0} → (S → Held) → (honest : S → Bool) → (failed : S → ℕ) → (size count : ℕ) → Option (Device (DriverState (FileState S))) → List ℕ
+bytes_by held honest failed size count None = replicate (count * size) 0
+bytes_by held honest failed size count (Some d) = (contents_of (view_in held honest failed) d).bytes
 
 -- ITS CONTENTS. What is there after a stop is what is there
-abbrev pub contents_in : {S : Type 0} → (S → Held) → (honest : S → Bool) → Reopened S → Contents
-contents_in held honest d = record { bytes = bytes_by held honest d.size d.count d.device; durable = bytes_by held honest d.size d.count d.device }
+abbrev pub contents_in : {S : Type 0} → (S → Held) → (honest : S → Bool) → (failed : S → ℕ) → Reopened S → Contents
+contents_in held honest failed d = record { bytes = bytes_by held honest failed d.size d.count d.device; durable = bytes_by held honest failed d.size d.count d.device }
 
 -- IT HOLDS WHAT IT WAS GIVEN: its device holds its array, and was never opened anew
 abbrev pub holds_by : {S : Type 0} → (honest : S → Bool) → (reopened : Bool) → Option (Device (DriverState (FileState S))) → Bool
@@ -89,9 +89,9 @@ pub record HasDevice {S : Type 0} (terms : Terms) (reopened : Bool) (next : ℕ)
   pub next_is : d.next ≡ next
 
 -- A DEVICE THAT A STORE WAS OPENED WITH, on these terms: of a store that is honest it holds the array that the store's pages hold, byte by byte, and the pages are as they were
-pub record IsOpenedFrom {S : Type 0} (held : S → Held) (honest : S → Bool) (terms : Terms) (store : S) (d : Device (DriverState (FileState S))) : Type 0 where
+pub record IsOpenedFrom {S : Type 0} (held : S → Held) (honest : S → Bool) (failed : S → ℕ) (terms : Terms) (store : S) (d : Device (DriverState (FileState S))) : Type 0 where
   pub as_honest : holds (is_honest_in honest) d ≡ honest store
-  pub bytes : honest store ≡ true → (contents_of (view_in held honest) d).bytes ≡ bytes_of (held store)
+  pub bytes : honest store ≡ true → (contents_of (view_in held honest failed) d).bytes ≡ bytes_of (held store)
   pub pages : honest store ≡ true → flash_in held d.engine.nand ≡ flash_of (held store)
   pub entries : d.engine.mapping.capacity ≡ terms.capacity
   pub syncs : SyncsWhen terms.sync_when d.engine.nand
@@ -101,16 +101,16 @@ pub record IsOpenedFrom {S : Type 0} (held : S → Held) (honest : S → Bool) (
 abbrev pub IsNotReopened : {S : Type 0} → (S → Held) → (honest : S → Bool) → (failed : S → ℕ) → Terms → S → Type 0
 IsNotReopened {S} held honest failed terms store =
     ((why : OpenStoreFault) × (given : S) × IsUnopened held honest failed store terms.capacity given why)
-    ⊎ ((d : Device (DriverState (FileState S))) × IsOpenedFrom held honest terms store d × ((d.engine.geometry.data_bytes ≢ terms.size) ⊎ (d.engine.geometry.sectors ≢ terms.count)))
+    ⊎ ((d : Device (DriverState (FileState S))) × IsOpenedFrom held honest failed terms store d × ((d.engine.geometry.data_bytes ≢ terms.size) ⊎ (d.engine.geometry.sectors ≢ terms.count)))
 
 -- ---- a call
 
 -- THE STORE WAS FULL, AND IS OPEN ANEW: from the pages that the device has left
-pub record Reopens {S : Type 0} (held : S → Held) (honest full : S → Bool) (terms : Terms) (left : Device (DriverState (FileState S))) (new : Reopened S) : Type 0 where
+pub record Reopens {S : Type 0} (held : S → Held) (honest full : S → Bool) (failed : S → ℕ) (terms : Terms) (left : Device (DriverState (FileState S))) (new : Reopened S) : Type 0 where
   pub was_full : full left.engine.nand.bus.store ≡ true
   pub device : Device (DriverState (FileState S))
-  pub opened : IsOpenedFrom held honest terms left.engine.nand.bus.store device
-  pub long : length (contents_of (view_in held honest) device).bytes ≡ terms.count * terms.size
+  pub opened : IsOpenedFrom held honest failed terms left.engine.nand.bus.store device
+  pub long : length (contents_of (view_in held honest failed) device).bytes ≡ terms.count * terms.size
   pub there : HasDevice terms true left.engine.next (Some device) new
 
 -- THE DEVICE IS GONE: its store was not full, or was not opened
@@ -125,7 +125,7 @@ SettlesCall held honest full failed told terms reopened next left (Ok done) resu
 SettlesCall held honest full failed told terms reopened next left (Err fault.ReadOnly) result new = (result ≡ Err fault.ReadOnly) × HasDevice terms reopened next (Some left) new
 SettlesCall held honest full failed told terms reopened next left (Err fault.NoSpace) result new = (result ≡ Err fault.NoSpace) × HasDevice terms reopened next (Some left) new
 SettlesCall held honest full failed told terms reopened next left (Err fault.Failed) result new =
-    ((result ≡ Err told) × Reopens held honest full terms left new)
+    ((result ≡ Err told) × Reopens held honest full failed terms left new)
     ⊎ ((result ≡ Err fault.Failed) × IsGone held honest full failed terms reopened left new)
 
 -- of a device that is gone nothing is asked
@@ -160,36 +160,36 @@ abbrev pub ReadsDevice : {S : Type 0} → (reads : Device (DriverState (FileStat
 ReadsDevice reads old new = ((old.device ≡ None) × HasDevice (terms_of old) old.reopened old.next None new) ⊎ ReadsOne reads old new
 
 -- WHAT IS GIVEN OF A SECTOR: by the device that is there, opened anew or not, its bytes as such a one gives them
-abbrev pub ReopenedGivesSector : {S : Type 0} → (S → Held) → (honest : S → Bool) → (n : ℕ) → (old : Reopened S) → (answer : Result (List ℕ) RequestError) → (new : Reopened S) → Type 0
-ReopenedGivesSector {S} held honest n old answer new = (d : Device (DriverState (FileState S))) → old.device ≡ Some d → (left : Device (DriverState (FileState S))) × (new.device ≡ Some left)
-    × PerformsTask (contents_of (view_in held honest)) (holds (is_honest_in honest)) (λ x. false) (Read (n * old.size) old.size) [] d answer left
+abbrev pub ReopenedGivesSector : {S : Type 0} → (S → Held) → (honest : S → Bool) → (failed : S → ℕ) → (n : ℕ) → (old : Reopened S) → (answer : Result (List ℕ) RequestError) → (new : Reopened S) → Type 0
+ReopenedGivesSector {S} held honest failed n old answer new = (d : Device (DriverState (FileState S))) → old.device ≡ Some d → (left : Device (DriverState (FileState S))) × (new.device ≡ Some left)
+    × PerformsTask (contents_of (view_in held honest failed)) (holds (is_honest_in honest)) (λ x. false) (Read (n * old.size) old.size) [] d answer left
 
 -- ---- the calls of the device over the die of a store
 
 -- a change of a sector
-abbrev pub changes_of : {S : Type 0} → (S → Held) → (honest : S → Bool) → (n : ℕ) → Command → Device (DriverState (FileState S)) → Result (Unit {0}) DiskFault → Device (DriverState (FileState S)) → Type 0
-changes_of held honest n command = AsksChange (view_in held honest) n command
+abbrev pub changes_of : {S : Type 0} → (S → Held) → (honest : S → Bool) → (failed : S → ℕ) → (n : ℕ) → Command → Device (DriverState (FileState S)) → Result (Unit {0}) DiskFault → Device (DriverState (FileState S)) → Type 0
+changes_of held honest failed n command = AsksChange (view_in held honest failed) n command
 
 -- a sector to be cleared
-abbrev pub clears_of : {S : Type 0} → (S → Held) → (honest : S → Bool) → (n : ℕ) → Device (DriverState (FileState S)) → Result (Unit {0}) DiskFault → Device (DriverState (FileState S)) → Type 0
-clears_of held honest n = AsksClear (view_in held honest) n
+abbrev pub clears_of : {S : Type 0} → (S → Held) → (honest : S → Bool) → (failed : S → ℕ) → (n : ℕ) → Device (DriverState (FileState S)) → Result (Unit {0}) DiskFault → Device (DriverState (FileState S)) → Type 0
+clears_of held honest failed n = AsksClear (view_in held honest failed) n
 
 -- ONE CHANGE OF THE DEVICE THAT IS THERE, of any sector, and what it comes to
 unfoldable pub changes_in : {S : Type 0} → (S → Held) → (honest full : S → Bool) → (failed : S → ℕ) → (old new : Reopened S) → Type 0
 changes_in held honest full failed old new = (n : ℕ) × (result : Result (Unit {0}) DiskFault)
-    × (((command : Command) × AsksDevice held honest full failed (changes_of held honest n command) fault.NoSpace old result new) ⊎ AsksDevice held honest full failed (clears_of held honest n) fault.NoSpace old result new)
+    × (((command : Command) × AsksDevice held honest full failed (changes_of held honest failed n command) fault.NoSpace old result new) ⊎ AsksDevice held honest full failed (clears_of held honest failed n) fault.NoSpace old result new)
 
 -- a rest
-abbrev pub rests_of : {S : Type 0} → (S → Held) → (honest : S → Bool) → Device (DriverState (FileState S)) → Result (Unit {0}) DiskFault → Device (DriverState (FileState S)) → Type 0
-rests_of held honest = AsksTurn (view_in held honest)
+abbrev pub rests_of : {S : Type 0} → (S → Held) → (honest : S → Bool) → (failed : S → ℕ) → Device (DriverState (FileState S)) → Result (Unit {0}) DiskFault → Device (DriverState (FileState S)) → Type 0
+rests_of held honest failed = AsksTurn (view_in held honest failed)
 
 -- a read: its die is asked for reads, and programs and erases nothing
-abbrev pub reads_of : {S : Type 0} → (S → Held) → (honest : S → Bool) → Device (DriverState (FileState S)) → Device (DriverState (FileState S)) → Type 0
-reads_of held honest = AsksRead (view_in held honest)
+abbrev pub reads_of : {S : Type 0} → (S → Held) → (honest : S → Bool) → (failed : S → ℕ) → Device (DriverState (FileState S)) → Device (DriverState (FileState S)) → Type 0
+reads_of held honest failed = AsksRead (view_in held honest failed)
 
 -- a flush
-abbrev pub flushes_of : {S : Type 0} → (S → Held) → (honest : S → Bool) → Device (DriverState (FileState S)) → Result (Unit {0}) DiskFault → Device (DriverState (FileState S)) → Type 0
-flushes_of held honest = AsksFlush (view_in held honest)
+abbrev pub flushes_of : {S : Type 0} → (S → Held) → (honest : S → Bool) → (failed : S → ℕ) → Device (DriverState (FileState S)) → Result (Unit {0}) DiskFault → Device (DriverState (FileState S)) → Type 0
+flushes_of held honest failed = AsksFlush (view_in held honest failed)
 
 -- ---- laws. They are of any call of the device
 
@@ -204,13 +204,13 @@ TermsLaw {S} held honest full failed = (told : DiskFault) (old new : Reopened S)
     → AsksDevice held honest full failed (λ d answer left. Unit {0}) told old result new → terms_of new ≡ terms_of old
 
 -- A CALL OPENED IT ANEW ONLY WHERE THE STORE WAS FULL, and was told so. What it holds then is the array of the pages that were left in the store; that this is what it was given is claimed no more
-pub record IsAnew {S : Type 0} (held : S → Held) (honest full : S → Bool) (told : DiskFault) (result : Result (Unit {0}) DiskFault) (new : Reopened S) : Type 0 where
+pub record IsAnew {S : Type 0} (held : S → Held) (honest full : S → Bool) (failed : S → ℕ) (told : DiskFault) (result : Result (Unit {0}) DiskFault) (new : Reopened S) : Type 0 where
   pub left : S
   pub was_full : full left ≡ true
   pub answered : result ≡ Err told
   pub unclaimed : holds_in honest new ≡ false
-  pub bytes : honest left ≡ true → (contents_in held honest new).bytes ≡ bytes_of (held left)
+  pub bytes : honest left ≡ true → (contents_in held honest failed new).bytes ≡ bytes_of (held left)
 
 abbrev pub AnewLaw : {S : Type 0} → (S → Held) → (honest full : S → Bool) → (failed : S → ℕ) → Type 0
 AnewLaw {S} held honest full failed = (told : DiskFault) (old new : Reopened S) (result : Result (Unit {0}) DiskFault)
-    → AsksDevice held honest full failed (λ d answer left. Unit {0}) told old result new → old.reopened ≡ false → new.reopened ≡ true → IsAnew held honest full told result new
+    → AsksDevice held honest full failed (λ d answer left. Unit {0}) told old result new → old.reopened ≡ false → new.reopened ≡ true → IsAnew held honest full failed told result new

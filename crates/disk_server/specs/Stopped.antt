@@ -33,10 +33,10 @@ pub record IsStale {S : Type 0} (held : S → Held) (honest : S → Bool) (store
   pub most : stale ≤ 65536
 
 -- a store was opened with so many entries, and its device was asked for one flush
-pub record AsksToFlush {S : Type 0} (held : S → Held) (honest : S → Bool) (entries : ℕ) (answer : Result (Unit {0}) DiskFault) (left : Device (DriverState (FileState S))) : Type 0 where
+pub record AsksToFlush {S : Type 0} (held : S → Held) (honest : S → Bool) (failed : S → ℕ) (entries : ℕ) (answer : Result (Unit {0}) DiskFault) (left : Device (DriverState (FileState S))) : Type 0 where
   pub opened : Device (DriverState (FileState S))
   pub entries_are : opened.engine.mapping.capacity ≡ entries
-  pub flush : AsksFlush (view_in held honest) opened answer left
+  pub flush : AsksFlush (view_in held honest failed) opened answer left
 
 -- ---- it is opened
 
@@ -45,18 +45,18 @@ abbrev pub IsOpenedEither : {S : Type 0} → (S → Held) → (honest : S → Bo
 IsOpenedEither {S} held honest store capacity stale entries =
     (entries ≡ capacity) ⊎ (((again : ℕ) × (given : S) × IsStale held honest store capacity again given) × (entries ≡ stale))
 
-abbrev pub IsOpenedFlushed : {S : Type 0} → (S → Held) → (honest : S → Bool) → (capacity stale entries : ℕ) → Type 0
-IsOpenedFlushed {S} held honest capacity stale entries =
-    (left : Device (DriverState (FileState S))) × AsksToFlush held honest stale (Ok tt) left × IsOpenedEither held honest left.engine.nand.bus.store capacity stale entries
+abbrev pub IsOpenedFlushed : {S : Type 0} → (S → Held) → (honest : S → Bool) → (failed : S → ℕ) → (capacity stale entries : ℕ) → Type 0
+IsOpenedFlushed {S} held honest failed capacity stale entries =
+    (left : Device (DriverState (FileState S))) × AsksToFlush held honest failed stale (Ok tt) left × IsOpenedEither held honest left.engine.nand.bus.store capacity stale entries
 
-abbrev pub IsOpenedBy : {S : Type 0} → (S → Held) → (honest : S → Bool) → (writes : Bool) → (capacity stale entries : ℕ) → Type 0
-IsOpenedBy held honest true capacity stale entries = IsOpenedFlushed held honest capacity stale entries
-IsOpenedBy held honest false capacity stale entries = entries ≡ stale
+abbrev pub IsOpenedBy : {S : Type 0} → (S → Held) → (honest : S → Bool) → (failed : S → ℕ) → (writes : Bool) → (capacity stale entries : ℕ) → Type 0
+IsOpenedBy held honest failed true capacity stale entries = IsOpenedFlushed held honest failed capacity stale entries
+IsOpenedBy held honest failed false capacity stale entries = entries ≡ stale
 
 -- WITH ITS OWN CACHE; or it has too many stale sectors, and is opened with as many entries, flushed where it is to be written, and opened again
-abbrev pub IsOpenedWith : {S : Type 0} → (S → Held) → (honest : S → Bool) → (writes : Bool) → S → (capacity entries : ℕ) → Type 0
-IsOpenedWith {S} held honest writes store capacity entries =
-    (entries ≡ capacity) ⊎ ((stale : ℕ) × (given : S) × IsStale held honest store capacity stale given × IsOpenedBy held honest writes capacity stale entries)
+abbrev pub IsOpenedWith : {S : Type 0} → (S → Held) → (honest : S → Bool) → (failed : S → ℕ) → (writes : Bool) → S → (capacity entries : ℕ) → Type 0
+IsOpenedWith {S} held honest failed writes store capacity entries =
+    (entries ≡ capacity) ⊎ ((stale : ℕ) × (given : S) × IsStale held honest store capacity stale given × IsOpenedBy held honest failed writes capacity stale entries)
 
 -- ---- it is not
 
@@ -78,8 +78,8 @@ IsOpenedNeither {S} held honest failed store capacity stale fault =
 abbrev pub IsUnopenedStale : {S : Type 0} → (S → Held) → (honest : S → Bool) → (failed : S → ℕ) → S → (capacity stale : ℕ) → OpenStoreFault → Type 0
 IsUnopenedStale {S} held honest failed store capacity stale fault =
     IsLastFault held honest failed store stale fault
-    ⊎ (((e : DiskFault) × (left : Device (DriverState (FileState S))) × AsksToFlush held honest stale (Err e) left × (fault ≡ Flush))
-    ⊎ ((left : Device (DriverState (FileState S))) × AsksToFlush held honest stale (Ok tt) left × IsOpenedNeither held honest failed left.engine.nand.bus.store capacity stale fault))
+    ⊎ (((e : DiskFault) × (left : Device (DriverState (FileState S))) × AsksToFlush held honest failed stale (Err e) left × (fault ≡ Flush))
+    ⊎ ((left : Device (DriverState (FileState S))) × AsksToFlush held honest failed stale (Ok tt) left × IsOpenedNeither held honest failed left.engine.nand.bus.store capacity stale fault))
 
 -- WHY IT IS NOT OPENED: what is told is so of the store, and no larger cache mends it; or it has too many stale sectors, and why it is not opened with a larger one
 abbrev pub IsUnopenedLater : {S : Type 0} → (S → Held) → (honest : S → Bool) → (failed : S → ℕ) → S → (capacity : ℕ) → OpenStoreFault → Type 0
@@ -90,11 +90,11 @@ IsUnopenedLater {S} held honest failed store capacity fault =
 -- ---- laws
 
 -- AN HONEST STORE WHOSE STALE SECTORS HAVE ROOM IS OPENED WITH ITS OWN CACHE
-abbrev pub OwnCacheLaw : {S : Type 0} → (S → Held) → (honest : S → Bool) → Type 0
-OwnCacheLaw {S} held honest = (writes : Bool) (store : S) (capacity entries : ℕ) → honest store ≡ true
-    → ((stale asked : ℕ) → ¬ Refuses (held store).geometry capacity (held store).pages (TooStale stale asked)) → IsOpenedWith held honest writes store capacity entries → entries ≡ capacity
+abbrev pub OwnCacheLaw : {S : Type 0} → (S → Held) → (honest : S → Bool) → (failed : S → ℕ) → Type 0
+OwnCacheLaw {S} held honest failed = (writes : Bool) (store : S) (capacity entries : ℕ) → honest store ≡ true
+    → ((stale asked : ℕ) → ¬ Refuses (held store).geometry capacity (held store).pages (TooStale stale asked)) → IsOpenedWith held honest failed writes store capacity entries → entries ≡ capacity
 
 -- ONE THAT IS NOT TO BE WRITTEN IS OPENED WITH ITS OWN CACHE, or with just as many entries as it was refused for
-abbrev pub UnwrittenCacheLaw : {S : Type 0} → (S → Held) → (honest : S → Bool) → Type 0
-UnwrittenCacheLaw {S} held honest = (store : S) (capacity entries : ℕ) → honest store ≡ true → IsOpenedWith held honest false store capacity entries
+abbrev pub UnwrittenCacheLaw : {S : Type 0} → (S → Held) → (honest : S → Bool) → (failed : S → ℕ) → Type 0
+UnwrittenCacheLaw {S} held honest failed = (store : S) (capacity entries : ℕ) → honest store ≡ true → IsOpenedWith held honest failed false store capacity entries
     → (entries ≡ capacity) ⊎ ((asked : ℕ) × Refuses (held store).geometry capacity (held store).pages (TooStale entries asked))

@@ -69,8 +69,8 @@ pub fn reading_laws<S: Sectors>()
 /// With which cache a store is opened that may have been stopped: with its own where its stale sectors have room; and where nothing is written, with that one or with just as many entries as it was refused for. (This
 /// project's.)
 pub fn cache_laws<S: Store>()
-    ensures own { OwnCacheLaw S.held S.honest }
-    ensures unwritten { UnwrittenCacheLaw S.held S.honest }
+    ensures own { OwnCacheLaw S.held S.honest S.failed }
+    ensures unwritten { UnwrittenCacheLaw S.held S.honest S.failed }
 {}
 
 /// What becomes of a device that is opened anew where its store was full: only there, and it is told; it holds then what the pages left in the store say, and whether that is what it was given is claimed no more. One that

@@ -153,7 +153,7 @@ pub fn open_store<S: Store + Drop>(
     ensures entries { IfOk result (λ d. d.engine.mapping.capacity ≡ capacity) }
     ensures syncs { IfOk result (λ d. SyncsWhen sync_when d.engine.nand) }
     ensures honest { IfOk result (λ d. holds (is_honest_in S.honest) d ≡ S.honest store) }
-    ensures bytes { IfOk result (λ d. S.honest store ≡ true → (contents_of (view_in S.held S.honest) d).bytes ≡ bytes_of (S.held store)) }
+    ensures bytes { IfOk result (λ d. S.honest store ≡ true → (contents_of (view_in S.held S.honest S.failed) d).bytes ≡ bytes_of (S.held store)) }
     ensures pages { IfOk result (λ d. S.honest store ≡ true → flash_in S.held d.engine.nand ≡ flash_of (S.held store)) }
     ensures fault { IfErr result (λ e. IsUnopened S.held S.honest S.failed store capacity e.0 e.1) }
     ensures given { IfErr result (λ e. ComesBack S.held S.honest store e.1 e.0) }
@@ -170,7 +170,7 @@ pub fn open_store<S: Store + Drop>(
 pub fn close_store<S: Store + Drop>(disk: StoreDisk<S>) -> S
     ensures store { result ≡ disk.engine.nand.bus.store }
     ensures honest { holds (is_honest_in S.honest) disk ≡ true → S.honest result ≡ true }
-    ensures bytes { holds (is_honest_in S.honest) disk ≡ true → bytes_of (S.held result) ≡ (contents_of (view_in S.held S.honest) disk).bytes }
+    ensures bytes { holds (is_honest_in S.honest) disk ≡ true → bytes_of (S.held result) ≡ (contents_of (view_in S.held S.honest S.failed) disk).bytes }
 {
     store_behind(nand_behind(disk))
 }

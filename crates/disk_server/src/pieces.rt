@@ -38,6 +38,7 @@ pub(crate) fn read_piece<S: Sectors>(
     let count = sectors.sector_count();
     let sector = offset / size as u64;
     let start = (offset % size as u64) as usize;
+    // (the count is read for the proof alone: all bytes of a task are in a sector)
     prove!(sector < count);
     if out.len() == size {
         return sectors.read_sector(sector, out);
@@ -70,6 +71,7 @@ pub(crate) fn write_piece<S: Sectors>(
     let count = sectors.sector_count();
     let sector = offset / size as u64;
     let start = (offset % size as u64) as usize;
+    // (the count is read for the proof alone: all bytes of a task are in a sector)
     prove!(sector < count);
     if bytes.len() == size {
         return sectors.write_sector(sector, bytes);
@@ -110,6 +112,7 @@ pub(crate) fn clear_piece<S: Sectors>(
     let count = sectors.sector_count();
     let sector = offset / size as u64;
     let start = (offset % size as u64) as usize;
+    // (the count is read for the proof alone: all bytes of a task are in a sector)
     prove!(sector < count);
     if taken == size {
         return sectors.clear_sector(sector, buffer);

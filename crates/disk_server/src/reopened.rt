@@ -99,7 +99,7 @@ impl<S: Store + TellsFull + Drop> ReopenedDevice<S> {
     fn take_in(&mut self, device: StoreDevice<S>) -> bool
         requires { self.old.device ≡ None }
         ensures taken { result ≡ true → HasDevice (terms_of self.old) true self.old.next (Some device) self.new }
-        ensures long { result ≡ true → length (contents_of (view_in S.held S.honest) device).bytes ≡ self.old.count * self.old.size }
+        ensures long { result ≡ true → length (contents_of (view_in S.held S.honest S.failed) device).bytes ≡ self.old.count * self.old.size }
         ensures left { result ≡ false → (device.engine.geometry.data_bytes ≢ self.old.size) ⊎ (device.engine.geometry.sectors ≢ self.old.count) }
         ensures same { result ≡ false → self.new ≡ self.old }
     {
@@ -114,8 +114,8 @@ impl<S: Store + TellsFull + Drop> ReopenedDevice<S> {
     // Opens a store anew.
     fn open(&mut self, store: S) -> bool
         requires { self.old.device ≡ None }
-        ensures opened { result ≡ true → (d : Device (DriverState (FileState S))) × IsOpenedFrom S.held S.honest (terms_of self.old) store d × HasDevice (terms_of self.old) true self.old.next (Some d) self.new
-            × (length (contents_of (view_in S.held S.honest) d).bytes ≡ self.old.count * self.old.size) }
+        ensures opened { result ≡ true → (d : Device (DriverState (FileState S))) × IsOpenedFrom S.held S.honest S.failed (terms_of self.old) store d × HasDevice (terms_of self.old) true self.old.next (Some d) self.new
+            × (length (contents_of (view_in S.held S.honest S.failed) d).bytes ≡ self.old.count * self.old.size) }
         ensures unopened { result ≡ false → IsNotReopened S.held S.honest S.failed (terms_of self.old) store }
         ensures same { result ≡ false → self.new ≡ self.old }
     {
@@ -128,7 +128,7 @@ impl<S: Store + TellsFull + Drop> ReopenedDevice<S> {
     // Opens the store of a device that has stopped anew, where it was full.
     fn reopen(&mut self, device: StoreDevice<S>) -> bool
         requires { self.old.device ≡ None }
-        ensures opened { result ≡ true → Reopens S.held S.honest S.full (terms_of self.old) device self.new }
+        ensures opened { result ≡ true → Reopens S.held S.honest S.full S.failed (terms_of self.old) device self.new }
         ensures gone { result ≡ false → IsGone S.held S.honest S.full S.failed (terms_of self.old) self.old.reopened device self.new }
     {
         self.next = device.next_sequence();
@@ -172,23 +172,23 @@ impl<S: Store + TellsFull + Drop> Sectors for ReopenedDevice<S> {
     ghost use Rattle.disk_server.specs.Asked.{SparesZeros};
     ghost use Rattle.disk_server.specs.Reopened.{AsksDevice, ReadsDevice, ReopenedGivesSector, changes_in, changes_of, clears_of, contents_in, flushes_of, holds_in, next_in, reads_of, rests_of, takes_in};
 
-    ghost contents = { contents_in S.held S.honest };
+    ghost contents = { contents_in S.held S.honest S.failed };
 
     ghost honest = { holds_in S.honest };
 
     ghost calm = { λ _. false };
 
     /// A rest of the device that is there, and what it comes to.
-    ghost rests = { AsksDevice S.held S.honest S.full S.failed (rests_of S.held S.honest) fault.Failed };
+    ghost rests = { AsksDevice S.held S.honest S.full S.failed (rests_of S.held S.honest S.failed) fault.Failed };
 
     /// A read of the device that is there.
-    ghost reads = { ReadsDevice (reads_of S.held S.honest) };
+    ghost reads = { ReadsDevice (reads_of S.held S.honest S.failed) };
 
     /// A change of the device that is there, and what it comes to.
     ghost changes = { changes_in S.held S.honest S.full S.failed };
 
     /// A flush of the device that is there, and what it comes to.
-    ghost flushes = { AsksDevice S.held S.honest S.full S.failed (flushes_of S.held S.honest) fault.Failed };
+    ghost flushes = { AsksDevice S.held S.honest S.full S.failed (flushes_of S.held S.honest S.failed) fault.Failed };
 
     ghost size = { λ d. d.size };
 
@@ -208,9 +208,9 @@ impl<S: Store + TellsFull + Drop> Sectors for ReopenedDevice<S> {
         requires whole { length buffer.old ≡ self.old.size }
         ensures size { self.new.size ≡ self.old.size }
         ensures count { self.new.count ≡ self.old.count }
-        ensures performs { PerformsTask (contents_in S.held S.honest) (holds_in S.honest) (λ _. false) (Task.Read (sector * self.old.size) self.old.size) [] self.old (answer_from result buffer.new) self.new }
-        ensures reads { ReadsDevice (reads_of S.held S.honest) self.old self.new }
-        ensures given { ReopenedGivesSector S.held S.honest sector self.old (answer_from result buffer.new) self.new }
+        ensures performs { PerformsTask (contents_in S.held S.honest S.failed) (holds_in S.honest) (λ _. false) (Task.Read (sector * self.old.size) self.old.size) [] self.old (answer_from result buffer.new) self.new }
+        ensures reads { ReadsDevice (reads_of S.held S.honest S.failed) self.old self.new }
+        ensures given { ReopenedGivesSector S.held S.honest S.failed sector self.old (answer_from result buffer.new) self.new }
     {
         let Some(mut device) = self.device.take() else {
             return Err(DiskFault::Failed);
@@ -231,8 +231,8 @@ impl<S: Store + TellsFull + Drop> Sectors for ReopenedDevice<S> {
         requires whole { length bytes.now ≡ self.old.size }
         ensures size { self.new.size ≡ self.old.size }
         ensures count { self.new.count ≡ self.old.count }
-        ensures performs { PerformsTask (contents_in S.held S.honest) (holds_in S.honest) (λ _. false) (Task.Write (sector * self.old.size) self.old.size false) bytes.now self.old (answer_from result []) self.new }
-        ensures asked { AsksDevice S.held S.honest S.full S.failed (changes_of S.held S.honest sector (Write sector bytes.now)) fault.NoSpace self.old result self.new }
+        ensures performs { PerformsTask (contents_in S.held S.honest S.failed) (holds_in S.honest) (λ _. false) (Task.Write (sector * self.old.size) self.old.size false) bytes.now self.old (answer_from result []) self.new }
+        ensures asked { AsksDevice S.held S.honest S.full S.failed (changes_of S.held S.honest S.failed sector (Write sector bytes.now)) fault.NoSpace self.old result self.new }
         ensures changes { changes_in S.held S.honest S.full S.failed self.old self.new }
     {
         let Some(mut device) = self.device.take() else {
@@ -252,8 +252,8 @@ impl<S: Store + TellsFull + Drop> Sectors for ReopenedDevice<S> {
         requires within { sector < self.old.count }
         ensures size { self.new.size ≡ self.old.size }
         ensures count { self.new.count ≡ self.old.count }
-        ensures performs { PerformsTask (contents_in S.held S.honest) (holds_in S.honest) (λ _. false) (Task.Trim (sector * self.old.size) self.old.size false) [] self.old (answer_from result []) self.new }
-        ensures asked { AsksDevice S.held S.honest S.full S.failed (changes_of S.held S.honest sector (Trim sector)) fault.NoSpace self.old result self.new }
+        ensures performs { PerformsTask (contents_in S.held S.honest S.failed) (holds_in S.honest) (λ _. false) (Task.Trim (sector * self.old.size) self.old.size false) [] self.old (answer_from result []) self.new }
+        ensures asked { AsksDevice S.held S.honest S.full S.failed (changes_of S.held S.honest S.failed sector (Trim sector)) fault.NoSpace self.old result self.new }
         ensures changes { changes_in S.held S.honest S.full S.failed self.old self.new }
     {
         let Some(mut device) = self.device.take() else {
@@ -274,9 +274,9 @@ impl<S: Store + TellsFull + Drop> Sectors for ReopenedDevice<S> {
         requires whole { length buffer.old ≡ self.old.size }
         ensures size { self.new.size ≡ self.old.size }
         ensures count { self.new.count ≡ self.old.count }
-        ensures performs { PerformsTask (contents_in S.held S.honest) (holds_in S.honest) (λ _. false) (Task.Trim (sector * self.old.size) self.old.size false) [] self.old (answer_from result []) self.new }
-        ensures spares { SparesZeros (contents_in S.held S.honest) (holds_in S.honest) (ReadsDevice (reads_of S.held S.honest)) (sector * self.old.size) self.old.size self.old self.new }
-        ensures asked { AsksDevice S.held S.honest S.full S.failed (clears_of S.held S.honest sector) fault.NoSpace self.old result self.new }
+        ensures performs { PerformsTask (contents_in S.held S.honest S.failed) (holds_in S.honest) (λ _. false) (Task.Trim (sector * self.old.size) self.old.size false) [] self.old (answer_from result []) self.new }
+        ensures spares { SparesZeros (contents_in S.held S.honest S.failed) (holds_in S.honest) (ReadsDevice (reads_of S.held S.honest S.failed)) (sector * self.old.size) self.old.size self.old self.new }
+        ensures asked { AsksDevice S.held S.honest S.full S.failed (clears_of S.held S.honest S.failed sector) fault.NoSpace self.old result self.new }
         ensures changes { changes_in S.held S.honest S.full S.failed self.old self.new }
     {
         let Some(mut device) = self.device.take() else {

@@ -46,7 +46,7 @@ fn open_once<S: Store + Drop>(
     requires most { capacity ≤ 65536 }
     ensures syncs { IfOk result (λ d. SyncsWhen sync_when d.engine.nand) }
     ensures honest { IfOk result (λ d. holds (is_honest_in S.honest) d ≡ S.honest store) }
-    ensures bytes { IfOk result (λ d. S.honest store ≡ true → (contents_of (view_in S.held S.honest) d).bytes ≡ bytes_of (S.held store)) }
+    ensures bytes { IfOk result (λ d. S.honest store ≡ true → (contents_of (view_in S.held S.honest S.failed) d).bytes ≡ bytes_of (S.held store)) }
     ensures pages { IfOk result (λ d. S.honest store ≡ true → flash_in S.held d.engine.nand ≡ flash_of (S.held store)) }
     ensures entries { IfOk result (λ d. d.engine.mapping.capacity ≡ capacity) }
     ensures fault { IfErr result (IsLastFault S.held S.honest S.failed store capacity) }
@@ -69,7 +69,7 @@ fn open_either<S: Store + Drop>(
     requires most { (capacity ≤ 65536) × (stale ≤ 65536) }
     ensures syncs { IfOk result (λ d. SyncsWhen sync_when d.engine.nand) }
     ensures honest { IfOk result (λ d. holds (is_honest_in S.honest) d ≡ S.honest store) }
-    ensures bytes { IfOk result (λ d. S.honest store ≡ true → (contents_of (view_in S.held S.honest) d).bytes ≡ bytes_of (S.held store)) }
+    ensures bytes { IfOk result (λ d. S.honest store ≡ true → (contents_of (view_in S.held S.honest S.failed) d).bytes ≡ bytes_of (S.held store)) }
     ensures entries { IfOk result (λ d. IsOpenedEither S.held S.honest store capacity stale d.engine.mapping.capacity) }
     ensures fault { IfErr result (IsOpenedNeither S.held S.honest S.failed store capacity stale) }
 {
@@ -95,8 +95,8 @@ fn open_stale<S: Store + Drop>(
     requires most { (capacity ≤ 65536) × (stale ≤ 65536) }
     ensures syncs { IfOk result (λ d. SyncsWhen sync_when d.engine.nand) }
     ensures honest { IfOk result (λ d. S.honest store ≡ true → holds (is_honest_in S.honest) d ≡ true) }
-    ensures bytes { IfOk result (λ d. S.honest store ≡ true → (contents_of (view_in S.held S.honest) d).bytes ≡ bytes_of (S.held store)) }
-    ensures entries { IfOk result (λ d. IsOpenedFlushed S.held S.honest capacity stale d.engine.mapping.capacity) }
+    ensures bytes { IfOk result (λ d. S.honest store ≡ true → (contents_of (view_in S.held S.honest S.failed) d).bytes ≡ bytes_of (S.held store)) }
+    ensures entries { IfOk result (λ d. IsOpenedFlushed S.held S.honest S.failed capacity stale d.engine.mapping.capacity) }
     ensures fault { IfErr result (IsUnopenedStale S.held S.honest S.failed store capacity stale) }
 {
     let mut disk = match open_store(alloc, store, stale, sync_when) {
@@ -130,9 +130,9 @@ pub fn open_stopped<S: Store + Drop>(
     requires most { capacity ≤ 65536 }
     ensures syncs { IfOk result (λ d. SyncsWhen sync_when d.engine.nand) }
     ensures honest { IfOk result (λ d. S.honest store ≡ true → holds (is_honest_in S.honest) d ≡ true) }
-    ensures bytes { IfOk result (λ d. S.honest store ≡ true → (contents_of (view_in S.held S.honest) d).bytes ≡ bytes_of (S.held store)) }
+    ensures bytes { IfOk result (λ d. S.honest store ≡ true → (contents_of (view_in S.held S.honest S.failed) d).bytes ≡ bytes_of (S.held store)) }
     ensures pages { IfOk result (λ d. writes ≡ false → S.honest store ≡ true → flash_in S.held d.engine.nand ≡ flash_of (S.held store)) }
-    ensures entries { IfOk result (λ d. IsOpenedWith S.held S.honest writes store capacity d.engine.mapping.capacity) }
+    ensures entries { IfOk result (λ d. IsOpenedWith S.held S.honest S.failed writes store capacity d.engine.mapping.capacity) }
     ensures fault { IfErr result (IsUnopenedLater S.held S.honest S.failed store capacity) }
 {
     let (store, fault) = match open_store(alloc, store, capacity, sync_when) {

@@ -1,3 +1,4 @@
+-- Words that are found one by one, and collected.
 use Rattle.std.proofs.Common.{◌≡◌, ◌∙◌, ℕ, List, Option, Result, Ok, Err, Bor, IfOk, ap, map, Vec}
 use Rattle.std.specs.Vec.{vec_items}
 use Rattle.std.proofs.lemmas.Iterator.{IsCollectResult, YieldsList, items_from_drains}

@@ -1,3 +1,4 @@
+use Rattle.disk_laws.proofs.AskedRunLemmas.{run_asks}
 use Rattle.disk_laws.proofs.RunLemmas.{cut_leaves_law, killed_run, lost_run_law, one_call}
 use Rattle.disk_laws.proofs.SessionLemmas.{session}
 use Rattle.disk_laws.proofs.run_laws.Goals as goal
@@ -16,3 +17,6 @@ returns-clause-lost g c = lost_run_law g.N.PageSource.view
 
 pub returns-clause-cut : goal.returns-clause-cut
 returns-clause-cut g c = cut_leaves_law g.N.PageSource.view
+
+pub returns-clause-asks : goal.returns-clause-asks
+returns-clause-asks g c = run_asks g.N.PageSource.view

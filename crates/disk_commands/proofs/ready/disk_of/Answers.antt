@@ -10,7 +10,8 @@ pub returns-in-Ok-recover_listed-clause-bytes : goal.returns-in-Ok-recover_liste
 returns-in-Ok-recover_listed-clause-bytes g c =
     let held = g.S.Store.held in
     let honest = g.S.Store.honest in
-    let bytes = (contents_of (view_in held honest) c.in-Ok-recover_listed.disk).bytes in
+    let failed = g.S.Store.failed in
+    let bytes = (contents_of (view_in held honest failed) c.in-Ok-recover_listed.disk).bytes in
     subst (λ r. HoldsPages r c.args.found.mark.synced (honest c.args.store ≡ true) (held c.args.store) bytes) (sym c.if-words.false)
     (subst (λ s. honest s ≡ true → HoldsRecovered c.args.found.mark.synced (held s) bytes) c.in-Ok-list_first.ensures.same c.in-Ok-recover_listed.ensures.bytes)
 

@@ -14,4 +14,4 @@ returns-clause-stored g c = λ h.
 pub returns-clause-stands : goal.returns-clause-stands
 returns-clause-stands g c = λ h.
     let s = g.S.Store in
-    erase_stands s.held s.honest s.failed c.args.block c.erase.result c.args.driver.now c.erase.new.self h (returns-clause-asks g c h) c.erase.ensures.geometry (c.erase.ensures.spells h)
+    erase_stands s.held s.honest s.failed c.args.block c.erase.result c.args.driver.now c.erase.new.self h (returns-clause-asks g c h) c.erase.ensures.geometry

@@ -16,4 +16,3 @@ pub returns-clause-stands : goal.returns-clause-stands
 returns-clause-stands g c = λ h.
     let s = g.S.Store in
     program_stands s.held s.honest s.failed c.args.row c.args.body.now c.args.spare.now c.program.result c.args.driver.now c.program.new.self h (returns-clause-asks g c h) c.program.ensures.geometry
-    (c.program.ensures.spells h)

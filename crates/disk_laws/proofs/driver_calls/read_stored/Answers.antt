@@ -14,4 +14,4 @@ pub returns-clause-stands : goal.returns-clause-stands
 returns-clause-stands g c = λ h.
     let s = g.S.Store in
     page_stands s.held s.honest s.failed c.args.row (c.read_page.new.body ++ c.read_page.new.spare) c.read_page.result c.args.driver.now c.read_page.new.self h (returns-clause-asks g c h)
-    c.read_page.ensures.geometry (c.read_page.ensures.spells h)
+    c.read_page.ensures.geometry

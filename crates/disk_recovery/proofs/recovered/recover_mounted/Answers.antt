@@ -10,7 +10,8 @@ pub returns-then-not-changed-clause-bytes : goal.returns-then-not-changed-clause
 returns-then-not-changed-clause-bytes g c =
     let held = g.S.Store.held in
     let honest = g.S.Store.honest in
-    opened_bytes (λ d. (contents_of (view_in held honest) d).bytes) held (honest c.args.store ≡ true) (honest c.recover_once.new.store ≡ true) c.args.store c.recover_once.new.store c.args.mark c.open_stopped.result
+    let failed = g.S.Store.failed in
+    opened_bytes (λ d. (contents_of (view_in held honest failed) d).bytes) held (honest c.args.store ≡ true) (honest c.recover_once.new.store ≡ true) c.args.store c.recover_once.new.store c.args.mark c.open_stopped.result
     (λ h. c.in_ok-changed.ensures.honest ∙ h)
     (λ h. left_once c.args.mark (held c.args.store) (held c.recover_once.new.store) c.in_ok-changed.changed c.if-not-changed.true (c.in_ok-changed.ensures.recovered h))
     c.open_stopped.ensures.bytes
@@ -26,8 +27,9 @@ pub returns-in-Ok-clause-bytes : goal.returns-in-Ok-clause-bytes
 returns-in-Ok-clause-bytes g c =
     let held = g.S.Store.held in
     let honest = g.S.Store.honest in
+    let failed = g.S.Store.failed in
     let left = c.in-Ok.left in
-    opened_bytes (λ d. (contents_of (view_in held honest) d).bytes) held (honest c.args.store ≡ true) (honest left ≡ true) c.args.store left c.args.mark c.open_stopped-in-Ok.result
+    opened_bytes (λ d. (contents_of (view_in held honest failed) d).bytes) held (honest c.args.store ≡ true) (honest left ≡ true) c.args.store left c.args.mark c.open_stopped-in-Ok.result
     (λ h. c.in-Ok.ensures.honest ∙ (c.in_ok-changed.ensures.honest ∙ h))
     (λ h. left_twice c.args.mark (held c.args.store) (held c.recover_once.new.store) (held left) c.in_ok-changed.changed c.if-not-changed.false (c.in_ok-changed.ensures.recovered h)
     (c.in-Ok.ensures.recovered (c.in_ok-changed.ensures.honest ∙ h)))

@@ -22,14 +22,14 @@ returns-in-Err-clause-given g c =
       its = c.unopened.ensures.geometry;
     } in
     subst (λ fault. ComesBack g.S.Store.held g.S.Store.honest c.args.store fault c.unopened.result.0) (sym c.unopened.ensures.why)
-    (unopened_come g.S.Store.held g.S.Store.honest c.args.store c.in_ok-driver.driver c.geometry-geometry.result c.args.capacity c.in-Err.fault c.unopened.result.0 over behind c.in-Err.ensures.unmounted)
+    (unopened_come g.S.Store.held g.S.Store.honest g.S.Store.failed c.args.store c.in_ok-driver.driver c.geometry-geometry.result c.args.capacity c.in-Err.fault c.unopened.result.0 over behind c.in-Err.ensures.unmounted)
 
 pub returns-in-Err-clause-fault : goal.returns-in-Err-clause-fault
 returns-in-Err-clause-fault g c =
     let over : IsOver g.S.Store.held g.S.Store.honest c.args.store c.in_ok-driver.driver = record { as_honest = c.in_ok-driver.ensures.honest; geometry = c.in_ok-driver.ensures.geometry; pages = c.in_ok-driver.ensures.pages } in
     subst (λ fault. IsUnopened g.S.Store.held g.S.Store.honest g.S.Store.failed c.args.store c.args.capacity c.unopened.result.0 fault) (sym c.unopened.ensures.why)
     (unopened_so g.S.Store.held g.S.Store.honest g.S.Store.failed c.args.store c.in_ok-driver.driver c.args.capacity c.in-Err.fault c.unopened.result.0 over
-    (subst (λ x. IsUnmounted (view_in g.S.Store.held g.S.Store.honest) c.in_ok-driver.driver x c.args.capacity c.in-Err.fault) c.geometry-geometry.ensures.geometry
+    (subst (λ x. IsUnmounted (view_in g.S.Store.held g.S.Store.honest g.S.Store.failed) c.in_ok-driver.driver x c.args.capacity c.in-Err.fault) c.geometry-geometry.ensures.geometry
     c.in-Err.ensures.unmounted))
 
 pub returns-in-Ok-clause-geometry : goal.returns-in-Ok-clause-geometry
@@ -41,7 +41,7 @@ returns-in-Ok-clause-honest g c = c.in-Ok.ensures.honest ∙ c.in_ok-driver.ensu
 pub returns-in-Ok-clause-bytes : goal.returns-in-Ok-clause-bytes
 returns-in-Ok-clause-bytes g c =
     let over : IsOver g.S.Store.held g.S.Store.honest c.args.store c.in_ok-driver.driver = record { as_honest = c.in_ok-driver.ensures.honest; geometry = c.in_ok-driver.ensures.geometry; pages = c.in_ok-driver.ensures.pages } in
-    opened_bytes g.S.Store.held g.S.Store.honest c.args.store c.in_ok-driver.driver c.geometry-geometry.result c.in-Ok.disk over c.geometry-geometry.ensures.geometry
+    opened_bytes g.S.Store.held g.S.Store.honest g.S.Store.failed c.args.store c.in_ok-driver.driver c.geometry-geometry.result c.in-Ok.disk over c.geometry-geometry.ensures.geometry
     c.in-Ok.ensures.honest c.in-Ok.ensures.array
 
 pub returns-in-Ok-clause-pages : goal.returns-in-Ok-clause-pages

@@ -41,5 +41,5 @@ returns-clause-reads g c =
     let n = g.N.PageSource in
     rw (← c.self.view_is) (read_asks n.view c.args.sector c.self.inside.device c.read.new.self c.read.result
     (page_in c.read.new.self.engine.scratch) (page_in c.read.new.self.engine.page) c.read.new.out c.self.invariant c.read.ensures.only_reads.honest_is
-    c.read.ensures.stopped c.read.ensures.memory c.read.ensures.only_reads c.read.ensures.limits (invariant_of-self g c)
+    c.read.ensures.stopped c.read.ensures.memory c.read.ensures.only_reads c.read.ensures.asked c.read.ensures.limits (invariant_of-self g c)
     c.read.ensures.same c.read.ensures.told c.read.ensures.mountable)

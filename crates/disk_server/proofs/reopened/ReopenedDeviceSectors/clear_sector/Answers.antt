@@ -12,9 +12,9 @@ pub returns-clause-performs : goal.returns-clause-performs
 returns-clause-performs g c =
     let was = sym c.in-Some.ensures.value in
     let sized = c.self.invariant.sized _ was in
-    let asked = subst (λ k. PerformsTask (at g.S.Store.held g.S.Store.honest) (going g.S.Store.held g.S.Store.honest) (λ x. false) (Trim (c.args.sector * k) k false) [] c.in-Some.device (answer_from c.clear_sector-answer.result []) c.clear_sector-answer.new.self)
+    let asked = subst (λ k. PerformsTask (at g.S.Store.held g.S.Store.honest g.S.Store.failed) (going g.S.Store.held g.S.Store.honest g.S.Store.failed) (λ x. false) (Trim (c.args.sector * k) k false) [] c.in-Some.device (answer_from c.clear_sector-answer.result []) c.clear_sector-answer.new.self)
     sized c.clear_sector-answer.ensures.performs in
-    rw (← c.self.view_is) (performs g.S.Store.held g.S.Store.honest g.S.TellsFull.full g.S.Store.failed _ c.settle.new.self c.in-Some.device c.clear_sector-answer.new.self was
+    rw (← c.self.view_is) (performs g.S.Store.held g.S.Store.honest g.S.Store.failed g.S.TellsFull.full _ c.settle.new.self c.in-Some.device c.clear_sector-answer.new.self was
     (long_before _ _ _ _ _ sized (c.self.invariant.counted _ was) c.sector_count-count.ensures.whole) fault.NoSpace _ [] c.clear_sector-answer.result c.settle.result (inr (inr refl)) (inl refl) asked c.settle.ensures)
 
 pub returns-clause-asked : goal.returns-clause-asked
@@ -26,8 +26,9 @@ pub returns-clause-spares : goal.returns-clause-spares
 returns-clause-spares g c =
     let was = sym c.in-Some.ensures.value in
     let sized = c.self.invariant.sized _ was in
-    let spares = subst (λ k. SparesZeros (at g.S.Store.held g.S.Store.honest) (going g.S.Store.held g.S.Store.honest) (reads_of g.S.Store.held g.S.Store.honest) (c.args.sector * k) k c.in-Some.device c.clear_sector-answer.new.self) sized c.clear_sector-answer.ensures.spares in
-    rw (← c.self.view_is) (spared g.S.Store.held g.S.Store.honest g.S.TellsFull.full g.S.Store.failed _ c.settle.new.self c.in-Some.device c.clear_sector-answer.new.self was
+    let spares = subst (λ k. SparesZeros (at g.S.Store.held g.S.Store.honest g.S.Store.failed) (going g.S.Store.held g.S.Store.honest g.S.Store.failed) (reads_of g.S.Store.held g.S.Store.honest g.S.Store.failed)
+    (c.args.sector * k) k c.in-Some.device c.clear_sector-answer.new.self) sized c.clear_sector-answer.ensures.spares in
+    rw (← c.self.view_is) (spared g.S.Store.held g.S.Store.honest g.S.Store.failed g.S.TellsFull.full _ c.settle.new.self c.in-Some.device c.clear_sector-answer.new.self was
     (long_before _ _ _ _ _ sized (c.self.invariant.counted _ was) c.sector_count-count.ensures.whole) fault.NoSpace _ _ c.clear_sector-answer.result c.settle.result spares c.settle.ensures)
 
 pub returns-clause-size : goal.returns-clause-size

@@ -7,7 +7,7 @@ use Rattle.disk_server.proofs.reopened.ReopenedDeviceSectors.flush.Goals as goal
 pub returns-clause-performs : goal.returns-clause-performs
 returns-clause-performs g c =
     let was = sym c.in-Some.ensures.value in
-    rw (← c.self.view_is) (performs g.S.Store.held g.S.Store.honest g.S.TellsFull.full g.S.Store.failed _ c.settle.new.self c.in-Some.device c.flush-answer.new.self was
+    rw (← c.self.view_is) (performs g.S.Store.held g.S.Store.honest g.S.Store.failed g.S.TellsFull.full _ c.settle.new.self c.in-Some.device c.flush-answer.new.self was
     (long_before _ _ _ _ _ (c.self.invariant.sized _ was) (c.self.invariant.counted _ was) c.sector_count-count.ensures.whole) fault.Failed Flush [] c.flush-answer.result c.settle.result refl refl c.flush-answer.ensures.performs c.settle.ensures)
 
 pub returns-clause-flushes : goal.returns-clause-flushes

@@ -13,10 +13,10 @@ pub returns-clause-performs : goal.returns-clause-performs
 returns-clause-performs g c =
     let was = sym c.in-Some.ensures.value in
     let asked = subst
-    (λ k. PerformsTask (at g.S.Store.held g.S.Store.honest) (going g.S.Store.held g.S.Store.honest) (λ x. false) (Read (c.args.sector * k) k) []
+    (λ k. PerformsTask (at g.S.Store.held g.S.Store.honest g.S.Store.failed) (going g.S.Store.held g.S.Store.honest g.S.Store.failed) (λ x. false) (Read (c.args.sector * k) k) []
     c.in-Some.device (answer_from c.read_sector-answer.result c.read_sector-answer.new.buffer) c.read_sector-answer.new.self)
     (c.self.invariant.sized _ was) c.read_sector-answer.ensures.performs in
-    rw (← c.self.view_is) (goes_on g.S.Store.held g.S.Store.honest _ _ c.in-Some.device c.read_sector-answer.new.self was (record { device_is = refl; terms_are = refl; reopened_is = refl; next_is = refl }) _ [] _ asked)
+    rw (← c.self.view_is) (goes_on g.S.Store.held g.S.Store.honest g.S.Store.failed _ _ c.in-Some.device c.read_sector-answer.new.self was (record { device_is = refl; terms_are = refl; reopened_is = refl; next_is = refl }) _ [] _ asked)
 
 pub returns-clause-reads : goal.returns-clause-reads
 returns-clause-reads g c =
@@ -27,7 +27,7 @@ pub returns-clause-given : goal.returns-clause-given
 returns-clause-given g c =
     let was = sym c.in-Some.ensures.value in
     let asked = subst
-    (λ k. PerformsTask (at g.S.Store.held g.S.Store.honest) (going g.S.Store.held g.S.Store.honest) (λ x. false) (Read (c.args.sector * k) k) []
+    (λ k. PerformsTask (at g.S.Store.held g.S.Store.honest g.S.Store.failed) (going g.S.Store.held g.S.Store.honest g.S.Store.failed) (λ x. false) (Read (c.args.sector * k) k) []
     c.in-Some.device (answer_from c.read_sector-answer.result c.read_sector-answer.new.buffer) c.read_sector-answer.new.self)
     (c.self.invariant.sized _ was) c.read_sector-answer.ensures.performs in
-    rw (← c.self.view_is) (given_of g.S.Store.held g.S.Store.honest c.args.sector _ _ _ c.in-Some.device c.read_sector-answer.new.self _ was refl asked)
+    rw (← c.self.view_is) (given_of g.S.Store.held g.S.Store.honest g.S.Store.failed c.args.sector _ _ _ c.in-Some.device c.read_sector-answer.new.self _ was refl asked)

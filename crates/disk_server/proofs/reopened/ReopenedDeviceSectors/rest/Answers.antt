@@ -5,7 +5,7 @@ use Rattle.disk_server.proofs.reopened.ReopenedDeviceSectors.rest.Goals as goal
 pub returns-clause-idles : goal.returns-clause-idles
 returns-clause-idles g c =
     let was = sym c.in-Some.ensures.value in
-    rw (← c.self.view_is) (idles g.S.Store.held g.S.Store.honest g.S.TellsFull.full g.S.Store.failed _ c.settle.new.self c.in-Some.device c.rest-answer.new.self was
+    rw (← c.self.view_is) (idles g.S.Store.held g.S.Store.honest g.S.Store.failed g.S.TellsFull.full _ c.settle.new.self c.in-Some.device c.rest-answer.new.self was
     (long_before _ _ _ _ _ (c.self.invariant.sized _ was) (c.self.invariant.counted _ was) c.sector_count-count.ensures.whole) c.rest-answer.result c.settle.result c.rest-answer.ensures.idles c.settle.ensures)
 
 pub returns-clause-rests : goal.returns-clause-rests

@@ -11,9 +11,9 @@ pub returns-clause-performs : goal.returns-clause-performs
 returns-clause-performs g c =
     let was = sym c.in-Some.ensures.value in
     let sized = c.self.invariant.sized _ was in
-    let asked = subst (λ k. PerformsTask (at g.S.Store.held g.S.Store.honest) (going g.S.Store.held g.S.Store.honest) (λ x. false) (Trim (c.args.sector * k) k false) [] c.in-Some.device (answer_from c.trim_sector-answer.result []) c.trim_sector-answer.new.self)
+    let asked = subst (λ k. PerformsTask (at g.S.Store.held g.S.Store.honest g.S.Store.failed) (going g.S.Store.held g.S.Store.honest g.S.Store.failed) (λ x. false) (Trim (c.args.sector * k) k false) [] c.in-Some.device (answer_from c.trim_sector-answer.result []) c.trim_sector-answer.new.self)
     sized c.trim_sector-answer.ensures.performs in
-    rw (← c.self.view_is) (performs g.S.Store.held g.S.Store.honest g.S.TellsFull.full g.S.Store.failed _ c.settle.new.self c.in-Some.device c.trim_sector-answer.new.self was
+    rw (← c.self.view_is) (performs g.S.Store.held g.S.Store.honest g.S.Store.failed g.S.TellsFull.full _ c.settle.new.self c.in-Some.device c.trim_sector-answer.new.self was
     (long_before _ _ _ _ _ sized (c.self.invariant.counted _ was) c.sector_count-count.ensures.whole) fault.NoSpace _ [] c.trim_sector-answer.result c.settle.result (inr (inr refl)) (inl refl) asked c.settle.ensures)
 
 pub returns-clause-asked : goal.returns-clause-asked
