@@ -164,7 +164,7 @@ def hold_stops():
     changing = four_hundred(device)
     found = [device.die.changes - before, changing]
     text = (TESTS / "stops.rt").read_text()
-    wanted = [numbers(its) for its in re.findall(r"const SHORT: .*?stops: (.*?changing: \d+)", text, re.S)]
+    wanted = [numbers(its) for its in re.findall(r"const SCRIPT_TRIED: .*?stops: (.*?changing: \d+)", text, re.S)]
     assert wanted == [found], (wanted, found)
     print(f"{found[0]} programs and erases of the four hundred calls, {found[1]} of which change a sector")
 

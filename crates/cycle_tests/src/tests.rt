@@ -28,6 +28,11 @@ fn small(rt: &impl Abort) -> Geometry
     Geometry::new(64, 32, 8, 32, 32).expect(rt, "a geometry within the limits")
 }
 
+// Holds what a row says. Each caller's proof is the cheaper for it.
+fn hold(rt: &impl Abort, holds: bool, row: &str) {
+    assert!(rt; holds, "{row}");
+}
+
 fn new_die(rt: &impl Abort, alloc: Global, geometry: Geometry, marks: &[Mark]) -> Die
     ensures { result.state.flash.geometry ≡ geometry }
 {

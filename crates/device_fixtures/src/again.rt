@@ -1,12 +1,14 @@
 //! What a die says once it is mounted anew.
 ghost use Rattle.std.specs.Prelude.{◌≡◌};
+ghost use Rattle.certificate.specs.Claim.{sizes_of};
 ghost use Rattle.ftl_device.specs.Device.{IsDevice};
 
-use crate::bench::{checked, mounted, start_on};
+use crate::bench::{checked, handed_on, mounted, start_on};
 use crate::calls::{Call, hold_calls};
 use crate::hold::hold_same;
 use certificate::{BlockState, Certificate};
 use ftl_device::Device;
+use image_check::Accepted;
 use onfi_cycles::Nand;
 use page_layout::geometry::Geometry;
 use std::alloc::Global;
@@ -33,7 +35,7 @@ pub struct Mounted {
 // A block of a certificate.
 fn block_of(certificate: &Certificate, block: u32) -> Result<State, Fail> {
     if block >= certificate.geometry().blocks() {
-        return Err("no such block")?;
+        return Err(Fail::new("no such block"));
     }
     let BlockState {
         class,
@@ -50,6 +52,23 @@ fn hold_certificate(certificate: &Certificate, name: &str, its: &Mounted) -> Res
     for state in its.states {
         hold_same(name, "a block", &block_of(certificate, state.0)?, state)?;
     }
+    Ok(())
+}
+
+// What was accepted has so many stale entries, and a device on it answers the calls.
+fn hold_accepted<N: Nand + Drop>(
+    alloc: Global,
+    nand: N,
+    accepted: Accepted<'_>,
+    name: &str,
+    its: &Mounted,
+) -> Result<(), Fail>
+    requires { sizes_of (N.view.flash nand).geometry ≡ accepted.claim.sizes }
+{
+    hold_same(name, "stale", &accepted.stale().len(), &its.stale)?;
+    let mut device = start_on(alloc, nand, accepted)?;
+    let came = hold_calls(&mut device, name, its.calls, Ok(()));
+    handed_on(device, came)?;
     Ok(())
 }
 
@@ -70,7 +89,5 @@ pub fn hold_mounted<N: Nand + Drop>(
     let certificate = mounted(alloc, &mut nand, geometry, its.capacity)?;
     hold_certificate(&certificate, name, its)?;
     let accepted = checked(alloc, &mut nand, geometry, its.capacity, &certificate)?;
-    hold_same(name, "stale", &accepted.stale().len(), &its.stale)?;
-    let mut device = start_on(alloc, nand, accepted)?;
-    hold_calls(&mut device, name, its.calls, Ok(()))
+    hold_accepted(alloc, nand, accepted, name, its)
 }

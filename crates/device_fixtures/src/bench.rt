@@ -55,8 +55,9 @@ fn new_die(
 ) -> Result<Die, Fail>
     ensures { IfOk result (λ die. die.state.flash.geometry ≡ geometry) }
 {
+    let faults = faults_after_format(alloc, &geometry, failing, page_left)?;
     let mut die = Die::new(alloc, geometry, marks)?;
-    die.set_faults(faults_after_format(alloc, &geometry, failing, page_left)?)?;
+    die.set_faults(faults)?;
     Ok(die)
 }
 
@@ -71,7 +72,7 @@ pub fn driver_on<B: Bus + Drop>(bus: B, geometry: Geometry) -> Result<Driver<B>,
 {
     match Driver::new(bus, geometry) {
         Ok(driver) => Ok(driver),
-        Err(_) => Err("no reset")?,
+        Err(_) => Err(Fail::new("no reset")),
     }
 }
 
@@ -92,12 +93,18 @@ pub fn unwired(driver: Driver<Recorder>) -> (Die, Vec<Cycle>) {
     (die, seen)
 }
 
-// Formats a die. How many blocks are good.
-fn format_die<N: Nand>(alloc: Global, nand: &mut N, geometry: &Geometry) -> Result<u32, Fail>
-    requires { (N.view.flash nand.old).geometry ≡ geometry.now }
-    ensures { (N.view.flash nand.new).geometry ≡ geometry.now }
+// The die behind this bus, formatted, and how many blocks are good.
+fn formatted_on<B: Bus + Drop>(
+    alloc: Global,
+    bus: B,
+    geometry: Geometry,
+) -> Result<(Driver<B>, u32), Fail>
+    requires { B.honest bus ≡ true → (B.die bus).flash.geometry ≡ geometry }
+    ensures { IfOk result (λ made. made.0.geometry ≡ geometry) }
 {
-    Ok(format(alloc, nand, geometry)?)
+    let mut driver = driver_on(bus, geometry)?;
+    let good = format(alloc, &mut driver, &geometry)?;
+    Ok((driver, good))
 }
 
 /// A formatted die, of which these programs and erases after the format fail.
@@ -114,8 +121,7 @@ pub fn formatted(
     ensures { IfOk result (λ driver. driver.geometry ≡ geometry) }
 {
     let die = new_die(alloc, geometry, &[], failing, page_left)?;
-    let mut driver = wired(alloc, die, geometry)?;
-    format_die(alloc, &mut driver, &geometry)?;
+    let (driver, _) = formatted_on(alloc, Recorder::new(alloc, die), geometry)?;
     Ok(driver)
 }
 
@@ -151,9 +157,7 @@ pub fn marked_die(
     ensures { IfOk result (λ made. made.0.geometry ≡ geometry) }
 {
     let die = new_die(alloc, geometry, marks, failing, page_left)?;
-    let mut driver = driver_on(die, geometry)?;
-    let good = format_die(alloc, &mut driver, &geometry)?;
-    Ok((driver, good))
+    formatted_on(alloc, die, geometry)
 }
 
 /// The certificate that a mount gives.
@@ -171,9 +175,31 @@ pub fn mounted<S: PageSource>(
     ensures { (S.view.flash source.new).geometry ≡ geometry.now }
 {
     if !geometry.is_capacity(capacity) {
-        return Err("no capacity")?;
+        return Err(Fail::new("no capacity"));
     }
     Ok(mount(alloc, source, geometry, capacity)?)
+}
+
+/// The same, but for the bytes of the next sequence, where others are given.
+///
+/// # Errors
+///
+/// Those of `mounted` and `with_bytes`.
+pub fn mounted_with<S: PageSource>(
+    alloc: Global,
+    source: &mut S,
+    geometry: &Geometry,
+    capacity: u32,
+    next: Option<[u8; 8]>,
+) -> Result<Certificate, Fail>
+    requires { (S.view.flash source.old).geometry ≡ geometry.now }
+    ensures { (S.view.flash source.new).geometry ≡ geometry.now }
+{
+    let certificate = mounted(alloc, source, geometry, capacity)?;
+    match next {
+        Some(next) => with_bytes(alloc, &certificate, 32, &next),
+        None => Ok(certificate),
+    }
 }
 
 /// The certificate, accepted.
@@ -213,7 +239,7 @@ pub fn start_on<N: Nand + Drop>(
         Err(StartFault::OutOfMemory { nand, accepted }) => {
             match Device::start(alloc, nand, accepted) {
                 Ok(device) => Ok(device),
-                Err(_) => Err("no memory")?,
+                Err(_) => Err(Fail::new("no memory")),
             }
         }
     }
@@ -238,6 +264,18 @@ pub fn started<N: Nand + Drop>(
     start_on(alloc, nand, accepted)
 }
 
+/// The device with a cache of so many on a formatted die where nothing fails.
+///
+/// # Errors
+///
+/// Those of `formatted_die` and `started`.
+pub fn fresh(alloc: Global, geometry: Geometry, capacity: u32) -> Result<Device<Driver<Die>>, Fail>
+    ensures { IfOk result (IsDevice (flash_by (λ die. die.state))) }
+{
+    let driver = formatted_die(alloc, geometry, &[], 0)?;
+    started(alloc, driver, &geometry, capacity)
+}
+
 /// The bytes of a certificate.
 ///
 /// # Errors
@@ -250,7 +288,7 @@ pub fn bytes_of(alloc: Global, certificate: &Certificate) -> Result<Vec<u8>, Fai
 // Puts bytes in the place of those from here on.
 fn put(bytes: &mut [u8], at: usize, new: &[u8]) -> Result<(), Fail> {
     if at >= bytes.len() || new.len() > bytes.len() - at {
-        return Err("bytes past the end")?;
+        return Err(Fail::new("bytes past the end"));
     }
     bytes[at..at + new.len()].copy_from_slice(new);
     Ok(())
@@ -298,12 +336,26 @@ pub fn renewed(
     wired(alloc, die, *geometry)
 }
 
+// The device on the die behind a new driver.
+fn start_renewed(
+    alloc: Global,
+    driver: Driver<Recorder>,
+    geometry: &Geometry,
+    accepted: Accepted<'_>,
+) -> Result<Device<Driver<Recorder>>, Fail>
+    requires { sizes_of geometry.now ≡ accepted.claim.sizes }
+    ensures { IfOk result (IsDevice (flash_by (λ bus. bus.die.state))) }
+{
+    let driver = renewed(alloc, driver, geometry)?;
+    start_on(alloc, driver, accepted)
+}
+
 /// The device as `started` gives it, with its cycles noted from the start on. The bytes of the next
 /// sequence may be others than the mount says.
 ///
 /// # Errors
 ///
-/// Those of `started`, `with_bytes` and `renewed`.
+/// Those of `started`, `mounted_with` and `renewed`.
 pub fn recorded(
     alloc: Global,
     mut driver: Driver<Recorder>,
@@ -314,12 +366,9 @@ pub fn recorded(
     requires { driver.geometry ≡ geometry.now }
     ensures { IfOk result (IsDevice (flash_by (λ bus. bus.die.state))) }
 {
-    let mut certificate = mounted(alloc, &mut driver, geometry, capacity)?;
-    if let Some(next) = next {
-        certificate = with_bytes(alloc, &certificate, 32, &next)?;
-    }
+    let certificate = mounted_with(alloc, &mut driver, geometry, capacity, next)?;
     let accepted = checked(alloc, &mut driver, geometry, capacity, &certificate)?;
-    start_on(alloc, renewed(alloc, driver, geometry)?, accepted)
+    start_renewed(alloc, driver, geometry, accepted)
 }
 
 /// The die, given up by its device, and its geometry.
@@ -329,6 +378,23 @@ pub fn given_up<N: Nand>(device: Device<N>) -> (N, Geometry)
 {
     let geometry = device.engine.geometry;
     (device.into_nand(), geometry)
+}
+
+/// The same, once it is known what came of the device: the device goes first, and then its error is given on.
+///
+/// # Errors
+///
+/// The one that came.
+pub fn handed_on<N: Nand + Drop>(
+    device: Device<N>,
+    came: Result<(), Fail>,
+) -> Result<(N, Geometry), Fail>
+    requires { IsDevice N.view.flash device }
+    ensures { IfOk result (λ pair. (N.view.flash pair.0).geometry ≡ pair.1) }
+{
+    let pair = given_up(device);
+    came?;
+    Ok(pair)
 }
 
 /// The die after these calls of a device with a cache of four, and its geometry.
@@ -346,6 +412,6 @@ pub fn after_calls<N: Nand + Drop>(
     ensures { IfOk result (λ pair. (N.view.flash pair.0).geometry ≡ pair.1) }
 {
     let mut device = started(alloc, nand, geometry, 4)?;
-    hold_calls(&mut device, "before", calls, Ok(()))?;
-    Ok(given_up(device))
+    let came = hold_calls(&mut device, "before", calls, Ok(()));
+    handed_on(device, came)
 }

@@ -70,7 +70,7 @@ fn write_body<N: Nand>(device: &mut Device<N>, sector: u32, body: &[u8]) -> Resu
     ensures { IsDevice N.view.flash device.new }
 {
     if device.engine.geometry.data_bytes() != body.len() {
-        return Err("a body of another length")?;
+        return Err(Fail::new("a body of another length"));
     }
     Ok(device.write(sector, body))
 }
@@ -81,7 +81,7 @@ fn read_into<N: Nand>(device: &mut Device<N>, sector: u32, out: &mut [u8]) -> Re
     ensures { IsDevice N.view.flash device.new }
 {
     if device.engine.geometry.data_bytes() != out.len() {
-        return Err("a sector of another length")?;
+        return Err(Fail::new("a sector of another length"));
     }
     Ok(device.read(sector, out))
 }
@@ -186,8 +186,12 @@ pub fn hold_call<N: Nand>(
     hold_answer(name, call, found, answer)
 }
 
-// A call had this answer.
-fn hold_answer(name: &str, call: Call, found: Answer, answer: Answer) -> Result<(), Fail> {
+/// A call had this answer.
+///
+/// # Errors
+///
+/// It had another.
+pub fn hold_answer(name: &str, call: Call, found: Answer, answer: Answer) -> Result<(), Fail> {
     if found == answer {
         return Ok(());
     }

@@ -3,10 +3,10 @@ ghost use Rattle.onfi_cycles.specs.Driver.{flash_by};
 ghost use Rattle.collection.specs.Safe.{IsSafe, ram};
 ghost use Rattle.collection.specs.Left.{IsCalm};
 ghost use Rattle.ftl_device.specs.Device.{IsDevice};
-ghost use Rattle.std.specs.Prelude.{◌≡◌, None, IfOk};
+ghost use Rattle.std.specs.Prelude.{◌≡◌, None, IfOk, OnOk};
 
 use crate::again::{Mounted, hold_mounted};
-use crate::bench::{formatted, given_up, recorded, small, started, unwired, wired};
+use crate::bench::{formatted, handed_on, recorded, small, started, unwired, wired};
 use crate::calls::{Call, hold_call, hold_calls};
 use crate::hold::hold_same;
 use crate::pages::{PageAt, hold_pages, hold_spare};
@@ -16,6 +16,7 @@ use bad_blocks::Class;
 use collection::Engine;
 use ftl_device::{Device, DeviceFault};
 use mapping_cache::Mapping;
+use nand_die::Die;
 use onfi_cycles::{Driver, Nand};
 use page_layout::geometry::Geometry;
 use page_layout::source::PageSource;
@@ -189,7 +190,7 @@ fn hold_steps<N: Nand>(device: &mut Device<N>, name: &str, steps: &[Step]) -> Re
 // A block is good, and was erased so often.
 fn row_of(blocks: &Blocks, block: u32) -> Result<(bool, u32), Fail> {
     if block >= blocks.geometry().blocks() {
-        return Err("no such block")?;
+        return Err(Fail::new("no such block"));
     }
     let table = blocks.table();
     Ok((table.class(block) == Class::Good, table.wear(block)))
@@ -252,35 +253,41 @@ fn hold_order(mapping: &mut Mapping, name: &str, order: &[Cached]) -> Result<(),
     Ok(())
 }
 
+// Collects a closed block, where no other is being collected.
+fn collect<N: Nand>(engine: &mut Engine<N>, block: u32, flushing: bool) -> Result<(), Fail>
+    requires safe { IsSafe N.view.flash engine.old }
+    requires calm { engine.old.fault ≡ None → IsCalm (ram engine.old) }
+    ensures safe { IsSafe N.view.flash engine.new }
+    ensures calm { OnOk result (engine.new.fault ≡ None → IsCalm (ram engine.new)) }
+{
+    if block >= engine.geometry.blocks() || !engine.closed(block) || !engine.pinned.is_none() {
+        return Err(Fail::new("a block that isn't to be collected"));
+    }
+    engine.collect(block, flushing)?;
+    Ok(())
+}
+
 // Collects blocks.
 fn collect_all<N: Nand>(engine: &mut Engine<N>, blocks: &[(u32, bool)]) -> Result<(), Fail>
     requires safe { IsSafe N.view.flash engine.old }
     requires calm { engine.old.fault ≡ None → IsCalm (ram engine.old) }
 {
-    for its in blocks {
-        let (block, flushing) = *its;
-        if block >= engine.geometry.blocks() || !engine.closed(block) {
-            return Err("a block that isn't to be collected")?;
-        }
-        if !engine.pinned.is_none() {
-            return Err("another block is being collected")?;
-        }
-        engine.collect(block, flushing)?;
+    for (block, flushing) in blocks {
+        collect(engine, *block, *flushing)?;
     }
     Ok(())
 }
 
-// The device's memory is what the case says, after what is collected then. The die is given up.
-fn hold_memory<N: Nand + Drop>(device: Device<N>, case: &Case) -> Result<N, Fail>
-    requires { IsDevice N.view.flash device }
+// An engine's memory is what the case says, after what is collected then, and so is whether its device was read-only.
+fn hold_engine<N: Nand>(engine: &mut Engine<N>, read_only: bool, case: &Case) -> Result<(), Fail>
+    requires safe { IsSafe N.view.flash engine.old }
+    requires calm { engine.old.fault ≡ None → IsCalm (ram engine.old) }
 {
-    hold_same(case.name, "read only", &device.read_only(), &case.read_only)?;
-    let mut engine = device.into_engine();
-    collect_all(&mut engine, case.collects)?;
+    hold_same(case.name, "read only", &read_only, &case.read_only)?;
+    collect_all(engine, case.collects)?;
     hold_blocks(&engine.blocks, case)?;
     hold_cached(&engine.mapping, case.name, case.cached)?;
-    hold_order(&mut engine.mapping, case.name, case.order)?;
-    Ok(engine.into_nand())
+    hold_order(&mut engine.mapping, case.name, case.order)
 }
 
 // The die was asked for what the case tells of it, and for no more.
@@ -312,19 +319,36 @@ fn hold_all_pages<S: PageSource>(
     hold_spare(source, geometry, case.name, case.spare)
 }
 
+// A die has the pages of the case, and says what it is to say once it is mounted anew.
+fn hold_left<N: Nand + Drop>(
+    alloc: Global,
+    mut nand: N,
+    geometry: &Geometry,
+    case: &Case,
+) -> Result<(), Fail>
+    requires { (N.view.flash nand).geometry ≡ geometry.now }
+{
+    hold_all_pages(&mut nand, geometry, case)?;
+    match case.mounted {
+        Some(its) => hold_mounted(alloc, nand, geometry, case.name, its),
+        None => Ok(()),
+    }
+}
+
+// The same of a die in memory.
+fn hold_wired(alloc: Global, die: Die, case: &Case) -> Result<(), Fail> {
+    let geometry = small()?;
+    let driver = wired(alloc, die, geometry)?;
+    hold_left(alloc, driver, &geometry, case)
+}
+
 // The device did the operations of the case and no others, and none of them was illegal. Its die has the
 // pages of the case.
 fn hold_die(alloc: Global, driver: Driver<Recorder>, case: &Case) -> Result<(), Fail> {
     let (die, seen) = unwired(driver);
     hold_same(case.name, "abuse", &die.abuse(), &0)?;
     hold_asked(alloc, &seen, case)?;
-    let geometry = small()?;
-    let mut driver = wired(alloc, die, geometry)?;
-    hold_all_pages(&mut driver, &geometry, case)?;
-    match case.mounted {
-        Some(its) => hold_mounted(alloc, driver, &geometry, case.name, its),
-        None => Ok(()),
-    }
+    hold_wired(alloc, die, case)
 }
 
 // The die after what the earlier device of a case was told, and its geometry.
@@ -338,8 +362,8 @@ fn after_steps<N: Nand + Drop>(
     ensures { IfOk result (λ pair. (N.view.flash pair.0).geometry ≡ pair.1) }
 {
     let mut device = started(alloc, nand, geometry, case.before_capacity)?;
-    hold_steps(&mut device, case.name, case.before)?;
-    Ok(given_up(device))
+    let came = hold_steps(&mut device, case.name, case.before);
+    handed_on(device, came)
 }
 
 // The device of a case.
@@ -352,11 +376,28 @@ fn device_of(alloc: Global, case: &Case) -> Result<Device<Driver<Recorder>>, Fai
     recorded(alloc, driver, &geometry, case.capacity, case.next)
 }
 
+// A device makes the steps of a case, and is what the case says then.
+fn hold_made<N: Nand>(device: &mut Device<N>, case: &Case) -> Result<(), Fail>
+    requires { IsDevice N.view.flash device.old }
+{
+    hold_steps(device, case.name, case.steps)?;
+    let read_only = device.read_only();
+    hold_engine(&mut device.engine, read_only, case)
+}
+
+// The same, and the die is given up.
+fn hold_device<N: Nand + Drop>(mut device: Device<N>, case: &Case) -> Result<N, Fail>
+    requires { IsDevice N.view.flash device }
+{
+    let held = hold_made(&mut device, case);
+    let nand = device.into_nand();
+    held?;
+    Ok(nand)
+}
+
 // Runs a case, and holds the device and its die to it.
 fn hold_case(alloc: Global, case: &Case) -> Result<(), Fail> {
-    let mut device = device_of(alloc, case)?;
-    hold_steps(&mut device, case.name, case.steps)?;
-    let driver = hold_memory(device, case)?;
+    let driver = hold_device(device_of(alloc, case)?, case)?;
     hold_die(alloc, driver, case)
 }
 

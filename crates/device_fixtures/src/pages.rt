@@ -139,33 +139,59 @@ fn page_in(pages: &[PageAt], row: u32) -> Page {
     }
 }
 
-// Reads a page.
+// What was read of a row: the record, if the page is sound, and the areas.
+#[derive(Clone, Copy)]
+struct Found {
+    record: Option<Record>,
+    body: [u8; 64],
+    spare: [u8; 32],
+}
+
+// Reads the areas of a page, and its record.
 fn read_areas<S: PageSource>(
     source: &mut S,
     geometry: &Geometry,
     row: u32,
     body: &mut [u8],
     spare: &mut [u8],
-) -> Result<(), Fail>
+) -> Result<Option<Record>, Fail>
     requires { (S.view.flash source.old).geometry ≡ geometry.now }
     ensures { (S.view.flash source.new).geometry ≡ geometry.now }
 {
-    if geometry.data_bytes() != body.len() || geometry.spare_bytes() != spare.len() {
-        return Err("pages of another size")?;
-    }
-    if !geometry.has_row(row) {
-        return Err("no such row")?;
+    if geometry.data_bytes() != body.len()
+        || geometry.spare_bytes() != spare.len()
+        || !geometry.has_row(row)
+    {
+        return Err(Fail::new("pages of another size, or no such row"));
     }
     source.read_page(row, body, spare)?;
-    Ok(())
+    Ok(read_record(geometry, body, spare))
 }
 
-// The record of a page.
-fn record_of(geometry: &Geometry, body: &[u8], spare: &[u8]) -> Result<Option<Record>, Fail> {
-    if geometry.data_bytes() != body.len() || geometry.spare_bytes() != spare.len() {
-        return Err("pages of another size")?;
+// Reads a page.
+fn read_row<S: PageSource>(source: &mut S, geometry: &Geometry, row: u32) -> Result<Found, Fail>
+    requires { (S.view.flash source.old).geometry ≡ geometry.now }
+    ensures { (S.view.flash source.new).geometry ≡ geometry.now }
+{
+    let mut body = [0; 64];
+    let mut spare = [0; 32];
+    let record = read_areas(source, geometry, row, &mut body, &mut spare)?;
+    Ok(Found {
+        record,
+        body,
+        spare,
+    })
+}
+
+// What was read of a row is this page.
+fn hold_page(name: &str, row: u32, found: &Found, page: &Page) -> Result<(), Fail> {
+    let held = (row, found.record, found.body);
+    hold_same(name, "a page", &held, &(row, page.record, page.body))?;
+    if page.record.is_some() {
+        return Ok(());
     }
-    Ok(read_record(geometry, body, spare))
+    let wanted = [page.body[0]; 32];
+    hold_same(name, "a spare area", &(row, found.spare), &(row, wanted))
 }
 
 // A row has the page of the list, or is as an erase leaves it.
@@ -179,26 +205,8 @@ fn hold_row<S: PageSource>(
     requires { (S.view.flash source.old).geometry ≡ geometry.now }
     ensures { (S.view.flash source.new).geometry ≡ geometry.now }
 {
-    let mut body = [0; 64];
-    let mut spare = [0; 32];
-    read_areas(source, geometry, row, &mut body, &mut spare)?;
-    let record = record_of(geometry, &body, &spare)?;
-    let page = page_in(pages, row);
-    hold_same(
-        name,
-        "a page",
-        &(row, record, body),
-        &(row, page.record, page.body),
-    )?;
-    if page.record.is_none() {
-        hold_same(
-            name,
-            "a spare area",
-            &(row, spare),
-            &(row, [page.body[0]; 32]),
-        )?;
-    }
-    Ok(())
+    let found = read_row(source, geometry, row)?;
+    hold_page(name, row, &found, &page_in(pages, row))
 }
 
 /// After the two pages of its format the die has these pages and no others.
@@ -240,10 +248,8 @@ pub fn hold_spare<S: PageSource>(
     requires { (S.view.flash source.old).geometry ≡ geometry.now }
     ensures { (S.view.flash source.new).geometry ≡ geometry.now }
 {
-    let mut body = [0; 64];
-    let mut spare = [0; 32];
-    read_areas(source, geometry, 8, &mut body, &mut spare)?;
-    let begins = begins_with(&spare, first);
+    let found = read_row(source, geometry, 8)?;
+    let begins = begins_with(&found.spare, first);
     hold_same(
         name,
         "the spare area of row 8 is the wanted one",

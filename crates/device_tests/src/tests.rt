@@ -9,4 +9,5 @@ mod migrate;
 mod restarts;
 mod rows;
 mod server;
+mod serving;
 mod turn_rows;

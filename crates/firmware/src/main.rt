@@ -11,12 +11,12 @@ mod power;
 mod request;
 
 use board::Board;
-use corrected_nand::ReadErrors;
+use corrected_nand::{ChipDriver, Corrected, ReadErrors};
 use failure::Failure;
 use ftl_device::Device;
 use mount::format;
 use nand_die::Die;
-use noisy::{noisy_board, reset_chip};
+use noisy::{NoisyBoard, noisy_board, reset_chip};
 use onfi_cycles::Nand;
 use page_layout::geometry::Geometry;
 use power::{reset, start, stop};
@@ -25,7 +25,7 @@ use request::{Request, answer};
 use std::alloc::Global;
 
 // What the host asks for until the power goes the first time. No flush is the last.
-const BEFORE: [Request; 9] = [
+static BEFORE: [Request; 9] = [
     Write(5, 0x33),
     Write(6, 0x44),
     Flush,
@@ -38,7 +38,7 @@ const BEFORE: [Request; 9] = [
 ];
 
 // What it asks for then.
-const AFTER: [Request; 4] = [Read(5), Read(6), Write(6, 0x66), Read(6)];
+static AFTER: [Request; 4] = [Read(5), Read(6), Write(6, 0x66), Read(6)];
 
 // Once in a die's life: it is made ready.
 fn prepare<N: Nand>(
@@ -109,17 +109,31 @@ fn tell(rt: &impl Print, errors: &ReadErrors) -> Result<(), Failure> {
     Ok(())
 }
 
-// The same on a chip whose reads have wrong bits, by a changed word: `reset_chip` in the place of `reset`.
+// A life on a chip whose reads have wrong bits, from the moment when it is ready. What is left is its board.
+fn live_noisy(
+    rt: &impl Print,
+    alloc: Global,
+    nand: Corrected<ChipDriver<NoisyBoard>>,
+    geometry: Geometry,
+    requests: &[Request],
+) -> Result<NoisyBoard, Failure>
+    requires { nand.nand.geometry ≡ geometry }
+{
+    let (nand, _) = live(rt, alloc, nand, geometry, requests)?;
+    tell(rt, nand.errors())?;
+    let (driver, _) = nand.into_parts();
+    Ok(driver.into_bus())
+}
+
+// Two lives on such a chip, by a changed word: `reset_chip` in the place of `reset`.
 fn live_on_noisy_board(rt: &impl Print, alloc: Global, geometry: Geometry) -> Result<(), Failure> {
     let board = noisy_board(alloc, &geometry)?;
     let mut nand = reset_chip(alloc, board, geometry)?;
     prepare(rt, alloc, &mut nand, &geometry)?;
-    let (nand, geometry) = live(rt, alloc, nand, geometry, &BEFORE)?;
-    tell(rt, nand.errors())?;
-    let (driver, _) = nand.into_parts();
-    let nand = reset_chip(alloc, driver.into_bus(), geometry)?;
-    let (nand, _) = live(rt, alloc, nand, geometry, &AFTER)?;
-    tell(rt, nand.errors())
+    let board = live_noisy(rt, alloc, nand, geometry, &BEFORE)?;
+    let nand = reset_chip(alloc, board, geometry)?;
+    live_noisy(rt, alloc, nand, geometry, &AFTER)?;
+    Ok(())
 }
 
 fn main(rt: HostRuntime) -> Result<(), Failure> {

@@ -1,6 +1,7 @@
 //! Certificates as bytes: the one spelling, each length, each fault.
 ghost use Rattle.page_layout.specs.Faults.{HasNumbers};
 
+use super::{hold, small};
 use certificate::{BlockState, CertFault, Certificate, read_certificate, write_certificate};
 use page_layout::geometry::Geometry;
 use std::alloc::{AllocError, Global};
@@ -34,7 +35,7 @@ fn formatted(alloc: Global, geometry: Geometry) -> Result<Certificate, AllocErro
 
 // The bytes of that certificate: its magic, the five numbers of the die, the capacity, the next sequence, the blocks, the
 // directory of translation and of table pages, the sectors.
-const SPELLED: [&[u8]; 14] = [
+static SPELLED: [&[u8]; 14] = [
     &[0x44, 0x46, 0x54, 0x4c, 0x43, 0x52, 0x54, 0x31],
     &[64, 0, 0, 0],
     &[32, 0, 0, 0],
@@ -53,7 +54,7 @@ const SPELLED: [&[u8]; 14] = [
 
 fn spelled(alloc: Global) -> Result<Vec<u8>, AllocError> {
     let mut bytes = Vec::new(alloc);
-    for part in SPELLED {
+    for part in &SPELLED {
         bytes.extend_from_slice(part)?;
     }
     Ok(bytes)
@@ -71,11 +72,11 @@ fn replaced(rt: &impl Abort, alloc: Global, edits: &[(usize, u8)]) -> Result<Vec
 
 #[test]
 fn a_formatted_die_is_spelled(rt: HostRuntime) -> Result<(), Fail> {
-    let geometry = Geometry::new(64, 32, 8, 32, 32)?;
-    let certificate = formatted(rt.alloc(), geometry)?;
+    let certificate = formatted(rt.alloc(), small(&rt))?;
     let bytes = write_certificate(rt.alloc(), &certificate)?;
-    assert!(rt; bytes == spelled(rt.alloc())?);
-    assert!(rt; bytes.len() == 472);
+    let wanted = spelled(rt.alloc())?;
+    hold(&rt, bytes == wanted, "its bytes");
+    hold(&rt, bytes.len() == 472, "its length");
     Ok(())
 }
 
@@ -99,7 +100,7 @@ struct Reading {
     said: &'static [Said],
 }
 
-const READINGS: [Reading; 2] = [
+static READINGS: [Reading; 2] = [
     Reading {
         name: "a formatted die",
         edits: &[],
@@ -183,24 +184,20 @@ fn says(certificate: &Certificate, said: Said) -> bool {
     }
 }
 
-fn is_of_the_die(certificate: &Certificate) -> Result<bool, Fail> {
-    let geometry = Geometry::new(64, 32, 8, 32, 32)?;
-    Ok(certificate.geometry() == geometry)
+fn hold_said(rt: &impl Abort, certificate: &Certificate, reading: &Reading) {
+    for (at, said) in reading.said.iter().enumerate() {
+        assert!(rt; says(certificate, *said), "{}: {at}", reading.name);
+    }
 }
 
 // What is read says all that, and is spelled as before.
 fn hold_reading(rt: &impl Abort, alloc: Global, reading: &Reading) -> Result<(), Fail> {
     let bytes = replaced(rt, alloc, reading.edits)?;
     let certificate = read_certificate(alloc, &bytes)?;
-    for (at, said) in reading.said.iter().enumerate() {
-        assert!(rt; says(&certificate, *said), "{}: {at}", reading.name);
-    }
-    assert!(rt; is_of_the_die(&certificate)?, "{}", reading.name);
-    assert!(rt;
-        write_certificate(alloc, &certificate)? == bytes,
-        "{}",
-        reading.name
-    );
+    hold_said(rt, &certificate, reading);
+    hold(rt, certificate.geometry() == small(rt), reading.name);
+    let spelled = write_certificate(alloc, &certificate)?;
+    hold(rt, spelled == bytes, reading.name);
     Ok(())
 }
 
@@ -220,22 +217,26 @@ fn fault_of(alloc: Global, bytes: &[u8], length: usize) -> Option<CertFault> {
     }
 }
 
+fn hold_length(rt: &impl Abort, alloc: Global, bytes: &[u8], length: usize, want: CertFault) {
+    let fault = fault_of(alloc, bytes, length);
+    assert!(rt; fault == Some(want), "at {length}");
+}
+
 #[test]
 fn each_length_but_one_is_refused(rt: HostRuntime) -> Result<(), Fail> {
     let mut bytes = spelled(rt.alloc())?;
     for length in 0..bytes.len() {
-        let fault = fault_of(rt.alloc(), &bytes, length);
-        assert!(rt; fault == Some(CertFault::Short), "at {length}");
+        hold_length(&rt, rt.alloc(), &bytes, length, CertFault::Short);
     }
     bytes.push(0)?;
-    assert!(rt; fault_of(rt.alloc(), &bytes, 473) == Some(CertFault::Long));
+    hold_length(&rt, rt.alloc(), &bytes, 473, CertFault::Long);
     Ok(())
 }
 
 // The spelling with some bytes replaced, so many of its bytes, and why they aren't read.
 type Fault = (&'static [(usize, u8)], usize, CertFault);
 
-const FAULTS: [Fault; 19] = [
+static FAULTS: [Fault; 19] = [
     (&[(7, 0x32)], 472, CertFault::Magic),
     (&[(0, 0)], 8, CertFault::Magic),
     // Sizes of data: no power of two, below 64, above 4096.

@@ -1,12 +1,10 @@
 //! The checker on images of small dies, whose pages are built one by one, in either version and mixed.
+use super::source_of;
 use certificate::{Certificate, read_certificate};
 use image_check::{Accepted, Refusal, check, check_stream};
 use page_layout::geometry::Geometry;
-use page_layout::source::ImageSlice;
 use std::alloc::Global;
 use std::process::Abort;
-use std::test::Fail;
-pub(super) use test_images::image_of;
 use test_images::{
     Claim, DAMAGED_TABLE, FORMATTED, LAYOUTS, Layout, META, Said, TABLE_0, TABLE_1, THREE_SECTORS,
     Written, certificate_bytes, laid_out, page,
@@ -82,7 +80,7 @@ const FREE_BUT_WORN: Said = (1, 0, 0, 0, 1);
 // The certificate of the formatted die, for a cache of 4 entries, and its pages.
 pub(super) const FORMATTED_CLAIM: Claim = FORMATTED;
 
-pub(super) const FORMATTED_PAGES: [Written; 2] = [TABLE_0, TABLE_1];
+pub(super) static FORMATTED_PAGES: [Written; 2] = [TABLE_0, TABLE_1];
 
 // The rows 0 and 8 share a sequence.
 const REPEATED: Refusal = Refusal::SequenceRepeated {
@@ -90,7 +88,7 @@ const REPEATED: Refusal = Refusal::SequenceRepeated {
     second: 8,
 };
 
-const CASES: [Case; 26] = [
+static CASES: [Case; 26] = [
     Case {
         name: "a formatted die",
         pages: &[TABLE_0, TABLE_1],
@@ -344,9 +342,9 @@ const CASES: [Case; 26] = [
     },
 ];
 
-pub(super) fn certificate_of(alloc: Global, claim: &Claim) -> Result<Certificate, Fail> {
-    let bytes = certificate_bytes(alloc, claim)?;
-    Ok(read_certificate(alloc, &bytes)?)
+pub(super) fn certificate_of(rt: &impl Abort, alloc: Global, claim: &Claim) -> Certificate {
+    let bytes = certificate_bytes(alloc, claim).expect(rt, "the bytes of a certificate");
+    read_certificate(alloc, &bytes).expect(rt, "a certificate")
 }
 
 fn hold_answer(rt: &impl Abort, case: &Case, form: &str, answer: Result<Accepted, Refusal>) {
@@ -357,36 +355,49 @@ fn hold_answer(rt: &impl Abort, case: &Case, form: &str, answer: Result<Accepted
     assert!(rt; is_wanted, "{}, {form}", case.name);
 }
 
-// The same image page by page and from a reader.
-fn hold_laid_out(rt: &impl Abort, alloc: Global, case: &Case, layout: Layout) -> Result<(), Fail> {
-    let geometry = Geometry::new(64, layout.spare_bytes, 8, 32, 32)?;
+// An image page by page, and the same from a reader.
+fn hold_image(
+    rt: &impl Abort,
+    alloc: Global,
+    case: &Case,
+    geometry: &Geometry,
+    bytes: &[u8],
+    certificate: &Certificate,
+) {
+    let mut source = source_of(rt, geometry, bytes);
+    let answer = check(alloc, &mut source, geometry, case.asked, certificate);
+    hold_answer(rt, case, "page by page", answer);
+    let mut reader = bytes;
+    let answer = check_stream(alloc, &mut reader, geometry, case.asked, certificate);
+    hold_answer(rt, case, "streamed", answer);
+}
+
+fn geometry_of(rt: &impl Abort, layout: Layout) -> Geometry {
+    Geometry::new(64, layout.spare_bytes, 8, 32, 32).expect(rt, "a geometry within the limits")
+}
+
+// A case in one layout.
+fn hold_laid_out(rt: &impl Abort, alloc: Global, case: &Case, layout: Layout) {
+    let geometry = geometry_of(rt, layout);
     let claim = Claim {
         spare_bytes: layout.spare_bytes,
         ..case.claim
     };
-    let certificate = certificate_of(alloc, &claim)?;
-    let bytes = laid_out(alloc, &geometry, layout, case.pages)?;
-    let mut source = ImageSlice::new(&geometry, &bytes)?;
-    let answer = check(alloc, &mut source, &geometry, case.asked, &certificate);
-    hold_answer(rt, case, "page by page", answer);
-    let mut reader = bytes.as_slice();
-    let answer = check_stream(alloc, &mut reader, &geometry, case.asked, &certificate);
-    hold_answer(rt, case, "streamed", answer);
-    Ok(())
+    let certificate = certificate_of(rt, alloc, &claim);
+    let bytes = laid_out(alloc, &geometry, layout, case.pages).expect(rt, "an image");
+    hold_image(rt, alloc, case, &geometry, &bytes, &certificate);
 }
 
 // A case in each layout.
-fn hold_case(rt: &impl Abort, alloc: Global, case: &Case) -> Result<(), Fail> {
+fn hold_case(rt: &impl Abort, alloc: Global, case: &Case) {
     for layout in &LAYOUTS {
-        hold_laid_out(rt, alloc, case, *layout)?;
+        hold_laid_out(rt, alloc, case, *layout);
     }
-    Ok(())
 }
 
 #[test]
-fn cases_are_answered(rt: HostRuntime) -> Result<(), Fail> {
+fn cases_are_answered(rt: HostRuntime) {
     for case in &CASES {
-        hold_case(&rt, rt.alloc(), case)?;
+        hold_case(&rt, rt.alloc(), case);
     }
-    Ok(())
 }

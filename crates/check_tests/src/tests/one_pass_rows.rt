@@ -1,17 +1,16 @@
 //! Bytes looked at in lanes, and images that are checked in one pass, from a source that counts its reads and from readers.
 ghost use Rattle.std.specs.Prelude.{◌≡◌};
 
-use super::images::{FORMATTED_CLAIM, FORMATTED_PAGES, certificate_of, image_of};
+use super::images::{FORMATTED_CLAIM, FORMATTED_PAGES, certificate_of};
+use super::{hold, image, small, source_of};
 use certificate::Certificate;
 use image_check::{Refusal, check, check_stream};
 use page_layout::geometry::Geometry;
 use page_layout::lanes::has_zero;
 use page_layout::record::is_erased;
-use page_layout::source::ImageSlice;
 use std::alloc::Global;
 use std::io::ErrorKind;
 use std::process::Abort;
-use std::test::Fail;
 use test_images::{FaultySource, Pieces, SourceTrouble};
 
 // The longest piece: four chunks and two bytes.
@@ -21,25 +20,30 @@ const LONGEST: usize = 130;
 fn hold_plain(rt: &impl Abort, length: usize) {
     let erased = [0xFF; LONGEST];
     if let Some(bytes) = erased.get(..length) {
-        assert!(rt; is_erased(bytes, &[]), "{length} erased bytes");
-        assert!(rt; is_erased(&[], bytes), "{length} erased spare bytes");
-        assert!(rt; !has_zero(bytes), "no zero in {length} bytes");
+        let are = (
+            is_erased(bytes, &[]),
+            is_erased(&[], bytes),
+            has_zero(bytes),
+        );
+        assert!(rt; are == (true, true, false), "{length} erased bytes");
     }
+}
+
+// Whether bytes of this length, FFh but for one at a place, are erased, and whether 00h is among them.
+fn looked_at(length: usize, at: usize, other: u8) -> Option<(bool, bool)> {
+    let mut bytes = [0xFF; LONGEST];
+    bytes[at % LONGEST] = other;
+    let bytes = bytes.get(..length)?;
+    Some((is_erased(bytes, &[]), has_zero(bytes)))
 }
 
 // The same with another byte at a place, and 00h there.
 fn hold_other(rt: &impl Abort, length: usize, at: usize) {
-    let mut bytes = [0xFF; LONGEST];
-    bytes[at % LONGEST] = 0xFE;
-    if let Some(bytes) = bytes.get(..length) {
-        assert!(rt; !is_erased(bytes, &[]), "{length} bytes, another at {at}");
-        assert!(rt; !has_zero(bytes), "{length} bytes, FEh at {at}");
-    }
-    bytes[at % LONGEST] = 0;
-    if let Some(bytes) = bytes.get(..length) {
-        assert!(rt; !is_erased(bytes, &[]), "{length} bytes, a zero at {at}");
-        assert!(rt; has_zero(bytes), "{length} bytes, 00h at {at}");
-    }
+    let are = (looked_at(length, at, 0xFE), looked_at(length, at, 0));
+    assert!(rt;
+        are == (Some((false, false)), Some((false, true))),
+        "{length} bytes, another at {at}"
+    );
 }
 
 #[test]
@@ -57,7 +61,7 @@ type Streamed = (usize, usize, usize, Option<Refusal>);
 
 const MANY: usize = 1_000_000;
 
-const STREAMED: [Streamed; 14] = [
+static STREAMED: [Streamed; 14] = [
     (24576, 1, MANY, None),
     (24576, 95, MANY, None),
     (24576, 96, MANY, None),
@@ -74,15 +78,13 @@ const STREAMED: [Streamed; 14] = [
     (24576, 96, 512, Some(Refusal::Source)),
 ];
 
-fn hold_streamed(
-    rt: &impl Abort,
-    alloc: Global,
-    bytes: &[u8],
-    row: &Streamed,
-    fault: ErrorKind,
-) -> Result<(), Fail> {
-    let geometry = Geometry::new(64, 32, 8, 32, 32)?;
-    let certificate = certificate_of(alloc, &FORMATTED_CLAIM)?;
+fn hold_row(rt: &impl Abort, holds: bool, row: &Streamed) {
+    assert!(rt; holds, "{row:?}");
+}
+
+fn hold_streamed(rt: &impl Abort, alloc: Global, bytes: &[u8], row: &Streamed, fault: ErrorKind) {
+    let geometry = small(rt);
+    let certificate = certificate_of(rt, alloc, &FORMATTED_CLAIM);
     let (length, piece, reads_left, answer) = *row;
     let mut reader = Pieces {
         left: bytes.get(..length).unwrap_or(&[]),
@@ -91,30 +93,29 @@ fn hold_streamed(
         fault,
     };
     let checked = check_stream(alloc, &mut reader, &geometry, 4, &certificate);
-    assert!(rt; checked.err() == answer, "{row:?}");
+    hold_row(rt, checked.err() == answer, row);
     // At most one byte past the image is read.
     let left = reader.left.len();
-    assert!(rt; length <= left.saturating_add(24577), "{row:?}");
-    Ok(())
+    hold_row(rt, length <= left.saturating_add(24577), row);
 }
 
 #[test]
-fn streams_are_answered(rt: HostRuntime) -> Result<(), Fail> {
-    let geometry = Geometry::new(64, 32, 8, 32, 32)?;
-    let mut bytes = image_of(rt.alloc(), &geometry, &FORMATTED_PAGES)?;
-    bytes.extend_from_slice(&[0xFF; 8])?;
+fn streams_are_answered(rt: HostRuntime) {
+    let mut bytes = image(&rt, rt.alloc(), &small(&rt), &FORMATTED_PAGES);
+    bytes
+        .extend_from_slice(&[0xFF; 8])
+        .expect(&rt, "an image and more");
     for row in &STREAMED {
-        hold_streamed(&rt, rt.alloc(), &bytes, row, ErrorKind::BrokenPipe)?;
-        hold_streamed(&rt, rt.alloc(), &bytes, row, ErrorKind::Interrupted)?;
+        hold_streamed(&rt, rt.alloc(), &bytes, row, ErrorKind::BrokenPipe);
+        hold_streamed(&rt, rt.alloc(), &bytes, row, ErrorKind::Interrupted);
     }
-    Ok(())
 }
 
 // Another capacity is told before any byte is read.
 #[test]
-fn another_capacity_is_told_first(rt: HostRuntime) -> Result<(), Fail> {
-    let geometry = Geometry::new(64, 32, 8, 32, 32)?;
-    let certificate = certificate_of(rt.alloc(), &FORMATTED_CLAIM)?;
+fn another_capacity_is_told_first(rt: HostRuntime) {
+    let geometry = small(&rt);
+    let certificate = certificate_of(&rt, rt.alloc(), &FORMATTED_CLAIM);
     let mut reader = Pieces {
         left: &[],
         piece: 1,
@@ -123,7 +124,6 @@ fn another_capacity_is_told_first(rt: HostRuntime) -> Result<(), Fail> {
     };
     let checked = check_stream(rt.alloc(), &mut reader, &geometry, 5, &certificate);
     assert!(rt; checked.err() == Some(Refusal::GeometryDiffers));
-    Ok(())
 }
 
 // Whether a certificate is accepted for a cache of four entries.
@@ -140,13 +140,13 @@ fn is_accepted(
 
 // Each page of the die is read once.
 #[test]
-fn pages_are_read_once(rt: HostRuntime) -> Result<(), Fail> {
-    let geometry = Geometry::new(64, 32, 8, 32, 32)?;
-    let bytes = image_of(rt.alloc(), &geometry, &FORMATTED_PAGES)?;
-    let certificate = certificate_of(rt.alloc(), &FORMATTED_CLAIM)?;
-    let image = ImageSlice::new(&geometry, &bytes)?;
+fn pages_are_read_once(rt: HostRuntime) {
+    let geometry = small(&rt);
+    let bytes = image(&rt, rt.alloc(), &geometry, &FORMATTED_PAGES);
+    let certificate = certificate_of(&rt, rt.alloc(), &FORMATTED_CLAIM);
+    let image = source_of(&rt, &geometry, &bytes);
     let mut source = FaultySource::new(image, SourceTrouble::Calm);
-    assert!(rt; is_accepted(rt.alloc(), &mut source, &geometry, &certificate));
-    assert!(rt; source.reads == 256);
-    Ok(())
+    let accepted = is_accepted(rt.alloc(), &mut source, &geometry, &certificate);
+    hold(&rt, accepted, "accepted");
+    hold(&rt, source.reads == 256, "read once");
 }

@@ -6,6 +6,7 @@ mod scan;
 mod source;
 mod word;
 
+use super::{image, small, source_of};
 use std::fmt::Debug;
 use std::process::Abort;
 

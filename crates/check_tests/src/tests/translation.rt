@@ -18,7 +18,7 @@ enum Step {
 }
 
 // Of an erased page. Sectors 0 to 3 at rows 8 to 11 are what the first eviction of four written sectors leaves.
-const STEPS: [Step; 17] = [
+static STEPS: [Step; 17] = [
     Step::Empty,
     Step::Patch(0, Some(8)),
     Step::Patch(1, Some(9)),

@@ -40,7 +40,7 @@ const GAP: [Written; 1] = [page!(41, Sector 5, sequence 3, fill 1)];
 const PAST: [Written; 1] = [page!(8, Sector 32, sequence 3, fill 1)];
 
 // The answers, and each refusal that names places, by its fields in their order.
-const ANSWERED: [Case; 13] = [
+static ANSWERED: [Case; 13] = [
     Case {
         name: "a formatted die without marks",
         files: &[
@@ -230,7 +230,7 @@ const FIRST: [Step; 9] = [
 // A certificate for a cache of 5 entries, so that a checker that were asked would refuse it.
 const OTHER: Claimed = (5, 3, &[META], &[]);
 
-const FIRST_FAULTS: [Case; 5] = [
+static FIRST_FAULTS: [Case; 5] = [
     Case {
         name: "an image that is too short and an empty certificate",
         files: &[

@@ -85,7 +85,7 @@ const CLOSED: [Step; 4] = [
     Step::Stored(2, "out.bin", true),
 ];
 
-const CASES: [Case; 7] = [
+static CASES: [Case; 7] = [
     Case {
         name: "marked blocks are left out",
         files: &[("in.bin", Made::Marked(&MARKED)), EMPTY],

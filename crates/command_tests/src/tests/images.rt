@@ -159,18 +159,16 @@ pub const DISAGREEING_FILES: &[(&str, Made)] = &[
 
 /// The bytes of a file.
 pub fn bytes_of(rt: &impl Abort, alloc: Global, bytes: &Made) -> Result<Vec<u8>, Fail> {
-    Ok(match bytes {
-        Made::Bytes(bytes) => Vec::from_slice(alloc, bytes)?,
-        Made::Erased(length) => erased(alloc, *length)?,
-        Made::Marked(rows) => marked(rt, alloc, rows)?,
-        Made::Image(pages) => image(alloc, pages)?,
-        Made::LaidOut(layout, pages) => image_in(alloc, *layout, pages)?,
-        Made::LaidOutBut(layout, pages, pieces) => {
-            image_with(rt, alloc, *layout, pages, pieces)?
-        }
-        Made::ImageBut(pages, at, value) => image_but(rt, alloc, pages, *at, *value)?,
-        Made::Formatted(pages) => formatted(alloc, pages)?,
-        Made::Certificate(claimed) => cut(rt, alloc, claimed, 472)?,
-        Made::Cut(claimed, length) => cut(rt, alloc, claimed, *length)?,
-    })
+    match bytes {
+        Made::Bytes(bytes) => Ok(Vec::from_slice(alloc, bytes)?),
+        Made::Erased(length) => Ok(erased(alloc, *length)?),
+        Made::Marked(rows) => Ok(marked(rt, alloc, rows)?),
+        Made::Image(pages) => image(alloc, pages),
+        Made::LaidOut(layout, pages) => image_in(alloc, *layout, pages),
+        Made::LaidOutBut(layout, pages, pieces) => image_with(rt, alloc, *layout, pages, pieces),
+        Made::ImageBut(pages, at, value) => image_but(rt, alloc, pages, *at, *value),
+        Made::Formatted(pages) => formatted(alloc, pages),
+        Made::Certificate(claimed) => Ok(cut(rt, alloc, claimed, 472)?),
+        Made::Cut(claimed, length) => Ok(cut(rt, alloc, claimed, *length)?),
+    }
 }

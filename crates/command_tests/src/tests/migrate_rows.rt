@@ -97,7 +97,7 @@ const OLD_FILES: &[(&str, Made)] = &[
     ("out.bin", Made::Erased(0)),
 ];
 
-const MIGRATED: [Case; 6] = [
+static MIGRATED: [Case; 6] = [
     Case {
         name: "pages of version 1",
         files: OLD_FILES,

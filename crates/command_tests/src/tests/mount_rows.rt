@@ -29,7 +29,7 @@ const GAP: [Written; 1] = [page!(41, Sector 5, sequence 3, fill 1)];
 const LAST: [Written; 1] = [page!(8, Sector 5, sequence u64::MAX - 1, fill 1)];
 
 // The certificate is stored, its numbers are printed, and `check` accepts it.
-const MOUNTED: [Case; 5] = [
+static MOUNTED: [Case; 5] = [
     Case {
         name: "nothing was written",
         files: &[("image.bin", Made::Formatted(&[])), CERT],
@@ -197,7 +197,7 @@ const CLOSED: [Step; 4] = [
 ];
 
 // Where there is no certificate to store `cert.bin` stays as it was.
-const REFUSED: [Case; 9] = [
+static REFUSED: [Case; 9] = [
     Case {
         name: "a shared sequence",
         files: &[("image.bin", Made::Formatted(&SHARED)), CERT],

@@ -40,6 +40,27 @@ pub enum Step {
     ServeClosed(&'static str, &'static [u8], u8, &'static str),
 }
 
+impl Step {
+    // The command line of a step that runs one as a line.
+    fn line(&self) -> &'static str {
+        match *self {
+            Step::Run(line, ..)
+            | Step::Unstored(line, ..)
+            | Step::Closed(line, ..)
+            | Step::BothClosed(line, ..)
+            | Step::Serve(line, ..)
+            | Step::ServeCut(line, ..)
+            | Step::ServeClosed(line, ..) => line,
+            Step::Words(..)
+            | Step::Stored(..)
+            | Step::Holds(..)
+            | Step::HoldsFrom(..)
+            | Step::HoldsPart(..)
+            | Step::RefuseMemory => "",
+        }
+    }
+}
+
 /// A name, the files by their paths, and what is done over them.
 pub struct Case {
     pub name: &'static str,
@@ -121,16 +142,29 @@ fn expect_closed(
 }
 
 fn expect_stored(files: &MemoryFiles, count: usize, path: &str, done: bool) -> Result<(), Fail> {
-    hold_same(&(files.case, path), &files.stored.len(), &count)?;
     let last = files.stored.last().ok_or("nothing was stored")?;
-    hold_same(&(files.case, path), &last.path.as_str(), &path)?;
-    hold_same(&(files.case, path), &last.done, &done)
+    hold_same(
+        &(files.case, path),
+        &(files.stored.len(), last.path.as_str(), last.done),
+        &(count, path, done),
+    )
 }
 
-fn expect_contents(files: &MemoryFiles, path: &str, from: usize, bytes: &[u8]) -> Result<(), Fail> {
+// A file holds these bytes, from a place on.
+fn expect_contents(
+    rt: &impl Abort,
+    files: &MemoryFiles,
+    path: &str,
+    from: usize,
+    made: &Made,
+) -> Result<(), Fail> {
+    let bytes = bytes_of(rt, files.alloc, made)?;
     let found = files.contents(path).ok_or("no such file")?;
-    hold_same(&(files.case, path), &found.len(), &bytes.len())?;
-    hold_same(&(files.case, path), &found.get(from..), &bytes.get(from..))
+    hold_same(
+        &(files.case, path),
+        &(found.len(), found.get(from..)),
+        &(bytes.len(), bytes.get(from..)),
+    )
 }
 
 fn expect_part(
@@ -144,45 +178,62 @@ fn expect_part(
     hold_same(&(files.case, path), &found.get(from..to), &Some(bytes))
 }
 
-fn take(rt: &impl Abort, files: &mut MemoryFiles, step: &Step) -> Result<(), Fail> {
-    let alloc = files.alloc;
+// Runs the words of a step, which are those of its command line where it has one.
+fn take_words(
+    rt: &impl Abort,
+    files: &mut MemoryFiles,
+    words: &[&str],
+    step: &Step,
+) -> Result<(), Fail> {
     match step {
-        Step::Run(line, status, said) => {
-            expect_words(rt, files, &words_of(alloc, line)?, *status, said)
-        }
+        Step::Run(_, status, said) => expect_words(rt, files, words, *status, said),
         Step::Words(words, status, said) => expect_words(rt, files, words, *status, said),
         Step::Unstored(line, said) => {
-            let ran = run_words(rt, &words_of(alloc, line)?, files);
-            ran.hold_said(&(files.case, line), 3, said)
+            run_words(rt, words, files).hold_said(&(files.case, line), 3, said)
         }
-        Step::Closed(line, status, said) => {
-            expect_closed(rt, files, &words_of(alloc, line)?, *status, Some(said))
+        Step::Closed(_, status, said) => expect_closed(rt, files, words, *status, Some(said)),
+        Step::BothClosed(_, status) => expect_closed(rt, files, words, *status, None),
+        _ => Err(Fail::from("a step that runs no words")),
+    }
+}
+
+// Runs the words of a step over its requests.
+fn take_requests(files: &mut MemoryFiles, words: &[&str], step: &Step) -> Result<(), Fail> {
+    match step {
+        Step::Serve(_, input, status, out, err) => {
+            expect_served(files, words, Requests::of(input, false), *status, out, err)
         }
-        Step::BothClosed(line, status) => {
-            expect_closed(rt, files, &words_of(alloc, line)?, *status, None)
+        Step::ServeCut(_, input, status, out, err) => {
+            expect_served(files, words, Requests::of(input, true), *status, out, err)
+        }
+        Step::ServeClosed(_, input, status, err) => {
+            expect_served_closed(files, words, input, *status, err)
+        }
+        _ => Err(Fail::from("a step without requests")),
+    }
+}
+
+fn take(rt: &impl Abort, files: &mut MemoryFiles, step: &Step) -> Result<(), Fail> {
+    match step {
+        Step::Run(..)
+        | Step::Words(..)
+        | Step::Unstored(..)
+        | Step::Closed(..)
+        | Step::BothClosed(..) => {
+            let words = words_of(files.alloc, step.line())?;
+            take_words(rt, files, &words, step)
+        }
+        Step::Serve(..) | Step::ServeCut(..) | Step::ServeClosed(..) => {
+            let words = words_of(files.alloc, step.line())?;
+            take_requests(files, &words, step)
         }
         Step::Stored(count, path, done) => expect_stored(files, *count, path, *done),
-        Step::Holds(path, bytes) => {
-            expect_contents(files, path, 0, &bytes_of(rt, alloc, bytes)?)
-        }
-        Step::HoldsFrom(path, from, bytes) => {
-            expect_contents(files, path, *from, &bytes_of(rt, alloc, bytes)?)
-        }
+        Step::Holds(path, made) => expect_contents(rt, files, path, 0, made),
+        Step::HoldsFrom(path, from, made) => expect_contents(rt, files, path, *from, made),
         Step::HoldsPart(path, from, to, bytes) => expect_part(files, path, *from, *to, bytes),
         Step::RefuseMemory => {
             files.refuses = true;
             Ok(())
-        }
-        Step::Serve(line, input, status, out, err) => {
-            let requests = Requests::of(input, false);
-            expect_served(files, &words_of(alloc, line)?, requests, *status, out, err)
-        }
-        Step::ServeCut(line, input, status, out, err) => {
-            let requests = Requests::of(input, true);
-            expect_served(files, &words_of(alloc, line)?, requests, *status, out, err)
-        }
-        Step::ServeClosed(line, input, status, err) => {
-            expect_served_closed(files, &words_of(alloc, line)?, input, *status, err)
         }
     }
 }

@@ -117,7 +117,7 @@ const NUMBERS: [Step; 4] = [
     ),
 ];
 
-const CASES: [Case; 12] = [
+static CASES: [Case; 12] = [
     Case {
         name: "the newest page",
         files: &[("image.bin", Made::Image(&NEWEST))],

@@ -35,7 +35,7 @@ const ELEVENS: &str =
 
 const SECTOR: Step = Step::Run("nandctl sector 64,32,8,32,32 out.bin 5", 0, ELEVENS);
 
-const SERVED: [Case; 6] = [
+static SERVED: [Case; 6] = [
     Case {
         name: "a write, and its certificate",
         files: FORMATTED_FILES,

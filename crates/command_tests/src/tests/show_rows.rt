@@ -53,7 +53,7 @@ const EITHER: [Step; 2] = [
     ),
 ];
 
-const CASES: [Case; 4] = [
+static CASES: [Case; 4] = [
     Case {
         name: "a page of each kind",
         files: &[("image.bin", Made::ImageBut(&KINDS, IMAGE_BYTES - 1, 0xFE))],

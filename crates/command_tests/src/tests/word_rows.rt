@@ -38,7 +38,7 @@ const LENGTHS: [Step; 6] = [
 // A blank is no digit.
 const BLANK: [&str; 5] = ["nandctl", "sector", " 64,32,8,32,32", "image.bin", "5"];
 
-const CASES: [Case; 5] = [
+static CASES: [Case; 5] = [
     Case {
         name: "no words",
         files: &[("image.bin", Made::Erased(IMAGE_BYTES))],

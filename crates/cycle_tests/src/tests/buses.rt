@@ -1,6 +1,6 @@
 //! The two buses for tests round a new die, call by call.
 use super::steps::{Cycle, send};
-use super::{new_die, small};
+use super::{hold, new_die, small};
 use nand_die::{CycleFuse, Garble};
 use onfi_cycles::{Bus, BusFault};
 use std::alloc::Global;
@@ -34,7 +34,7 @@ const ONFI: Call = Call::Out(&[0x4F, 0x4E, 0x46, 0x49]);
 // How many calls are handed on, how many fail then, and the calls.
 type Fuse = (&'static str, u64, u64, &'static [Call]);
 
-const FUSES: [Fuse; 4] = [
+static FUSES: [Fuse; 4] = [
     // The calls that fail do not come to the die, which waits for the address.
     (
         "two fail after two",
@@ -86,7 +86,7 @@ const FUSES: [Fuse; 4] = [
 // Which data out is garbled, counted from 1, in which byte, by which mask, and the calls.
 type Garbled = (&'static str, u64, usize, u8, &'static [Call]);
 
-const GARBLES: [Garbled; 5] = [
+static GARBLES: [Garbled; 5] = [
     (
         "one byte of the second piece",
         2,
@@ -190,11 +190,7 @@ fn faults_behind_a_fuse(rt: &impl Abort, alloc: Global, row: &Fuse) -> u64 {
 #[test]
 fn a_fuse_fails_for_a_while(rt: HostRuntime) {
     for row in &FUSES {
-        assert!(rt;
-            faults_behind_a_fuse(&rt, rt.alloc(), row) == 0,
-            "{}",
-            row.0
-        );
+        hold(&rt, faults_behind_a_fuse(&rt, rt.alloc(), row) == 0, row.0);
     }
 }
 
@@ -209,10 +205,10 @@ fn changes_behind_a_garble(rt: &impl Abort, alloc: Global, row: &Garbled) -> u64
 #[test]
 fn a_garble_turns_bits_once(rt: HostRuntime) {
     for row in &GARBLES {
-        assert!(rt;
+        hold(
+            &rt,
             changes_behind_a_garble(&rt, rt.alloc(), row) == 0,
-            "{}",
-            row.0
+            row.0,
         );
     }
 }

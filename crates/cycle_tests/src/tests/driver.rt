@@ -97,7 +97,7 @@ const BOTH_ARE_FAULTY: &[Operation] = &[
 ];
 
 // The byte that a bus puts out, and what a driver over it answers.
-const STATUS: [(&str, u8, &[Operation]); 10] = [
+static STATUS: [(&str, u8, &[Operation]); 10] = [
     ("status E0", 0xE0, BOTH_PASS),
     ("status E1", 0xE1, BOTH_FAIL),
     ("status E2", 0xE2, BOTH_PASS),
@@ -118,7 +118,7 @@ const STATUS: [(&str, u8, &[Operation]); 10] = [
 ];
 
 // The fault of the fourth cycle of a bus, which is the second address cycle of the page read, and what a driver over it answers.
-const FAULTS: [(&str, BusFault, &[Operation]); 6] = [
+static FAULTS: [(&str, BusFault, &[Operation]); 6] = [
     (
         "NoReset",
         BusFault::NoReset,
@@ -182,7 +182,7 @@ const FAULTS: [(&str, BusFault, &[Operation]); 6] = [
 ];
 
 // The cycle of a program or of an erase that fails, counted from 1, Reset included, its fault, and what a driver answers.
-const CHANGE_FAULTS: [(&str, u64, BusFault, &[Operation]); 12] = [
+static CHANGE_FAULTS: [(&str, u64, BusFault, &[Operation]); 12] = [
     (
         "program: NoReset",
         2,
@@ -372,7 +372,7 @@ fn a_fault_of_a_program_or_an_erase_stays(rt: HostRuntime) {
 }
 
 // What a program, an erase and a page read are spelled as, behind the Reset of a new driver.
-const SPELLING: [&[Seen]; 6] = [
+static SPELLING: [&[Seen]; 6] = [
     PROGRAM,
     STATUS_PASSED,
     ERASE,
@@ -381,7 +381,7 @@ const SPELLING: [&[Seen]; 6] = [
     &[Seen::Out(64, 0xE0), Seen::Out(32, 0xE0)],
 ];
 
-const SPELLED: &[Operation] = &[
+static SPELLED: &[Operation] = &[
     Operation::Program(8, 0x11, 0x22, PASSED),
     Operation::Erase(1, PASSED),
     Operation::Read(8, 0xE0, 0xE0),

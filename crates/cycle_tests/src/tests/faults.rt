@@ -11,7 +11,7 @@ const ONES: Page = &[(0, 0x11)];
 
 const TWOS: Page = &[(0, 0x22)];
 
-const FAULTS: [Row; 4] = [
+static FAULTS: [Row; 4] = [
     Row {
         name: "the first of two faults counts",
         marks: &[],

@@ -1,4 +1,5 @@
 //! Dies of which every block is bad, up to the largest.
+use super::hold;
 use nand_die::{Die, Mark};
 use page_layout::geometry::Geometry;
 use std::alloc::Global;
@@ -13,7 +14,7 @@ struct Limit {
     image: usize,
 }
 
-const LIMITS: [Limit; 3] = [
+static LIMITS: [Limit; 3] = [
     Limit {
         name: "the fewest blocks",
         data_bytes: 64,
@@ -65,7 +66,7 @@ fn numbers(rt: &impl Abort, alloc: Global, blocks: u32) -> Vec<u32> {
 fn make_marked(rt: &impl Abort, alloc: Global, limit: &Limit) {
     let marks = marks_of(rt, alloc, limit.blocks);
     let die = Die::new(alloc, geometry_of(rt, limit), marks.as_slice());
-    assert!(rt; die.is_ok(), "{}", limit.name);
+    hold(rt, die.is_ok(), limit.name);
 }
 
 fn make_loaded(rt: &impl Abort, alloc: Global, limit: &Limit) {
@@ -73,7 +74,7 @@ fn make_loaded(rt: &impl Abort, alloc: Global, limit: &Limit) {
     let image = vec![in alloc; 0; limit.image].expect(rt, "an image");
     let geometry = geometry_of(rt, limit);
     let die = Die::from_image(alloc, geometry, image.as_slice(), bad.as_slice());
-    assert!(rt; die.is_ok(), "{}", limit.name);
+    hold(rt, die.is_ok(), limit.name);
 }
 
 #[test]

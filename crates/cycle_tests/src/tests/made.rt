@@ -19,7 +19,7 @@ const ONES: Page = &[(0, 0x11)];
 // The page of a factory mark.
 const MARKED: Page = &[(0, 0xFF), (64, 0x00), (65, 0xFF)];
 
-const MADE: [Row; 2] = [
+static MADE: [Row; 2] = [
     Row {
         name: "marks are spare bytes of bad blocks",
         marks: &TWO_MARKS,
@@ -66,7 +66,7 @@ fn dies_with_and_without_marks(rt: HostRuntime) {
 }
 
 // Marks that are refused, and the block that is named in the fault.
-const BAD_MARKS: [(&[Mark], u32); 2] = [
+static BAD_MARKS: [(&[Mark], u32); 2] = [
     (
         &[
             Mark {
@@ -137,7 +137,7 @@ fn die_of(rt: &impl Abort, alloc: Global, image: &[u8], bad: &[u32]) -> Die {
     die
 }
 
-const ON_AN_IMAGE: &[Step] = &[
+static ON_AN_IMAGE: &[Step] = &[
     RESET,
     Step::Program(9, ONES, 0xE1),
     Step::Program(11, ONES, 0xE0),
@@ -158,7 +158,7 @@ fn an_image_goes_on_where_it_stopped(rt: HostRuntime) -> Result<(), Fail> {
 }
 
 // So many bytes FFh, the blocks that are named bad, and the fault.
-const BAD_IMAGES: [(usize, &[u32], DieFault); 4] = [
+static BAD_IMAGES: [(usize, &[u32], DieFault); 4] = [
     (24575, &[3, 9], DieFault::WrongLength),
     (24577, &[3, 3], DieFault::WrongLength),
     (24576, &[3, 3], DieFault::BadMark { block: 3 }),

@@ -6,7 +6,7 @@ use super::recorder::{
     ERASE, PROGRAM, READ, Recorder, STATUS_FAILED, STATUS_PASSED, Seen, after_cycles,
 };
 use super::steps::{Cycle, ERASED, Left, Order, Page, Row, Step, faults_of, walk, walk_rows};
-use super::{new_die, small};
+use super::{hold, new_die, small};
 use nand_die::{Die, DieFault};
 use onfi_cycles::{BusFault, Outcome};
 use page_layout::geometry::Geometry;
@@ -28,7 +28,7 @@ const THREES: Page = &[(0, 0x33)];
 
 const ONES_AND_TWOS: Page = &[(0, 0x11), (64, 0x22)];
 
-const BY_CYCLES: [Row; 8] = [
+static BY_CYCLES: [Row; 8] = [
     Row {
         name: "a page is programmed once",
         marks: &[],
@@ -154,7 +154,7 @@ struct Through {
     steps: &'static [Step],
 }
 
-const THROUGH: [Through; 4] = [
+static THROUGH: [Through; 4] = [
     // The law of a die at work: a page is programmed once between two erases of its block.
     Through {
         name: "programmed, erased and programmed",
@@ -243,7 +243,7 @@ const PAGE_OUT: &[Seen] = &[Seen::Out(64, 0x11), Seen::Out(32, 0x22)];
 
 const ERASED_OUT: &[Seen] = &[Seen::Out(64, 0xFF), Seen::Out(32, 0xFF)];
 
-const SPELLED: [Spelled; 2] = [
+static SPELLED: [Spelled; 2] = [
     Spelled {
         name: "a page is programmed once",
         operations: &[
@@ -291,7 +291,7 @@ fn spell(rt: &impl Abort, alloc: Global, row: &Spelled) {
     let recorder = Recorder::new(alloc, new_die(rt, alloc, geometry, &[]));
     let recorder = after(rt, recorder, geometry, row.name, row.operations);
     let die = after_cycles(rt, alloc, recorder, row.name, row.cycles);
-    assert!(rt; die.abuse() == row.abuse, "{}", row.name);
+    hold(rt, die.abuse() == row.abuse, row.name);
 }
 
 #[test]

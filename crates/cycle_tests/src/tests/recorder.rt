@@ -2,6 +2,7 @@
 ghost use Rattle.std.specs.Prelude.{◌≡◌};
 ghost use Rattle.nand_die.specs.Laws.{TellsLaw};
 
+use super::hold;
 use onfi_cycles::{Bus, BusFault};
 use std::alloc::Global;
 use std::process::Abort;
@@ -167,6 +168,6 @@ pub fn after_cycles<B: Bus>(
     parts: &[&[Seen]],
 ) -> B {
     let Recorder { bus, seen } = recorder;
-    assert!(rt; seen == all_of(rt, alloc, parts), "{name}");
+    hold(rt, seen == all_of(rt, alloc, parts), name);
     bus
 }

@@ -5,7 +5,7 @@ ghost use Rattle.page_layout.specs.Geometry.{row_count};
 use super::made::image_of;
 use super::operations::{Operation, after};
 use super::steps::{ERASED, Left, Page, Step, bytes_of, page_left, walk};
-use super::{new_die, small};
+use super::{hold, new_die, small};
 use nand_die::{Die, DieFault, Stop};
 use onfi_cycles::{BusFault, Outcome};
 use page_layout::geometry::Geometry;
@@ -75,7 +75,7 @@ const WORKS: &[Operation] = &[
     Operation::Failures(0),
 ];
 
-const STOPS: [Row; 13] = [
+static STOPS: [Row; 13] = [
     Row {
         name: "a program, before",
         stops: ((1, Halt::Before, SET), None),
@@ -214,7 +214,7 @@ fn set_stop(rt: &impl Abort, alloc: Global, die: &mut Die, setting: Setting, row
 {
     let (nth_change, halt, want) = setting;
     let stop = stop_of(rt, alloc, halt);
-    assert!(rt; die.set_stop(nth_change, stop) == want, "{row}");
+    hold(rt, die.set_stop(nth_change, stop) == want, row);
 }
 
 fn set_stops(rt: &impl Abort, alloc: Global, die: &mut Die, row: &Row)
@@ -251,7 +251,7 @@ fn walk_stops(rt: &impl Abort, alloc: Global, row: &Row) {
     set_stops(rt, alloc, &mut die, row);
     let die = after(rt, die, geometry, row.name, row.operations);
     let counts = (die.changes(), die.abuse());
-    assert!(rt; counts == (row.changes, row.abuse), "{}", row.name);
+    hold(rt, counts == (row.changes, row.abuse), row.name);
     expect_pages(rt, alloc, &die, row);
 }
 
@@ -290,7 +290,7 @@ const ERASES: &[Step] = &[
 // Of pages of 4352 bytes, 8 in a block: 2^32 - 1 operations are more than 2^47 bytes, which no process can have.
 const TOO_MANY: Begun = (u32::MAX, Err(DieFault::OutOfMemory));
 
-const RECORDS: [Records; 4] = [
+static RECORDS: [Records; 4] = [
     Records {
         name: "room for both",
         begun: &[(2, SET)],
@@ -320,7 +320,7 @@ fn walk_records(rt: &impl Abort, alloc: Global, geometry: Geometry, row: &Record
         assert!(rt; begun == *want, "room for {room}, {}", row.name);
     }
     walk(rt, alloc, &mut die, row.name, row.steps);
-    assert!(rt; die.changes() == 2, "{}", row.name);
+    hold(rt, die.changes() == 2, row.name);
 }
 
 #[test]
@@ -348,7 +348,7 @@ fn records_begin_and_end(rt: HostRuntime) {
     }
 }
 
-const ROOM_FOR_ONE: &[Operation] = &[
+static ROOM_FOR_ONE: &[Operation] = &[
     Operation::Program(8, 0x11, 0x22, PASSED),
     Operation::Erase(1, PASSED),
     Operation::Read(8, 0xFF, 0xFF),

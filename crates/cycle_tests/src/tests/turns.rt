@@ -7,7 +7,7 @@ use std::alloc::Global;
 use std::process::Abort;
 
 // The codes that the table of commands has.
-const KNOWN: &[u8] = &[
+static KNOWN: &[u8] = &[
     0x00, 0x05, 0x10, 0x30, 0x60, 0x70, 0x80, 0x85, 0x90, 0xD0, 0xE0, 0xFF,
 ];
 
@@ -82,7 +82,7 @@ const PROGRAM: Step = Step::Open(0x80, &[0; 5]);
 const ERASE: Step = Step::Open(0x60, &[0; 3]);
 
 // A command has come, and some of its address cycles, but not the last.
-const ADDRESS_DUE: [Phase; 18] = [
+static ADDRESS_DUE: [Phase; 18] = [
     (
         "00h with 0 address cycles",
         &[RESET, Step::Open(0x00, &[])],
@@ -175,7 +175,7 @@ const ADDRESS_DUE: [Phase; 18] = [
     ),
 ];
 
-const NO_ADDRESS_DUE: &[Phase] = &[
+static NO_ADDRESS_DUE: &[Phase] = &[
     ("idle", &[RESET], &COMMAND),
     ("a page", &[RESET, READ, PUT_OUT], &PAGE),
     (
@@ -266,7 +266,7 @@ fn expect(rt: &impl Abort, die: &mut Die, cycle: Cycle, want: Result<(), BusFaul
 }
 
 // After a fault a die is idle.
-const AFTER_A_FAULT: &[Step] = &[
+static AFTER_A_FAULT: &[Step] = &[
     Step::Refused(Cycle::Out(1), BusFault::OutOfTurn),
     Step::Refused(Cycle::Command(0x05), BusFault::OutOfTurn),
     Step::Taken(Cycle::Command(0x70)),
@@ -327,7 +327,7 @@ fn while_no_address_is_due(rt: HostRuntime) {
 }
 
 // A new die, which takes Reset alone.
-const NEW: &[Step] = &[
+static NEW: &[Step] = &[
     Step::Refused(Cycle::Address(0), BusFault::NoReset),
     Step::Refused(Cycle::In(&[0x5A]), BusFault::NoReset),
     Step::Refused(Cycle::Out(1), BusFault::NoReset),
@@ -368,7 +368,7 @@ const ROWS: [LastAddress; 4] = [
 ];
 
 // Where the address cycles stand, and these.
-const LAST_ADDRESSES: [(&str, &[Step], &[LastAddress]); 7] = [
+static LAST_ADDRESSES: [(&str, &[Step], &[LastAddress]); 7] = [
     ("a column of 00h", &[RESET, Step::Open(0x00, &[])], &COLUMNS),
     ("a column of 80h", &[RESET, Step::Open(0x80, &[])], &COLUMNS),
     (
@@ -415,7 +415,7 @@ fn columns_and_rows_at_the_end(rt: HostRuntime) {
     }
 }
 
-const READ_ID: &[Step] = &[RESET, Step::Open(0x90, &[])];
+static READ_ID: &[Step] = &[RESET, Step::Open(0x90, &[])];
 
 #[test]
 fn addresses_of_a_name(rt: HostRuntime) {
@@ -466,7 +466,7 @@ type SecondCycle = (
     Result<(), BusFault>,
 );
 
-const DATA_AT_THE_END: [SecondCycle; 13] = [
+static DATA_AT_THE_END: [SecondCycle; 13] = [
     ("bytes in", PUT_IN, Cycle::In(&[]), WHOLE_IN, Ok(())),
     ("bytes in", PUT_IN, WHOLE_IN, Cycle::In(&[]), Ok(())),
     (

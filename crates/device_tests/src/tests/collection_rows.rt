@@ -65,7 +65,7 @@ const NOT_ERASED: Mounted = Mounted {
 };
 
 // The cache as it was but for the rows: clean, since the translation page was written.
-const SAME_ORDER: [Case; 2] = [
+static SAME_ORDER: [Case; 2] = [
     Case {
         name: "a block is collected",
         steps: &[Done(&EIGHT)],
@@ -143,7 +143,7 @@ const CACHED: [Call; 8] = [
 
 const MOVED: &[u8] = &[16, 17, 18, 19, 20, 21, 22, 23];
 
-const FLUSHING: [Case; 2] = [
+static FLUSHING: [Case; 2] = [
     // A moved sector that is cached waits for its translation page to be written.
     Case {
         name: "cached sectors are moved",
@@ -201,7 +201,7 @@ fn blocks_are_collected(rt: HostRuntime) -> Result<(), Fail> {
 
 // Five live pages, as many as a block that is collected to make room may have: five copies and both
 // translation pages are seven programs, one fewer than a block has pages.
-const FIVE_LIVE: Case = Case {
+static FIVE_LIVE: [Case; 1] = [Case {
     name: "a block with five live pages costs seven programs",
     capacity: 1,
     steps: &[Done(&[
@@ -270,11 +270,11 @@ const FIVE_LIVE: Case = Case {
         ],
     }),
     ..QUIET
-};
+}];
 
 // Block 0 is full of table pages and translation pages, block 1 of sectors and trims. The first copy out
 // of each fails. Sectors 0 to 2 aren't cached.
-const EVERY_KIND: Case = Case {
+static EVERY_KIND: [Case; 1] = [Case {
     name: "every kind of page is copied",
     failing: &[16, 21],
     steps: &[
@@ -342,11 +342,11 @@ const EVERY_KIND: Case = Case {
         ],
     }),
     ..QUIET
-};
+}];
 
 // 270 writes of one sector: blocks 1 and 2 are erased, used again and full again, without a live page.
 // Blocks with higher numbers that were never erased are collected before them.
-const LEAST_WORN: Case = Case {
+static LEAST_WORN: [Case; 1] = [Case {
     name: "the least worn of two equal blocks is collected",
     steps: &[Over(0, 270)],
     free: 9,
@@ -381,13 +381,13 @@ const LEAST_WORN: Case = Case {
         calls: &[Read(0, 13)],
     }),
     ..QUIET
-};
+}];
 
 // As many blocks as leave nine free have one live page each. A flush leaves no entry stale. Two writes of
 // sector 31 later eight are free: the next flush finds its translation page alone to be written, and room
 // to be made. The block that is collected moves sector 0, which is cached, and whose translation page is
 // written for that.
-const FLUSHED: Case = Case {
+static FLUSHED: [Case; 1] = [Case {
     name: "a flush collects",
     capacity: 32,
     steps: &[
@@ -424,18 +424,19 @@ const FLUSHED: Case = Case {
         ],
     }),
     ..QUIET
-};
-
-const EMPTIED: [Case; 4] = [FIVE_LIVE, EVERY_KIND, LEAST_WORN, FLUSHED];
+}];
 
 #[test]
 fn blocks_are_chosen_and_emptied(rt: HostRuntime) -> Result<(), Fail> {
-    hold_cases(rt.alloc(), &EMPTIED)
+    hold_cases(rt.alloc(), &FIVE_LIVE)?;
+    hold_cases(rt.alloc(), &EVERY_KIND)?;
+    hold_cases(rt.alloc(), &LEAST_WORN)?;
+    hold_cases(rt.alloc(), &FLUSHED)
 }
 
 // The third program fails and leaves bytes. Two turns bring the two sectors out of the bad block, by
 // rising row; the third asks the die for nothing.
-const RESCUED: [Case; 1] = [Case {
+static RESCUED: [Case; 1] = [Case {
     name: "a bad block is rescued",
     failing: &[3],
     page_left: 96,

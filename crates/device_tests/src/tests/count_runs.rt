@@ -2,14 +2,14 @@
 ghost use Rattle.std.specs.Prelude.{◌≡◌, IfOk};
 ghost use Rattle.ftl_device.specs.Device.{IsDevice};
 
-use device_fixtures::bench::{given_up, marked_die, started};
+use device_fixtures::bench::{handed_on, marked_die, started};
 use device_fixtures::calls::{Call, hold_call};
+use device_fixtures::hold::hold_same;
 use ftl_device::Device;
 use nand_die::{Die, Mark};
 use onfi_cycles::{Driver, Nand};
 use page_layout::geometry::Geometry;
 use std::alloc::Global;
-use std::process::Abort;
 use std::test::Fail;
 
 // Pages of a block, blocks and sectors, of dies with pages of 64 and 32 bytes.
@@ -28,7 +28,7 @@ fn geometry_of(sizes: Sizes) -> Result<Geometry, Fail> {
 
 // The translation pages, the table pages, the most live pages of a block that is worth collecting, and
 // the good blocks that are needed.
-const NUMBERS: [(Sizes, (u32, u32, u32, u32)); 3] = [
+static NUMBERS: [(Sizes, (u32, u32, u32, u32)); 3] = [
     (FIRST, (2, 2, 5, 17)),
     (SHORT, (2, 2, 1, 29)),
     (LEAST, (1, 1, 2, 12)),
@@ -44,9 +44,14 @@ fn numbers_of(geometry: &Geometry) -> (u32, u32, u32, u32) {
 }
 
 #[test]
-fn needed_blocks_are_counted(rt: HostRuntime) -> Result<(), Fail> {
+fn needed_blocks_are_counted() -> Result<(), Fail> {
     for (sizes, numbers) in &NUMBERS {
-        assert_eq!(rt; numbers_of(&geometry_of(*sizes)?), *numbers);
+        hold_same(
+            "a geometry",
+            "numbers",
+            &numbers_of(&geometry_of(*sizes)?),
+            numbers,
+        )?;
     }
     Ok(())
 }
@@ -68,7 +73,7 @@ struct Run {
     broken: Option<u32>,
 }
 
-const RUNS: [Run; 5] = [
+static RUNS: [Run; 5] = [
     Run {
         name: "one sector after the other",
         sizes: FIRST,
@@ -186,7 +191,6 @@ fn marks_of(alloc: Global, run: &Run, geometry: &Geometry) -> Result<Vec<Mark>, 
 
 // The die of a run, of which these programs and erases fail.
 fn die_of(
-    rt: &impl Abort,
     alloc: Global,
     run: &Run,
     geometry: Geometry,
@@ -196,8 +200,20 @@ fn die_of(
 {
     let marks = marks_of(alloc, run, &geometry)?;
     let (driver, good) = marked_die(alloc, geometry, &marks, failing, 0)?;
-    assert_eq!(rt; good, run.good, "{}", run.name);
+    hold_same(run.name, "good", &good, &run.good)?;
     Ok(driver)
+}
+
+// Makes the calls of a run before this one. After all of them each sector is as the run left it.
+fn hold_first<N: Nand>(device: &mut Device<N>, run: &Run, end: u32) -> Result<(), Fail>
+    requires { IsDevice N.view.flash device.old }
+    ensures { IsDevice N.view.flash device.new }
+{
+    hold_calls_before(device, run, end)?;
+    if end == run.calls {
+        hold_sectors(device, run)?;
+    }
+    Ok(())
 }
 
 // The die after the calls of a run before this one, and its geometry.
@@ -212,29 +228,31 @@ fn after_run<N: Nand + Drop>(
     ensures { IfOk result (λ pair. (N.view.flash pair.0).geometry ≡ pair.1) }
 {
     let mut device = started(alloc, nand, geometry, run.capacity)?;
-    hold_calls_before(&mut device, run, end)?;
-    if end == run.calls {
-        hold_sectors(&mut device, run)?;
-    }
-    Ok(given_up(device))
+    let came = hold_first(&mut device, run, end);
+    handed_on(device, came)
 }
 
-// The programs and erases of a run before this call, those of the format left out.
-fn changes_before(rt: &impl Abort, alloc: Global, run: &Run, end: u32) -> Result<u64, Fail> {
+// What a run left: its programs and erases, those of the format left out, and its illegal ones.
+type Left = (u64, u64);
+
+fn counts_of(driver: Driver<Die>, geometry: &Geometry) -> Left {
+    let die = driver.into_bus();
+    let formatting = u64::from(geometry.table_pages());
+    (die.changes().saturating_sub(formatting), die.abuse())
+}
+
+// What the calls of a run before this one leave, on a die of which these programs and erases fail.
+fn left_by(alloc: Global, run: &Run, end: u32, failing: &[u16]) -> Result<Left, Fail> {
     let geometry = geometry_of(run.sizes)?;
-    let driver = die_of(rt, alloc, run, geometry, &[])?;
+    let driver = die_of(alloc, run, geometry, failing)?;
     let (driver, geometry) = after_run(alloc, driver, &geometry, run, end)?;
-    let changes = driver.into_bus().changes();
-    Ok(changes.saturating_sub(u64::from(geometry.table_pages())))
+    Ok(counts_of(driver, &geometry))
 }
 
 // Makes the calls of a run on a die of which these programs and erases fail. None of its own is illegal.
-fn hold_run(rt: &impl Abort, alloc: Global, run: &Run, failing: &[u16]) -> Result<(), Fail> {
-    let geometry = geometry_of(run.sizes)?;
-    let driver = die_of(rt, alloc, run, geometry, failing)?;
-    let (driver, _) = after_run(alloc, driver, &geometry, run, run.calls)?;
-    assert_eq!(rt; driver.into_bus().abuse(), 0, "{}", run.name);
-    Ok(())
+fn hold_run(alloc: Global, run: &Run, failing: &[u16]) -> Result<(), Fail> {
+    let (_, abuse) = left_by(alloc, run, run.calls, failing)?;
+    hold_same(run.name, "abuse", &abuse, &0)
 }
 
 // The two changes after so many.
@@ -243,16 +261,19 @@ fn next_two(changes: u64) -> [u16; 2] {
     [first, first + 1]
 }
 
+// Makes the calls of a run, with its failures.
+fn hold_whole(alloc: Global, run: &Run) -> Result<(), Fail> {
+    let Some(call) = run.broken else {
+        return hold_run(alloc, run, &[]);
+    };
+    let (changes, _) = left_by(alloc, run, call, &[])?;
+    hold_run(alloc, run, &next_two(changes))
+}
+
 #[test]
 fn no_call_is_refused(rt: HostRuntime) -> Result<(), Fail> {
     for run in &RUNS {
-        match run.broken {
-            Some(call) => {
-                let changes = changes_before(&rt, rt.alloc(), run, call)?;
-                hold_run(&rt, rt.alloc(), run, &next_two(changes))?;
-            }
-            None => hold_run(&rt, rt.alloc(), run, &[])?,
-        }
+        hold_whole(rt.alloc(), run)?;
     }
     Ok(())
 }

@@ -1,20 +1,21 @@
 //! Devices that are flushed.
-ghost use Rattle.onfi_cycles.specs.Driver.{flash_by};
+ghost use Rattle.std.specs.Prelude.{◌≡◌};
 ghost use Rattle.ftl_device.specs.Device.{IsDevice};
 
 use device_fixtures::again::Mounted;
-use device_fixtures::bench::{formatted, started};
+use device_fixtures::bench::{formatted, handed_on, started};
 use device_fixtures::calls::Call::{Flush, Read, Write};
 use device_fixtures::calls::hold_call;
 use device_fixtures::cases::Cached::{Clean, Dirty};
 use device_fixtures::cases::Step::Done;
 use device_fixtures::cases::{Case, QUIET, hold_cases};
+use device_fixtures::hold::hold_same;
 use device_fixtures::pages::{NO, PageAt};
 use device_fixtures::recorder::Operation::{Program, Programs, Read as ReadPage};
 use ftl_device::{Device, DeviceFault};
 use onfi_cycles::Nand;
 use page_layout::geometry::Geometry;
-use std::process::Abort;
+use std::alloc::Global;
 use std::test::Fail;
 
 const NONE_BAD: [u8; 16] = [0; 16];
@@ -28,7 +29,7 @@ const AT_8: &[u8] = &[NO, NO, NO, NO, NO, 8];
 // The same in row 16.
 const AT_16: &[u8] = &[NO, NO, NO, NO, NO, 16];
 
-const FLUSHES: [Case; 4] = [
+static FLUSHES: [Case; 4] = [
     Case {
         name: "a flush of nothing writes the table",
         steps: &[Done(&[Flush])],
@@ -95,7 +96,7 @@ const TWO_BAD: [u8; 16] = [2, 0, 0, 0, 2, 0, 0, 0, 0, 0, 0, 0, 0, 0, 0, 0];
 
 // The table pages are written again, all of them, until none has failed: the page that was tried says
 // what was known as it was tried first.
-const FAILURES: [Case; 3] = [
+static FAILURES: [Case; 3] = [
     Case {
         name: "one failure in a flush",
         failing: &[1],
@@ -232,20 +233,30 @@ fn shown_by<N: Nand>(device: &Device<N>) -> (u64, u32, u32, bool) {
 // Ten blocks are free as the flush begins, and its fifth and tenth program fail: the table pages are
 // written three times and open five blocks, one for the write-back before them. It is done, four
 // blocks are free, and the device only reads from then on.
-fn end_the_writing<N: Nand>(rt: &impl Abort, device: &mut Device<N>) -> Result<(), Fail>
+fn end_the_writing<N: Nand>(device: &mut Device<N>) -> Result<(), Fail>
     requires { IsDevice N.view.flash device.old }
     ensures { IsDevice N.view.flash device.new }
 {
     write_212(device)?;
     hold_call(device, "two failures", Flush, Ok(()))?;
-    assert_eq!(rt; shown_by(device), (232, 4, 62, true));
+    let shown = shown_by(device);
+    hold_same("two failures", "shown", &shown, &(232, 4, 62, true))?;
     hold_call(device, "four free", Write(0, 1), Err(NO_LONGER))
+}
+
+// The device with a cache of one on this die ends so.
+fn hold_end<N: Nand + Drop>(alloc: Global, nand: N, geometry: &Geometry) -> Result<(), Fail>
+    requires { (N.view.flash nand).geometry ≡ geometry.now }
+{
+    let mut device = started(alloc, nand, geometry, 1)?;
+    let came = end_the_writing(&mut device);
+    handed_on(device, came)?;
+    Ok(())
 }
 
 #[test]
 fn two_failures_in_a_flush_end_the_writing(rt: HostRuntime) -> Result<(), Fail> {
     let geometry = Geometry::new(64, 32, 4, 64, 1)?;
     let driver = formatted(rt.alloc(), geometry, &[217, 222], 0)?;
-    let mut device = started(rt.alloc(), driver, &geometry, 1)?;
-    end_the_writing(&rt, &mut device)
+    hold_end(rt.alloc(), driver, &geometry)
 }

@@ -1,13 +1,15 @@
 //! Calls of which a growth was refused are made again, and do what they would have done. Nothing is
 //! refused here unless the tests are run so.
+ghost use Rattle.std.specs.Prelude.{◌≡◌};
 ghost use Rattle.ftl_device.specs.Device.{IsDevice};
 
-use device_fixtures::bench::{formatted, small, started};
+use device_fixtures::bench::{formatted, handed_on, small, started};
 use device_fixtures::calls::Call::{Read, Trim, Write};
-use device_fixtures::calls::{Answer, Call, hold_call, make};
+use device_fixtures::calls::{Answer, Call, hold_answer, hold_call, make};
 use ftl_device::{Device, DeviceFault};
 use onfi_cycles::Nand;
-use std::process::Abort;
+use page_layout::geometry::Geometry;
+use std::alloc::Global;
 use std::test::Fail;
 
 // The sector of a call has 64 bytes of this one.
@@ -33,22 +35,19 @@ fn make_again<N: Nand>(device: &mut Device<N>, call: Call, before: u8) -> Result
 }
 
 // Makes these calls.
-fn make_all<N: Nand>(
-    rt: &impl Abort,
-    device: &mut Device<N>,
-    calls: &[(Call, u8)],
-) -> Result<(), Fail>
+fn make_all<N: Nand>(device: &mut Device<N>, calls: &[(Call, u8)]) -> Result<(), Fail>
     requires { IsDevice N.view.flash device.old }
     ensures { IsDevice N.view.flash device.new }
 {
     for (call, before) in calls {
-        assert_eq!(rt; make_again(device, *call, *before)?, Ok(()), "{call:?}");
+        let answer = make_again(device, *call, *before)?;
+        hold_answer("again", *call, answer, Ok(()))?;
     }
     Ok(())
 }
 
 // Calls, and the byte that their sector has before each.
-const CALLS: [(Call, u8); 11] = [
+static CALLS: [(Call, u8); 11] = [
     (Read(3, 0), 0),
     (Write(3, 1), 0),
     (Read(4, 0), 0),
@@ -62,10 +61,19 @@ const CALLS: [(Call, u8); 11] = [
     (Read(17, 4), 4),
 ];
 
+// Makes them on this die.
+fn make_on<N: Nand + Drop>(alloc: Global, nand: N, geometry: &Geometry) -> Result<(), Fail>
+    requires { (N.view.flash nand).geometry ≡ geometry.now }
+{
+    let mut device = started(alloc, nand, geometry, 4)?;
+    let came = make_all(&mut device, &CALLS);
+    handed_on(device, came)?;
+    Ok(())
+}
+
 #[test]
 fn calls_are_made_again(rt: HostRuntime) -> Result<(), Fail> {
     let geometry = small()?;
     let driver = formatted(rt.alloc(), geometry, &[], 0)?;
-    let mut device = started(rt.alloc(), driver, &geometry, 4)?;
-    make_all(&rt, &mut device, &CALLS)
+    make_on(rt.alloc(), driver, &geometry)
 }

@@ -1,13 +1,14 @@
 //! Dies with pages of version 1 are brought forward.
+ghost use Rattle.std.specs.Prelude.{◌≡◌, IfOk};
 ghost use Rattle.ftl_device.specs.Device.{IsDevice};
 
-use device_fixtures::bench::{given_up, recorded, started, unwired, wired};
+use device_fixtures::bench::{handed_on, recorded, started, unwired, wired};
 use device_fixtures::dies::{image_of, loaded};
 use device_fixtures::hold::hold_same;
-use device_fixtures::recorder::Cycle;
+use device_fixtures::recorder::{Cycle, Recorder};
 use ftl_device::{Device, DeviceFault};
 use nand_die::Die;
-use onfi_cycles::Nand;
+use onfi_cycles::{Driver, Nand};
 use page_layout::geometry::Geometry;
 use page_layout::record::{Kind, read_record, record_version};
 use page_layout::source::ImageSlice;
@@ -58,7 +59,7 @@ const OLD_TABLE_0: Row = (0, Kind::Table, 0, 1, 1);
 
 const OLD_TABLE_1: Row = (1, Kind::Table, 1, 2, 1);
 
-const CASES: [Case; 4] = [
+static CASES: [Case; 4] = [
     Case {
         name: "all pages are of version 1",
         layout: Layout {
@@ -197,22 +198,42 @@ fn shown(geometry: &Geometry, image: &ImageSlice, row: u32) -> Option<Row> {
     Some((row, found.kind, found.number, found.sequence, version))
 }
 
+// The page of this list that is in a row.
+fn row_in(rows: &[Row], row: u32) -> Option<Row> {
+    rows.iter().find(|page| page.0 == row).copied()
+}
+
 // The image has these pages and no other sound ones.
 fn hold_image(geometry: &Geometry, bytes: &[u8], case: &Case) -> Result<(), Fail> {
     let image = ImageSlice::new(geometry, bytes)?;
     for row in 0..256 {
-        let wanted = case.rows.iter().find(|page| page.0 == row).copied();
-        hold_same(case.name, "a row", &shown(geometry, &image, row), &wanted)?;
+        let found = shown(geometry, &image, row);
+        hold_same(case.name, "a row", &found, &row_in(case.rows, row))?;
     }
     Ok(())
 }
 
+// The die after the migration of a case, and its geometry. So many calls migrate one.
+fn migrated<N: Nand + Drop>(
+    alloc: Global,
+    nand: N,
+    geometry: &Geometry,
+    case: &Case,
+) -> Result<(N, Geometry), Fail>
+    requires { (N.view.flash nand).geometry ≡ geometry.now }
+    ensures { IfOk result (λ pair. (N.view.flash pair.0).geometry ≡ pair.1) }
+{
+    let mut device = started(alloc, nand, geometry, case.capacity)?;
+    let migrated = migrate_and_flush(&mut device);
+    handed_on(
+        device,
+        hold_same(case.name, "migrated", &migrated, &Ok(case.migrated)),
+    )
+}
+
 fn hold_case(alloc: Global, case: &Case, geometry: Geometry, image: &[u8]) -> Result<(), Fail> {
     let driver = loaded(alloc, geometry, image)?;
-    let mut device = started(alloc, driver, &geometry, case.capacity)?;
-    let migrated = migrate_and_flush(&mut device)?;
-    hold_same(case.name, "migrated", &migrated, &case.migrated)?;
-    let (driver, geometry) = given_up(device);
+    let (driver, geometry) = migrated(alloc, driver, &geometry, case)?;
     hold_image(&geometry, &image_of(alloc, &geometry, driver)?, case)
 }
 
@@ -224,14 +245,33 @@ fn reads_of(cycles: &[Cycle]) -> usize {
         .count()
 }
 
+// The die of a device that brought all pages forward.
+fn migrated_by<N: Nand + Drop>(mut device: Device<N>) -> Result<N, Fail>
+    requires { IsDevice N.view.flash device }
+{
+    let migrated = migrate_all(&mut device);
+    let nand = device.into_nand();
+    migrated?;
+    Ok(nand)
+}
+
+// The same of a device whose cycles are noted.
+fn migrated_on(
+    alloc: Global,
+    driver: Driver<Recorder>,
+    geometry: &Geometry,
+    capacity: u32,
+) -> Result<Driver<Recorder>, Fail>
+    requires { driver.geometry ≡ geometry.now }
+{
+    migrated_by(recorded(alloc, driver, geometry, capacity, None)?)
+}
+
 // So many pages are read as the die is brought forward.
 fn hold_reads(alloc: Global, case: &Case, geometry: Geometry, image: &[u8]) -> Result<(), Fail> {
     let die = Die::from_image(alloc, geometry, image, &[])?;
     let driver = wired(alloc, die, geometry)?;
-    let mut device = recorded(alloc, driver, &geometry, case.capacity, None)?;
-    migrate_all(&mut device)?;
-    let (driver, _) = given_up(device);
-    let (_, seen) = unwired(driver);
+    let (_, seen) = unwired(migrated_on(alloc, driver, &geometry, case.capacity)?);
     hold_same(case.name, "page reads", &reads_of(&seen), &case.reads)
 }
 

@@ -7,6 +7,7 @@ use device_fixtures::calls::Call;
 use device_fixtures::calls::Call::{Read, Trim, Write};
 use device_fixtures::cases::Step::{Done, Refused};
 use device_fixtures::cases::{Case, QUIET, hold_cases};
+use device_fixtures::hold::hold_same;
 use device_fixtures::pages::PageAt;
 use device_fixtures::recorder::Operation::{Program, Read as ReadPage};
 use device_fixtures::recorder::Recorder;
@@ -17,35 +18,17 @@ use onfi_cycles::Driver;
 use page_layout::geometry::Geometry;
 use page_layout::source::PageSource;
 use std::alloc::Global;
-use std::process::Abort;
 use std::test::Fail;
 
-// There are so many bytes, of which one is this.
-fn hold_byte(rt: &impl Abort, bytes: &[u8], length: usize, at: usize, byte: u8) {
-    assert_eq!(rt; bytes.len(), length);
-    assert_eq!(rt; bytes.get(at), Some(&byte));
-}
-
-// A certificate has so many bytes, of which one is this.
-fn hold_certificate(
-    rt: &impl Abort,
-    alloc: Global,
-    certificate: &Certificate,
-    length: usize,
-    at: usize,
-    byte: u8,
-) -> Result<(), Fail> {
-    hold_byte(rt, &bytes_of(alloc, certificate)?, length, at, byte);
-    Ok(())
+// There are 472 bytes, of which one is row 9 of sector 5.
+fn hold_newest(bytes: &[u8]) -> Result<(), Fail> {
+    let found = (bytes.len(), bytes.get(364).copied());
+    hold_same("a certificate", "row 9", &found, &(472, Some(9)))
 }
 
 // The certificate with row 8 for sector 5 in place of row 9.
-fn with_older_row(
-    rt: &impl Abort,
-    alloc: Global,
-    certificate: &Certificate,
-) -> Result<Certificate, Fail> {
-    hold_certificate(rt, alloc, certificate, 472, 364, 9)?;
+fn with_older_row(alloc: Global, certificate: &Certificate) -> Result<Certificate, Fail> {
+    hold_newest(&bytes_of(alloc, certificate)?)?;
     with_bytes(alloc, certificate, 364, &[8])
 }
 
@@ -59,6 +42,19 @@ fn check_refusal<S: PageSource>(
     requires { (S.view.flash source.old).geometry ≡ geometry.now }
 {
     check(alloc, source, geometry, 4, certificate).err()
+}
+
+// Why a checker refuses the certificate of a mount, but for an older row.
+fn older_refusal<S: PageSource>(
+    alloc: Global,
+    source: &mut S,
+    geometry: &Geometry,
+) -> Result<Option<Refusal>, Fail>
+    requires { (S.view.flash source.old).geometry ≡ geometry.now }
+{
+    let mounted = mounted(alloc, source, geometry, 4)?;
+    let older = with_older_row(alloc, &mounted)?;
+    Ok(check_refusal(alloc, source, geometry, &older))
 }
 
 // Why a mount with a cache of two is refused.
@@ -81,16 +77,15 @@ fn die_after(alloc: Global, calls: &[Call]) -> Result<(Driver<Recorder>, Geometr
     after_calls(alloc, driver, &geometry, calls)
 }
 
+static TWICE: [Call; 2] = [Write(5, 1), Write(5, 2)];
+
 // A certificate that has an older page of a sector than its newest is refused.
 #[test]
 fn older_page_is_refused(rt: HostRuntime) -> Result<(), Fail> {
-    let calls = [Write(5, 1), Write(5, 2)];
-    let (mut driver, geometry) = die_after(rt.alloc(), &calls)?;
-    let mounted = mounted(rt.alloc(), &mut driver, &geometry, 4)?;
-    let older = with_older_row(&rt, rt.alloc(), &mounted)?;
-    let refusal = check_refusal(rt.alloc(), &mut driver, &geometry, &older);
-    assert_eq!(rt; refusal, Some(Refusal::NotNewest { sector: 5, row: 9 }));
-    Ok(())
+    let (mut driver, geometry) = die_after(rt.alloc(), &TWICE)?;
+    let refusal = older_refusal(rt.alloc(), &mut driver, &geometry)?;
+    let want = Refusal::NotNewest { sector: 5, row: 9 };
+    hold_same("an older page", "refusal", &refusal, &Some(want))
 }
 
 const THREE: [Call; 3] = [Write(0, 3), Write(1, 4), Write(2, 5)];
@@ -104,11 +99,10 @@ fn mount_needs_room_for_stale_sectors(rt: HostRuntime) -> Result<(), Fail> {
         stale: 3,
         capacity: 2,
     };
-    assert_eq!(rt; refusal, Some(want));
-    Ok(())
+    hold_same("three sectors", "refusal", &refusal, &Some(want))
 }
 
-const RESTARTS: [Case; 3] = [
+static RESTARTS: [Case; 3] = [
     Case {
         name: "a cache with just the room for three stale sectors",
         before: &[Done(&THREE)],

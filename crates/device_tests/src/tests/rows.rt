@@ -4,6 +4,7 @@ use device_fixtures::calls::Call::{Read, Trim, Write};
 use device_fixtures::cases::Cached::{Clean, Dirty};
 use device_fixtures::cases::Step::{Done, Refused};
 use device_fixtures::cases::{Case, QUIET, hold_cases};
+use device_fixtures::hold::hold_same;
 use device_fixtures::pages::PageAt;
 use device_fixtures::recorder::Operation::{Program, Programs, Read as ReadPage};
 use device_fixtures::recorder::{Cycle, Operation, cycles_of};
@@ -11,7 +12,7 @@ use ftl_device::DeviceFault;
 use std::test::Fail;
 
 // The cycles of Reset and of a program of row 8 that passed.
-const SPELLED: [Cycle; 12] = [
+static SPELLED: [Cycle; 12] = [
     Cycle::Command(0xFF),
     Cycle::Command(0x80),
     Cycle::Address(0x00),
@@ -29,8 +30,12 @@ const SPELLED: [Cycle; 12] = [
 #[test]
 fn program_is_spelled(rt: HostRuntime) -> Result<(), Fail> {
     let cycles = cycles_of(rt.alloc(), &[Operation::Program(8, 0xE0)])?;
-    assert_eq!(rt; cycles.as_slice(), SPELLED.as_slice());
-    Ok(())
+    hold_same(
+        "a program",
+        "cycles",
+        &cycles.as_slice(),
+        &SPELLED.as_slice(),
+    )
 }
 
 // The spare bytes before the seal: the mark, version and kind, the sector, the sequence, the erases
@@ -40,7 +45,7 @@ const FIRST_SPARE: [u8; 24] = [
     0x00, 0x00, 0x00, 0x00, 0xFF, 0xFF, 0xFF, 0xFF,
 ];
 
-const SECTORS: [Case; 3] = [
+static SECTORS: [Case; 3] = [
     Case {
         name: "a write is one program",
         steps: &[Done(&[Write(5, 0x5A)])],
@@ -100,7 +105,7 @@ const SIX_PAGES: [PageAt; 6] = [
     PageAt::Sector(12, 16, 8, 9),
 ];
 
-const CACHES: [Case; 4] = [
+static CACHES: [Case; 4] = [
     // The cache of four has four dirty sectors, so the fifth has their translation page written first.
     Case {
         name: "a dirty sector is written back",

@@ -1,15 +1,18 @@
 //! Blocks that are collected from turn to turn.
+ghost use Rattle.std.specs.Prelude.{◌≡◌};
 ghost use Rattle.ftl_device.specs.Device.{IsDevice};
 
 use device_fixtures::again::Mounted;
-use device_fixtures::bench::{formatted_die, small, started};
+use device_fixtures::bench::{formatted_die, given_up, small, started};
 use device_fixtures::calls::Call::{self, Flush, Read, Turn, Write};
 use device_fixtures::calls::hold_call;
 use device_fixtures::cases::Step::{self, Done, Spread};
 use device_fixtures::cases::{Case, QUIET, Told, erases_of, hold_cases};
+use device_fixtures::hold::hold_same;
 use device_fixtures::recorder::Operation::{Erase, Program, Programs};
 use ftl_device::Device;
 use onfi_cycles::Nand;
+use page_layout::geometry::Geometry;
 use std::alloc::Global;
 use std::test::Fail;
 
@@ -40,7 +43,7 @@ const ALL_CACHED: Case = Case {
 };
 
 // Two turns collect block 1, and the third asks the die for nothing.
-const CACHED: [Case; 3] = [
+static CACHED: [Case; 3] = [
     Case {
         name: "a turn pins a block and copies its page",
         steps: &[Spread(19, 31, 7), Done(&[Write(19, 20), Turn])],
@@ -94,7 +97,7 @@ const STARTED: Case = Case {
 };
 
 // The moved sector waits for its translation page, which the second turn writes.
-const UNCACHED: [Case; 4] = [
+static UNCACHED: [Case; 4] = [
     Case {
         name: "a sector is moved",
         steps: &[Done(&[Turn])],
@@ -141,7 +144,7 @@ const UNCACHED: [Case; 4] = [
 
 // A moved sector that is read is not cached. Once it is written it is, and the block is erased next: no
 // translation page has to be.
-const BETWEEN: [Case; 3] = [
+static BETWEEN: [Case; 3] = [
     Case {
         name: "a moved sector is read",
         steps: &[Done(&[Turn, Read(0, 1)])],
@@ -175,7 +178,7 @@ const BETWEEN: [Case; 3] = [
 
 // A flush writes the translation page of a moved sector too, and the block stays pinned. A restart
 // forgets the pin: the device that is started finds a victim without a live page, and erases it.
-const STOPPED: [Case; 3] = [
+static STOPPED: [Case; 3] = [
     Case {
         name: "a flush writes the row of a moved sector",
         steps: &[Done(&[Turn, Flush])],
@@ -252,18 +255,33 @@ fn collecting<N: Nand>(device: &mut Device<N>, count: u32, turns: bool) -> Resul
     Ok(collecting)
 }
 
-// How many of the writes of a new device with a cache of four erase a block.
+// How many of the writes of a device with a cache of four on this die erase a block.
+fn collecting_on<N: Nand + Drop>(
+    alloc: Global,
+    nand: N,
+    geometry: &Geometry,
+    count: u32,
+    turns: bool,
+) -> Result<u32, Fail>
+    requires { (N.view.flash nand).geometry ≡ geometry.now }
+{
+    let mut device = started(alloc, nand, geometry, 4)?;
+    let found = collecting(&mut device, count, turns);
+    given_up(device);
+    found
+}
+
+// The same on a new die.
 fn collecting_of(alloc: Global, count: u32, turns: bool) -> Result<u32, Fail> {
     let geometry = small()?;
     let driver = formatted_die(alloc, geometry, &[], 0)?;
-    let mut device = started(alloc, driver, &geometry, 4)?;
-    collecting(&mut device, count, turns)
+    collecting_on(alloc, driver, &geometry, count, turns)
 }
 
 // With a turn after each, none of 20,000 writes has to collect.
 #[test]
 fn turns_collect_for_writes(rt: HostRuntime) -> Result<(), Fail> {
-    assert_eq!(rt; collecting_of(rt.alloc(), 2_000, false)?, 321);
-    assert_eq!(rt; collecting_of(rt.alloc(), 20_000, true)?, 0);
-    Ok(())
+    let alone = collecting_of(rt.alloc(), 2_000, false)?;
+    let with_turns = collecting_of(rt.alloc(), 20_000, true)?;
+    hold_same("writes", "collecting", &(alone, with_turns), &(321, 0))
 }

@@ -15,7 +15,7 @@ fn is_stopped(answer: Result<(), EngineFault>) -> Result<bool, Fail> {
     match answer {
         Ok(()) => Ok(false),
         Err(EngineFault::Bus) => Ok(true),
-        Err(_) => Err("the collection is refused")?,
+        Err(_) => Err(Fail::new("the collection is refused")),
     }
 }
 
@@ -26,7 +26,7 @@ fn collect<N: Nand>(engine: &mut Engine<N>) -> Result<bool, Fail>
     ensures { IsSafe N.view.flash engine.new }
 {
     if engine.geometry.blocks() < 2 || !engine.closed(1) || !engine.pinned.is_none() {
-        return Err("a block that isn't to be collected")?;
+        return Err(Fail::new("a block that isn't to be collected"));
     }
     is_stopped(engine.collect(1, false))
 }
@@ -44,7 +44,9 @@ pub fn collected<N: Nand + Drop>(
     ensures { IfOk result (λ pair. (N.view.flash pair.0).geometry ≡ pair.1) }
 {
     let mut engine = device.into_engine();
-    *stopped = collect(&mut engine)?;
+    let is_stopped = collect(&mut engine);
     let geometry = engine.geometry;
-    Ok((engine.into_nand(), geometry))
+    let nand = engine.into_nand();
+    *stopped = is_stopped?;
+    Ok((nand, geometry))
 }

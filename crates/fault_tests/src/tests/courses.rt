@@ -6,7 +6,7 @@ use super::collecting::collected;
 use super::fault_scripts::nth_call;
 use super::noise::{noisy, quiet};
 use super::script::Script;
-use device_fixtures::bench::{driver_on, formatted_die, given_up, started};
+use device_fixtures::bench::{driver_on, formatted_die, handed_on, started};
 use device_fixtures::calls::{Answer, CLOSING, Call, make};
 use device_fixtures::dies::image_of;
 use ftl_device::{Device, DeviceFault};
@@ -31,6 +31,9 @@ pub enum Calls {
     Collecting,
 }
 
+// The calls before a collection.
+static BEFORE: [Call; 8] = CLOSING;
+
 impl Calls {
     // The calls that the die of version 1 has behind it, where it is of that version.
     fn first(self) -> Option<Calls> {
@@ -47,7 +50,7 @@ impl Calls {
             Calls::Migrating if i % 4 == 1 => Call::Migrate,
             Calls::Spread if i % 8 == 0 => Call::Write(i / 8 % 31, (i % 251) as u8),
             Calls::Spread => Call::Write(31, (i % 251) as u8),
-            Calls::Collecting if i < 8 => CLOSING[i as usize],
+            Calls::Collecting if i < 8 => BEFORE[i as usize],
             _ => nth_call(i),
         }
     }
@@ -162,11 +165,12 @@ fn after<N: Nand + Drop>(
     requires { IsDevice N.view.flash device }
     ensures { IfOk result (λ pair. (N.view.flash pair.0).geometry ≡ pair.1) }
 {
-    give_until_stop(&mut device, course.calls, course.count, went)?;
-    if course.calls == Calls::Collecting && went.stopped.is_none() {
-        return after_collection(device, went);
+    match give_until_stop(&mut device, course.calls, course.count, went) {
+        Ok(()) if course.calls == Calls::Collecting && went.stopped.is_none() => {
+            after_collection(device, went)
+        }
+        came => handed_on(device, came),
     }
-    Ok(given_up(device))
 }
 
 // A die at the start of a course that stops at this program or erase.
@@ -194,20 +198,20 @@ fn run_on<N: Nand + Drop>(
 }
 
 // The same, over reads with wrong bits where the course has them.
-fn run_over(
+fn run_over<N: Nand + Drop>(
     alloc: Global,
-    driver: Driver<Die>,
+    nand: N,
     course: &Course,
     start: &Start,
     went: &mut Went,
-) -> Result<(Driver<Die>, Geometry), Fail>
-    requires { driver.geometry ≡ start.now.geometry }
-    ensures { IfOk result (λ pair. pair.0.geometry ≡ pair.1) }
+) -> Result<(N, Geometry), Fail>
+    requires { (N.view.flash nand).geometry ≡ start.now.geometry }
+    ensures { IfOk result (λ pair. (N.view.flash pair.0).geometry ≡ pair.1) }
 {
     if !course.noise {
-        return run_on(alloc, driver, course, start, went);
+        return run_on(alloc, nand, course, start, went);
     }
-    let nand = noisy(alloc, driver, &start.geometry)?;
+    let nand = noisy(alloc, nand, &start.geometry)?;
     let (nand, geometry) = run_on(alloc, nand, course, start, went)?;
     Ok((quiet(nand)?, geometry))
 }
@@ -273,6 +277,23 @@ fn age(geometry: &Geometry, image: &mut [u8]) -> u32 {
     aged
 }
 
+// The die and its geometry after so many of these calls of a device with a cache of four.
+fn after_calls<N: Nand + Drop>(
+    alloc: Global,
+    nand: N,
+    geometry: &Geometry,
+    calls: Calls,
+    count: u32,
+    went: &mut Went,
+) -> Result<(N, Geometry), Fail>
+    requires { (N.view.flash nand).geometry ≡ geometry.now }
+    ensures { IfOk result (λ pair. (N.view.flash pair.0).geometry ≡ pair.1) }
+{
+    let mut device = started(alloc, nand, geometry, 4)?;
+    let came = give_until_stop(&mut device, calls, count, went);
+    handed_on(device, came)
+}
+
 // The image of a formatted die after so many of these calls.
 fn image_after(
     alloc: Global,
@@ -282,9 +303,7 @@ fn image_after(
     went: &mut Went,
 ) -> Result<Vec<u8>, Fail> {
     let driver = formatted_die(alloc, geometry, &[], 0)?;
-    let mut device = started(alloc, driver, &geometry, 4)?;
-    give_until_stop(&mut device, calls, count, went)?;
-    let (driver, geometry) = given_up(device);
+    let (driver, geometry) = after_calls(alloc, driver, &geometry, calls, count, went)?;
     image_of(alloc, &geometry, driver)
 }
 
@@ -306,7 +325,7 @@ pub fn start_of(alloc: Global, course: &Course) -> Result<Start, Fail> {
         &mut went,
     )?;
     if first.is_some() && age(&geometry, &mut image) < 128 {
-        return Err("few pages are in version 1")?;
+        return Err(Fail::new("few pages are in version 1"));
     }
     Ok(Start {
         geometry,

@@ -3,12 +3,11 @@ ghost use Rattle.std.specs.Prelude.{◌≡◌, IfOk};
 ghost use Rattle.ftl_device.specs.Device.{IsDevice};
 
 use super::noise::{noisy, quiet};
-use super::script::{Script, change, compare};
-use device_fixtures::bench::{formatted_die, given_up, small, started};
+use super::script::{Script, change, changes_of, compare, compared};
+use device_fixtures::bench::{formatted_die, handed_on, small, started};
 use device_fixtures::calls::Call;
 use ftl_device::Device;
-use nand_die::Die;
-use onfi_cycles::{Driver, Nand};
+use onfi_cycles::Nand;
 use page_layout::geometry::Geometry;
 use std::alloc::Global;
 use std::process::Abort;
@@ -31,28 +30,37 @@ pub fn nth_call(i: u32) -> Call {
 }
 
 // Makes the calls up to the one after which so few blocks are good. All sectors are compared after each.
-fn give_until<N: Nand>(
-    rt: &impl Abort,
-    device: &mut Device<N>,
-    script: &mut Script,
-    good: u32,
-) -> Result<(), Fail>
+fn give_until<N: Nand>(device: &mut Device<N>, script: &mut Script, good: u32) -> Result<(), Fail>
     requires { IsDevice N.view.flash device.old }
     ensures { IsDevice N.view.flash device.new }
 {
     for i in 0..400 {
         if device.engine.blocks.good() > good {
-            change(rt, device, script, nth_call(i))?;
+            change(device, script, nth_call(i))?;
             compare(device, script)?;
         }
     }
     Ok(())
 }
 
-// The calls of a device with a cache of four, up to the one after which so few blocks are good. The die is
-// mounted then with a cache of twelve, and the sectors are compared again.
+// The die and its geometry after the calls of a device with a cache of four, up to the one after which so few blocks are good.
+fn given_until<N: Nand + Drop>(
+    alloc: Global,
+    nand: N,
+    geometry: &Geometry,
+    good: u32,
+    script: &mut Script,
+) -> Result<(N, Geometry), Fail>
+    requires { (N.view.flash nand).geometry ≡ geometry.now }
+    ensures { IfOk result (λ pair. (N.view.flash pair.0).geometry ≡ pair.1) }
+{
+    let mut device = started(alloc, nand, geometry, 4)?;
+    let came = give_until(&mut device, script, good);
+    handed_on(device, came)
+}
+
+// Makes these calls. The die is mounted then with a cache of twelve, and the sectors are compared again.
 fn give_on<N: Nand + Drop>(
-    rt: &impl Abort,
     alloc: Global,
     nand: N,
     geometry: &Geometry,
@@ -61,35 +69,29 @@ fn give_on<N: Nand + Drop>(
     requires { (N.view.flash nand).geometry ≡ geometry.now }
 {
     let mut script = Script::new();
-    let mut device = started(alloc, nand, geometry, 4)?;
-    give_until(rt, &mut device, &mut script, good)?;
-    let (nand, geometry) = given_up(device);
-    let mut device = started(alloc, nand, &geometry, 12)?;
-    compare(&mut device, &script)?;
-    Ok(device.into_nand())
+    let (nand, geometry) = given_until(alloc, nand, geometry, good, &mut script)?;
+    compared(alloc, nand, &geometry, 12, &script)
 }
 
 // The same over reads with wrong bits, where this is wanted.
-fn give_over(
-    rt: &impl Abort,
+fn give_over<N: Nand + Drop>(
     alloc: Global,
-    driver: Driver<Die>,
+    nand: N,
     geometry: &Geometry,
     good: u32,
     noise: bool,
-) -> Result<Driver<Die>, Fail>
-    requires { driver.geometry ≡ geometry.now }
+) -> Result<N, Fail>
+    requires { (N.view.flash nand).geometry ≡ geometry.now }
 {
     if !noise {
-        return give_on(rt, alloc, driver, geometry, good);
+        return give_on(alloc, nand, geometry, good);
     }
-    let nand = noisy(alloc, driver, geometry)?;
-    quiet(give_on(rt, alloc, nand, geometry, good)?)
+    let nand = noisy(alloc, nand, geometry)?;
+    quiet(give_on(alloc, nand, geometry, good)?)
 }
 
 // Gives them on a new die, of which these changes fail. Its own changes, none of them illegal.
 fn changes_with(
-    rt: &impl Abort,
     alloc: Global,
     failing: &[u16],
     page_left: usize,
@@ -98,9 +100,19 @@ fn changes_with(
 ) -> Result<u64, Fail> {
     let geometry = small()?;
     let driver = formatted_die(alloc, geometry, failing, page_left)?;
-    let die = give_over(rt, alloc, driver, &geometry, good, noise)?.into_bus();
-    assert_eq!(rt; die.abuse(), 0, "{failing:?}");
-    Ok(die.changes().saturating_sub(2))
+    let driver = give_over(alloc, driver, &geometry, good, noise)?;
+    changes_of(driver, failing, 2)
+}
+
+// This change and those after it fail, so many: to the call in which the last of them did, and to the end.
+fn hold_from(alloc: Global, first: u16, count: u16, noise: bool) -> Result<(), Fail> {
+    let failing = [first, first.wrapping_add(1), first.wrapping_add(2)];
+    let failing = &failing[..usize::from(count).min(3)];
+    let page_left = if first % 2 == 1 { 0 } else { 96 };
+    let left = 32u32.saturating_sub(u32::from(count));
+    changes_with(alloc, failing, page_left, left, noise)?;
+    changes_with(alloc, failing, page_left, 0, noise)?;
+    Ok(())
 }
 
 // Changes fail, one in so many, and so many after each: to the call in which the last of them did, and to the end.
@@ -111,16 +123,11 @@ fn hold_each(
     each: u16,
     noise: bool,
 ) -> Result<(), Fail> {
-    let changes = changes_with(rt, alloc, &[], 0, 0, noise)?;
+    let changes = changes_with(alloc, &[], 0, 0, noise)?;
     assert!(rt; changes > 400 && changes < 10_000, "{changes}");
     for first in 1..=changes as u16 {
         if first % each.max(1) == 0 {
-            let failing = [first, first.wrapping_add(1), first.wrapping_add(2)];
-            let failing = &failing[..usize::from(count).min(3)];
-            let page_left = if first % 2 == 1 { 0 } else { 96 };
-            let left = 32u32.saturating_sub(u32::from(count));
-            changes_with(rt, alloc, failing, page_left, left, noise)?;
-            changes_with(rt, alloc, failing, page_left, 0, noise)?;
+            hold_from(alloc, first, count, noise)?;
         }
     }
     Ok(())

@@ -39,7 +39,7 @@ const ONE_LEFT_OF_32: DeviceFault = DeviceFault::ReadOnly {
 
 // A sector is tried in the next block with the next sequence after each failure, which leaves its
 // block bad.
-const TRIED_ELSEWHERE: [Case; 3] = [
+static TRIED_ELSEWHERE: [Case; 3] = [
     Case {
         name: "one failed program",
         failing: &[1],
@@ -86,7 +86,7 @@ const TRIED_ELSEWHERE: [Case; 3] = [
     },
 ];
 
-const FEW_BLOCKS: [Case; 2] = [
+static FEW_BLOCKS: [Case; 2] = [
     // Three blocks are left, so the next write is refused, and asks the die for nothing.
     Case {
         name: "few blocks are left",

@@ -7,7 +7,7 @@ ghost use Rattle.ftl_device.specs.Device.{IsDevice};
 use super::courses::{Calls, Course, Start, start_of};
 use super::old::{Old, old_of};
 use super::script::{Script, compare};
-use device_fixtures::bench::{driver_on, given_up, started};
+use device_fixtures::bench::{driver_on, given_up, handed_on, started};
 use device_fixtures::calls::{Call, hold_call};
 use device_fixtures::hold::hold_same;
 use ftl_device::Device;
@@ -39,7 +39,7 @@ const OLD: Course = Course {
     noise: false,
 };
 
-const FAILURES: Row = Row {
+static FAILURES: Row = Row {
     course: OLD,
     pins: false,
     restarts: false,
@@ -47,7 +47,7 @@ const FAILURES: Row = Row {
     least: 8,
 };
 
-const PINNED: Row = Row {
+static PINNED: Row = Row {
     course: Course {
         name: "a pinned block",
         calls: Calls::Spread,
@@ -60,7 +60,7 @@ const PINNED: Row = Row {
     least: 8,
 };
 
-const RESTARTS: Row = Row {
+static RESTARTS: Row = Row {
     course: Course {
         name: "restarts",
         ..OLD
@@ -157,7 +157,7 @@ fn give_first<N: Nand>(device: &mut Device<N>, row: &Row, script: &mut Script) -
         give(device, row, script, row.nth(i))?;
     }
     if row.pins {
-        return Err("no block is pinned")?;
+        return Err(Fail::new("no block is pinned"));
     }
     Ok(())
 }
@@ -177,21 +177,44 @@ fn bring<N: Nand>(device: &mut Device<N>, most: u32, script: &Script) -> Result<
     Ok(most)
 }
 
+// The same, where all sectors are compared before.
+fn bring_compared<N: Nand>(device: &mut Device<N>, most: u32, script: &Script) -> Result<u32, Fail>
+    requires { IsDevice N.view.flash device.old }
+    ensures { IsDevice N.view.flash device.new }
+{
+    compare(device, script)?;
+    bring(device, most, script)
+}
+
 // A device that brought so many pages forward gives the die up.
-fn handed_on<N: Nand + Drop>(
+fn given_on<N: Nand + Drop>(
     alloc: Global,
     device: Device<N>,
     row: &Row,
-    count: u32,
+    count: Result<u32, Fail>,
     came: &mut Came,
-) -> Result<(N, Geometry), Fail>
+) -> Result<(N, Geometry, u32), Fail>
     requires { IsDevice N.view.flash device }
-    ensures { IfOk result (λ pair. (N.view.flash pair.0).geometry ≡ pair.1) }
+    ensures { IfOk result (λ given. (N.view.flash given.0).geometry ≡ given.1) }
 {
     let (mut nand, geometry) = given_up(device);
+    let count = count?;
     let old = old_of(alloc, &mut nand, &geometry)?;
     came.go_on(row, count, old)?;
-    Ok((nand, geometry))
+    Ok((nand, geometry, count))
+}
+
+// Makes the calls of a row, and brings pages forward. How many these are.
+fn begin<N: Nand>(device: &mut Device<N>, row: &Row, script: &mut Script) -> Result<u32, Fail>
+    requires { IsDevice N.view.flash device.old }
+    ensures { IsDevice N.view.flash device.new }
+{
+    give_first(device, row, script)?;
+    let count = bring(device, row.most(), script)?;
+    if !row.restarts {
+        give(device, row, script, Call::Flush)?;
+    }
+    Ok(count)
 }
 
 // The first device makes the calls, and brings pages forward.
@@ -201,17 +224,13 @@ fn begun<N: Nand + Drop>(
     geometry: &Geometry,
     row: &Row,
     came: &mut Came,
-) -> Result<(N, Geometry), Fail>
+) -> Result<(N, Geometry, u32), Fail>
     requires { (N.view.flash nand).geometry ≡ geometry.now }
-    ensures { IfOk result (λ pair. (N.view.flash pair.0).geometry ≡ pair.1) }
+    ensures { IfOk result (λ given. (N.view.flash given.0).geometry ≡ given.1) }
 {
     let mut device = started(alloc, nand, geometry, 4)?;
-    give_first(&mut device, row, &mut came.script)?;
-    let count = bring(&mut device, row.most(), &came.script)?;
-    if !row.restarts {
-        give(&mut device, row, &mut came.script, Call::Flush)?;
-    }
-    handed_on(alloc, device, row, count, came)
+    let count = begin(&mut device, row, &mut came.script);
+    given_on(alloc, device, row, count, came)
 }
 
 // The next device brings pages forward. How many these are.
@@ -226,10 +245,8 @@ fn restarted<N: Nand + Drop>(
     ensures { IfOk result (λ given. (N.view.flash given.0).geometry ≡ given.1) }
 {
     let mut device = started(alloc, nand, geometry, 4)?;
-    compare(&mut device, &came.script)?;
-    let count = bring(&mut device, row.most(), &came.script)?;
-    let (nand, geometry) = handed_on(alloc, device, row, count, came)?;
-    Ok((nand, geometry, count))
+    let count = bring_compared(&mut device, row.most(), &came.script);
+    given_on(alloc, device, row, count, came)
 }
 
 // Devices bring pages forward, one after the other, until one finds none.
@@ -251,22 +268,34 @@ fn bring_all<N: Nand + Drop>(
             return Ok((nand, geometry));
         }
     }
-    Err("no end")?
+    Err(Fail::new("no end"))
+}
+
+// Brings a page forward, if there is one, and flushes. How many pages these are.
+fn flush_last<N: Nand>(device: &mut Device<N>, row: &Row, script: &mut Script) -> Result<u32, Fail>
+    requires { IsDevice N.view.flash device.old }
+    ensures { IsDevice N.view.flash device.new }
+{
+    let count = bring(device, 1, script)?;
+    give(device, row, script, Call::Flush)?;
+    Ok(count)
 }
 
 // A device finds none, and flushes. No newest page is of version 1 then.
 fn flushed<N: Nand + Drop>(
     alloc: Global,
-    mut device: Device<N>,
+    nand: N,
+    geometry: &Geometry,
     row: &Row,
     came: &mut Came,
 ) -> Result<(N, Geometry), Fail>
-    requires { IsDevice N.view.flash device }
+    requires { (N.view.flash nand).geometry ≡ geometry.now }
     ensures { IfOk result (λ pair. (N.view.flash pair.0).geometry ≡ pair.1) }
 {
-    let count = bring(&mut device, 1, &came.script)?;
-    give(&mut device, row, &mut came.script, Call::Flush)?;
+    let mut device = started(alloc, nand, geometry, 4)?;
+    let count = flush_last(&mut device, row, &mut came.script);
     let (mut nand, geometry) = given_up(device);
+    let count = count?;
     let old = old_of(alloc, &mut nand, &geometry)?;
     hold_same(row.course.name, "after a flush", &(count, old), &(0, NONE))?;
     Ok((nand, geometry))
@@ -282,9 +311,10 @@ fn compared<N: Nand + Drop>(
     requires { (N.view.flash nand).geometry ≡ geometry.now }
 {
     let mut device = started(alloc, nand, geometry, 1)?;
-    compare(&mut device, script)?;
+    let came = compare(&mut device, script);
     let good = device.engine.blocks.good();
-    Ok((device.into_nand(), good))
+    let (nand, _) = handed_on(device, came)?;
+    Ok((nand, good))
 }
 
 // As many pages were brought forward as should be.
@@ -295,6 +325,21 @@ fn hold_brought(row: &Row, came: &Came) -> Result<(), Fail> {
     }
     let name = row.course.name;
     Err(Fail::new(format_args!("{name}: {found} pages are brought forward")))
+}
+
+// The die and its geometry once devices found no more pages to bring forward.
+fn brought<N: Nand + Drop>(
+    alloc: Global,
+    nand: N,
+    geometry: &Geometry,
+    row: &Row,
+    came: &mut Came,
+) -> Result<(N, Geometry), Fail>
+    requires { (N.view.flash nand).geometry ≡ geometry.now }
+    ensures { IfOk result (λ pair. (N.view.flash pair.0).geometry ≡ pair.1) }
+{
+    let (nand, geometry, _) = begun(alloc, nand, geometry, row, came)?;
+    bring_all(alloc, nand, geometry, row, came)
 }
 
 // A die goes from device to device until all its pages are of version 2. The die, and how many blocks are good.
@@ -313,26 +358,38 @@ fn brought_forward<N: Nand + Drop>(
         brought: 0,
         old,
     };
-    let (nand, geometry) = begun(alloc, nand, geometry, row, &mut came)?;
-    let (nand, geometry) = bring_all(alloc, nand, geometry, row, &mut came)?;
+    let (nand, geometry) = brought(alloc, nand, geometry, row, &mut came)?;
     hold_brought(row, &came)?;
-    let last = started(alloc, nand, &geometry, 4)?;
-    let (nand, geometry) = flushed(alloc, last, row, &mut came)?;
+    let (nand, geometry) = flushed(alloc, nand, &geometry, row, &mut came)?;
     compared(alloc, nand, &geometry, &came.script)
+}
+
+// This program or erase fails, and leaves so many bytes 00h.
+fn one_fault(alloc: Global, nth_change: u64, left: usize) -> Result<Vec<Fault>, Fail> {
+    let page_left = vec![in alloc; 0; left]?;
+    let mut faults = Vec::new(alloc);
+    faults.push(Fault {
+        nth_change,
+        page_left,
+    })?;
+    Ok(faults)
+}
+
+// A die of which these programs and erases fail.
+fn with_faults(mut die: Die, faults: Vec<Fault>) -> Result<Die, Fail>
+    ensures { IfOk result (λ its. its.state ≡ die.state) }
+{
+    die.set_faults(faults)?;
+    Ok(die)
 }
 
 // A die on which this program or erase fails.
 fn failing(alloc: Global, row: &Row, start: &Start, nth: u64) -> Result<Driver<Die>, Fail>
     ensures { IfOk result (λ driver. driver.geometry ≡ start.now.geometry) }
 {
-    let mut die = Die::from_image(alloc, start.geometry, &start.image, &[])?;
-    let mut faults = Vec::new(alloc);
-    faults.push(Fault {
-        nth_change: nth,
-        page_left: vec![in alloc; 0; row.page_left(nth)]?,
-    })?;
-    die.set_faults(faults)?;
-    driver_on(die, start.geometry)
+    let faults = one_fault(alloc, nth, row.page_left(nth))?;
+    let die = Die::from_image(alloc, start.geometry, &start.image, &[])?;
+    driver_on(with_faults(die, faults)?, start.geometry)
 }
 
 // A row with a die on which this program or erase fails, or none with number 0. How many programs and erases there were.
@@ -340,13 +397,9 @@ fn changes_of(alloc: Global, row: &Row, start: &Start, nth: u64) -> Result<u64, 
     let driver = failing(alloc, row, start, nth)?;
     let (driver, good) = brought_forward(alloc, driver, &start.geometry, row, start.script)?;
     let die = driver.into_bus();
-    let wanted = if nth == 0 { 32 } else { 31 };
-    hold_same(
-        row.course.name,
-        "abuse and good blocks",
-        &(die.abuse(), good),
-        &(0, wanted),
-    )?;
+    let wanted = (0, if nth == 0 { 32 } else { 31 });
+    let found = (die.abuse(), good);
+    hold_same(row.course.name, "abuse and good blocks", &found, &wanted)?;
     Ok(die.changes())
 }
 

@@ -20,7 +20,7 @@ const NEVER: Newest = Newest {
 fn byte_of(kind: Kind, body: &[u8]) -> Result<u8, Fail> {
     let first = body.first().copied().unwrap_or(0);
     if body.iter().any(|byte| *byte != first) {
-        return Err("a page of several bytes")?;
+        return Err(Fail::new("a page of several bytes"));
     }
     Ok(if kind == Kind::Trim { 0 } else { first })
 }
@@ -35,7 +35,7 @@ fn see(newest: &mut [Newest; 32], record: Record, body: &[u8]) -> Result<(), Fai
         .get_mut(record.number as usize)
         .ok_or("no such sector")?;
     if record.sequence == seen.sequence {
-        return Err("a sequence came twice")?;
+        return Err(Fail::new("a sequence came twice"));
     }
     if record.sequence > seen.sequence {
         seen.sequence = record.sequence;
@@ -48,7 +48,7 @@ fn see(newest: &mut [Newest; 32], record: Record, body: &[u8]) -> Result<(), Fai
 fn see_row(newest: &mut [Newest; 32], image: &ImageSlice<'_>, row: u32) -> Result<(), Fail> {
     let geometry = image.geometry();
     if !geometry.has_row(row) {
-        return Err("no such row")?;
+        return Err(Fail::new("no such row"));
     }
     let (body, spare) = image.page(row);
     match read_record(&geometry, body, spare) {

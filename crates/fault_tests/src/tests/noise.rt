@@ -23,7 +23,7 @@ pub fn noisy<N: Nand + Drop>(
     ensures { IfOk result (λ die. (N.view.flash die.nand.nand).geometry ≡ geometry.now) }
 {
     if outer_bytes(geometry) > 256 {
-        return Err("no room for codes")?;
+        return Err(Fail::new("no room for codes"));
     }
     let errors = ReadErrors::new(alloc, geometry.blocks())?;
     let chip = NoisyChip::new(nand, *geometry);
@@ -46,7 +46,7 @@ pub fn quiet<N: Nand + Drop>(die: Corrected<NoisyChip<N>>) -> Result<N, Fail>
 {
     let (chip, errors) = die.into_parts();
     if !is_counted(&errors) {
-        return Err("wrong bits that were not counted")?;
+        return Err(Fail::new("wrong bits that were not counted"));
     }
     Ok(chip.into_nand())
 }

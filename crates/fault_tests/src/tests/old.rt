@@ -58,10 +58,10 @@ fn page_at<S: PageSource>(
     let mut body = [0; 64];
     let mut spare = [0; 40];
     if geometry.data_bytes() != body.len() || geometry.spare_bytes() != spare.len() {
-        return Err("pages of another size")?;
+        return Err(Fail::new("pages of another size"));
     }
     if !geometry.has_row(row) {
-        return Err("no such row")?;
+        return Err(Fail::new("no such row"));
     }
     source.read_page(row, &mut body, &mut spare)?;
     Ok(sound_page(geometry, &body, &spare))

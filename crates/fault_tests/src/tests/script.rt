@@ -4,9 +4,10 @@ ghost use Rattle.std.specs.Prelude.{◌≡◌, IfOk};
 ghost use Rattle.ftl_device.specs.Device.{IsDevice};
 
 use super::noise::{noisy, quiet};
-use device_fixtures::bench::{driver_on, formatted_die, given_up, started};
-use device_fixtures::calls::{Call, hold_call, make};
+use device_fixtures::bench::{driver_on, formatted_die, handed_on, started};
+use device_fixtures::calls::{Answer, Call, hold_call, make};
 use device_fixtures::cases::erases_of;
+use device_fixtures::hold::hold_same;
 use ftl_device::{Device, DeviceFault};
 use nand_die::Die;
 use onfi_cycles::{Driver, Nand};
@@ -83,17 +84,11 @@ fn shown_by<N: Nand>(device: &Device<N>) -> Shown {
     }
 }
 
-// A call that isn't a read is done where the device isn't read-only, or refused with its counts: fewer
+// Whether a call that isn't a read is done where the device isn't read-only, or refused with its counts: fewer
 // blocks are good than are needed, more than two have failed in it, or the device was read-only before.
 // For the same reasons alone is it read-only after a call that was done, or after a flush in which two
 // failed.
-fn hold_answer(
-    rt: &impl Abort,
-    old: &Shown,
-    new: &Shown,
-    call: Call,
-    answer: Result<(), DeviceFault>,
-) {
+fn is_answered(old: &Shown, new: &Shown, call: Call, answer: Answer) -> bool {
     let failed = old.good.wrapping_sub(new.good);
     let is_short = old.read_only || new.good < new.need || failed > 2;
     let read_only = DeviceFault::ReadOnly {
@@ -101,30 +96,31 @@ fn hold_answer(
         need: new.need,
         failed,
     };
-    assert_eq!(rt; new.read_only, new.free < 5);
-    if answer == Ok(()) {
+    let is_right = if answer == Ok(()) {
         let was_long = matches!(call, Call::Flush) && failed == 2;
-        assert!(rt; !old.read_only, "{call:?}");
-        assert!(rt; !new.read_only || is_short || was_long, "{call:?}");
+        !old.read_only && (!new.read_only || is_short || was_long)
     } else {
-        assert_eq!(rt; answer, Err(read_only), "{call:?}");
-        assert!(rt; new.read_only && is_short, "{call:?}");
+        answer == Err(read_only) && new.read_only && is_short
+    };
+    is_right && new.read_only == (new.free < 5)
+}
+
+// A call that isn't a read has such an answer.
+fn hold_answer(old: &Shown, new: &Shown, call: Call, answer: Answer) -> Result<(), Fail> {
+    if is_answered(old, new, call, answer) {
+        return Ok(());
     }
+    Err(Fail::new(format_args!("{call:?}: {answer:?}")))
 }
 
 // Gives a device a call that isn't a read, and the list the same where it is done.
-pub fn change<N: Nand>(
-    rt: &impl Abort,
-    device: &mut Device<N>,
-    script: &mut Script,
-    call: Call,
-) -> Result<(), Fail>
+pub fn change<N: Nand>(device: &mut Device<N>, script: &mut Script, call: Call) -> Result<(), Fail>
     requires { IsDevice N.view.flash device.old }
     ensures { IsDevice N.view.flash device.new }
 {
     let old = shown_by(device);
     let answer = make(device, "given", call)?;
-    hold_answer(rt, &old, &shown_by(device), call, answer);
+    hold_answer(&old, &shown_by(device), call, answer)?;
     if answer.is_ok() {
         script.note(call);
     }
@@ -137,7 +133,7 @@ fn drawn(geometry: &Geometry, number: u64) -> u32 {
 }
 
 // Gives a device the next command.
-fn give<N: Nand>(rt: &impl Abort, device: &mut Device<N>, script: &mut Script) -> Result<(), Fail>
+fn give<N: Nand>(device: &mut Device<N>, script: &mut Script) -> Result<(), Fail>
     requires { IsDevice N.view.flash device.old }
     ensures { IsDevice N.view.flash device.new }
 {
@@ -145,10 +141,10 @@ fn give<N: Nand>(rt: &impl Abort, device: &mut Device<N>, script: &mut Script) -
     let sector = drawn(&device.engine.geometry, dice >> 33);
     let byte = ((dice >> 40) % 256) as u8;
     match dice >> 59 {
-        0..=15 => change(rt, device, script, Call::Write(sector, byte)),
-        16..=19 => change(rt, device, script, Call::Trim(sector)),
-        20 => change(rt, device, script, Call::Flush),
-        21..=23 => change(rt, device, script, Call::Turn),
+        0..=15 => change(device, script, Call::Write(sector, byte)),
+        16..=19 => change(device, script, Call::Trim(sector)),
+        20 => change(device, script, Call::Flush),
+        21..=23 => change(device, script, Call::Turn),
         _ => hold_sector(device, script, sector),
     }
 }
@@ -181,33 +177,69 @@ pub fn compare<N: Nand>(device: &mut Device<N>, script: &Script) -> Result<(), F
     Ok(())
 }
 
+// A device with a cache of so many on a die has the sectors of the list. The die is given up.
+pub fn compared<N: Nand + Drop>(
+    alloc: Global,
+    nand: N,
+    geometry: &Geometry,
+    capacity: u32,
+    script: &Script,
+) -> Result<N, Fail>
+    requires { (N.view.flash nand).geometry ≡ geometry.now }
+{
+    let mut device = started(alloc, nand, geometry, capacity)?;
+    let came = compare(&mut device, script);
+    let (nand, _) = handed_on(device, came)?;
+    Ok(nand)
+}
+
+// The programs and erases of a die, so many of its format left out. None was illegal, with these that fail.
+pub fn changes_of(driver: Driver<Die>, failing: &[u16], formatting: u64) -> Result<u64, Fail> {
+    let die = driver.into_bus();
+    hold_same("failures", "abuse", &(failing, die.abuse()), &(failing, 0))?;
+    Ok(die.changes().saturating_sub(formatting))
+}
+
 // Gives a device 250 commands, and compares all sectors then.
-fn give_each<N: Nand>(
-    rt: &impl Abort,
-    device: &mut Device<N>,
-    script: &mut Script,
-) -> Result<(), Fail>
+fn give_each<N: Nand>(device: &mut Device<N>, script: &mut Script) -> Result<(), Fail>
     requires { IsDevice N.view.flash device.old }
     ensures { IsDevice N.view.flash device.new }
 {
     for _ in 0..250 {
-        give(rt, device, script)?;
+        give(device, script)?;
     }
     compare(device, script)
 }
 
 // A device has come to this.
-fn hold_end<N: Nand>(rt: &impl Abort, device: &Device<N>, its: &Stage) -> Result<(), Fail> {
+fn hold_end<N: Nand>(device: &Device<N>, its: &Stage) -> Result<(), Fail> {
     let blocks = &device.engine.blocks;
     let found = (blocks.free(), blocks.good(), erases_of(blocks)?);
-    assert_eq!(rt; (device.engine.next, found), (its.next, its.blocks));
-    Ok(())
+    let found = (device.engine.next, found);
+    hold_same("a stage", "its end", &found, &(its.next, its.blocks))
+}
+
+// Gives a device what it is given in a stage, and flushes it then if that is wanted.
+fn give_stage<N: Nand>(
+    device: &mut Device<N>,
+    its: &Stage,
+    flushed: bool,
+    script: &mut Script,
+) -> Result<(), Fail>
+    requires { IsDevice N.view.flash device.old }
+    ensures { IsDevice N.view.flash device.new }
+{
+    compare(device, script)?;
+    give_each(device, script)?;
+    if flushed {
+        change(device, script, Call::Flush)?;
+    }
+    hold_end(device, its)
 }
 
 // A device is started on a die that holds what the list says, is given 250 commands, and is flushed if
 // that is wanted.
 fn give_started<N: Nand + Drop>(
-    rt: &impl Abort,
     alloc: Global,
     nand: N,
     geometry: &Geometry,
@@ -219,34 +251,28 @@ fn give_started<N: Nand + Drop>(
     ensures { IfOk result (λ pair. (N.view.flash pair.0).geometry ≡ pair.1) }
 {
     let mut device = started(alloc, nand, geometry, its.capacity)?;
-    compare(&mut device, script)?;
-    give_each(rt, &mut device, script)?;
-    if flushed {
-        change(rt, &mut device, script, Call::Flush)?;
-    }
-    hold_end(rt, &device, its)?;
-    Ok(given_up(device))
+    let came = give_stage(&mut device, its, flushed, script);
+    handed_on(device, came)
 }
 
-// The same on a die in memory, over reads with wrong bits where this is wanted.
-fn give_over(
-    rt: &impl Abort,
+// The same over reads with wrong bits, where this is wanted.
+fn give_over<N: Nand + Drop>(
     alloc: Global,
-    driver: Driver<Die>,
+    nand: N,
     geometry: &Geometry,
     its: &Stage,
     row: &Row,
     script: &mut Script,
     noise: bool,
-) -> Result<(Driver<Die>, Geometry), Fail>
-    requires { driver.geometry ≡ geometry.now }
-    ensures { IfOk result (λ pair. pair.0.geometry ≡ pair.1) }
+) -> Result<(N, Geometry), Fail>
+    requires { (N.view.flash nand).geometry ≡ geometry.now }
+    ensures { IfOk result (λ pair. (N.view.flash pair.0).geometry ≡ pair.1) }
 {
     if !noise {
-        return give_started(rt, alloc, driver, geometry, its, !row.torn, script);
+        return give_started(alloc, nand, geometry, its, !row.torn, script);
     }
-    let nand = noisy(alloc, driver, geometry)?;
-    let (nand, now) = give_started(rt, alloc, nand, geometry, its, !row.torn, script)?;
+    let nand = noisy(alloc, nand, geometry)?;
+    let (nand, now) = give_started(alloc, nand, geometry, its, !row.torn, script)?;
     Ok((quiet(nand)?, now))
 }
 
@@ -278,7 +304,7 @@ const LONG: (u32, u32, u32, u32) = (40, 16, 24, 48);
 // One live page in a block that is collected. 29 of its 32 blocks are needed.
 const SHORT: (u32, u32, u32, u32) = (32, 4, 32, 32);
 
-const ROWS: [Row; 6] = [
+static ROWS: [Row; 6] = [
     Row {
         sizes: FIRST,
         failing: &[
@@ -460,14 +486,14 @@ fn sizes_of(row: &Row) -> Result<(Geometry, usize), Fail> {
 }
 
 // Gives commands to the devices of a row, the die handed on. Nothing illegal is asked of it.
-fn give_row(rt: &impl Abort, alloc: Global, row: &Row, noise: bool) -> Result<u32, Fail> {
+fn give_row(alloc: Global, row: &Row, noise: bool) -> Result<u32, Fail> {
     let mut script = Script::new();
     let (mut geometry, page_left) = sizes_of(row)?;
     let mut driver = formatted_die(alloc, geometry, row.failing, page_left)?;
     for its in row.devices {
-        let (given, now) = give_over(rt, alloc, driver, &geometry, its, row, &mut script, noise)?;
+        let (given, now) = give_over(alloc, driver, &geometry, its, row, &mut script, noise)?;
         let die = given.into_bus();
-        assert_eq!(rt; die.abuse(), 0);
+        hold_same("a stage", "abuse", &die.abuse(), &0)?;
         geometry = now;
         driver = driver_on(die, geometry)?;
     }
@@ -477,7 +503,7 @@ fn give_row(rt: &impl Abort, alloc: Global, row: &Row, noise: bool) -> Result<u3
 // Gives them to the devices of each row.
 fn give_rows(rt: &impl Abort, alloc: Global, noise: bool) -> Result<(), Fail> {
     for row in &ROWS {
-        let done = give_row(rt, alloc, row, noise)?;
+        let done = give_row(alloc, row, noise)?;
         assert!(rt; done > 500, "{done}");
     }
     Ok(())

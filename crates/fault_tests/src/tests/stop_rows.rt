@@ -4,7 +4,7 @@ ghost use Rattle.ftl_device.specs.Device.{IsDevice};
 
 use super::collecting::collected;
 use device_fixtures::again::{Mounted, hold_mounted};
-use device_fixtures::bench::{driver_on, formatted_die, given_up, mounted, small, started};
+use device_fixtures::bench::{driver_on, formatted_die, handed_on, mounted, small, started};
 use device_fixtures::calls::Call::{self, Flush, Read, Trim, Turn, Write};
 use device_fixtures::calls::{Answer, CLOSING, CLOSING_READ, hold_call, hold_calls};
 use device_fixtures::dies::{image_of, loaded};
@@ -60,7 +60,7 @@ const BEFORE: Mounted = Mounted {
     calls: &[Read(5, 0x11)],
 };
 
-const WRITES: [Row; 3] = [
+static WRITES: [Row; 3] = [
     SECOND,
     Row {
         name: "a second write, after",
@@ -90,7 +90,7 @@ const WRITES: [Row; 3] = [
 
 // Seven live pages of block 1 go to block 2, and translation page 0 is written. Of the erase the first page is torn. Sector 7 was
 // trimmed.
-const COLLECTION: [Row; 1] = [Row {
+static COLLECTION: [Row; 1] = [Row {
     name: "the erase of a collection, torn",
     done: &CLOSING,
     last: None,
@@ -124,14 +124,22 @@ fn stop_of(alloc: Global, way: Way) -> Result<Stop, Fail> {
     })
 }
 
+// The die keeps a record of sixteen programs and erases, and is to stop.
+fn stopping_die(alloc: Global, mut die: Die, nth: u64, stop: Stop) -> Result<Die, Fail>
+    ensures { IfOk result (λ its. its.state ≡ die.state) }
+{
+    die.record(alloc, 16)?;
+    die.set_stop(nth, stop)?;
+    Ok(die)
+}
+
 // A formatted die that keeps a record of sixteen programs and erases, and is to stop.
 fn stopping(alloc: Global, geometry: Geometry, row: &Row) -> Result<Driver<Die>, Fail>
     ensures { IfOk result (λ driver. driver.geometry ≡ geometry) }
 {
-    let mut die = formatted_die(alloc, geometry, &[], 0)?.into_bus();
-    die.record(alloc, 16)?;
-    die.set_stop(row.nth, stop_of(alloc, row.way)?)?;
-    driver_on(die, geometry)
+    let stop = stop_of(alloc, row.way)?;
+    let die = formatted_die(alloc, geometry, &[], 0)?.into_bus();
+    driver_on(stopping_die(alloc, die, row.nth, stop)?, geometry)
 }
 
 // The die and its geometry, once its device has stopped in the collection of block 1.
@@ -146,23 +154,32 @@ fn stopped_collecting<N: Nand + Drop>(device: Device<N>, row: &Row) -> Result<(N
 }
 
 // What a device that has stopped is asked. It answers all of it with `BusFault`.
-const ASKED: [Call; 6] = [Read(5, 0), Read(99, 0), Write(6, 1), Trim(7), Flush, Turn];
+static ASKED: [Call; 6] = [Read(5, 0), Read(99, 0), Write(6, 1), Trim(7), Flush, Turn];
 
 const BROKEN: Answer = Err(DeviceFault::BusFault);
+
+// A device stops in this call, and stays so.
+fn hold_stopping<N: Nand>(device: &mut Device<N>, name: &str, call: Call) -> Result<(), Fail>
+    requires { IsDevice N.view.flash device.old }
+    ensures { IsDevice N.view.flash device.new }
+{
+    hold_call(device, name, call, BROKEN)?;
+    hold_calls(device, name, &ASKED, BROKEN)
+}
 
 // The die and its geometry, once its device has stopped in the last call.
 fn stopped<N: Nand + Drop>(mut device: Device<N>, row: &Row) -> Result<(N, Geometry), Fail>
     requires { IsDevice N.view.flash device }
     ensures { IfOk result (λ pair. (N.view.flash pair.0).geometry ≡ pair.1) }
 {
-    hold_calls(&mut device, row.name, row.done, Ok(()))?;
-    match row.last {
-        None => stopped_collecting(device, row),
-        Some(call) => {
-            hold_call(&mut device, row.name, call, BROKEN)?;
-            hold_calls(&mut device, row.name, &ASKED, BROKEN)?;
-            Ok(given_up(device))
+    let came = hold_calls(&mut device, row.name, row.done, Ok(()));
+    match (came, row.last) {
+        (Ok(()), None) => stopped_collecting(device, row),
+        (Ok(()), Some(call)) => {
+            let came = hold_stopping(&mut device, row.name, call);
+            handed_on(device, came)
         }
+        (Err(fail), _) => handed_on(device, Err(fail)),
     }
 }
 
@@ -174,12 +191,18 @@ fn hold_image(alloc: Global, geometry: &Geometry, bytes: &[u8], row: &Row) -> Re
     hold_same(row.name, "good", &certificate.good(), &row.good)
 }
 
-fn hold_row(alloc: Global, row: &Row) -> Result<(), Fail> {
+// The image that the die of a row leaves, and its geometry.
+fn left_by(alloc: Global, row: &Row) -> Result<(Vec<u8>, Geometry), Fail> {
     let geometry = small()?;
     let driver = stopping(alloc, geometry, row)?;
     let device = started(alloc, driver, &geometry, 4)?;
     let (driver, geometry) = stopped(device, row)?;
     let image = image_of(alloc, &geometry, driver)?;
+    Ok((image, geometry))
+}
+
+fn hold_row(alloc: Global, row: &Row) -> Result<(), Fail> {
+    let (image, geometry) = left_by(alloc, row)?;
     hold_image(alloc, &geometry, &image, row)?;
     let driver = loaded(alloc, geometry, &image)?;
     hold_mounted(alloc, driver, &geometry, row.name, &row.mounted)

@@ -8,13 +8,13 @@ use super::courses::{Calls, Course, Left, Start, left_by, start_of};
 use super::listed::{is_listed, scanned};
 use super::noise::{noisy, quiet};
 use super::script::{Script, compare, hold_sector};
-use device_fixtures::bench::{given_up, started};
+use device_fixtures::bench::{handed_on, started};
 use device_fixtures::calls::{Call, hold_call};
 use device_fixtures::dies::loaded;
 use device_fixtures::hold::hold_same;
 use ftl_device::Device;
-use nand_die::{Die, Stop};
-use onfi_cycles::{Driver, Nand};
+use nand_die::Stop;
+use onfi_cycles::Nand;
 use page_layout::geometry::Geometry;
 use page_layout::record::is_erased;
 use page_layout::source::ImageSlice;
@@ -32,7 +32,7 @@ enum Tear {
     Bit,
 }
 
-const TEARS: [Tear; 3] = [Tear::Zeros, Tear::Half, Tear::Bit];
+static TEARS: [Tear; 3] = [Tear::Zeros, Tear::Half, Tear::Bit];
 
 // The sectors of an image are those of the list, or those that it has once the call is done at which the device stopped. Whether
 // it is the latter; the list has the call then.
@@ -79,24 +79,25 @@ fn go_on<N: Nand + Drop>(
     requires { (N.view.flash nand).geometry ≡ geometry.now }
 {
     let mut device = started(alloc, nand, geometry, 12)?;
-    give_fifty(&mut device, course, script)?;
-    Ok(given_up(device).0)
+    let came = give_fifty(&mut device, course, script);
+    let (nand, _) = handed_on(device, came)?;
+    Ok(nand)
 }
 
 // The same, over reads with wrong bits where the course has them.
-fn go_over(
+fn go_over<N: Nand + Drop>(
     alloc: Global,
-    driver: Driver<Die>,
+    nand: N,
     course: &Course,
     geometry: &Geometry,
     script: &mut Script,
-) -> Result<Driver<Die>, Fail>
-    requires { driver.geometry ≡ geometry.now }
+) -> Result<N, Fail>
+    requires { (N.view.flash nand).geometry ≡ geometry.now }
 {
     if !course.noise {
-        return go_on(alloc, driver, course, geometry, script);
+        return go_on(alloc, nand, course, geometry, script);
     }
-    let nand = noisy(alloc, driver, geometry)?;
+    let nand = noisy(alloc, nand, geometry)?;
     quiet(go_on(alloc, nand, course, geometry, script)?)
 }
 
@@ -160,6 +161,20 @@ fn torn(alloc: Global, page: &[u8], nth: u64, tear: Tear) -> Result<Vec<u8>, Fai
     Ok(torn)
 }
 
+// What is left by a stop that comes.
+fn stopped_at(
+    alloc: Global,
+    course: &Course,
+    start: &Start,
+    nth: u64,
+    stop: Stop,
+) -> Result<Left, Fail> {
+    match left_by(alloc, course, start, nth, stop)? {
+        Some(left) => Ok(left),
+        None => Err(Fail::new("no stop")),
+    }
+}
+
 // A die stops in this program or erase, with its page torn.
 fn hold_torn(
     alloc: Global,
@@ -168,12 +183,27 @@ fn hold_torn(
     nth: u64,
     page: &[u8],
 ) -> Result<(), Fail> {
-    for tear in TEARS {
-        let stop = Stop::Torn(torn(alloc, page, nth, tear)?);
-        let left = left_by(alloc, course, start, nth, stop)?.ok_or("no stop")?;
+    for tear in &TEARS {
+        let stop = Stop::Torn(torn(alloc, page, nth, *tear)?);
+        let left = stopped_at(alloc, course, start, nth, stop)?;
         hold_undone(alloc, course, &start.geometry, left)?;
     }
     Ok(())
+}
+
+// The same, of the page that differs between the images from before and from after.
+fn hold_changed(
+    alloc: Global,
+    course: &Course,
+    start: &Start,
+    nth: u64,
+    before: &Left,
+    after: &Left,
+) -> Result<(), Fail> {
+    match changed_page(&start.geometry, &before.image, &after.image) {
+        Some(page) => hold_torn(alloc, course, start, nth, page),
+        None => Err(Fail::new("no change")),
+    }
 }
 
 // A die stops at this program or erase, in each way. The call, and whether the sectors are from after it where all of the program or
@@ -187,12 +217,12 @@ fn hold_stop(
     let Some(before) = left_by(alloc, course, start, nth, Stop::Before)? else {
         return Ok(None);
     };
-    let after = left_by(alloc, course, start, nth, Stop::After)?.ok_or("no stop")?;
-    let page = changed_page(&start.geometry, &before.image, &after.image).ok_or("no change")?;
-    hold_torn(alloc, course, start, nth, page)?;
+    let after = stopped_at(alloc, course, start, nth, Stop::After)?;
+    hold_changed(alloc, course, start, nth, &before, &after)?;
     hold_undone(alloc, course, &start.geometry, before)?;
     let stopped = after.stopped;
-    Ok(Some((stopped, hold_left(alloc, course, &start.geometry, after)?)))
+    let is_after = hold_left(alloc, course, &start.geometry, after)?;
+    Ok(Some((stopped, is_after)))
 }
 
 // How many stops were tried, by how many the sectors were changed, and how many were in calls that bring pages forward.
@@ -256,7 +286,7 @@ fn hold_stops(alloc: Global, case: &Case) -> Result<Tried, Fail> {
             None => return Ok(tried),
         }
     }
-    Err("no end")?
+    Err(Fail::new("no end"))
 }
 
 fn hold_case(alloc: Global, case: &Case) -> Result<(), Fail> {
@@ -274,23 +304,26 @@ const SCRIPT: Course = Course {
 };
 
 // As many programs and erases as `bench/device_model.py` counts.
-const SHORT: Case = Case {
-    course: SCRIPT,
-    each: 1,
-    least: Tried {
-        stops: 597,
-        changing: 347,
-        migrating: 0,
-    },
+const SCRIPT_TRIED: Tried = Tried {
+    stops: 597,
+    changing: 347,
+    migrating: 0,
 };
 
-const LONG: Case = Case {
+static SHORT: Case = Case {
+    course: SCRIPT,
+    each: 1,
+    least: SCRIPT_TRIED,
+};
+
+static LONG: Case = Case {
     course: Course {
         name: "pages of version 2",
         spare: 40,
         ..SCRIPT
     },
-    ..SHORT
+    each: 1,
+    least: SCRIPT_TRIED,
 };
 
 const FORWARD: Course = Course {
@@ -301,7 +334,7 @@ const FORWARD: Course = Course {
     noise: false,
 };
 
-const OLD: Case = Case {
+static OLD: Case = Case {
     course: FORWARD,
     each: 1,
     least: Tried {
@@ -320,18 +353,20 @@ const COLLECTED: Course = Course {
 };
 
 // Eight writes and trims, of which nine pages are programmed; then nine programs and erases of a collection.
-const COLLECTION: Case = Case {
+const COLLECTION_TRIED: Tried = Tried {
+    stops: 18,
+    changing: 8,
+    migrating: 0,
+};
+
+static COLLECTION: Case = Case {
     course: COLLECTED,
     each: 1,
-    least: Tried {
-        stops: 18,
-        changing: 8,
-        migrating: 0,
-    },
+    least: COLLECTION_TRIED,
 };
 
 // The same over reads with wrong bits.
-const NOISY: Case = Case {
+static NOISY: Case = Case {
     course: Course {
         name: "the script over wrong bits",
         noise: true,
@@ -345,7 +380,7 @@ const NOISY: Case = Case {
     },
 };
 
-const NOISY_OLD: Case = Case {
+static NOISY_OLD: Case = Case {
     course: Course {
         name: "pages that are brought forward over wrong bits",
         noise: true,
@@ -359,13 +394,14 @@ const NOISY_OLD: Case = Case {
     },
 };
 
-const NOISY_COLLECTION: Case = Case {
+static NOISY_COLLECTION: Case = Case {
     course: Course {
         name: "a collection over wrong bits",
         noise: true,
         ..COLLECTED
     },
-    ..COLLECTION
+    each: 1,
+    least: COLLECTION_TRIED,
 };
 
 #[test]

@@ -230,7 +230,7 @@ const REFUSALS: [Step; 13] = [
     Step::Holds("block.bin", BY_BLOCK),
 ];
 
-const CASES: [Case; 3] = [
+static CASES: [Case; 3] = [
     Case {
         name: "puts in order",
         files: &[

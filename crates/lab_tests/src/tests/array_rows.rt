@@ -186,7 +186,7 @@ const DOCUMENT: &str = r#"[{"command":"array","line":"command","program":"nandla
 ]
 "#;
 
-const CASES: [Case; 13] = [
+static CASES: [Case; 13] = [
     Case {
         name: "sectors",
         files: &[("dump.bin", Made::Dump(&PAGES))],
@@ -395,7 +395,7 @@ const MAPS: [Step; 15] = [
 const MAP: &str =
     "# Mapfile of an array, made by nandlab\n0x0 + 1\n0x0 0xc0 ?\n0xc0 0x80 +\n0x140 0x680 ?\n0x7c0 0x40 +\n";
 
-const MAP_CASES: [Case; 1] = [Case {
+static MAP_CASES: [Case; 1] = [Case {
     name: "maps",
     files: &[("dump.bin", Made::Dump(&PAGES))],
     steps: &MAPS,

@@ -52,7 +52,7 @@ const DOCUMENT: &str = r#"[{"command":"compare","line":"command","program":"nand
 ]
 "#;
 
-const CASES: [Case; 3] = [
+static CASES: [Case; 3] = [
     Case {
         name: "since",
         files: &[("cert.bin", BEFORE), ("dump.bin", Made::Dump(&SINCE))],

@@ -127,7 +127,7 @@ const OTHERS: [Step; 10] = [
     Step::Holds("out.bin", RIGHT),
 ];
 
-const CASES: [Case; 3] = [
+static CASES: [Case; 3] = [
     Case {
         name: "puts right",
         files: &[("dump.bin", SPOILED)],

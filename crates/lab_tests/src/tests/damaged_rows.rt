@@ -136,7 +136,7 @@ const STEPS: [Step; 12] = [
     Step::Closed("nandlab array 64,32,8,32,32 dump.bin last.bin --damaged", 1),
 ];
 
-const CASES: [Case; 1] = [Case {
+static CASES: [Case; 1] = [Case {
     name: "unsound pages shown",
     files: &[("dump.bin", Made::Changed(&PAGES, CHANGES))],
     steps: &STEPS,

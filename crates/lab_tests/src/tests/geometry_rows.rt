@@ -294,7 +294,7 @@ const TROUBLES: [Step; 9] = [
     ),
 ];
 
-const CASES: [Case; 7] = [
+static CASES: [Case; 7] = [
     Case {
         name: "the shapes",
         files: &[("dump.bin", Made::Changed(&PAGES, &[(1632, 0)]))],

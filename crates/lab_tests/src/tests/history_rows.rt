@@ -62,7 +62,7 @@ const UNTIL_4: &str =
 const UNTIL_GREATEST: &str =
     "unsound 1: as of sequence 18446744073709551615, the newest of what is still there\n";
 
-const CASES: [Case; 3] = [
+static CASES: [Case; 3] = [
     Case {
         name: "history",
         files: &[("dump.bin", Made::Changed(&PAGES, CHANGES))],

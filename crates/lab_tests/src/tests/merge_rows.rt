@@ -137,7 +137,7 @@ const TURNED_DOCUMENT: &str = r#"[{"command":"merge","line":"command","program":
 ]
 "#;
 
-const CASES: [Case; 6] = [
+static CASES: [Case; 6] = [
     Case {
         name: "three readings",
         files: &[("a.bin", A), ("b.bin", B), ("c.bin", C)],

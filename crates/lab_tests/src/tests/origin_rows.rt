@@ -240,7 +240,7 @@ const TROUBLES: [Step; 17] = [
     Step::Run(ONE, 0, MENDED_2),
 ];
 
-const CASES: [Case; 4] = [
+static CASES: [Case; 4] = [
     Case {
         name: "marks",
         files: &[

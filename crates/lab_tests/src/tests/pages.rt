@@ -8,7 +8,7 @@ use test_images::{TABLE_0, TABLE_1, Written, page};
 const PAGE: usize = 104;
 
 // A die with two table pages and two sectors.
-const PAGES: &[Written] = &[
+static PAGES: &[Written] = &[
     TABLE_0,
     TABLE_1,
     page!(8, Sector 3, sequence 5, fill 0x33),

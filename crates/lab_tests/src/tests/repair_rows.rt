@@ -222,7 +222,7 @@ const OTHERS: [Step; 8] = [
     Step::Holds("out.bin", WHOLE),
 ];
 
-const CASES: [Case; 5] = [
+static CASES: [Case; 5] = [
     Case {
         name: "mends",
         files: &[("dump.bin", SPOILED)],

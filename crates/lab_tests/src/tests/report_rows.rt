@@ -25,7 +25,7 @@ const LOST: &str = "\
         e\":\"a\\\"b\\nc\",\"sha256\":\"e3b0c44298fc1c149afbf4c8996fb92427ae41e4649b934ca495991b7852b855\"},{\"bytes\
         \":0,\"name\":\"device\",\"sha256\":\"e3b0c44298fc1c149afbf4c8996fb92427ae41e4649b934ca495991b7852b855\"}]}";
 
-const CASES: [Case; 3] = [
+static CASES: [Case; 3] = [
     Case {
         name: "reported",
         files: &[("dump.bin", Made::Dump(&[]))],

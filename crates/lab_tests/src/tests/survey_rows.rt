@@ -93,7 +93,7 @@ block 21 unsound 0\nblock 22 unsound 0\nblock 23 unsound 0\nblock 24 unsound 0\n
 block 28 unsound 0\nblock 29 unsound 0\nblock 30 unsound 0\nblock 31 unsound 0
 unsound 1: of these rows alone, of others nothing is told\n";
 
-const CASES: [Case; 2] = [
+static CASES: [Case; 2] = [
     Case {
         name: "reasons",
         files: &[("dump.bin", Made::Changed(&PAGES, &[(1600, 0)]))],

@@ -5,7 +5,7 @@ use std::test::Fail;
 
 const NONE: &str = "usage: no such command, see nandlab --help\n";
 
-const CASES: [Case; 1] = [Case {
+static CASES: [Case; 1] = [Case {
     name: "words",
     files: &[("dump.bin", Made::Dump(&[]))],
     steps: &[

@@ -1,7 +1,7 @@
 //! Dies in memory behind a driver, formatted and mounted.
 ghost use Rattle.std.specs.Prelude.{◌≡◌, IfOk};
 
-use super::said::{Said, TWO_MARKS, hold_said, mounted, stale_count};
+use super::said::{Said, TWO_MARKS, hold, hold_said, mounted, stale_count};
 use certificate::{Certificate, write_certificate};
 use image_check::Refusal;
 use mount::{FormatFault, format};
@@ -22,7 +22,7 @@ struct Case {
     spelled: &'static [&'static [u8]],
 }
 
-const CASES: [Case; 2] = [
+static CASES: [Case; 2] = [
     Case {
         name: "no marks",
         marks: &[],
@@ -70,7 +70,11 @@ fn bytes_of(alloc: Global, parts: &[&[u8]]) -> Result<Vec<u8>, AllocError> {
     Ok(bytes)
 }
 
+// Whether the certificate has these bytes, where any are told.
 fn is_spelled(alloc: Global, certificate: &Certificate, parts: &[&[u8]]) -> Result<bool, Fail> {
+    if parts.is_empty() {
+        return Ok(true);
+    }
     Ok(write_certificate(alloc, certificate)? == bytes_of(alloc, parts)?)
 }
 
@@ -85,25 +89,27 @@ fn hold_die<N: Nand>(
     requires { (N.view.flash nand.old).geometry ≡ geometry.now }
 {
     let unformatted = mounted(alloc, nand, geometry, 4).err();
-    assert!(rt; unformatted == Some(Refusal::NotFormatted), "{}", case.name);
-    assert!(rt;
-        formatted(alloc, nand, geometry) == Ok(case.good),
-        "{}",
-        case.name
+    hold(
+        rt,
+        unformatted == Some(Refusal::NotFormatted),
+        case.name,
+        "new",
     );
+    let good = formatted(alloc, nand, geometry);
+    hold(rt, good == Ok(case.good), case.name, "good blocks");
     let certificate = mounted(alloc, nand, geometry, 4)?;
     hold_said(rt, case.name, &certificate, case.said);
-    if case.spelled.len() > 0 {
-        assert!(rt;
-            is_spelled(alloc, &certificate, case.spelled)?,
-            "{}",
-            case.name
-        );
-    }
+    let spelled = is_spelled(alloc, &certificate, case.spelled)?;
+    hold(rt, spelled, case.name, "bytes");
     let stale = stale_count(alloc, nand, geometry, 4, &certificate);
-    assert!(rt; stale == Ok(0), "{}", case.name);
+    hold(rt, stale == Ok(0), case.name, "stale");
     let wider = stale_count(alloc, nand, geometry, 5, &certificate);
-    assert!(rt; wider == Err(Refusal::GeometryDiffers), "{}", case.name);
+    hold(
+        rt,
+        wider == Err(Refusal::GeometryDiffers),
+        case.name,
+        "wider",
+    );
     Ok(())
 }
 

@@ -1,7 +1,7 @@
 //! Formatting new dies, dies whose programs fail, and a die that is in use.
 ghost use Rattle.std.specs.Prelude.{◌≡◌, true, IfOk};
 
-use super::said::TWO_MARKS;
+use super::said::{TWO_MARKS, hold};
 use mount::{FormatFault, format};
 use nand_die::{Die, Fault, Mark};
 use onfi_cycles::{Bus, Driver, Nand};
@@ -42,7 +42,7 @@ const REFUSED: Call = Call {
     untouched: 0,
 };
 
-const CASES: [Case; 7] = [
+static CASES: [Case; 7] = [
     Case {
         name: "marked blocks are named",
         marks: &TWO_MARKS,
@@ -291,8 +291,8 @@ fn hold_page<S: PageSource>(
 {
     let (row, said, fill, differing) = page;
     let (found, body) = page_of(rt, alloc, source, geometry, row)?;
-    assert!(rt; found == table_record(said), "{name}: record of row {row}");
-    assert!(rt; body == filled(rt, fill, differing), "{name}: row {row}");
+    let held = found == table_record(said) && body == filled(rt, fill, differing);
+    assert!(rt; held, "{name}: row {row}");
     Ok(())
 }
 
@@ -341,7 +341,8 @@ fn hold_call<N: Nand>(
     requires { (N.view.flash nand.old).geometry ≡ geometry.now }
     ensures { (N.view.flash nand.new).geometry ≡ geometry.now }
 {
-    assert!(rt; format(alloc, nand, geometry) == call.answer, "{name}");
+    let answer = format(alloc, nand, geometry);
+    hold(rt, answer == call.answer, name, "answer");
     hold_pages(rt, alloc, nand, geometry, name, call.pages)?;
     hold_untouched(rt, alloc, nand, geometry, name, call.untouched)
 }
@@ -369,7 +370,7 @@ fn hold_case(rt: &impl Abort, alloc: Global, case: &Case, spare_bytes: u32) -> R
         new_die(alloc, geometry, case)?
     };
     hold_calls(rt, alloc, &mut driver, &geometry, case)?;
-    assert!(rt; driver.into_bus().abuse() == 0, "{}", case.name);
+    hold(rt, driver.into_bus().abuse() == 0, case.name, "abuse");
     Ok(())
 }
 

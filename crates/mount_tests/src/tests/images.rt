@@ -1,5 +1,5 @@
 //! Images of small dies, whose pages are built one by one, in either version and mixed, and sources that fail.
-use super::said::{Said, hold_said, mounted, mounted_counted, stale_count};
+use super::said::{Said, hold, hold_said, mounted, mounted_counted, stale_count};
 use image_check::Refusal;
 use mount::Mounted;
 use page_layout::geometry::Geometry;
@@ -34,7 +34,7 @@ const THREE: [Written; 5] = [
     page!(10, Sector 2, sequence 5, fill 1),
 ];
 
-const CASES: [Case; 15] = [
+static CASES: [Case; 15] = [
     Case {
         name: "three stale sectors, and room for two",
         pages: &THREE,
@@ -179,11 +179,11 @@ fn hold_case(rt: &impl Abort, alloc: Global, case: &Case, layout: Layout) -> Res
         Ok(Mounted { certificate, stale }) => {
             let (said, want) = case.answer?;
             hold_said(rt, case.name, &certificate, said);
-            assert!(rt; stale.len() == want, "{}, as mounted", case.name);
+            hold(rt, stale.len() == want, case.name, "as mounted");
             let checked = stale_count(alloc, &mut source, &geometry, case.capacity, &certificate);
-            assert!(rt; checked == Ok(want), "{}, as checked", case.name);
+            hold(rt, checked == Ok(want), case.name, "as checked");
         }
-        Err(refusal) => assert!(rt; case.answer.err() == Some(refusal), "{}", case.name),
+        Err(refusal) => hold(rt, case.answer.err() == Some(refusal), case.name, "refused"),
     }
     Ok(())
 }
@@ -241,7 +241,7 @@ impl<'a> PageSource for FailingAt<'a> {
     }
 }
 
-const NEWEST: [Written; 3] = [
+static NEWEST: [Written; 3] = [
     TABLE_0,
     TABLE_1,
     page!(2, Translation 0, sequence 3, fill 0xFF),
@@ -249,7 +249,7 @@ const NEWEST: [Written; 3] = [
 
 // The number of the page read that fails, and what mounting answers: the first page, the last, and the newest translation
 // page, which is read again.
-const FAILING: [(u64, Option<Refusal>); 4] = [
+static FAILING: [(u64, Option<Refusal>); 4] = [
     (1, Some(Refusal::Source)),
     (256, Some(Refusal::Source)),
     (257, Some(Refusal::Source)),
@@ -272,8 +272,9 @@ fn failing_at(alloc: Global, bytes: &[u8], nth: u64) -> Result<Option<Refusal>, 
 fn failed_read_is_answered(rt: HostRuntime) -> Result<(), Fail> {
     let geometry = Geometry::new(64, 32, 8, 32, 32)?;
     let bytes = image_of(rt.alloc(), &geometry, &NEWEST)?;
-    for (nth, want) in FAILING {
-        assert!(rt; failing_at(rt.alloc(), &bytes, nth)? == want, "at {nth}");
+    for (nth, want) in &FAILING {
+        let found = failing_at(rt.alloc(), &bytes, *nth)?;
+        assert!(rt; found == *want, "at {nth}");
     }
     Ok(())
 }

@@ -1,5 +1,5 @@
 //! Which sectors are told as lost, of images of small dies whose pages are built one by one.
-use super::said::mounted;
+use super::said::{hold, mounted};
 use file_die::MemoryStore;
 use lost_sectors::{LostFault, find_lost};
 use page_layout::geometry::Geometry;
@@ -32,7 +32,7 @@ const ALL: [u32; 16] = [0, 1, 2, 3, 4, 5, 6, 7, 8, 9, 10, 11, 12, 13, 14, 15];
 
 const BUT_3: [u32; 15] = [0, 1, 2, 4, 5, 6, 7, 8, 9, 10, 11, 12, 13, 14, 15];
 
-const CASES: [Case; 9] = [
+static CASES: [Case; 9] = [
     Case {
         name: "no translation page",
         pages: &[TABLE_0, TABLE_1, OLDER],
@@ -141,8 +141,8 @@ fn lost_sectors_are_listed(rt: HostRuntime) -> Result<(), Fail> {
         let mut lost = listed(case.before);
         let bytes = image_of(rt.alloc(), &geometry, case.pages)?;
         let answer = found(&rt, rt.alloc(), bytes, case.mark, &mut lost)?;
-        assert!(rt; answer == Ok(()), "{}", case.name);
-        assert!(rt; lost == listed(case.lost), "{}, the list", case.name);
+        hold(&rt, answer == Ok(()), case.name, "answer");
+        hold(&rt, lost == listed(case.lost), case.name, "the list");
     }
     Ok(())
 }

@@ -104,9 +104,15 @@ fn says(certificate: &Certificate, said: Said) -> bool {
     }
 }
 
+// What a case is to show of one thing.
+pub fn hold(rt: &impl Abort, held: bool, name: &str, what: &str) {
+    assert!(rt; held, "{name}: {what}");
+}
+
 // The certificate of this case says all that.
 pub fn hold_said(rt: &impl Abort, name: &str, certificate: &Certificate, said: &[Said]) {
     for (at, said) in said.iter().enumerate() {
-        assert!(rt; says(certificate, *said), "{name}: {at}");
+        let held = says(certificate, *said);
+        assert!(rt; held, "{name}: {at}");
     }
 }

@@ -1,5 +1,5 @@
 //! The numbers of a die: their limits, in order, and what follows from them.
-use super::hold;
+use super::{hold, small};
 use page_layout::geometry::{Geometry, GeometryFault};
 use std::test::Fail;
 
@@ -15,7 +15,7 @@ struct Derived {
     rows: u32,
 }
 
-const DERIVED: [Derived; 5] = [
+static DERIVED: [Derived; 5] = [
     Derived {
         pages: 8,
         blocks: 32,
@@ -111,7 +111,7 @@ fn derived_numbers(rt: HostRuntime) -> Result<(), Fail> {
 }
 
 // The data bytes, the spare bytes, the pages of a block, the blocks and the sectors, and the first limit that they break.
-const FAULTS: [([u32; 5], GeometryFault); 11] = [
+static FAULTS: [([u32; 5], GeometryFault); 11] = [
     ([65, 31, 3, 11, 0], GeometryFault::DataSize),
     ([8192, 32, 8, 32, 32], GeometryFault::DataSize),
     ([64, 31, 3, 11, 0], GeometryFault::SpareSize),
@@ -142,7 +142,7 @@ enum Limit {
 }
 
 // The last ones that there are, and the first ones past them.
-const LIMITS: [(Limit, u32, bool); 8] = [
+static LIMITS: [(Limit, u32, bool); 8] = [
     (Limit::Row, 255, true),
     (Limit::Row, 256, false),
     (Limit::Block, 31, true),
@@ -162,19 +162,17 @@ fn is_within(geometry: &Geometry, limit: &Limit, number: u32) -> bool {
 }
 
 #[test]
-fn limits_of_a_die(rt: HostRuntime) -> Result<(), Fail> {
-    let geometry = Geometry::new(64, 32, 8, 32, 32)?;
+fn limits_of_a_die(rt: HostRuntime) {
+    let geometry = small(&rt);
     for (limit, number, expected) in &LIMITS {
         hold(&rt, number, &is_within(&geometry, limit, *number), expected);
     }
-    Ok(())
 }
 
 // A row put together, and taken apart.
 #[test]
-fn row_19(rt: HostRuntime) -> Result<(), Fail> {
-    let geometry = Geometry::new(64, 32, 8, 32, 32)?;
+fn row_19(rt: HostRuntime) {
+    let geometry = small(&rt);
     hold(&rt, &"row", &geometry.row(2, 3), &19);
     hold(&rt, &"split row", &geometry.split_row(19), &(2, 3));
-    Ok(())
 }

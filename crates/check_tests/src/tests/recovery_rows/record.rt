@@ -58,7 +58,7 @@ const TRIM: Record = Record {
 // A sound page: its record, the byte that fills its data area, its spare area, and its version.
 type Sound = (Record, u8, &'static [u8], u8);
 
-const SOUND: [Sound; 4] = [
+static SOUND: [Sound; 4] = [
     (SECTOR, 0x11, &SECTOR_5, 1),
     (TRIM, 0, &TRIM_5, 1),
     (TRIM, 0, &TRIM_5_OF_16, 2),
@@ -151,7 +151,7 @@ fn an_altered_page_of_version_2(rt: HostRuntime) -> Result<(), Fail> {
 }
 
 // What is asked of the sector's page, and the sequence that comes.
-const ASKED: [(Key, Option<u64>); 3] = [
+static ASKED: [(Key, Option<u64>); 3] = [
     (Key::Sector(5), Some(3)),
     (Key::Sector(4), None),
     (Key::Table(5), None),
@@ -159,9 +159,9 @@ const ASKED: [(Key, Option<u64>); 3] = [
 
 #[test]
 fn a_sequence_is_of_its_key(rt: HostRuntime) -> Result<(), Fail> {
-    for (key, expected) in ASKED {
-        let found = sequence(&rt, key, &[0x11; 64], &SECTOR_5)?;
-        hold(&rt, &key, &found, &expected);
+    for (key, expected) in &ASKED {
+        let found = sequence(&rt, *key, &[0x11; 64], &SECTOR_5)?;
+        hold(&rt, key, &found, expected);
     }
     Ok(())
 }
@@ -169,7 +169,7 @@ fn a_sequence_is_of_its_key(rt: HostRuntime) -> Result<(), Fail> {
 // The spare area of the sector's page where one byte is another, under this seal or its own.
 type Changed = (usize, u8, Option<[u8; 8]>);
 
-const CHANGED: [Changed; 12] = [
+static CHANGED: [Changed; 12] = [
     // The form, under the seal that the page then has.
     (
         0,
@@ -226,9 +226,9 @@ fn changed_spare(rt: &impl Abort, (at, byte, seal): Changed) -> [u8; 32] {
 
 #[test]
 fn a_changed_byte_of_the_spare_area(rt: HostRuntime) -> Result<(), Fail> {
-    for changed in CHANGED {
-        let spare = changed_spare(&rt, changed);
-        hold(&rt, &changed, &read(&rt, &[0x11; 64], &spare)?, &None);
+    for changed in &CHANGED {
+        let spare = changed_spare(&rt, *changed);
+        hold(&rt, changed, &read(&rt, &[0x11; 64], &spare)?, &None);
     }
     Ok(())
 }
@@ -242,7 +242,7 @@ const ENDED: [u8; 64] = [
 ];
 
 // A data area, a spare area, and whether they are erased.
-const ERASED: [(&[u8], &[u8], bool); 4] = [
+static ERASED: [(&[u8], &[u8], bool); 4] = [
     (&[0xFF; 64], &[0xFF; 32], true),
     (&[], &[], true),
     (&ENDED, &[0xFF; 32], false),
@@ -251,8 +251,8 @@ const ERASED: [(&[u8], &[u8], bool); 4] = [
 
 #[test]
 fn erased_pages(rt: HostRuntime) {
-    for (body, spare, erased) in ERASED {
-        hold(&rt, &(body, spare), &is_erased(body, spare), &erased);
+    for (body, spare, erased) in &ERASED {
+        hold(&rt, &(body, spare), &is_erased(body, spare), erased);
     }
 }
 
@@ -273,7 +273,7 @@ const TRIM_ENDED: [u8; 40] = [
 
 // Pages without a record: the sector's with another data area or with half a seal, the trim's with another last byte, and an
 // erased one.
-const WITHOUT_RECORD: [(&[u8], &[u8]); 4] = [
+static WITHOUT_RECORD: [(&[u8], &[u8]); 4] = [
     (&[0x11; 64], &HALF_SEALED),
     (&ALMOST, &SECTOR_5),
     (&[0; 64], &TRIM_ENDED),
@@ -282,8 +282,8 @@ const WITHOUT_RECORD: [(&[u8], &[u8]); 4] = [
 
 #[test]
 fn pages_without_a_record(rt: HostRuntime) -> Result<(), Fail> {
-    for (body, spare) in WITHOUT_RECORD {
-        hold(&rt, &spare, &read(&rt, body, spare)?, &None);
+    for (body, spare) in &WITHOUT_RECORD {
+        hold(&rt, spare, &read(&rt, body, spare)?, &None);
     }
     Ok(())
 }

@@ -1,28 +1,34 @@
 //! One sector by the plain scan, over images whose pages are built one by one.
-ghost use Rattle.std.specs.Prelude.{◌≡◌};
+ghost use Rattle.std.specs.Prelude.{◌≡◌, length};
 
-use super::hold;
+use super::{hold, image, small, source_of};
 use image_check::{SectorFault, sector, sector_in};
 use page_layout::geometry::Geometry;
 use page_layout::source::{ImageSlice, PageSource};
-use std::alloc::{AllocError, Global};
+use std::alloc::Global;
 use std::process::Abort;
-use std::test::Fail;
-use test_images::{FaultySource, SourceTrouble, Written, image_of, page};
+use test_images::{FaultySource, SourceTrouble, Written, page};
+
+fn filled(rt: &impl Abort, alloc: Global, byte: u8, count: usize) -> Vec<u8>
+    ensures { length result.items ≡ count }
+{
+    vec![in alloc; byte; count].expect(rt, "a page")
+}
 
 // What the scan answers, with what it left of a sector of AAh bytes.
 fn copied<S: PageSource>(
+    rt: &impl Abort,
     alloc: Global,
     source: &mut S,
     geometry: &Geometry,
     number: u32,
-) -> Result<(Result<(), SectorFault>, Vec<u8>), AllocError>
+) -> (Result<(), SectorFault>, Vec<u8>)
     requires { (S.view.flash source.old).geometry ≡ geometry.now }
 {
-    let mut page = vec![in alloc; 0u8; geometry.data_bytes() + geometry.spare_bytes()]?;
-    let mut out = vec![in alloc; 0xAAu8; geometry.data_bytes()]?;
+    let mut page = filled(rt, alloc, 0, geometry.data_bytes() + geometry.spare_bytes());
+    let mut out = filled(rt, alloc, 0xAA, geometry.data_bytes());
     let answer = sector(source, geometry, number, &mut page, &mut out);
-    Ok((answer, out))
+    (answer, out)
 }
 
 // The first byte of what is lent of a sector.
@@ -41,7 +47,7 @@ struct Scanned {
     lent: Option<u8>,
 }
 
-const SCANNED: [Scanned; 3] = [
+static SCANNED: [Scanned; 3] = [
     Scanned {
         name: "the newest page is the sector",
         pages: &[
@@ -80,27 +86,25 @@ const SCANNED: [Scanned; 3] = [
     },
 ];
 
-fn hold_scan(rt: &impl Abort, alloc: Global, row: &Scanned) -> Result<(), Fail> {
-    let geometry = Geometry::new(64, 32, 8, 32, 32)?;
-    let bytes = image_of(alloc, &geometry, row.pages)?;
-    let mut slice = ImageSlice::new(&geometry, &bytes)?;
+fn hold_scan(rt: &impl Abort, alloc: Global, row: &Scanned) {
+    let geometry = small(rt);
+    let bytes = image(rt, alloc, &geometry, row.pages);
+    let mut slice = source_of(rt, &geometry, &bytes);
     hold(rt, &row.name, &first_lent(&slice, 5), &row.lent);
-    let (answer, out) = copied(alloc, &mut slice, &geometry, 5)?;
+    let (answer, out) = copied(rt, alloc, &mut slice, &geometry, 5);
     hold(rt, &row.name, &answer, &row.answer);
     hold(rt, &row.name, &out.as_slice(), &[row.fill; 64].as_slice());
-    Ok(())
 }
 
 #[test]
-fn scanned_images(rt: HostRuntime) -> Result<(), Fail> {
+fn scanned_images(rt: HostRuntime) {
     for row in &SCANNED {
-        hold_scan(&rt, rt.alloc(), row)?;
+        hold_scan(&rt, rt.alloc(), row);
     }
-    Ok(())
 }
 
 // A sector, what the scan answers for it, and the reads that failed since the first row.
-const REFUSED: [(u32, SectorFault, u64); 2] = [
+static REFUSED: [(u32, SectorFault, u64); 2] = [
     (32, SectorFault::OutOfRange, 0),
     (31, SectorFault::Source, 1),
 ];
@@ -111,23 +115,21 @@ fn hold_refusal(
     source: &mut FaultySource,
     number: u32,
     fault: SectorFault,
-) -> Result<(), AllocError> {
+) {
     let geometry = source.image.geometry();
-    let (answer, out) = copied(alloc, source, &geometry, number)?;
+    let (answer, out) = copied(rt, alloc, source, &geometry, number);
     hold(rt, &fault, &answer, &Err(fault));
     hold(rt, &fault, &out.as_slice(), &[0; 64].as_slice());
-    Ok(())
 }
 
 #[test]
-fn failed_read_leaves_zeros(rt: HostRuntime) -> Result<(), Fail> {
-    let geometry = Geometry::new(64, 32, 8, 32, 32)?;
-    let bytes = image_of(rt.alloc(), &geometry, &[])?;
+fn failed_read_leaves_zeros(rt: HostRuntime) {
+    let geometry = small(&rt);
+    let bytes = image(&rt, rt.alloc(), &geometry, &[]);
     let trouble = SourceTrouble::Fails(1, u64::MAX);
-    let mut source = FaultySource::new(ImageSlice::new(&geometry, &bytes)?, trouble);
-    for (number, fault, failures) in REFUSED {
-        hold_refusal(&rt, rt.alloc(), &mut source, number, fault)?;
-        hold(&rt, &fault, &source.failures(), &failures);
+    let mut source = FaultySource::new(source_of(&rt, &geometry, &bytes), trouble);
+    for (number, fault, failures) in &REFUSED {
+        hold_refusal(&rt, rt.alloc(), &mut source, *number, *fault);
+        hold(&rt, fault, &source.failures(), failures);
     }
-    Ok(())
 }

@@ -51,7 +51,7 @@ fn pages_of_an_image_are_read(rt: HostRuntime) -> Result<(), Fail> {
 }
 
 // No bytes, a page less, a byte less and a byte more than the image has, and as many.
-const LENGTHS: [(usize, Option<ImageFault>); 5] = [
+static LENGTHS: [(usize, Option<ImageFault>); 5] = [
     (0, Some(ImageFault::WrongLength)),
     (4512, Some(ImageFault::WrongLength)),
     (4607, Some(ImageFault::WrongLength)),

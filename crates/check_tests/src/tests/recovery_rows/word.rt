@@ -3,7 +3,7 @@ use super::hold;
 use page_layout::word::{read_word, row_from, word_from, write_word};
 
 // A row that is written as word 1 of three, and the page's bytes then.
-const WRITTEN: [(Option<u32>, [u8; 12]); 2] = [
+static WRITTEN: [(Option<u32>, [u8; 12]); 2] = [
     (
         Some(8),
         [
@@ -22,9 +22,9 @@ fn rows_of(page: &[u8; 12]) -> [Option<u32>; 2] {
 fn row_8_and_no_row(rt: HostRuntime) {
     let mut page = [0xFF; 12];
     hold(&rt, &"no row yet", &rows_of(&page), &[None, None]);
-    for (row, bytes) in WRITTEN {
-        write_word(&mut page, 1, word_from(row));
-        hold(&rt, &row, &page, &bytes);
-        hold(&rt, &row, &rows_of(&page), &[row, None]);
+    for (row, bytes) in &WRITTEN {
+        write_word(&mut page, 1, word_from(*row));
+        hold(&rt, row, &page, bytes);
+        hold(&rt, row, &rows_of(&page), &[*row, None]);
     }
 }

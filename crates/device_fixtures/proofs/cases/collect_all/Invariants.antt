@@ -3,8 +3,8 @@ use Rattle.collection.specs.Safe.{IsSafe, ram}
 use Rattle.collection.specs.Left.{IsCalm}
 use Rattle.device_fixtures.proofs.cases.collect_all.Given as goal
 
-abbrev pub invariant-loop-its : goal.invariant-loop-its
-invariant-loop-its g l = record {
+abbrev pub invariant-loop-block : goal.invariant-loop-block
+invariant-loop-block g l = record {
   safe : IsSafe g.N.PageSource.view.flash l.engine;
   calm : l.engine.fault ≡ None → IsCalm (ram l.engine);
 }

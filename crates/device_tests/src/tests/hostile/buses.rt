@@ -5,12 +5,12 @@ ghost use Rattle.certificate.specs.Claim.{sizes_of};
 ghost use Rattle.ftl_device.specs.Device.{IsDevice};
 
 use super::calls::Call::{Flush, Read, Trim, Turn, Write};
-use super::calls::{Call, make};
+use super::calls::{Call, done_on, hold_call, make};
 use device_fixtures::bench::{
-    driver_on, formatted_die, given_up, mounted, small, start_on, started,
+    checked, driver_on, formatted_die, given_up, mounted, small, start_on,
 };
 use ftl_device::{Device, DeviceFault};
-use image_check::{Accepted, check};
+use image_check::Accepted;
 use nand_die::{CycleFuse, Die, Garble};
 use onfi_cycles::{Bus, Driver, Nand};
 use page_layout::geometry::Geometry;
@@ -60,7 +60,7 @@ const STOPPED: &[(Call, u8, Answer)] = &[
     (Turn, 0, BROKEN),
 ];
 
-const ROWS: [Row; 8] = [
+static ROWS: [Row; 8] = [
     Row {
         name: "a byte of a page is garbled",
         before: ELEVEN,
@@ -144,22 +144,25 @@ fn hold_steps<N: Nand>(rt: &impl Abort, device: &mut Device<N>, row: &Row)
     ensures { IsDevice N.view.flash device.new }
 {
     for (call, held, answer) in row.steps {
-        let name = row.name;
-        assert!(rt;
-            make(rt, device, *call, *held) == *answer,
-            "{name}: {call:?}"
-        );
+        let found = make(rt, device, *call, *held);
+        hold_call(rt, row.name, *call, found == *answer);
     }
 }
 
-// These calls are done.
-fn do_calls<N: Nand>(rt: &impl Abort, device: &mut Device<N>, calls: &[Call])
-    requires { IsDevice N.view.flash device.old }
-    ensures { IsDevice N.view.flash device.new }
+// The device on a die.
+fn hold_started<N: Nand + Drop>(
+    rt: &impl Abort,
+    alloc: Global,
+    nand: N,
+    accepted: Accepted<'_>,
+    row: &Row,
+) -> Result<(), Fail>
+    requires { sizes_of (N.view.flash nand).geometry ≡ accepted.claim.sizes }
 {
-    for call in calls {
-        assert!(rt; make(rt, device, *call, 0).is_ok(), "{call:?}");
-    }
+    let mut device = start_on(alloc, nand, accepted)?;
+    hold_steps(rt, &mut device, row);
+    given_up(device);
+    Ok(())
 }
 
 // The device over a bus.
@@ -175,9 +178,7 @@ fn hold_on<B: Bus + Drop>(
     requires asked { sizes_of geometry ≡ accepted.claim.sizes }
 {
     let driver = driver_on(bus, geometry)?;
-    let mut device = start_on(alloc, driver, accepted)?;
-    hold_steps(rt, &mut device, row);
-    Ok(())
+    hold_started(rt, alloc, driver, accepted, row)
 }
 
 // The die after the calls before.
@@ -185,17 +186,23 @@ fn prepared(rt: &impl Abort, alloc: Global, row: &Row) -> Result<(Driver<Die>, G
     ensures { IfOk result (λ pair. pair.0.geometry ≡ pair.1) }
 {
     let geometry = small()?;
-    let mut device = started(alloc, formatted_die(alloc, geometry, &[], 0)?, &geometry, 4)?;
-    do_calls(rt, &mut device, row.before);
-    Ok(given_up(device))
+    let driver = formatted_die(alloc, geometry, &[], 0)?;
+    done_on(rt, alloc, driver, &geometry, row.before)
 }
 
-fn hold_row(rt: &impl Abort, alloc: Global, row: &Row) -> Result<(), Fail> {
-    let (mut driver, geometry) = prepared(rt, alloc, row)?;
-    let certificate = mounted(alloc, &mut driver, &geometry, 4)?;
-    let accepted = check(alloc, &mut driver, &geometry, 4, &certificate)?;
-    let (die, round) = (driver.into_bus(), row.round);
-    match round {
+// The device over the bus of a row.
+fn hold_round(
+    rt: &impl Abort,
+    alloc: Global,
+    die: Die,
+    geometry: Geometry,
+    accepted: Accepted<'_>,
+    row: &Row,
+) -> Result<(), Fail>
+    requires same { die.state.flash.geometry ≡ geometry }
+    requires asked { sizes_of geometry ≡ accepted.claim.sizes }
+{
+    match row.round {
         Round::Garble(nth, byte, mask) => {
             let bus = Garble::new(die, nth, byte, mask);
             hold_on(rt, alloc, bus, geometry, accepted, row)
@@ -205,6 +212,13 @@ fn hold_row(rt: &impl Abort, alloc: Global, row: &Row) -> Result<(), Fail> {
             hold_on(rt, alloc, bus, geometry, accepted, row)
         }
     }
+}
+
+fn hold_row(rt: &impl Abort, alloc: Global, row: &Row) -> Result<(), Fail> {
+    let (mut driver, geometry) = prepared(rt, alloc, row)?;
+    let certificate = mounted(alloc, &mut driver, &geometry, 4)?;
+    let accepted = checked(alloc, &mut driver, &geometry, 4, &certificate)?;
+    hold_round(rt, alloc, driver.into_bus(), geometry, accepted, row)
 }
 
 #[test]

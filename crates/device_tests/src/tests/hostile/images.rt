@@ -3,19 +3,20 @@ ghost use Rattle.std.specs.Prelude.{◌≡◌};
 ghost use Rattle.page_layout.specs.Geometry.{row_count};
 ghost use Rattle.ftl_device.specs.Device.{IsDevice};
 
-use super::calls::{Call, make, write};
-use super::list::{List, SECTORS, hold_device, scanned};
+use super::calls::{Call, hold_call, make, write};
+use super::list::{List, SECTORS, hold_device, hold_sector, scanned};
 use super::noise::Noise;
 use certificate::Certificate;
-use device_fixtures::bench::{formatted_die, given_up, mounted, small, started};
-use device_fixtures::dies::{image_of, loaded};
+use device_fixtures::bench::{fresh, given_up, small, started};
+use device_fixtures::dies::{certified_image, loaded};
+use device_fixtures::hold::hold_same;
 use ftl_device::{Device, DeviceFault};
 use image_check::{Refusal, SectorFault, check, check_stream, sector};
 use mount::{format, mount};
 use onfi_cycles::Nand;
 use page_layout::geometry::Geometry;
 use page_layout::record::{Kind, Record, read_record};
-use page_layout::source::ImageSlice;
+use page_layout::source::{ImageSlice, PageSource};
 use std::alloc::Global;
 use std::process::Abort;
 use std::test::Fail;
@@ -104,8 +105,28 @@ fn found(image: &ImageSlice<'_>, seen: Seen) -> Option<[u8; 64]> {
     }
 }
 
+// Whether the checker's scan by one page says this of a sector. It gives zeros where two pages share its sequence.
+fn is_read<S: PageSource>(
+    source: &mut S,
+    geometry: &Geometry,
+    number: u32,
+    want: Option<[u8; 64]>,
+) -> bool
+    requires same { (S.view.flash source.old).geometry ≡ geometry.now }
+    requires data { geometry.now.data_bytes ≡ 64 }
+    requires spare { geometry.now.spare_bytes ≡ 32 }
+{
+    let mut page = [0; 96];
+    let mut out = [0xA5; 64];
+    match sector(source, geometry, number, &mut page, &mut out) {
+        Ok(()) => want == Some(out),
+        Err(SectorFault::SequenceRepeated { .. }) => want.is_none() && out == [0; 64],
+        Err(_) => false,
+    }
+}
+
 // The two plain scans of the checker say the same.
-fn hold_sector(
+fn hold_scanned(
     rt: &impl Abort,
     geometry: &Geometry,
     bytes: &[u8],
@@ -113,21 +134,12 @@ fn hold_sector(
     want: Option<[u8; 64]>,
 ) -> Result<(), Fail> {
     let mut image = ImageSlice::new(geometry, bytes)?;
-    assert!(rt; scanned(&image, number) == want, "sector {number}");
-    let mut page = [0; 96];
-    let mut out = [0xA5; 64];
-    assert!(rt; geometry.data_bytes() == 64);
-    assert!(rt; geometry.spare_bytes() == 32);
-    match sector(&mut image, geometry, number, &mut page, &mut out) {
-        Ok(()) => assert!(rt; Some(out) == want, "sector {number}"),
-        Err(fault) => {
-            let repeated = matches!(fault, SectorFault::SequenceRepeated { .. });
-            assert!(rt;
-                repeated && want.is_none() && out == [0; 64],
-                "sector {number}"
-            );
-        }
+    hold_sector(rt, "scanned", number, scanned(&image, number) == want);
+    if geometry.data_bytes() != 64 || geometry.spare_bytes() != 32 {
+        return Err(Fail::new("pages of another size"));
     }
+    let is_read = is_read(&mut image, geometry, number, want);
+    hold_sector(rt, "read", number, is_read);
     Ok(())
 }
 
@@ -139,9 +151,8 @@ fn hold_scan(rt: &impl Abort, geometry: &Geometry, bytes: &[u8]) -> Result<Optio
     let mut whole = true;
     for number in 0..SECTORS {
         let want = found(&image, scan.get(number));
-        hold_sector(rt, geometry, bytes, number, want)?;
-        list.set(number, want.unwrap_or([0; 64]));
-        whole = whole && want.is_some();
+        hold_scanned(rt, geometry, bytes, number, want)?;
+        whole = whole && list.note(number, want);
     }
     Ok(if whole { Some(list) } else { None })
 }
@@ -171,7 +182,7 @@ fn hold_rows(
     let scan = scan_of(&ImageSlice::new(geometry, bytes)?);
     for number in 0..SECTORS {
         let row = sector_row(certificate, number);
-        assert!(rt; row == row_seen(scan.get(number)), "sector {number}");
+        hold_sector(rt, "row", number, row == row_seen(scan.get(number)));
     }
     Ok(())
 }
@@ -210,7 +221,8 @@ fn hold_idle<N: Nand>(rt: &impl Abort, device: &mut Device<N>, call: Call)
     requires { IsDevice N.view.flash device.old }
     ensures { IsDevice N.view.flash device.new }
 {
-    assert!(rt; is_answer(make(rt, device, call, 0)), "{call:?}");
+    let answer = make(rt, device, call, 0);
+    hold_call(rt, "idle", call, is_answer(answer));
 }
 
 // Writes a sector, and the list the same where that is done.
@@ -219,7 +231,7 @@ fn hold_write<N: Nand>(rt: &impl Abort, device: &mut Device<N>, list: &mut List,
     ensures { IsDevice N.view.flash device.new }
 {
     let answer = write(rt, device, number, &[0x5A; 64]);
-    assert!(rt; is_answer(answer), "sector {number}");
+    hold_sector(rt, "written", number, is_answer(answer));
     if answer.is_ok() {
         list.set(number, [0x5A; 64]);
     }
@@ -238,32 +250,83 @@ fn hold_changes<N: Nand>(rt: &impl Abort, device: &mut Device<N>, list: &mut Lis
     hold_device(rt, device, list, "changed");
 }
 
+// A device on a die has the list's sectors, and they stay so.
+fn hold_started<N: Nand + Drop>(
+    rt: &impl Abort,
+    alloc: Global,
+    nand: N,
+    geometry: &Geometry,
+    list: &mut List,
+) -> Result<(), Fail>
+    requires { (N.view.flash nand).geometry ≡ geometry.now }
+{
+    let mut device = started(alloc, nand, geometry, 12)?;
+    hold_changes(rt, &mut device, list);
+    given_up(device);
+    Ok(())
+}
+
+// The same of a device over an image.
+fn hold_loaded(
+    rt: &impl Abort,
+    alloc: Global,
+    geometry: &Geometry,
+    bytes: &[u8],
+    list: &mut List,
+) -> Result<(), Fail> {
+    let driver = loaded(alloc, *geometry, bytes)?;
+    hold_started(rt, alloc, driver, geometry, list)
+}
+
+// The certificate of an image, where it mounts.
+fn mount_of(alloc: Global, geometry: &Geometry, bytes: &[u8]) -> Result<Option<Certificate>, Fail> {
+    let mut image = ImageSlice::new(geometry, bytes)?;
+    match mount(alloc, &mut image, geometry, 12) {
+        Ok(certificate) => Ok(Some(certificate)),
+        Err(Refusal::Source | Refusal::OutOfMemory) => Err(Fail::new("no answer")),
+        Err(_) => Ok(None),
+    }
+}
+
 // What mounts is accepted, and a device over it has the list's sectors.
+fn hold_mounted(
+    rt: &impl Abort,
+    alloc: Global,
+    geometry: &Geometry,
+    bytes: &[u8],
+    certificate: &Certificate,
+    list: Option<List>,
+) -> Result<(), Fail> {
+    let refusal = hold_check(rt, alloc, geometry, bytes, certificate)?;
+    hold_same("mounted", "refusal", &refusal, &None)?;
+    match list {
+        Some(mut list) => hold_loaded(rt, alloc, geometry, bytes, &mut list),
+        None => Err(Fail::new("two pages share a sequence")),
+    }
+}
+
+// Whether an image mounts. The two plain scans say the same of it.
 fn hold_mount(
     rt: &impl Abort,
     alloc: Global,
     geometry: &Geometry,
     bytes: &[u8],
-    list: Option<List>,
 ) -> Result<bool, Fail> {
-    let mut image = ImageSlice::new(geometry, bytes)?;
-    let (certificate, mut list) = match (mount(alloc, &mut image, geometry, 12), list) {
-        (Ok(certificate), Some(list)) => (certificate, list),
-        (Ok(_), None) => Err("two pages share a sequence")?,
-        (Err(Refusal::Source | Refusal::OutOfMemory), _) => Err("no answer")?,
-        (Err(_), _) => return Ok(false),
-    };
-    assert!(rt; hold_check(rt, alloc, geometry, bytes, &certificate)?.is_none());
-    let mut device = started(alloc, loaded(alloc, *geometry, bytes)?, geometry, 12)?;
-    hold_changes(rt, &mut device, &mut list);
-    Ok(true)
+    let list = hold_scan(rt, geometry, bytes)?;
+    match mount_of(alloc, geometry, bytes)? {
+        Some(certificate) => {
+            hold_mounted(rt, alloc, geometry, bytes, &certificate, list)?;
+            Ok(true)
+        }
+        None => Ok(false),
+    }
 }
 
 // An image with something programmed is not formatted.
 fn hold_format(alloc: Global, geometry: &Geometry, bytes: &[u8]) -> Result<(), Fail> {
     let mut driver = loaded(alloc, *geometry, bytes)?;
     match format(alloc, &mut driver, geometry) {
-        Ok(_) => Err("formatted")?,
+        Ok(_) => Err(Fail::new("formatted")),
         Err(_) => Ok(()),
     }
 }
@@ -276,67 +339,101 @@ fn hold_image(
     certificate: &Certificate,
 ) -> Result<(bool, bool), Fail> {
     let geometry = small()?;
-    let list = hold_scan(rt, &geometry, bytes)?;
     hold_format(alloc, &geometry, bytes)?;
-    let mounts = hold_mount(rt, alloc, &geometry, bytes, list)?;
+    let mounts = hold_mount(rt, alloc, &geometry, bytes)?;
     let refusal = hold_check(rt, alloc, &geometry, bytes, certificate)?;
     Ok((mounts, refusal.is_none()))
 }
 
-// Sectors written, trimmed, flushed, and written again.
-fn do_calls<N: Nand>(rt: &impl Abort, device: &mut Device<N>)
+// Call i of sectors that are written, trimmed, flushed, and written again.
+fn nth_call(i: u32) -> Call {
+    let number = i.wrapping_mul(11) % SECTORS;
+    match i % 20 {
+        13 => Call::Trim(number),
+        19 => Call::Flush,
+        _ => Call::Write(number, (i % 256) as u8),
+    }
+}
+
+// Sixty of them.
+fn do_sixty<N: Nand>(rt: &impl Abort, device: &mut Device<N>)
     requires { IsDevice N.view.flash device.old }
     ensures { IsDevice N.view.flash device.new }
 {
-    for i in 0..60u32 {
-        let (number, byte) = (i.wrapping_mul(11) % SECTORS, i as u8);
-        let call = match i % 20 {
-            13 => Call::Trim(number),
-            19 => Call::Flush,
-            _ => Call::Write(number, byte),
-        };
-        assert!(rt; make(rt, device, call, 0).is_ok(), "{call:?}");
+    for i in 0..60 {
+        let answer = make(rt, device, nth_call(i), 0);
+        hold_call(rt, "valid", nth_call(i), answer.is_ok());
     }
 }
 
 // A valid image, which has pages of each kind in its first eleven blocks, and its certificate.
 fn valid(rt: &impl Abort, alloc: Global) -> Result<(Vec<u8>, Certificate), Fail> {
-    let geometry = small()?;
-    let mut device = started(alloc, formatted_die(alloc, geometry, &[], 0)?, &geometry, 4)?;
-    do_calls(rt, &mut device);
-    let (mut driver, geometry) = given_up(device);
-    let certificate = mounted(alloc, &mut driver, &geometry, 12)?;
-    Ok((image_of(alloc, &geometry, driver)?, certificate))
+    let mut device = fresh(alloc, small()?, 4)?;
+    do_sixty(rt, &mut device);
+    certified_image(alloc, device, 12)
 }
 
-#[test]
-fn noise_is_no_image(rt: HostRuntime) -> Result<(), Fail> {
-    let (mut image, certificate) = valid(&rt, rt.alloc())?;
-    let found = hold_image(&rt, rt.alloc(), &image, &certificate)?;
+// A valid image is filled with noise, again and again.
+fn fill_each(
+    rt: &impl Abort,
+    alloc: Global,
+    image: &mut [u8],
+    certificate: &Certificate,
+) -> Result<(), Fail> {
+    let found = hold_image(rt, alloc, image, certificate)?;
     assert!(rt; found == (true, true));
     let mut noise = Noise::new();
     for _ in 0..IMAGES {
-        noise.fill(&mut image);
-        let found = hold_image(&rt, rt.alloc(), &image, &certificate)?;
+        noise.fill(image);
+        let found = hold_image(rt, alloc, image, certificate)?;
         assert!(rt; found == (false, false));
     }
     Ok(())
 }
 
-// A changed page has no record any more, so the certificate from before is refused. Every second image is changed where its
-// pages were programmed.
 #[test]
-fn changed_images_are_told(rt: HostRuntime) -> Result<(), Fail> {
-    let (image, certificate) = valid(&rt, rt.alloc())?;
+fn noise_is_no_image(rt: HostRuntime) -> Result<(), Fail> {
+    let (mut image, certificate) = valid(&rt, rt.alloc())?;
+    fill_each(&rt, rt.alloc(), &mut image, &certificate)
+}
+
+// Changes a few bytes of the first so many of an image: whether it mounts.
+fn mounts_changed(
+    rt: &impl Abort,
+    alloc: Global,
+    mut image: Vec<u8>,
+    certificate: &Certificate,
+    noise: &mut Noise,
+    within: usize,
+) -> Result<bool, Fail> {
+    noise.spoil(&mut image, within);
+    let (mounts, accepted) = hold_image(rt, alloc, &image, certificate)?;
+    assert!(rt; !accepted);
+    Ok(mounts)
+}
+
+// How many changed images mount. Every second one is changed where its pages were programmed.
+fn mounting(
+    rt: &impl Abort,
+    alloc: Global,
+    image: &Vec<u8>,
+    certificate: &Certificate,
+) -> Result<u32, Fail> {
     let mut noise = Noise::new();
     let mut mounting = 0u32;
     for nth in 0..IMAGES {
-        let mut changed = image.clone()?;
-        noise.spoil(&mut changed, if nth % 2 == 0 { 9_000 } else { image.len() });
-        let (mounts, accepted) = hold_image(&rt, rt.alloc(), &changed, &certificate)?;
-        assert!(rt; !accepted, "{nth}");
+        let within = if nth % 2 == 0 { 9_000 } else { image.len() };
+        let mounts = mounts_changed(rt, alloc, image.clone()?, certificate, &mut noise, within)?;
         mounting = mounting.saturating_add(u32::from(mounts));
     }
+    Ok(mounting)
+}
+
+// A changed page has no record any more, so the certificate from before is refused.
+#[test]
+fn changed_images_are_told(rt: HostRuntime) -> Result<(), Fail> {
+    let (image, certificate) = valid(&rt, rt.alloc())?;
+    let mounting = mounting(&rt, rt.alloc(), &image, &certificate)?;
     assert!(rt; mounting > 100, "{mounting}");
     Ok(())
 }

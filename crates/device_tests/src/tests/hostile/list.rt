@@ -31,6 +31,17 @@ impl List {
     pub fn set(&mut self, sector: u32, body: [u8; 64]) {
         self.sectors[(sector % SECTORS) as usize] = body;
     }
+
+    // A sector is this one, or zeros where there is none. Whether there is one.
+    pub fn note(&mut self, sector: u32, body: Option<[u8; 64]>) -> bool {
+        self.set(sector, body.unwrap_or([0; 64]));
+        body.is_some()
+    }
+}
+
+// A sector is as it should be.
+pub fn hold_sector(rt: &impl Abort, name: &str, sector: u32, is_held: bool) {
+    assert!(rt; is_held, "{name}: sector {sector}");
 }
 
 // Each read gives what the list has.
@@ -40,7 +51,7 @@ pub fn hold_device<N: Nand>(rt: &impl Abort, device: &mut Device<N>, list: &List
 {
     for sector in 0..SECTORS {
         let found = read(rt, device, sector);
-        assert!(rt; found == Ok(list.get(sector)), "{name}: sector {sector}");
+        hold_sector(rt, name, sector, found == Ok(list.get(sector)));
     }
 }
 
@@ -57,6 +68,6 @@ pub fn scanned(image: &ImageSlice<'_>, sector: u32) -> Option<[u8; 64]> {
 pub fn hold_image(rt: &impl Abort, image: &ImageSlice<'_>, list: &List, name: &str) {
     for sector in 0..SECTORS {
         let found = scanned(image, sector);
-        assert!(rt; found == Some(list.get(sector)), "{name}: sector {sector}");
+        hold_sector(rt, name, sector, found == Some(list.get(sector)));
     }
 }

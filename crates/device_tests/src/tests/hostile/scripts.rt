@@ -6,14 +6,14 @@ ghost use Rattle.certificate.specs.Claim.{sizes_of};
 ghost use Rattle.onfi_cycles.specs.Driver.{flash_by};
 ghost use Rattle.ftl_device.specs.Device.{IsDevice};
 
-use super::calls::{Call, make, read};
-use super::list::{SECTORS, scanned};
+use super::calls::{Call, hold_call, make, read};
+use super::list::{SECTORS, hold_sector, scanned};
 use device_fixtures::bench::{
-    driver_on, formatted_die, given_up, mounted, small, start_on, started,
+    checked, driver_on, formatted_die, given_up, mounted, small, start_on, started,
 };
-use device_fixtures::dies::image_of;
+use device_fixtures::dies::image_left;
 use ftl_device::{Device, DeviceFault};
-use image_check::{Accepted, check};
+use image_check::Accepted;
 use nand_die::{CycleFuse, Die, Stop};
 use onfi_cycles::{Bus, Driver, Nand};
 use page_layout::geometry::Geometry;
@@ -63,13 +63,21 @@ struct Went {
 
 impl Went {
     // Whether a sector may have this byte: that of the list, or the one of the command at which the device stopped.
-    fn may_have(&self, sector: u32, byte: u8) -> bool {
+    fn may_be(&self, sector: u32, byte: u8) -> bool {
         let stopped = self.stopped;
         let after = match stopped {
             Some(call) => changed_by(call),
             None => None,
         };
         byte == byte_of(&self.bytes, sector) || after == Some((sector, byte))
+    }
+
+    // Whether a sector may have these bytes. They are one byte throughout.
+    fn may_have(&self, sector: u32, found: Option<[u8; 64]>) -> bool {
+        match found {
+            Some(bytes) => bytes == [bytes[0]; 64] && self.may_be(sector, bytes[0]),
+            None => false,
+        }
     }
 }
 
@@ -90,7 +98,7 @@ fn give<N: Nand>(rt: &impl Abort, device: &mut Device<N>, went: &mut Went, call:
         went.stopped = Some(call);
         return;
     }
-    assert!(rt; answer.is_ok(), "{call:?}");
+    hold_call(rt, "given", call, answer.is_ok());
     if let Some((sector, byte)) = changed_by(call) {
         went.bytes[(sector % SECTORS) as usize] = byte;
     }
@@ -118,7 +126,7 @@ fn give_all<N: Nand>(rt: &impl Abort, device: &mut Device<N>) -> Went
 }
 
 // Whatever a stopped device is asked, out of range too.
-const AFTER: [Call; 6] = [
+static AFTER: [Call; 6] = [
     Call::Read(5),
     Call::Read(99),
     Call::Write(6, 1),
@@ -132,9 +140,9 @@ fn hold_stopped<N: Nand>(rt: &impl Abort, device: &mut Device<N>)
     requires { IsDevice N.view.flash device.old }
     ensures { IsDevice N.view.flash device.new }
 {
-    for call in AFTER {
-        let answer = make(rt, device, call, 0);
-        assert!(rt; answer == Err(DeviceFault::BusFault), "{call:?}");
+    for call in &AFTER {
+        let answer = make(rt, device, *call, 0);
+        hold_call(rt, "stopped", *call, answer == Err(DeviceFault::BusFault));
     }
 }
 
@@ -170,19 +178,33 @@ fn hold_went<N: Nand>(rt: &impl Abort, device: &mut Device<N>, went: &Went)
     ensures { IsDevice N.view.flash device.new }
 {
     for sector in 0..SECTORS {
-        let found = read(rt, device, sector).unwrap_or([0xA5; 64]);
-        let is_held = found == [found[0]; 64] && went.may_have(sector, found[0]);
-        assert!(rt; is_held, "{:?}: sector {sector}", went.stopped);
+        let found = read(rt, device, sector).ok();
+        hold_sector(rt, "renewed", sector, went.may_have(sector, found));
     }
 }
 
 // The same of an image.
 fn hold_scanned(rt: &impl Abort, image: &ImageSlice<'_>, went: &Went) {
     for sector in 0..SECTORS {
-        let found = scanned(image, sector).unwrap_or([0xA5; 64]);
-        let is_held = found == [found[0]; 64] && went.may_have(sector, found[0]);
-        assert!(rt; is_held, "{:?}: sector {sector}", went.stopped);
+        let found = scanned(image, sector);
+        hold_sector(rt, "left", sector, went.may_have(sector, found));
     }
+}
+
+// The same of a device on this die.
+fn hold_started<N: Nand + Drop>(
+    rt: &impl Abort,
+    alloc: Global,
+    nand: N,
+    geometry: &Geometry,
+    went: &Went,
+) -> Result<(), Fail>
+    requires { (N.view.flash nand).geometry ≡ geometry.now }
+{
+    let mut device = started(alloc, nand, geometry, 12)?;
+    hold_went(rt, &mut device, went);
+    given_up(device);
+    Ok(())
 }
 
 // Gives a device its calls, and looks at another one over the same bus, after a Reset. Whether the first one stopped.
@@ -194,14 +216,28 @@ fn hold_renewed<B: Bus + Drop>(
     requires { IsDevice (flash_by B.die) device }
 {
     let went = went_on(rt, &mut device);
+    let (driver, geometry) = given_up(device);
     if went.stopped.is_none() {
         return Ok(false);
     }
-    let (driver, geometry) = given_up(device);
     let driver = driver_on(driver.into_bus(), geometry)?;
-    let mut device = started(alloc, driver, &geometry, 12)?;
-    hold_went(rt, &mut device, &went);
+    hold_started(rt, alloc, driver, &geometry, &went)?;
     Ok(true)
+}
+
+// An image mounts and is accepted, and has the sectors.
+fn hold_bytes(
+    rt: &impl Abort,
+    alloc: Global,
+    geometry: &Geometry,
+    bytes: &[u8],
+    went: &Went,
+) -> Result<(), Fail> {
+    let mut image = ImageSlice::new(geometry, bytes)?;
+    let certificate = mounted(alloc, &mut image, geometry, 12)?;
+    checked(alloc, &mut image, geometry, 12, &certificate)?;
+    hold_scanned(rt, &image, went);
+    Ok(())
 }
 
 // Gives a device its calls, and looks at the image of its die. Whether it stopped.
@@ -209,12 +245,8 @@ fn hold_left(rt: &impl Abort, alloc: Global, mut device: Device<Driver<Die>>) ->
     requires { IsDevice (flash_by (λ die. die.state)) device }
 {
     let went = went_on(rt, &mut device);
-    let (driver, geometry) = given_up(device);
-    let bytes = image_of(alloc, &geometry, driver)?;
-    let mut image = ImageSlice::new(&geometry, &bytes)?;
-    let certificate = mounted(alloc, &mut image, &geometry, 12)?;
-    check(alloc, &mut image, &geometry, 12, &certificate)?;
-    hold_scanned(rt, &image, &went);
+    let (bytes, geometry) = image_left(alloc, device)?;
+    hold_bytes(rt, alloc, &geometry, &bytes, &went)?;
     Ok(went.stopped.is_some())
 }
 
@@ -226,22 +258,45 @@ enum Failing {
     After(u64),
 }
 
+// A die that is to stop so.
+fn stopping(mut die: Die, nth: u64, stop: Stop) -> Result<Die, Fail>
+    ensures { IfOk result (λ its. its.state ≡ die.state) }
+{
+    die.set_stop(nth, stop)?;
+    Ok(die)
+}
+
+// Whether the device stops on this die.
+fn stops_on(
+    rt: &impl Abort,
+    alloc: Global,
+    die: Die,
+    geometry: Geometry,
+    accepted: Accepted<'_>,
+    failing: Failing,
+) -> Result<bool, Fail>
+    requires same { die.state.flash.geometry ≡ geometry }
+    requires asked { sizes_of geometry ≡ accepted.claim.sizes }
+{
+    let (nth, stop) = match failing {
+        Failing::Call(passed) => {
+            let bus = CycleFuse::new(die, passed.saturating_add(1), 1);
+            return hold_renewed(rt, alloc, device_on(alloc, bus, geometry, accepted)?);
+        }
+        Failing::Before(nth) => (nth, Stop::Before),
+        Failing::After(nth) => (nth, Stop::After),
+    };
+    let die = stopping(die, nth, stop)?;
+    hold_left(rt, alloc, device_on(alloc, die, geometry, accepted)?)
+}
+
 // Whether the device stops.
 fn stops(rt: &impl Abort, alloc: Global, failing: Failing) -> Result<bool, Fail> {
     let geometry = small()?;
     let mut driver = formatted_die(alloc, geometry, &[], 0)?;
     let certificate = mounted(alloc, &mut driver, &geometry, 4)?;
-    let accepted = check(alloc, &mut driver, &geometry, 4, &certificate)?;
-    let mut die = driver.into_bus();
-    match failing {
-        Failing::Call(passed) => {
-            let bus = CycleFuse::new(die, passed.saturating_add(1), 1);
-            return hold_renewed(rt, alloc, device_on(alloc, bus, geometry, accepted)?);
-        }
-        Failing::Before(nth) => die.set_stop(nth, Stop::Before)?,
-        Failing::After(nth) => die.set_stop(nth, Stop::After)?,
-    }
-    hold_left(rt, alloc, device_on(alloc, die, geometry, accepted)?)
+    let accepted = checked(alloc, &mut driver, &geometry, 4, &certificate)?;
+    stops_on(rt, alloc, driver.into_bus(), geometry, accepted, failing)
 }
 
 #[test]
@@ -253,7 +308,7 @@ fn a_failed_call_loses_nothing(rt: HostRuntime) -> Result<(), Fail> {
             return Ok(());
         }
     }
-    Err("no end")?
+    Err(Fail::new("no end"))
 }
 
 #[test]
@@ -268,5 +323,5 @@ fn a_dead_bus_loses_nothing(rt: HostRuntime) -> Result<(), Fail> {
             return Ok(());
         }
     }
-    Err("no end")?
+    Err(Fail::new("no end"))
 }

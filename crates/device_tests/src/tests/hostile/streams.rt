@@ -3,11 +3,10 @@ ghost use Rattle.std.specs.Prelude.{◌≡◌};
 
 use super::list::{List, SECTORS, hold_image};
 use super::noise::Noise;
-use block_server::{RunFault, Served, serve_checked};
-use device_fixtures::bench::{formatted_die, mounted, small};
+use crate::tests::serving::{Answer, serve_on};
+use block_server::Served;
+use device_fixtures::bench::{formatted_die, small};
 use device_fixtures::dies::image_of;
-use nand_die::Die;
-use onfi_cycles::Driver;
 use page_layout::geometry::Geometry;
 use page_layout::source::ImageSlice;
 use promises::stream::End;
@@ -65,19 +64,27 @@ impl Plain {
         Ok(self.output.extend_from_slice(&tag)?)
     }
 
+    // Makes the call of a request.
+    fn make(&mut self, op: u8, sector: u32, body: &[u8]) -> Result<(), Fail> {
+        match op {
+            1 => self.output.extend_from_slice(&self.list.get(sector))?,
+            2 => self.list.set(sector, body.try_into().unwrap_or([0; 64])),
+            3 => self.list.set(sector, [0; 64]),
+            _ => (),
+        }
+        Ok(())
+    }
+
     // Answers a request.
     fn answer(&mut self, header: &[u8; 12], body: &[u8]) -> Result<(), Fail> {
         let [_, _, op, _, t0, t1, t2, t3, s0, s1, s2, s3] = *header;
         let sector = u32::from_le_bytes([s0, s1, s2, s3]);
         let refused = op <= 3 && sector >= SECTORS;
         self.reply(op, u8::from(refused), [t0, t1, t2, t3])?;
-        match (refused, op) {
-            (false, 1) => self.output.extend_from_slice(&self.list.get(sector))?,
-            (false, 2) => self.list.set(sector, body.try_into().unwrap_or([0; 64])),
-            (false, 3) => self.list.set(sector, [0; 64]),
-            _ => (),
+        if refused {
+            return Ok(());
         }
-        Ok(())
+        self.make(op, sector, body)
     }
 
     // Answers a stream.
@@ -96,57 +103,62 @@ impl Plain {
                 Front::Last(end) => return Ok(end),
             }
         }
-        Err("no end")?
+        Err(Fail::new("no end"))
     }
 }
 
-// What a die's server makes of a stream: its answer, what it wrote, and the image.
-fn served(
-    alloc: Global,
-    mut driver: Driver<Die>,
-    geometry: &Geometry,
-    stream: &[u8],
-) -> Result<(Served, Vec<u8>, Vec<u8>), Fail>
-    requires { driver.geometry ≡ geometry.now }
-{
-    let certificate = mounted(alloc, &mut driver, geometry, 4)?;
+// What the server of a new die makes of a stream: its answer, what it wrote, and the image.
+type Came = (Answer, Vec<u8>, Vec<u8>);
+
+fn served(alloc: Global, geometry: &Geometry, stream: &[u8]) -> Result<Came, Fail> {
+    let driver = formatted_die(alloc, *geometry, &[], 0)?;
     let mut reader = stream;
     let mut written = Vec::new(alloc);
-    match serve_checked(
-        alloc,
-        driver,
-        geometry,
-        4,
-        &certificate,
-        &mut reader,
-        &mut written,
-    ) {
-        Ok((served, driver)) => Ok((served, written, image_of(alloc, geometry, driver)?)),
-        Err(RunFault::Serve { .. }) => Err("a fault")?,
-        Err(_) => Err("not served")?,
-    }
+    let (answer, driver) = serve_on(alloc, driver, geometry, 4, &mut reader, &mut written)?;
+    let image = image_of(alloc, geometry, driver)?;
+    Ok((answer, written, image))
 }
 
 // The server's answer, output and image are those of the plain list.
-fn hold_stream(rt: &impl Abort, alloc: Global, stream: &[u8], name: &str) -> Result<End, Fail> {
+fn hold_came(
+    rt: &impl Abort,
+    geometry: &Geometry,
+    plain: &Plain,
+    end: End,
+    came: &Came,
+    name: &str,
+) -> Result<(), Fail> {
+    let (answer, written, image) = came;
+    let replies = plain.replies;
+    assert!(rt; *answer == Ok(Served { replies, end }), "{name}");
+    assert!(rt; written.as_slice() == plain.output.as_slice(), "{name}");
+    hold_image(rt, &ImageSlice::new(geometry, image)?, &plain.list, name);
+    Ok(())
+}
+
+// The server of a new die answers a stream as the plain list.
+fn hold_answered(
+    rt: &impl Abort,
+    alloc: Global,
+    plain: &mut Plain,
+    stream: &[u8],
+    name: &str,
+) -> Result<End, Fail> {
     let geometry = small()?;
+    let end = plain.answer_all(stream)?;
+    let came = served(alloc, &geometry, stream)?;
+    hold_came(rt, &geometry, plain, end, &came, name)?;
+    Ok(end)
+}
+
+// The same with a new list.
+fn hold_stream(rt: &impl Abort, alloc: Global, stream: &[u8], name: &str) -> Result<End, Fail> {
     let mut plain = Plain {
         list: List::new(),
         output: Vec::new(alloc),
         replies: 0,
     };
-    let end = plain.answer_all(stream)?;
-    let (answer, written, image) = served(
-        alloc,
-        formatted_die(alloc, geometry, &[], 0)?,
-        &geometry,
-        stream,
-    )?;
-    let replies = plain.replies;
-    assert!(rt; answer == Served { replies, end }, "{name}");
-    assert!(rt; written.as_slice() == plain.output.as_slice(), "{name}");
-    hold_image(rt, &ImageSlice::new(&geometry, &image)?, &plain.list, name);
-    Ok(end)
+    hold_answered(rt, alloc, &mut plain, stream, name)
 }
 
 // Adds a request. One sector in nine is out of range.
@@ -171,14 +183,30 @@ fn valid_stream(alloc: Global, noise: &mut Noise) -> Result<Vec<u8>, Fail> {
     Ok(stream)
 }
 
+fn noise_stream(alloc: Global, noise: &mut Noise) -> Result<Vec<u8>, Fail> {
+    let mut stream = vec![in alloc; 0; noise.below(200) as usize]?;
+    noise.fill(&mut stream);
+    Ok(stream)
+}
+
 #[test]
 fn noise_is_answered(rt: HostRuntime) -> Result<(), Fail> {
     let mut noise = Noise::new();
     for _ in 0..STREAMS {
-        let mut stream = vec![in rt.alloc(); 0; noise.below(200) as usize]?;
-        noise.fill(&mut stream);
+        let stream = noise_stream(rt.alloc(), &mut noise)?;
         hold_stream(&rt, rt.alloc(), &stream, "noise")?;
     }
+    Ok(())
+}
+
+// A valid stream, and the same changed.
+fn hold_changed(rt: &impl Abort, alloc: Global, noise: &mut Noise) -> Result<(), Fail> {
+    let mut stream = valid_stream(alloc, noise)?;
+    let end = hold_stream(rt, alloc, &stream, "valid")?;
+    assert!(rt; end == End::Boundary);
+    let length = stream.len();
+    noise.spoil(&mut stream, length);
+    hold_stream(rt, alloc, &stream, "changed")?;
     Ok(())
 }
 
@@ -186,12 +214,7 @@ fn noise_is_answered(rt: HostRuntime) -> Result<(), Fail> {
 fn changed_requests_are_answered(rt: HostRuntime) -> Result<(), Fail> {
     let mut noise = Noise::new();
     for _ in 0..STREAMS {
-        let mut stream = valid_stream(rt.alloc(), &mut noise)?;
-        let end = hold_stream(&rt, rt.alloc(), &stream, "valid")?;
-        assert!(rt; end == End::Boundary);
-        let length = stream.len();
-        noise.spoil(&mut stream, length);
-        hold_stream(&rt, rt.alloc(), &stream, "changed")?;
+        hold_changed(&rt, rt.alloc(), &mut noise)?;
     }
     Ok(())
 }

@@ -1,12 +1,15 @@
 //! A bit of an image turned over, against the certificate from before, and mounted anew.
+ghost use Rattle.std.specs.Prelude.{◌≡◌};
+
 use super::calls::write;
 use super::list::scanned;
 use certificate::Certificate;
-use device_fixtures::bench::{formatted_die, given_up, mounted, small, started};
-use device_fixtures::dies::image_of;
+use device_fixtures::bench::{fresh, mounted, small};
+use device_fixtures::dies::certified_image;
+use device_fixtures::hold::hold_same;
 use image_check::{Refusal, check};
 use page_layout::geometry::Geometry;
-use page_layout::source::ImageSlice;
+use page_layout::source::{ImageSlice, PageSource};
 use std::alloc::Global;
 use std::process::Abort;
 use std::test::Fail;
@@ -24,7 +27,7 @@ struct Row {
 
 const LOST: Refusal = Refusal::NoSuchRecord { sector: 5, row: 8 };
 
-const ROWS: [Row; 6] = [
+static ROWS: [Row; 6] = [
     Row {
         name: "the first byte of row 8",
         byte: 768,
@@ -81,16 +84,42 @@ fn written(
     alloc: Global,
     geometry: &Geometry,
 ) -> Result<(Vec<u8>, Certificate), Fail> {
-    let mut device = started(alloc, formatted_die(alloc, *geometry, &[], 0)?, geometry, 4)?;
+    let mut device = fresh(alloc, *geometry, 4)?;
     assert!(rt; write(rt, &mut device, 5, &[0x11; 64]).is_ok());
-    let (mut driver, geometry) = given_up(device);
-    let certificate = mounted(alloc, &mut driver, &geometry, 4)?;
-    Ok((image_of(alloc, &geometry, driver)?, certificate))
+    certified_image(alloc, device, 4)
 }
 
 // Whether a certificate gives a block this class.
 fn is_class(certificate: &Certificate, block: u32, class: u8) -> bool {
     certificate.geometry().has_block(block) && certificate.block(block).class == class
+}
+
+// Why a checker refuses a certificate.
+fn refusal_of<S: PageSource>(
+    alloc: Global,
+    source: &mut S,
+    geometry: &Geometry,
+    certificate: &Certificate,
+) -> Option<Refusal>
+    requires { (S.view.flash source.old).geometry ≡ geometry.now }
+    ensures { (S.view.flash source.new).geometry ≡ geometry.now }
+{
+    check(alloc, source, geometry, 4, certificate).err()
+}
+
+// What is mounted anew gives a block this class.
+fn hold_class<S: PageSource>(
+    alloc: Global,
+    source: &mut S,
+    geometry: &Geometry,
+    block: u32,
+    class: u8,
+) -> Result<(), Fail>
+    requires { (S.view.flash source.old).geometry ≡ geometry.now }
+{
+    let anew = mounted(alloc, source, geometry, 4)?;
+    let found = is_class(&anew, block, class);
+    hold_same("mounted anew", "the class of a block", &found, &true)
 }
 
 fn hold_row(
@@ -101,14 +130,34 @@ fn hold_row(
     certificate: &Certificate,
     row: &Row,
 ) -> Result<(), Fail> {
-    let name = row.name;
     let mut image = ImageSlice::new(geometry, turned)?;
-    let checked = check(alloc, &mut image, geometry, 4, certificate);
-    assert!(rt; checked.err() == Some(row.answer), "{name}");
-    assert!(rt; scanned(&image, 5) == Some([row.held; 64]), "{name}");
-    if let Some((block, class)) = row.class {
-        let anew = mounted(alloc, &mut image, geometry, 4)?;
-        assert!(rt; is_class(&anew, block, class), "{name}");
+    let is_held = scanned(&image, 5) == Some([row.held; 64]);
+    let refusal = refusal_of(alloc, &mut image, geometry, certificate);
+    assert!(rt; is_held && refusal == Some(row.answer), "{}", row.name);
+    match row.class {
+        Some((block, class)) => hold_class(alloc, &mut image, geometry, block, class),
+        None => Ok(()),
+    }
+}
+
+// Turns the bit of a row over.
+fn turn(rt: &impl Abort, image: &mut [u8], row: &Row) {
+    assert!(rt; row.byte < image.len());
+    image[row.byte] = image[row.byte] ^ row.mask;
+}
+
+// Each row, whose bit is turned back then.
+fn hold_rows(
+    rt: &impl Abort,
+    alloc: Global,
+    geometry: &Geometry,
+    image: &mut [u8],
+    certificate: &Certificate,
+) -> Result<(), Fail> {
+    for row in &ROWS {
+        turn(rt, image, row);
+        hold_row(rt, alloc, geometry, image, certificate, row)?;
+        turn(rt, image, row);
     }
     Ok(())
 }
@@ -117,12 +166,5 @@ fn hold_row(
 fn a_turned_bit_is_refused(rt: HostRuntime) -> Result<(), Fail> {
     let geometry = small()?;
     let (mut image, certificate) = written(&rt, rt.alloc(), &geometry)?;
-    for row in &ROWS {
-        assert!(rt; row.byte < image.len());
-        image[row.byte] = image[row.byte] ^ row.mask;
-        hold_row(&rt, rt.alloc(), &geometry, &image, &certificate, row)?;
-        assert!(rt; row.byte < image.len());
-        image[row.byte] = image[row.byte] ^ row.mask;
-    }
-    Ok(())
+    hold_rows(&rt, rt.alloc(), &geometry, &mut image, &certificate)
 }

@@ -1,11 +1,10 @@
 //! Reads, writes, trims, flushes, turns and restarts with smaller and smaller caches, held against a plain list of sectors.
-ghost use Rattle.std.specs.Prelude.{◌≡◌, ◌≤◌, ◌<◌, IfOk};
+ghost use Rattle.std.specs.Prelude.{◌≡◌, IfOk};
 
 use super::bench::served;
 use super::streams::Narrow;
 use device_fixtures::bench::{formatted_die, small};
-use nand_die::Die;
-use onfi_cycles::Driver;
+use onfi_cycles::Nand;
 use page_layout::geometry::Geometry;
 use std::alloc::Global;
 use std::process::Abort;
@@ -77,56 +76,70 @@ impl Plain {
             _ => self.ask(TURN, number, sector),
         }
     }
+
+    // So many requests from this number on, then a read of each sector, and a flush.
+    fn ask_all(&mut self, first: u8) -> Result<(), Fail> {
+        self.input.clear();
+        self.output.clear();
+        for nth in 0..REQUESTS {
+            self.request(first.wrapping_add(nth))?;
+        }
+        for sector in 0..32 {
+            self.read(sector, sector)?;
+        }
+        self.ask(FLUSH, 255, 0)
+    }
 }
 
 // So many requests from this number on, over a die with a cache of so many entries, which is then given back.
-fn hold_requests(
+fn hold_requests<N: Nand + Drop>(
     rt: &impl Abort,
     alloc: Global,
-    driver: Driver<Die>,
+    nand: N,
     geometry: &Geometry,
     capacity: u32,
     plain: &mut Plain,
     first: u8,
-) -> Result<Driver<Die>, Fail>
-    requires same { driver.geometry ≡ geometry.now }
-    requires least { 1 ≤ capacity }
-    requires most { capacity ≤ 65536 }
-    requires first { first < 200 }
-    ensures { IfOk result (λ driver. driver.geometry ≡ geometry.now) }
+) -> Result<N, Fail>
+    requires { (N.view.flash nand).geometry ≡ geometry.now }
+    ensures { IfOk result (λ nand. (N.view.flash nand).geometry ≡ geometry.now) }
 {
-    plain.input.clear();
-    plain.output.clear();
-    for number in first..first + REQUESTS {
-        plain.request(number)?;
-    }
-    for sector in 0..32 {
-        plain.read(sector, sector)?;
-    }
-    plain.ask(FLUSH, 255, 0)?;
+    plain.ask_all(first)?;
     let mut writer = Narrow::new(alloc, 5, 0);
-    let driver = served(alloc, driver, geometry, capacity, &plain.input, &mut writer)?;
+    let nand = served(alloc, nand, geometry, capacity, &plain.input, &mut writer)?;
     assert!(rt;
         writer.bytes.as_slice() == plain.output.as_slice(),
         "{capacity}"
     );
-    Ok(driver)
+    Ok(nand)
 }
 
-#[test]
-fn replies_are_a_plain_lists(rt: HostRuntime) -> Result<(), Fail> {
-    let alloc = rt.alloc();
-    let geometry = small()?;
+// The capacities of the caches, and the number of the first request of each.
+static RESTARTS: [(u32, u8); 5] = [(16, 0), (8, 24), (4, 48), (2, 72), (1, 96)];
+
+// A die goes from cache to cache.
+fn hold_restarts<N: Nand + Drop>(
+    rt: &impl Abort,
+    alloc: Global,
+    mut nand: N,
+    geometry: &Geometry,
+) -> Result<(), Fail>
+    requires { (N.view.flash nand).geometry ≡ geometry.now }
+{
     let mut plain = Plain {
         sectors: [0; SECTORS],
         input: Vec::new(alloc),
         output: Vec::new(alloc),
     };
-    let driver = formatted_die(alloc, geometry, &[], 0)?;
-    let driver = hold_requests(&rt, alloc, driver, &geometry, 16, &mut plain, 0)?;
-    let driver = hold_requests(&rt, alloc, driver, &geometry, 8, &mut plain, 24)?;
-    let driver = hold_requests(&rt, alloc, driver, &geometry, 4, &mut plain, 48)?;
-    let driver = hold_requests(&rt, alloc, driver, &geometry, 2, &mut plain, 72)?;
-    let _ = hold_requests(&rt, alloc, driver, &geometry, 1, &mut plain, 96)?;
+    for (capacity, first) in &RESTARTS {
+        nand = hold_requests(rt, alloc, nand, geometry, *capacity, &mut plain, *first)?;
+    }
     Ok(())
+}
+
+#[test]
+fn replies_are_a_plain_lists(rt: HostRuntime) -> Result<(), Fail> {
+    let geometry = small()?;
+    let driver = formatted_die(rt.alloc(), geometry, &[], 0)?;
+    hold_restarts(&rt, rt.alloc(), driver, &geometry)
 }

@@ -1,15 +1,14 @@
 //! Streams of requests, and what is written for them.
-use super::bench::{Came, Row, hold_row, serve_die};
+use super::bench::{Came, Row, hold_row, serve_new};
 use super::streams::{Narrow, Pieces};
 use block_server::Served;
-use device_fixtures::bench::{formatted_die, small};
 use promises::stream::End;
 use request_stream::ServeFault;
 use std::alloc::Global;
 use std::process::Abort;
 use std::test::Fail;
 
-const ROWS: &[Row] = &[
+static ROWS: &[Row] = &[
     Row {
         name: "a read, and a write cut short after its header",
         input: b"\x44\x46\x01\x00\x01\x00\x00\x00\x1f\x00\x00\x00\x44\x46\x02\x00\x02\x00\x00\x00\x05\x00\x00\x00",
@@ -180,7 +179,7 @@ const ROWS: &[Row] = &[
 ];
 
 // Of one byte a read or a write.
-const FAULTS: &[Row] = &[
+static FAULTS: &[Row] = &[
     Row {
         name: "the 13th read of one byte fails",
         input: b"\x44\x46\x01\x00\x01\x00\x00\x00\x1f\x00\x00\x00\x44\x46\x02\x00\x02\x00\x00\x00\x05\x00\x00\x00",
@@ -230,6 +229,12 @@ fn hold_rows(rt: &impl Abort, alloc: Global, rows: &[Row], piece: usize) -> Resu
     Ok(())
 }
 
+// The same in pieces of one byte, and then of five.
+fn hold_pieces(rt: &impl Abort, alloc: Global, rows: &[Row]) -> Result<(), Fail> {
+    hold_rows(rt, alloc, rows, 1)?;
+    hold_rows(rt, alloc, rows, 5)
+}
+
 #[test]
 fn streams_are_answered(rt: HostRuntime) -> Result<(), Fail> {
     hold_rows(&rt, rt.alloc(), ROWS, 1000)
@@ -237,8 +242,7 @@ fn streams_are_answered(rt: HostRuntime) -> Result<(), Fail> {
 
 #[test]
 fn streams_in_pieces_are_answered(rt: HostRuntime) -> Result<(), Fail> {
-    hold_rows(&rt, rt.alloc(), ROWS, 1)?;
-    hold_rows(&rt, rt.alloc(), ROWS, 5)
+    hold_pieces(&rt, rt.alloc(), ROWS)
 }
 
 #[test]
@@ -247,15 +251,13 @@ fn failing_streams_end(rt: HostRuntime) -> Result<(), Fail> {
 }
 
 // A write of sector 5.
-const WRITE: &[u8] = b"\
+static WRITE: &[u8] = b"\
         \x44\x46\x02\x00\x02\x00\x00\x00\x05\x00\x00\x00\x11\x11\x11\x11\x11\x11\x11\x11\x11\x11\x11\x11\x11\x11\x11\
         \x11\x11\x11\x11\x11\x11\x11\x11\x11\x11\x11\x11\x11\x11\x11\x11\x11\x11\x11\x11\x11\x11\x11\x11\x11\x11\x11\
         \x11\x11\x11\x11\x11\x11\x11\x11\x11\x11\x11\x11\x11\x11\x11\x11\x11\x11\x11\x11\x11\x11";
 
 // What came of so many bytes of the write.
 fn cut(alloc: Global, count: usize) -> Result<Came, Fail> {
-    let geometry = small()?;
-    let driver = formatted_die(alloc, geometry, &[], 0)?;
     let (front, _) = WRITE.split_at(count.min(WRITE.len()));
     let mut reader = Pieces {
         left: front,
@@ -264,15 +266,27 @@ fn cut(alloc: Global, count: usize) -> Result<Came, Fail> {
         reads: 0,
     };
     let mut writer = Narrow::new(alloc, 1000, 0);
-    serve_die(alloc, driver, &geometry, &mut reader, &mut writer)
+    serve_new(alloc, &mut reader, &mut writer)
 }
 
 // A write that is cut short changes nothing and has no reply.
 fn hold_cut(rt: &impl Abort, alloc: Global, before: &[u8], count: usize) -> Result<(), Fail> {
     let came = cut(alloc, count)?;
     let end = End::Unfinished;
-    assert!(rt; came.answer == Ok(Served { replies: 0, end }), "{count}");
-    assert!(rt; came.image.as_slice() == before, "{count}");
+    let is_same = came.image.as_slice() == before;
+    assert!(rt;
+        is_same && came.answer == Ok(Served { replies: 0, end }),
+        "{count}"
+    );
+    Ok(())
+}
+
+// A whole one changes the die and has its reply.
+fn hold_whole(rt: &impl Abort, alloc: Global, before: &[u8]) -> Result<(), Fail> {
+    let whole = cut(alloc, 76)?;
+    let end = End::Boundary;
+    let is_changed = whole.image.as_slice() != before;
+    assert!(rt; is_changed && whole.answer == Ok(Served { replies: 1, end }));
     Ok(())
 }
 
@@ -282,9 +296,5 @@ fn cut_write_changes_nothing(rt: HostRuntime) -> Result<(), Fail> {
     for count in 1..76 {
         hold_cut(&rt, rt.alloc(), &before.image, count)?;
     }
-    let whole = cut(rt.alloc(), 76)?;
-    let end = End::Boundary;
-    assert!(rt; whole.answer == Ok(Served { replies: 1, end }));
-    assert!(rt; whole.image.as_slice() != before.image.as_slice());
-    Ok(())
+    hold_whole(&rt, rt.alloc(), &before.image)
 }

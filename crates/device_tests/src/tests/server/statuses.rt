@@ -1,15 +1,16 @@
 //! Each status as a frame, and those that a device answers with other commands than its die's failures want.
 ghost use Rattle.std.specs.Prelude.{◌≡◌, true, IfOk};
 ghost use Rattle.certificate.specs.Claim.{sizes_of};
+ghost use Rattle.ftl_device.specs.Device.{IsDevice};
 
 use super::bench::served;
 use super::streams::{Narrow, Pieces};
 use block_server::serve;
-use certificate::Certificate;
-use device_fixtures::bench::{driver_on, formatted_die, mounted, small, start_on, with_bytes};
-use image_check::{Accepted, check};
+use device_fixtures::bench::{checked, driver_on, formatted_die, mounted_with, small, start_on};
+use ftl_device::Device;
+use image_check::Accepted;
 use nand_die::{CycleFuse, Die, Fault, Garble};
-use onfi_cycles::{Bus, Driver};
+use onfi_cycles::{Bus, Driver, Nand};
 use page_layout::geometry::Geometry;
 use promises::stream::Op;
 use request_stream::{Header, send_reply};
@@ -27,7 +28,7 @@ const WRITE: &[u8] = b"\
 const READS: &[u8] =
     b"\x44\x46\x01\x00\x03\x00\x00\x00\x05\x00\x00\x00\x44\x46\x05\x00\x04\x00\x00\x00\x00\x00\x00\x00\x44\x46\x01\x00\x03\x00\x00\x00\x05\x00\x00\x00";
 
-const STATUSES: [(u8, &[u8]); 7] = [
+static STATUSES: [(u8, &[u8]); 7] = [
     (0, b"df\x02\x00\x04\x03\x02\x01"),
     (1, b"df\x02\x01\x04\x03\x02\x01"),
     (2, b"df\x02\x02\x04\x03\x02\x01"),
@@ -44,10 +45,10 @@ fn statuses_stand_in_frames(rt: HostRuntime) -> Result<(), Fail> {
         tag: 0x0102_0304,
         sector: 5,
     };
-    for (status, frame) in STATUSES {
+    for (status, frame) in &STATUSES {
         let mut writer = Narrow::new(rt.alloc(), 3, 0);
-        assert!(rt; send_reply(&mut writer, header, status, &[]).is_ok());
-        assert!(rt; writer.bytes.as_slice() == frame, "{status}");
+        let is_sent = send_reply(&mut writer, header, *status, &[]).is_ok();
+        assert!(rt; is_sent && writer.bytes.as_slice() == *frame, "{status}");
     }
     Ok(())
 }
@@ -78,7 +79,7 @@ struct Row {
 const LONG: &[u8] =
     b"\x44\x46\x01\x00\x03\x00\x00\x00\x05\x00\x00\x00\x44\x46\x05\x00\x04\x00\x00\x00\x00\x00\x00\x00\x44\x46\x01\x00\x03\x00\x00\x00\x05\x00\x00\x00\x44\x46\x04\x00\x05\x00\x00\x00\x00\x00\x00\x00\x44\x46\x01\x00\x03\x00\x00\x00\x05\x00\x00\x00";
 
-const ROWS: [Row; 6] = [
+static ROWS: [Row; 6] = [
     Row {
         name: "the last sequence is spent",
         before: &[],
@@ -146,6 +147,29 @@ const ROWS: [Row; 6] = [
     },
 ];
 
+// What a device answers to a stream.
+fn answers<N: Nand + Drop>(
+    alloc: Global,
+    mut device: Device<N>,
+    input: &[u8],
+) -> Result<Vec<u8>, Fail>
+    requires { IsDevice N.view.flash device }
+{
+    let mut reader = Pieces {
+        left: input,
+        piece: 1000,
+        failing: 0,
+        reads: 0,
+    };
+    let mut writer = Narrow::new(alloc, 1000, 0);
+    let served = serve(alloc, &mut reader, &mut writer, &mut device);
+    device.into_nand();
+    match served {
+        Ok(_) => Ok(writer.bytes),
+        Err(_) => Err(Fail::new("not served")),
+    }
+}
+
 // What a device over this bus answers to a stream.
 fn replies<B: Bus + Drop>(
     alloc: Global,
@@ -158,18 +182,7 @@ fn replies<B: Bus + Drop>(
     requires asked { sizes_of geometry ≡ accepted.claim.sizes }
 {
     let driver = driver_on(bus, geometry)?;
-    let mut device = start_on(alloc, driver, accepted)?;
-    let mut reader = Pieces {
-        left: input,
-        piece: 1000,
-        failing: 0,
-        reads: 0,
-    };
-    let mut writer = Narrow::new(alloc, 1000, 0);
-    match serve(alloc, &mut reader, &mut writer, &mut device) {
-        Ok(_) => Ok(writer.bytes),
-        Err(_) => Err("not served")?,
-    }
+    answers(alloc, start_on(alloc, driver, accepted)?, input)
 }
 
 // A formatted die that was served.
@@ -179,23 +192,6 @@ fn prepared(alloc: Global, geometry: &Geometry, before: &[u8]) -> Result<Driver<
     let driver = formatted_die(alloc, *geometry, &[], 0)?;
     let mut writer = Narrow::new(alloc, 1000, 0);
     served(alloc, driver, geometry, 4, before, &mut writer)
-}
-
-// The certificate of a row.
-fn certificate_of(
-    alloc: Global,
-    driver: &mut Driver<Die>,
-    geometry: &Geometry,
-    next: Option<[u8; 8]>,
-) -> Result<Certificate, Fail>
-    requires { driver.old.geometry ≡ geometry.now }
-    ensures { driver.new.geometry ≡ geometry.now }
-{
-    let certificate = mounted(alloc, driver, geometry, 4)?;
-    match next {
-        Some(next) => with_bytes(alloc, &certificate, 32, &next),
-        None => Ok(certificate),
-    }
 }
 
 // The first so many programs and erases fail.
@@ -210,16 +206,28 @@ fn faults_of(alloc: Global, failing: u64) -> Result<Vec<Fault>, Fail> {
     Ok(faults)
 }
 
-// What comes of the stream of a row.
-fn came(alloc: Global, row: &Row) -> Result<Vec<u8>, Fail> {
-    let geometry = small()?;
-    let mut driver = prepared(alloc, &geometry, row.before)?;
-    let certificate = certificate_of(alloc, &mut driver, &geometry, row.next)?;
-    let accepted = check(alloc, &mut driver, &geometry, 4, &certificate)?;
-    let mut die = driver.into_bus();
+// A die whose first so many programs and erases fail.
+fn failing(alloc: Global, mut die: Die, count: u64) -> Result<Die, Fail>
+    ensures { IfOk result (λ its. its.state ≡ die.state) }
+{
+    die.set_faults(faults_of(alloc, count)?)?;
+    Ok(die)
+}
+
+// What a device on the die of a row answers.
+fn came_of(
+    alloc: Global,
+    die: Die,
+    accepted: Accepted<'_>,
+    geometry: Geometry,
+    row: &Row,
+) -> Result<Vec<u8>, Fail>
+    requires same { die.state.flash.geometry ≡ geometry }
+    requires asked { sizes_of geometry ≡ accepted.claim.sizes }
+{
     match row.round {
         Round::Failing(count) => {
-            die.set_faults(faults_of(alloc, count)?)?;
+            let die = failing(alloc, die, count)?;
             replies(alloc, die, accepted, geometry, row.input)
         }
         Round::Garble(nth, byte, mask) => {
@@ -233,14 +241,20 @@ fn came(alloc: Global, row: &Row) -> Result<Vec<u8>, Fail> {
     }
 }
 
+// What comes of the stream of a row.
+fn came(alloc: Global, row: &Row) -> Result<Vec<u8>, Fail> {
+    let geometry = small()?;
+    let mut driver = prepared(alloc, &geometry, row.before)?;
+    let certificate = mounted_with(alloc, &mut driver, &geometry, 4, row.next)?;
+    let accepted = checked(alloc, &mut driver, &geometry, 4, &certificate)?;
+    came_of(alloc, driver.into_bus(), accepted, geometry, row)
+}
+
 #[test]
 fn devices_answer_by_their_status(rt: HostRuntime) -> Result<(), Fail> {
     for row in &ROWS {
-        assert!(rt;
-            came(rt.alloc(), row)?.as_slice() == row.output,
-            "{}",
-            row.name
-        );
+        let output = came(rt.alloc(), row)?;
+        assert!(rt; output.as_slice() == row.output, "{}", row.name);
     }
     Ok(())
 }

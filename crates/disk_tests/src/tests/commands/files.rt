@@ -158,6 +158,21 @@ impl MemoryFiles {
     fn find(&self, path: &str) -> Option<&MemoryDisk> {
         self.disks.iter().find(|disk| disk.path.as_str() == path)
     }
+
+    // A store with a copy of the pages of a disk.
+    fn store_at(
+        &self,
+        alloc: Global,
+        path: &str,
+        geometry: &Geometry,
+    ) -> Result<MemoryStore, DiskFileFault>
+        ensures { IfOk result (λ store. store.geometry ≡ geometry.now) }
+    {
+        match self.find(path) {
+            Some(disk) => store_of(geometry, copied(alloc, &disk.pages)?),
+            None => Err(DiskFileFault::Read),
+        }
+    }
 }
 
 // The dump. A caller's proof need not know its bytes.
@@ -283,14 +298,7 @@ impl DiskFiles for MemoryFiles {
         _locked: MemoryLock,
         shape: &DiskShape,
     ) -> Result<(MemoryStore, MemorySyncs), DiskFileFault> {
-        let Some(disk) = self.find(path) else {
-            return Err(DiskFileFault::Read);
-        };
-        let pages = match copied(alloc, &disk.pages) {
-            Ok(pages) => pages,
-            Err(fault) => return Err(fault),
-        };
-        match store_of(&shape.geometry, pages) {
+        match self.store_at(alloc, path, &shape.geometry) {
             Ok(store) => Ok((
                 store,
                 MemorySyncs {

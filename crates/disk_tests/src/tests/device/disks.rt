@@ -131,10 +131,15 @@ pub fn die_of(
     driver_on(die, geometry)
 }
 
+// Whether a disk has 2,048 bytes and does all steps.
+pub fn does_each<S: Sectors>(disk: &mut SectorDisk<S>, steps: &[Step]) -> bool {
+    disk.bytes() == SIZE && does_all(disk, SIZE, steps)
+}
+
 // Whether a disk over sectors does all steps.
 fn does_steps<S: Sectors + Drop>(alloc: Global, sectors: S, steps: &[Step]) -> Result<bool, Fail> {
     let mut disk = over(alloc, sectors)?;
-    Ok(disk.bytes() == SIZE && does_all(&mut disk, SIZE, steps))
+    Ok(does_each(&mut disk, steps))
 }
 
 // Whether a disk over a new die does all of a row.

@@ -184,39 +184,34 @@ fn store_of(
     }
 }
 
-// The store over the file of another one, once bits have turned in it.
+// A disk once bits have turned in its file.
 fn turned(
     rt: &impl Abort,
     alloc: Global,
-    store: CodedStore<MemoryBytes>,
+    disk: Between<CodedStore<MemoryBytes>>,
     turn: Turn,
-) -> Result<CodedStore<MemoryBytes>, Fail> {
+) -> Result<Between<CodedStore<MemoryBytes>>, Fail> {
+    let Between {
+        store,
+        keeper,
+        held,
+    } = disk;
     let mut bytes = store.into_file().into_bytes();
     turn_file(&mut bytes, turn);
-    store_of(rt, alloc, bytes)
+    Ok(Between {
+        store: store_of(rt, alloc, bytes)?,
+        keeper,
+        held,
+    })
 }
 
 // Holds a disk to a row.
 fn hold_row(rt: &impl Abort, alloc: Global, row: &Row) -> Result<(), Fail> {
     let name = row.name;
     let blank = store_of(rt, alloc, vec![in alloc; 0xFF; FILE]?)?;
-    let mut disk: Between<CodedStore<MemoryBytes>> = born(alloc, blank, BEFORE)?;
+    let mut disk = born(alloc, blank, BEFORE)?;
     for (at, (turn, life)) in row.lives.iter().enumerate() {
-        let Between {
-            store,
-            keeper,
-            held,
-        } = disk;
-        let store = turned(rt, alloc, store, *turn)?;
-        disk = live(
-            alloc,
-            Between {
-                store,
-                keeper,
-                held,
-            },
-            life,
-        )?;
+        disk = live(alloc, turned(rt, alloc, disk, *turn)?, life)?;
         assert!(rt; disk.held, "{name}: life {at}");
     }
     Ok(())

@@ -3,20 +3,21 @@ ghost use Rattle.std.specs.Prelude.{◌≡◌, true, IfOk};
 ghost use Rattle.image_check.specs.Agrees.{Agrees};
 
 use crate::tests::commands::files::{MemoryLists, pages_of};
-use crate::tests::device::disks::over;
-use crate::tests::steps::{Step, does_all};
+use crate::tests::device::disks::{does_each, over};
+use crate::tests::steps::Step;
 use certificate::Certificate;
 use coded_store::TellsMended;
 use disk_damage::{bad_blocks, mount_and_find};
 use disk_recovery::{list_first, recover_listed};
-use disk_server::{GuardedSectors, StoreDisk, close_store, format_store, open_stopped, open_store};
+use disk_server::{
+    GuardedSectors, KeepsLost, Lasting, StoreDisk, close_store, format_store, open_stopped,
+    open_store,
+};
 use file_die::{Store, SyncWhen};
 use std::alloc::Global;
 use std::test::Fail;
 
-// Bytes of a disk, and its sectors.
-const SIZE: u64 = 2048;
-
+// Sectors of a disk.
 const SECTORS: usize = 32;
 
 const ENTRIES: u32 = 64;
@@ -59,7 +60,7 @@ pub struct Between<S: Store + Drop> {
 // The store of a disk once it was asked this, and whether it answered so.
 fn asked_plain<S: Store + Drop>(disk: StoreDisk<S>, steps: &[Step]) -> (S, bool) {
     let mut disk = disk;
-    let held = disk.bytes() == SIZE && does_all(&mut disk, SIZE, steps);
+    let held = does_each(&mut disk, steps);
     (close_store(disk), held)
 }
 
@@ -151,6 +152,20 @@ fn reading<S: Store + Drop>(alloc: Global, store: S) -> Result<StoreDisk<S>, Fai
     }
 }
 
+// Asks a disk over sectors of which some are lost, and gives both parts back, with whether it answered so.
+fn asked_guarded<S: Lasting + Drop, K: KeepsLost + Drop>(
+    alloc: Global,
+    sectors: S,
+    keeper: K,
+    lost: Vec<bool>,
+    steps: &[Step],
+) -> Result<(S, K, bool), Fail> {
+    let mut disk = over(alloc, GuardedSectors::new(sectors, keeper, lost))?;
+    let held = does_each(&mut disk, steps);
+    let (sectors, keeper) = disk.into_sectors().into_parts();
+    Ok((sectors, keeper, held))
+}
+
 // Asks a disk of which sectors are lost.
 fn asked<S: Store + Drop>(
     alloc: Global,
@@ -159,17 +174,39 @@ fn asked<S: Store + Drop>(
     lost: Vec<bool>,
     steps: &[Step],
 ) -> Result<Between<S>, Fail> {
-    let mut disk = over(
-        alloc,
-        GuardedSectors::new(disk.into_sectors(), keeper, lost),
-    )?;
-    let held = disk.bytes() == SIZE && does_all(&mut disk, SIZE, steps);
-    let (device, keeper) = disk.into_sectors().into_parts();
+    let (device, keeper, held) = asked_guarded(alloc, disk.into_sectors(), keeper, lost, steps)?;
     Ok(Between {
         store: close_store(over(alloc, device)?),
         keeper,
         held,
     })
+}
+
+// Opens the disk of a store that was looked at, to be read or written, and asks it.
+fn lived_on<S: Store + Drop>(
+    alloc: Global,
+    store: S,
+    certificate: &Certificate,
+    mut keeper: MemoryLists,
+    lost: Vec<bool>,
+    life: &Life,
+) -> Result<Between<S>, Fail>
+    requires { S.honest store ≡ true → Agrees (S.held store).geometry 65536 (S.held store).pages certificate.now }
+{
+    keeper.fails = !life.keeps;
+    let disk = if life.writes {
+        opened(alloc, store, certificate, &mut keeper, &lost, life)?
+    } else {
+        Ok(reading(alloc, store)?)
+    };
+    match disk {
+        Ok(disk) => asked(alloc, disk, keeper, lost, life.steps),
+        Err(store) => Ok(Between {
+            store,
+            keeper,
+            held: !life.keeps,
+        }),
+    }
 }
 
 // Lives a life.
@@ -180,30 +217,15 @@ fn lived<S: Store + TellsMended + Drop>(
 ) -> Result<Between<S>, Fail> {
     let Between {
         store,
-        mut keeper,
+        keeper,
         held,
     } = between;
     let mut lost = keeper.list(SECTORS)?;
     let (store, certificate) = mounted(alloc, store, life.flushed, &mut lost)?;
     let told = held && is_told(alloc, &store, &certificate, &lost, life)?;
-    keeper.fails = !life.keeps;
-    let disk = if life.writes {
-        opened(alloc, store, &certificate, &mut keeper, &lost, life)?
-    } else {
-        Ok(reading(alloc, store)?)
-    };
-    match disk {
-        Ok(disk) => {
-            let mut after = asked(alloc, disk, keeper, lost, life.steps)?;
-            after.held = after.held && told;
-            Ok(after)
-        }
-        Err(store) => Ok(Between {
-            store,
-            keeper,
-            held: told && !life.keeps,
-        }),
-    }
+    let mut after = lived_on(alloc, store, &certificate, keeper, lost, life)?;
+    after.held = after.held && told;
+    Ok(after)
 }
 
 /// Lives a life. One in which the disk is only read, or its list is not kept, has to leave its pages as they were.

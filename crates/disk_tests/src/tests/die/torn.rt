@@ -2,7 +2,7 @@
 ghost use Rattle.std.specs.Prelude.{◌≡◌, ◌<◌};
 ghost use Rattle.page_layout.specs.Geometry.{row_count};
 
-use super::lives::{Between, Life, QUIET, born, live};
+use super::lives::{Life, QUIET, born, live};
 use super::{erased, small, store_of};
 use crate::tests::steps::Step;
 use file_die::{MemoryStore, Store};
@@ -371,17 +371,23 @@ fn is_hurt(store: &mut MemoryStore, filled: u8, hurt: Hurt) -> bool {
     count == 1
 }
 
+// Hurts the pages of a row.
+fn hurt_all(rt: &impl Abort, store: &mut MemoryStore, row: &Row) {
+    let name = row.name;
+    for (filled, hurt) in row.hurt {
+        assert!(rt;
+            is_hurt(store, *filled, *hurt),
+            "{name}: no page of {filled}"
+        );
+    }
+}
+
 // Holds a disk to a row.
 fn hold_row(rt: &impl Abort, alloc: Global, row: &Row) -> Result<(), Fail> {
     let name = row.name;
     let store = store_of(rt, small(rt), erased(rt, alloc));
-    let mut disk: Between<MemoryStore> = born(alloc, store, row.before)?;
-    for (filled, hurt) in row.hurt {
-        assert!(rt;
-            is_hurt(&mut disk.store, *filled, *hurt),
-            "{name}: no page of {filled}"
-        );
-    }
+    let mut disk = born(alloc, store, row.before)?;
+    hurt_all(rt, &mut disk.store, row);
     for (at, life) in row.lives.iter().enumerate() {
         disk = live(alloc, disk, life)?;
         assert!(rt; disk.held, "{name}: life {at}");

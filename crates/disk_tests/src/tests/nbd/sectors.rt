@@ -5,7 +5,6 @@ use crate::tests::steps::{Step, does_all};
 use disk_server::{ReadOnlyDisk, SectorDisk, Sectors};
 use nbd_stream::{Disk, DiskFault};
 use std::alloc::Global;
-use std::test::Fail;
 
 const SIZE: usize = 16;
 
@@ -272,12 +271,11 @@ fn holds(alloc: Global, row: &Row) -> bool {
 }
 
 #[test]
-fn sectors_by_hand(rt: HostRuntime) -> Result<(), Fail> {
+fn sectors_by_hand(rt: HostRuntime) {
     for row in ROWS {
         let name = row.name;
         assert!(rt; holds(rt.alloc(), row), "{name}");
     }
-    Ok(())
 }
 
 // What a disk that is only read is asked, over a device that fails its second call: the first one is a read, and a flush, a rest and a change are none.
@@ -311,9 +309,8 @@ fn only_reads(alloc: Global) -> bool {
 }
 
 #[test]
-fn disks_that_are_only_read(rt: HostRuntime) -> Result<(), Fail> {
+fn disks_that_are_only_read(rt: HostRuntime) {
     assert!(rt; only_reads(rt.alloc()));
-    Ok(())
 }
 
 // Sets a range of the disk and of a list of bytes, clears the first half of it in both, and tells whether they are the same then.
@@ -358,8 +355,7 @@ fn ranges_hold(alloc: Global) -> bool {
 }
 
 #[test]
-fn every_range(rt: HostRuntime) -> Result<(), Fail> {
+fn every_range(rt: HostRuntime) {
     let holds = ranges_hold(rt.alloc());
     assert!(rt; holds);
-    Ok(())
 }

@@ -5,7 +5,6 @@ ghost use Rattle.std.specs.Prelude.{◌≡◌, vec_len, IfOk};
 use super::pieces::Pieces;
 use nbd_stream::{Export, MemoryDisk, StreamEnd, serve_memory};
 use std::alloc::{AllocError, Global};
-use std::test::Fail;
 
 const SIZE: usize = 1_048_576;
 
@@ -66,9 +65,8 @@ fn holds(alloc: Global, piece: usize) -> bool {
 }
 
 #[test]
-fn session_by_hand(rt: HostRuntime) -> Result<(), Fail> {
+fn session_by_hand(rt: HostRuntime) {
     for piece in [1, 7, 512] {
         assert!(rt; holds(rt.alloc(), piece), "pieces of {piece}");
     }
-    Ok(())
 }

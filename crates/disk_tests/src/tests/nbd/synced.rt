@@ -239,27 +239,46 @@ const ROWS: &[Row] = &[
     },
 ];
 
-// Whether a disk of zeros does all of a row, and asks for so many syncs, the last one with this mark.
-fn holds(alloc: Global, row: &Row) -> Result<bool, Fail> {
-    let asked = Cell::new(0);
-    let mark = SyncMark {
-        synced: 0,
-        flushed: 0,
-    };
-    let told = Cell::new(mark);
-    let syncs = CountingSyncs {
-        asked: &asked,
-        told: &told,
-        mark,
-        done: 0,
-        failed: 0,
-        failing: row.failing,
-    };
+type CountedDisk<'a> = SyncedDisk<SectorDisk<PlainSectors>, CountingSyncs<'a>>;
+
+// Nothing was synced.
+const UNSYNCED: SyncMark = SyncMark {
+    synced: 0,
+    flushed: 0,
+};
+
+// A disk of zeros of which a sync fails, the one of this number, from 1; 0 for none.
+fn counted_disk<'a>(
+    alloc: Global,
+    asked: &'a Cell<u64>,
+    told: &'a Cell<SyncMark>,
+    failing: u64,
+) -> Result<CountedDisk<'a>, Fail> {
     let Ok(disk) = SectorDisk::new(alloc, PlainSectors::zeros()) else {
         return Err("no memory")?;
     };
-    let mut disk = SyncedDisk::new(disk, syncs, PACE);
-    let did = does_all(&mut disk, SIZE, row.steps);
+    let syncs = CountingSyncs {
+        asked,
+        told,
+        mark: UNSYNCED,
+        done: 0,
+        failed: 0,
+        failing,
+    };
+    Ok(SyncedDisk::new(disk, syncs, PACE))
+}
+
+// Whether a disk does all of these steps.
+fn does_each(disk: &mut CountedDisk<'_>, steps: &[Step]) -> bool {
+    disk.disk().bytes() == SIZE && does_all(disk, SIZE, steps)
+}
+
+// Whether a disk of zeros does all of a row, and asks for so many syncs, the last one with this mark.
+fn holds(alloc: Global, row: &Row) -> Result<bool, Fail> {
+    let asked = Cell::new(0);
+    let told = Cell::new(UNSYNCED);
+    let mut disk = counted_disk(alloc, &asked, &told, row.failing)?;
+    let did = does_each(&mut disk, row.steps);
     let last = told.get();
     Ok(did && asked.get() == row.syncs && (last.synced, last.flushed) == row.mark)
 }
@@ -274,44 +293,42 @@ fn syncs_between_flushes(rt: HostRuntime) -> Result<(), Fail> {
     Ok(())
 }
 
+static FOUR_BYTES: &[Step] = &[Step::Write(0, b"abcd", true, Ok(()))];
+
+// Closes a disk so often, and tells whether it was closed each time.
+fn closes(disk: &mut CountedDisk<'_>, times: u64, counts: bool) -> bool {
+    let mut all = true;
+    for _ in 0..times {
+        all = disk.close(counts).is_ok() && all;
+    }
+    all
+}
+
 // What a disk that was written with four bytes is marked with once it is closed so often, by whether its mark counts.
 fn closed(alloc: Global, times: u64, counts: bool) -> Result<(u64, u64, u64), Fail> {
     let asked = Cell::new(0);
-    let mark = SyncMark {
-        synced: 0,
-        flushed: 0,
-    };
-    let told = Cell::new(mark);
-    let syncs = CountingSyncs {
-        asked: &asked,
-        told: &told,
-        mark,
-        done: 0,
-        failed: 0,
-        failing: 0,
-    };
-    let Ok(disk) = SectorDisk::new(alloc, PlainSectors::zeros()) else {
-        return Err("no memory")?;
-    };
-    let mut disk = SyncedDisk::new(disk, syncs, PACE);
-    if !does_all(&mut disk, SIZE, &[Step::Write(0, b"abcd", true, Ok(()))]) {
-        return Err("not written")?;
-    }
-    for _ in 0..times {
-        if disk.close(counts).is_err() {
-            return Err("not closed")?;
-        }
+    let told = Cell::new(UNSYNCED);
+    let mut disk = counted_disk(alloc, &asked, &told, 0)?;
+    if !does_each(&mut disk, FOUR_BYTES) || !closes(&mut disk, times, counts) {
+        return Err("not written or closed")?;
     }
     let last = told.get();
     Ok((asked.get(), last.synced, last.flushed))
 }
 
-// A write is marked as synced; a disk that is closed is flushed, and marked so, once where its mark counts, and else each time.
+// How often a disk is closed, whether its mark counts, and what it is marked with: a write is marked as synced; a disk that is closed is flushed, and marked so, once where its mark counts, and else
+// each time.
+static CLOSES: &[(u64, bool, (u64, u64, u64))] = &[
+    (0, true, (1, 1, 0)),
+    (1, true, (2, 2, 2)),
+    (2, true, (2, 2, 2)),
+    (2, false, (3, 3, 3)),
+];
+
 #[test]
 fn closes_once(rt: HostRuntime) -> Result<(), Fail> {
-    assert!(rt; closed(rt.alloc(), 0, true)? == (1, 1, 0));
-    assert!(rt; closed(rt.alloc(), 1, true)? == (2, 2, 2));
-    assert!(rt; closed(rt.alloc(), 2, true)? == (2, 2, 2));
-    assert!(rt; closed(rt.alloc(), 2, false)? == (3, 3, 3));
+    for (times, counts, marked) in CLOSES {
+        assert!(rt; closed(rt.alloc(), *times, *counts)? == *marked);
+    }
     Ok(())
 }

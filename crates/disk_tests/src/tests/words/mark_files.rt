@@ -136,44 +136,66 @@ const ROWS: &[Row] = &[
     },
 ];
 
-// Whether a row is as it says.
-fn holds(alloc: Global, row: &Row) -> Result<bool, Fail> {
-    let mut file = file_of(alloc, MARK_BYTES, 0, 0)?;
-    if put_blank(alloc, &mut file).is_err() {
-        return Ok(false);
-    }
+// What a file holds.
+fn bytes_in(file: FailingBytes) -> Vec<u8> {
     let FailingBytes { bytes, .. } = file;
-    let blank = bytes.into_bytes();
-    if mark_of(Some(&blank)) != none_found() {
-        return Ok(false);
+    bytes.into_bytes()
+}
+
+// The bytes of a file that holds no mark.
+fn blank_bytes(alloc: Global) -> Result<Vec<u8>, Fail> {
+    let mut file = file_of(alloc, MARK_BYTES, 0, 0)?;
+    match put_blank(alloc, &mut file) {
+        Ok(()) => Ok(bytes_in(file)),
+        Err(_) => Err("no blank file")?,
     }
-    let mut file = file_of(alloc, 0, row.write, row.sync)?;
-    file.bytes = MemoryBytes::new(blank);
+}
+
+// The files of a disk whose mark was found in the second slot of a file of these bytes.
+fn syncs_of(alloc: Global, row: &Row, bytes: Vec<u8>) -> Result<FileSyncs<FailingBytes>, Fail> {
+    let file = FailingBytes {
+        bytes: MemoryBytes::new(bytes),
+        write: row.write,
+        sync: row.sync,
+    };
     let first = SyncMark {
         synced: 3,
         flushed: 0,
     };
-    let mut syncs = FileSyncs::new(file_of(alloc, 0, 0, row.die_sync)?).with_mark(
-        Some(MarkFile::new(file, true)),
-        first,
-    );
-    let done = [syncs.sync(5, false).is_ok(), syncs.sync(9, true).is_ok()];
-    let found = match syncs.into_mark_file() {
-        Some(kept) => {
-            let FailingBytes { bytes, .. } = kept.into_file();
-            let bytes = bytes.into_bytes();
-            Some(mark_of(Some(&bytes)))
-        }
+    let die = file_of(alloc, 0, 0, row.die_sync)?;
+    Ok(FileSyncs::new(die).with_mark(Some(MarkFile::new(file, true)), first))
+}
+
+// The mark that is found in a file that is kept still.
+fn found_in(kept: Option<MarkFile<FailingBytes>>) -> Option<FoundMark> {
+    match kept {
+        Some(kept) => Some(mark_of(Some(&bytes_in(kept.into_file())))),
         None => None,
-    };
-    let wanted = match row.found {
+    }
+}
+
+// The one that a row says.
+fn wanted(row: &Row) -> Option<FoundMark> {
+    match row.found {
         Some((synced, flushed, in_second)) => Some(FoundMark {
             mark: SyncMark { synced, flushed },
             in_second,
         }),
         None => None,
-    };
-    Ok(done == row.done && found == wanted)
+    }
+}
+
+// Whether two syncs of these files are as a row says.
+fn syncs_so(mut syncs: FileSyncs<FailingBytes>, row: &Row) -> bool {
+    let done = [syncs.sync(5, false).is_ok(), syncs.sync(9, true).is_ok()];
+    done == row.done && found_in(syncs.into_mark_file()) == wanted(row)
+}
+
+// Whether a row is as it says.
+fn holds(alloc: Global, row: &Row) -> Result<bool, Fail> {
+    let blank = blank_bytes(alloc)?;
+    let blank_holds_none = mark_of(Some(&blank)) == none_found();
+    Ok(syncs_so(syncs_of(alloc, row, blank)?, row) && blank_holds_none)
 }
 
 #[test]
@@ -184,20 +206,18 @@ fn marks_follow_their_syncs(rt: HostRuntime) -> Result<(), Fail> {
     Ok(())
 }
 
+// A file of so many bytes, of which these calls fail, and why it is not taken.
+static REFUSED: &[(usize, u32, u32, &str)] = &[
+    (MARK_BYTES - 1, 0, 0, "too short"),
+    (MARK_BYTES, 1, 0, "not written"),
+    (MARK_BYTES, 0, 1, "not synced"),
+];
+
 #[test]
 fn blank_file_wants_room_and_a_sync(rt: HostRuntime) -> Result<(), Fail> {
-    let alloc = rt.alloc();
-    assert!(rt;
-        put_blank(alloc, &mut file_of(alloc, MARK_BYTES - 1, 0, 0)?).is_err(),
-        "too short"
-    );
-    assert!(rt;
-        put_blank(alloc, &mut file_of(alloc, MARK_BYTES, 1, 0)?).is_err(),
-        "not written"
-    );
-    assert!(rt;
-        put_blank(alloc, &mut file_of(alloc, MARK_BYTES, 0, 1)?).is_err(),
-        "not synced"
-    );
+    for (size, write, sync, why) in REFUSED {
+        let mut file = file_of(rt.alloc(), *size, *write, *sync)?;
+        assert!(rt; put_blank(rt.alloc(), &mut file).is_err(), "{why}");
+    }
     Ok(())
 }

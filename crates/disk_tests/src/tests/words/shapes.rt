@@ -3,81 +3,80 @@ use disk_commands::{DiskShape, SizeFault, SizeWordFault, shape_for, size_from};
 use std::process::Abort;
 use std::test::*;
 
+type Said = Result<u64, SizeWordFault>;
+
+// A part of a byte.
+const PART: Said = Err(SizeWordFault::PartOfByte);
+
+const NO_SIZE: Said = Err(SizeWordFault::NoSize);
+
 // A word, and the bytes that it says.
-const SIZES: &[(&str, u64)] = &[
-    ("1", 1),
-    ("4096", 4096),
-    ("007", 7),
-    ("1K", 1024),
-    ("1k", 1024),
-    ("64M", 67_108_864),
-    ("64m", 67_108_864),
-    ("64MiB", 67_108_864),
-    ("64mB", 64_000_000),
-    ("64MB", 64_000_000),
-    ("1G", 1_073_741_824),
-    ("1.5G", 1_610_612_736),
-    ("1.5GiB", 1_610_612_736),
-    ("1.5GB", 1_500_000_000),
-    ("0.25K", 256),
-    ("1.0", 1),
-    ("1.50000M", 1_572_864),
-    ("0.000001MB", 1),
-    ("2T", 2_199_023_255_552),
-    ("1TB", 1_000_000_000_000),
-    ("9223372036854775808", 9_223_372_036_854_775_808),
-    ("8388608T", 9_223_372_036_854_775_808),
-    ("1.000000000000000000", 1),
-];
-
-// Words that say a part of a byte.
-const PARTS: &[&str] = &["1.5", "0.1K", "1.1G", "0.0001KB", "0.000000000000000001T"];
-
-// Words that say no size.
-const NO_SIZES: &[&str] = &[
-    "9223372036854775809",
-    "8388609T",
-    "18446744073709551615",
-    "18446744073709551616",
-    "18446744073709551615T",
-    "1.0000000000000000000",
-    "",
-    "0",
-    "0K",
-    "0.0M",
-    "K",
-    "1KK",
-    "K1",
-    "-1",
-    "+1",
-    "1 M",
-    "1.",
-    "1.M",
-    ".5M",
-    "1..5M",
-    "1.5.5M",
-    "1MIB",
-    "1Mib",
-    "1Mb",
-    "1B",
-    "1iB",
-    "1P",
-    "1MiBs",
-    "1,5G",
-    "0x10",
-    "1e3",
+static SIZES: &[(&str, Said)] = &[
+    ("1", Ok(1)),
+    ("4096", Ok(4096)),
+    ("007", Ok(7)),
+    ("1K", Ok(1024)),
+    ("1k", Ok(1024)),
+    ("64M", Ok(67_108_864)),
+    ("64m", Ok(67_108_864)),
+    ("64MiB", Ok(67_108_864)),
+    ("64mB", Ok(64_000_000)),
+    ("64MB", Ok(64_000_000)),
+    ("1G", Ok(1_073_741_824)),
+    ("1.5G", Ok(1_610_612_736)),
+    ("1.5GiB", Ok(1_610_612_736)),
+    ("1.5GB", Ok(1_500_000_000)),
+    ("0.25K", Ok(256)),
+    ("1.0", Ok(1)),
+    ("1.50000M", Ok(1_572_864)),
+    ("0.000001MB", Ok(1)),
+    ("2T", Ok(2_199_023_255_552)),
+    ("1TB", Ok(1_000_000_000_000)),
+    ("9223372036854775808", Ok(9_223_372_036_854_775_808)),
+    ("8388608T", Ok(9_223_372_036_854_775_808)),
+    ("1.000000000000000000", Ok(1)),
+    ("1.5", PART),
+    ("0.1K", PART),
+    ("1.1G", PART),
+    ("0.0001KB", PART),
+    ("0.000000000000000001T", PART),
+    ("9223372036854775809", NO_SIZE),
+    ("8388609T", NO_SIZE),
+    ("18446744073709551615", NO_SIZE),
+    ("18446744073709551616", NO_SIZE),
+    ("18446744073709551615T", NO_SIZE),
+    ("1.0000000000000000000", NO_SIZE),
+    ("", NO_SIZE),
+    ("0", NO_SIZE),
+    ("0K", NO_SIZE),
+    ("0.0M", NO_SIZE),
+    ("K", NO_SIZE),
+    ("1KK", NO_SIZE),
+    ("K1", NO_SIZE),
+    ("-1", NO_SIZE),
+    ("+1", NO_SIZE),
+    ("1 M", NO_SIZE),
+    ("1.", NO_SIZE),
+    ("1.M", NO_SIZE),
+    (".5M", NO_SIZE),
+    ("1..5M", NO_SIZE),
+    ("1.5.5M", NO_SIZE),
+    ("1MIB", NO_SIZE),
+    ("1Mib", NO_SIZE),
+    ("1Mb", NO_SIZE),
+    ("1B", NO_SIZE),
+    ("1iB", NO_SIZE),
+    ("1P", NO_SIZE),
+    ("1MiBs", NO_SIZE),
+    ("1,5G", NO_SIZE),
+    ("0x10", NO_SIZE),
+    ("1e3", NO_SIZE),
 ];
 
 #[test]
 fn sizes_are_read(rt: HostRuntime) {
-    for (word, bytes) in SIZES {
-        assert!(rt; size_from(word) == Ok(*bytes), "{word}");
-    }
-    for word in PARTS {
-        assert!(rt; size_from(word) == Err(SizeWordFault::PartOfByte), "{word}");
-    }
-    for word in NO_SIZES {
-        assert!(rt; size_from(word) == Err(SizeWordFault::NoSize), "{word}");
+    for (word, said) in SIZES {
+        assert!(rt; size_from(word) == *said, "{word}");
     }
 }
 

@@ -7,7 +7,7 @@ use std::process::Abort;
 use std::test::*;
 
 // Words, and what they ask for, word by word; of a text how it begins. The disk is `d`.
-const ROWS: [(&[&str], &[&str]); 41] = [
+static ROWS: [(&[&str], &[&str]); 41] = [
     (
         &["create", "--size", "64M", "d"],
         &["size", "64M", "-", "-"],

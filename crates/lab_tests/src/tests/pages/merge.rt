@@ -9,7 +9,7 @@ use std::test::Fail;
 use test_images::{TABLE_0, TABLE_1, Written, image_of, page};
 
 // The same die with another page in row 8.
-const OTHERS: &[Written] = &[
+static OTHERS: &[Written] = &[
     TABLE_0,
     TABLE_1,
     page!(8, Sector 3, sequence 7, fill 0x33),
@@ -17,16 +17,16 @@ const OTHERS: &[Written] = &[
 ];
 
 // What is changed of each reading: row 1 by the majority, row 9 from the second, row 20 erased in the third alone, and unsound, as row 21 is.
-const FIRST: &[(usize, u8)] = &[
+static FIRST: &[(usize, u8)] = &[
     (PAGE + 7, 3),
     (PAGE * 9 + 7, 3),
     (PAGE * 20, 0),
     (PAGE * 21, 0),
 ];
 
-const SECOND: &[(usize, u8)] = &[(PAGE + 9, 3), (PAGE * 20 + 3, 0x7F), (PAGE * 21 + 3, 7)];
+static SECOND: &[(usize, u8)] = &[(PAGE + 9, 3), (PAGE * 20 + 3, 0x7F), (PAGE * 21 + 3, 7)];
 
-const THIRD: &[(usize, u8)] = &[(PAGE + 11, 3), (PAGE * 9 + 7, 3), (PAGE * 21 + 99, 7)];
+static THIRD: &[(usize, u8)] = &[(PAGE + 11, 3), (PAGE * 9 + 7, 3), (PAGE * 21 + 99, 7)];
 
 const TALLY: RowTally = RowTally {
     sound: 2,

@@ -10,7 +10,7 @@ use test_images::image_of;
 
 // The bits that are turned of the dump, each byte with its bits. Row 8 loses one of its data area, row 9 one of its spare area; rows 1 and 20 have
 // two turned, and row 21 is an erased page that lost a bit.
-const TURNED: &[(usize, u8)] = &[
+static TURNED: &[(usize, u8)] = &[
     (PAGE + 7, 0x03),
     (PAGE * 8 + 5, 0x10),
     (PAGE * 9 + 64 + 9, 0x01),
@@ -61,7 +61,7 @@ struct Case {
     mends: &'static [Mend],
 }
 
-const CASES: &[Case] = &[
+static CASES: &[Case] = &[
     Case {
         name: "no rows named",
         rows: None,

@@ -2,4 +2,4 @@ use Rattle.std.proofs.Common.{◌≡◌}
 use Rattle.fault_tests.proofs.tests.script.give_row.Given as goal
 
 abbrev pub invariant-loop-its : goal.invariant-loop-its
-invariant-loop-its g l = l.driver.geometry ≡ l.geometry
+invariant-loop-its l = l.driver.geometry ≡ l.geometry
