@@ -1,7 +1,10 @@
 -- A pass over the pages of an image, each handed over once in row order.
 use Rattle.std.specs.Prelude.{◌≡◌, ℕ, length}
+use Rattle.page_layout.specs.declared.geometry.Geometry.{Geometry}
 use Rattle.page_layout.specs.Page.{Image}
 use Rattle.page_layout.specs.Array.{marks}
+use Rattle.certificate.specs.Claim.{Claim}
+use Rattle.image_check.specs.declared.pass.Begun.{Begun}
 use Rattle.image_check.specs.declared.pass.Pass.{Pass}
 use Rattle.image_check.specs.Agrees.{IsAsked, IsCertificateOf}
 use Rattle.image_check.specs.Noted.{HasNoted, HasSomeNoted}
@@ -29,3 +32,12 @@ pub record Shows (image : Image) (rows : ℕ) (p : Pass) : Type 0 where
 pub record IsSamePass (p q : Pass) : Type 0 where
   pub geometry : q.survey.geometry ≡ p.survey.geometry
   pub certificate : q.certificate.now ≡ p.certificate.now
+
+-- a pass of this certificate that no page has passed yet, and as many bytes as one page has
+pub record IsBegun (g : Geometry) (c : Claim) (b : Begun) : Type 0 where
+  pub pass : IsPass 0 b.pass
+  pub shows : (image : Image) → Shows image 0 b.pass
+  pub geometry : b.pass.survey.geometry ≡ g
+  pub claim : b.pass.certificate.now ≡ c
+  pub body : length b.body.items ≡ g.data_bytes
+  pub spare : length b.spare.items ≡ g.spare_bytes

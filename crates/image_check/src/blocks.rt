@@ -14,7 +14,7 @@ const FACTORY: u8 = 4;
 const GROWN: u8 = 5;
 
 /// What of a block's state is compared.
-#[derive(Clone, Copy, Debug, PartialEq, Eq)]
+#[derive(Clone, Copy)]
 pub(crate) enum Aspect {
     // whether it is a factory bad block or a grown one
     BadSet,

@@ -11,7 +11,7 @@ ghost use Rattle.image_check.specs.Passed.{IsPass, IsSamePass, Shows};
 ghost use Rattle.image_check.specs.Refused.{IsRefusal};
 
 use crate::accepted::Accepted;
-use crate::pass::Pass;
+use crate::pass::{Begun, Pass};
 use crate::refusal::Refusal;
 use certificate::Certificate;
 use page_layout::geometry::Geometry;
@@ -104,9 +104,12 @@ pub fn check<'a, S: PageSource>(
     if !is_asked(geometry, capacity, certificate) {
         return Err(Refusal::GeometryDiffers);
     }
-    let mut pass = Pass::new(alloc, geometry, certificate)?;
-    let mut body = vec![in alloc; 0; geometry.data_bytes()]?;
-    let mut spare = vec![in alloc; 0; geometry.spare_bytes()]?;
+    let begun = Begun::new(alloc, geometry, certificate)?;
+    let Begun {
+        mut pass,
+        mut body,
+        mut spare,
+    } = begun;
     show_pages(source, geometry, &mut pass, &mut body, &mut spare)?;
     pass.finish()
 }

@@ -6,7 +6,7 @@ ghost use Rattle.page_layout.specs.Block.{has_data_kind};
 use page_layout::record::{Kind, Record};
 
 /// What the pages of a block show, as far as they were seen.
-#[derive(Clone, Copy, Debug, PartialEq, Eq)]
+#[derive(Clone, Copy)]
 pub(crate) struct Look {
     // pages that aren't erased
     pub(crate) written: u32,

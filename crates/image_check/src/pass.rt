@@ -4,7 +4,7 @@ ghost use Rattle.page_layout.specs.Geometry.{row_count};
 ghost use Rattle.page_layout.specs.Page.{Image, page};
 ghost use Rattle.image_check.specs.Accepted.{IsAcceptance};
 ghost use Rattle.image_check.specs.Agrees.{IsAsked, IsCertificateOf};
-ghost use Rattle.image_check.specs.Passed.{IsPass, IsSamePass, Shows};
+ghost use Rattle.image_check.specs.Passed.{IsBegun, IsPass, IsSamePass, Shows};
 ghost use Rattle.image_check.specs.Refused.{IsFirstWrong, IsJudgement};
 
 use crate::accepted::Accepted;
@@ -112,5 +112,32 @@ impl<'a> Pass<'a> {
         let mut sectors = noted.kept;
         sectors.sort_unstable();
         Ok(Accepted::new(certificate, sectors))
+    }
+}
+
+/// A pass that begins, and room for one page.
+#[derive(Drop)]
+pub(crate) struct Begun<'a> {
+    pub(crate) pass: Pass<'a>,
+    pub(crate) body: Vec<u8>,
+    pub(crate) spare: Vec<u8>,
+}
+
+impl<'a> Begun<'a> {
+    /// All memory is taken here. `AllocError` where there is none.
+    pub(crate) fn new(
+        alloc: Global,
+        geometry: &Geometry,
+        certificate: &'a Certificate,
+    ) -> Result<Begun<'a>, AllocError>
+        requires asked { IsAsked geometry.now certificate.now.capacity certificate.now }
+        requires certificate { IsCertificateOf geometry.now certificate.now }
+        ensures { IfOk result (IsBegun geometry.now certificate.now) }
+    {
+        Ok(Begun {
+            pass: Pass::new(alloc, geometry, certificate)?,
+            body: vec![in alloc; 0; geometry.data_bytes()]?,
+            spare: vec![in alloc; 0; geometry.spare_bytes()]?,
+        })
     }
 }

@@ -15,7 +15,7 @@ use crate::accepted::Accepted;
 use crate::checker::is_asked;
 use crate::dump_reader::DumpReader;
 use crate::page_reader::{Cut, is_at_end, read_page};
-use crate::pass::Pass;
+use crate::pass::{Begun, Pass};
 use crate::refusal::Refusal;
 use certificate::Certificate;
 use page_layout::geometry::Geometry;
@@ -121,9 +121,12 @@ pub fn check_stream<'a, R: Read>(
     if !is_asked(geometry, capacity, certificate) {
         return Err(Refusal::GeometryDiffers);
     }
-    let mut pass = Pass::new(alloc, geometry, certificate)?;
-    let mut body = vec![in alloc; 0; geometry.data_bytes()]?;
-    let mut spare = vec![in alloc; 0; geometry.spare_bytes()]?;
+    let begun = Begun::new(alloc, geometry, certificate)?;
+    let Begun {
+        mut pass,
+        mut body,
+        mut spare,
+    } = begun;
     take_image(reader, geometry, &mut pass, &mut body, &mut spare)?;
     pass.finish()
 }

@@ -1,8 +1,9 @@
 -- Rows as the words that a certificate keeps.
-use Rattle.std.proofs.Common.{◌≡◌, ℕ, zero, suc, ◌+◌, ◌*◌, ◌<◌, ◌≤◌, All, true, false, eqb, cond, List, [], ◌∷◌, length, map, get_or, slice_get}
+use Rattle.std.proofs.Common.{◌≡◌, ℕ, zero, suc, ◌+◌, ◌*◌, ◌<◌, ◌≤◌, All, true, false, eqb, cond, List, [], ◌∷◌, ◌++◌, length, length-append, below_more, map, get_or, slice_get}
 use Rattle.std.proofs.Common.{Option, Some, None, refl, sym, ap, subst, ◌∙◌, arith}
 use Rattle.std.proofs.Math.Nat.{mul-le-mul}
 use Rattle.std.proofs.lemmas.Bool.{eqb-true}
+use Rattle.std.proofs.lemmas.List.{get_or_read}
 use Rattle.std.proofs.lemmas.Option.{get_or_from_slice_get}
 use Rattle.page_layout.specs.declared.geometry.Geometry.{Geometry}
 use Rattle.page_layout.specs.Geometry.{row_count}
@@ -52,3 +53,25 @@ words_fit g newest first n words h within room = λ k d l.
     let is : get_or words k d ≡ word_of_row row = get_or_from_slice_get words k (word_of_row row) d (h.word k (omega arith)) in
     let below : IsRowOf (row_count g) row = row_below g newest at within (omega arith) in
     subst (IsRowWord (row_count g)) (sym is) (subst (IsRowOf (row_count g)) (sym (word_read (row_count g) row few below)) below)
+
+get_last : (xs : List ℕ) (y : ℕ) → slice_get (xs ++ (y ∷ [])) (length xs) ≡ Some y
+get_last [] y = refl
+get_last (x ∷ xs) y = get_last xs y
+
+get_front : (xs : List ℕ) (y i : ℕ) → i < length xs → slice_get (xs ++ (y ∷ [])) i ≡ slice_get xs i
+get_front [] y i l = absurd (omega arith)
+get_front (x ∷ xs) y zero l = refl
+get_front (x ∷ xs) y (suc i) l = get_front xs y i (omega arith)
+
+-- the word of one key more
+pub one_word_more : (newest : List Newest) (first n k : ℕ) (words new : List ℕ) (at : Newest) → HasWords newest first n words → k ≡ first + n → k < length newest
+    → new ≡ words ++ (word_of_row (place_in at) ∷ []) → at ≡ get_or newest k at → HasWords newest first (n + 1) new
+one_word_more newest first n k words new at h here within is its =
+    let word = word_of_row (place_in at) in
+    let found : at ≡ get_or newest (first + n) blank = get_or_read newest k at within its blank ∙ ap (λ i. get_or newest i blank) here in
+    record {
+      size = ap length is ∙ (length-append words (word ∷ []) ∙ ap (λ m. m + 1) h.size);
+      word = below_more (λ i. slice_get new i ≡ Some (word_of_row (place_in (get_or newest (first + i) blank)))) n
+          (λ i l. ap (λ xs. slice_get xs i) is ∙ (get_front words word i (omega (arith, l, h.size)) ∙ h.word i l))
+          (ap (λ xs. slice_get xs n) is ∙ (subst (λ m. slice_get (words ++ (word ∷ [])) m ≡ Some word) h.size (get_last words word) ∙ ap (λ x. Some (word_of_row (place_in x))) found));
+    }

@@ -6,5 +6,6 @@ pub mod PageLook
 pub mod Attempt
 pub mod Mounted
 pub mod MountLaws
+pub mod Room
 pub mod Shown
 pub mod Ready

@@ -8,6 +8,7 @@ ghost use Rattle.image_check.specs.Agrees.{IsAsked};
 ghost use Rattle.image_check.specs.Rising.{IsRisingBelow};
 ghost use Rattle.image_check.specs.Stale.{stale_sectors};
 ghost use Rattle.mount.specs.Mounted.{IsMounted, Refuses, IsOfMounting};
+ghost use Rattle.mount.specs.Room.{HasRoom};
 ghost use Rattle.mount.specs.Shown.{IsShownSized, HasWords};
 
 use crate::mount_pages::{Shown, show_pages};
@@ -16,7 +17,7 @@ use image_check::{Refusal, find_stale};
 use page_layout::geometry::Geometry;
 use page_layout::source::PageSource;
 use page_layout::word::word_from;
-use std::alloc::Global;
+use std::alloc::{AllocError, Global};
 
 // Puts the row of each sector's newest page into `words`, for which there is room.
 fn put_sectors(words: &mut Vec<u32>, geometry: &Geometry, shown: &Shown)
@@ -54,6 +55,32 @@ pub struct Mounted {
     pub stale: Vec<u32>,
 }
 
+// The memory that mounting takes before it reads the first page.
+#[derive(Drop)]
+struct Room {
+    // the words of the certificate
+    sectors: Vec<u32>,
+    directory: Vec<u32>,
+    // the sectors that are stale
+    stale: Vec<u32>,
+    // one page
+    body: Vec<u8>,
+    spare: Vec<u8>,
+}
+
+fn take_room(alloc: Global, geometry: &Geometry) -> Result<Room, AllocError>
+    ensures { IfOk result (HasRoom geometry.now) }
+{
+    let pages = geometry.translation_pages() + geometry.table_pages();
+    Ok(Room {
+        sectors: Vec::with_capacity(alloc, geometry.sectors() as usize)?,
+        directory: Vec::with_capacity(alloc, pages as usize)?,
+        stale: Vec::with_capacity(alloc, geometry.sectors() as usize)?,
+        body: vec![in alloc; 0; geometry.data_bytes()]?,
+        spare: vec![in alloc; 0; geometry.spare_bytes()]?,
+    })
+}
+
 /// The certificate of an image, and its stale sectors. It is `mount` but for these: it reads, takes and refuses as `mount` does, and
 /// the checker accepts the certificate with just these stale sectors. So a device may be started from it with no second look at the image.
 ///
@@ -83,30 +110,31 @@ pub fn mount_counted<S: PageSource>(
     ensures reads { S.view.reads source.new ≤ S.view.reads source.old + (row_count geometry.now + translation_pages geometry.now) }
     ensures rose { result ≡ Err Refusal.Source → HasRisen (S.view.failed source.old) (S.view.failed source.new) }
 {
-    let pages = geometry.translation_pages() + geometry.table_pages();
-    let mut sectors = Vec::with_capacity(alloc, geometry.sectors() as usize)?;
-    let mut directory = Vec::with_capacity(alloc, pages as usize)?;
-    let mut stale = Vec::with_capacity(alloc, geometry.sectors() as usize)?;
-    let mut body = vec![in alloc; 0; geometry.data_bytes()]?;
-    let mut spare = vec![in alloc; 0; geometry.spare_bytes()]?;
-    let shown = show_pages(alloc, source, geometry, &mut body, &mut spare)?;
+    let mut room = take_room(alloc, geometry)?;
+    let shown = show_pages(alloc, source, geometry, &mut room.body, &mut room.spare)?;
     find_stale(
         source,
         geometry,
         &shown.newest,
-        &mut body,
-        &mut spare,
-        &mut stale,
+        &mut room.body,
+        &mut room.spare,
+        &mut room.stale,
     )?;
-    let count = stale.len() as u32;
+    let count = room.stale.len() as u32;
     if count > capacity {
         return Err(Refusal::TooStale {
             stale: count,
             capacity,
         });
     }
-    put_sectors(&mut sectors, geometry, &shown);
-    put_directory(&mut directory, geometry, &shown);
+    put_sectors(&mut room.sectors, geometry, &shown);
+    put_directory(&mut room.directory, geometry, &shown);
+    let Room {
+        sectors,
+        directory,
+        stale,
+        ..
+    } = room;
     let certificate = Certificate::new(
         *geometry,
         capacity,

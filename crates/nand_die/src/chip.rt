@@ -14,7 +14,7 @@ use crate::change::{BlockTurn, Change, erase_into, program_into, program_is_due}
 use crate::cycle_step::{address_step, command_step, data_place};
 use crate::data_out::{page_put_out, put_out_at};
 use crate::fault::{DieFault, Fault, Mark};
-use crate::make::{blank, copy_of, load_turns, mark_all, new_turns};
+use crate::make::{blank, copy_of, loaded_turns, marked_turns};
 use crate::strike::{check_faults, next_strike};
 use onfi_cycles::BusFault;
 use page_layout::geometry::Geometry;
@@ -97,15 +97,15 @@ impl Chip {
         alloc: Global,
         geometry: Geometry,
         bytes: Vec<u8>,
-        register: Vec<u8>,
         turns: Vec<BlockTurn>,
-    ) -> Chip
+    ) -> Result<Chip, DieFault>
         requires whole { length bytes.items ≡ row_count geometry * page_bytes geometry }
-        requires register { length register.items ≡ page_bytes geometry }
         requires blocks { length turns.items ≡ geometry.blocks }
-        ensures { result ≡ fresh (flash_of geometry bytes.items turns.items 0) }
+        ensures made { IfOk result (λ chip. chip ≡ fresh (flash_of geometry bytes.items turns.items 0)) }
+        ensures err { IfErr result (λ fault. fault ≡ DieFault.OutOfMemory) }
     {
-        Chip {
+        let register = blank(alloc, page_length(&geometry))?;
+        Ok(Chip {
             geometry,
             bytes,
             register,
@@ -118,7 +118,7 @@ impl Chip {
                 asked: 0,
                 changes: 0,
             },
-        }
+        })
     }
 
     // A new die with these marks.
@@ -128,10 +128,8 @@ impl Chip {
         ensures err { IfErr result (RefusesMarks geometry marks.now) }
     {
         let mut bytes = blank(alloc, image_length(&geometry))?;
-        let register = blank(alloc, page_length(&geometry))?;
-        let mut turns = new_turns(alloc, &geometry)?;
-        mark_all(&mut bytes, &mut turns, &geometry, marks)?;
-        Ok(Chip::of(alloc, geometry, bytes, register, turns))
+        let turns = marked_turns(alloc, &mut bytes, &geometry, marks)?;
+        Chip::of(alloc, geometry, bytes, turns)
     }
 
     // A die that holds a raw image, with these bad blocks.
@@ -149,11 +147,9 @@ impl Chip {
         if image.len() != image_length(&geometry) {
             return Err(DieFault::WrongLength);
         }
+        let turns = loaded_turns(alloc, &geometry, image, bad)?;
         let bytes = copy_of(alloc, image)?;
-        let register = blank(alloc, page_length(&geometry))?;
-        let mut turns = new_turns(alloc, &geometry)?;
-        load_turns(&mut turns, &geometry, image, bad)?;
-        Ok(Chip::of(alloc, geometry, bytes, register, turns))
+        Chip::of(alloc, geometry, bytes, turns)
     }
 
     // The programs and erases so far that were illegal.

@@ -4,7 +4,7 @@ ghost use Rattle.page_layout.specs.Geometry.{row_count, page_bytes};
 ghost use Rattle.page_layout.specs.Raw.{raw_image};
 ghost use Rattle.page_layout.specs.Flash.{no_turn};
 ghost use Rattle.nand_die.specs.Turns.{turn_of};
-ghost use Rattle.nand_die.specs.Made.{AreNames, IsFirstMisnamed, NamesFirst, first_turn, first_turns, barred_turn, marked_blocks, new_image, next_in};
+ghost use Rattle.nand_die.specs.Made.{AreNames, IsFirstMisnamed, NamesFirst, RefusesMarks, RefusesImage, first_turn, first_turns, barred_turn, marked_blocks, new_image, next_in};
 
 use crate::array::{mark_page, page_slice};
 use crate::change::BlockTurn;
@@ -123,7 +123,7 @@ pub fn bar_all(turns: &mut [BlockTurn], geometry: &Geometry, bad: &[u32]) -> Res
 }
 
 // Sets the turns to those of the blocks of an image, some of them named bad.
-pub fn load_turns(
+fn load_turns(
     turns: &mut [BlockTurn],
     geometry: &Geometry,
     bytes: &[u8],
@@ -143,7 +143,7 @@ pub fn load_turns(
 }
 
 // Puts factory marks on erased pages, and names their blocks bad.
-pub fn mark_all(
+fn mark_all(
     bytes: &mut [u8],
     turns: &mut [BlockTurn],
     geometry: &Geometry,
@@ -166,4 +166,50 @@ pub fn mark_all(
         mark_page(bytes, geometry, geometry.row(mark.block, page));
     }
     Ok(())
+}
+
+/// The turns of the blocks of a new die, on whose erased pages it puts factory marks. (This project's.)
+///
+/// # Errors
+///
+/// `BadMark` with the first block of the marks that lies past the die or was named before, `OutOfMemory` where a growth was refused.
+pub fn marked_turns(
+    alloc: Global,
+    bytes: &mut [u8],
+    geometry: &Geometry,
+    marks: &[Mark],
+) -> Result<Vec<BlockTurn>, DieFault>
+    requires whole { length bytes.old ≡ row_count geometry.now * page_bytes geometry.now }
+    requires erased { raw_image geometry.now bytes.old ≡ new_image geometry.now [] }
+    ensures image { OnOk result (raw_image geometry.now bytes.new ≡ new_image geometry.now marks.now) }
+    ensures turns { IfOk result (λ turns. map turn_of turns.items ≡ first_turns geometry.now (λ block. 0) (marked_blocks marks.now)) }
+    ensures blocks { IfOk result (λ turns. length turns.items ≡ geometry.now.blocks) }
+    ensures named { OnOk result (AreNames geometry.now (marked_blocks marks.now)) }
+    ensures err { IfErr result (RefusesMarks geometry.now marks.now) }
+{
+    let mut turns = new_turns(alloc, geometry)?;
+    mark_all(bytes, &mut turns, geometry, marks)?;
+    Ok(turns)
+}
+
+/// The turns of the blocks of a die that holds an image, some of which are bad. (This project's.)
+///
+/// # Errors
+///
+/// `BadMark` with the first of the bad blocks that lies past the die or was named before, `OutOfMemory` where a growth was refused.
+pub fn loaded_turns(
+    alloc: Global,
+    geometry: &Geometry,
+    bytes: &[u8],
+    bad: &[u32],
+) -> Result<Vec<BlockTurn>, DieFault>
+    requires whole { length bytes.now ≡ row_count geometry.now * page_bytes geometry.now }
+    ensures turns { IfOk result (λ turns. map turn_of turns.items ≡ first_turns geometry.now (next_in geometry.now (raw_image geometry.now bytes.now)) bad.now) }
+    ensures blocks { IfOk result (λ turns. length turns.items ≡ geometry.now.blocks) }
+    ensures named { OnOk result (AreNames geometry.now bad.now) }
+    ensures err { IfErr result (RefusesImage geometry.now bytes.now bad.now) }
+{
+    let mut turns = new_turns(alloc, geometry)?;
+    load_turns(&mut turns, geometry, bytes, bad)?;
+    Ok(turns)
 }

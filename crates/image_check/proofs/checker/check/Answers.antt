@@ -1,4 +1,4 @@
-use Rattle.std.proofs.Common.{◌≡◌, true, false, sym, subst, ◌∙◌, inr}
+use Rattle.std.proofs.Common.{rules, ◌≡◌, true, false, sym, subst, ◌∙◌, inr}
 use Rattle.page_layout.specs.Page.{IsImage}
 use Rattle.page_layout.specs.Flash.{Flash}
 use Rattle.image_check.specs.Accepted.{IsAcceptance}
@@ -18,7 +18,7 @@ returns-clause-ok g c =
     let first = g.S.PageSource.view.flash c.args.source.now in
     let p = c.show_pages.new.pass in
     let done = c.in_ok-show_pages.ensures in
-    let made = c.in_ok-pass.ensures in
+    let made = c.in_ok-begun.ensures in
     let asked = c.is_asked.ensures.asked.0 c.if-not-is_asked.false in
     let e : p.survey.geometry ≡ geo = done.same_pass.geometry ∙ made.geometry in
     let f : p.certificate.now ≡ claim = done.same_pass.certificate ∙ made.claim in
@@ -32,7 +32,7 @@ returns-clause-err g c =
     let first = g.S.PageSource.view.flash c.args.source.now in
     let p = c.show_pages.new.pass in
     let done = c.in_ok-show_pages.ensures in
-    let made = c.in_ok-pass.ensures in
+    let made = c.in_ok-begun.ensures in
     let asked = c.is_asked.ensures.asked.0 c.if-not-is_asked.false in
     let e : p.survey.geometry ≡ geo = done.same_pass.geometry ∙ made.geometry in
     let f : p.certificate.now ≡ claim = done.same_pass.certificate ∙ made.claim in
@@ -44,3 +44,6 @@ returns-clause-whole g c =
     let geo = c.args.geometry.now in
     let done = c.in_ok-show_pages.ensures in
     on_ok (g.S.PageSource.view.honest c.args.source.now ≡ true → IsImage geo (g.S.PageSource.view.flash c.args.source.now).image) c.finish.result (λ honest. subst (λ (f : Flash). IsImage geo f.image) (done.same honest) (done.whole honest))
+
+pub returns-clause-accepted : goal.returns-clause-accepted
+returns-clause-accepted g c = grind rules

@@ -1,4 +1,4 @@
-use Rattle.std.proofs.Common.{◌≡◌, true, false, sym, ◌∙◌}
+use Rattle.std.proofs.Common.{rules, ◌≡◌, true, false, sym, ◌∙◌}
 use Rattle.image_check.proofs.StreamLemmas.{streamed_ok, streamed_err, streamed_whole, streamed_judged, unasked_refusal}
 use Rattle.image_check.proofs.stream.check_stream.Goals as goal
 
@@ -13,7 +13,7 @@ returns-clause-ok g c =
     let o = g.R.Read.remaining c.args.reader.now in
     let p = c.take_image.new.pass in
     let done = c.in_ok-take_image.ensures in
-    let made = c.in_ok-pass.ensures in
+    let made = c.in_ok-begun.ensures in
     let asked = c.is_asked.ensures.asked.0 c.if-not-is_asked.false in
     let e : p.survey.geometry ≡ geo = done.same_pass.geometry ∙ made.geometry in
     let f : p.certificate.now ≡ claim = done.same_pass.certificate ∙ made.claim in
@@ -26,7 +26,7 @@ returns-clause-err g c =
     let o = g.R.Read.remaining c.args.reader.now in
     let p = c.take_image.new.pass in
     let done = c.in_ok-take_image.ensures in
-    let made = c.in_ok-pass.ensures in
+    let made = c.in_ok-begun.ensures in
     let asked = c.is_asked.ensures.asked.0 c.if-not-is_asked.false in
     let e : p.survey.geometry ≡ geo = done.same_pass.geometry ∙ made.geometry in
     let f : p.certificate.now ≡ claim = done.same_pass.certificate ∙ made.claim in
@@ -37,3 +37,9 @@ returns-clause-whole g c = streamed_whole c.args.geometry.now (g.R.Read.remainin
 
 pub returns-clause-judged : goal.returns-clause-judged
 returns-clause-judged g c = streamed_judged c.args.geometry.now (g.R.Read.remaining c.args.reader.now) c.take_image.new.pass c.finish.result c.in_ok-take_image.ensures.taken
+
+pub returns-in_err-take_image-clause-err : goal.returns-in_err-take_image-clause-err
+returns-in_err-take_image-clause-err g c = search rules
+
+pub returns-clause-accepted : goal.returns-clause-accepted
+returns-clause-accepted g c = grind rules

@@ -1,3 +1,4 @@
+use Rattle.std.proofs.lemmas.Grind.{common_steps}
 use Rattle.std.proofs.lemmas.Result.{err_from_is_err_and}
 use Rattle.std.proofs.Common.{◌+◌, refl, arith, ◌∙◌}
 use Rattle.image_check.specs.Passed.{Shows}
@@ -36,3 +37,6 @@ returns-in_err-read_page-clause-cut g c =
     let inv = c.loop-row.invariant in
     let row = c.loop-row.row in
     rw (p.1, p.2) (read_cut c.args.geometry.now row _ _ _ _ (λ image. Shows image row c.loop-row.pass) _ inv.read (omega arith) (omega arith) c.in_err-read_page.ensures.cut)
+
+pub returns-clause-read : goal.returns-clause-read
+returns-clause-read g c = grind (arith, common_steps)
